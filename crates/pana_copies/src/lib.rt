@@ -1,0 +1,12 @@
+//! Names of devices, paths of copies, and the places that the two make.
+#![tactic(auto)]
+
+mod copy_path;
+mod device_name;
+mod name_fault;
+mod place;
+
+pub use crate::copy_path::CopyPath;
+pub use crate::device_name::DeviceName;
+pub use crate::name_fault::NameFault;
+pub use crate::place::Place;

@@ -1,0 +1,30 @@
+ghost use Rattle.std.specs.Prelude.{◌≡◌, ◌↔◌, IsTrue, IfOk};
+
+use crate::copy_path::CopyPath;
+use crate::device_name::DeviceName;
+use std::alloc::AllocError;
+
+/// Where a copy is kept: a path on a device.
+#[derive(Debug, PartialEq, Eq, Hash, Drop)]
+pub struct Place {
+    pub device: DeviceName,
+    pub path: CopyPath,
+}
+
+impl Place {
+    /// The same place once more. The only refusal is want of memory.
+    pub fn copy_of(&self) -> Result<Place, AllocError>
+        ensures { IfOk result (λ place. place ≡ self.now) }
+    {
+        let device = self.device.copy_of()?;
+        let path = self.path.copy_of()?;
+        Ok(Place { device, path })
+    }
+
+    /// Whether the two are one place. Takes no memory.
+    pub fn is_same(&self, other: &Place) -> bool
+        ensures { IsTrue result ↔ (self.now ≡ other.now) }
+    {
+        self == other
+    }
+}

@@ -1,0 +1,99 @@
+ghost use Rattle.std.specs.Prelude.{◌≡◌, ◌+◌, ◌<◌, ◌≤◌, ◌↔◌, [], ◌∷◌, ◌++◌, length, option_copied, IfSome, IfErr, OnOk, OnErr, IsErrOf};
+ghost use Rattle.pana_journal.specs.declared.journal.TheConstants.{MOST_ENTRIES};
+
+use crate::entry::Entry;
+use crate::report::Report;
+use pana_copies::DeviceName;
+use std::alloc::Global;
+use std::marker::Model;
+use thiserror::Error;
+
+/// How many entries a journal takes.
+pub const MOST_ENTRIES: usize = 1_000_000;
+
+/// Why there is no room for one more entry.
+#[derive(Clone, Copy, Debug, PartialEq, Eq, Error)]
+pub enum JournalFault {
+    #[error("the journal has 1,000,000 entries")]
+    JournalFull,
+    #[error("out of memory")]
+    OutOfMemory,
+}
+
+/// The entries in order, numbered from 1 without gaps.
+///
+/// An entry goes in by two calls: `reserve_one`, which can be refused, and then `append`, which can't.
+#[derive(Debug, Drop)]
+pub struct Journal {
+    entries: Vec<Entry>,
+}
+
+impl Model for Journal {
+    ghost use Rattle.std.specs.Prelude.{◌≤◌, vec_len, vec_capacity};
+    ghost use Rattle.pana_journal.specs.declared.journal.TheConstants.{MOST_ENTRIES};
+    ghost use Rattle.pana_journal.specs.Entries.{Contents, IsNumbered, room_of};
+
+    ghost Value = { Contents };
+
+    ghost view = { λ j. record { entries = j.entries.items; room = room_of (vec_len j.entries) (vec_capacity j.entries) } };
+
+    ghost invariant = { λ j. (vec_len j.entries ≤ MOST_ENTRIES) × IsNumbered j.entries.items };
+}
+
+impl Journal {
+    ghost use Rattle.pana_journal.specs.Entries.{IsNumbered, entry_at};
+
+    /// A journal with no entry. Takes no memory.
+    pub fn new(alloc: Global) -> Journal
+        ensures { result.entries ≡ [] }
+    {
+        Journal {
+            entries: Vec::new(alloc),
+        }
+    }
+
+    /// Reserves room for one entry more, which stays until it is used.
+    ///
+    /// The refusals are `JournalFull`, at 1,000,000 entries, and `OutOfMemory`.
+    pub fn reserve_one(&mut self) -> Result<(), JournalFault>
+        ensures entries { self.new.entries ≡ self.old.entries }
+        ensures ok { OnOk result (0 < self.new.room) }
+        ensures full { IsErrOf result JournalFault.JournalFull ↔ (MOST_ENTRIES ≤ length self.old.entries) }
+    {
+        if self.entries.len() >= MOST_ENTRIES {
+            return Err(JournalFault::JournalFull);
+        }
+        match self.entries.reserve(1) {
+            Ok(()) => Ok(()),
+            Err(_) => Err(JournalFault::OutOfMemory),
+        }
+    }
+
+    /// Puts a report at the end and answers its number. Room for it was reserved, so it takes no memory.
+    pub fn append(&mut self, by: DeviceName, report: Report) -> u64
+        requires { 0 < self.old.room }
+        ensures number { result ≡ length self.old.entries + 1 }
+        ensures entries { self.new.entries ≡ self.old.entries ++ record { number = result; by = by; report = report } ∷ [] }
+    {
+        let number = self.entries.len() as u64 + 1;
+        self.entries.push_reserved(Entry { number, by, report });
+        number
+    }
+
+    /// The entry with this number, if there is one. Takes no memory.
+    pub fn entry(&self, number: u64) -> Option<&Entry>
+        ensures entry { option_copied result ≡ entry_at self.now.entries number }
+        ensures number { IfSome result (λ entry. entry.now.number ≡ number) }
+    {
+        self.entries.get(number.checked_sub(1)? as usize)
+    }
+
+    /// How many entries there are, at most 1,000,000. Takes no memory.
+    pub fn length(&self) -> u64
+        ensures length { result ≡ length self.now.entries }
+        ensures within { length self.now.entries ≤ MOST_ENTRIES }
+        ensures numbered { IsNumbered self.now.entries }
+    {
+        self.entries.len() as u64
+    }
+}
