@@ -12,6 +12,8 @@ pub struct Place {
 }
 
 impl Place {
+    ghost use Rattle.pana_copies.specs.Places.{same_place};
+
     /// The same place once more. The only refusal is want of memory.
     pub fn copy_of(&self) -> Result<Place, AllocError>
         ensures { IfOk result (λ place. place ≡ self.now) }
@@ -23,7 +25,8 @@ impl Place {
 
     /// Whether the two are one place. Takes no memory.
     pub fn is_same(&self, other: &Place) -> bool
-        ensures { IsTrue result ↔ (self.now ≡ other.now) }
+        ensures test { result ≡ same_place self.now other.now }
+        ensures same { IsTrue result ↔ (self.now ≡ other.now) }
     {
         self == other
     }

@@ -1,0 +1,49 @@
+-- The board of a family, recomputed from the sets of the copies that live.
+use Rattle.std.specs.Prelude.{ℕ, Bool, ◌==◌, ◌&&◌, not, List, map, filter, count_by}
+use Rattle.std.specs.List.{list_any}
+use Rattle.pana_hall.specs.declared.relation.Rel.{Rel}
+use Rattle.pana_hall.specs.declared.relation.Rel.TheVariants.{Equal, Older, Newer, Conflict}
+use Rattle.pana_hall.specs.declared.living.LivingCopy.{LivingCopy}
+use Rattle.pana_hall.specs.declared.board.BoardRow.{BoardRow}
+use Rattle.pana_hall.specs.declared.board.BoardView.{BoardView}
+use Rattle.pana_hall.specs.Relation.{relation, is_rel}
+
+-- whether the copy is of the family
+abbrev pub is_of : ℕ → LivingCopy → Bool
+is_of family copy = copy.family == family
+
+-- whether the other is another copy of this one's family, and stands so to it
+abbrev pub stands : Rel → LivingCopy → LivingCopy → Bool
+stands rel copy other = is_of copy.family other && not (other.number == copy.number) && is_rel (relation other.updates copy.updates) rel
+
+-- a copy's row: how many others are newer, older, equal and in conflict
+unfoldable pub row_of : List LivingCopy → LivingCopy → BoardRow
+row_of copies copy = record {
+  copy = copy.number;
+  place = copy.place;
+  newer = count_by (stands Newer copy) copies;
+  older = count_by (stands Older copy) copies;
+  equal = count_by (stands Equal copy) copies;
+  conflict = count_by (stands Conflict copy) copies;
+  }
+
+-- whether the copy is a newest one of the family: none is newer
+abbrev pub is_newest : ℕ → List LivingCopy → LivingCopy → Bool
+is_newest family copies copy = is_of family copy && not (list_any (stands Newer copy) copies)
+
+-- the newest copies of the family
+abbrev pub newest : ℕ → List LivingCopy → List LivingCopy
+newest family copies = filter (is_newest family copies) copies
+
+-- whether two of these copies are in conflict
+abbrev pub has_conflict : List LivingCopy → Bool
+has_conflict copies = list_any (λ copy. list_any (stands Conflict copy) copies) copies
+
+-- the board of a family among the living copies
+unfoldable pub board_of : ℕ → List LivingCopy → BoardView
+board_of family copies = record {
+  family = family;
+  rows = map (row_of copies) (filter (is_of family) copies);
+  newest = map (λ copy. copy.number) (newest family copies);
+  split = has_conflict (newest family copies);
+  }

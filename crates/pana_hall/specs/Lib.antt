@@ -1,0 +1,9 @@
+pub mod Updates
+pub mod Relation
+pub mod Cause
+pub mod Living
+pub mod Family
+pub mod Board
+pub mod Refusal
+pub mod Permit
+pub mod Run

@@ -1,0 +1,47 @@
+-- The copies that live after a journal, found from the whole of it. Nothing is checked here: a report of a copy
+-- that doesn't live changes nothing.
+use Rattle.std.specs.Prelude.{ℕ, ◌==◌, List, [], ◌∷◌, ◌++◌, Option, option_map, find, fold, if◌then◌else◌}
+use Rattle.std.specs.Option.{option_to_list}
+use Rattle.pana_copies.specs.declared.place.Place.{Place}
+use Rattle.pana_journal.specs.declared.report.Report.{Report}
+use Rattle.pana_journal.specs.declared.report.Report.TheVariants.{Register, Duplicate, Edit}
+use Rattle.pana_journal.specs.declared.entry.Entry.{Entry}
+use Rattle.pana_hall.specs.declared.living.LivingCopy.{LivingCopy}
+
+-- the copy with this number, if it lives
+abbrev pub copy_in : List LivingCopy → ℕ → Option LivingCopy
+copy_in copies number = find (λ copy. copy.number == number) copies
+
+-- the copies, with the one of this number changed by f
+abbrev pub change : ℕ → (LivingCopy → LivingCopy) → List LivingCopy → List LivingCopy
+change number f [] = []
+change number f (copy ∷ copies) = if copy.number == number then f copy ∷ copies else copy ∷ change number f copies
+
+-- the first copy of a file: it begins family n and knows no update
+abbrev pub registered : ℕ → Place → LivingCopy
+registered n place = record { number = n; family = n; place = place; updates = []; touch = n }
+
+-- a copy of its source: of the source's family, and knowing what the source knows
+abbrev pub duplicated : ℕ → Place → LivingCopy → LivingCopy
+duplicated n place source = record { number = n; family = source.family; place = place; updates = source.updates; touch = n }
+
+-- the copy after an edit: it knows update n too
+abbrev pub edited : ℕ → LivingCopy → LivingCopy
+edited n copy = record copy { updates = n ∷ copy.updates; touch = n }
+
+-- what entry n's report changes
+abbrev pub after_report : ℕ → Report → List LivingCopy → List LivingCopy
+after_report n (Register place) copies = copies ++ registered n place ∷ []
+after_report n (Duplicate source place) copies = copies ++ option_to_list (option_map (duplicated n place) (copy_in copies source))
+after_report n (Edit copy) copies = change copy (edited n) copies
+
+abbrev pub after_entry : List LivingCopy → Entry → List LivingCopy
+after_entry copies entry = after_report entry.number entry.report copies
+
+-- the entries whose reports count: all of them
+abbrev pub effective : List Entry → List Entry
+effective journal = journal
+
+-- the living copies, by rising number
+unfoldable pub living : List Entry → List LivingCopy
+living journal = fold after_entry [] (effective journal)

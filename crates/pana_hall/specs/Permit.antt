@@ -1,0 +1,38 @@
+-- The replies that are permitted, and the journal that each leaves.
+use Rattle.std.specs.Prelude.{◌≡◌, ℕ, ◌+◌, List, [], ◌∷◌, ◌++◌, length, Option, Some, None, ◌⊎◌}
+use Rattle.pana_journal.specs.declared.report.Report.{Report}
+use Rattle.pana_journal.specs.declared.entry.Entry.{Entry}
+use Rattle.pana_hall.specs.declared.call.Query.{Query}
+use Rattle.pana_hall.specs.declared.call.Query.TheVariants as queries
+use Rattle.pana_hall.specs.declared.call.Call.{Call}
+use Rattle.pana_hall.specs.declared.call.Call.TheVariants as calls
+use Rattle.pana_hall.specs.declared.cause.Cause.{Cause}
+use Rattle.pana_hall.specs.declared.cause.Cause.TheVariants as causes
+use Rattle.pana_hall.specs.declared.reply.Reply.{Reply}
+use Rattle.pana_hall.specs.declared.reply.Reply.TheVariants as replies
+use Rattle.pana_hall.specs.Living.{living}
+use Rattle.pana_hall.specs.Board.{board_of}
+use Rattle.pana_hall.specs.Refusal.{refusal}
+
+-- the answer to a query
+abbrev pub answer : List Entry → Query → Reply
+answer journal (queries.Board family) = replies.Board (board_of family (living journal))
+
+-- the reply to a call that nothing stands against
+abbrev pub granted : List Entry → Call → Reply
+granted journal (calls.Report report) = replies.Done (length journal + 1)
+granted journal (calls.Query query) = answer journal query
+
+-- the reply to a call, given why it is refused: that cause and no other; else what is granted, or want of memory
+abbrev pub PermitsBy : Option Cause → List Entry → Call → Reply → Type 0
+PermitsBy (Some cause) journal call reply = reply ≡ replies.Refused cause
+PermitsBy None journal call reply = (reply ≡ granted journal call) ⊎ (reply ≡ replies.Refused causes.OutOfMemory)
+
+-- the reply is permitted to the device's call on the journal
+unfoldable pub Permits : List Entry → List ℕ → Call → Reply → Type 0
+Permits journal by call reply = PermitsBy (refusal journal by call) journal call reply
+
+-- the journal after a call: one entry longer where a report was done, and else as it was
+unfoldable pub journal_after : List Entry → List ℕ → Call → Reply → List Entry
+journal_after journal by (calls.Report report) (replies.Done n) = journal ++ record { number = n; by = by; report = report } ∷ []
+journal_after journal by _ _ = journal

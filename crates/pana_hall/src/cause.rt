@@ -1,0 +1,35 @@
+ghost use Rattle.std.specs.Prelude.{◌≡◌};
+ghost use Rattle.pana_hall.specs.Cause.{code_of};
+
+/// Why a call was refused. A refused call changes nothing.
+#[derive(Clone, Copy, Debug, PartialEq, Eq)]
+pub enum Cause {
+    /// The journal has 1,000,000 entries.
+    JournalFull,
+    /// No living copy has this number.
+    UnknownCopy(u64),
+    /// This living copy has the place that is asked for.
+    PlaceTaken(u64),
+    /// The family has 256 living copies.
+    FamilyFull,
+    /// A growth was refused.
+    OutOfMemory,
+    /// No Register entry has this number.
+    UnknownFamily,
+}
+
+impl Cause {
+    /// The number that stands for the cause on the wire. Takes no memory.
+    pub fn code(&self) -> u32
+        ensures { result ≡ code_of self.now }
+    {
+        match self {
+            Cause::JournalFull => 1,
+            Cause::UnknownCopy(_) => 2,
+            Cause::PlaceTaken(_) => 6,
+            Cause::FamilyFull => 7,
+            Cause::OutOfMemory => 9,
+            Cause::UnknownFamily => 13,
+        }
+    }
+}

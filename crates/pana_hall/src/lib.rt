@@ -1,0 +1,16 @@
+//! The hall: every copy of every file, and the one call that tells it of a change or asks it for an answer.
+#![tactic(auto)]
+
+mod board;
+mod call;
+mod cause;
+mod living;
+mod relation;
+mod reply;
+mod update_set;
+
+pub use crate::board::{BoardRow, BoardView, NumberList, RowList};
+pub use crate::call::{Call, Query};
+pub use crate::cause::Cause;
+pub use crate::relation::Rel;
+pub use crate::reply::{Reply, Spent};

@@ -1,0 +1,27 @@
+use crate::board::BoardView;
+use crate::cause::Cause;
+use std::error::Error;
+use std::fmt;
+
+/// What a hall answers.
+#[derive(Debug, Drop)]
+pub enum Reply {
+    /// The report was accepted, as the entry with this number.
+    Done { entry: u64 },
+    /// The board that was asked for.
+    Board(BoardView),
+    /// The call was refused, and changed nothing.
+    Refused(Cause),
+}
+
+/// The session has no call left to give: what was asked of it was not done.
+#[derive(Clone, Copy, Debug, PartialEq, Eq)]
+pub struct Spent;
+
+impl fmt::Display for Spent {
+    fn fmt<W: fmt::Write>(&self, f: &mut fmt::Formatter<W>) -> fmt::Result {
+        f.write_str("no call is left")
+    }
+}
+
+impl Error for Spent {}
