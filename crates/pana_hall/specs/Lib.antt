@@ -7,3 +7,4 @@ pub mod Board
 pub mod Refusal
 pub mod Permit
 pub mod Run
+pub mod Recording

@@ -1,5 +1,6 @@
 -- Why a call is refused: the first cause that holds, in the order that its kind of call has.
-use Rattle.std.specs.Prelude.{ℕ, Bool, not, nat_le, List, [], ◌∷◌, length, Option, Some, None, is_none, option_map, option_and_then, find, count_by, if◌then◌else◌}
+use Rattle.std.specs.Prelude.{ℕ, Bool, not, nat_le, List, [], ◌∷◌, length, Option, Some, None, is_none, option_map, option_and_then, find, count_by}
+use Rattle.std.specs.Bool.{then_some}
 use Rattle.pana_copies.specs.declared.place.Place.{Place}
 use Rattle.pana_copies.specs.Places.{same_place}
 use Rattle.pana_journal.specs.declared.report.Report.{Report}
@@ -18,17 +19,13 @@ use Rattle.pana_hall.specs.Living.{copy_in, living}
 use Rattle.pana_hall.specs.Family.{is_family}
 use Rattle.pana_hall.specs.Board.{is_of}
 
--- the cause, where the test says that it holds
-abbrev pub cause_if : Bool → Cause → Option Cause
-cause_if holds cause = if holds then Some cause else None
-
 -- the journal has all the entries that it takes
 abbrev pub full : List Entry → Option Cause
-full journal = cause_if (nat_le MOST_ENTRIES (length journal)) JournalFull
+full journal = then_some (nat_le MOST_ENTRIES (length journal)) JournalFull
 
 -- no living copy has the number
 abbrev pub unknown : ℕ → List LivingCopy → Option Cause
-unknown number copies = cause_if (is_none (copy_in copies number)) (UnknownCopy number)
+unknown number copies = then_some (is_none (copy_in copies number)) (UnknownCopy number)
 
 -- a living copy has the place
 abbrev pub taken : Place → List LivingCopy → Option Cause
@@ -36,11 +33,11 @@ taken place copies = option_map (λ copy. PlaceTaken copy.number) (find (λ copy
 
 -- the family of the copy has all the living copies that it takes
 abbrev pub family_full : ℕ → List LivingCopy → Option Cause
-family_full number copies = option_and_then (λ copy. cause_if (nat_le MOST_COPIES (count_by (is_of copy.family) copies)) FamilyFull) (copy_in copies number)
+family_full number copies = option_and_then (λ copy. then_some (nat_le MOST_COPIES (count_by (is_of copy.family) copies)) FamilyFull) (copy_in copies number)
 
 -- the number is that of no Register entry
 abbrev pub unknown_family : ℕ → List Entry → Option Cause
-unknown_family number journal = cause_if (not (is_family journal number)) UnknownFamily
+unknown_family number journal = then_some (not (is_family journal number)) UnknownFamily
 
 -- the first cause of the list that holds
 abbrev pub first : List (Option Cause) → Option Cause

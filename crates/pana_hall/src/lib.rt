@@ -4,13 +4,18 @@
 mod board;
 mod call;
 mod cause;
+mod hall;
 mod living;
+mod recording;
+mod refusal;
 mod relation;
 mod reply;
+mod standing;
 mod update_set;
 
 pub use crate::board::{BoardRow, BoardView, NumberList, RowList};
 pub use crate::call::{Call, Query};
 pub use crate::cause::Cause;
+pub use crate::hall::Hall;
 pub use crate::relation::Rel;
 pub use crate::reply::{Reply, Spent};

@@ -1,0 +1,9 @@
+-- The living copies of a journal that has grown by one entry.
+use Rattle.std.specs.Prelude.{◌≡◌, List, [], ◌∷◌, ◌++◌}
+use Rattle.std.proofs.lemmas.List.Sums.{fold-append}
+use Rattle.pana_journal.specs.declared.entry.Entry.{Entry}
+use Rattle.pana_hall.specs.Living.{living, after_entry}
+
+pub living-append : (journal : List Entry) (entry : Entry) → living (journal ++ entry ∷ []) ≡ after_entry (living journal) entry
+unfolding living
+living-append journal entry = fold-append after_entry [] journal (entry ∷ [])

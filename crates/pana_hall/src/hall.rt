@@ -1,0 +1,96 @@
+ghost use Rattle.std.specs.Prelude.{◌≡◌, [], IfOk};
+ghost use Rattle.pana_hall.specs.Permit.{Permits, journal_after};
+
+use crate::call::{Call, Query};
+use crate::cause::Cause;
+use crate::living::LivingCopy;
+use crate::recording::record;
+use crate::refusal::{query_refusal, report_refusal};
+use crate::reply::Reply;
+use crate::standing::board_of;
+use pana_copies::DeviceName;
+use pana_journal::{Journal, Report};
+use std::alloc::{AllocError, Global};
+use std::marker::Model;
+
+/// All the copies of all the files, and the journal that they come from. To contracts it is its journal.
+///
+/// It keeps each living copy with the set of the updates that it knows, and compares every pair anew for a board:
+/// a plain program, for faster ones to be compared with.
+#[derive(Debug, Drop)]
+pub struct Hall {
+    alloc: Global,
+    copies: Vec<LivingCopy>,
+    journal: Journal,
+}
+
+impl Model for Hall {
+    ghost use Rattle.std.specs.Prelude.{◌≡◌, List};
+    ghost use Rattle.pana_journal.specs.declared.entry.Entry.{Entry};
+    ghost use Rattle.pana_hall.specs.Living.{living};
+
+    ghost Value = { List Entry };
+
+    ghost view = { λ hall. hall.journal.entries };
+
+    ghost invariant = { λ hall. hall.copies.items ≡ living hall.journal.entries };
+}
+
+impl Hall {
+    ghost use Rattle.pana_hall.specs.declared.call.Call.TheVariants as calls;
+
+    /// A hall with no copy and the empty journal. The only refusal is want of memory.
+    #[tactic(auto, unfolding(crate::specs::Living::living))]
+    pub fn new(alloc: Global) -> Result<Hall, AllocError>
+        ensures { IfOk result (λ hall. hall ≡ []) }
+    {
+        Ok(Hall {
+            alloc,
+            copies: Vec::new(alloc),
+            journal: Journal::new(alloc),
+        })
+    }
+
+    /// Takes one call of a device and answers it: a report is refused, or is the next entry of the journal; a query
+    /// is refused or answered, and changes nothing. A refused call changes nothing.
+    pub fn apply(&mut self, by: &DeviceName, call: Call) -> Reply
+        ensures permitted { Permits self.old by.now call result }
+        ensures journal { self.new ≡ journal_after self.old by.now call result }
+    {
+        match call {
+            Call::Report(report) => self.tell(by, report),
+            Call::Query(query) => self.ask(by, query),
+        }
+    }
+
+    #[tactic(auto, unfolding(crate::specs::Permit::Permits, crate::specs::Permit::journal_after, crate::specs::Refusal::refusal))]
+    fn tell(&mut self, by: &DeviceName, report: Report) -> Reply
+        ensures permitted { Permits self.old by.now (calls.Report report) result }
+        ensures journal { self.new ≡ journal_after self.old by.now (calls.Report report) result }
+    {
+        if let Some(cause) = report_refusal(&self.journal, &self.copies, &report) {
+            return Reply::Refused(cause);
+        }
+        let alloc = self.alloc;
+        match record(alloc, &mut self.copies, &mut self.journal, by, report) {
+            Ok(entry) => Reply::Done { entry },
+            Err(_) => Reply::Refused(Cause::OutOfMemory),
+        }
+    }
+
+    #[tactic(auto, unfolding(crate::specs::Permit::Permits, crate::specs::Permit::journal_after, crate::specs::Refusal::refusal))]
+    fn ask(&self, by: &DeviceName, query: Query) -> Reply
+        ensures permitted { Permits self.now by.now (calls.Query query) result }
+        ensures journal { self.now ≡ journal_after self.now by.now (calls.Query query) result }
+    {
+        if let Some(cause) = query_refusal(&self.journal, &self.copies, &query) {
+            return Reply::Refused(cause);
+        }
+        match query {
+            Query::Board { family } => match board_of(self.alloc, family, &self.copies) {
+                Ok(view) => Reply::Board(view),
+                Err(_) => Reply::Refused(Cause::OutOfMemory),
+            },
+        }
+    }
+}
