@@ -1,0 +1,77 @@
+#!/usr/bin/env python3
+"""Runs the program on each scenario and compares what it wrote and its status with what is wanted.
+
+usage: check_scenarios.py LAUNCHER
+The launcher is called through a link in an empty folder elsewhere, as a user may call it.
+The last line is 'N passed, M failed'.
+"""
+import difflib
+import os
+import subprocess
+import sys
+import tempfile
+from pathlib import Path
+
+import scenario
+
+SECONDS = 60
+WIDEST = 300
+LONGEST = 40
+
+
+def shown(text):
+    """The lines of some bytes, fit to be printed: a long one is cut, and a missing newline is told."""
+    lines = text.decode(errors="backslashreplace").split("\n")
+    lines = lines[:-1] if lines[-1] == "" else [*lines[:-1], lines[-1] + "  [no newline here]"]
+    return [it if len(it) <= WIDEST else f"{it[:WIDEST]}.. ({len(it)} characters)" for it in lines]
+
+
+def difference(name, wanted, got):
+    """Says where two texts differ, or nothing where they are the same."""
+    if wanted == got:
+        return []
+    lines = [*difflib.unified_diff(shown(wanted), shown(got), f"{name}, wanted", f"{name}, got", lineterm="", n=1)]
+    at = next((i for i, (a, b) in enumerate(zip(wanted, got)) if a != b), min(len(wanted), len(got)))
+    return [f"{name} differs first at byte {at} (counted from 0)", *lines[:LONGEST]]
+
+
+def faults_of(case, launcher, room):
+    """Runs the scenario and says how it fails: no lines where it passes."""
+    try:
+        ran = subprocess.run([launcher, *case.args], input=case.given, capture_output=True, cwd=room, timeout=SECONDS)
+    except subprocess.TimeoutExpired:
+        return [f"it had not ended after {SECONDS} seconds"]
+    faults = difference("output", case.output, ran.stdout) + difference("error", case.error, ran.stderr)
+    if ran.returncode != case.status:
+        faults.append(f"status {case.status} is wanted, and it ended with {ran.returncode}")
+    return faults
+
+
+def passes(folder, launcher, room):
+    """Whether the scenario of the folder passes; prints its line, and why it fails."""
+    try:
+        case = scenario.read(folder)
+        faults = faults_of(case, launcher, room)
+    except (scenario.BadScenario, subprocess.TimeoutExpired, OSError, ValueError) as error:
+        faults = [f"it could not run: {error}"]
+    if not faults:
+        print(f"ok {case.name}: {case.about}")
+        return True
+    print(f"FAILED {folder.name}", *faults, sep="\n    ")
+    return False
+
+
+def main(launcher):
+    folders = scenario.folders()
+    with tempfile.TemporaryDirectory(prefix="scenarios-") as room:
+        link, inside = Path(room) / "link", Path(room) / "empty"
+        os.symlink(os.path.realpath(launcher), link)
+        inside.mkdir()
+        outcomes = [passes(it, link, inside) for it in folders]
+    failed = outcomes.count(False) + (not folders)
+    print(f"{outcomes.count(True)} passed, {failed} failed")
+    return 1 if failed else 0
+
+
+if __name__ == "__main__":
+    sys.exit(main(sys.argv[1]))

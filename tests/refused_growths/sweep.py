@@ -1,0 +1,277 @@
+#!/usr/bin/env python3
+"""Runs the built program with its Nth growth of memory refused, for N = 1, 2, .. until none is, on each
+scenario that has a file sweep, and judges every run.
+
+usage: sweep.py PROGRAM
+
+The program is talked to line by line. Its answer to a line must be the expected one, or OutOfMemory:
+the line's fault, or the refusal of a call that takes memory. After OutOfMemory the scenario's queries
+must show the state from just before that line, and the same line, sent again, gets the expected
+answer. At the end the queries must show the final state.
+The program may end with 'panad: out of memory' and status 1 in two places: before its first answer,
+and where a call was taken whose answer could not be encoded, so never at a faulty line.
+What the queries must show is recorded in a run with nothing refused, whose other answers must be the
+scenario's output. The last line is 'N passed, M failed', one for each scenario swept.
+"""
+from __future__ import annotations
+
+import os
+import signal
+import struct
+import subprocess
+import sys
+import tempfile
+from collections import Counter
+from concurrent.futures import ProcessPoolExecutor
+from dataclasses import dataclass
+from pathlib import Path
+
+HERE = Path(__file__).resolve().parent
+sys.path.insert(0, str(HERE.parent))
+import scenario  # noqa: E402
+
+PROCESSES = 4
+SECONDS = 10
+SHOWN = 5
+WIDEST = 200
+REFUSED = b'{"code":9,"refused":"OutOfMemory"}'
+FAULT = b'{"fault":"OutOfMemory"}'
+# Expected answers of lines that make no call, or whose call finds its answer without taking memory.
+TAKE_NO_MEMORY = (b'{"fault"', b'{"code"', b'{"pair"')
+LAST_WORDS = b"panad: out of memory\n"
+REPORT = struct.Struct("=QQ")
+
+
+class Broken(Exception):
+    """A run that is not as it must be."""
+
+
+@dataclass(frozen=True)
+class Step:
+    """A line, the answer to it, and what the queries show just before it."""
+
+    line: bytes
+    answer: bytes
+    before: list[bytes]
+
+
+@dataclass(frozen=True)
+class Plan:
+    command: list[str]
+    refuser: str
+    queries: list[bytes]
+    steps: list[Step]
+
+
+def clipped(value):
+    if isinstance(value, bytes) and len(value) > WIDEST:
+        return f"{value[:WIDEST]!r}.. ({len(value)} bytes)"
+    return repr(value)
+
+
+def stop_hanging(*_):
+    raise Broken(f"it hung: no end after {SECONDS} seconds")
+
+
+class Talk:
+    """A run of the program with one growth refused (0: none), line by line, that ends after SECONDS at most."""
+
+    def __init__(self, command, refuser, refused):
+        self.report = tempfile.TemporaryFile()
+        self.report.write(bytes(REPORT.size))
+        self.report.flush()
+        self.held = b""
+        number = self.report.fileno()
+        settings = {"LD_PRELOAD": refuser, "REFUSE_AT": str(refused), "REFUSE_REPORT": str(number)}
+        pipes = {"stdin": subprocess.PIPE, "stdout": subprocess.PIPE, "stderr": subprocess.PIPE, "bufsize": 0}
+        environment = {"PATH": os.environ.get("PATH", os.defpath), **settings}
+        self.program = subprocess.Popen(command, env=environment, cwd="/", pass_fds=[number], **pipes)
+
+    def __enter__(self):
+        signal.signal(signal.SIGALRM, stop_hanging)
+        signal.setitimer(signal.ITIMER_REAL, SECONDS)
+        return self
+
+    def __exit__(self, *_):
+        signal.setitimer(signal.ITIMER_REAL, 0)
+        self.program.kill()
+        self.program.wait()
+        for it in (self.program.stdin, self.program.stdout, self.program.stderr, self.report):
+            it.close()
+
+    def send(self, line):
+        left = memoryview(line + b"\n")
+        try:
+            while left:
+                left = left[self.program.stdin.write(left) :]
+        except BrokenPipeError:
+            pass  # it has ended, as its output will show
+
+    def ask(self, line):
+        """Sends a line and returns its answer, or None where the program's output ends."""
+        self.send(line)
+        while b"\n" not in self.held:
+            more = self.program.stdout.read(65536)
+            if not more:
+                return None
+            self.held += more
+        answer, _, self.held = self.held.partition(b"\n")
+        return answer
+
+    def ask_each(self, lines):
+        return [self.ask(it) for it in lines]
+
+    def end(self):
+        """Ends the input and returns the status, what else was written, and standard error."""
+        self.program.stdin.close()
+        rest = self.held + self.program.stdout.read()
+        return self.program.wait(), rest, self.program.stderr.read()
+
+    def counts(self):
+        """How many growths there were so far, and how many were refused."""
+        return REPORT.unpack(os.pread(self.report.fileno(), REPORT.size, 0))
+
+
+def want(what, wanted, got):
+    if wanted != got:
+        raise Broken(f"{what}: {clipped(wanted)} is wanted, and it was {clipped(got)}")
+
+
+def want_end(talk, status, error):
+    ended, rest, said = talk.end()
+    want("the output after the last answer", b"", rest)
+    want("standard error", error, said)
+    if ended != status:
+        raise Broken(f"status {status} is wanted, and it ended with {ended}")
+
+
+def want_same_state(talk, plan, step):
+    for query, shown in zip(plan.queries, step.before):
+        want(f"after OutOfMemory at {clipped(step.line)} the answer to {clipped(query)}", shown, talk.ask(query))
+
+
+def judge_end(talk, step, is_first):
+    """Judges a program that ended in place of an answer, and returns the kind of that end."""
+    if not is_first and step.answer.startswith(b'{"fault"'):
+        raise Broken(f"it ended at the faulty line {clipped(step.line)}, which makes no call")
+    want_end(talk, 1, LAST_WORDS)
+    return "ended before the first answer" if is_first else "ended the program after a call"
+
+
+def talk_through(talk, plan):
+    """Sends all lines, judges each answer, and returns what came of the refusal."""
+    kind = "left no trace"
+    for at, step in enumerate(plan.steps):
+        answer = talk.ask(step.line)
+        if answer == FAULT or answer == REFUSED and not step.answer.startswith(TAKE_NO_MEMORY):
+            if kind == "answered OutOfMemory" or not talk.counts()[1]:
+                raise Broken(f"OutOfMemory at {clipped(step.line)}, and no growth was refused for it")
+            kind = "answered OutOfMemory"
+            want_same_state(talk, plan, step)
+            answer = talk.ask(step.line)
+        if answer is None:
+            if kind == "answered OutOfMemory" or not talk.counts()[1]:
+                raise Broken(f"it ended at {clipped(step.line)}, and no growth was refused for it: {talk.end()}")
+            return judge_end(talk, step, at == 0)
+        want(f"the answer to {clipped(step.line)}", step.answer, answer)
+    want_end(talk, 0, b"")
+    return kind
+
+
+def refused_run(plan, at):
+    """One run with growth number `at` refused: its growths, the refused ones, what came of it, and its fault."""
+    try:
+        with Talk(plan.command, plan.refuser, at) as talk:
+            kind, fault = "broke", None
+            try:
+                kind = talk_through(talk, plan)
+            except Broken as error:
+                fault = str(error)
+            return (*talk.counts(), kind, fault)
+    except OSError as error:
+        return 0, 0, "broke", f"it could not run: {error}"
+
+
+def lines_of(given):
+    """The lines of an input. The last is sent with a newline even where it has none."""
+    lines = given.split(b"\n")
+    return lines[:-1] if lines[-1] == b"" else lines
+
+
+def want_output(case, steps):
+    """Holds the answers of the recorded run to the scenario's output."""
+    wanted = lines_of(case.output)
+    want("the number of answers", len(wanted), len(steps))
+    for step, answer in zip(steps, wanted):
+        want(f"with queries between the lines, the answer to {clipped(step.line)}", answer, step.answer)
+
+
+def recorded(case, command, refuser):
+    """Runs the scenario with nothing refused, the queries after every line, and returns what later runs must do."""
+    steps = []
+    with Talk(command, refuser, 0) as talk:
+        before = talk.ask_each(case.queries)
+        for line in lines_of(case.given):
+            steps.append(Step(line, talk.ask(line), before))
+            before = talk.ask_each(case.queries)
+        want_end(talk, 0, b"")
+    want_output(case, steps)
+    final = [Step(query, shown, before) for query, shown in zip(case.queries, before)]
+    return Plan(command, refuser, case.queries, [*steps, *final])
+
+
+def swept(plan):
+    """Refuses each growth of the plan's run in turn: the runs, what came of them, and their faults."""
+    growths, _, _, fault = refused_run(plan, 0)
+    if fault or not growths:
+        return 1, Counter(), [f"with nothing refused: {fault or 'no growth was counted'}"]
+    kinds, faults, runs = Counter(), [], 1
+    numbers = range(1, growths + 2)
+    with ProcessPoolExecutor(PROCESSES) as pool:
+        for at, outcome in zip(numbers, pool.map(refused_run, [plan] * len(numbers), numbers, chunksize=4)):
+            _, refused, kind, fault = outcome
+            runs += 1
+            if not fault and refused != (at <= growths):
+                fault = f"{refused} growths were refused, of {growths} that it makes"
+            if fault:
+                faults.append(f"growth {at} refused: {fault}")
+            elif refused:
+                kinds[kind] += 1
+            if len(faults) == SHOWN:
+                pool.shutdown(wait=False, cancel_futures=True)
+                break
+    return runs, kinds, faults
+
+
+def sweep(folder, program, refuser):
+    """Sweeps one scenario: its runs, its refused growths, and whether all is as it must be."""
+    try:
+        case = scenario.read(folder)
+        if not case.queries:
+            raise Broken("its file sweep has no query")
+        runs, kinds, faults = swept(recorded(case, [program, *case.args], refuser))
+    except (Broken, scenario.BadScenario, subprocess.SubprocessError, OSError, ValueError) as error:
+        runs, kinds, faults = 0, Counter(), [f"it could not be swept: {error}"]
+    told = ", ".join(f"{count} {kind}" for kind, count in sorted(kinds.items()))
+    print(f"{'FAILED' if faults else 'ok'} {folder.name}: of the growths refused {told or 'none'}", *faults, sep="\n    ", flush=True)
+    return runs, sum(kinds.values()), not faults
+
+
+def main(program):
+    folders = [it for it in scenario.folders() if (it / "sweep").exists()]
+    with tempfile.TemporaryDirectory(prefix="sweep-") as room:
+        refuser = f"{room}/refuse.so"
+        compiled = subprocess.run(["cc", "-O2", "-shared", "-fPIC", "-o", refuser, HERE / "refuse.c"])
+        if compiled.returncode or not folders:
+            print("FAILED: refuse.c does not compile" if compiled.returncode else "FAILED: no scenario has a file sweep")
+            print(f"0 passed, {max(len(folders), 1)} failed")
+            return 1
+        outcomes = [sweep(it, os.path.realpath(program), refuser) for it in folders]
+    runs, refused, passed = (sum(it) for it in zip(*outcomes))
+    print(f"{refused} growths were refused in {runs} runs of {len(folders)} scenarios")
+    print(f"{passed} passed, {len(folders) - passed} failed")
+    return 0 if passed == len(folders) else 1
+
+
+if __name__ == "__main__":
+    sys.exit(main(sys.argv[1]))
