@@ -12,10 +12,15 @@ report_family family_of n (Register place) = n
 report_family family_of n (Duplicate copy place) = family_of copy
 report_family family_of n (Edit copy) = family_of copy
 
+-- the families, once one entry more is known
+abbrev pub with_entry : (ℕ → ℕ) → Entry → ℕ → ℕ
+with_entry family_of entry n = if n == entry.number then report_family family_of entry.number entry.report else family_of n
+
 -- the family of each entry of a journal, by its number
 abbrev pub families : List Entry → ℕ → ℕ
-families journal = fold (λ family_of entry n. if n == entry.number then report_family family_of n entry.report else family_of n) (λ n. n) journal
+families journal = fold with_entry (λ n. n) journal
 
+-- whether there is such an entry, and it is a Register
 abbrev pub is_register : Option Entry → Bool
 is_register None = false
 is_register (Some entry) = begins_family entry.report

@@ -8,3 +8,4 @@ pub mod Refusal
 pub mod Permit
 pub mod Run
 pub mod Recording
+pub mod Laws

@@ -1,5 +1,6 @@
-ghost use Rattle.std.specs.Prelude.{◌≡◌, [], IfOk};
+ghost use Rattle.std.specs.Prelude.{◌≡◌, [], IfOk, OnErr};
 ghost use Rattle.pana_hall.specs.Permit.{Permits, journal_after};
+ghost use Rattle.pana_hall.specs.Run.{RunsTo};
 
 use crate::call::{Call, Query};
 use crate::cause::Cause;
@@ -11,6 +12,7 @@ use crate::standing::board_of;
 use pana_copies::DeviceName;
 use pana_journal::{Journal, Report};
 use std::alloc::{AllocError, Global};
+use std::collections::VecDeque;
 use std::marker::Model;
 
 /// All the copies of all the files, and the journal that they come from. To contracts it is its journal.
@@ -61,6 +63,22 @@ impl Hall {
             Call::Report(report) => self.tell(by, report),
             Call::Query(query) => self.ask(by, query),
         }
+    }
+
+    /// Takes calls of devices in order, and answers their replies: a run, where the hall was new. The only refusal is
+    /// want of memory for the list of replies; it comes before the first call and changes nothing.
+    pub fn apply_all(
+        &mut self,
+        mut calls: VecDeque<(DeviceName, Call)>,
+    ) -> Result<Vec<Reply>, AllocError>
+        ensures ok { IfOk result (λ replies. RunsTo self.old calls.items replies.items self.new) }
+        ensures err { OnErr result (self.new ≡ self.old) }
+    {
+        let mut replies = Vec::with_capacity(self.alloc, calls.len())?;
+        while let Some((by, call)) = calls.pop_front() {
+            replies.push_reserved(self.apply(&by, call));
+        }
+        Ok(replies)
     }
 
     #[tactic(auto, unfolding(crate::specs::Permit::Permits, crate::specs::Permit::journal_after, crate::specs::Refusal::refusal))]
