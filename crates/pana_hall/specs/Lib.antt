@@ -9,3 +9,4 @@ pub mod Permit
 pub mod Run
 pub mod Recording
 pub mod Laws
+pub mod Step

@@ -62,15 +62,15 @@ fn duplicate(
     let kept_at = place.copy_of()?;
     copies.reserve(1)?;
     reserve(journal)?;
-    let number = journal.append(by, Report::Duplicate { copy, place });
+    let entry = journal.append(by, Report::Duplicate { copy, place });
     copies.push_reserved(LivingCopy {
-        number,
+        number: entry,
         family,
         place: kept_at,
         updates,
-        touch: number,
+        touch: entry,
     });
-    Ok(number)
+    Ok(entry)
 }
 
 /// The same for an Edit of a copy that lives.

@@ -75,7 +75,7 @@ impl Journal {
         ensures number { result ≡ length self.old.entries + 1 }
         ensures entries { self.new.entries ≡ self.old.entries ++ record { number = result; by = by; report = report } ∷ [] }
     {
-        let number = self.entries.len() as u64 + 1;
+        let number = self.length() + 1;
         self.entries.push_reserved(Entry { number, by, report });
         number
     }

@@ -1,0 +1,14 @@
+//! `panad` tells of the copies of a file which are newest, which are obsolete, and which are in conflict.
+#![tactic(auto)]
+
+mod command;
+mod one_hall;
+mod running;
+#[cfg(test)]
+mod tests;
+
+use std::process::ExitCode;
+
+fn main(rt: HostRuntime) -> ExitCode {
+    command::start(&rt)
+}
