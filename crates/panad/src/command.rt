@@ -1,5 +1,6 @@
 use crate::running::run_on;
-use clap::{Command, Error, ErrorKind};
+use clap::error::{Error, ErrorKind};
+use clap::Command;
 use pana_wire::{ServeFault, Tap};
 use std::alloc::{AllocError, Global};
 use std::io;
@@ -26,6 +27,7 @@ fn command_line<'a>(alloc: Global) -> Result<Command<'a>, AllocError> {
         .after_help(RUN_EXAMPLE);
     Command::new(alloc, "panad")
         .about("Tells of the copies of a file which are newest, which are obsolete, and which are in conflict")
+        .after_help("`panad run --help` shows an example.")
         .subcommand_required(true)
         .arg_required_else_help(true)
         .subcommand(run)
@@ -33,9 +35,7 @@ fn command_line<'a>(alloc: Global) -> Result<Command<'a>, AllocError> {
 
 fn run(rt: &HostRuntime) -> Result<ExitCode, ServeFault> {
     let alloc = rt.alloc();
-    let Ok(output) = BufWriter::new(alloc, io::writer(rt)) else {
-        return Err(ServeFault::OutOfMemory);
-    };
+    let output = BufWriter::new(alloc, io::writer(rt)).map_err(|_| ServeFault::OutOfMemory)?;
     let mut reader = Tap::new(rt.reader());
     let mut writer = Tap::new(output);
     run_on(alloc, &mut reader, &mut writer, READS)?;
@@ -55,15 +55,11 @@ fn explain(rt: &HostRuntime, error: &Error) -> Result<ExitCode, ServeFault> {
 
 fn obey(rt: &HostRuntime) -> Result<ExitCode, ServeFault> {
     let alloc = rt.alloc();
-    let Ok(words) = std::env::args(rt) else {
-        return Err(ServeFault::OutOfMemory);
-    };
-    let Ok(words) = words.collect::<Vec<String>>(alloc) else {
-        return Err(ServeFault::OutOfMemory);
-    };
-    let Ok(command) = command_line(alloc) else {
-        return Err(ServeFault::OutOfMemory);
-    };
+    let words = std::env::args(rt).map_err(|_| ServeFault::OutOfMemory)?;
+    let words: Vec<String> = words
+        .collect(alloc)
+        .map_err(|_| ServeFault::OutOfMemory)?;
+    let command = command_line(alloc).map_err(|_| ServeFault::OutOfMemory)?;
     match command.try_get_matches_from(words.as_slice()) {
         Ok(_) => run(rt),
         Err(error) => explain(rt, &error),

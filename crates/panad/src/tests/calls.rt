@@ -1,0 +1,103 @@
+//! Each call of the lower crates that takes memory, once, with memory there.
+
+use pana_copies::{CopyPath, DeviceName, Place};
+use pana_hall::{BoardRow, Call, Hall, NumberList, Query, Reply, RowList};
+use pana_journal::{Entry, Journal, JournalFault, MOST_ENTRIES, Report};
+use std::alloc::Global;
+use std::collections::VecDeque;
+use std::test::Fail;
+
+fn place(alloc: Global, device: &str, path: &str) -> Result<Place, Fail> {
+    Ok(Place {
+        device: DeviceName::new(alloc, device)?,
+        path: CopyPath::new(alloc, path)?,
+    })
+}
+
+#[test]
+fn names_and_places(rt: HostRuntime) -> Result<(), Fail> {
+    let home = place(rt.alloc(), "laptop", "work/plan.txt")?;
+    assert_eq!(rt; home.device.as_str(), "laptop");
+    assert_eq!(rt; home.path.as_str(), "work/plan.txt");
+    assert_eq!(rt; home.device.copy_of()?.as_str(), "laptop");
+    assert_eq!(rt; home.path.copy_of()?.as_str(), "work/plan.txt");
+    assert!(rt; home.copy_of()?.is_same(&home));
+    assert!(rt; !place(rt.alloc(), "usb", "work/plan.txt")?.is_same(&home));
+    Ok(())
+}
+
+#[test]
+fn copies_of_entries(rt: HostRuntime) -> Result<(), Fail> {
+    let reports = vec![in rt.alloc();
+        Report::Register { place: place(rt.alloc(), "usb", "a")? },
+        Report::Duplicate { copy: 7, place: place(rt.alloc(), "usb", "b")? },
+        Report::Edit { copy: 8 },
+    ]?;
+    for report in &reports {
+        let by = DeviceName::new(rt.alloc(), "desk")?;
+        let entry = Entry {
+            number: 9,
+            by,
+            report: report.copy_of()?,
+        };
+        assert!(rt; entry.report == *report);
+        assert!(rt; entry.copy_of()? == entry);
+    }
+    Ok(())
+}
+
+#[test]
+fn full_journal(rt: HostRuntime) -> Result<(), Fail> {
+    let by = DeviceName::new(rt.alloc(), "desk")?;
+    let mut journal = Journal::new(rt.alloc());
+    for _ in 0..MOST_ENTRIES {
+        journal.reserve_one()?;
+        let _ = journal.append(by.copy_of()?, Report::Edit { copy: 1 });
+    }
+    assert_eq!(rt; journal.length(), 1_000_000);
+    assert_eq!(rt; journal.reserve_one(), Err(JournalFault::JournalFull));
+    Ok(())
+}
+
+#[test]
+fn lists_of_a_board(rt: HostRuntime) -> Result<(), Fail> {
+    let mut rows = RowList::new(rt.alloc());
+    rows.push(BoardRow {
+        copy: 1,
+        place: place(rt.alloc(), "usb", "a")?,
+        newer: 0,
+        older: 2,
+        equal: 0,
+        conflict: 3,
+    })?;
+    assert_eq!(rt; rows.as_slice().len(), 1);
+    let mut numbers = NumberList::new(rt.alloc());
+    numbers.push(5)?;
+    assert_eq!(rt; numbers.as_slice(), [5].as_slice());
+    Ok(())
+}
+
+#[test]
+fn calls_on_a_hall(rt: HostRuntime) -> Result<(), Fail> {
+    let alloc = rt.alloc();
+    let by = DeviceName::new(alloc, "laptop")?;
+    let mut hall = Hall::new(alloc)?;
+    let register = Report::Register { place: place(alloc, "laptop", "a")? };
+    assert!(rt; matches!(hall.apply(&by, Call::Report(register)), Reply::Done { entry: 1 }));
+
+    let mut calls = VecDeque::new(alloc);
+    let duplicate = Report::Duplicate { copy: 1, place: place(alloc, "usb", "a")? };
+    calls.push_back((by.copy_of()?, Call::Report(duplicate)))?;
+    calls.push_back((by.copy_of()?, Call::Report(Report::Edit { copy: 2 })))?;
+    calls.push_back((by, Call::Query(Query::Board { family: 1 })))?;
+    let replies = hall.apply_all(calls)?;
+    assert_eq!(rt; replies.len(), 3);
+    assert!(rt; matches!(replies[0], Reply::Done { entry: 2 }));
+    assert!(rt; matches!(replies[1], Reply::Done { entry: 3 }));
+    let Reply::Board(board) = &replies[2] else {
+        panic!(rt; "no board")
+    };
+    assert_eq!(rt; board.newest.as_slice(), [2].as_slice());
+    assert!(rt; !board.split);
+    Ok(())
+}
