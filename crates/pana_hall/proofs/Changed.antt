@@ -27,7 +27,7 @@ change_at number f d (copy ∷ copies) within =
     let place : ℕ = place_of number copies in
     let next : 1 + place ≡ suc place = omega arith in
     elim (copy.number == number) as (λ b. cond (not b) (1 + place) 0 < suc (length copies)
-      → set (copy ∷ copies) (cond (not b) (1 + place) 0) (f (get_or (copy ∷ copies) (cond (not b) (1 + place) 0) d)) ≡ cond b (f copy ∷ copies) (copy ∷ change number f copies)) [
+    → set (copy ∷ copies) (cond (not b) (1 + place) 0) (f (get_or (copy ∷ copies) (cond (not b) (1 + place) 0) d)) ≡ cond b (f copy ∷ copies) (copy ∷ change number f copies)) [
       | true ↦ λ h. refl
       | false ↦ λ h. rw next (ap (λ l. copy ∷ l) (change_at number f d copies (omega arith)))
     ] within

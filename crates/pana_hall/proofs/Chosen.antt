@@ -24,4 +24,4 @@ pub any_two-filter : {X : Type 0} (r : X → X → Bool) (q : X → Bool) (xs : 
 any_two-filter r q xs =
     list_any-filter (λ x. list_any (r x) (filter q xs)) q xs
     ∙ list_any-same _ _ xs (λ x. ap (λ b. q x && b)
-        (list_any-filter (r x) q xs ∙ list_any-same _ _ xs (λ y. and_comm (q y) (r x y))))
+    (list_any-filter (r x) q xs ∙ list_any-same _ _ xs (λ y. and_comm (q y) (r x y))))

@@ -41,8 +41,8 @@ none_passes p f P fails (x ∷ xs) none zero d within =
     ] refl none
 none_passes p f P fails (x ∷ xs) none (suc k) d within =
     none_passes p f P fails xs
-      (elim (p x) as (λ b. cond b (Some x) (find p xs) ≡ None → find p xs ≡ None) [ | true ↦ λ n. absurd (cc) | false ↦ λ n. n ] none)
-      k d (omega arith)
+    (elim (p x) as (λ b. cond b (Some x) (find p xs) ≡ None → find p xs ≡ None) [ true ↦ λ n. absurd (cc) | false ↦ λ n. n ] none)
+    k d (omega arith)
 
 -- the families of numbers that stay as they were
 families_kept : (copies : List LivingCopy) (of of' : ℕ → ℕ) (last : ℕ) → All (λ number. number ≤ last) (map (λ copy. copy.number) copies)
@@ -51,7 +51,7 @@ families_kept [] of of' last numbers kept = refl
 families_kept (copy ∷ copies) of of' last numbers kept =
     let here : of' copy.number ≡ of copy.number = kept copy.number (numbers zero 0 (omega arith)) in
     let rest : map (λ c. of' c.number) copies ≡ map (λ c. of c.number) copies
-            = families_kept copies of of' last (λ k d within. numbers (suc k) d (omega arith)) kept in
+    = families_kept copies of of' last (λ k d within. numbers (suc k) d (omega arith)) kept in
     cc
 
 same_place-itself : (place : Place) → same_place place place ≡ true
@@ -69,24 +69,24 @@ one_more : (copies : List LivingCopy) (of of' : ℕ → ℕ) (last : ℕ) (copy 
     → find (λ c. same_place c.place copy.place) copies ≡ None → ((n : ℕ) → n ≤ last → of' n ≡ of n) → copy.family ≡ of' copy.number
     → AreOrderly (copies ++ copy ∷ []) of' (last + 1)
 one_more copies of of' last copy orderly next free kept family = record {
-    places = rw (map-append (λ c. c.place) copies (copy ∷ [])) (all_pairs_push (λ place other. place ≢ other) (map (λ c. c.place) copies) copy.place orderly.places
-        (none_passes (λ c. same_place c.place copy.place) (λ c. c.place) (λ place. place ≢ copy.place) (λ c. other_place c.place copy.place) copies free));
-    rising = rw (map-append (λ c. c.number) copies (copy ∷ [])) (all_pairs_push (λ number later. number < later) (map (λ c. c.number) copies) copy.number orderly.rising
-        (λ k d within. let below : get_or (map (λ c. c.number) copies) k d ≤ last = orderly.numbers k d within in omega arith));
-    numbers = rw (map-append (λ c. c.number) copies (copy ∷ [])) (All-push (λ number. number ≤ last + 1) (map (λ c. c.number) copies) copy.number
-        (λ k d within. let below : get_or (map (λ c. c.number) copies) k d ≤ last = orderly.numbers k d within in omega arith) (omega arith));
-    families = rw (map-append (λ c. c.family) copies (copy ∷ []), map-append (λ c. of' c.number) copies (copy ∷ []))
-        (ap (λ l. l ++ copy.family ∷ []) (orderly.families ∙ sym (families_kept copies of of' last orderly.numbers kept)) ∙ ap (λ n. map (λ c. of' c.number) copies ++ n ∷ []) family);
-    }
+  places = rw (map-append (λ c. c.place) copies (copy ∷ [])) (all_pairs_push (λ place other. place ≢ other) (map (λ c. c.place) copies) copy.place orderly.places
+      (none_passes (λ c. same_place c.place copy.place) (λ c. c.place) (λ place. place ≢ copy.place) (λ c. other_place c.place copy.place) copies free));
+  rising = rw (map-append (λ c. c.number) copies (copy ∷ [])) (all_pairs_push (λ number later. number < later) (map (λ c. c.number) copies) copy.number orderly.rising
+      (λ k d within. let below : get_or (map (λ c. c.number) copies) k d ≤ last = orderly.numbers k d within in omega arith));
+  numbers = rw (map-append (λ c. c.number) copies (copy ∷ [])) (All-push (λ number. number ≤ last + 1) (map (λ c. c.number) copies) copy.number
+      (λ k d within. let below : get_or (map (λ c. c.number) copies) k d ≤ last = orderly.numbers k d within in omega arith) (omega arith));
+  families = rw (map-append (λ c. c.family) copies (copy ∷ []), map-append (λ c. of' c.number) copies (copy ∷ []))
+      (ap (λ l. l ++ copy.family ∷ []) (orderly.families ∙ sym (families_kept copies of of' last orderly.numbers kept)) ∙ ap (λ n. map (λ c. of' c.number) copies ++ n ∷ []) family);
+}
 
 -- the same copies, and one number more
 none_more : (copies : List LivingCopy) (of of' : ℕ → ℕ) (last : ℕ) → AreOrderly copies of last → ((n : ℕ) → n ≤ last → of' n ≡ of n) → AreOrderly copies of' (last + 1)
 none_more copies of of' last orderly kept = record {
-    places = orderly.places;
-    rising = orderly.rising;
-    numbers = λ k d within. let below : get_or (map (λ c. c.number) copies) k d ≤ last = orderly.numbers k d within in omega arith;
-    families = orderly.families ∙ sym (families_kept copies of of' last orderly.numbers kept);
-    }
+  places = orderly.places;
+  rising = orderly.rising;
+  numbers = λ k d within. let below : get_or (map (λ c. c.number) copies) k d ≤ last = orderly.numbers k d within in omega arith;
+  families = orderly.families ∙ sym (families_kept copies of of' last orderly.numbers kept);
+}
 
 -- what an edit leaves alone
 map-change : {Y : Type 0} (f : LivingCopy → Y) (n number : ℕ) → ((copy : LivingCopy) → f (edited n copy) ≡ f copy)
@@ -100,11 +100,11 @@ map-change f n number same (copy ∷ copies) =
 
 edit_keeps : (copies : List LivingCopy) (of : ℕ → ℕ) (last n number : ℕ) → AreOrderly copies of last → AreOrderly (change number (edited n) copies) of last
 edit_keeps copies of last n number orderly = record {
-    places = rw (map-change (λ c. c.place) n number (λ c. refl) copies) orderly.places;
-    rising = rw (map-change (λ c. c.number) n number (λ c. refl) copies) orderly.rising;
-    numbers = rw (map-change (λ c. c.number) n number (λ c. refl) copies) orderly.numbers;
-    families = map-change (λ c. c.family) n number (λ c. refl) copies ∙ orderly.families ∙ sym (map-change (λ c. of c.number) n number (λ c. refl) copies);
-    }
+  places = rw (map-change (λ c. c.place) n number (λ c. refl) copies) orderly.places;
+  rising = rw (map-change (λ c. c.number) n number (λ c. refl) copies) orderly.rising;
+  numbers = rw (map-change (λ c. c.number) n number (λ c. refl) copies) orderly.numbers;
+  families = map-change (λ c. c.family) n number (λ c. refl) copies ∙ orderly.families ∙ sym (map-change (λ c. of c.number) n number (λ c. refl) copies);
+}
 
 -- a copy that is found has the number, and its number's family
 found_family : (copies : List LivingCopy) (of : ℕ → ℕ) (number : ℕ) (source : LivingCopy) → map (λ c. c.family) copies ≡ map (λ c. of c.number) copies
@@ -160,8 +160,8 @@ entry_keeps journal by report allowed orderly =
     let entry : Entry = record { number = length journal + 1; by = by; report = report } in
     rw (living-append journal entry, length-append journal (entry ∷ []))
     (report_keeps journal (living journal) (families journal) (families (journal ++ entry ∷ [])) report allowed orderly
-      (λ n within. families-append journal entry n ∙ ap (λ b. cond b (report_family (families journal) (length journal + 1) report) (families journal n)) (ne_eqb n (length journal + 1) (omega arith)))
-      (families-append journal entry (length journal + 1) ∙ ap (λ b. cond b (report_family (families journal) (length journal + 1) report) (families journal (length journal + 1))) (eq-eqb (length journal + 1) (length journal + 1) refl)))
+    (λ n within. families-append journal entry n ∙ ap (λ b. cond b (report_family (families journal) (length journal + 1) report) (families journal n)) (ne_eqb n (length journal + 1) (omega arith)))
+    (families-append journal entry (length journal + 1) ∙ ap (λ b. cond b (report_family (families journal) (length journal + 1) report) (families journal (length journal + 1))) (eq-eqb (length journal + 1) (length journal + 1) refl)))
 
 -- a report that is done wasn't refused, and has the next number
 done_means : (cause : Option Cause) (journal : List Entry) (report : Report) (n : ℕ) → PermitsBy cause journal (calls.Report report) (replies.Done n)
@@ -186,8 +186,8 @@ run_keeps journal (x ∷ run) permitted orderly =
 pub empty_is_orderly : IsOrderly []
 unfolding living
 empty_is_orderly = record {
-    places = λ i j d low high. absurd (omega arith);
-    rising = λ i j d low high. absurd (omega arith);
-    numbers = λ k d within. absurd (omega arith);
-    families = refl;
-    }
+  places = λ i j d low high. absurd (omega arith);
+  rising = λ i j d low high. absurd (omega arith);
+  numbers = λ k d within. absurd (omega arith);
+  families = refl;
+}

@@ -3,7 +3,7 @@ use Rattle.std.specs.Prelude.{◌≡◌, ◌↔◌, ℕ, Bool, true, false, cond
 use Rattle.std.specs.List.{list_all, list_any}
 use Rattle.std.proofs.Common.{refl, ap, subst}
 use Rattle.std.proofs.lemmas.Bool.{eqb-true, eq-eqb}
-use Rattle.pana_hall.specs.declared.relation.Rel.TheVariants.{Equal, Older, Newer, Conflict}
+use Rattle.pana_event.specs.declared.rel.Rel.TheVariants.{Equal, Older, Newer, Conflict}
 use Rattle.pana_hall.specs.Updates.{has, is_within}
 use Rattle.pana_hall.specs.Relation.{relation}
 use Rattle.pana_hall.specs.Laws.{IsSubset, RelatesSets}
@@ -43,18 +43,30 @@ by_tests : (s t : Bool) {S T : Type 0} → (s ≡ true → S) → (S → s ≡ t
     × ((cond s (cond t Equal Older) (cond t Newer Conflict) ≡ Older) ↔ (S × ¬ T))
     × ((cond s (cond t Equal Older) (cond t Newer Conflict) ≡ Newer) ↔ (T × ¬ S))
     × ((cond s (cond t Equal Older) (cond t Newer Conflict) ≡ Conflict) ↔ (¬ S × ¬ T))
-by_tests true true first from second back =
-    ((λ e. (first refl, second refl), λ p. refl), (λ e. absurd (cc), λ p. absurd (p.1 (second refl))),
-    (λ e. absurd (cc), λ p. absurd (p.1 (first refl))), (λ e. absurd (cc), λ p. absurd (p.0 (first refl))))
-by_tests true false first from second back =
-    ((λ e. absurd (cc), λ p. absurd (cc (back p.1))), (λ e. (first refl, λ t. absurd (cc (back t))), λ p. refl),
-    (λ e. absurd (cc), λ p. absurd (p.1 (first refl))), (λ e. absurd (cc), λ p. absurd (p.0 (first refl))))
-by_tests false true first from second back =
-    ((λ e. absurd (cc), λ p. absurd (cc (from p.0))), (λ e. absurd (cc), λ p. absurd (p.1 (second refl))),
-    (λ e. (second refl, λ s. absurd (cc (from s))), λ p. refl), (λ e. absurd (cc), λ p. absurd (p.1 (second refl))))
-by_tests false false first from second back =
-    ((λ e. absurd (cc), λ p. absurd (cc (from p.0))), (λ e. absurd (cc), λ p. absurd (cc (from p.0))),
-    (λ e. absurd (cc), λ p. absurd (cc (back p.0))), (λ e. (λ s. absurd (cc (from s)), λ t. absurd (cc (back t))), λ p. refl))
+by_tests true true first from second back = (
+  (λ e. (first refl, second refl), λ p. refl),
+  (λ e. absurd (cc), λ p. absurd (p.1 (second refl))),
+  (λ e. absurd (cc), λ p. absurd (p.1 (first refl))),
+  (λ e. absurd (cc), λ p. absurd (p.0 (first refl))),
+)
+by_tests true false first from second back = (
+  (λ e. absurd (cc), λ p. absurd (cc (back p.1))),
+  (λ e. (first refl, λ t. absurd (cc (back t))), λ p. refl),
+  (λ e. absurd (cc), λ p. absurd (p.1 (first refl))),
+  (λ e. absurd (cc), λ p. absurd (p.0 (first refl))),
+)
+by_tests false true first from second back = (
+  (λ e. absurd (cc), λ p. absurd (cc (from p.0))),
+  (λ e. absurd (cc), λ p. absurd (p.1 (second refl))),
+  (λ e. (second refl, λ s. absurd (cc (from s))), λ p. refl),
+  (λ e. absurd (cc), λ p. absurd (p.1 (second refl))),
+)
+by_tests false false first from second back = (
+  (λ e. absurd (cc), λ p. absurd (cc (from p.0))),
+  (λ e. absurd (cc), λ p. absurd (cc (from p.0))),
+  (λ e. absurd (cc), λ p. absurd (cc (back p.0))),
+  (λ e. (λ s. absurd (cc (from s)), λ t. absurd (cc (back t))), λ p. refl),
+)
 
 pub relates : (a b : List ℕ) → RelatesSets a b
 relates a b =

@@ -1,8 +1,8 @@
 -- The board of a family, recomputed from the sets of the copies that live.
 use Rattle.std.specs.Prelude.{ℕ, Bool, ◌==◌, ◌&&◌, not, List, map, filter, count_by}
 use Rattle.std.specs.List.{list_any}
-use Rattle.pana_hall.specs.declared.relation.Rel.{Rel}
-use Rattle.pana_hall.specs.declared.relation.Rel.TheVariants.{Equal, Older, Newer, Conflict}
+use Rattle.pana_event.specs.declared.rel.Rel.{Rel}
+use Rattle.pana_event.specs.declared.rel.Rel.TheVariants.{Equal, Older, Newer, Conflict}
 use Rattle.pana_hall.specs.declared.living.LivingCopy.{LivingCopy}
 use Rattle.pana_hall.specs.declared.board.BoardRow.{BoardRow}
 use Rattle.pana_hall.specs.declared.board.BoardView.{BoardView}
@@ -25,7 +25,7 @@ row_of copies copy = record {
   older = count_by (stands Older copy) copies;
   equal = count_by (stands Equal copy) copies;
   conflict = count_by (stands Conflict copy) copies;
-  }
+}
 
 -- whether the copy is a newest one of the family: none is newer
 abbrev pub is_newest : ℕ → List LivingCopy → LivingCopy → Bool
@@ -46,4 +46,4 @@ board_of family copies = record {
   rows = map (row_of copies) (filter (is_of family) copies);
   newest = map (λ copy. copy.number) (newest family copies);
   split = has_conflict (newest family copies);
-  }
+}

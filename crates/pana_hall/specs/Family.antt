@@ -24,11 +24,11 @@ families journal = fold with_entry (λ n. n) journal
 abbrev pub is_register : Option Entry → Bool
 is_register None = false
 is_register (Some entry) = begins_family entry.report
- where
-  begins_family : Report → Bool
-  begins_family (Register place) = true
-  begins_family (Duplicate copy place) = false
-  begins_family (Edit copy) = false
+  where
+    begins_family : Report → Bool
+    begins_family (Register place) = true
+    begins_family (Duplicate copy place) = false
+    begins_family (Edit copy) = false
 
 -- whether the number is that of a Register entry
 abbrev pub is_family : List Entry → ℕ → Bool

@@ -3,7 +3,7 @@ use Rattle.std.specs.Prelude.{◌≡◌, ◌≢◌, ℕ, ◌<◌, ◌≤◌, ◌
 use Rattle.std.specs.List.{All, AllPairs}
 use Rattle.pana_journal.specs.declared.entry.Entry.{Entry}
 use Rattle.pana_hall.specs.declared.living.LivingCopy.{LivingCopy}
-use Rattle.pana_hall.specs.declared.relation.Rel.TheVariants.{Equal, Older, Newer, Conflict}
+use Rattle.pana_event.specs.declared.rel.Rel.TheVariants.{Equal, Older, Newer, Conflict}
 use Rattle.pana_hall.specs.Updates.{has}
 use Rattle.pana_hall.specs.Relation.{relation}
 use Rattle.pana_hall.specs.Family.{families}

@@ -19,5 +19,4 @@ pub use crate::call::{Call, Query};
 pub use crate::cause::Cause;
 pub use crate::hall::Hall;
 pub use crate::laws::{every_run_is_orderly, relation_is_that_of_sets};
-pub use crate::relation::Rel;
 pub use crate::reply::{Reply, Spent};

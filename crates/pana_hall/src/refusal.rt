@@ -44,11 +44,7 @@ fn unknown_family(number: u64, journal: &Journal) -> Option<Cause>
 }
 
 /// Why a report is refused, want of memory aside. Takes no memory.
-pub fn report_refusal(
-    journal: &Journal,
-    copies: &[LivingCopy],
-    report: &Report,
-) -> Option<Cause>
+pub fn report_refusal(journal: &Journal, copies: &[LivingCopy], report: &Report) -> Option<Cause>
     ensures { result ≡ report_refusal journal.now.entries copies.now report.now }
 {
     match report {
@@ -62,11 +58,7 @@ pub fn report_refusal(
 }
 
 /// Why a query is refused, want of memory aside. Takes no memory.
-pub fn query_refusal(
-    journal: &Journal,
-    copies: &[LivingCopy],
-    query: &Query,
-) -> Option<Cause>
+pub fn query_refusal(journal: &Journal, copies: &[LivingCopy], query: &Query) -> Option<Cause>
     ensures { result ≡ query_refusal journal.now.entries copies.now query.now }
 {
     match query {

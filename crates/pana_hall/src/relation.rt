@@ -2,19 +2,7 @@ ghost use Rattle.std.specs.Prelude.{◌≡◌};
 ghost use Rattle.pana_hall.specs.Relation.{relation};
 
 use crate::update_set::UpdateSet;
-
-/// How one copy stands to another.
-#[derive(Clone, Copy, Debug, PartialEq, Eq)]
-pub enum Rel {
-    /// Both know the same updates.
-    Equal,
-    /// The first is obsolete: the second knows all that it knows, and more.
-    Older,
-    /// The second is obsolete.
-    Newer,
-    /// Each knows an update that the other doesn't.
-    Conflict,
-}
+use pana_event::Rel;
 
 /// How a copy that knows the first set stands to one that knows the second.
 pub fn relation(first: &UpdateSet, second: &UpdateSet) -> Rel

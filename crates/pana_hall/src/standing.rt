@@ -5,7 +5,8 @@ ghost use Rattle.pana_hall.specs.Board.{is_of, stands, row_of, is_newest, newest
 
 use crate::board::{BoardRow, BoardView, NumberList, RowList};
 use crate::living::LivingCopy;
-use crate::relation::{Rel, relation};
+use crate::relation::relation;
+use pana_event::Rel;
 use std::alloc::{AllocError, Global};
 
 fn is_rel(found: Rel, wanted: Rel) -> bool
@@ -47,11 +48,7 @@ fn row_of(copies: &[LivingCopy], copy: &LivingCopy) -> Result<BoardRow, AllocErr
     })
 }
 
-fn rows_of(
-    alloc: Global,
-    family: u64,
-    copies: &[LivingCopy],
-) -> Result<RowList, AllocError>
+fn rows_of(alloc: Global, family: u64, copies: &[LivingCopy]) -> Result<RowList, AllocError>
     ensures { IfOk result (λ rows. rows ≡ map (row_of copies.now) (filter (is_of family) copies.now)) }
 {
     let mut rows = RowList::new(alloc);
@@ -77,11 +74,7 @@ fn is_newest(family: u64, copies: &[LivingCopy], copy: &LivingCopy) -> bool
     copy.family == family && !has_other(Rel::Newer, copy, copies)
 }
 
-fn newest_of(
-    alloc: Global,
-    family: u64,
-    copies: &[LivingCopy],
-) -> Result<NumberList, AllocError>
+fn newest_of(alloc: Global, family: u64, copies: &[LivingCopy]) -> Result<NumberList, AllocError>
     ensures { IfOk result (λ numbers. numbers ≡ map (λ copy. copy.number) (newest family copies.now)) }
 {
     let mut numbers = NumberList::new(alloc);
@@ -97,9 +90,8 @@ fn newest_of(
 fn meets_conflict(family: u64, copies: &[LivingCopy], copy: &LivingCopy) -> bool
     ensures { result ≡ list_any (λ other. stands Rel.Conflict copy.now other && is_newest family copies.now other) copies.now }
 {
-    copies
-        .iter()
-        .any(|other| stands(Rel::Conflict, copy, other) && is_newest(family, copies, other))
+    copies.iter().any(|other| stands(Rel::Conflict, copy, other)
+        && is_newest(family, copies, other))
 }
 
 /// Whether the copy is a newest one of the family, and in conflict with another newest one.
@@ -126,11 +118,7 @@ fn is_split(family: u64, copies: &[LivingCopy]) -> bool
 
 /// The board of a family among the living copies, every pair compared anew. The only refusal is want of memory.
 #[tactic(auto, unfolding(crate::specs::Board::board_of))]
-pub fn board_of(
-    alloc: Global,
-    family: u64,
-    copies: &[LivingCopy],
-) -> Result<BoardView, AllocError>
+pub fn board_of(alloc: Global, family: u64, copies: &[LivingCopy]) -> Result<BoardView, AllocError>
     ensures { IfOk result (λ view. view ≡ board_of family copies.now) }
 {
     let rows = rows_of(alloc, family, copies)?;

@@ -15,7 +15,7 @@ returns c =
     let here : c.unwrap-at.result ≡ place_of c.args.copy c.args.copies.now.items = cc found in
     let value : c.index_mut-edited.result.now ≡ get_or c.args.copies.now.items c.unwrap-at.result c.index_mut-edited.result.now = cc (c.index_mut-edited.ensures.value) in
     let changed =
-        ap (λ x. set c.args.copies.now.items c.unwrap-at.result (edited (c.length-number.result + 1) x)) value
-        ∙ ap (λ k. set c.args.copies.now.items k (edited (c.length-number.result + 1) (get_or c.args.copies.now.items k c.index_mut-edited.result.now))) here
-        ∙ change_at c.args.copy (edited (c.length-number.result + 1)) c.index_mut-edited.result.now c.args.copies.now.items (place_within c.args.copy c.args.copies.now.items c.requires) in
+    ap (λ x. set c.args.copies.now.items c.unwrap-at.result (edited (c.length-number.result + 1) x)) value
+    ∙ ap (λ k. set c.args.copies.now.items k (edited (c.length-number.result + 1) (get_or c.args.copies.now.items k c.index_mut-edited.result.now))) here
+    ∙ change_at c.args.copy (edited (c.length-number.result + 1)) c.index_mut-edited.result.now c.args.copies.now.items (place_within c.args.copy c.args.copies.now.items c.requires) in
     (ap (λ n. n + 1) c.length-number.ensures.length, grind (arith, common_steps, changed), search rules)

@@ -1,5 +1,5 @@
 use Rattle.std.proofs.Common.{sym, ◌∙◌}
-use Rattle.pana_hall.specs.declared.relation.Rel.TheVariants.{Conflict}
+use Rattle.pana_event.specs.declared.rel.Rel.TheVariants.{Conflict}
 use Rattle.pana_hall.specs.Board.{stands, is_newest}
 use Rattle.pana_hall.proofs.Chosen.{any_two-filter}
 use Rattle.pana_hall.proofs.standing.is_split.Goals as goal

@@ -1,0 +1,7 @@
+pub mod Event
+pub mod Code
+pub mod Shape
+pub mod Join
+pub mod Order
+pub mod Relation
+pub mod Laws

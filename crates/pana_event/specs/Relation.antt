@@ -1,0 +1,20 @@
+-- How two copies relate.
+use Rattle.pana_event.specs.Event.{Event}
+use Rattle.pana_event.specs.Order.{IsBelow}
+use Rattle.pana_event.specs.declared.rel.Rel.{Rel}
+use Rattle.pana_event.specs.declared.rel.Rel.TheVariants.{Equal, Older, Newer, Conflict}
+
+-- the relation of the second to the first, from that of the first to the second
+abbrev pub reverse_of : Rel → Rel
+reverse_of Equal = Equal
+reverse_of Older = Newer
+reverse_of Newer = Older
+reverse_of Conflict = Conflict
+
+-- the relation of the first event to the second: equal where each is below the other, older where only
+-- the first is below the second, newer where only the second is below the first, and else a conflict
+abbrev pub IsRelation : Event → Event → Rel → Type 0
+IsRelation e f Equal = IsBelow e f × IsBelow f e
+IsRelation e f Older = IsBelow e f × ¬ IsBelow f e
+IsRelation e f Newer = IsBelow f e × ¬ IsBelow e f
+IsRelation e f Conflict = ¬ IsBelow e f × ¬ IsBelow f e
