@@ -35,23 +35,23 @@ first_path =
 abbrev conflict : List Entry
 conflict = first_path ++ entry 4 (Edit 2) ∷ []
 
-abbrev row : ℕ → List ℕ → (newer older equal conflict : ℕ) → BoardRow
-row copy device newer older equal conflict =
+abbrev on_board : ℕ → List ℕ → (newer older equal conflict : ℕ) → BoardRow
+on_board copy device newer older equal conflict =
     record { copy = copy; place = place device (codes "plan.txt"); newer = newer; older = older; equal = equal; conflict = conflict }
 
 first_path_board : board_of 1 (living first_path)
-    ≡ record { family = 1; rows = row 1 (codes "laptop") 0 1 0 0 ∷ row 2 (codes "usb") 1 0 0 0 ∷ []; newest = 1 ∷ []; split = false }
+    ≡ record { family = 1; rows = on_board 1 (codes "laptop") 0 1 0 0 ∷ on_board 2 (codes "usb") 1 0 0 0 ∷ []; newest = 1 ∷ []; split = false }
 unfolding living board_of row_of
 first_path_board = refl
 
 conflict_board : board_of 1 (living conflict)
-    ≡ record { family = 1; rows = row 1 (codes "laptop") 0 0 0 1 ∷ row 2 (codes "usb") 0 0 0 1 ∷ []; newest = 1 ∷ 2 ∷ []; split = true }
+    ≡ record { family = 1; rows = on_board 1 (codes "laptop") 0 0 0 1 ∷ on_board 2 (codes "usb") 0 0 0 1 ∷ []; newest = 1 ∷ 2 ∷ []; split = true }
 unfolding living board_of row_of
 conflict_board = refl
 
 -- before the edit the two are equal, and both are newest
 equal_board : board_of 1 (living (entry 1 (Register (place (codes "laptop") (codes "plan.txt"))) ∷ entry 2 (Duplicate 1 (place (codes "usb") (codes "plan.txt"))) ∷ []))
-    ≡ record { family = 1; rows = row 1 (codes "laptop") 0 0 1 0 ∷ row 2 (codes "usb") 0 0 1 0 ∷ []; newest = 1 ∷ 2 ∷ []; split = false }
+    ≡ record { family = 1; rows = on_board 1 (codes "laptop") 0 0 1 0 ∷ on_board 2 (codes "usb") 0 0 1 0 ∷ []; newest = 1 ∷ 2 ∷ []; split = false }
 unfolding living board_of row_of
 equal_board = refl
 

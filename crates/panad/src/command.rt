@@ -1,6 +1,6 @@
 use crate::running::run_on;
-use clap::error::{Error, ErrorKind};
 use clap::Command;
+use clap::error::{Error, ErrorKind};
 use pana_wire::{ServeFault, Tap};
 use std::alloc::{AllocError, Global};
 use std::io;
@@ -23,10 +23,14 @@ Example: a file on a laptop, its copy on a stick, an edit of the first, and then
 /// What the words of the command line may be.
 fn command_line<'a>(alloc: Global) -> Result<Command<'a>, AllocError> {
     let run = Command::new(alloc, "run")
-        .about("Answers reports and questions, one line of JSON each, from standard input to standard output")
+        .about(
+            "Answers reports and questions, one line of JSON each, from standard input to standard output",
+        )
         .after_help(RUN_EXAMPLE);
     Command::new(alloc, "panad")
-        .about("Tells of the copies of a file which are newest, which are obsolete, and which are in conflict")
+        .about(
+            "Tells of the copies of a file which are newest, which are obsolete, and which are in conflict",
+        )
         .after_help("`panad run --help` shows an example.")
         .subcommand_required(true)
         .arg_required_else_help(true)
@@ -56,9 +60,7 @@ fn explain(rt: &HostRuntime, error: &Error) -> Result<ExitCode, ServeFault> {
 fn obey(rt: &HostRuntime) -> Result<ExitCode, ServeFault> {
     let alloc = rt.alloc();
     let words = std::env::args(rt).map_err(|_| ServeFault::OutOfMemory)?;
-    let words: Vec<String> = words
-        .collect(alloc)
-        .map_err(|_| ServeFault::OutOfMemory)?;
+    let words: Vec<String> = words.collect(alloc).map_err(|_| ServeFault::OutOfMemory)?;
     let command = command_line(alloc).map_err(|_| ServeFault::OutOfMemory)?;
     match command.try_get_matches_from(words.as_slice()) {
         Ok(_) => run(rt),

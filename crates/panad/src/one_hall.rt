@@ -33,18 +33,19 @@ impl OneHall {
 }
 
 impl Session for OneHall {
-    ghost use Rattle.std.specs.Prelude.{◌≡◌, IsOk, IfOk, OnErr};
+    ghost use Rattle.std.specs.Prelude.{IsOk, IfOk, OnErr};
     ghost use Rattle.pana_hall.specs.Step.{Steps};
+    ghost use Rattle.panad.specs.Never.{IsNever};
 
     ghost step = { λ old by call reply new. Steps old by call reply new };
 
-    ghost spends = { λ old new. new ≡ old };
+    ghost spends = { IsNever };
 
     /// Makes the call on the hall. It is never `Spent`.
     fn call(&mut self, by: &DeviceName, call: Call) -> Result<Reply, Spent>
         ensures answers { IsOk result }
         ensures step { IfOk result (λ reply. Steps self.old by.now call reply self.new) }
-        ensures spent { OnErr result (self.new ≡ self.old) }
+        ensures spent { OnErr result (IsNever self.old self.new) }
     {
         Ok(self.hall.apply(by, call))
     }

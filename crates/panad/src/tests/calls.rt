@@ -29,8 +29,13 @@ fn names_and_places(rt: HostRuntime) -> Result<(), Fail> {
 #[test]
 fn copies_of_entries(rt: HostRuntime) -> Result<(), Fail> {
     let reports = vec![in rt.alloc();
-        Report::Register { place: place(rt.alloc(), "usb", "a")? },
-        Report::Duplicate { copy: 7, place: place(rt.alloc(), "usb", "b")? },
+        Report::Register {
+            place: place(rt.alloc(), "usb", "a")?
+        },
+        Report::Duplicate {
+            copy: 7,
+            place: place(rt.alloc(), "usb", "b")?
+        },
         Report::Edit { copy: 8 },
     ]?;
     for report in &reports {
@@ -82,11 +87,21 @@ fn calls_on_a_hall(rt: HostRuntime) -> Result<(), Fail> {
     let alloc = rt.alloc();
     let by = DeviceName::new(alloc, "laptop")?;
     let mut hall = Hall::new(alloc)?;
-    let register = Report::Register { place: place(alloc, "laptop", "a")? };
-    assert!(rt; matches!(hall.apply(&by, Call::Report(register)), Reply::Done { entry: 1 }));
+    let register = Report::Register {
+        place: place(alloc, "laptop", "a")?,
+    };
+    assert!(rt;
+        matches!(
+            hall.apply(&by, Call::Report(register)),
+            Reply::Done { entry: 1 }
+        )
+    );
 
     let mut calls = VecDeque::new(alloc);
-    let duplicate = Report::Duplicate { copy: 1, place: place(alloc, "usb", "a")? };
+    let duplicate = Report::Duplicate {
+        copy: 1,
+        place: place(alloc, "usb", "a")?,
+    };
     calls.push_back((by.copy_of()?, Call::Report(duplicate)))?;
     calls.push_back((by.copy_of()?, Call::Report(Report::Edit { copy: 2 })))?;
     calls.push_back((by, Call::Query(Query::Board { family: 1 })))?;

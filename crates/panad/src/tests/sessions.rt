@@ -59,6 +59,9 @@ fn first_path_byte_by_byte(rt: HostRuntime) -> Result<(), Fail> {
 fn too_many_reads(rt: HostRuntime) {
     let mut reader = Tap::new(ByteByByte(INPUT.as_bytes()));
     let mut writer = Tap::new(Vec::new(rt.alloc()));
-    assert_eq!(rt; run_on(rt.alloc(), &mut reader, &mut writer, 3), Err(ServeFault::Turns));
+    assert_eq!(rt;
+        run_on(rt.alloc(), &mut reader, &mut writer, 3),
+        Err(ServeFault::Turns)
+    );
     assert!(rt; writer.into_inner().is_empty());
 }

@@ -1,0 +1,5 @@
+pub mod Pairs
+pub mod Parts
+pub mod Points
+pub mod Single
+pub mod Sums

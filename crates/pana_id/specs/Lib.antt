@@ -1,0 +1,4 @@
+pub mod Id
+pub mod IdFault
+pub mod Node
+pub mod Stored

@@ -1,0 +1,5 @@
+pub mod Whole
+pub mod Lines
+pub mod Steps
+pub mod Ends
+pub mod Fronts

@@ -1,0 +1,18 @@
+-- All that was read is answered up to the last newline, and what came after it is held.
+use Rattle.std.proofs.Common.{◌≡◌, ℕ, ◌*◌, false, List, []}
+use Rattle.std.specs.Io.KnownBytes.{Consumes, Appends}
+use Rattle.pana_wire.specs.Tap.{inside, has_failed, MadeReads}
+use Rattle.pana_wire.specs.Progress.{Progress, IsFew}
+use Rattle.pana_wire.proofs.serving.serve_lines.Given as goal
+
+abbrev pub invariant-loop : goal.invariant-loop
+invariant-loop g l = record {
+  said : (input : List ℕ) × (output : List ℕ)
+      × Consumes (g.R.Read.remaining (inside l.fn.reader)) (g.R.Read.remaining (inside l.reader)) input
+      × Appends (g.W.Write.contents (inside l.fn.writer)) (g.W.Write.contents (inside l.writer)) output
+      × Progress g.S.Session.step l.fn.session [] input output l.session l.held l.served;
+  few : IsFew l.served (4096 * l.counter);
+  reader : has_failed l.reader ≡ false;
+  writer : has_failed l.writer ≡ false;
+  made : MadeReads l.counter l.fn.reader l.reader;
+}

@@ -1,0 +1,13 @@
+-- The names of the fields of a line.
+use Rattle.std.specs.Prelude.{ℕ, List, codes}
+use Rattle.pana_wire.specs.declared.field.Field.{Field}
+use Rattle.pana_wire.specs.declared.field.Field.TheVariants.{By, Do, Device, Path, Copy, Family}
+
+-- the name of a field
+abbrev pub field_name : Field → List ℕ
+field_name By = codes "by"
+field_name Do = codes "do"
+field_name Device = codes "device"
+field_name Path = codes "path"
+field_name Copy = codes "copy"
+field_name Family = codes "family"

@@ -1,0 +1,10 @@
+pub mod Field
+pub mod Word
+pub mod Fault
+pub mod Line
+pub mod Reply
+pub mod Lines
+pub mod Tap
+pub mod Session
+pub mod Kept
+pub mod Progress

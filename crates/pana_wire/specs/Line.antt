@@ -1,0 +1,131 @@
+-- What a line says: its message, or its first fault. What counts as JSON, which value counts where a name stands
+-- twice, and which number fits 64 bits, is what `serde_json` reads.
+use Rattle.std.specs.Prelude.{◌≡◌, ℕ, Bool, List, length, nat_lt, Option, Some, None, is_some, option_and_then, Result, Ok, Err, if◌then◌else◌}
+use Rattle.std.specs.Str.{is_utf8}
+use Rattle.serde_json.specs.Data.{Data}
+use Rattle.serde_json.specs.Read.{read}
+use Rattle.serde_json.specs.Find.{get, as_str, as_number, as_u64, as_object}
+use Rattle.pana_copies.specs.Names.{is_device, is_path}
+use Rattle.pana_copies.specs.declared.place.Place.{Place}
+use Rattle.pana_journal.specs.declared.report.Report.TheVariants as reports
+use Rattle.pana_hall.specs.declared.call.Query.TheVariants as queries
+use Rattle.pana_hall.specs.declared.call.Call.{Call}
+use Rattle.pana_hall.specs.declared.call.Call.TheVariants as calls
+use Rattle.pana_wire.specs.declared.field.Field.{Field}
+use Rattle.pana_wire.specs.declared.field.Field.TheVariants as fields
+use Rattle.pana_wire.specs.declared.word.Word.{Word}
+use Rattle.pana_wire.specs.declared.word.Word.TheVariants as words
+use Rattle.pana_wire.specs.declared.fault.WireFault.{WireFault}
+use Rattle.pana_wire.specs.declared.fault.WireFault.TheVariants.{TooLong, NotUtf8, NotJson, NotObject, BadField, OutOfMemory}
+use Rattle.pana_wire.specs.declared.message.Message.{Message}
+use Rattle.pana_wire.specs.Field.{field_name}
+use Rattle.pana_wire.specs.Word.{word_of}
+
+infixl 10 ◌>>=◌
+-- a step, and then the next; the first fault is what comes of both
+abbrev pub ◌>>=◌ : {A B : Type 0} → Result A WireFault → (A → Result B WireFault) → Result B WireFault
+(Ok x) >>= next = next x
+(Err fault) >>= next = Err fault
+
+-- what is there, or else the fault
+abbrev pub or_fault : {A : Type 0} → WireFault → Option A → Result A WireFault
+or_fault fault None = Err fault
+or_fault fault (Some x) = Ok x
+
+-- what is in a field; where nothing is, the field is bad
+abbrev pub found : {A : Type 0} → Field → Option A → Result A WireFault
+found field x = or_fault (BadField field) x
+
+-- the value, where it passes the test
+abbrev pub when : {A : Type 0} → (A → Bool) → A → Option A
+when test x = if test x then Some x else None
+
+-- the text in a field
+abbrev pub string_in : Field → Data → Option (List ℕ)
+string_in field d = option_and_then as_str (get (field_name field) d)
+
+-- the device's name in a field
+unfoldable pub device_in : Field → Data → Result (List ℕ) WireFault
+device_in field d = found field (option_and_then (when is_device) (string_in field d))
+
+-- the path in a field
+unfoldable pub path_in : Field → Data → Result (List ℕ) WireFault
+path_in field d = found field (option_and_then (when is_path) (string_in field d))
+
+-- the number in a field
+unfoldable pub number_in : Field → Data → Result ℕ WireFault
+number_in field d = found field (option_and_then as_u64 (option_and_then as_number (get (field_name field) d)))
+
+-- the place that the fields `device` and `path` make
+unfoldable pub place_in : Data → Result Place WireFault
+place_in d = do
+  device ← device_in fields.Device d
+  path ← path_in fields.Path d
+  Ok (record { device = device; path = path })
+
+-- the word in the field `do`
+unfoldable pub word_in : Data → Result Word WireFault
+word_in d = found fields.Do (option_and_then word_of (string_in fields.Do d))
+
+-- the call of a word, from the fields that the word has
+unfoldable pub call_in : Word → Data → Result Call WireFault
+call_in words.Register d = do
+  place ← place_in d
+  Ok (calls.Report (reports.Register place))
+call_in words.Duplicate d = do
+  copy ← number_in fields.Copy d
+  place ← place_in d
+  Ok (calls.Report (reports.Duplicate copy place))
+call_in words.Edit d = do
+  copy ← number_in fields.Copy d
+  Ok (calls.Report (reports.Edit copy))
+call_in words.Board d = do
+  family ← number_in fields.Family d
+  Ok (calls.Query (queries.Board family))
+
+-- the message in an object: who speaks, and the call
+unfoldable pub message_in : Data → Result Message WireFault
+message_in d = do
+  by ← device_in fields.By d
+  word ← word_in d
+  call ← call_in word d
+  Ok (record { by = by; call = call })
+
+-- the text of a line: at most 65,536 bytes, of UTF-8
+unfoldable pub text_in : List ℕ → Result (List ℕ) WireFault
+text_in line = if nat_lt 65536 (length line) then Err TooLong else (if is_utf8 line then Ok line else Err NotUtf8)
+
+-- the value that a text is
+unfoldable pub data_in : List ℕ → Result Data WireFault
+data_in text = or_fault NotJson (read text)
+
+-- the value, which must be an object
+unfoldable pub object_in : Data → Result Data WireFault
+object_in d = if is_some (as_object d) then Ok d else Err NotObject
+
+-- what a line says
+unfoldable pub line_says : List ℕ → Result Message WireFault
+line_says line = do
+  text ← text_in line
+  d ← data_in text
+  object ← object_in d
+  message_in object
+
+-- a fault that was answered is the one that is said; want of memory can always be
+abbrev pub Fails : {A : Type 0} → WireFault → Result A WireFault → Type 0
+Fails TooLong said = said ≡ Err TooLong
+Fails NotUtf8 said = said ≡ Err NotUtf8
+Fails NotJson said = said ≡ Err NotJson
+Fails NotObject said = said ≡ Err NotObject
+Fails (BadField field) said = said ≡ Err (BadField field)
+Fails OutOfMemory said = Unit {0}
+
+-- what was answered is what is said, unless memory ran out
+abbrev pub Gives : {A : Type 0} → Result A WireFault → Result A WireFault → Type 0
+Gives (Ok x) said = said ≡ Ok x
+Gives (Err fault) said = Fails fault said
+
+-- what was answered shows what is said, unless memory ran out
+abbrev pub Shows : {X A : Type 0} → (X → A) → Result X WireFault → Result A WireFault → Type 0
+Shows show (Ok x) said = said ≡ Ok (show x)
+Shows show (Err fault) said = Fails fault said

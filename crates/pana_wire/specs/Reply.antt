@@ -1,0 +1,89 @@
+-- The object that each reply stands for, and its text.
+use Rattle.std.specs.Prelude.{ℕ, List, map, codes, Option, Some, None}
+use Rattle.serde_json.specs.Data.{Data, number, unsigned, boolean, string, array, object, member, no_members}
+use Rattle.serde_json.specs.View.{items_of}
+use Rattle.serde_json.specs.Written.{compact_text}
+use Rattle.pana_hall.specs.declared.board.BoardRow.{BoardRow}
+use Rattle.pana_hall.specs.declared.board.BoardView.{BoardView}
+use Rattle.pana_hall.specs.declared.cause.Cause.{Cause}
+use Rattle.pana_hall.specs.declared.cause.Cause.TheVariants.{JournalFull, UnknownCopy, PlaceTaken, FamilyFull, OutOfMemory, UnknownFamily}
+use Rattle.pana_hall.specs.declared.reply.Reply.{Reply}
+use Rattle.pana_hall.specs.declared.reply.Reply.TheVariants.{Done, Board, Refused}
+use Rattle.pana_hall.specs.Cause.{code_of}
+
+-- a number in JSON
+abbrev pub number_data : ℕ → Data
+number_data n = number (unsigned n)
+
+-- a list of numbers
+unfoldable pub numbers_data : List ℕ → Data
+numbers_data numbers = array (items_of (map number_data numbers))
+
+-- a copy on a board
+unfoldable pub row_data : BoardRow → Data
+row_data row = object (
+    member (codes "conflict") (number_data row.conflict) (
+    member (codes "copy") (number_data row.copy) (
+    member (codes "device") (string row.place.device) (
+    member (codes "equal") (number_data row.equal) (
+    member (codes "newer") (number_data row.newer) (
+    member (codes "older") (number_data row.older) (
+    member (codes "path") (string row.place.path)
+    no_members)))))))
+
+-- the copies on a board
+unfoldable pub rows_data : List BoardRow → Data
+rows_data rows = array (items_of (map row_data rows))
+
+-- a board
+unfoldable pub board_data : BoardView → Data
+board_data board = object (
+    member (codes "copies") (rows_data board.rows) (
+    member (codes "family") (number_data board.family) (
+    member (codes "newest") (numbers_data board.newest) (
+    member (codes "split") (boolean board.split)
+    no_members))))
+
+-- the name of a cause
+abbrev pub cause_name : Cause → List ℕ
+cause_name JournalFull = codes "JournalFull"
+cause_name (UnknownCopy copy) = codes "UnknownCopy"
+cause_name (PlaceTaken copy) = codes "PlaceTaken"
+cause_name FamilyFull = codes "FamilyFull"
+cause_name OutOfMemory = codes "OutOfMemory"
+cause_name UnknownFamily = codes "UnknownFamily"
+
+-- the copy that a cause names, if it names one
+abbrev pub cause_copy : Cause → Option ℕ
+cause_copy JournalFull = None
+cause_copy (UnknownCopy copy) = Some copy
+cause_copy (PlaceTaken copy) = Some copy
+cause_copy FamilyFull = None
+cause_copy OutOfMemory = None
+cause_copy UnknownFamily = None
+
+-- a refusal: the code and the name of its cause, with the copy that it names between them
+abbrev pub refusal_data : ℕ → Option ℕ → List ℕ → Data
+refusal_data code None name = object (
+    member (codes "code") (number_data code) (
+    member (codes "refused") (string name)
+    no_members))
+refusal_data code (Some copy) name = object (
+    member (codes "code") (number_data code) (
+    member (codes "copy") (number_data copy) (
+    member (codes "refused") (string name)
+    no_members)))
+
+-- the refusal that a cause stands for
+unfoldable pub refused_data : Cause → Data
+refused_data cause = refusal_data (code_of cause) (cause_copy cause) (cause_name cause)
+
+-- the object that a reply stands for
+unfoldable pub reply_data : Reply → Data
+reply_data (Done entry) = object (member (codes "done") (number_data entry) no_members)
+reply_data (Board board) = object (member (codes "board") (board_data board) no_members)
+reply_data (Refused cause) = refused_data cause
+
+-- the text of a reply: its object, with no blank
+unfoldable pub reply_text : Reply → List ℕ
+reply_text reply = compact_text (reply_data reply)

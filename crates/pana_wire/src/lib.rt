@@ -1,0 +1,24 @@
+//! Lines: what a line of bytes asks, the text of each reply, and a session from bytes to bytes.
+#![tactic(auto)]
+
+mod fault;
+mod field;
+mod line_buffer;
+mod message;
+mod reading;
+mod serving;
+mod session;
+mod tap;
+#[cfg(test)]
+mod tests;
+mod word;
+mod writing;
+
+pub use crate::fault::WireFault;
+pub use crate::field::Field;
+pub use crate::message::Message;
+pub use crate::reading::decode;
+pub use crate::serving::{ServeFault, Served, serve};
+pub use crate::session::Session;
+pub use crate::tap::Tap;
+pub use crate::writing::encode;

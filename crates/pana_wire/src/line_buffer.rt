@@ -1,0 +1,64 @@
+ghost use Rattle.std.specs.Prelude.{◌≡◌, ◌==◌, [], IfOk, length};
+ghost use Rattle.pana_wire.specs.Kept.{keep};
+
+use std::alloc::{AllocError, Global};
+use std::marker::Model;
+
+/// How many bytes of a line are kept: one more than the longest line has, so that a longer one is known.
+const MOST_KEPT: usize = 65537;
+
+/// The first bytes of a line that hasn't ended yet.
+#[derive(Debug, Drop)]
+pub struct LineBuffer {
+    bytes: Vec<u8>,
+}
+
+impl Model for LineBuffer {
+    ghost use Rattle.std.specs.Prelude.{◌≤◌, List, ℕ, vec_len, vec_capacity};
+
+    ghost Value = { List ℕ };
+
+    ghost view = { λ held. held.bytes.items };
+
+    ghost invariant = { λ held. (vec_len held.bytes ≤ 65537) × (65537 ≤ vec_capacity held.bytes) };
+}
+
+impl LineBuffer {
+    /// No byte. Takes all the memory that it ever takes, 65,537 bytes; the only refusal is want of it.
+    pub fn new(alloc: Global) -> Result<LineBuffer, AllocError>
+        ensures { IfOk result (λ held. held ≡ []) }
+    {
+        let bytes = Vec::with_capacity(alloc, MOST_KEPT)?;
+        Ok(LineBuffer { bytes })
+    }
+
+    /// Keeps one byte more, while there are fewer than 65,537.
+    pub fn push(&mut self, byte: u8)
+        ensures { self.new ≡ keep self.old byte }
+    {
+        if self.bytes.len() < MOST_KEPT {
+            self.bytes.push_reserved(byte);
+        }
+    }
+
+    /// Begins a new line.
+    pub fn clear(&mut self)
+        ensures { self.new ≡ [] }
+    {
+        self.bytes.clear();
+    }
+
+    /// Whether there is no byte.
+    pub fn is_empty(&self) -> bool
+        ensures { result ≡ (length self.now == 0) }
+    {
+        self.bytes.is_empty()
+    }
+
+    /// The bytes that are kept.
+    pub fn as_slice(&self) -> &[u8]
+        ensures { result.now ≡ self.now }
+    {
+        self.bytes.as_slice()
+    }
+}

@@ -1,0 +1,162 @@
+ghost use Rattle.std.specs.Prelude.{◌≡◌, IfOk, IfErr, IsOk};
+ghost use Rattle.serde_json.specs.View.{view};
+ghost use Rattle.pana_wire.specs.Line.{Gives, Shows, text_in, data_in, object_in, device_in, path_in, number_in, place_in, word_in, call_in, message_in, line_says};
+
+use crate::fault::WireFault;
+use crate::field::Field;
+use crate::message::Message;
+use crate::word::{Word, word_of};
+use pana_copies::{CopyPath, DeviceName, NameFault, Place};
+use pana_hall::{Call, Query};
+use pana_journal::Report;
+use serde_json::Value;
+use std::alloc::Global;
+
+/// The longest line that is read, in bytes.
+const LONGEST_LINE: usize = 65536;
+
+/// What a line says, or its first fault.
+///
+/// The faults are those of `WireFault`, in its order; the fields are tried in the order `by`, `do`, and then from
+/// left to right `device path` of a register, `copy device path` of a duplicate, `copy` of an edit and `family` of a
+/// board. It takes memory for the value that the line is and for the names in it; where that is refused the fault
+/// is `OutOfMemory`.
+#[tactic(auto, unfolding(crate::specs::Line::line_says))]
+pub fn decode(alloc: Global, line: &[u8]) -> Result<Message, WireFault>
+    ensures { Gives result (line_says line.now) }
+{
+    let text = text_in(line)?;
+    let value = value_in(alloc, text)?;
+    check_object(&value)?;
+    message_in(alloc, &value)
+}
+
+#[tactic(auto, unfolding(crate::specs::Line::text_in))]
+fn text_in(line: &[u8]) -> Result<&str, WireFault>
+    ensures { Shows (λ text. text.now) result (text_in line.now) }
+{
+    if line.len() > LONGEST_LINE {
+        return Err(WireFault::TooLong);
+    }
+    match std::str::from_utf8(line) {
+        Ok(text) => Ok(text),
+        Err(_) => Err(WireFault::NotUtf8),
+    }
+}
+
+#[tactic(auto, unfolding(crate::specs::Line::data_in))]
+fn value_in(alloc: Global, text: &str) -> Result<Value, WireFault>
+    ensures { Shows view result (data_in text.now) }
+{
+    match Value::from_str(alloc, text) {
+        Ok(value) => Ok(value),
+        Err(error) if error.is_memory() => Err(WireFault::OutOfMemory),
+        Err(_) => Err(WireFault::NotJson),
+    }
+}
+
+#[tactic(auto, unfolding(crate::specs::Line::object_in))]
+fn check_object(value: &Value) -> Result<(), WireFault>
+    ensures { Shows (λ _. view value.now) result (object_in (view value.now)) }
+{
+    if value.is_object() {
+        Ok(())
+    } else {
+        Err(WireFault::NotObject)
+    }
+}
+
+#[tactic(auto, unfolding(crate::specs::Line::message_in))]
+fn message_in(alloc: Global, value: &Value) -> Result<Message, WireFault>
+    ensures { Gives result (message_in (view value.now)) }
+{
+    let by = device_in(alloc, Field::By, value)?;
+    let word = word_in(value)?;
+    let call = call_in(alloc, word, value)?;
+    Ok(Message { by, call })
+}
+
+#[tactic(auto, unfolding(crate::specs::Line::word_in))]
+fn word_in(value: &Value) -> Result<Word, WireFault>
+    ensures { Gives result (word_in (view value.now)) }
+{
+    let Some(text) = value.get(Field::Do.name()).and_then(Value::as_str) else {
+        return Err(WireFault::BadField(Field::Do));
+    };
+    match word_of(text) {
+        Some(word) => Ok(word),
+        None => Err(WireFault::BadField(Field::Do)),
+    }
+}
+
+#[tactic(auto, unfolding(crate::specs::Line::call_in))]
+fn call_in(alloc: Global, word: Word, value: &Value) -> Result<Call, WireFault>
+    ensures { Gives result (call_in word (view value.now)) }
+{
+    match word {
+        Word::Register => {
+            let place = place_in(alloc, value)?;
+            Ok(Call::Report(Report::Register { place }))
+        }
+        Word::Duplicate => {
+            let copy = number_in(Field::Copy, value)?;
+            let place = place_in(alloc, value)?;
+            Ok(Call::Report(Report::Duplicate { copy, place }))
+        }
+        Word::Edit => {
+            let copy = number_in(Field::Copy, value)?;
+            Ok(Call::Report(Report::Edit { copy }))
+        }
+        Word::Board => {
+            let family = number_in(Field::Family, value)?;
+            Ok(Call::Query(Query::Board { family }))
+        }
+    }
+}
+
+#[tactic(auto, unfolding(crate::specs::Line::place_in))]
+fn place_in(alloc: Global, value: &Value) -> Result<Place, WireFault>
+    ensures { Gives result (place_in (view value.now)) }
+{
+    let device = device_in(alloc, Field::Device, value)?;
+    let path = path_in(alloc, Field::Path, value)?;
+    Ok(Place { device, path })
+}
+
+#[tactic(auto, unfolding(crate::specs::Line::device_in))]
+fn device_in(alloc: Global, field: Field, value: &Value) -> Result<DeviceName, WireFault>
+    ensures { Gives result (device_in field (view value.now)) }
+{
+    let Some(text) = value.get(field.name()).and_then(Value::as_str) else {
+        return Err(WireFault::BadField(field));
+    };
+    match DeviceName::new(alloc, text) {
+        Ok(device) => Ok(device),
+        Err(NameFault::BadDevice) => Err(WireFault::BadField(field)),
+        Err(_) => Err(WireFault::OutOfMemory),
+    }
+}
+
+#[tactic(auto, unfolding(crate::specs::Line::path_in))]
+fn path_in(alloc: Global, field: Field, value: &Value) -> Result<CopyPath, WireFault>
+    ensures { Gives result (path_in field (view value.now)) }
+{
+    let Some(text) = value.get(field.name()).and_then(Value::as_str) else {
+        return Err(WireFault::BadField(field));
+    };
+    match CopyPath::new(alloc, text) {
+        Ok(path) => Ok(path),
+        Err(NameFault::BadPath) => Err(WireFault::BadField(field)),
+        Err(_) => Err(WireFault::OutOfMemory),
+    }
+}
+
+#[tactic(auto, unfolding(crate::specs::Line::number_in))]
+fn number_in(field: Field, value: &Value) -> Result<u64, WireFault>
+    ensures { Gives result (number_in field (view value.now)) }
+{
+    match value.get(field.name()).and_then(Value::as_u64) {
+        Some(number) => Ok(number),
+        None => Err(WireFault::BadField(field)),
+    }
+}
