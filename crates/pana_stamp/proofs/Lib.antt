@@ -1,0 +1,9 @@
+pub mod Fills
+pub mod Halves
+pub mod Costs
+pub mod Ready
+pub mod Growths
+pub mod Grows
+pub mod Raises
+pub mod Calls
+pub mod Places

@@ -1,0 +1,4 @@
+pub mod Fill
+pub mod Cost
+pub mod Grow
+pub mod Raised

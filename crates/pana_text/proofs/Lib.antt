@@ -1,0 +1,11 @@
+pub mod Again
+pub mod Appends
+pub mod Built
+pub mod Depths
+pub mod Digits
+pub mod Folds
+pub mod Kept
+pub mod Numbers
+pub mod Stamps
+pub mod Steps
+pub mod Takes

@@ -1,0 +1,8 @@
+use Rattle.pana_text.proofs.Again.{found_text, only_text}
+use Rattle.pana_text.proofs.reading.read.Goals as goal
+
+pub returns-clause-found : goal.returns-clause-found
+returns-clause-found c = found_text (λ stamp. (stamp.id, stamp.event)) c.read_exactly.result c.as_bytes.result.now c.args.text.now c.as_bytes.ensures.value c.read_exactly.ensures
+
+pub returns-clause-only : goal.returns-clause-only
+returns-clause-only c = only_text (λ stamp. (stamp.id, stamp.event)) c.read_exactly.result c.as_bytes.result.now c.args.text.now c.as_bytes.ensures.value c.read_exactly.ensures

@@ -1,0 +1,5 @@
+pub mod Fault
+pub mod Form
+pub mod Limits
+pub mod Reading
+pub mod Text
