@@ -1,17 +1,17 @@
 -- The text of a stamp is read as that stamp.
-use Rattle.std.proofs.Common.{◌≡◌, ℕ, zero, suc, ◌+◌, ◌^◌, ◌<◌, ◌≤◌, max, Bool, true, false, cond, leb, ◌&&◌, List, [], ◌∷◌, ◌++◌, length, get_or, refl, sym, ap, ◌∙◌, subst, arith, Result, Ok, Err}
-use Rattle.std.specs.Prelude.{◌==◌, decimal, IfOk}
+use Rattle.std.proofs.Common.{◌≡◌, ℕ, zero, suc, ◌^◌, ◌<◌, ◌≤◌, true, false, List, [], ◌∷◌, ◌++◌, length, get_or, refl, ap, ◌∙◌, subst, arith, Result, Ok, Err}
+use Rattle.std.specs.Prelude.{decimal, IfOk}
 use Rattle.std.proofs.lemmas.Bool.{ne_eqb, lt-ltb}
 use Rattle.std.proofs.lemmas.Fmt.{digits_decimal, decimal_nonempty}
 use Rattle.pana_id.specs.Id.{Id, zero_id, one_id, pair, IsValid, depth as depth_of_id}
 use Rattle.pana_event.specs.Event.{Event, leaf, fork, greatest, depth, IsSound}
 use Rattle.pana_text.specs.declared.fault.TextFault.{TextFault}
-use Rattle.pana_text.specs.declared.fault.TextFault.TheVariants.{Syntax, TooDeep, NotNormal, TooLarge, OutOfMemory}
-use Rattle.pana_text.specs.Reading.{◌>>=◌, Gives, Fails, is_digit, after, number_at, behind_comma, fork_number_at, fork_closed, leaf_at, ids, id_at, OfEvent, events, event_or, fork_at, event_at, at_end, stamp_at}
-use Rattle.pana_text.specs.Text.{in_two, in_three, id_text, event_text, stamp_text}
-use Rattle.pana_text.specs.Form.{is_normal_id, is_normal_event, judged, reading, IsRead}
+use Rattle.pana_text.specs.declared.fault.TextFault.TheVariants.{TooDeep}
+use Rattle.pana_text.specs.Reading.{◌>>=◌, Gives, is_digit, behind_comma, fork_number_at, fork_closed, leaf_at, ids, id_at, events, event_or, fork_at, event_at, stamp_at}
+use Rattle.pana_text.specs.Text.{id_text, event_text, stamp_text}
+use Rattle.pana_text.specs.Form.{is_normal_id, is_normal_event, judged, reading}
 use Rattle.pana_text.proofs.Folds.{closed, behind_left, fork_behind, behind_number}
-use Rattle.pana_text.proofs.Stamps.{closing, behind_id, id_part, found, Found, read_as}
+use Rattle.pana_text.proofs.Stamps.{closing, behind_id, id_part, found, read_as}
 use Rattle.pana_text.proofs.Kept.{id-normal, event-normal}
 use Rattle.pana_text.proofs.Numbers.{AreDigits, digits-parts, own, number-again}
 use Rattle.pana_text.proofs.Takes.{two_parts, three_parts, takes}

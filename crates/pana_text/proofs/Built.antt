@@ -1,5 +1,5 @@
 -- What is built of a text that is read.
-use Rattle.std.proofs.Common.{◌≡◌, ℕ, ◌≤◌, ◌<◌, ◌^◌, List, Result, Ok, Err}
+use Rattle.std.proofs.Common.{◌≡◌, ℕ, ◌≤◌, ◌<◌, ◌^◌, List, Ok}
 use Rattle.pana_id.specs.Id.{Id, IsNormal as IsNormalId, depth as depth_of_id}
 use Rattle.pana_event.specs.Event.{Event, depth, greatest, IsNormal}
 use Rattle.pana_text.specs.Reading.{ids, stamp_at}

@@ -1,12 +1,12 @@
 -- A tree that is read is no deeper than its reader lets it be.
-use Rattle.std.proofs.Common.{◌≡◌, ℕ, zero, suc, ◌+◌, ◌≤◌, ◌<◌, max, Bool, true, false, cond, List, [], ◌∷◌, length, refl, sym, ap, ◌∙◌, subst, arith, Result, Ok, Err}
+use Rattle.std.proofs.Common.{◌≡◌, ℕ, zero, suc, ◌≤◌, Bool, true, false, cond, List, [], ◌∷◌, length, subst, arith, Result, Ok, Err}
 use Rattle.std.specs.Prelude.{◌==◌}
 use Rattle.pana_id.specs.Id.{Id, zero_id, one_id, pair, depth as depth_of_id}
 use Rattle.pana_event.specs.Event.{Event, leaf, fork, depth}
 use Rattle.pana_text.specs.declared.fault.TextFault.{TextFault}
-use Rattle.pana_text.specs.declared.fault.TextFault.TheVariants.{Syntax, TooDeep}
+use Rattle.pana_text.specs.declared.fault.TextFault.TheVariants.{TooDeep}
 use Rattle.pana_text.specs.Reading.{◌>>=◌, wrong, after, number_at, fork_number_at, fork_closed, leaf_at, ids, id_or, pair_at, id_at, events, event_or, fork_at, event_at, at_end, stamp_at}
-use Rattle.pana_text.proofs.Folds.{closed, right_half, behind_left, fork_right, fork_behind, fork_left, behind_number}
+use Rattle.pana_text.proofs.Folds.{closed, right_half, behind_left, fork_right, fork_behind, behind_number}
 use Rattle.pana_text.proofs.Stamps.{closing, event_part, behind_id, id_part}
 
 -- what is read has the property

@@ -1,11 +1,11 @@
 -- What a reader makes of a tree is what the tree that is read folds to.
-use Rattle.std.proofs.Common.{◌≡◌, ℕ, zero, suc, ◌+◌, ◌-◌, ◌*◌, ◌<◌, Bool, true, false, cond, List, [], ◌∷◌, length, refl, sym, ap, ◌∙◌, arith, Result, Ok, Err}
+use Rattle.std.proofs.Common.{◌≡◌, ℕ, zero, suc, Bool, true, false, cond, List, [], ◌∷◌, refl, ap, ◌∙◌, Result, Ok, Err}
 use Rattle.std.specs.Prelude.{◌==◌}
 use Rattle.pana_id.specs.Id.{Id, zero_id, one_id, pair}
 use Rattle.pana_event.specs.Event.{Event, leaf, fork}
 use Rattle.pana_text.specs.declared.fault.TextFault.{TextFault}
-use Rattle.pana_text.specs.declared.fault.TextFault.TheVariants.{Syntax, TooDeep}
-use Rattle.pana_text.specs.Reading.{◌>>=◌, wrong, after, is_digit, digits_from, number_at, behind_comma, fork_number_at, fork_closed, leaf_at, OfId, ids, id_or, pair_at, id_at, OfEvent, events, event_or, fork_at, event_at, at_end, stamp_at}
+use Rattle.pana_text.specs.declared.fault.TextFault.TheVariants.{TooDeep}
+use Rattle.pana_text.specs.Reading.{◌>>=◌, wrong, after, is_digit, digits_from, number_at, behind_comma, fork_number_at, fork_closed, leaf_at, OfId, ids, id_or, pair_at, id_at, OfEvent, events, event_or, fork_at, event_at}
 
 -- what is read, seen by a function
 abbrev pub mapped : {A B : Type 0} → (A → B) → Result A TextFault → Result B TextFault

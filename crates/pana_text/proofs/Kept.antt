@@ -1,9 +1,9 @@
 -- What the check keeps of a tree is what its definition says of the tree.
-use Rattle.std.proofs.Common.{◌≡◌, ℕ, zero, suc, ◌+◌, ◌-◌, ◌^◌, ◌<◌, ◌≤◌, min, max, Bool, true, false, cond, ltb, ◌&&◌, ◌||◌, not, Option, Some, None, refl, sym, ap, ◌∙◌, arith, ◌⊎◌, inl, inr}
+use Rattle.std.proofs.Common.{◌≡◌, ℕ, ◌+◌, ◌^◌, ◌<◌, min, max, Bool, true, false, ◌&&◌, ◌||◌, not, Option, refl, sym, ap, ◌∙◌, arith, ◌⊎◌, inl, inr}
 use Rattle.std.specs.Prelude.{◌==◌}
 use Rattle.std.proofs.lemmas.Bool.{cases_lt, eq-eqb, ne_eqb, eqb-true, eqb-false}
 use Rattle.pana_id.specs.Id.{Id, zero_id, one_id, pair, is_zero as is_zero_id, IsNormal as IsNormalId, IsOpen as IsOpenId}
-use Rattle.pana_event.specs.Event.{Event, leaf, fork, number, greatest, are_same_leaf, IsNormal, IsOpen}
+use Rattle.pana_event.specs.Event.{Event, leaf, fork, number, greatest, IsNormal, IsOpen}
 use Rattle.pana_text.specs.declared.id.IdKind.{IdKind}
 use Rattle.pana_text.specs.declared.event.EventKind.{EventKind}
 use Rattle.pana_text.specs.Reading.{ids}

@@ -3,9 +3,17 @@ pub mod Appends
 pub mod Built
 pub mod Depths
 pub mod Digits
+pub mod EventWords
+pub mod FirstWrong
 pub mod Folds
+pub mod IdWords
 pub mod Kept
+pub mod NumberWords
 pub mod Numbers
+pub mod Outcomes
+pub mod SingleBytes
+pub mod StampWords
 pub mod Stamps
 pub mod Steps
 pub mod Takes
+pub mod Worked

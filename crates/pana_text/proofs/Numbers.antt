@@ -1,18 +1,14 @@
 -- A number that is read is the number that was written.
-use Rattle.std.proofs.Common.{◌≡◌, ◌≢◌, ℕ, zero, suc, ◌+◌, ◌-◌, ◌*◌, ◌^◌, ◌<◌, ◌≤◌, Bool, true, false, cond, leb, ◌&&◌, List, [], ◌∷◌, ◌++◌, length, get_or, refl, sym, ap, ◌∙◌, subst, arith, rules, Result, Ok, Err, inl, inr, ◌⊎◌}
+use Rattle.std.proofs.Common.{◌≡◌, ℕ, zero, suc, ◌+◌, ◌-◌, ◌*◌, ◌^◌, ◌<◌, ◌≤◌, Bool, true, false, cond, leb, List, [], ◌∷◌, ◌++◌, length, get_or, refl, sym, ap, ◌∙◌, subst, arith, Result, Ok, inl, inr, ◌⊎◌}
 use Rattle.std.specs.Prelude.{◌==◌, decimal}
-use Rattle.std.proofs.lemmas.Bool.{eqb-true, eqb-false, le-leb, leb-true, lt-leb, eq-eqb, ne_eqb}
+use Rattle.std.proofs.lemmas.Bool.{eqb-true, eqb-false, le-leb, leb-true, ne_eqb}
 use Rattle.std.proofs.lemmas.Str.Parse.{IsNumeralModel, IsDigitsTest, FoldsDigits, numerals_by_fold}
 use Rattle.std.proofs.lemmas.Fmt.{decimal_digit, decimal-digits_value, digits_decimal, digits_value-decimal, decimal_nonempty, first_decimal}
 use Rattle.pana_text.specs.declared.fault.TextFault.{TextFault}
-use Rattle.pana_text.specs.Reading.{◌>>=◌, wrong, is_digit, digits_from, number_at}
+use Rattle.pana_text.specs.Reading.{wrong, is_digit, digits_from, number_at}
+use Rattle.pana_text.specs.Grammar.{all_digits}
 use Rattle.pana_text.proofs.Kept.{split_and}
 use Rattle.pana_text.proofs.Depths.{Each}
-
--- all bytes are digits
-abbrev pub all_digits : List ℕ → Bool
-all_digits [] = true
-all_digits (b ∷ rest) = is_digit b && all_digits rest
 
 -- the number with these digits behind it
 abbrev pub fold_on : ℕ → List ℕ → ℕ
@@ -22,7 +18,7 @@ fold_on n (b ∷ rest) = fold_on (n * 10 + (b - 48)) rest
 abbrev pub AreDigits : List ℕ → Type 0
 AreDigits ds = all_digits ds ≡ true
 
-digit-from : (b : ℕ) → 48 ≤ b → b ≤ 57 → is_digit b ≡ true
+pub digit-from : (b : ℕ) → 48 ≤ b → b ≤ 57 → is_digit b ≡ true
 digit-from b low high = rw (le-leb 48 b low) (le-leb b 57 high)
 
 pub digits-parts : (b : ℕ) (rest : List ℕ) → AreDigits (b ∷ rest) → (48 ≤ b) × (b ≤ 57) × AreDigits rest
@@ -62,13 +58,13 @@ front-is b rest h = rw h refl
 front-none : (b : ℕ) (rest : List ℕ) → is_digit b ≡ false → front_digits (b ∷ rest) ≡ []
 front-none b rest h = rw h refl
 
-digits_from-is : (n b : ℕ) (rest : List ℕ) → is_digit b ≡ true → digits_from n (b ∷ rest) ≡ digits_from (n * 10 + (b - 48)) rest
+pub digits_from-is : (n b : ℕ) (rest : List ℕ) → is_digit b ≡ true → digits_from n (b ∷ rest) ≡ digits_from (n * 10 + (b - 48)) rest
 digits_from-is n b rest h = rw h refl
 
 pub digits_from-none : (n b : ℕ) (rest : List ℕ) → is_digit b ≡ false → digits_from n (b ∷ rest) ≡ (n, b ∷ rest)
 digits_from-none n b rest h = rw h refl
 
-front-digits : (text : List ℕ) → AreDigits (front_digits text)
+pub front-digits : (text : List ℕ) → AreDigits (front_digits text)
 front-digits [] = refl
 front-digits (b ∷ rest) =
     elim (test_cases (is_digit b)) [
@@ -76,7 +72,7 @@ front-digits (b ∷ rest) =
       | inr e ↦ subst AreDigits (sym (front-none b rest e)) refl
     ]
 
-front-text : (n : ℕ) (text : List ℕ) → text ≡ front_digits text ++ (digits_from n text).1
+pub front-text : (n : ℕ) (text : List ℕ) → text ≡ front_digits text ++ (digits_from n text).1
 front-text n [] = refl
 front-text n (b ∷ rest) =
     elim (is_digit b) as (λ t. (b ∷ rest) ≡ cond t (b ∷ front_digits rest) [] ++ (cond t (digits_from (n * 10 + (b - 48)) rest) (n, b ∷ rest)).1) [

@@ -1,19 +1,19 @@
 -- A whole text: what the two passes make of it, by what it is read as.
-use Rattle.std.proofs.Common.{◌≡◌, ℕ, zero, suc, ◌+◌, ◌-◌, ◌^◌, ◌<◌, ◌≤◌, max, Bool, true, false, cond, ltb, ◌&&◌, List, [], ◌∷◌, length, refl, sym, ap, ◌∙◌, subst, arith, Result, Ok, Err, Option, Some, None, inl, inr}
+use Rattle.std.proofs.Common.{◌≡◌, ℕ, ◌^◌, ◌<◌, Bool, true, false, cond, ◌&&◌, List, length, refl, sym, ap, ◌∙◌, subst, Result, Ok, Err, inl, inr}
 use Rattle.std.specs.Prelude.{⊤}
 use Rattle.std.proofs.lemmas.Bool.{cases_lt, le-ltb, lt-ltb}
-use Rattle.pana_id.specs.Id.{Id, zero_id, one_id, pair, IsNormal as IsNormalId, depth as depth_of_id}
-use Rattle.pana_event.specs.Event.{Event, leaf, fork, depth, greatest, IsNormal}
+use Rattle.pana_id.specs.Id.{Id}
+use Rattle.pana_event.specs.Event.{Event, greatest}
 use Rattle.pana_text.specs.declared.fault.TextFault.{TextFault}
 use Rattle.pana_text.specs.declared.fault.TextFault.TheVariants.{Syntax, TooDeep, NotNormal, TooLarge, OutOfMemory}
 use Rattle.pana_text.specs.declared.id.IdKind.{IdKind}
 use Rattle.pana_text.specs.declared.event.EventKind.{EventKind}
-use Rattle.pana_text.specs.Reading.{◌>>=◌, Fails, wrong, after, OfId, ids, id_at, OfEvent, events, event_at, at_end, stamp_at}
+use Rattle.pana_text.specs.Reading.{◌>>=◌, Fails, after, OfId, ids, id_at, OfEvent, events, event_at, at_end, stamp_at}
 use Rattle.pana_text.specs.Form.{is_normal_id, is_normal_event, judged, reading, IsRead}
-use Rattle.pana_text.specs.Limits.{fitted, id_kinds, event_kinds, capped_events, judged_kinds}
+use Rattle.pana_text.specs.Limits.{id_kinds, event_kinds, capped_events, judged_kinds}
 use Rattle.pana_text.proofs.Digits.{fitted-at, fitted-past}
 use Rattle.pana_text.proofs.Folds.{mapped, bind_mapped, bind_same, front, folded_id, folded, id_at-fold, event_at-fold}
-use Rattle.pana_text.proofs.Kept.{kind_of_id, kind_of, folded_id-kinds, folded_id-ids, folded-kinds, folded-capped, split_and}
+use Rattle.pana_text.proofs.Kept.{kind_of_id, kind_of, folded_id-kinds, folded_id-ids, folded-kinds, folded-capped}
 
 abbrev pub closing : {A B : Type 0} → ℕ → A → B × List ℕ → Result (A × B) TextFault
 closing total i e = after total 41 e.1 >>= λ rest. at_end total rest >>= λ end. Ok (i, e.0)

@@ -1,17 +1,16 @@
 -- What is read is the text of the trees that are read.
-use Rattle.std.proofs.Common.{◌≡◌, ℕ, zero, suc, ◌+◌, ◌-◌, ◌^◌, ◌<◌, ◌≤◌, max, Bool, true, false, cond, List, [], ◌∷◌, ◌++◌, length, refl, sym, ap, ◌∙◌, append_assoc, arith, Result, Ok, Err}
+use Rattle.std.proofs.Common.{◌≡◌, ℕ, zero, suc, ◌^◌, ◌<◌, cond, List, [], ◌∷◌, ◌++◌, length, refl, sym, ap, ◌∙◌, append_assoc, arith, Result, Ok, Err}
 use Rattle.std.specs.Prelude.{◌==◌, decimal, ⊤}
 use Rattle.std.proofs.lemmas.Bool.{eqb-true}
-use Rattle.std.proofs.lemmas.List.{append-nil}
 use Rattle.pana_id.specs.Id.{Id, zero_id, one_id, pair}
 use Rattle.pana_event.specs.Event.{Event, leaf, fork, greatest}
 use Rattle.pana_text.specs.declared.fault.TextFault.{TextFault}
 use Rattle.pana_text.specs.declared.fault.TextFault.TheVariants.{TooDeep}
 use Rattle.pana_text.specs.Reading.{◌>>=◌, wrong, after, number_at, behind_comma, fork_number_at, fork_closed, leaf_at, ids, id_or, pair_at, id_at, events, event_or, fork_at, event_at, at_end, stamp_at}
 use Rattle.pana_text.specs.Text.{in_two, in_three, id_text, event_text, stamp_text}
-use Rattle.pana_text.proofs.Folds.{closed, right_half, behind_left, fork_right, fork_behind, fork_left, behind_number}
+use Rattle.pana_text.proofs.Folds.{closed, right_half, behind_left, fork_right, fork_behind, behind_number}
 use Rattle.pana_text.proofs.Stamps.{closing, event_part, behind_id, id_part}
-use Rattle.pana_text.proofs.Depths.{Each, each_bind, each_any, each_cond, each_ok}
+use Rattle.pana_text.proofs.Depths.{Each, each_bind, each_ok}
 use Rattle.pana_text.proofs.Numbers.{each_test, NumberTakes, number-takes}
 
 pub two_parts : (a b rest : List ℕ) → in_two a b ++ rest ≡ 40 ∷ (a ++ (44 ∷ (b ++ (41 ∷ rest))))

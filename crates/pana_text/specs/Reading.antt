@@ -1,5 +1,5 @@
 -- Reading a text from left to right: a value and the bytes after it, or the first fault.
-use Rattle.std.specs.Prelude.{◌≡◌, ℕ, zero, suc, ◌+◌, ◌-◌, ◌*◌, ◌^◌, Bool, ◌&&◌, nat_le, nat_lt, not, ◌==◌, if◌then◌else◌, List, [], ◌∷◌, length, Result, Ok, Err, ⊤}
+use Rattle.std.specs.Prelude.{◌≡◌, ℕ, zero, suc, ◌+◌, ◌-◌, ◌*◌, Bool, ◌&&◌, nat_le, ◌==◌, if◌then◌else◌, List, [], ◌∷◌, length, Result, Ok, Err, ⊤}
 use Rattle.pana_id.specs.Id.{Id, zero_id, one_id, pair}
 use Rattle.pana_event.specs.Event.{Event, leaf, fork}
 use Rattle.pana_text.specs.declared.fault.TextFault.{TextFault}

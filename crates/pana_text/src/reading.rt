@@ -6,6 +6,7 @@ ghost use Rattle.pana_event.specs.Event.{Event, IsSound};
 ghost use Rattle.pana_event.specs.Shape.{tree as event_of};
 ghost use Rattle.pana_text.specs.Reading.{Gives, Reads, at_end, ids, stamp_at};
 ghost use Rattle.pana_text.specs.Form.{IsRead, reading};
+ghost use Rattle.pana_text.specs.Grammar.{Tells};
 ghost use Rattle.pana_text.specs.Text.{stamp_text};
 ghost use Rattle.pana_text.specs.Limits.{capped_events, event_kinds, id_kinds, judged_kinds};
 
@@ -89,9 +90,10 @@ fn build(
 }
 
 /// Which stamp the text is read as, or which fault.
-#[tactic(auto, using(crate::proofs::Built::builds))]
+#[tactic(auto, using(crate::proofs::Built::builds, crate::proofs::FirstWrong::no_want))]
 fn read_exactly(alloc: Global, text: &[u8]) -> Result<Stamp, TextFault>
-    ensures { Gives (λ stamp. (stamp.id, stamp.event)) result (reading text.now) }
+    ensures exact { Gives (λ stamp. (stamp.id, stamp.event)) result (reading text.now) }
+    ensures memory { IfErr result (λ fault. fault ≡ TextFault.OutOfMemory → IsRead text.now) }
 {
     check(text)?;
     let (id, event) = build(alloc, text, MAX_DEPTH)?;
@@ -111,6 +113,9 @@ pub fn read(alloc: Global, text: &str) -> Result<Stamp, TextFault>
     ensures found { IfOk result (λ stamp. text.now ≡ stamp_text stamp.id stamp.event) }
     // The text of a stamp is read as that stamp, unless memory runs out.
     ensures only { (i : Id) (e : Event) → IsValid i → IsSound e → text.now ≡ stamp_text i e → Gives {Y = Id × Event} (λ stamp. (stamp.id, stamp.event)) result (Ok (i, e)) }
+    // A syntax fault is at the first byte that the grammar doesn't have there; a depth fault is where one parenthesis
+    // too many opens; the form and the levels are told of a text of the grammar, want of memory of a stamp's alone.
+    ensures tells { IfErr result (λ fault. Tells fault text.now) }
     // Which stamp it is, or which fault.
     ensures exact { Gives (λ stamp. (stamp.id, stamp.event)) result (reading text.now) }
 {

@@ -1,4 +1,4 @@
-use Rattle.std.proofs.Common.{◌≡◌, sym, ap, ◌∙◌, ℕ, List, Option, Some, arith}
+use Rattle.std.proofs.Common.{◌≡◌, sym, ap, ◌∙◌, ℕ, List, Option, arith}
 use Rattle.pana_text.proofs.Digits.{fitted_digits, fitted_digits_start, stop_empty, stop_low, stop_high}
 use Rattle.pana_text.proofs.bytes.digits_of.Goals as goal
 use Rattle.pana_text.proofs.bytes.digits_of.Goals.{in_default, in_default-2, in_default-3}

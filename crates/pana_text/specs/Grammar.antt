@@ -1,0 +1,76 @@
+-- The grammar of stamps, by cases over bytes, without limits or normal forms; and what a fault says of it.
+use Rattle.std.specs.Prelude.{◌≡◌, ℕ, zero, suc, ◌≤◌, ◌==◌, Bool, true, ◌&&◌, if◌then◌else◌, List, [], ◌∷◌, ◌++◌, length, take, Option, Some, None, ◌⊎◌}
+use Rattle.pana_id.specs.Id.{Id}
+use Rattle.pana_text.specs.declared.fault.TextFault.{TextFault}
+use Rattle.pana_text.specs.declared.fault.TextFault.TheVariants.{Syntax, TooDeep, NotNormal, TooLarge, OutOfMemory}
+use Rattle.pana_text.specs.Reading.{is_digit}
+use Rattle.pana_text.specs.Text.{in_two, in_three, id_text}
+use Rattle.pana_text.specs.Form.{IsRead}
+
+-- ---- the grammar
+
+-- all bytes are digits
+abbrev pub all_digits : List ℕ → Bool
+all_digits [] = true
+all_digits (b ∷ rest) = is_digit b && all_digits rest
+
+-- a 0 that stands alone, or a digit from 1 to 9 and any digits behind it
+abbrev pub IsNumber : List ℕ → Type 0
+IsNumber [] = ⊥
+IsNumber (b ∷ rest) = ((b ≡ 48) × (rest ≡ [])) ⊎ ((49 ≤ b) × (b ≤ 57) × (all_digits rest ≡ true))
+
+-- an event with its numbers as they are spelled
+pub data Spelled : Type 0 where
+  leaf : List ℕ → Spelled
+  fork : List ℕ → Spelled → Spelled → Spelled
+
+abbrev pub HasNumbers : Spelled → Type 0
+HasNumbers (leaf n) = IsNumber n
+HasNumbers (fork n l r) = IsNumber n × HasNumbers l × HasNumbers r
+
+abbrev pub spelling : Spelled → List ℕ
+spelling (leaf n) = n
+spelling (fork n l r) = in_three n (spelling l) (spelling r)
+
+-- an id and an event in parentheses, with a comma between them
+abbrev pub IsStampText : List ℕ → Type 0
+IsStampText text = (i : Id) × (e : Spelled) × HasNumbers e × (text ≡ in_two (id_text i) (spelling e))
+
+-- ---- depth
+
+-- how many more parentheses may open after the byte, when so many might before; none where one opened too many
+abbrev pub room_after : ℕ → ℕ → Option ℕ
+room_after zero b = if b == 40 then None else (if b == 41 then Some 1 else Some 0)
+room_after (suc n) b = if b == 40 then Some n else (if b == 41 then Some (suc (suc n)) else Some (suc n))
+
+-- the same after all bytes
+abbrev pub room : Option ℕ → List ℕ → Option ℕ
+room None text = None
+room (Some n) [] = Some n
+room (Some n) (b ∷ rest) = room (room_after n b) rest
+
+-- ---- faults
+
+-- the byte at the place is the first that the grammar doesn't have there, or the text ends there too early: some text
+-- of the grammar begins with the front, and none goes on with what stands behind it. The front is within the depth.
+abbrev pub IsFirstWrong : ℕ → List ℕ → Type 0
+IsFirstWrong place text =
+    (front : List ℕ) × (back : List ℕ) × (text ≡ front ++ back) × (place ≡ length front)
+    × ((end : List ℕ) × IsStampText (front ++ end))
+    × ((end : List ℕ) → take 1 end ≡ take 1 back → IsStampText (front ++ end) → ⊥)
+    × ((left : ℕ) × (room (Some 257) front ≡ Some left))
+
+-- some text of the grammar begins so, and behind the front, which is within the depth, one parenthesis more opens
+-- inside the 257 that are open: those of the stamp and of 256 trees
+abbrev pub OpensTooDeep : List ℕ → Type 0
+OpensTooDeep text =
+    (front : List ℕ) × (back : List ℕ) × (text ≡ front ++ (40 ∷ back)) × ((end : List ℕ) × IsStampText (front ++ (40 ∷ end)))
+    × (room (Some 257) front ≡ Some 0)
+
+-- what a fault says of the text
+abbrev pub Tells : TextFault → List ℕ → Type 0
+Tells (Syntax place) text = IsFirstWrong place text
+Tells TooDeep text = OpensTooDeep text
+Tells NotNormal text = IsStampText text
+Tells TooLarge text = IsStampText text
+Tells OutOfMemory text = IsRead text
