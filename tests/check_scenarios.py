@@ -35,23 +35,41 @@ def difference(name, wanted, got):
     return [f"{name} differs first at byte {at} (counted from 0)", *lines[:LONGEST]]
 
 
-def faults_of(case, launcher, room):
-    """Runs the scenario and says how it fails: no lines where it passes."""
+def ran(run, launcher, room):
+    """Runs the program as is said, and returns what came of it."""
+    settings = {"input": run.given, "stderr": subprocess.PIPE, "cwd": room, "timeout": SECONDS}
+    if run.to is None:
+        return subprocess.run([launcher, *run.args], stdout=subprocess.PIPE, **settings)
+    with open(run.to, "wb") as to:
+        return subprocess.run([launcher, *run.args], stdout=to, **settings)
+
+
+def faults_of(run, launcher, room):
+    """Says how a run of the program fails: no lines where it passes."""
     try:
-        ran = subprocess.run([launcher, *case.args], input=case.given, capture_output=True, cwd=room, timeout=SECONDS)
+        done = ran(run, launcher, room)
     except subprocess.TimeoutExpired:
         return [f"it had not ended after {SECONDS} seconds"]
-    faults = difference("output", case.output, ran.stdout) + difference("error", case.error, ran.stderr)
-    if ran.returncode != case.status:
-        faults.append(f"status {case.status} is wanted, and it ended with {ran.returncode}")
+    faults = difference("output", run.output, done.stdout or b"") + difference("error", run.error, done.stderr)
+    if done.returncode != run.status:
+        faults.append(f"status {run.status} is wanted, and it ended with {done.returncode}")
     return faults
+
+
+def faults_of_each(runs, launcher, room):
+    """Says how the runs of a scenario fail, and of several which."""
+    for run in runs:
+        faults = faults_of(run, launcher, room)
+        if faults and len(runs) > 1:
+            yield shown(" ".join(run.args).encode(errors="backslashreplace"))[0]
+        yield from faults
 
 
 def passes(folder, launcher, room):
     """Whether the scenario of the folder passes; prints its line, and why it fails."""
     try:
         case = scenario.read(folder)
-        faults = faults_of(case, launcher, room)
+        faults = [*faults_of_each(case.runs, launcher, room)]
     except (scenario.BadScenario, subprocess.TimeoutExpired, OSError, ValueError) as error:
         faults = [f"it could not run: {error}"]
     if not faults:

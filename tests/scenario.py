@@ -6,17 +6,25 @@ input    standard input (absent: empty), or input.py, which prints it
 output   standard output, to the byte, or output.py, which prints it
 error    standard error, to the byte (absent: empty)
 status   the exit status (absent: 0)
-sweep    marks the scenario for the sweep of refused growths: query lines that show the state
+runs     in place of these five several runs, a line of JSON each, or runs.py, which prints them:
+         {"args": ["a", "b"], "output": "", "error": "", "status": 0}, where what is absent is as
+         here, and "to" may name a file for standard output to go to
+sweep    marks the scenario for the sweep of refused growths: for a session query lines that show
+         the state; for several runs the lines that may be told where memory is refused
 """
 from __future__ import annotations
 
+import json
 import subprocess
 import sys
 from dataclasses import dataclass
 from pathlib import Path
 
 FOLDER = Path(__file__).resolve().parent / "scenarios"
-FILES = {"about", "args", "input", "input.py", "output", "output.py", "error", "status", "sweep"}
+SESSION = {"args", "input", "input.py", "output", "output.py", "error", "status"}
+RUNS = {"runs", "runs.py"}
+FILES = {"about", "sweep", *SESSION, *RUNS}
+PARTS = {"args": list, "output": str, "error": str, "status": int, "to": str}
 SECONDS = 60
 
 
@@ -25,15 +33,22 @@ class BadScenario(Exception):
 
 
 @dataclass(frozen=True)
-class Scenario:
-    name: str
-    about: str
+class Run:
     args: list[str]
     given: bytes
     output: bytes
     error: bytes
     status: int
-    queries: list[bytes]
+    to: str | None = None
+
+
+@dataclass(frozen=True)
+class Scenario:
+    name: str
+    about: str
+    is_session: bool
+    runs: list[Run]
+    sweep: list[bytes]
 
 
 def folders():
@@ -58,24 +73,44 @@ def text_of(folder, name, default=None):
     return default
 
 
-def read(folder):
-    """The scenario of a folder, or BadScenario."""
-    unknown = sorted(it.name for it in folder.iterdir() if it.name not in FILES)
-    if unknown:
-        raise BadScenario(f"it has files that nothing reads: {', '.join(unknown)}")
-    about = text_of(folder, "about").decode().strip()
-    if not about or "\n" in about:
-        raise BadScenario("its about is not one sentence on one line")
+def run_of(line):
+    """The run that a line of the file runs says."""
+    try:
+        said = json.loads(line)
+    except ValueError as error:
+        raise BadScenario(f"a run is no JSON: {error}") from error
+    if not isinstance(said, dict) or any(not isinstance(said[it], PARTS.get(it, ())) for it in said) or "args" not in said:
+        raise BadScenario(f"this says no run: {line.decode(errors='replace')}")
+    output, error = (said.get(it, "").encode() for it in ("output", "error"))
+    return Run(said["args"], b"", output, error, said.get("status", 0), said.get("to"))
+
+
+def session_of(folder):
+    """The one run that the files of a folder say."""
     status = text_of(folder, "status", b"0").decode().strip()
     if not status.isdigit():
         raise BadScenario("its status is no number")
-    return Scenario(
-        name=folder.name,
-        about=about,
+    return Run(
         args=text_of(folder, "args", b"run\n").decode().splitlines(),
         given=text_of(folder, "input", b""),
         output=text_of(folder, "output"),
         error=text_of(folder, "error", b""),
         status=int(status),
-        queries=text_of(folder, "sweep", b"").splitlines(),
     )
+
+
+def read(folder):
+    """The scenario of a folder, or BadScenario."""
+    names = {it.name for it in folder.iterdir()}
+    if names - FILES:
+        raise BadScenario(f"it has files that nothing reads: {', '.join(sorted(names - FILES))}")
+    if names & RUNS and names & SESSION:
+        raise BadScenario(f"it has several runs, and beside them {', '.join(sorted(names & SESSION))}")
+    about = text_of(folder, "about").decode().strip()
+    if not about or "\n" in about:
+        raise BadScenario("its about is not one sentence on one line")
+    is_session = not names & RUNS
+    runs = [session_of(folder)] if is_session else [run_of(it) for it in text_of(folder, "runs").splitlines()]
+    if not runs:
+        raise BadScenario("it has no run")
+    return Scenario(folder.name, about, is_session, runs, text_of(folder, "sweep", b"").splitlines())

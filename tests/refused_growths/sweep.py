@@ -4,14 +4,17 @@ scenario that has a file sweep, and judges every run.
 
 usage: sweep.py PROGRAM
 
-The program is talked to line by line. Its answer to a line must be the expected one, or OutOfMemory:
+A session is talked to line by line. The program's answer to a line must be the expected one, or OutOfMemory:
 the line's fault, or the refusal of a call that takes memory. After OutOfMemory the scenario's queries
 must show the state from just before that line, and the same line, sent again, gets the expected
 answer. At the end the queries must show the final state.
 The program may end with 'panad: out of memory' and status 1 in two places: before its first answer,
 and where a call was taken whose answer could not be encoded, so never at a faulty line.
 What the queries must show is recorded in a run with nothing refused, whose other answers must be the
-scenario's output. The last line is 'N passed, M failed', one for each scenario swept.
+scenario's output.
+Of a scenario of several runs each is swept by itself: it must end as it says, or, where a growth was
+refused, with status 1, no output, and one of the lines of the file sweep on standard error.
+The last line is 'N passed, M failed', one for each scenario swept.
 """
 from __future__ import annotations
 
@@ -56,11 +59,29 @@ class Step:
 
 
 @dataclass(frozen=True)
-class Plan:
+class Session:
+    """What a run must do that is talked to line by line."""
+
     command: list[str]
     refuser: str
     queries: list[bytes]
     steps: list[Step]
+
+    def judge(self, talk):
+        return talk_through(talk, self)
+
+
+@dataclass(frozen=True)
+class Single:
+    """What a run must do that ends by itself, and which lines it may end with where memory is refused."""
+
+    command: list[str]
+    refuser: str
+    run: scenario.Run
+    last_words: list[bytes]
+
+    def judge(self, talk):
+        return judge_single(talk, self)
 
 
 def clipped(value):
@@ -178,13 +199,24 @@ def talk_through(talk, plan):
     return kind
 
 
+def judge_single(talk, plan):
+    """Judges a run that ends by itself, and returns what came of the refusal."""
+    status, output, error = talk.end()
+    if (status, output, error) == (plan.run.status, plan.run.output, plan.run.error):
+        return "left no trace"
+    if not talk.counts()[1] or status != 1 or output or error not in plan.last_words:
+        words = " ".join(plan.run.args)
+        raise Broken(f"{words}: it ended with {status}, the output {clipped(output)}, and {clipped(error)}")
+    return "told"
+
+
 def refused_run(plan, at):
     """One run with growth number `at` refused: its growths, the refused ones, what came of it, and its fault."""
     try:
         with Talk(plan.command, plan.refuser, at) as talk:
             kind, fault = "broke", None
             try:
-                kind = talk_through(talk, plan)
+                kind = plan.judge(talk)
             except Broken as error:
                 fault = str(error)
             return (*talk.counts(), kind, fault)
@@ -198,26 +230,26 @@ def lines_of(given):
     return lines[:-1] if lines[-1] == b"" else lines
 
 
-def want_output(case, steps):
-    """Holds the answers of the recorded run to the scenario's output."""
-    wanted = lines_of(case.output)
+def want_output(run, steps):
+    """Holds the answers of the recorded run to the output that is wanted."""
+    wanted = lines_of(run.output)
     want("the number of answers", len(wanted), len(steps))
     for step, answer in zip(steps, wanted):
         want(f"with queries between the lines, the answer to {clipped(step.line)}", answer, step.answer)
 
 
-def recorded(case, command, refuser):
-    """Runs the scenario with nothing refused, the queries after every line, and returns what later runs must do."""
-    steps = []
-    with Talk(command, refuser, 0) as talk:
-        before = talk.ask_each(case.queries)
-        for line in lines_of(case.given):
+def recorded(case, program, refuser):
+    """Runs a session with nothing refused, the queries after every line, and returns what later runs must do."""
+    (run,), steps = case.runs, []
+    with Talk([program, *run.args], refuser, 0) as talk:
+        before = talk.ask_each(case.sweep)
+        for line in lines_of(run.given):
             steps.append(Step(line, talk.ask(line), before))
-            before = talk.ask_each(case.queries)
+            before = talk.ask_each(case.sweep)
         want_end(talk, 0, b"")
-    want_output(case, steps)
-    final = [Step(query, shown, before) for query, shown in zip(case.queries, before)]
-    return Plan(command, refuser, case.queries, [*steps, *final])
+    want_output(run, steps)
+    final = [Step(query, shown, before) for query, shown in zip(case.sweep, before)]
+    return Session([program, *run.args], refuser, case.sweep, [*steps, *final])
 
 
 def swept(plan):
@@ -243,13 +275,23 @@ def swept(plan):
     return runs, kinds, faults
 
 
+def plans_of(case, program, refuser):
+    """What the runs of a scenario must do."""
+    if not case.sweep:
+        raise Broken("its file sweep is empty")
+    if case.is_session:
+        return [recorded(case, program, refuser)]
+    last_words = [it + b"\n" for it in case.sweep]
+    return [Single([program, *run.args], refuser, run, last_words) for run in case.runs]
+
+
 def sweep(folder, program, refuser):
     """Sweeps one scenario: its runs, its refused growths, and whether all is as it must be."""
     try:
-        case = scenario.read(folder)
-        if not case.queries:
-            raise Broken("its file sweep has no query")
-        runs, kinds, faults = swept(recorded(case, [program, *case.args], refuser))
+        outcomes = [swept(it) for it in plans_of(scenario.read(folder), program, refuser)]
+        runs = sum(it for it, _, _ in outcomes)
+        kinds = sum((it for _, it, _ in outcomes), Counter())
+        faults = [fault for _, _, some in outcomes for fault in some]
     except (Broken, scenario.BadScenario, subprocess.SubprocessError, OSError, ValueError) as error:
         runs, kinds, faults = 0, Counter(), [f"it could not be swept: {error}"]
     told = ", ".join(f"{count} {kind}" for kind, count in sorted(kinds.items()))

@@ -2,6 +2,7 @@
 #![tactic(auto)]
 
 mod command;
+mod comparing;
 mod one_hall;
 mod running;
 #[cfg(test)]
