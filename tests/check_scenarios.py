@@ -58,10 +58,10 @@ def faults_of(run, launcher, room):
 
 def faults_of_each(runs, launcher, room):
     """Says how the runs of a scenario fail, and of several which."""
-    for run in runs:
+    for number, run in enumerate(runs, 1):
         faults = faults_of(run, launcher, room)
         if faults and len(runs) > 1:
-            yield shown(" ".join(run.args).encode(errors="backslashreplace"))[0]
+            yield f"run {number}, {' '.join(run.args)[:WIDEST]!r}:"
         yield from faults
 
 

@@ -205,8 +205,8 @@ def judge_single(talk, plan):
     if (status, output, error) == (plan.run.status, plan.run.output, plan.run.error):
         return "left no trace"
     if not talk.counts()[1] or status != 1 or output or error not in plan.last_words:
-        words = " ".join(plan.run.args)
-        raise Broken(f"{words}: it ended with {status}, the output {clipped(output)}, and {clipped(error)}")
+        words = " ".join(plan.run.args).encode()
+        raise Broken(f"{clipped(words)} ended with {status}, the output {clipped(output)}, and {clipped(error)}")
     return "told"
 
 

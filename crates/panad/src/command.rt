@@ -29,6 +29,7 @@ A stamp is an id and an event of an Interval Tree Clock. Example:
 
 /// The names of the two stamps on the command line.
 const FIRST: &str = "FIRST";
+
 const SECOND: &str = "SECOND";
 
 fn run_command<'a>(alloc: Global) -> Command<'a> {
@@ -132,7 +133,10 @@ fn obey_words(rt: &HostRuntime, words: &[String]) -> Result<ExitCode, ServeFault
 fn refuse_words(rt: &HostRuntime) -> Result<ExitCode, ServeFault> {
     let mut command = command_line(rt.alloc()).map_err(|_| ServeFault::OutOfMemory)?;
     let error = command
-        .error(ErrorKind::InvalidValue, "a word of the command line isn't UTF-8")
+        .error(
+            ErrorKind::InvalidValue,
+            "a word of the command line isn't UTF-8",
+        )
         .map_err(|_| ServeFault::OutOfMemory)?;
     explain(rt, &error)
 }

@@ -4,7 +4,9 @@ use std::process::Abort;
 use std::test::Fail;
 
 const LAPTOP: &str = "((1,0),(0,1,0))";
+
 const STICK: &str = "((0,1),0)";
+
 const DESK: &str = "((0,1),(0,0,1))";
 
 /// Whether the answer to the two texts is just this.
@@ -62,10 +64,7 @@ fn faults_of_the_first(rt: HostRuntime) -> Result<(), Fail> {
         ("((1,1),0)", "panad: first stamp: NotNormal\n"),
         ("(1,(1,2,2))", "panad: first stamp: NotNormal\n"),
         ("(1,(0,1,2))", "panad: first stamp: NotNormal\n"),
-        (
-            "(1,18446744073709551616)",
-            "panad: first stamp: TooLarge\n",
-        ),
+        ("(1,18446744073709551616)", "panad: first stamp: TooLarge\n"),
         (
             "(1,(1,18446744073709551615,0))",
             "panad: first stamp: TooLarge\n",
