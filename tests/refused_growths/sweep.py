@@ -207,7 +207,7 @@ def judge_single(talk, plan):
     if not talk.counts()[1] or status != 1 or output or error not in plan.last_words:
         words = " ".join(plan.run.args).encode()
         raise Broken(f"{clipped(words)} ended with {status}, the output {clipped(output)}, and {clipped(error)}")
-    return "told"
+    return "told on standard error"
 
 
 def refused_run(plan, at):
