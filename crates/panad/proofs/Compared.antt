@@ -1,5 +1,5 @@
 -- How a fault that reading a stamp gave is answered.
-use Rattle.std.proofs.Common.{◌≡◌, ℕ, List, Result, Ok, Err, inl, inr, refl, subst, codes}
+use Rattle.std.proofs.Common.{◌≡◌, ℕ, List, Ok, Err, inl, inr, refl, subst, codes}
 use Rattle.std.specs.Prelude.{◌⊎◌}
 use Rattle.pana_id.specs.Id.{Id}
 use Rattle.pana_event.specs.Event.{Event}

@@ -1,6 +1,5 @@
-use Rattle.std.proofs.Common.{◌≡◌, List, [], inl, inr, subst}
+use Rattle.std.proofs.Common.{inl, inr, subst}
 use Rattle.std.proofs.lemmas.Result.{IfOk-weaker, IfErr-weaker}
-use Rattle.pana_journal.specs.declared.entry.Entry.{Entry}
 use Rattle.pana_hall.specs.Step.{Steps}
 use Rattle.pana_wire.specs.Lines.{lines_of}
 use Rattle.pana_wire.specs.Session.{SessionText, EndsBy}
