@@ -20,7 +20,6 @@ from __future__ import annotations
 
 import os
 import signal
-import struct
 import subprocess
 import sys
 import tempfile
@@ -31,6 +30,7 @@ from pathlib import Path
 
 HERE = Path(__file__).resolve().parent
 sys.path.insert(0, str(HERE.parent))
+import refuser  # noqa: E402
 import scenario  # noqa: E402
 
 PROCESSES = 4
@@ -42,7 +42,6 @@ FAULT = b'{"fault":"OutOfMemory"}'
 # Expected answers of lines that make no call, or whose call finds its answer without taking memory.
 TAKE_NO_MEMORY = (b'{"fault"', b'{"code"', b'{"pair"')
 LAST_WORDS = b"panad: out of memory\n"
-REPORT = struct.Struct("=QQ")
 
 
 class Broken(Exception):
@@ -63,7 +62,7 @@ class Session:
     """What a run must do that is talked to line by line."""
 
     command: list[str]
-    refuser: str
+    library: str
     queries: list[bytes]
     steps: list[Step]
 
@@ -76,7 +75,7 @@ class Single:
     """What a run must do that ends by itself, and which lines it may end with where memory is refused."""
 
     command: list[str]
-    refuser: str
+    library: str
     run: scenario.Run
     last_words: list[bytes]
 
@@ -97,16 +96,12 @@ def stop_hanging(*_):
 class Talk:
     """A run of the program with one growth refused (0: none), line by line, that ends after SECONDS at most."""
 
-    def __init__(self, command, refuser, refused):
-        self.report = tempfile.TemporaryFile()
-        self.report.write(bytes(REPORT.size))
-        self.report.flush()
+    def __init__(self, command, library, refused):
+        self.report = refuser.Report()
         self.held = b""
-        number = self.report.fileno()
-        settings = {"LD_PRELOAD": refuser, "REFUSE_AT": str(refused), "REFUSE_REPORT": str(number)}
         pipes = {"stdin": subprocess.PIPE, "stdout": subprocess.PIPE, "stderr": subprocess.PIPE, "bufsize": 0}
-        environment = {"PATH": os.environ.get("PATH", os.defpath), **settings}
-        self.program = subprocess.Popen(command, env=environment, cwd="/", pass_fds=[number], **pipes)
+        environment = self.report.environment(library, refused)
+        self.program = subprocess.Popen(command, env=environment, cwd="/", pass_fds=[self.report.number], **pipes)
 
     def __enter__(self):
         signal.signal(signal.SIGALRM, stop_hanging)
@@ -150,7 +145,7 @@ class Talk:
 
     def counts(self):
         """How many growths there were so far, and how many were refused."""
-        return REPORT.unpack(os.pread(self.report.fileno(), REPORT.size, 0))
+        return self.report.counts()
 
 
 def want(what, wanted, got):
@@ -213,7 +208,7 @@ def judge_single(talk, plan):
 def refused_run(plan, at):
     """One run with growth number `at` refused: its growths, the refused ones, what came of it, and its fault."""
     try:
-        with Talk(plan.command, plan.refuser, at) as talk:
+        with Talk(plan.command, plan.library, at) as talk:
             kind, fault = "broke", None
             try:
                 kind = plan.judge(talk)
@@ -238,10 +233,10 @@ def want_output(run, steps):
         want(f"with queries between the lines, the answer to {clipped(step.line)}", answer, step.answer)
 
 
-def recorded(case, program, refuser):
+def recorded(case, program, library):
     """Runs a session with nothing refused, the queries after every line, and returns what later runs must do."""
     (run,), steps = case.runs, []
-    with Talk([program, *run.args], refuser, 0) as talk:
+    with Talk([program, *run.args], library, 0) as talk:
         before = talk.ask_each(case.sweep)
         for line in lines_of(run.given):
             steps.append(Step(line, talk.ask(line), before))
@@ -249,7 +244,7 @@ def recorded(case, program, refuser):
         want_end(talk, 0, b"")
     want_output(run, steps)
     final = [Step(query, shown, before) for query, shown in zip(case.sweep, before)]
-    return Session([program, *run.args], refuser, case.sweep, [*steps, *final])
+    return Session([program, *run.args], library, case.sweep, [*steps, *final])
 
 
 def swept(plan):
@@ -275,20 +270,20 @@ def swept(plan):
     return runs, kinds, faults
 
 
-def plans_of(case, program, refuser):
+def plans_of(case, program, library):
     """What the runs of a scenario must do."""
     if not case.sweep:
         raise Broken("its file sweep is empty")
     if case.is_session:
-        return [recorded(case, program, refuser)]
+        return [recorded(case, program, library)]
     last_words = [it + b"\n" for it in case.sweep]
-    return [Single([program, *run.args], refuser, run, last_words) for run in case.runs]
+    return [Single([program, *run.args], library, run, last_words) for run in case.runs]
 
 
-def sweep(folder, program, refuser):
+def sweep(folder, program, library):
     """Sweeps one scenario: its runs, its refused growths, and whether all is as it must be."""
     try:
-        outcomes = [swept(it) for it in plans_of(scenario.read(folder), program, refuser)]
+        outcomes = [swept(it) for it in plans_of(scenario.read(folder), program, library)]
         runs = sum(it for it, _, _ in outcomes)
         kinds = sum((it for _, it, _ in outcomes), Counter())
         faults = [fault for _, _, some in outcomes for fault in some]
@@ -302,13 +297,12 @@ def sweep(folder, program, refuser):
 def main(program):
     folders = [it for it in scenario.folders() if (it / "sweep").exists()]
     with tempfile.TemporaryDirectory(prefix="sweep-") as room:
-        refuser = f"{room}/refuse.so"
-        compiled = subprocess.run(["cc", "-O2", "-shared", "-fPIC", "-o", refuser, HERE / "refuse.c"])
-        if compiled.returncode or not folders:
-            print("FAILED: refuse.c does not compile" if compiled.returncode else "FAILED: no scenario has a file sweep")
+        library = refuser.compiled(room)
+        if library is None or not folders:
+            print("FAILED: refuse.c does not compile" if folders else "FAILED: no scenario has a file sweep")
             print(f"0 passed, {max(len(folders), 1)} failed")
             return 1
-        outcomes = [sweep(it, os.path.realpath(program), refuser) for it in folders]
+        outcomes = [sweep(it, os.path.realpath(program), library) for it in folders]
     runs, refused, passed = (sum(it) for it in zip(*outcomes))
     print(f"{refused} growths were refused in {runs} runs of {len(folders)} scenarios")
     print(f"{passed} passed, {len(folders) - passed} failed")
