@@ -10,7 +10,7 @@ use Rattle.pana_wire.specs.declared.serving.ServeFault.{ServeFault}
 use Rattle.pana_wire.specs.declared.serving.ServeFault.TheVariants.{Read, Write, OutOfMemory, Spent, Turns}
 use Rattle.pana_wire.specs.Lines.{ended, unended, last_line, lines_of}
 use Rattle.pana_wire.specs.Kept.{ended_kept, unended_kept}
-use Rattle.pana_wire.specs.Session.{AnswersLine, AnswersLines, SessionText, BreaksAt, BreaksIn, EndsBy}
+use Rattle.pana_wire.specs.Session.{AnswersLines, SessionText, BreaksAt, BreaksIn, EndsBy}
 use Rattle.pana_wire.specs.Progress.{Answered, Progress, both}
 use Rattle.pana_wire.proofs.Lines.{ended_append, ended_cut, lines_kept, says_cut}
 use Rattle.pana_wire.proofs.Steps.{answered_both, line_cut, lines_cut}

@@ -1,11 +1,8 @@
 -- No reply has a number with a fraction, so its text is the one of its object.
-use Rattle.std.proofs.Common.{◌≡◌, ℕ, List, [], ◌∷◌, map, false, Option, Some, None, refl, ap}
-use Rattle.serde_json.specs.Data.{Data}
+use Rattle.std.proofs.Common.{◌≡◌, ℕ, List, [], ◌∷◌, map, false, Option, Some, None, refl}
 use Rattle.serde_json.specs.View.{items_of}
 use Rattle.serde_json.specs.Written.{has_float, items_have_float}
 use Rattle.pana_hall.specs.declared.board.BoardRow.{BoardRow}
-use Rattle.pana_hall.specs.declared.cause.Cause.{Cause}
-use Rattle.pana_hall.specs.declared.cause.Cause.TheVariants.{JournalFull, UnknownCopy, PlaceTaken, FamilyFull, OutOfMemory, UnknownFamily}
 use Rattle.pana_hall.specs.declared.reply.Reply.{Reply}
 use Rattle.pana_hall.specs.declared.reply.Reply.TheVariants.{Done, Board, Refused}
 use Rattle.pana_wire.specs.Reply.{number_data, numbers_data, row_data, rows_data, board_data, refusal_data, refused_data, reply_data}

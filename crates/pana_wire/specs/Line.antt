@@ -120,6 +120,16 @@ Fails NotObject said = said ≡ Err NotObject
 Fails (BadField field) said = said ≡ Err (BadField field)
 Fails OutOfMemory said = Unit {0}
 
+-- what is said only of a line that is text; to find it out takes memory
+abbrev pub IsOfText : {A : Type 0} → Result A WireFault → Type 0
+IsOfText (Ok x) = Unit {0}
+IsOfText (Err TooLong) = ⊥
+IsOfText (Err NotUtf8) = ⊥
+IsOfText (Err NotJson) = Unit {0}
+IsOfText (Err NotObject) = Unit {0}
+IsOfText (Err (BadField field)) = Unit {0}
+IsOfText (Err OutOfMemory) = Unit {0}
+
 -- what was answered is what is said, unless memory ran out
 abbrev pub Gives : {A : Type 0} → Result A WireFault → Result A WireFault → Type 0
 Gives (Ok x) said = said ≡ Ok x

@@ -8,7 +8,7 @@ use Rattle.pana_wire.specs.declared.message.Message.{Message}
 use Rattle.pana_wire.specs.declared.serving.ServeFault.{ServeFault}
 use Rattle.pana_wire.specs.declared.serving.ServeFault.TheVariants.{Read, Write, OutOfMemory, Spent, Turns}
 use Rattle.pana_wire.specs.Fault.{fault_text}
-use Rattle.pana_wire.specs.Line.{line_says}
+use Rattle.pana_wire.specs.Line.{line_says, IsOfText}
 use Rattle.pana_wire.specs.Lines.{ended, lines_of}
 use Rattle.pana_wire.specs.Reply.{reply_text}
 
@@ -17,9 +17,9 @@ abbrev pub AnswersSaid : {S : Type 0} → (S → List ℕ → Call → Reply →
 AnswersSaid step old (Err fault) text new steps = (text ≡ fault_text fault) × (new ≡ old) × (steps ≡ 0)
 AnswersSaid step old (Ok m) text new steps = (reply : Reply) × step old m.by m.call reply new × (text ≡ reply_text reply) × (steps ≡ 1)
 
--- the answer to a line: to what it says, or else that memory ran out, and no step
+-- the answer to a line: to what it says, or else, where it is text, that memory ran out, and no step
 abbrev pub AnswersLine : {S : Type 0} → (S → List ℕ → Call → Reply → S → Type 0) → S → List ℕ → List ℕ → S → ℕ → Type 0
-AnswersLine step old line text new steps = AnswersSaid step old (line_says line) text new steps ⊎ ((text ≡ fault_text faults.OutOfMemory) × (new ≡ old) × (steps ≡ 0))
+AnswersLine step old line text new steps = AnswersSaid step old (line_says line) text new steps ⊎ ((text ≡ fault_text faults.OutOfMemory) × (new ≡ old) × (steps ≡ 0) × IsOfText (line_says line))
 
 -- the answers to lines, in order, each with a newline
 abbrev pub AnswersLines : {S : Type 0} → (S → List ℕ → Call → Reply → S → Type 0) → S → List (List ℕ) → List ℕ → S → ℕ → Type 0

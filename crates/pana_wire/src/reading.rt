@@ -1,6 +1,6 @@
-ghost use Rattle.std.specs.Prelude.{◌≡◌, IfOk, IfErr, IsOk};
+ghost use Rattle.std.specs.Prelude.{◌≡◌, ◌≢◌, IfOk, IfErr, IsOk};
 ghost use Rattle.serde_json.specs.View.{view};
-ghost use Rattle.pana_wire.specs.Line.{Gives, Shows, text_in, data_in, object_in, device_in, path_in, number_in, place_in, word_in, call_in, message_in, line_says};
+ghost use Rattle.pana_wire.specs.Line.{Gives, IsOfText, Shows, text_in, data_in, object_in, device_in, path_in, number_in, place_in, word_in, call_in, message_in, line_says};
 
 use crate::fault::WireFault;
 use crate::field::Field;
@@ -20,10 +20,11 @@ const LONGEST_LINE: usize = 65536;
 /// The faults are those of `WireFault`, in its order; the fields are tried in the order `by`, `do`, and then from
 /// left to right `device path` of a register, `copy device path` of a duplicate, `copy` of an edit and `family` of a
 /// board. It takes memory for the value that the line is and for the names in it; where that is refused the fault
-/// is `OutOfMemory`.
-#[tactic(auto, unfolding(crate::specs::Line::line_says))]
+/// is `OutOfMemory`. That a line is too long, or not UTF-8, takes none.
+#[tactic(auto, unfolding(crate::specs::Line::line_says), using(crate::proofs::OfText::of_text))]
 pub fn decode(alloc: Global, line: &[u8]) -> Result<Message, WireFault>
-    ensures { Gives result (line_says line.now) }
+    ensures exact { Gives result (line_says line.now) }
+    ensures memory { IfErr result (λ fault. fault ≡ WireFault.OutOfMemory → IsOfText (line_says line.now)) }
 {
     let text = text_in(line)?;
     let value = value_in(alloc, text)?;
@@ -33,7 +34,8 @@ pub fn decode(alloc: Global, line: &[u8]) -> Result<Message, WireFault>
 
 #[tactic(auto, unfolding(crate::specs::Line::text_in))]
 fn text_in(line: &[u8]) -> Result<&str, WireFault>
-    ensures { Shows (λ text. text.now) result (text_in line.now) }
+    ensures exact { Shows (λ text. text.now) result (text_in line.now) }
+    ensures memory { IfErr result (λ fault. fault ≢ WireFault.OutOfMemory) }
 {
     if line.len() > LONGEST_LINE {
         return Err(WireFault::TooLong);

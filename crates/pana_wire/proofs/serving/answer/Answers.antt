@@ -1,5 +1,5 @@
 -- Where a write fails, what was written is a front of the answer.
-use Rattle.std.proofs.Common.{rules, ◌≡◌, [], ◌∷◌, ◌++◌, refl, ◌∙◌}
+use Rattle.std.proofs.Common.{◌∙◌}
 use Rattle.std.proofs.lemmas.Result.{err_from_is_err_and}
 use Rattle.pana_wire.specs.Tap.{inside}
 use Rattle.pana_wire.specs.Session.{AnswersLine}
@@ -9,7 +9,7 @@ use Rattle.pana_wire.proofs.serving.answer.Goals as goal
 pub returns-in_err-write_line-clause-breaks : goal.returns-in_err-write_line-clause-breaks
 returns-in_err-write_line-clause-breaks g c =
     let line : AnswersLine g.S.Session.step c.args.session.now c.args.line.now c.as_str.result.now c.call.new.self 1 =
-    said_line g.S.Session.step c.args.session.now c.args.line.now c.in-Ok.message c.in-Ok-call.reply c.as_str.result.now c.call.new.self c.in-Ok.ensures c.in-Ok-call.ensures.step
+    said_line g.S.Session.step c.args.session.now c.args.line.now c.in-Ok.message c.in-Ok-call.reply c.as_str.result.now c.call.new.self c.in-Ok.ensures.exact c.in-Ok-call.ensures.step
     (c.as_str.ensures.value ∙ c.in-Ok-encode.ensures) in
     let p = err_from_is_err_and c.from_residual-in_err-write_line.result c.from_residual-in_err-write_line.ensures.1 in
     rw (p.1, p.2) (broken_write g.S.Session.step g.S.Session.spends c.in_err-write_line.field-0.0 c.args.session.now c.args.line.now c.as_str.result.now c.call.new.self 1

@@ -1,5 +1,5 @@
 -- A newline answers the line that is held, another byte is held, and where serving breaks off it does so at a newline.
-use Rattle.std.proofs.Common.{rules, ◌≡◌, ℕ, ◌+◌, suc, List, [], ◌∷◌, ◌++◌, get_or, take, drop, refl, sym, ap, ◌∙◌, take-append-drop, arith}
+use Rattle.std.proofs.Common.{◌≡◌, ◌+◌, suc, [], ◌∷◌, ◌++◌, get_or, take, drop, refl, sym, ap, ◌∙◌, take-append-drop, arith}
 use Rattle.std.proofs.Math.Seq.{drop-cons}
 use Rattle.std.proofs.lemmas.List.{take_more}
 use Rattle.std.proofs.lemmas.Result.{err_from_is_err_and}

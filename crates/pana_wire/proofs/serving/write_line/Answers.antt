@@ -1,5 +1,5 @@
 -- Where one of the writes fails, what was written is a front of the line.
-use Rattle.std.proofs.Common.{rules, ◌≡◌, true, [], ◌∷◌, ◌++◌, refl, subst}
+use Rattle.std.proofs.Common.{rules, [], ◌∷◌, ◌++◌, refl, subst}
 use Rattle.std.proofs.lemmas.Result.{err_from_is_err_and}
 use Rattle.std.specs.Io.KnownBytes.{Appends}
 use Rattle.std.proofs.KnownBytes.{Appends-trans, Appends-kept}

@@ -1,5 +1,5 @@
 -- What was gone from the rest was written, and now what this write took.
-use Rattle.std.proofs.Common.{◌≡◌, ℕ, ◌-◌, false, rules, List, ◌++◌, length, take, drop, sym, ap, ◌∙◌, append_assoc, take-append-drop}
+use Rattle.std.proofs.Common.{◌≡◌, ℕ, ◌-◌, rules, List, ◌++◌, length, take, drop, sym, ap, ◌∙◌, append_assoc, take-append-drop}
 use Rattle.std.proofs.lemmas.List.{take_rest}
 use Rattle.std.proofs.KnownBytes.{Appends-trans}
 use Rattle.pana_wire.proofs.serving.write_whole.Goals as goal
