@@ -12,6 +12,7 @@ pub mod NumberWords
 pub mod Numbers
 pub mod Outcomes
 pub mod SingleBytes
+pub mod Spellings
 pub mod StampWords
 pub mod Stamps
 pub mod Steps

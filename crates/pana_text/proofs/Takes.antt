@@ -34,7 +34,7 @@ each_map P Q (Err e) f h = tt
 
 -- ---- ids
 
-abbrev IdTakes : List ℕ → Id × List ℕ → Type 0
+abbrev pub IdTakes : List ℕ → Id × List ℕ → Type 0
 IdTakes text x = text ≡ id_text x.0 ++ x.1
 
 abbrev PairTakes : List ℕ → Id × List ℕ → Type 0
@@ -116,7 +116,7 @@ event-takes total (suc n) text = event_or-takes total (fork_at events total (eve
 abbrev pub StampTakes : List ℕ → Id × Event → Type 0
 StampTakes text s = greatest s.1 < 2 ^ 64 → text ≡ stamp_text s.0 s.1
 
-end-takes : (total : ℕ) (text : List ℕ) → Each (λ (x : ⊤). text ≡ []) (at_end total text)
+pub end-takes : (total : ℕ) (text : List ℕ) → Each (λ (x : ⊤). text ≡ []) (at_end total text)
 end-takes total [] = refl
 end-takes total (b ∷ rest) = tt
 

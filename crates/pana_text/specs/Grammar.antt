@@ -1,9 +1,10 @@
--- The grammar of stamps, by cases over bytes, without limits or normal forms; and what a fault says of it.
-use Rattle.std.specs.Prelude.{◌≡◌, ℕ, zero, suc, ◌≤◌, ◌==◌, Bool, true, ◌&&◌, if◌then◌else◌, List, [], ◌∷◌, ◌++◌, length, take, Option, Some, None, ◌⊎◌}
-use Rattle.pana_id.specs.Id.{Id}
+-- The grammar of stamps, by cases over bytes, without limits or normal forms; and what a fault says of a text.
+use Rattle.std.specs.Prelude.{◌≡◌, ℕ, zero, suc, ◌≤◌, ◌==◌, ◌^◌, Bool, true, ◌&&◌, if◌then◌else◌, List, [], ◌∷◌, ◌++◌, length, take, Option, Some, None, ◌⊎◌}
+use Rattle.pana_id.specs.Id.{Id, IsNormal as IsNormalId, depth as depth_of_id}
+use Rattle.pana_event.specs.Event.{Event, leaf as leaf_of, fork as fork_of, IsNormal, depth, greatest}
 use Rattle.pana_text.specs.declared.fault.TextFault.{TextFault}
 use Rattle.pana_text.specs.declared.fault.TextFault.TheVariants.{Syntax, TooDeep, NotNormal, TooLarge, OutOfMemory}
-use Rattle.pana_text.specs.Reading.{is_digit}
+use Rattle.pana_text.specs.Reading.{is_digit, digits_from}
 use Rattle.pana_text.specs.Text.{in_two, in_three, id_text}
 use Rattle.pana_text.specs.Form.{IsRead}
 
@@ -35,6 +36,20 @@ spelling (fork n l r) = in_three n (spelling l) (spelling r)
 -- an id and an event in parentheses, with a comma between them
 abbrev pub IsStampText : List ℕ → Type 0
 IsStampText text = (i : Id) × (e : Spelled) × HasNumbers e × (text ≡ in_two (id_text i) (spelling e))
+
+-- the event that is spelled so
+abbrev pub event_of : Spelled → Event
+event_of (leaf n) = leaf_of (digits_from 0 n).0
+event_of (fork n l r) = fork_of (digits_from 0 n).0 (event_of l) (event_of r)
+
+-- the text spells these two trees, which are within the depth
+pub record Spells (text : List ℕ) (i : Id) (e : Event) : Type 0 where
+  pub spelled : Spelled
+  pub numbers : HasNumbers spelled
+  pub event : event_of spelled ≡ e
+  pub whole : text ≡ in_two (id_text i) (spelling spelled)
+  pub id_within : depth_of_id i ≤ 256
+  pub event_within : depth e ≤ 256
 
 -- ---- depth
 
@@ -71,6 +86,6 @@ OpensTooDeep text =
 abbrev pub Tells : TextFault → List ℕ → Type 0
 Tells (Syntax place) text = IsFirstWrong place text
 Tells TooDeep text = OpensTooDeep text
-Tells NotNormal text = IsStampText text
-Tells TooLarge text = IsStampText text
+Tells NotNormal text = (i : Id) × (e : Event) × Spells text i e × (IsNormalId i × IsNormal e → ⊥)
+Tells TooLarge text = (i : Id) × (e : Event) × Spells text i e × IsNormalId i × IsNormal e × (2 ^ 64 ≤ greatest e)
 Tells OutOfMemory text = IsRead text

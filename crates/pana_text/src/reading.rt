@@ -113,8 +113,9 @@ pub fn read(alloc: Global, text: &str) -> Result<Stamp, TextFault>
     ensures found { IfOk result (λ stamp. text.now ≡ stamp_text stamp.id stamp.event) }
     // The text of a stamp is read as that stamp, unless memory runs out.
     ensures only { (i : Id) (e : Event) → IsValid i → IsSound e → text.now ≡ stamp_text i e → Gives {Y = Id × Event} (λ stamp. (stamp.id, stamp.event)) result (Ok (i, e)) }
-    // A syntax fault is at the first byte that the grammar doesn't have there; a depth fault is where one parenthesis
-    // too many opens; the form and the levels are told of a text of the grammar, want of memory of a stamp's alone.
+    // By the grammar: a syntax fault is at the first byte that it doesn't have there, and a depth fault where one
+    // parenthesis too many opens; the form and the levels are those of the trees that the text spells. Want of memory is
+    // told of a stamp's text alone.
     ensures tells { IfErr result (λ fault. Tells fault text.now) }
     // Which stamp it is, or which fault.
     ensures exact { Gives (λ stamp. (stamp.id, stamp.event)) result (reading text.now) }

@@ -16,6 +16,7 @@ pub struct Answer {
     pub out: String,
     /// For standard error: a line with its newline, or nothing.
     pub err: String,
+    /// The exit status.
     pub status: u8,
 }
 
