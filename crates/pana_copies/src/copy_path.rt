@@ -48,7 +48,9 @@ fn is_path(text: &str) -> bool
 impl CopyPath {
     /// Takes a text as a copy's path.
     ///
-    /// The refusals are `BadPath`, where the text is no such path, and `OutOfMemory`.
+    /// # Errors
+    ///
+    /// `BadPath` where the text is no such path; `OutOfMemory`.
     pub fn new(alloc: Global, text: &str) -> Result<CopyPath, NameFault>
         ensures ok { IfOk result (λ path. path ≡ text.now) }
         ensures bad { IsErrOf result NameFault.BadPath ↔ (is_path text.now ≡ false) }
@@ -66,12 +68,12 @@ impl CopyPath {
     /// The path as text. Takes no memory.
     pub fn as_str(&self) -> &str
         ensures text { result.now ≡ self.now }
-        ensures device { is_path self.now ≡ true }
+        ensures path { is_path self.now ≡ true }
     {
         self.text.as_str()
     }
 
-    /// The same path once more. The only refusal is want of memory.
+    /// The same path once more. Fails only where memory runs out.
     pub fn copy_of(&self) -> Result<CopyPath, AllocError>
         ensures { IfOk result (λ path. path ≡ self.now) }
     {

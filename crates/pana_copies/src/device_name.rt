@@ -48,7 +48,9 @@ fn is_device(text: &str) -> bool
 impl DeviceName {
     /// Takes a text as a device's name.
     ///
-    /// The refusals are `BadDevice`, where the text is no such name, and `OutOfMemory`.
+    /// # Errors
+    ///
+    /// `BadDevice` where the text is no such name; `OutOfMemory`.
     pub fn new(alloc: Global, text: &str) -> Result<DeviceName, NameFault>
         ensures ok { IfOk result (λ name. name ≡ text.now) }
         ensures bad { IsErrOf result NameFault.BadDevice ↔ (is_device text.now ≡ false) }
@@ -71,7 +73,7 @@ impl DeviceName {
         self.text.as_str()
     }
 
-    /// The same name once more. The only refusal is want of memory.
+    /// The same name once more. Fails only where memory runs out.
     pub fn copy_of(&self) -> Result<DeviceName, AllocError>
         ensures { IfOk result (λ name. name ≡ self.now) }
     {

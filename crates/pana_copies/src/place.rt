@@ -14,7 +14,7 @@ pub struct Place {
 impl Place {
     ghost use Rattle.pana_copies.specs.Places.{same_place};
 
-    /// The same place once more. The only refusal is want of memory.
+    /// The same place once more. Fails only where memory runs out.
     pub fn copy_of(&self) -> Result<Place, AllocError>
         ensures { IfOk result (λ place. place ≡ self.now) }
     {

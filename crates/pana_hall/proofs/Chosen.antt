@@ -18,7 +18,7 @@ list_any-filter p q (x ∷ xs) =
       | false ↦ list_any-filter p q xs
     ]
 
--- two of the chosen ones, of which the second stands so to the first
+-- two of the chosen ones, of which the second relates so to the first
 pub any_two-filter : {X : Type 0} (r : X → X → Bool) (q : X → Bool) (xs : List X)
     → list_any (λ x. list_any (r x) (filter q xs)) (filter q xs) ≡ list_any (λ x. q x && list_any (λ y. r x y && q y) xs) xs
 any_two-filter r q xs =

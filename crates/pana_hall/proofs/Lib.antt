@@ -2,6 +2,8 @@ pub mod Chosen
 pub mod Changed
 pub mod Grown
 pub mod Orderly
+pub mod Recorded
 pub mod Relations
+pub mod Rising
 pub mod Runs
 pub mod Worked

@@ -21,14 +21,14 @@ use Rattle.pana_hall.specs.declared.cause.Cause.{Cause}
 use Rattle.pana_hall.specs.declared.cause.Cause.TheVariants as causes
 use Rattle.pana_hall.specs.declared.reply.Reply.{Reply}
 use Rattle.pana_hall.specs.declared.reply.Reply.TheVariants as replies
-use Rattle.pana_hall.specs.declared.living.LivingCopy.{LivingCopy}
-use Rattle.pana_hall.specs.Living.{living, after_report, after_entry, registered, duplicated, edited, change, copy_in}
-use Rattle.pana_hall.specs.Family.{families, with_entry, report_family}
+use Rattle.pana_hall.specs.Copy.{Copy}
+use Rattle.pana_hall.specs.Living.{copies_of, living, after_report, after_entry, registered, duplicated, edited, change, copy_in}
+use Rattle.pana_hall.specs.Family.{families, with_entry, begun_or_joined, subject}
 use Rattle.pana_hall.specs.Refusal.{full, unknown, taken, family_full, first, report_refusal, refusal}
 use Rattle.pana_hall.specs.Permit.{Permits, PermitsBy, journal_after}
 use Rattle.pana_hall.specs.Run.{Exchange, IsRunFrom, journal_from}
 use Rattle.pana_hall.specs.Laws.{AreOrderly, IsOrderly}
-use Rattle.pana_hall.proofs.Grown.{living-append}
+use Rattle.pana_hall.proofs.Grown.{living_append}
 
 -- where nothing passes the test, each member fails it
 none_passes : {X Y : Type 0} (p : X → Bool) (f : X → Y) (P : Y → Type 0) → ((x : X) → p x ≡ false → P (f x))
@@ -45,7 +45,7 @@ none_passes p f P fails (x ∷ xs) none (suc k) d within =
     k d (omega arith)
 
 -- the families of numbers that stay as they were
-families_kept : (copies : List LivingCopy) (of of' : ℕ → ℕ) (last : ℕ) → All (λ number. number ≤ last) (map (λ copy. copy.number) copies)
+families_kept : (copies : List Copy) (of of' : ℕ → ℕ) (last : ℕ) → All (λ number. number ≤ last) (map (λ copy. copy.number) copies)
     → ((n : ℕ) → n ≤ last → of' n ≡ of n) → map (λ copy. of' copy.number) copies ≡ map (λ copy. of copy.number) copies
 families_kept [] of of' last numbers kept = refl
 families_kept (copy ∷ copies) of of' last numbers kept =
@@ -65,7 +65,7 @@ other_place : (place other : Place) → same_place place other ≡ false → pla
 other_place place other differ same = let equal : same_place place place ≡ false = rw (ap (same_place place) same) differ in absurd (cc (same_place-itself place))
 
 -- one copy more, with the next number
-one_more : (copies : List LivingCopy) (of of' : ℕ → ℕ) (last : ℕ) (copy : LivingCopy) → AreOrderly copies of last → copy.number ≡ last + 1
+one_more : (copies : List Copy) (of of' : ℕ → ℕ) (last : ℕ) (copy : Copy) → AreOrderly copies of last → copy.number ≡ last + 1
     → find (λ c. same_place c.place copy.place) copies ≡ None → ((n : ℕ) → n ≤ last → of' n ≡ of n) → copy.family ≡ of' copy.number
     → AreOrderly (copies ++ copy ∷ []) of' (last + 1)
 one_more copies of of' last copy orderly next free kept family = record {
@@ -80,7 +80,7 @@ one_more copies of of' last copy orderly next free kept family = record {
 }
 
 -- the same copies, and one number more
-none_more : (copies : List LivingCopy) (of of' : ℕ → ℕ) (last : ℕ) → AreOrderly copies of last → ((n : ℕ) → n ≤ last → of' n ≡ of n) → AreOrderly copies of' (last + 1)
+none_more : (copies : List Copy) (of of' : ℕ → ℕ) (last : ℕ) → AreOrderly copies of last → ((n : ℕ) → n ≤ last → of' n ≡ of n) → AreOrderly copies of' (last + 1)
 none_more copies of of' last orderly kept = record {
   places = orderly.places;
   rising = orderly.rising;
@@ -89,16 +89,17 @@ none_more copies of of' last orderly kept = record {
 }
 
 -- what an edit leaves alone
-map-change : {Y : Type 0} (f : LivingCopy → Y) (n number : ℕ) → ((copy : LivingCopy) → f (edited n copy) ≡ f copy)
-    → (copies : List LivingCopy) → map f (change number (edited n) copies) ≡ map f copies
+map-change : {Y : Type 0} (f : Copy → Y) (n number : ℕ) → ((copy : Copy) → f (edited n copy) ≡ f copy)
+    → (copies : List Copy) → map f (change number (edited n) copies) ≡ map f copies
 map-change f n number same [] = refl
 map-change f n number same (copy ∷ copies) =
-    elim (copy.number == number) as (λ b. map f (cond b (edited n copy ∷ copies) (copy ∷ change number (edited n) copies)) ≡ f copy ∷ map f copies) [
-      | true ↦ ap (λ y. y ∷ map f copies) (same copy)
-      | false ↦ ap (λ l. f copy ∷ l) (map-change f n number same copies)
+    let rest = map-change f n number same copies in
+    elim (copy.number == number) as (λ b. f (cond b (edited n copy) copy) ∷ map f (change number (edited n) copies) ≡ f copy ∷ map f copies) [
+      | true ↦ ap (λ y. y ∷ map f (change number (edited n) copies)) (same copy) ∙ ap (λ l. f copy ∷ l) rest
+      | false ↦ ap (λ l. f copy ∷ l) rest
     ]
 
-edit_keeps : (copies : List LivingCopy) (of : ℕ → ℕ) (last n number : ℕ) → AreOrderly copies of last → AreOrderly (change number (edited n) copies) of last
+edit_keeps : (copies : List Copy) (of : ℕ → ℕ) (last n number : ℕ) → AreOrderly copies of last → AreOrderly (change number (edited n) copies) of last
 edit_keeps copies of last n number orderly = record {
   places = rw (map-change (λ c. c.place) n number (λ c. refl) copies) orderly.places;
   rising = rw (map-change (λ c. c.number) n number (λ c. refl) copies) orderly.rising;
@@ -107,7 +108,7 @@ edit_keeps copies of last n number orderly = record {
 }
 
 -- a copy that is found has the number, and its number's family
-found_family : (copies : List LivingCopy) (of : ℕ → ℕ) (number : ℕ) (source : LivingCopy) → map (λ c. c.family) copies ≡ map (λ c. of c.number) copies
+found_family : (copies : List Copy) (of : ℕ → ℕ) (number : ℕ) (source : Copy) → map (λ c. c.family) copies ≡ map (λ c. of c.number) copies
     → copy_in copies number ≡ Some source → source.family ≡ of number
 found_family [] of number source families found = absurd (cc)
 found_family (copy ∷ copies) of number source families found =
@@ -121,14 +122,14 @@ found_family (copy ∷ copies) of number source families found =
 
 -- the families of a journal and an entry more
 families-append : (journal : List Entry) (entry : Entry) (n : ℕ)
-    → families (journal ++ entry ∷ []) n ≡ cond (n == entry.number) (report_family (families journal) entry.number entry.report) (families journal n)
+    → families (journal ++ entry ∷ []) n ≡ cond (n == entry.number) (begun_or_joined (families journal) entry.number (subject entry.report)) (families journal n)
 families-append journal entry n = ap (λ (of : ℕ → ℕ). of n) (fold-append with_entry (λ k. k) journal (entry ∷ []))
 
 first_none : (cause : Option Cause) (causes : List (Option Cause)) → first (cause ∷ causes) ≡ None → (cause ≡ None) × (first causes ≡ None)
 first_none None causes e = (refl, e)
 first_none (Some cause) causes e = absurd (cc)
 
-not_taken : (place : Place) (copies : List LivingCopy) → taken place copies ≡ None → find (λ c. same_place c.place place) copies ≡ None
+not_taken : (place : Place) (copies : List Copy) → taken place copies ≡ None → find (λ c. same_place c.place place) copies ≡ None
 not_taken place copies e =
     elim (find (λ c. same_place c.place place) copies) as (λ o. option_map (λ c. causes.PlaceTaken c.number) o ≡ None → o ≡ None) [
       | None ↦ λ n. refl
@@ -136,13 +137,13 @@ not_taken place copies e =
     ] e
 
 -- what a report that isn't refused changes
-report_keeps : (journal : List Entry) (copies : List LivingCopy) (of of' : ℕ → ℕ) (report : Report) → report_refusal journal copies report ≡ None
-    → AreOrderly copies of (length journal) → ((n : ℕ) → n ≤ length journal → of' n ≡ of n) → of' (length journal + 1) ≡ report_family of (length journal + 1) report
+report_keeps : (journal : List Entry) (copies : List Copy) (of of' : ℕ → ℕ) (by : List ℕ) (report : Report) → report_refusal journal copies by report ≡ None
+    → AreOrderly copies of (length journal) → ((n : ℕ) → n ≤ length journal → of' n ≡ of n) → of' (length journal + 1) ≡ begun_or_joined of (length journal + 1) (subject report)
     → AreOrderly (after_report (length journal + 1) report copies) of' (length journal + 1)
-report_keeps journal copies of of' (Register place) allowed orderly kept here =
+report_keeps journal copies of of' by (Register place) allowed orderly kept here =
     let free = first_none (taken place copies) [] (first_none (full journal) (taken place copies ∷ []) allowed).1 in
     one_more copies of of' (length journal) (registered (length journal + 1) place) orderly refl (not_taken place copies free.0) kept (sym here)
-report_keeps journal copies of of' (Duplicate source place) allowed orderly kept here =
+report_keeps journal copies of of' by (Duplicate source place) allowed orderly kept here =
     let known = first_none (unknown source copies) (taken place copies ∷ family_full source copies ∷ []) (first_none (full journal) (unknown source copies ∷ taken place copies ∷ family_full source copies ∷ []) allowed).1 in
     let free = first_none (taken place copies) (family_full source copies ∷ []) known.1 in
     elim (copy_in copies source) as (λ o. copy_in copies source ≡ o → AreOrderly (copies ++ option_to_list (option_map (duplicated (length journal + 1) place) o)) of' (length journal + 1)) [
@@ -150,29 +151,29 @@ report_keeps journal copies of of' (Duplicate source place) allowed orderly kept
       | Some c ↦ λ e. one_more copies of of' (length journal) (duplicated (length journal + 1) place c) orderly refl (not_taken place copies free.0) kept
           (found_family copies of source c orderly.families e ∙ sym here)
     ] refl
-report_keeps journal copies of of' (Edit copy) allowed orderly kept here =
+report_keeps journal copies of of' by (Edit copy) allowed orderly kept here =
     none_more (change copy (edited (length journal + 1)) copies) of of' (length journal) (edit_keeps copies of (length journal) (length journal + 1) copy orderly) kept
 
 -- one entry more, which isn't refused
-entry_keeps : (journal : List Entry) (by : List ℕ) (report : Report) → report_refusal journal (living journal) report ≡ None → IsOrderly journal
+entry_keeps : (journal : List Entry) (by : List ℕ) (report : Report) → report_refusal journal (living journal) by report ≡ None → IsOrderly journal
     → IsOrderly (journal ++ record { number = length journal + 1; by = by; report = report } ∷ [])
 entry_keeps journal by report allowed orderly =
     let entry : Entry = record { number = length journal + 1; by = by; report = report } in
-    rw (living-append journal entry, length-append journal (entry ∷ []))
-    (report_keeps journal (living journal) (families journal) (families (journal ++ entry ∷ [])) report allowed orderly
-    (λ n within. families-append journal entry n ∙ ap (λ b. cond b (report_family (families journal) (length journal + 1) report) (families journal n)) (ne_eqb n (length journal + 1) (omega arith)))
-    (families-append journal entry (length journal + 1) ∙ ap (λ b. cond b (report_family (families journal) (length journal + 1) report) (families journal (length journal + 1))) (eq-eqb (length journal + 1) (length journal + 1) refl)))
+    rw (living_append journal entry, length-append journal (entry ∷ []))
+    (report_keeps journal (living journal) (families journal) (families (journal ++ entry ∷ [])) by report allowed orderly
+    (λ n within. families-append journal entry n ∙ ap (λ b. cond b (begun_or_joined (families journal) (length journal + 1) (subject report)) (families journal n)) (ne_eqb n (length journal + 1) (omega arith)))
+    (families-append journal entry (length journal + 1) ∙ ap (λ b. cond b (begun_or_joined (families journal) (length journal + 1) (subject report)) (families journal (length journal + 1))) (eq-eqb (length journal + 1) (length journal + 1) refl)))
 
 -- a report that is done wasn't refused, and has the next number
 done_means : (cause : Option Cause) (journal : List Entry) (report : Report) (n : ℕ) → PermitsBy cause journal (calls.Report report) (replies.Done n)
     → (cause ≡ None) × (n ≡ length journal + 1)
 done_means (Some cause) journal report n permitted = absurd (cc)
-done_means None journal report n permitted = (refl, elim permitted [ inl e ↦ cc | inr e ↦ absurd (cc) ])
+done_means None journal report n permitted = (refl, elim permitted [ inl e ↦ cc | inr e ↦ absurd (cc (e.1, e.2)) ])
 
 call_keeps : (journal : List Entry) (by : List ℕ) (call : Call) (reply : Reply) → Permits journal by call reply → IsOrderly journal → IsOrderly (journal_after journal by call reply)
 unfolding Permits refusal journal_after
 call_keeps journal by (calls.Report report) (replies.Done n) permitted orderly =
-    let means = done_means (report_refusal journal (living journal) report) journal report n permitted in
+    let means = done_means (report_refusal journal (living journal) by report) journal report n permitted in
     rw means.1 (entry_keeps journal by report means.0 orderly)
 call_keeps journal by (calls.Report report) (replies.Board board) permitted orderly = orderly
 call_keeps journal by (calls.Report report) (replies.Refused cause) permitted orderly = orderly
@@ -184,7 +185,7 @@ run_keeps journal (x ∷ run) permitted orderly =
     run_keeps (journal_after journal x.by x.call x.reply) run permitted.1 (call_keeps journal x.by x.call x.reply permitted.0 orderly)
 
 pub empty_is_orderly : IsOrderly []
-unfolding living
+unfolding copies_of
 empty_is_orderly = record {
   places = λ i j d low high. absurd (omega arith);
   rising = λ i j d low high. absurd (omega arith);

@@ -3,44 +3,44 @@ use Rattle.std.specs.Prelude.{ℕ, Bool, ◌==◌, ◌&&◌, not, List, map, fil
 use Rattle.std.specs.List.{list_any}
 use Rattle.pana_event.specs.declared.rel.Rel.{Rel}
 use Rattle.pana_event.specs.declared.rel.Rel.TheVariants.{Equal, Older, Newer, Conflict}
-use Rattle.pana_hall.specs.declared.living.LivingCopy.{LivingCopy}
 use Rattle.pana_hall.specs.declared.board.BoardRow.{BoardRow}
 use Rattle.pana_hall.specs.declared.board.BoardView.{BoardView}
 use Rattle.pana_hall.specs.Relation.{relation, is_rel}
+use Rattle.pana_hall.specs.Copy.{Copy}
 
 -- whether the copy is of the family
-abbrev pub is_of : ℕ → LivingCopy → Bool
+abbrev pub is_of : ℕ → Copy → Bool
 is_of family copy = copy.family == family
 
--- whether the other is another copy of this one's family, and stands so to it
-abbrev pub stands : Rel → LivingCopy → LivingCopy → Bool
-stands rel copy other = is_of copy.family other && not (other.number == copy.number) && is_rel (relation other.updates copy.updates) rel
+-- whether the other is another copy of this one's family, and relates to it so
+abbrev pub relates : Rel → Copy → Copy → Bool
+relates rel copy other = is_of copy.family other && not (other.number == copy.number) && is_rel (relation other.updates copy.updates) rel
 
 -- a copy's row: how many others are newer, older, equal and in conflict
-unfoldable pub row_of : List LivingCopy → LivingCopy → BoardRow
+unfoldable pub row_of : List Copy → Copy → BoardRow
 row_of copies copy = record {
   copy = copy.number;
   place = copy.place;
-  newer = count_by (stands Newer copy) copies;
-  older = count_by (stands Older copy) copies;
-  equal = count_by (stands Equal copy) copies;
-  conflict = count_by (stands Conflict copy) copies;
+  newer = count_by (relates Newer copy) copies;
+  older = count_by (relates Older copy) copies;
+  equal = count_by (relates Equal copy) copies;
+  conflict = count_by (relates Conflict copy) copies;
 }
 
 -- whether the copy is a newest one of the family: none is newer
-abbrev pub is_newest : ℕ → List LivingCopy → LivingCopy → Bool
-is_newest family copies copy = is_of family copy && not (list_any (stands Newer copy) copies)
+abbrev pub is_newest : ℕ → List Copy → Copy → Bool
+is_newest family copies copy = is_of family copy && not (list_any (relates Newer copy) copies)
 
 -- the newest copies of the family
-abbrev pub newest : ℕ → List LivingCopy → List LivingCopy
+abbrev pub newest : ℕ → List Copy → List Copy
 newest family copies = filter (is_newest family copies) copies
 
 -- whether two of these copies are in conflict
-abbrev pub has_conflict : List LivingCopy → Bool
-has_conflict copies = list_any (λ copy. list_any (stands Conflict copy) copies) copies
+abbrev pub has_conflict : List Copy → Bool
+has_conflict copies = list_any (λ copy. list_any (relates Conflict copy) copies) copies
 
 -- the board of a family among the living copies
-unfoldable pub board_of : ℕ → List LivingCopy → BoardView
+unfoldable pub board_of : ℕ → List Copy → BoardView
 board_of family copies = record {
   family = family;
   rows = map (row_of copies) (filter (is_of family) copies);

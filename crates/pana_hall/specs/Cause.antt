@@ -1,9 +1,9 @@
--- The number of each cause of a refusal.
-use Rattle.std.specs.Prelude.{ℕ}
+-- The number and the name of each cause of a refusal, and the copy that it names.
+use Rattle.std.specs.Prelude.{ℕ, List, codes, Option, Some, None}
 use Rattle.pana_hall.specs.declared.cause.Cause.{Cause}
 use Rattle.pana_hall.specs.declared.cause.Cause.TheVariants.{JournalFull, UnknownCopy, PlaceTaken, FamilyFull, OutOfMemory, UnknownFamily}
 
--- the number that stands for a cause on the wire
+-- the number that stands for a cause in a line
 abbrev pub code_of : Cause → ℕ
 code_of JournalFull = 1
 code_of (UnknownCopy copy) = 2
@@ -11,3 +11,18 @@ code_of (PlaceTaken copy) = 6
 code_of FamilyFull = 7
 code_of OutOfMemory = 9
 code_of UnknownFamily = 13
+
+-- the name of a cause
+abbrev pub cause_name : Cause → List ℕ
+cause_name JournalFull = codes "JournalFull"
+cause_name (UnknownCopy copy) = codes "UnknownCopy"
+cause_name (PlaceTaken copy) = codes "PlaceTaken"
+cause_name FamilyFull = codes "FamilyFull"
+cause_name OutOfMemory = codes "OutOfMemory"
+cause_name UnknownFamily = codes "UnknownFamily"
+
+-- the copy that a cause names, if it names one
+abbrev pub cause_copy : Cause → Option ℕ
+cause_copy (UnknownCopy copy) = Some copy
+cause_copy (PlaceTaken copy) = Some copy
+cause_copy _ = None

@@ -5,31 +5,36 @@ use Rattle.pana_journal.specs.declared.report.Report.TheVariants.{Register, Dupl
 use Rattle.pana_journal.specs.declared.entry.Entry.{Entry}
 use Rattle.pana_journal.specs.Entries.{entry_at}
 
--- the family of entry n's report, where family_of tells that of each entry before: a Register begins its own, and
--- another report belongs to the family of the copy that it names
-abbrev pub report_family : (ℕ → ℕ) → ℕ → Report → ℕ
-report_family family_of n (Register place) = n
-report_family family_of n (Duplicate copy place) = family_of copy
-report_family family_of n (Edit copy) = family_of copy
+-- the copy that a report names first, to whose family it belongs. A Register names none: it begins a family of its own
+abbrev pub subject : Report → Option ℕ
+subject (Register place) = None
+subject (Duplicate copy place) = Some copy
+subject (Edit copy) = Some copy
+
+-- the family of entry n with this subject, where family_of gives that of each entry before
+abbrev pub begun_or_joined : (ℕ → ℕ) → ℕ → Option ℕ → ℕ
+begun_or_joined family_of n None = n
+begun_or_joined family_of n (Some number) = family_of number
 
 -- the families, once one entry more is known
 abbrev pub with_entry : (ℕ → ℕ) → Entry → ℕ → ℕ
-with_entry family_of entry n = if n == entry.number then report_family family_of entry.number entry.report else family_of n
+with_entry family_of entry n = if n == entry.number then begun_or_joined family_of entry.number (subject entry.report) else family_of n
 
--- the family of each entry of a journal, by its number
+-- the family of each entry of a journal, by its number; a copy is of the family of the entry that made it
 abbrev pub families : List Entry → ℕ → ℕ
 families journal = fold with_entry (λ n. n) journal
 
--- whether there is such an entry, and it is a Register
-abbrev pub is_register : Option Entry → Bool
-is_register None = false
-is_register (Some entry) = begins_family entry.report
-  where
-    begins_family : Report → Bool
-    begins_family (Register place) = true
-    begins_family (Duplicate copy place) = false
-    begins_family (Edit copy) = false
+-- whether the report begins a family
+abbrev pub is_register : Report → Bool
+is_register (Register place) = true
+is_register (Duplicate copy place) = false
+is_register (Edit copy) = false
+
+-- whether there is such an entry, and its report passes the test
+abbrev pub has_report : (Report → Bool) → Option Entry → Bool
+has_report test None = false
+has_report test (Some entry) = test entry.report
 
 -- whether the number is that of a Register entry
 abbrev pub is_family : List Entry → ℕ → Bool
-is_family journal number = is_register (entry_at journal number)
+is_family journal number = has_report is_register (entry_at journal number)

@@ -2,7 +2,7 @@
 use Rattle.std.specs.Prelude.{◌≡◌, ◌≢◌, ℕ, ◌<◌, ◌≤◌, ◌↔◌, List, map, length, IsTrue}
 use Rattle.std.specs.List.{All, AllPairs}
 use Rattle.pana_journal.specs.declared.entry.Entry.{Entry}
-use Rattle.pana_hall.specs.declared.living.LivingCopy.{LivingCopy}
+use Rattle.pana_hall.specs.Copy.{Copy}
 use Rattle.pana_event.specs.declared.rel.Rel.TheVariants.{Equal, Older, Newer, Conflict}
 use Rattle.pana_hall.specs.Updates.{has}
 use Rattle.pana_hall.specs.Relation.{relation}
@@ -11,7 +11,7 @@ use Rattle.pana_hall.specs.Living.{living}
 
 -- living copies in order: no two are kept at one place; each number is below those after it, and none is above the
 -- last; and each copy is of the family that its number has
-pub record AreOrderly (copies : List LivingCopy) (family_of : ℕ → ℕ) (last : ℕ) : Type 0 where
+pub record AreOrderly (copies : List Copy) (family_of : ℕ → ℕ) (last : ℕ) : Type 0 where
   pub places : AllPairs (λ place other. place ≢ other) (map (λ copy. copy.place) copies)
   pub rising : AllPairs (λ number later. number < later) (map (λ copy. copy.number) copies)
   pub numbers : All (λ number. number ≤ last) (map (λ copy. copy.number) copies)

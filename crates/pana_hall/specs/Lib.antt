@@ -1,12 +1,13 @@
 pub mod Updates
 pub mod Relation
 pub mod Cause
+pub mod Copy
 pub mod Living
 pub mod Family
 pub mod Board
 pub mod Refusal
 pub mod Permit
 pub mod Run
-pub mod Recording
-pub mod Laws
 pub mod Step
+pub mod Laws
+pub mod inner

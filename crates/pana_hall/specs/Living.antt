@@ -1,47 +1,54 @@
 -- The copies that live after a journal, found from the whole of it. Nothing is checked here: a report of a copy
 -- that doesn't live changes nothing.
-use Rattle.std.specs.Prelude.{ℕ, ◌==◌, List, [], ◌∷◌, ◌++◌, Option, option_map, find, fold, if◌then◌else◌}
+use Rattle.std.specs.Prelude.{ℕ, ◌==◌, List, [], ◌∷◌, ◌++◌, map, Option, option_map, find, fold, if◌then◌else◌}
 use Rattle.std.specs.Option.{option_to_list}
 use Rattle.pana_copies.specs.declared.place.Place.{Place}
 use Rattle.pana_journal.specs.declared.report.Report.{Report}
 use Rattle.pana_journal.specs.declared.report.Report.TheVariants.{Register, Duplicate, Edit}
 use Rattle.pana_journal.specs.declared.entry.Entry.{Entry}
-use Rattle.pana_hall.specs.declared.living.LivingCopy.{LivingCopy}
+use Rattle.pana_hall.specs.Copy.{Copy}
 
 -- the copy with this number, if it lives
-abbrev pub copy_in : List LivingCopy → ℕ → Option LivingCopy
+abbrev pub copy_in : List Copy → ℕ → Option Copy
 copy_in copies number = find (λ copy. copy.number == number) copies
 
 -- the copies, with the one of this number changed by f
-abbrev pub change : ℕ → (LivingCopy → LivingCopy) → List LivingCopy → List LivingCopy
-change number f [] = []
-change number f (copy ∷ copies) = if copy.number == number then f copy ∷ copies else copy ∷ change number f copies
+abbrev pub change : ℕ → (Copy → Copy) → List Copy → List Copy
+change number f copies = map (λ copy. if copy.number == number then f copy else copy) copies
 
 -- the first copy of a file: it begins family n and knows no update
-abbrev pub registered : ℕ → Place → LivingCopy
+abbrev pub registered : ℕ → Place → Copy
 registered n place = record { number = n; family = n; place = place; updates = []; touch = n }
 
 -- a copy of its source: of the source's family, and knowing what the source knows
-abbrev pub duplicated : ℕ → Place → LivingCopy → LivingCopy
+abbrev pub duplicated : ℕ → Place → Copy → Copy
 duplicated n place source = record { number = n; family = source.family; place = place; updates = source.updates; touch = n }
 
--- the copy after an edit: it knows update n too
-abbrev pub edited : ℕ → LivingCopy → LivingCopy
-edited n copy = record copy { updates = n ∷ copy.updates; touch = n }
+-- the copy once entry n gave it these updates in place of its own
+abbrev pub told : ℕ → List ℕ → Copy → Copy
+told n updates copy = record copy { updates = updates; touch = n }
+
+-- the copy after edit n: it knows update n too
+abbrev pub edited : ℕ → Copy → Copy
+edited n copy = told n (n ∷ copy.updates) copy
 
 -- what entry n's report changes
-abbrev pub after_report : ℕ → Report → List LivingCopy → List LivingCopy
+abbrev pub after_report : ℕ → Report → List Copy → List Copy
 after_report n (Register place) copies = copies ++ registered n place ∷ []
 after_report n (Duplicate source place) copies = copies ++ option_to_list (option_map (duplicated n place) (copy_in copies source))
 after_report n (Edit copy) copies = change copy (edited n) copies
 
-abbrev pub after_entry : List LivingCopy → Entry → List LivingCopy
+abbrev pub after_entry : List Copy → Entry → List Copy
 after_entry copies entry = after_report entry.number entry.report copies
+
+-- the copies that these entries leave
+unfoldable pub copies_of : List Entry → List Copy
+copies_of entries = fold after_entry [] entries
 
 -- the entries whose reports count: all of them
 abbrev pub effective : List Entry → List Entry
 effective journal = journal
 
 -- the living copies, by rising number
-unfoldable pub living : List Entry → List LivingCopy
-living journal = fold after_entry [] (effective journal)
+abbrev pub living : List Entry → List Copy
+living journal = copies_of (effective journal)

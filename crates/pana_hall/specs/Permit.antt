@@ -1,6 +1,5 @@
 -- The replies that are permitted, and the journal that each leaves.
 use Rattle.std.specs.Prelude.{◌≡◌, ℕ, ◌+◌, List, [], ◌∷◌, ◌++◌, length, Option, Some, None, ◌⊎◌}
-use Rattle.pana_journal.specs.declared.report.Report.{Report}
 use Rattle.pana_journal.specs.declared.entry.Entry.{Entry}
 use Rattle.pana_hall.specs.declared.call.Query.{Query}
 use Rattle.pana_hall.specs.declared.call.Query.TheVariants as queries
@@ -14,19 +13,24 @@ use Rattle.pana_hall.specs.Living.{living}
 use Rattle.pana_hall.specs.Board.{board_of}
 use Rattle.pana_hall.specs.Refusal.{refusal}
 
--- the answer to a query
-abbrev pub answer : List Entry → Query → Reply
-answer journal (queries.Board family) = replies.Board (board_of family (living journal))
+-- the reply answers the query
+abbrev pub Answers : List Entry → Query → Reply → Type 0
+Answers journal (queries.Board family) reply = reply ≡ replies.Board (board_of family (living journal))
 
--- the reply to a call that nothing stands against
-abbrev pub granted : List Entry → Call → Reply
-granted journal (calls.Report report) = replies.Done (length journal + 1)
-granted journal (calls.Query query) = answer journal query
+-- the reply grants a call that nothing stands against: a report is the next entry, a query is answered
+abbrev pub Grants : List Entry → Call → Reply → Type 0
+Grants journal (calls.Report report) reply = reply ≡ replies.Done (length journal + 1)
+Grants journal (calls.Query query) reply = Answers journal query reply
 
--- the reply to a call, given why it is refused: that cause and no other; else what is granted, or want of memory
+-- the call may be refused so for a shortage, although nothing stands against it: memory may run out
+abbrev pub IsShortage : List Entry → Call → Cause → Type 0
+IsShortage journal (calls.Report report) cause = cause ≡ causes.OutOfMemory
+IsShortage journal (calls.Query query) cause = cause ≡ causes.OutOfMemory
+
+-- the reply to a call, given why it is refused: that cause and no other; else what is granted, or a shortage
 abbrev pub PermitsBy : Option Cause → List Entry → Call → Reply → Type 0
 PermitsBy (Some cause) journal call reply = reply ≡ replies.Refused cause
-PermitsBy None journal call reply = (reply ≡ granted journal call) ⊎ (reply ≡ replies.Refused causes.OutOfMemory)
+PermitsBy None journal call reply = Grants journal call reply ⊎ ((cause : Cause) × IsShortage journal call cause × (reply ≡ replies.Refused cause))
 
 -- the reply is permitted to the device's call on the journal
 unfoldable pub Permits : List Entry → List ℕ → Call → Reply → Type 0

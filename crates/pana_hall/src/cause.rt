@@ -1,5 +1,5 @@
 ghost use Rattle.std.specs.Prelude.{◌≡◌};
-ghost use Rattle.pana_hall.specs.Cause.{code_of};
+ghost use Rattle.pana_hall.specs.Cause.{code_of, cause_name, cause_copy};
 
 /// Why a call was refused. A refused call changes nothing.
 #[derive(Clone, Copy, Debug, PartialEq, Eq)]
@@ -12,14 +12,14 @@ pub enum Cause {
     PlaceTaken(u64),
     /// The family has 256 living copies.
     FamilyFull,
-    /// A growth was refused.
+    /// Memory ran out.
     OutOfMemory,
     /// No Register entry has this number.
     UnknownFamily,
 }
 
 impl Cause {
-    /// The number that stands for the cause on the wire. Takes no memory.
+    /// The number that stands for the cause in a line. Takes no memory.
     pub fn code(&self) -> u32
         ensures { result ≡ code_of self.now }
     {
@@ -30,6 +30,30 @@ impl Cause {
             Cause::FamilyFull => 7,
             Cause::OutOfMemory => 9,
             Cause::UnknownFamily => 13,
+        }
+    }
+
+    /// The name of the cause, as in a line. Takes no memory.
+    pub fn name(&self) -> &'static str
+        ensures { result.now ≡ cause_name self.now }
+    {
+        match self {
+            Cause::JournalFull => "JournalFull",
+            Cause::UnknownCopy(_) => "UnknownCopy",
+            Cause::PlaceTaken(_) => "PlaceTaken",
+            Cause::FamilyFull => "FamilyFull",
+            Cause::OutOfMemory => "OutOfMemory",
+            Cause::UnknownFamily => "UnknownFamily",
+        }
+    }
+
+    /// The copy that the cause names, if it names one. Takes no memory.
+    pub fn copy(&self) -> Option<u64>
+        ensures { result ≡ cause_copy self.now }
+    {
+        match self {
+            Cause::UnknownCopy(copy) | Cause::PlaceTaken(copy) => Some(*copy),
+            _ => None,
         }
     }
 }

@@ -2,13 +2,13 @@ ghost use Rattle.std.specs.Prelude.{◌≡◌, [], IfOk, OnErr};
 ghost use Rattle.pana_hall.specs.Permit.{Permits, journal_after};
 ghost use Rattle.pana_hall.specs.Run.{RunsTo};
 
+use crate::board::board_of;
 use crate::call::{Call, Query};
 use crate::cause::Cause;
-use crate::living::LivingCopy;
+use crate::copies::Copies;
 use crate::recording::record;
 use crate::refusal::{query_refusal, report_refusal};
 use crate::reply::Reply;
-use crate::standing::board_of;
 use pana_copies::DeviceName;
 use pana_journal::{Journal, Report};
 use std::alloc::{AllocError, Global};
@@ -22,7 +22,7 @@ use std::marker::Model;
 #[derive(Debug, Drop)]
 pub struct Hall {
     alloc: Global,
-    copies: Vec<LivingCopy>,
+    copies: Copies,
     journal: Journal,
 }
 
@@ -35,38 +35,38 @@ impl Model for Hall {
 
     ghost view = { λ hall. hall.journal.entries };
 
-    ghost invariant = { λ hall. hall.copies.items ≡ living hall.journal.entries };
+    ghost invariant = { λ hall. hall.copies ≡ living hall.journal.entries };
 }
 
 impl Hall {
     ghost use Rattle.pana_hall.specs.declared.call.Call.TheVariants as calls;
 
-    /// A hall with no copy and the empty journal. The only refusal is want of memory.
-    #[tactic(auto, unfolding(crate::specs::Living::living))]
+    /// A hall with no copy and the empty journal. Fails only where memory runs out.
+    #[tactic(auto, unfolding(crate::specs::Living::copies_of))]
     pub fn new(alloc: Global) -> Result<Hall, AllocError>
         ensures { IfOk result (λ hall. hall ≡ []) }
     {
         Ok(Hall {
             alloc,
-            copies: Vec::new(alloc),
+            copies: Copies::new(alloc),
             journal: Journal::new(alloc),
         })
     }
 
-    /// Takes one call of a device and answers it: a report is refused, or is the next entry of the journal; a query
-    /// is refused or answered, and changes nothing. A refused call changes nothing.
+    /// Takes one call of a device and returns its reply: a report is refused, or is the next entry of the journal; a
+    /// query is refused or answered, and changes nothing. A refused call changes nothing.
     pub fn apply(&mut self, by: &DeviceName, call: Call) -> Reply
         ensures permitted { Permits self.old by.now call result }
         ensures journal { self.new ≡ journal_after self.old by.now call result }
     {
         match call {
-            Call::Report(report) => self.tell(by, report),
-            Call::Query(query) => self.ask(by, query),
+            Call::Report(report) => self.report(by, report),
+            Call::Query(query) => self.query(by, query),
         }
     }
 
-    /// Takes calls of devices in order, and answers their replies: a run, where the hall was new. The only refusal is
-    /// want of memory for the list of replies; it comes before the first call and changes nothing.
+    /// Takes calls of devices in order, and returns their replies: a run, where the hall was new. Fails only where
+    /// memory runs out for the list of replies, before the first call, and then changes nothing.
     pub fn apply_all(
         &mut self,
         mut calls: VecDeque<(DeviceName, Call)>,
@@ -82,11 +82,11 @@ impl Hall {
     }
 
     #[tactic(auto, unfolding(crate::specs::Permit::Permits, crate::specs::Permit::journal_after, crate::specs::Refusal::refusal))]
-    fn tell(&mut self, by: &DeviceName, report: Report) -> Reply
+    fn report(&mut self, by: &DeviceName, report: Report) -> Reply
         ensures permitted { Permits self.old by.now (calls.Report report) result }
         ensures journal { self.new ≡ journal_after self.old by.now (calls.Report report) result }
     {
-        if let Some(cause) = report_refusal(&self.journal, &self.copies, &report) {
+        if let Some(cause) = report_refusal(&self.journal, &self.copies, by, &report) {
             return Reply::Refused(cause);
         }
         let alloc = self.alloc;
@@ -97,7 +97,7 @@ impl Hall {
     }
 
     #[tactic(auto, unfolding(crate::specs::Permit::Permits, crate::specs::Permit::journal_after, crate::specs::Refusal::refusal))]
-    fn ask(&self, by: &DeviceName, query: Query) -> Reply
+    fn query(&self, by: &DeviceName, query: Query) -> Reply
         ensures permitted { Permits self.now by.now (calls.Query query) result }
         ensures journal { self.now ≡ journal_after self.now by.now (calls.Query query) result }
     {
@@ -105,7 +105,7 @@ impl Hall {
             return Reply::Refused(cause);
         }
         match query {
-            Query::Board { family } => match board_of(self.alloc, family, &self.copies) {
+            Query::Board { family } => match board_of(self.alloc, family, self.copies.as_slice()) {
                 Ok(view) => Reply::Board(view),
                 Err(_) => Reply::Refused(Cause::OutOfMemory),
             },

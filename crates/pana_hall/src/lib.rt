@@ -1,20 +1,20 @@
-//! The hall: every copy of every file, and the one call that tells it of a change or asks it for an answer.
+//! The hall: every copy of every file, and the one call that reports a change to it or asks it a question.
 #![tactic(auto)]
 
 mod board;
 mod call;
 mod cause;
+mod copies;
 mod hall;
 mod laws;
-mod living;
+mod living_copy;
 mod recording;
 mod refusal;
 mod relation;
 mod reply;
-mod standing;
 mod update_set;
 
-pub use crate::board::{BoardRow, BoardView, NumberList, RowList};
+pub use crate::board::{BoardRow, BoardView};
 pub use crate::call::{Call, Query};
 pub use crate::cause::Cause;
 pub use crate::hall::Hall;

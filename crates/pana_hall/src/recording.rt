@@ -1,16 +1,17 @@
+//! What each report does to a journal and to the copies that are kept of it.
 ghost use Rattle.std.specs.Prelude.{◌≡◌, ◌<◌, is_some, true, None, OnOk};
 ghost use Rattle.pana_journal.specs.declared.report.Report.TheVariants as reports;
-ghost use Rattle.pana_hall.specs.Living.{copy_in};
+ghost use Rattle.pana_hall.specs.Living.{copy_in, living};
 ghost use Rattle.pana_hall.specs.Refusal.{report_refusal};
-ghost use Rattle.pana_hall.specs.Recording.{Records};
+ghost use Rattle.pana_hall.specs.inner.Recording.{Records};
 
-use crate::living::{self, LivingCopy};
-use crate::update_set::UpdateSet;
+use crate::copies::Copies;
+use crate::living_copy::LivingCopy;
 use pana_copies::{DeviceName, Place};
 use pana_journal::{Journal, Report};
 use std::alloc::{AllocError, Global};
 
-/// Takes room for one entry, the last growth of every report.
+/// Reserves room for one entry, the last allocation but for the copies' own of every report.
 fn reserve(journal: &mut Journal) -> Result<(), AllocError>
     ensures entries { journal.new.entries ≡ journal.old.entries }
     ensures ok { OnOk result (0 < journal.new.room) }
@@ -18,95 +19,80 @@ fn reserve(journal: &mut Journal) -> Result<(), AllocError>
     journal.reserve_one().map_err(|_| AllocError)
 }
 
-/// Puts a Register into the journal, and its copy among the living ones. The only refusal is want of memory, and
-/// changes neither.
+/// Records a Register, and its copy as a living one.
+#[tactic(auto, using(crate::proofs::Grown::living_append))]
 fn register(
     alloc: Global,
-    copies: &mut Vec<LivingCopy>,
+    copies: &mut Copies,
     journal: &mut Journal,
     by: &DeviceName,
     place: Place,
 ) -> Result<u64, AllocError>
-    ensures { Records copies.old.items journal.old.entries by.now (reports.Register place) result copies.new.items journal.new.entries }
+    requires { copies.old ≡ living journal.old.entries }
+    ensures { Records journal.old.entries copies.old by.now (reports.Register place) result journal.new.entries copies.new }
 {
     let by = by.copy_of()?;
     let kept_at = place.copy_of()?;
-    copies.reserve(1)?;
     reserve(journal)?;
-    let number = journal.append(by, Report::Register { place });
-    copies.push_reserved(LivingCopy {
-        number,
-        family: number,
-        place: kept_at,
-        updates: UpdateSet::new(alloc),
-        touch: number,
-    });
-    Ok(number)
+    copies.add(LivingCopy::registered(alloc, journal.length() + 1, kept_at))?;
+    Ok(journal.append(by, Report::Register { place }))
 }
 
-/// The same for a Duplicate of a copy that lives.
+/// Records a Duplicate of a copy that lives, and the new copy as a living one.
+#[tactic(auto, using(crate::proofs::Grown::living_append))]
 fn duplicate(
-    copies: &mut Vec<LivingCopy>,
+    copies: &mut Copies,
     journal: &mut Journal,
     by: &DeviceName,
     copy: u64,
     place: Place,
 ) -> Result<u64, AllocError>
-    requires { is_some (copy_in copies.old.items copy) ≡ true }
-    ensures { Records copies.old.items journal.old.entries by.now (reports.Duplicate copy place) result copies.new.items journal.new.entries }
+    requires kept { copies.old ≡ living journal.old.entries }
+    requires lives { is_some (copy_in copies.old copy) ≡ true }
+    ensures { Records journal.old.entries copies.old by.now (reports.Duplicate copy place) result journal.new.entries copies.new }
 {
-    let source = living::copy_in(copies, copy).unwrap();
-    let family = source.family;
-    let updates = source.updates.copy_of()?;
     let by = by.copy_of()?;
     let kept_at = place.copy_of()?;
-    copies.reserve(1)?;
+    let source = copies.get(copy).unwrap();
+    let made = source.duplicated(journal.length() + 1, kept_at)?;
     reserve(journal)?;
-    let entry = journal.append(by, Report::Duplicate { copy, place });
-    copies.push_reserved(LivingCopy {
-        number: entry,
-        family,
-        place: kept_at,
-        updates,
-        touch: entry,
-    });
-    Ok(entry)
+    copies.add(made)?;
+    Ok(journal.append(by, Report::Duplicate { copy, place }))
 }
 
-/// The same for an Edit of a copy that lives.
+/// Records an Edit of a copy that lives, which knows its update from then on.
 fn edit(
     alloc: Global,
-    copies: &mut Vec<LivingCopy>,
+    copies: &mut Copies,
     journal: &mut Journal,
     by: &DeviceName,
     copy: u64,
 ) -> Result<u64, AllocError>
-    requires { is_some (copy_in copies.old.items copy) ≡ true }
-    ensures { Records copies.old.items journal.old.entries by.now (reports.Edit copy) result copies.new.items journal.new.entries }
+    requires kept { copies.old ≡ living journal.old.entries }
+    requires lives { is_some (copy_in copies.old copy) ≡ true }
+    ensures { Records journal.old.entries copies.old by.now (reports.Edit copy) result journal.new.entries copies.new }
 {
-    let number = journal.length() + 1;
-    let at = living::place_in(copies, copy).unwrap();
-    let updates = copies[at].updates.with(alloc, number)?;
     let by = by.copy_of()?;
+    let entry = journal.length() + 1;
+    let known = copies.get(copy).unwrap().updates();
+    let updates = known.with(alloc, entry)?;
     reserve(journal)?;
-    journal.append(by, Report::Edit { copy });
-    let edited = &mut copies[at];
-    edited.updates = updates;
-    edited.touch = number;
-    Ok(number)
+    copies.tell(copy, entry, updates);
+    Ok(journal.append(by, Report::Edit { copy }))
 }
 
-/// Puts a report that nothing stands against into the journal, and does to the living copies what it says. The
-/// only refusal is want of memory, and changes neither.
+/// Makes a report that nothing stands against the next entry of the journal, and does to the copies what it says.
+/// Fails only where memory runs out, and then changes nothing.
 pub fn record(
     alloc: Global,
-    copies: &mut Vec<LivingCopy>,
+    copies: &mut Copies,
     journal: &mut Journal,
     by: &DeviceName,
     report: Report,
 ) -> Result<u64, AllocError>
-    requires { report_refusal journal.old.entries copies.old.items report ≡ None }
-    ensures { Records copies.old.items journal.old.entries by.now report result copies.new.items journal.new.entries }
+    requires kept { copies.old ≡ living journal.old.entries }
+    requires free { report_refusal journal.old.entries copies.old by.now report ≡ None }
+    ensures { Records journal.old.entries copies.old by.now report result journal.new.entries copies.new }
 {
     match report {
         Report::Register { place } => register(alloc, copies, journal, by, place),

@@ -4,7 +4,7 @@ ghost use Rattle.pana_hall.specs.Relation.{relation};
 use crate::update_set::UpdateSet;
 use pana_event::Rel;
 
-/// How a copy that knows the first set stands to one that knows the second.
+/// How a copy that knows the first set relates to one that knows the second.
 pub fn relation(first: &UpdateSet, second: &UpdateSet) -> Rel
     ensures { result ≡ relation first.now second.now }
 {

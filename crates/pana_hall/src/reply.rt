@@ -3,7 +3,7 @@ use crate::cause::Cause;
 use std::error::Error;
 use std::fmt;
 
-/// What a hall answers.
+/// The answer of a hall to a call.
 #[derive(Debug, Drop)]
 pub enum Reply {
     /// The report was accepted, as the entry with this number.
@@ -19,6 +19,10 @@ pub enum Reply {
 pub struct Spent;
 
 impl fmt::Display for Spent {
+    ghost use Rattle.std.specs.Prelude.{Some, codes};
+
+    ghost output = { λ _. Some (codes "no call is left") };
+
     fn fmt<W: fmt::Write>(&self, f: &mut fmt::Formatter<W>) -> fmt::Result {
         f.write_str("no call is left")
     }

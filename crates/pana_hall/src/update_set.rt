@@ -40,7 +40,7 @@ impl UpdateSet {
         }
     }
 
-    /// The same set once more. The only refusal is want of memory.
+    /// The same set once more. Fails only where memory runs out.
     pub fn copy_of(&self) -> Result<UpdateSet, AllocError>
         ensures { IfOk result (λ set. set ≡ self.now) }
     {
@@ -49,7 +49,7 @@ impl UpdateSet {
         })
     }
 
-    /// The set with one update more. The only refusal is want of memory.
+    /// The set with one update more. Fails only where memory runs out.
     pub fn with(&self, alloc: Global, update: u64) -> Result<UpdateSet, AllocError>
         ensures { IfOk result (λ set. set ≡ update ∷ self.now) }
     {

@@ -1,7 +1,6 @@
 -- The journal as a list of entries.
 use Rattle.std.specs.Prelude.{◌≡◌, ◌==◌, ℕ, ◌+◌, ◌-◌, min, List, if◌then◌else◌, Option, Some, None, slice_get}
 use Rattle.pana_journal.specs.declared.entry.Entry.{Entry}
-use Rattle.pana_journal.specs.declared.journal.TheConstants.{MOST_ENTRIES}
 
 -- what contracts see of a journal: its entries, and for how many more room is reserved
 pub record Contents : Type 0 where
@@ -16,6 +15,6 @@ IsNumbered entries = (i : ℕ) (entry : Entry) → slice_get entries i ≡ Some 
 abbrev pub entry_at : List Entry → ℕ → Option Entry
 entry_at entries number = if number == 0 then None else slice_get entries (number - 1)
 
--- for how many entries more there is memory, within the limit
+-- for how many entries more there is memory, of the 1,000,000 that a journal takes
 abbrev pub room_of : (length capacity : ℕ) → ℕ
-room_of length capacity = min (capacity - length) (MOST_ENTRIES - length)
+room_of length capacity = min (capacity - length) (1000000 - length)

@@ -4,7 +4,7 @@ use crate::report::Report;
 use pana_copies::DeviceName;
 use std::alloc::AllocError;
 
-/// A report that was accepted: its number in the journal, from 1, and the device that told it.
+/// A report that was accepted: its number in the journal, from 1, and the device that reported it.
 #[derive(Debug, PartialEq, Eq, Drop)]
 pub struct Entry {
     pub number: u64,
@@ -13,7 +13,7 @@ pub struct Entry {
 }
 
 impl Entry {
-    /// The same entry once more. The only refusal is want of memory.
+    /// The same entry once more. Fails only where memory runs out.
     pub fn copy_of(&self) -> Result<Entry, AllocError>
         ensures { IfOk result (λ entry. entry ≡ self.now) }
     {

@@ -1,5 +1,4 @@
-ghost use Rattle.std.specs.Prelude.{◌≡◌, ◌+◌, ◌<◌, ◌≤◌, ◌↔◌, [], ◌∷◌, ◌++◌, length, option_copied, IfSome, IfErr, OnOk, OnErr, IsErrOf};
-ghost use Rattle.pana_journal.specs.declared.journal.TheConstants.{MOST_ENTRIES};
+ghost use Rattle.std.specs.Prelude.{◌≡◌, ◌+◌, ◌<◌, ◌≤◌, ◌↔◌, [], ◌∷◌, ◌++◌, length, nat_le, option_copied, IfSome, OnOk, IsErrOf};
 
 use crate::entry::Entry;
 use crate::report::Report;
@@ -9,7 +8,7 @@ use std::marker::Model;
 use thiserror::Error;
 
 /// How many entries a journal takes.
-pub const MOST_ENTRIES: usize = 1_000_000;
+const MOST_ENTRIES: usize = 1_000_000;
 
 /// Why there is no room for one more entry.
 #[derive(Clone, Copy, Debug, PartialEq, Eq, Error)]
@@ -22,7 +21,7 @@ pub enum JournalFault {
 
 /// The entries in order, numbered from 1 without gaps.
 ///
-/// An entry goes in by two calls: `reserve_one`, which can be refused, and then `append`, which can't.
+/// An entry goes in by two calls: `reserve_one`, which may fail, and then `append`, which can't.
 #[derive(Debug, Drop)]
 pub struct Journal {
     entries: Vec<Entry>,
@@ -30,14 +29,13 @@ pub struct Journal {
 
 impl Model for Journal {
     ghost use Rattle.std.specs.Prelude.{◌≤◌, vec_len, vec_capacity};
-    ghost use Rattle.pana_journal.specs.declared.journal.TheConstants.{MOST_ENTRIES};
     ghost use Rattle.pana_journal.specs.Entries.{Contents, IsNumbered, room_of};
 
     ghost Value = { Contents };
 
     ghost view = { λ j. record { entries = j.entries.items; room = room_of (vec_len j.entries) (vec_capacity j.entries) } };
 
-    ghost invariant = { λ j. (vec_len j.entries ≤ MOST_ENTRIES) × IsNumbered j.entries.items };
+    ghost invariant = { λ j. (vec_len j.entries ≤ 1000000) × IsNumbered j.entries.items };
 }
 
 impl Journal {
@@ -54,13 +52,15 @@ impl Journal {
 
     /// Reserves room for one entry more, which stays until it is used.
     ///
-    /// The refusals are `JournalFull`, at 1,000,000 entries, and `OutOfMemory`.
+    /// # Errors
+    ///
+    /// `JournalFull` at 1,000,000 entries; `OutOfMemory`.
     pub fn reserve_one(&mut self) -> Result<(), JournalFault>
         ensures entries { self.new.entries ≡ self.old.entries }
         ensures ok { OnOk result (0 < self.new.room) }
-        ensures full { IsErrOf result JournalFault.JournalFull ↔ (MOST_ENTRIES ≤ length self.old.entries) }
+        ensures full { IsErrOf result JournalFault.JournalFull ↔ (1000000 ≤ length self.old.entries) }
     {
-        if self.entries.len() >= MOST_ENTRIES {
+        if self.is_full() {
             return Err(JournalFault::JournalFull);
         }
         match self.entries.reserve(1) {
@@ -69,7 +69,7 @@ impl Journal {
         }
     }
 
-    /// Puts a report at the end and answers its number. Room for it was reserved, so it takes no memory.
+    /// Puts a report at the end and returns its number. Room for it was reserved, so it takes no memory.
     pub fn append(&mut self, by: DeviceName, report: Report) -> u64
         requires { 0 < self.old.room }
         ensures number { result ≡ length self.old.entries + 1 }
@@ -91,9 +91,16 @@ impl Journal {
     /// How many entries there are, at most 1,000,000. Takes no memory.
     pub fn length(&self) -> u64
         ensures length { result ≡ length self.now.entries }
-        ensures within { length self.now.entries ≤ MOST_ENTRIES }
+        ensures within { length self.now.entries ≤ 1000000 }
         ensures numbered { IsNumbered self.now.entries }
     {
         self.entries.len() as u64
+    }
+
+    /// Whether the journal has all the 1,000,000 entries that it takes. Takes no memory.
+    pub fn is_full(&self) -> bool
+        ensures { result ≡ nat_le 1000000 (length self.now.entries) }
+    {
+        self.entries.len() >= MOST_ENTRIES
     }
 }

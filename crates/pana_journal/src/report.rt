@@ -3,7 +3,7 @@ ghost use Rattle.std.specs.Prelude.{◌≡◌, IfOk};
 use pana_copies::Place;
 use std::alloc::AllocError;
 
-/// What a session or a scanner tells of a copy. A copy is named by the number of the entry that made it.
+/// What a session or a scanner reports. A copy is named by the number of the entry that made it.
 #[derive(Debug, PartialEq, Eq, Drop)]
 pub enum Report {
     /// A file is known from now on, by a first copy at this place, which knows no update.
@@ -15,7 +15,7 @@ pub enum Report {
 }
 
 impl Report {
-    /// The same report once more. The only refusal is want of memory.
+    /// The same report once more. Fails only where memory runs out.
     pub fn copy_of(&self) -> Result<Report, AllocError>
         ensures { IfOk result (λ report. report ≡ self.now) }
     {

@@ -3,4 +3,4 @@ pub mod Lines
 pub mod Steps
 pub mod Ends
 pub mod Fronts
-pub mod OfText
+pub mod ReadBack

@@ -3,7 +3,7 @@ use Rattle.std.proofs.Common.{◌≡◌, ℕ, ◌≤◌, ◌==◌, true, false, 
 use Rattle.std.proofs.lemmas.Bool.{cases_lt, lt-ltb}
 use Rattle.std.proofs.lemmas.List.{take_all, take-append-le, length-take-le}
 use Rattle.std.specs.Prelude.{nat_lt}
-use Rattle.pana_wire.specs.Line.{text_in, line_says}
+use Rattle.pana_wire.specs.Line.{IsText, text_in, line_says}
 use Rattle.pana_wire.specs.Lines.{ended, unended, last_line, lines_of}
 use Rattle.pana_wire.specs.Kept.{keep, ended_kept, unended_kept}
 
@@ -73,6 +73,16 @@ lines_kept input left kept =
     ap (λ l. l ++ last_line left) (ended_cut [] input)
     ∙ ap (λ l. map (take 65537) (ended [] input) ++ l) (ap last_line (kept ∙ unended_cut [] input) ∙ last_cut (unended [] input))
     ∙ sym (map-append_lines (take 65537) (ended [] input) (last_line (unended [] input)))
+
+-- a line is text where its first 65,537 bytes are
+pub text_cut : (line : List ℕ) → IsText (take 65537 line) → IsText line
+unfolding text_in
+text_cut line = elim (cases_lt (length line) 65537) as (λ _. IsText (take 65537 line) → IsText line) [
+  | inl h ↦ λ is. rw (← take_all 65537 line (omega arith)) is
+  | inr h ↦ λ is. let full : length (take 65537 line) ≡ 65537 = length-take-le 65537 line h in
+      let long : nat_lt 65536 (length (take 65537 line)) ≡ true = rw full refl in
+      absurd (cc (rw long at is))
+]
 
 -- a line says what its first 65,537 bytes say
 pub says_cut : (line : List ℕ) → line_says (take 65537 line) ≡ line_says line

@@ -1,5 +1,5 @@
 -- Laws of answering lines one after another.
-use Rattle.std.proofs.Common.{◌≡◌, ℕ, ◌+◌, ◌≤◌, ◌==◌, true, false, List, [], ◌∷◌, ◌++◌, length, take, map, refl, sym, ap, subst, ◌∙◌, append_assoc, append-nil, length-append, arith}
+use Rattle.std.proofs.Common.{◌≡◌, ℕ, ◌+◌, ◌≤◌, ◌==◌, true, false, List, [], ◌∷◌, ◌++◌, length, take, map, refl, sym, ap, subst, ◌∙◌, append_assoc, append-nil, length-append, arith, inl, inr}
 use Rattle.std.proofs.lemmas.Bool.{eq-eqb, ne_eqb}
 use Rattle.pana_hall.specs.declared.call.Call.{Call}
 use Rattle.pana_hall.specs.declared.reply.Reply.{Reply}
@@ -7,7 +7,7 @@ use Rattle.pana_wire.specs.declared.serving.Served.{Served}
 use Rattle.pana_wire.specs.Session.{AnswersLine, AnswersLines}
 use Rattle.pana_wire.specs.Kept.{keep, ended_kept, unended_kept}
 use Rattle.pana_wire.specs.Progress.{Answered, Progress, IsFew, both}
-use Rattle.pana_wire.proofs.Lines.{ended_append, unended_append, says_cut}
+use Rattle.pana_wire.proofs.Lines.{ended_append, unended_append, says_cut, text_cut}
 
 pub few_both : (a b sum : Served) (m n : ℕ) → sum ≡ both a b → IsFew a m → IsFew b n → IsFew sum (m + n)
 few_both a b sum m n total p q =
@@ -104,7 +104,10 @@ module _ {S : Type 0} (step : S → List ℕ → Call → Reply → S → Type 0
       })
 
   pub line_cut : (old : S) (line text : List ℕ) (new : S) (steps : ℕ) → AnswersLine step old (take 65537 line) text new steps → AnswersLine step old line text new steps
-  line_cut old line text new steps a = rw (← says_cut line) a
+  line_cut old line text new steps a = elim a [
+    | inl said ↦ inl (rw (← says_cut line) said)
+    | inr out ↦ inr (out.0, out.1, out.2, text_cut line out.3)
+  ]
 
   pub lines_cut : (old : S) (ls : List (List ℕ)) (output : List ℕ) (new : S) (steps : ℕ)
       → AnswersLines step old (map (take 65537) ls) output new steps → AnswersLines step old ls output new steps

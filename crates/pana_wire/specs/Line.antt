@@ -1,6 +1,6 @@
 -- What a line says: its message, or its first fault. What counts as JSON, which value counts where a name stands
 -- twice, and which number fits 64 bits, is what `serde_json` reads.
-use Rattle.std.specs.Prelude.{◌≡◌, ℕ, Bool, List, length, nat_lt, Option, Some, None, is_some, option_and_then, Result, Ok, Err, if◌then◌else◌}
+use Rattle.std.specs.Prelude.{◌≡◌, ℕ, Bool, List, [], ◌∷◌, length, nat_lt, Option, Some, None, is_some, option_and_then, Result, Ok, Err, if◌then◌else◌}
 use Rattle.std.specs.Str.{is_utf8}
 use Rattle.serde_json.specs.Data.{Data}
 use Rattle.serde_json.specs.Read.{read}
@@ -19,7 +19,7 @@ use Rattle.pana_wire.specs.declared.fault.WireFault.{WireFault}
 use Rattle.pana_wire.specs.declared.fault.WireFault.TheVariants.{TooLong, NotUtf8, NotJson, NotObject, BadField, OutOfMemory}
 use Rattle.pana_wire.specs.declared.message.Message.{Message}
 use Rattle.pana_wire.specs.Field.{field_name}
-use Rattle.pana_wire.specs.Word.{word_of}
+use Rattle.pana_wire.specs.Word.{fields_of, word_of}
 
 infixl 10 ◌>>=◌
 -- a step, and then the next; the first fault is what comes of both
@@ -56,11 +56,11 @@ path_in field d = found field (option_and_then (when is_path) (string_in field d
 unfoldable pub number_in : Field → Data → Result ℕ WireFault
 number_in field d = found field (option_and_then as_u64 (option_and_then as_number (get (field_name field) d)))
 
--- the place that the fields `device` and `path` make
-unfoldable pub place_in : Data → Result Place WireFault
-place_in d = do
-  device ← device_in fields.Device d
-  path ← path_in fields.Path d
+-- the place that two fields make
+unfoldable pub place_in : Field → Field → Data → Result Place WireFault
+place_in device path d = do
+  device ← device_in device d
+  path ← path_in path d
   Ok (record { device = device; path = path })
 
 -- the word in the field `do`
@@ -68,20 +68,24 @@ unfoldable pub word_in : Data → Result Word WireFault
 word_in d = found fields.Do (option_and_then word_of (string_in fields.Do d))
 
 -- the call of a word, from the fields that the word has
-unfoldable pub call_in : Word → Data → Result Call WireFault
-call_in words.Register d = do
-  place ← place_in d
+abbrev pub call_from : Word → List Field → Data → Result Call WireFault
+call_from words.Register (device ∷ path ∷ []) d = do
+  place ← place_in device path d
   Ok (calls.Report (reports.Register place))
-call_in words.Duplicate d = do
-  copy ← number_in fields.Copy d
-  place ← place_in d
+call_from words.Duplicate (copy ∷ device ∷ path ∷ []) d = do
+  copy ← number_in copy d
+  place ← place_in device path d
   Ok (calls.Report (reports.Duplicate copy place))
-call_in words.Edit d = do
-  copy ← number_in fields.Copy d
+call_from words.Edit (copy ∷ []) d = do
+  copy ← number_in copy d
   Ok (calls.Report (reports.Edit copy))
-call_in words.Board d = do
-  family ← number_in fields.Family d
+call_from words.Board (family ∷ []) d = do
+  family ← number_in family d
   Ok (calls.Query (queries.Board family))
+call_from word others d = Err (BadField fields.Do)
+
+unfoldable pub call_in : Word → Data → Result Call WireFault
+call_in word d = call_from word (fields_of word) d
 
 -- the message in an object: who speaks, and the call
 unfoldable pub message_in : Data → Result Message WireFault
@@ -94,6 +98,10 @@ message_in d = do
 -- the text of a line: at most 65,536 bytes, of UTF-8
 unfoldable pub text_in : List ℕ → Result (List ℕ) WireFault
 text_in line = if nat_lt 65536 (length line) then Err TooLong else (if is_utf8 line then Ok line else Err NotUtf8)
+
+-- the line is text: at most 65,536 bytes, of UTF-8
+abbrev pub IsText : List ℕ → Type 0
+IsText line = text_in line ≡ Ok line
 
 -- the value that a text is
 unfoldable pub data_in : List ℕ → Result Data WireFault
@@ -111,7 +119,7 @@ line_says line = do
   object ← object_in d
   message_in object
 
--- a fault that was answered is the one that is said; want of memory can always be
+-- a fault that was returned is the one that is said; memory may run out for any
 abbrev pub Fails : {A : Type 0} → WireFault → Result A WireFault → Type 0
 Fails TooLong said = said ≡ Err TooLong
 Fails NotUtf8 said = said ≡ Err NotUtf8
@@ -120,22 +128,12 @@ Fails NotObject said = said ≡ Err NotObject
 Fails (BadField field) said = said ≡ Err (BadField field)
 Fails OutOfMemory said = Unit {0}
 
--- what is said only of a line that is text; to find it out takes memory
-abbrev pub IsOfText : {A : Type 0} → Result A WireFault → Type 0
-IsOfText (Ok x) = Unit {0}
-IsOfText (Err TooLong) = ⊥
-IsOfText (Err NotUtf8) = ⊥
-IsOfText (Err NotJson) = Unit {0}
-IsOfText (Err NotObject) = Unit {0}
-IsOfText (Err (BadField field)) = Unit {0}
-IsOfText (Err OutOfMemory) = Unit {0}
-
--- what was answered is what is said, unless memory ran out
+-- what was returned is what is said, unless memory ran out
 abbrev pub Gives : {A : Type 0} → Result A WireFault → Result A WireFault → Type 0
 Gives (Ok x) said = said ≡ Ok x
 Gives (Err fault) said = Fails fault said
 
--- what was answered shows what is said, unless memory ran out
+-- what was returned shows what is said, unless memory ran out
 abbrev pub Shows : {X A : Type 0} → (X → A) → Result X WireFault → Result A WireFault → Type 0
 Shows show (Ok x) said = said ≡ Ok (show x)
 Shows show (Err fault) said = Fails fault said

@@ -6,10 +6,9 @@ use Rattle.serde_json.specs.Written.{compact_text}
 use Rattle.pana_hall.specs.declared.board.BoardRow.{BoardRow}
 use Rattle.pana_hall.specs.declared.board.BoardView.{BoardView}
 use Rattle.pana_hall.specs.declared.cause.Cause.{Cause}
-use Rattle.pana_hall.specs.declared.cause.Cause.TheVariants.{JournalFull, UnknownCopy, PlaceTaken, FamilyFull, OutOfMemory, UnknownFamily}
 use Rattle.pana_hall.specs.declared.reply.Reply.{Reply}
 use Rattle.pana_hall.specs.declared.reply.Reply.TheVariants.{Done, Board, Refused}
-use Rattle.pana_hall.specs.Cause.{code_of}
+use Rattle.pana_hall.specs.Cause.{code_of, cause_name, cause_copy}
 
 -- a number in JSON
 abbrev pub number_data : ℕ → Data
@@ -43,24 +42,6 @@ board_data board = object (
     member (codes "newest") (numbers_data board.newest) (
     member (codes "split") (boolean board.split)
     no_members))))
-
--- the name of a cause
-abbrev pub cause_name : Cause → List ℕ
-cause_name JournalFull = codes "JournalFull"
-cause_name (UnknownCopy copy) = codes "UnknownCopy"
-cause_name (PlaceTaken copy) = codes "PlaceTaken"
-cause_name FamilyFull = codes "FamilyFull"
-cause_name OutOfMemory = codes "OutOfMemory"
-cause_name UnknownFamily = codes "UnknownFamily"
-
--- the copy that a cause names, if it names one
-abbrev pub cause_copy : Cause → Option ℕ
-cause_copy JournalFull = None
-cause_copy (UnknownCopy copy) = Some copy
-cause_copy (PlaceTaken copy) = Some copy
-cause_copy FamilyFull = None
-cause_copy OutOfMemory = None
-cause_copy UnknownFamily = None
 
 -- a refusal: the code and the name of its cause, with the copy that it names between them
 abbrev pub refusal_data : ℕ → Option ℕ → List ℕ → Data

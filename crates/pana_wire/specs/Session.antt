@@ -8,7 +8,7 @@ use Rattle.pana_wire.specs.declared.message.Message.{Message}
 use Rattle.pana_wire.specs.declared.serving.ServeFault.{ServeFault}
 use Rattle.pana_wire.specs.declared.serving.ServeFault.TheVariants.{Read, Write, OutOfMemory, Spent, Turns}
 use Rattle.pana_wire.specs.Fault.{fault_text}
-use Rattle.pana_wire.specs.Line.{line_says, IsOfText}
+use Rattle.pana_wire.specs.Line.{line_says, IsText}
 use Rattle.pana_wire.specs.Lines.{ended, lines_of}
 use Rattle.pana_wire.specs.Reply.{reply_text}
 
@@ -19,7 +19,7 @@ AnswersSaid step old (Ok m) text new steps = (reply : Reply) × step old m.by m.
 
 -- the answer to a line: to what it says, or else, where it is text, that memory ran out, and no step
 abbrev pub AnswersLine : {S : Type 0} → (S → List ℕ → Call → Reply → S → Type 0) → S → List ℕ → List ℕ → S → ℕ → Type 0
-AnswersLine step old line text new steps = AnswersSaid step old (line_says line) text new steps ⊎ ((text ≡ fault_text faults.OutOfMemory) × (new ≡ old) × (steps ≡ 0) × IsOfText (line_says line))
+AnswersLine step old line text new steps = AnswersSaid step old (line_says line) text new steps ⊎ ((text ≡ fault_text faults.OutOfMemory) × (new ≡ old) × (steps ≡ 0) × IsText line)
 
 -- the answers to lines, in order, each with a newline
 abbrev pub AnswersLines : {S : Type 0} → (S → List ℕ → Call → Reply → S → Type 0) → S → List (List ℕ) → List ℕ → S → ℕ → Type 0

@@ -21,4 +21,4 @@ pub use crate::reading::decode;
 pub use crate::serving::{ServeFault, Served, serve};
 pub use crate::session::Session;
 pub use crate::tap::Tap;
-pub use crate::writing::encode;
+pub use crate::writing::{encode, encode_call};

@@ -1,6 +1,6 @@
-ghost use Rattle.std.specs.Prelude.{◌≡◌, ◌≢◌, IfOk, IfErr, IsOk};
+ghost use Rattle.std.specs.Prelude.{◌≡◌, ◌≢◌, IfErr, OnOk};
 ghost use Rattle.serde_json.specs.View.{view};
-ghost use Rattle.pana_wire.specs.Line.{Gives, IsOfText, Shows, text_in, data_in, object_in, device_in, path_in, number_in, place_in, word_in, call_in, message_in, line_says};
+ghost use Rattle.pana_wire.specs.Line.{Gives, IsText, Shows, text_in, data_in, object_in, device_in, path_in, number_in, place_in, word_in, call_in, message_in, line_says};
 
 use crate::fault::WireFault;
 use crate::field::Field;
@@ -17,14 +17,13 @@ const LONGEST_LINE: usize = 65536;
 
 /// What a line says, or its first fault.
 ///
-/// The faults are those of `WireFault`, in its order; the fields are tried in the order `by`, `do`, and then from
-/// left to right `device path` of a register, `copy device path` of a duplicate, `copy` of an edit and `family` of a
-/// board. It takes memory for the value that the line is and for the names in it; where that is refused the fault
-/// is `OutOfMemory`. That a line is too long, or not UTF-8, takes none.
-#[tactic(auto, unfolding(crate::specs::Line::line_says), using(crate::proofs::OfText::of_text))]
+/// The faults are those of `WireFault`, in its order; the fields are tried in the order `by`, `do`, and then those of
+/// the word, as `Word::fields` has them. It takes memory for the value that the line is and for the names in it; where
+/// that runs out the fault is `OutOfMemory`. To find a line too long, or not UTF-8, takes none.
+#[tactic(auto, unfolding(crate::specs::Line::line_says))]
 pub fn decode(alloc: Global, line: &[u8]) -> Result<Message, WireFault>
     ensures exact { Gives result (line_says line.now) }
-    ensures memory { IfErr result (λ fault. fault ≡ WireFault.OutOfMemory → IsOfText (line_says line.now)) }
+    ensures memory { IfErr result (λ fault. fault ≡ WireFault.OutOfMemory → IsText line.now) }
 {
     let text = text_in(line)?;
     let value = value_in(alloc, text)?;
@@ -35,6 +34,7 @@ pub fn decode(alloc: Global, line: &[u8]) -> Result<Message, WireFault>
 #[tactic(auto, unfolding(crate::specs::Line::text_in))]
 fn text_in(line: &[u8]) -> Result<&str, WireFault>
     ensures exact { Shows (λ text. text.now) result (text_in line.now) }
+    ensures text { OnOk result (IsText line.now) }
     ensures memory { IfErr result (λ fault. fault ≢ WireFault.OutOfMemory) }
 {
     if line.len() > LONGEST_LINE {
@@ -95,33 +95,34 @@ fn word_in(value: &Value) -> Result<Word, WireFault>
 fn call_in(alloc: Global, word: Word, value: &Value) -> Result<Call, WireFault>
     ensures { Gives result (call_in word (view value.now)) }
 {
+    let fields = word.fields();
     match word {
         Word::Register => {
-            let place = place_in(alloc, value)?;
+            let place = place_in(alloc, fields[0], fields[1], value)?;
             Ok(Call::Report(Report::Register { place }))
         }
         Word::Duplicate => {
-            let copy = number_in(Field::Copy, value)?;
-            let place = place_in(alloc, value)?;
+            let copy = number_in(fields[0], value)?;
+            let place = place_in(alloc, fields[1], fields[2], value)?;
             Ok(Call::Report(Report::Duplicate { copy, place }))
         }
         Word::Edit => {
-            let copy = number_in(Field::Copy, value)?;
+            let copy = number_in(fields[0], value)?;
             Ok(Call::Report(Report::Edit { copy }))
         }
         Word::Board => {
-            let family = number_in(Field::Family, value)?;
+            let family = number_in(fields[0], value)?;
             Ok(Call::Query(Query::Board { family }))
         }
     }
 }
 
 #[tactic(auto, unfolding(crate::specs::Line::place_in))]
-fn place_in(alloc: Global, value: &Value) -> Result<Place, WireFault>
-    ensures { Gives result (place_in (view value.now)) }
+fn place_in(alloc: Global, device: Field, path: Field, value: &Value) -> Result<Place, WireFault>
+    ensures { Gives result (place_in device path (view value.now)) }
 {
-    let device = device_in(alloc, Field::Device, value)?;
-    let path = path_in(alloc, Field::Path, value)?;
+    let device = device_in(alloc, device, value)?;
+    let path = path_in(alloc, path, value)?;
     Ok(Place { device, path })
 }
 

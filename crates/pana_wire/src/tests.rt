@@ -1,7 +1,10 @@
-use crate::{Field, Message, ServeFault, Served, Session, Tap, WireFault, decode, encode, serve};
+use crate::{
+    Field, Message, ServeFault, Served, Session, Tap, WireFault, decode, encode, encode_call, serve,
+};
 use pana_copies::{CopyPath, DeviceName, NameFault, Place};
-use pana_hall::{BoardRow, BoardView, Call, Cause, NumberList, Query, Reply, RowList, Spent};
+use pana_hall::{BoardRow, BoardView, Call, Cause, Query, Reply, Spent};
 use pana_journal::Report;
+use pana_list::PlainList;
 use std::alloc::Global;
 use std::io;
 use std::io::{Read, Write};
@@ -215,22 +218,21 @@ fn each_fault_is_told(rt: HostRuntime) -> Result<(), Fail> {
 #[test]
 fn each_reply_is_written(rt: HostRuntime) -> Result<(), Fail> {
     let alloc = rt.alloc();
-    let mut rows = RowList::new(alloc);
-    rows.push(BoardRow {
-        copy: 1,
-        place: place(alloc, "laptop", "a\"b")?,
-        newer: 0,
-        older: 1,
-        equal: 2,
-        conflict: 3,
-    })?;
-    let mut newest = NumberList::new(alloc);
-    newest.push(1)?;
-    newest.push(2)?;
+    let rows = vec![in alloc;
+        BoardRow {
+            copy: 1,
+            place: place(alloc, "laptop", "a\"b")?,
+            newer: 0,
+            older: 1,
+            equal: 2,
+            conflict: 3,
+        },
+    ]?;
+    let newest = vec![in alloc; 1, 2]?;
     let board = BoardView {
         family: 1,
-        rows,
-        newest,
+        rows: PlainList::from_vec(rows),
+        newest: PlainList::from_vec(newest),
         split: true,
     };
     let replies = [
@@ -259,6 +261,35 @@ fn each_reply_is_written(rt: HostRuntime) -> Result<(), Fail> {
 }
 
 /// A line with each fault, and then a message without a newline.
+#[test]
+fn each_report_is_written(rt: HostRuntime) -> Result<(), Fail> {
+    let alloc = rt.alloc();
+    let by = DeviceName::new(alloc, "usb")?;
+    let reports = [
+        (
+            Report::Register {
+                place: place(alloc, "usb", "a.txt")?,
+            },
+            "{\"by\":\"usb\",\"device\":\"usb\",\"do\":\"register\",\"path\":\"a.txt\"}",
+        ),
+        (
+            Report::Duplicate {
+                copy: 7,
+                place: place(alloc, "desk", "b")?,
+            },
+            "{\"by\":\"usb\",\"copy\":7,\"device\":\"desk\",\"do\":\"duplicate\",\"path\":\"b\"}",
+        ),
+        (
+            Report::Edit { copy: 7 },
+            "{\"by\":\"usb\",\"copy\":7,\"do\":\"edit\"}",
+        ),
+    ];
+    for (report, text) in reports {
+        assert_eq!(rt; encode_call(alloc, &by, &report)?.as_str(), text);
+    }
+    Ok(())
+}
+
 fn faulty_lines(alloc: Global) -> Result<Vec<u8>, std::alloc::AllocError> {
     let mut input = vec![in alloc; b'x'; 65537]?;
     input.extend_from_slice(

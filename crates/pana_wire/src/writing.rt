@@ -1,14 +1,21 @@
-ghost use Rattle.std.specs.Prelude.{◌≡◌, IfOk, string_bytes};
+ghost use Rattle.std.specs.Prelude.{◌≡◌, ◌≤◌, true, length, IfOk, OnOk, string_bytes};
 ghost use Rattle.serde_json.specs.View.{view};
-ghost use Rattle.pana_wire.specs.Reply.{row_data, rows_data, numbers_data, board_data, cause_name, cause_copy, refused_data, reply_data, reply_text};
+ghost use Rattle.pana_copies.specs.Names.{is_device};
+ghost use Rattle.pana_wire.specs.Line.{line_says};
+ghost use Rattle.pana_wire.specs.Report.{report_word, report_data, report_text, HasNames};
+ghost use Rattle.pana_wire.specs.Reply.{row_data, rows_data, numbers_data, board_data, refused_data, reply_data, reply_text};
 
-use pana_hall::{BoardRow, BoardView, Cause, Reply};
+use crate::field::Field;
+use crate::word::Word;
+use pana_copies::DeviceName;
+use pana_hall::{BoardRow, BoardView, Call, Cause, Reply};
+use pana_journal::Report;
 use serde_json::{Value, json};
 use std::alloc::{AllocError, Global};
 
 /// The line that answers a call with this reply: an object in JSON with no blank, its names in byte order.
 ///
-/// It takes memory for the object and for its text; the only refusal is want of it.
+/// It takes memory for the object and for its text, and fails only where that runs out.
 pub fn encode(alloc: Global, reply: &Reply) -> Result<String, AllocError>
     ensures { IfOk result (λ text. string_bytes text ≡ reply_text reply.now) }
 {
@@ -86,35 +93,62 @@ fn refused_value(alloc: Global, cause: &Cause) -> Result<Value, AllocError>
     ensures { IfOk result (λ value. view value ≡ refused_data cause.now) }
 {
     let code = cause.code();
-    let name = cause_name(cause);
-    match cause_copy(cause) {
+    let name = cause.name();
+    match cause.copy() {
         Some(copy) => json!(in alloc; { "code": code, "copy": copy, "refused": name }),
         None => json!(in alloc; { "code": code, "refused": name }),
     }
 }
 
-fn cause_name(cause: &Cause) -> &'static str
-    ensures { result.now ≡ cause_name cause.now }
+/// The line that makes a device's report, without its newline: an object in JSON with no blank, its names in byte
+/// order. `decode` reads it back as the report.
+///
+/// It takes memory for the object and for its text, and fails only where that runs out.
+pub fn encode_call(alloc: Global, by: &DeviceName, report: &Report) -> Result<String, AllocError>
+    ensures text { IfOk result (λ text. string_bytes text ≡ report_text by.now report.now) }
+    ensures back { IfOk result (λ text. length (string_bytes text) ≤ 65536
+        → line_says (string_bytes text) ≡ Ok (record { by = by.now; call = Call.Report report.now })) }
 {
-    match cause {
-        Cause::JournalFull => "JournalFull",
-        Cause::UnknownCopy(_) => "UnknownCopy",
-        Cause::PlaceTaken(_) => "PlaceTaken",
-        Cause::FamilyFull => "FamilyFull",
-        Cause::OutOfMemory => "OutOfMemory",
-        Cause::UnknownFamily => "UnknownFamily",
+    let value = report_value(alloc, by, report)?;
+    value.to_string(alloc)
+}
+
+fn report_word(report: &Report) -> Word
+    ensures { result ≡ report_word report.now }
+{
+    match report {
+        Report::Register { .. } => Word::Register,
+        Report::Duplicate { .. } => Word::Duplicate,
+        Report::Edit { .. } => Word::Edit,
     }
 }
 
-fn cause_copy(cause: &Cause) -> Option<u64>
-    ensures { result ≡ cause_copy cause.now }
+#[tactic(auto, unfolding(crate::specs::Report::report_data))]
+fn report_value(alloc: Global, by: &DeviceName, report: &Report) -> Result<Value, AllocError>
+    ensures value { IfOk result (λ value. view value ≡ report_data by.now report.now) }
+    ensures by { OnOk result (is_device by.now ≡ true) }
+    ensures names { OnOk result (HasNames report.now) }
 {
-    match cause {
-        Cause::UnknownCopy(copy) => Some(*copy),
-        Cause::PlaceTaken(copy) => Some(*copy),
-        Cause::JournalFull => None,
-        Cause::FamilyFull => None,
-        Cause::OutOfMemory => None,
-        Cause::UnknownFamily => None,
+    let word = report_word(report);
+    let fields = word.fields();
+    match report {
+        Report::Register { place } => json!(in alloc; {
+            (Field::By.name()): by.as_str(),
+            (Field::Do.name()): word.name(),
+            (fields[0].name()): place.device.as_str(),
+            (fields[1].name()): place.path.as_str()
+        }),
+        Report::Duplicate { copy, place } => json!(in alloc; {
+            (Field::By.name()): by.as_str(),
+            (Field::Do.name()): word.name(),
+            (fields[0].name()): *copy,
+            (fields[1].name()): place.device.as_str(),
+            (fields[2].name()): place.path.as_str()
+        }),
+        Report::Edit { copy } => json!(in alloc; {
+            (Field::By.name()): by.as_str(),
+            (Field::Do.name()): word.name(),
+            (fields[0].name()): *copy
+        }),
     }
 }

@@ -1,21 +1,25 @@
+use Rattle.std.proofs.Common.{◌≡◌, ◌∙◌, ◌+◌, ◌++◌, [], ◌∷◌, ap, sym, Some, length, arith}
+use Rattle.std.specs.Option.{option_copied}
 use Rattle.std.proofs.lemmas.Grind.{common_steps}
-use Rattle.std.proofs.Common.{arith, ◌≡◌, ◌∙◌, refl, ap, ℕ, ◌+◌, ◌++◌, rules, get_or, set, Some}
-use Rattle.pana_hall.specs.Living.{edited}
-use Rattle.pana_hall.proofs.Changed.{place_of, place_within, place_found, change_at}
+use Rattle.pana_journal.specs.declared.report.Report.TheVariants.{Edit}
+use Rattle.pana_hall.specs.Living.{copy_in}
+use Rattle.pana_hall.proofs.Rising.{living_rises}
+use Rattle.pana_hall.proofs.Recorded.{edit_recorded}
 use Rattle.pana_hall.proofs.recording.edit.Goals as goal
 
-pub unwrap-at-requires : goal.unwrap-at-requires
-unwrap-at-requires c =
-    let found : c.place_in.result ≡ Some (place_of c.args.copy c.args.copies.now.items) = cc (place_found c.args.copy c.args.copies.now.items c.requires) in
-    rw found refl
+pub tell-requires-clause-rising : goal.tell-requires-clause-rising
+tell-requires-clause-rising c = rw c.requires.kept (living_rises c.args.journal.now.entries c.length-entry.ensures.numbered)
 
 pub returns : goal.returns
 returns c =
-    let found : c.place_in.result ≡ Some (place_of c.args.copy c.args.copies.now.items) = cc (place_found c.args.copy c.args.copies.now.items c.requires) in
-    let here : c.unwrap-at.result ≡ place_of c.args.copy c.args.copies.now.items = cc found in
-    let value : c.index_mut-edited.result.now ≡ get_or c.args.copies.now.items c.unwrap-at.result c.index_mut-edited.result.now = cc (c.index_mut-edited.ensures.value) in
-    let changed =
-    ap (λ x. set c.args.copies.now.items c.unwrap-at.result (edited (c.length-number.result + 1) x)) value
-    ∙ ap (λ k. set c.args.copies.now.items k (edited (c.length-number.result + 1) (get_or c.args.copies.now.items k c.index_mut-edited.result.now))) here
-    ∙ change_at c.args.copy (edited (c.length-number.result + 1)) c.index_mut-edited.result.now c.args.copies.now.items (place_within c.args.copy c.args.copies.now.items c.requires) in
-    (ap (λ n. n + 1) c.length-number.ensures.length, grind (arith, common_steps, changed), search rules)
+    let old = c.args.journal.now.entries in
+    let number : c.append.result ≡ length old + 1 = c.append.ensures.number ∙ ap (λ j. length j + 1) c.reserve.ensures.entries in
+    let recorded : c.append.new.self.entries ≡ old ++ record { number = c.append.result; by = c.args.by.now; report = Edit c.args.copy } ∷ [] = grind (arith, common_steps) in
+    let found : copy_in c.args.copies.now c.args.copy ≡ Some c.unwrap.result.now = sym c.get.ensures ∙ ap option_copied c.unwrap.ensures in
+    (
+      number,
+      recorded,
+      edit_recorded old c.append.new.self.entries c.args.by.now (c.length-entry.result + 1) c.append.result c.args.copy c.args.copies.now c.tell.new.self c.unwrap.result.now c.in_ok-updates.updates
+          c.length-entry.ensures.numbered c.requires.kept (ap (λ n. n + 1) c.length-entry.ensures.length ∙ sym number) found
+          (c.in_ok-updates.ensures ∙ ap (λ u. (c.length-entry.result + 1) ∷ u) c.updates-known.ensures) c.tell.ensures recorded,
+    )

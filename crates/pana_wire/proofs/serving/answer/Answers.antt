@@ -1,9 +1,9 @@
 -- Where a write fails, what was written is a front of the answer.
-use Rattle.std.proofs.Common.{◌∙◌}
+use Rattle.std.proofs.Common.{◌∙◌, sym, subst}
 use Rattle.std.proofs.lemmas.Result.{err_from_is_err_and}
 use Rattle.pana_wire.specs.Tap.{inside}
 use Rattle.pana_wire.specs.Session.{AnswersLine}
-use Rattle.pana_wire.proofs.Fronts.{said_line, broken_write}
+use Rattle.pana_wire.proofs.Fronts.{faulty_line, said_line, broken_write}
 use Rattle.pana_wire.proofs.serving.answer.Goals as goal
 
 pub returns-in_err-write_line-clause-breaks : goal.returns-in_err-write_line-clause-breaks

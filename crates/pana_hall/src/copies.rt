@@ -1,0 +1,102 @@
+ghost use Rattle.std.specs.Prelude.{◌≡◌, ◌==◌, [], ◌∷◌, ◌++◌, true, is_some, find, position, nat_le, option_copied, count_by, OnOk, OnErr};
+ghost use Rattle.pana_copies.specs.Places.{same_place};
+ghost use Rattle.pana_hall.specs.Board.{is_of};
+ghost use Rattle.pana_hall.specs.Living.{copy_in, change, told};
+ghost use Rattle.pana_hall.specs.inner.Rising.{AreRising};
+
+use crate::living_copy::LivingCopy;
+use crate::update_set::UpdateSet;
+use pana_copies::Place;
+use std::alloc::{AllocError, Global};
+use std::marker::Model;
+
+/// How many living copies a family takes.
+const MOST_COPIES: usize = 256;
+
+/// The living copies of all files, by rising number. Each look-up goes over all of them.
+#[derive(Debug, Drop)]
+pub struct Copies {
+    list: Vec<LivingCopy>,
+}
+
+impl Model for Copies {
+    ghost use Rattle.std.specs.Prelude.{List};
+    ghost use Rattle.pana_hall.specs.Copy.{Copy};
+
+    ghost Value = { List Copy };
+
+    ghost view = { λ copies. copies.list.items };
+}
+
+impl Copies {
+    /// No copy. Takes no memory.
+    pub fn new(alloc: Global) -> Copies
+        ensures { result ≡ [] }
+    {
+        Copies {
+            list: Vec::new(alloc),
+        }
+    }
+
+    /// The copies in order. Takes no memory.
+    pub fn as_slice(&self) -> &[LivingCopy]
+        ensures { result.now ≡ self.now }
+    {
+        self.list.as_slice()
+    }
+
+    /// The copy with this number, if it lives. Takes no memory.
+    pub fn get(&self, number: u64) -> Option<&LivingCopy>
+        ensures { option_copied result ≡ copy_in self.now number }
+    {
+        self.list.iter().find(|copy| copy.number() == number)
+    }
+
+    /// The copy that is kept at this place, if there is one. Takes no memory.
+    pub fn at(&self, place: &Place) -> Option<&LivingCopy>
+        ensures { option_copied result ≡ find (λ copy. same_place copy.place place.now) self.now }
+    {
+        self.list.iter().find(|copy| copy.place().is_same(place))
+    }
+
+    /// Whether the family has all the 256 copies that it takes. Takes no memory.
+    pub fn is_full(&self, family: u64) -> bool
+        ensures { result ≡ nat_le 256 (count_by (is_of family) self.now) }
+    {
+        self.count_in(family) >= MOST_COPIES
+    }
+
+    fn count_in(&self, family: u64) -> usize
+        ensures { result ≡ count_by (is_of family) self.now }
+    {
+        self.list
+            .iter()
+            .filter(|copy| copy.family() == family)
+            .count()
+    }
+
+    /// Puts a copy at the end. Fails only where memory runs out, and then changes nothing.
+    pub fn add(&mut self, copy: LivingCopy) -> Result<(), AllocError>
+        ensures ok { OnOk result (self.new ≡ self.old ++ copy ∷ []) }
+        ensures err { OnErr result (self.new ≡ self.old) }
+    {
+        self.list.push(copy)?;
+        Ok(())
+    }
+
+    /// Gives a copy that lives these updates, by this entry. Takes no memory.
+    pub fn tell(&mut self, number: u64, entry: u64, updates: UpdateSet)
+        requires rising { AreRising 0 self.old }
+        requires lives { is_some (copy_in self.old number) ≡ true }
+        ensures { self.new ≡ change number (told entry updates) self.old }
+    {
+        let index = self.index_of(number).unwrap();
+        self.list[index].tell(entry, updates);
+    }
+
+    fn index_of(&self, number: u64) -> Option<usize>
+        ensures { result ≡ position (λ copy. copy.number == number) self.now }
+    {
+        self.list.iter().position(|copy| copy.number() == number)
+    }
+}

@@ -1,0 +1,40 @@
+-- The line of a report is read back as the report.
+use Rattle.std.specs.Prelude.{◌≡◌, ℕ, ◌≤◌, true, false, List, length, nat_lt, Some, Ok}
+use Rattle.std.proofs.Common.{refl, arith}
+use Rattle.std.specs.Str.{is_utf8}
+use Rattle.std.proofs.lemmas.Bool.{le-ltb}
+use Rattle.serde_json.specs.Data.{Data, depth}
+use Rattle.serde_json.specs.Read.{read, max_depth}
+use Rattle.pana_copies.specs.Names.{is_device, is_path}
+use Rattle.pana_journal.specs.declared.report.Report.{Report}
+use Rattle.pana_journal.specs.declared.report.Report.TheVariants.{Register, Duplicate, Edit}
+use Rattle.pana_hall.specs.declared.call.Call.TheVariants as calls
+use Rattle.pana_wire.specs.Line.{device_in, path_in, number_in, place_in, word_in, call_in, message_in, object_in, text_in, data_in, line_says}
+use Rattle.pana_wire.specs.Report.{report_data, HasNames}
+
+object_back : (by : List ℕ) (report : Report) → object_in (report_data by report) ≡ Ok (report_data by report)
+unfolding report_data object_in
+object_back by (Register place) = refl
+object_back by (Duplicate copy place) = refl
+object_back by (Edit copy) = refl
+
+message_back : (by : List ℕ) (report : Report) → is_device by ≡ true → HasNames report
+    → message_in (report_data by report) ≡ Ok (record { by = by; call = calls.Report report })
+unfolding report_data message_in call_in word_in place_in device_in path_in number_in
+message_back by (Register place) named names = rw (named, names.0, names.1) refl
+message_back by (Duplicate copy place) named names = rw (named, names.0, names.1) refl
+message_back by (Edit copy) named names = rw named refl
+
+pub report_shallow : (by : List ℕ) (report : Report) → depth (report_data by report) ≤ max_depth
+unfolding report_data
+report_shallow by (Register place) = omega arith
+report_shallow by (Duplicate copy place) = omega arith
+report_shallow by (Edit copy) = omega arith
+
+pub line_back : (by line : List ℕ) (report : Report) → is_device by ≡ true → HasNames report
+    → is_utf8 line ≡ true → read line ≡ Some (report_data by report) → length line ≤ 65536
+    → line_says line ≡ Ok (record { by = by; call = calls.Report report })
+unfolding line_says text_in data_in
+line_back by line report named names utf8 is short =
+    let within : nat_lt 65536 (length line) ≡ false = le-ltb 65536 (length line) short in
+    rw (within, utf8, is, object_back by report) (message_back by report named names)
