@@ -1,62 +1,62 @@
--- Laws of cutting a text into lines, and of keeping the front of each line alone.
+-- Laws of cutting a text into lines, and of keeping the begun of each line alone.
 use Rattle.std.proofs.Common.{◌≡◌, ℕ, ◌≤◌, ◌==◌, true, false, cond, List, [], ◌∷◌, ◌++◌, length, take, map, refl, sym, ap, ◌∙◌, arith, inl, inr}
 use Rattle.std.proofs.lemmas.Bool.{cases_lt, lt-ltb}
 use Rattle.std.proofs.lemmas.List.{take_all, take-append-le, length-take-le}
 use Rattle.std.specs.Prelude.{nat_lt}
 use Rattle.pana_wire.specs.Line.{IsText, text_in, line_says}
 use Rattle.pana_wire.specs.Lines.{ended, unended, last_line, lines_of}
-use Rattle.pana_wire.specs.Kept.{keep, ended_kept, unended_kept}
+use Rattle.pana_wire.specs.inner.Kept.{keep, ended_kept, unended_kept}
 
-pub keep_short : (front : List ℕ) (b : ℕ) → length (front ++ b ∷ []) ≤ 65537 → keep front b ≡ front ++ b ∷ []
-keep_short front b h = take_all 65537 (front ++ b ∷ []) h
+pub keep_short : (begun : List ℕ) (b : ℕ) → length (begun ++ b ∷ []) ≤ 65537 → keep begun b ≡ begun ++ b ∷ []
+keep_short begun b h = take_all 65537 (begun ++ b ∷ []) h
 
-keep_full : (front : List ℕ) (b : ℕ) → 65537 ≤ length front → keep front b ≡ take 65537 front
-keep_full front b h = take-append-le 65537 front (b ∷ []) h
+keep_full : (begun : List ℕ) (b : ℕ) → 65537 ≤ length begun → keep begun b ≡ take 65537 begun
+keep_full begun b h = take-append-le 65537 begun (b ∷ []) h
 
-pub keep_long : (front : List ℕ) (b : ℕ) → 65537 ≤ length front → length front ≤ 65537 → keep front b ≡ front
-keep_long front b low high = keep_full front b low ∙ take_all 65537 front high
+pub keep_long : (begun : List ℕ) (b : ℕ) → 65537 ≤ length begun → length begun ≤ 65537 → keep begun b ≡ begun
+keep_long begun b low high = keep_full begun b low ∙ take_all 65537 begun high
 
-keep_take : (front : List ℕ) (b : ℕ) → keep (take 65537 front) b ≡ keep front b
-keep_take front b = elim (cases_lt (length front) 65537) [
-  | inl h ↦ ap (λ l. keep l b) (take_all 65537 front (omega arith))
-  | inr h ↦ let full : length (take 65537 front) ≡ 65537 = length-take-le 65537 front h in
-      keep_full (take 65537 front) b (omega arith) ∙ take_all 65537 (take 65537 front) (omega arith) ∙ sym (keep_full front b h)
+keep_take : (begun : List ℕ) (b : ℕ) → keep (take 65537 begun) b ≡ keep begun b
+keep_take begun b = elim (cases_lt (length begun) 65537) [
+  | inl h ↦ ap (λ l. keep l b) (take_all 65537 begun (omega arith))
+  | inr h ↦ let full : length (take 65537 begun) ≡ 65537 = length-take-le 65537 begun h in
+      keep_full (take 65537 begun) b (omega arith) ∙ take_all 65537 (take 65537 begun) (omega arith) ∙ sym (keep_full begun b h)
 ]
 
-pub ended_append : (front xs ys : List ℕ) → ended_kept front (xs ++ ys) ≡ ended_kept front xs ++ ended_kept (unended_kept front xs) ys
-ended_append front [] ys = refl
-ended_append front (x ∷ xs) ys =
-    elim (x == 10) as (λ t. cond t (front ∷ ended_kept [] (xs ++ ys)) (ended_kept (keep front x) (xs ++ ys))
-    ≡ cond t (front ∷ ended_kept [] xs) (ended_kept (keep front x) xs) ++ ended_kept (cond t (unended_kept [] xs) (unended_kept (keep front x) xs)) ys) [
-      | true ↦ ap (λ l. front ∷ l) (ended_append [] xs ys)
-      | false ↦ ended_append (keep front x) xs ys
+pub ended_append : (begun xs ys : List ℕ) → ended_kept begun (xs ++ ys) ≡ ended_kept begun xs ++ ended_kept (unended_kept begun xs) ys
+ended_append begun [] ys = refl
+ended_append begun (x ∷ xs) ys =
+    elim (x == 10) as (λ t. cond t (begun ∷ ended_kept [] (xs ++ ys)) (ended_kept (keep begun x) (xs ++ ys))
+    ≡ cond t (begun ∷ ended_kept [] xs) (ended_kept (keep begun x) xs) ++ ended_kept (cond t (unended_kept [] xs) (unended_kept (keep begun x) xs)) ys) [
+      | true ↦ ap (λ l. begun ∷ l) (ended_append [] xs ys)
+      | false ↦ ended_append (keep begun x) xs ys
     ]
 
-pub unended_append : (front xs ys : List ℕ) → unended_kept front (xs ++ ys) ≡ unended_kept (unended_kept front xs) ys
-unended_append front [] ys = refl
-unended_append front (x ∷ xs) ys =
-    elim (x == 10) as (λ t. cond t (unended_kept [] (xs ++ ys)) (unended_kept (keep front x) (xs ++ ys))
-    ≡ unended_kept (cond t (unended_kept [] xs) (unended_kept (keep front x) xs)) ys) [
+pub unended_append : (begun xs ys : List ℕ) → unended_kept begun (xs ++ ys) ≡ unended_kept (unended_kept begun xs) ys
+unended_append begun [] ys = refl
+unended_append begun (x ∷ xs) ys =
+    elim (x == 10) as (λ t. cond t (unended_kept [] (xs ++ ys)) (unended_kept (keep begun x) (xs ++ ys))
+    ≡ unended_kept (cond t (unended_kept [] xs) (unended_kept (keep begun x) xs)) ys) [
       | true ↦ unended_append [] xs ys
-      | false ↦ unended_append (keep front x) xs ys
+      | false ↦ unended_append (keep begun x) xs ys
     ]
 
-pub ended_cut : (front text : List ℕ) → ended_kept (take 65537 front) text ≡ map (take 65537) (ended front text)
-ended_cut front [] = refl
-ended_cut front (b ∷ bs) =
-    elim (b == 10) as (λ t. cond t (take 65537 front ∷ ended_kept [] bs) (ended_kept (keep (take 65537 front) b) bs)
-    ≡ map (take 65537) (cond t (front ∷ ended [] bs) (ended (front ++ b ∷ []) bs))) [
-      | true ↦ ap (λ l. take 65537 front ∷ l) (ended_cut [] bs)
-      | false ↦ ap (λ l. ended_kept l bs) (keep_take front b) ∙ ended_cut (front ++ b ∷ []) bs
+pub ended_cut : (begun text : List ℕ) → ended_kept (take 65537 begun) text ≡ map (take 65537) (ended begun text)
+ended_cut begun [] = refl
+ended_cut begun (b ∷ bs) =
+    elim (b == 10) as (λ t. cond t (take 65537 begun ∷ ended_kept [] bs) (ended_kept (keep (take 65537 begun) b) bs)
+    ≡ map (take 65537) (cond t (begun ∷ ended [] bs) (ended (begun ++ b ∷ []) bs))) [
+      | true ↦ ap (λ l. take 65537 begun ∷ l) (ended_cut [] bs)
+      | false ↦ ap (λ l. ended_kept l bs) (keep_take begun b) ∙ ended_cut (begun ++ b ∷ []) bs
     ]
 
-pub unended_cut : (front text : List ℕ) → unended_kept (take 65537 front) text ≡ take 65537 (unended front text)
-unended_cut front [] = refl
-unended_cut front (b ∷ bs) =
-    elim (b == 10) as (λ t. cond t (unended_kept [] bs) (unended_kept (keep (take 65537 front) b) bs)
-    ≡ take 65537 (cond t (unended [] bs) (unended (front ++ b ∷ []) bs))) [
+pub unended_cut : (begun text : List ℕ) → unended_kept (take 65537 begun) text ≡ take 65537 (unended begun text)
+unended_cut begun [] = refl
+unended_cut begun (b ∷ bs) =
+    elim (b == 10) as (λ t. cond t (unended_kept [] bs) (unended_kept (keep (take 65537 begun) b) bs)
+    ≡ take 65537 (cond t (unended [] bs) (unended (begun ++ b ∷ []) bs))) [
       | true ↦ unended_cut [] bs
-      | false ↦ ap (λ l. unended_kept l bs) (keep_take front b) ∙ unended_cut (front ++ b ∷ []) bs
+      | false ↦ ap (λ l. unended_kept l bs) (keep_take begun b) ∙ unended_cut (begun ++ b ∷ []) bs
     ]
 
 last_cut : (line : List ℕ) → last_line (take 65537 line) ≡ map (take 65537) (last_line line)

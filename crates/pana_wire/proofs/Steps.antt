@@ -1,13 +1,21 @@
 -- Laws of answering lines one after another.
-use Rattle.std.proofs.Common.{◌≡◌, ℕ, ◌+◌, ◌≤◌, ◌==◌, true, false, List, [], ◌∷◌, ◌++◌, length, take, map, refl, sym, ap, subst, ◌∙◌, append_assoc, append-nil, length-append, arith, inl, inr}
+use Rattle.std.proofs.Common.{◌≡◌, ℕ, suc, cond, Result, Ok, Err, inl, inr, ◌+◌, ◌≤◌, ◌==◌, true, false, List, [], ◌∷◌, ◌++◌, length, take, map, refl, sym, ap, subst, ◌∙◌, append_assoc, append-nil, length-append, arith}
 use Rattle.std.proofs.lemmas.Bool.{eq-eqb, ne_eqb}
 use Rattle.pana_hall.specs.declared.call.Call.{Call}
 use Rattle.pana_hall.specs.declared.reply.Reply.{Reply}
 use Rattle.pana_wire.specs.declared.serving.Served.{Served}
-use Rattle.pana_wire.specs.Session.{AnswersLine, AnswersLines}
-use Rattle.pana_wire.specs.Kept.{keep, ended_kept, unended_kept}
-use Rattle.pana_wire.specs.Progress.{Answered, Progress, IsFew, both}
+use Rattle.pana_wire.specs.declared.fault.WireFault.{WireFault}
+use Rattle.pana_wire.specs.declared.message.Message.{Message}
+use Rattle.pana_wire.specs.Line.{line_says}
+use Rattle.pana_wire.specs.Lines.{last_line}
+use Rattle.pana_wire.specs.Session.{AnswersSaid, AnswersLine, AnswersLines}
+use Rattle.pana_wire.specs.inner.Kept.{keep, ended_kept, unended_kept}
+use Rattle.pana_wire.specs.inner.Progress.{Answered, Progress, both}
 use Rattle.pana_wire.proofs.Lines.{ended_append, unended_append, says_cut, text_cut}
+
+-- no more calls than lines, and no more lines than this
+abbrev pub IsFew : Served → ℕ → Type 0
+IsFew served most = (served.calls ≤ served.lines) × (served.lines ≤ most)
 
 pub few_both : (a b sum : Served) (m n : ℕ) → sum ≡ both a b → IsFew a m → IsFew b n → IsFew sum (m + n)
 few_both a b sum m n total p q =
@@ -20,7 +28,57 @@ few_more a same m n e h p =
     let lines : a.lines ≤ n = omega arith in
     subst (λ s. IsFew s n) (sym e) (p.0, lines)
 
+pub few_lines : (a : Served) (m n : ℕ) → IsFew a m → m ≤ n → a.lines ≤ n
+few_lines a m n p h = let few : a.lines ≤ m = p.1 in omega arith
+
+pub few_calls : (a : Served) (m n : ℕ) → IsFew a m → m ≤ n → a.calls ≤ n
+few_calls a m n p h =
+    let few : a.lines ≤ m = p.1 in
+    let calls : a.calls ≤ a.lines = p.0 in
+    omega arith
+
+-- each byte ends one line at most
+ended_few : (held text : List ℕ) → length (ended_kept held text) ≤ length text
+ended_few held [] = omega arith
+ended_few held (b ∷ bs) =
+    elim (b == 10) as (λ t. length (cond t (held ∷ ended_kept [] bs) (ended_kept (keep held b) bs)) ≤ suc (length bs)) [
+      | true ↦ let rest : length (ended_kept [] bs) ≤ length bs = ended_few [] bs in omega arith
+      | false ↦ let rest : length (ended_kept (keep held b) bs) ≤ length bs = ended_few (keep held b) bs in omega arith
+    ]
+
+pub last_few : (held : List ℕ) → length (last_line held) ≤ 1
+last_few [] = omega arith
+last_few (b ∷ bs) = omega arith
+
 module _ {S : Type 0} (step : S → List ℕ → Call → Reply → S → Type 0) where
+  -- a line takes one step at most
+  line_few : (old : S) (line text : List ℕ) (new : S) (steps : ℕ) → AnswersLine step old line text new steps → steps ≤ 1
+  line_few old line text new steps a = elim a [
+    | inl said ↦ said_few old (line_says line) text new steps said
+    | inr memory ↦ let none : steps ≡ 0 = memory.2 in omega arith
+  ]
+    where
+      said_few : (old : S) (said : Result Message WireFault) (text : List ℕ) (new : S) (steps : ℕ) → AnswersSaid step old said text new steps → steps ≤ 1
+      said_few old (Err fault) text new steps a = let none : steps ≡ 0 = a.2 in omega arith
+      said_few old (Ok m) text new steps a = let one : steps ≡ 1 = a.3 in omega arith
+
+  calls_few : (old : S) (ls : List (List ℕ)) (output : List ℕ) (new : S) (steps : ℕ) → AnswersLines step old ls output new steps → steps ≤ length ls
+  calls_few old [] output new steps a = let none : steps ≡ 0 = a.2 in omega arith
+  calls_few old (l ∷ ls) output new steps a =
+      let (at, text, rest, first, others, line, lines, whole, count) = a in
+      let one : first ≤ 1 = line_few old l text at first line in
+      let more : others ≤ length ls = calls_few at ls rest new others lines in
+      omega arith
+
+  pub answered_few : (old : S) (ls : List (List ℕ)) (output : List ℕ) (new : S) (served : Served) (most : ℕ) → length ls ≤ most → Answered step old ls output new served → IsFew served most
+  answered_few old ls output new served most few a =
+      let calls : served.calls ≤ length ls = calls_few old ls output new served.calls a.answers in
+      let lines : served.lines ≡ length ls = a.count in
+      ((omega arith), (omega arith))
+
+  pub progress_few : (old : S) (held text output : List ℕ) (new : S) (left : List ℕ) (served : Served) → Progress step old held text output new left served → IsFew served (length text)
+  progress_few old held text output new left served p = answered_few old (ended_kept held text) output new served (length text) (ended_few held text) p.answered
+
   pub one_line : (old : S) (line text : List ℕ) (new : S) (served : Served) → served.lines ≡ 1 → AnswersLine step old line text new served.calls
       → Answered step old (line ∷ []) (text ++ 10 ∷ []) new served
   one_line old line text new served one a = record {

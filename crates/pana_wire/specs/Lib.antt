@@ -7,5 +7,6 @@ pub mod Reply
 pub mod Lines
 pub mod Tap
 pub mod Session
-pub mod Kept
-pub mod Progress
+pub mod Laws
+pub mod Shown
+pub mod inner

@@ -3,13 +3,13 @@ use Rattle.std.specs.Prelude.{ℕ, ◌==◌, List, [], ◌∷◌, ◌++◌, if�
 
 -- the lines that end in the text, where the first has begun already
 abbrev pub ended : List ℕ → List ℕ → List (List ℕ)
-ended front [] = []
-ended front (b ∷ bs) = if b == 10 then front ∷ ended [] bs else ended (front ++ b ∷ []) bs
+ended begun [] = []
+ended begun (b ∷ bs) = if b == 10 then begun ∷ ended [] bs else ended (begun ++ b ∷ []) bs
 
 -- what comes after the last newline, where the first line has begun already
 abbrev pub unended : List ℕ → List ℕ → List ℕ
-unended front [] = front
-unended front (b ∷ bs) = if b == 10 then unended [] bs else unended (front ++ b ∷ []) bs
+unended begun [] = begun
+unended begun (b ∷ bs) = if b == 10 then unended [] bs else unended (begun ++ b ∷ []) bs
 
 -- what comes after the last newline is a line where there is a byte
 abbrev pub last_line : List ℕ → List (List ℕ)

@@ -1,16 +1,20 @@
 -- What a session writes for what it reads.
-use Rattle.std.specs.Prelude.{◌≡◌, ℕ, ◌+◌, List, [], ◌∷◌, ◌++◌, Result, Ok, Err, ◌⊎◌, Bool, true}
+use Rattle.std.specs.Prelude.{◌≡◌, ℕ, ◌+◌, List, [], ◌∷◌, ◌++◌, length, Option, Result, Ok, Err, ◌⊎◌, Bool, true, false}
+use Rattle.std.specs.Io.KnownBytes.{Consumes, Appends, IsAtEnd}
 use Rattle.pana_hall.specs.declared.call.Call.{Call}
 use Rattle.pana_hall.specs.declared.reply.Reply.{Reply}
 use Rattle.pana_wire.specs.declared.fault.WireFault.{WireFault}
 use Rattle.pana_wire.specs.declared.fault.WireFault.TheVariants as faults
 use Rattle.pana_wire.specs.declared.message.Message.{Message}
+use Rattle.pana_wire.specs.declared.tap.Tap.{Tap}
+use Rattle.pana_wire.specs.declared.serving.Served.{Served}
 use Rattle.pana_wire.specs.declared.serving.ServeFault.{ServeFault}
 use Rattle.pana_wire.specs.declared.serving.ServeFault.TheVariants.{Read, Write, OutOfMemory, Spent, Turns}
 use Rattle.pana_wire.specs.Fault.{fault_text}
 use Rattle.pana_wire.specs.Line.{line_says, IsText}
 use Rattle.pana_wire.specs.Lines.{ended, lines_of}
 use Rattle.pana_wire.specs.Reply.{reply_text}
+use Rattle.pana_wire.specs.Tap.{inside, has_failed, has_ended, MadeReads}
 
 -- the answer to what a line says: for a fault its text, and no step; for a message one step, and the text of its reply
 abbrev pub AnswersSaid : {S : Type 0} → (S → List ℕ → Call → Reply → S → Type 0) → S → Result Message WireFault → List ℕ → S → ℕ → Type 0
@@ -31,7 +35,7 @@ AnswersLines {S = S} step old (line ∷ lines) output new steps = (mid : S) × (
 abbrev pub SessionText : {S : Type 0} → (S → List ℕ → Call → Reply → S → Type 0) → S → List ℕ → List ℕ → S → ℕ → Type 0
 SessionText step old input output new steps = AnswersLines step old (lines_of input) output new steps
 
--- where serving breaks off at a line. A write failed: a front of the answer is written. Memory ran out: the call was
+-- where serving breaks off at a line. A write failed: a prefix of the answer is written. Memory ran out: the call was
 -- made, and nothing of its answer is written. The session was spent: no call was made, and nothing is written.
 abbrev pub BreaksAt : {S : Type 0} → (S → List ℕ → Call → Reply → S → Type 0) → (S → S → Type 0) → ServeFault → S → List ℕ → List ℕ → S → Type 0
 BreaksAt step spends Read old line output new = ⊥
@@ -46,19 +50,56 @@ BreaksIn step spends fault old [] output new = ⊥
 BreaksIn {S = S} step spends fault old (line ∷ lines) output new = BreaksAt step spends fault old line output new
     ⊎ ((mid : S) × (text : List ℕ) × (rest : List ℕ) × (steps : ℕ) × AnswersLine step old line text mid steps × BreaksIn step spends fault mid lines rest new × (output ≡ text ++ 10 ∷ rest))
 
--- what is written where serving ends with a fault. No more could be read: the answers to all lines that have ended.
--- Else serving breaks off at a line.
-abbrev pub EndsBy : {S : Type 0} → (S → List ℕ → Call → Reply → S → Type 0) → (S → S → Type 0) → ServeFault → S → List ℕ → List ℕ → S → Type 0
-EndsBy step spends Read old input output new = (steps : ℕ) × AnswersLines step old (ended [] input) output new steps
-EndsBy step spends Turns old input output new = (steps : ℕ) × AnswersLines step old (ended [] input) output new steps
-EndsBy step spends Write old input output new = BreaksIn step spends Write old (lines_of input) output new
-EndsBy step spends OutOfMemory old input output new = BreaksIn step spends OutOfMemory old (lines_of input) output new
-EndsBy step spends Spent old input output new = BreaksIn step spends Spent old (lines_of input) output new
+-- the lines that have come: those that have ended, and once the end of the input was met, also the last one
+abbrev pub lines_come : Bool → List ℕ → List (List ℕ)
+lines_come true input = lines_of input
+lines_come false input = ended [] input
 
--- the fault of a writer that has failed; for serving that reads nothing itself
-abbrev pub IsOutFault : Bool → ServeFault → Type 0
-IsOutFault failed Read = ⊥
-IsOutFault failed Write = failed ≡ true
-IsOutFault failed OutOfMemory = Unit {0}
-IsOutFault failed Spent = Unit {0}
-IsOutFault failed Turns = ⊥
+-- what is written where serving stops, by whether the end of the input was met. No more could be read: the answers to
+-- all lines that have ended. Else serving breaks off at a line that has come.
+abbrev pub EndsBy : {S : Type 0} → (S → List ℕ → Call → Reply → S → Type 0) → (S → S → Type 0) → ServeFault → Bool → S → List ℕ → List ℕ → S → Type 0
+EndsBy step spends Read met old input output new = (steps : ℕ) × AnswersLines step old (ended [] input) output new steps
+EndsBy step spends Write met old input output new = BreaksIn step spends Write old (lines_come met input) output new
+EndsBy step spends OutOfMemory met old input output new = BreaksIn step spends OutOfMemory old (lines_come met input) output new
+EndsBy step spends Spent met old input output new = BreaksIn step spends Spent old (lines_come met input) output new
+EndsBy step spends Turns met old input output new = (steps : ℕ) × AnswersLines step old (ended [] input) output new steps
+
+-- why serving stops: a read or a write failed, as the fault says, or neither did; and where more was to be read, no
+-- read met the end
+abbrev pub HasCause : {R : Type 0} → ServeFault → ℕ → Tap R → Tap R → Bool → Type 0
+HasCause Read most old new write_failed = (has_failed new ≡ true) × (write_failed ≡ false) × (has_ended new ≡ has_ended old)
+HasCause Write most old new write_failed = (has_failed new ≡ false) × (write_failed ≡ true)
+HasCause OutOfMemory most old new write_failed = (has_failed new ≡ false) × (write_failed ≡ false)
+HasCause Spent most old new write_failed = (has_failed new ≡ false) × (write_failed ≡ false)
+HasCause Turns most old new write_failed = (has_failed new ≡ false) × (write_failed ≡ false) × (has_ended new ≡ has_ended old) × MadeReads most old new
+
+-- the reader is read to its end, and the session's text is written, and nothing else
+pub record Serves {R W S : Type 0} (remaining : R → Option (List ℕ)) (contents : W → Option (List ℕ)) (step : S → List ℕ → Call → Reply → S → Type 0)
+    (reader_old reader_new : Tap R) (writer_old writer_new : Tap W) (old new : S) (served : Served) : Type 0 where
+  pub input : List ℕ
+  pub output : List ℕ
+  pub reads : Consumes (remaining (inside reader_old)) (remaining (inside reader_new)) input
+  pub at_end : IsAtEnd (remaining (inside reader_new))
+  pub ended : has_ended reader_new ≡ true
+  pub writes : Appends (contents (inside writer_old)) (contents (inside writer_new)) output
+  pub text : SessionText step old input output new served.calls
+  pub lines : served.lines ≡ length (lines_of input)
+  pub reader_works : has_failed reader_new ≡ false
+  pub writer_works : has_failed writer_new ≡ false
+
+-- serving stops with the fault, where it may make so many reads
+pub record Stops {R W S : Type 0} (remaining : R → Option (List ℕ)) (contents : W → Option (List ℕ)) (step : S → List ℕ → Call → Reply → S → Type 0) (spends : S → S → Type 0)
+    (most : ℕ) (reader_old reader_new : Tap R) (writer_old writer_new : Tap W) (old new : S) (fault : ServeFault) : Type 0 where
+  pub input : List ℕ
+  pub output : List ℕ
+  pub reads : Consumes (remaining (inside reader_old)) (remaining (inside reader_new)) input
+  pub writes : Appends (contents (inside writer_old)) (contents (inside writer_new)) output
+  pub ends : EndsBy step spends fault (has_ended reader_new) old input output new
+  pub cause : HasCause fault most reader_old reader_new (has_failed writer_new)
+
+-- memory for serving itself was refused, before the first read, and nothing has happened
+pub record NeverBegins {R W S : Type 0} (reader_old reader_new : Tap R) (writer_old writer_new : Tap W) (old new : S) (fault : ServeFault) : Type 0 where
+  pub memory : fault ≡ OutOfMemory
+  pub reader : reader_new ≡ reader_old
+  pub writer : writer_new ≡ writer_old
+  pub session : new ≡ old

@@ -3,6 +3,7 @@
 
 mod fault;
 mod field;
+mod laws;
 mod line_buffer;
 mod message;
 mod reading;
@@ -16,6 +17,7 @@ mod writing;
 
 pub use crate::fault::WireFault;
 pub use crate::field::Field;
+pub use crate::laws::every_session_is_a_run;
 pub use crate::message::Message;
 pub use crate::reading::decode;
 pub use crate::serving::{ServeFault, Served, serve};

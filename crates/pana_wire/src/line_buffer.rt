@@ -1,5 +1,5 @@
 ghost use Rattle.std.specs.Prelude.{◌≡◌, ◌==◌, [], IfOk, length};
-ghost use Rattle.pana_wire.specs.Kept.{keep};
+ghost use Rattle.pana_wire.specs.inner.Kept.{keep};
 
 use std::alloc::{AllocError, Global};
 use std::marker::Model;

@@ -1,11 +1,13 @@
-ghost use Rattle.std.specs.Prelude.{◌≡◌, ℕ, ◌+◌, ◌^◌, ◌<◌, ◌≤◌, ◌⊎◌, [], ◌∷◌, ◌++◌, true, false, List, length, IfOk, IfErr, OnOk, IsErrOf};
-ghost use Rattle.std.specs.Io.KnownBytes.{Consumes, Appends, IsAtEnd};
-ghost use Rattle.pana_wire.specs.Tap.{inside, has_failed, MadeReads, AppendsFront};
-ghost use Rattle.pana_wire.specs.Lines.{lines_of, last_line};
-ghost use Rattle.pana_wire.specs.Kept.{ended_kept};
-ghost use Rattle.pana_wire.specs.Session.{SessionText, BreaksAt, BreaksIn, EndsBy, IsOutFault};
-ghost use Rattle.pana_wire.specs.Progress.{Answered, Progress, IsFew, both};
+ghost use Rattle.std.specs.Prelude.{◌≡◌, ◌+◌, ◌^◌, ◌<◌, ◌≤◌, ◌⊎◌, [], ◌∷◌, ◌++◌, false, IfOk, IfErr, OnOk};
+ghost use Rattle.pana_wire.specs.Tap.{has_failed, MadeAtMost};
+ghost use Rattle.pana_wire.specs.Fault.{fault_text};
+ghost use Rattle.pana_wire.specs.Lines.{last_line};
+ghost use Rattle.pana_wire.specs.Session.{Serves, Stops, NeverBegins};
+ghost use Rattle.pana_wire.specs.inner.Kept.{ended_kept};
+ghost use Rattle.pana_wire.specs.inner.Progress.{Answers, Breaks, Takes, both};
+ghost use Rattle.pana_wire.specs.inner.Writing.{Writes, WritesPrefix};
 
+use crate::fault::WireFault;
 use crate::line_buffer::LineBuffer;
 use crate::message::Message;
 use crate::reading::decode;
@@ -13,8 +15,9 @@ use crate::session::Session;
 use crate::tap::Tap;
 use crate::writing::encode;
 use std::alloc::Global;
+use std::error::Error;
+use std::fmt;
 use std::io::{Read, Write};
-use thiserror::Error;
 
 /// How many bytes are read at a time.
 const PIECE: usize = 4096;
@@ -27,24 +30,38 @@ pub struct Served {
 }
 
 /// Why a session ended before its input did.
-#[derive(Clone, Copy, Debug, PartialEq, Eq, Error)]
+#[derive(Clone, Copy, Debug, PartialEq, Eq)]
 pub enum ServeFault {
     /// A read failed.
-    #[error("read failed")]
     Read,
-    /// A write failed, or took no byte.
-    #[error("write failed")]
+    /// A write failed, or took none of some bytes.
     Write,
-    /// No memory was there for the line buffer, or for the answer to a call that was made.
-    #[error("out of memory")]
+    /// An allocation failed: of the line buffer, or of the answer to a call that was made.
     OutOfMemory,
     /// The session has no call left.
-    #[error("no call is left")]
     Spent,
     /// All the reads that were allowed were made, and the input didn't end.
-    #[error("too many reads")]
     Turns,
 }
+
+impl fmt::Display for ServeFault {
+    ghost use Rattle.std.specs.Prelude.{Some};
+    ghost use Rattle.pana_wire.specs.Shown.{shown_stop};
+
+    ghost output = { λ fault. Some (shown_stop fault) };
+
+    fn fmt<W: fmt::Write>(&self, f: &mut fmt::Formatter<W>) -> fmt::Result {
+        f.write_str(match self {
+            ServeFault::Read => "read failed",
+            ServeFault::Write => "write failed",
+            ServeFault::OutOfMemory => "out of memory",
+            ServeFault::Spent => "no call is left",
+            ServeFault::Turns => "too many reads",
+        })
+    }
+}
+
+impl Error for ServeFault {}
 
 impl Served {
     /// No line yet.
@@ -65,13 +82,18 @@ impl Served {
 /// Answers each line of the reader by a line to the writer, until the reader's end.
 ///
 /// A line with a fault is answered with its fault, and makes no call. Every other line makes one call, and is
-/// answered with its reply; where memory is wanted before the call, the line's fault is `OutOfMemory`. All lines
+/// answered with its reply; where memory runs out before the call, the line's fault is `OutOfMemory`. All lines
 /// that have come are answered before the next read, and each answer is flushed.
 ///
-/// The refusals: `OutOfMemory` where the line buffer is refused, before the first read, or where the answer to a
-/// call that was made can't be written for want of memory; `Read` where a read failed; `Write` where a write failed
-/// or took no byte; `Spent` where the session answered so; `Turns` after this many reads without the end. After a
-/// refusal what was written is a front of the answers to the lines that came.
+/// # Errors
+///
+/// `OutOfMemory` where the line buffer can't be allocated, before the first read, or where the answer to a call that
+/// was made can't; `Read` where a read failed; `Write` where a write failed or took none of some bytes; `Spent` where
+/// the session returned so; `Turns` after this many reads without the end. What was written is then a prefix of the
+/// answers to the lines that came.
+///
+/// A tap that had ended before may be lent too: it is read again, and of `Read` and `Turns` it isn't known then
+/// whether the end was met anew.
 ///
 /// It takes 65,537 bytes for a line at the start, and for each line no more than `decode`, the call and `encode` do,
 /// which is given back before the next line. O(n) in the bytes that are read, besides these.
@@ -85,27 +107,13 @@ pub fn serve<R: Read, W: Write, S: Session>(
     requires reader { has_failed reader.old ≡ false }
     requires writer { has_failed writer.old ≡ false }
     requires reads { reads ≤ 2 ^ 40 }
-
-    // All the input is read, and its session text is written, and nothing else.
-    ensures ok { IfOk result (λ served. (input : List ℕ) × (output : List ℕ)
-        × Consumes (R.remaining (inside reader.old)) (R.remaining (inside reader.new)) input
-        × IsAtEnd (R.remaining (inside reader.new))
-        × Appends (W.contents (inside writer.old)) (W.contents (inside writer.new)) output
-        × SessionText S.step session.old input output session.new served.calls
-        × (served.lines ≡ length (lines_of input))) }
-    ensures works { OnOk result ((has_failed reader.new ≡ false) × (has_failed writer.new ≡ false)) }
-
-    // Either nothing has happened, for want of a line buffer, or what is written is what the fault says.
+    ensures ok { IfOk result (Serves R.remaining W.contents S.step
+        reader.old reader.new writer.old writer.new session.old session.new) }
     ensures fault { IfErr result (λ fault.
-        ((fault ≡ ServeFault.OutOfMemory) × (reader.new ≡ reader.old) × (writer.new ≡ writer.old) × (session.new ≡ session.old))
-        ⊎ ((input : List ℕ) × (output : List ℕ)
-        × Consumes (R.remaining (inside reader.old)) (R.remaining (inside reader.new)) input
-        × Appends (W.contents (inside writer.old)) (W.contents (inside writer.new)) output
-        × EndsBy S.step S.spends fault session.old input output session.new)) }
-    ensures read { IfErr result (λ fault. fault ≡ ServeFault.Read → has_failed reader.new ≡ true) }
-    ensures write { IfErr result (λ fault. fault ≡ ServeFault.Write → has_failed writer.new ≡ true) }
-    ensures turns { IfErr result (λ fault. fault ≡ ServeFault.Turns → MadeReads reads reader.old reader.new) }
-    ensures at_most { (made : ℕ) × (made ≤ reads) × MadeReads made reader.old reader.new }
+        NeverBegins reader.old reader.new writer.old writer.new session.old session.new fault
+        ⊎ Stops R.remaining W.contents S.step S.spends reads
+        reader.old reader.new writer.old writer.new session.old session.new fault) }
+    ensures reads { MadeAtMost reads reader.old reader.new }
 {
     match LineBuffer::new(alloc) {
         Ok(mut held) => serve_lines(alloc, reader, writer, session, &mut held, reads),
@@ -125,21 +133,11 @@ fn serve_lines<R: Read, W: Write, S: Session>(
     requires writer { has_failed writer.old ≡ false }
     requires held { held.old ≡ [] }
     requires reads { reads ≤ 2 ^ 40 }
-    ensures ok { IfOk result (λ served. (input : List ℕ) × (output : List ℕ)
-        × Consumes (R.remaining (inside reader.old)) (R.remaining (inside reader.new)) input
-        × IsAtEnd (R.remaining (inside reader.new))
-        × Appends (W.contents (inside writer.old)) (W.contents (inside writer.new)) output
-        × SessionText S.step session.old input output session.new served.calls
-        × (served.lines ≡ length (lines_of input))) }
-    ensures works { OnOk result ((has_failed reader.new ≡ false) × (has_failed writer.new ≡ false)) }
-    ensures fault { IfErr result (λ fault. (input : List ℕ) × (output : List ℕ)
-        × Consumes (R.remaining (inside reader.old)) (R.remaining (inside reader.new)) input
-        × Appends (W.contents (inside writer.old)) (W.contents (inside writer.new)) output
-        × EndsBy S.step S.spends fault session.old input output session.new) }
-    ensures read { IfErr result (λ fault. fault ≡ ServeFault.Read → has_failed reader.new ≡ true) }
-    ensures write { IfErr result (λ fault. fault ≡ ServeFault.Write → has_failed writer.new ≡ true) }
-    ensures turns { IfErr result (λ fault. fault ≡ ServeFault.Turns → MadeReads reads reader.old reader.new) }
-    ensures at_most { (made : ℕ) × (made ≤ reads) × MadeReads made reader.old reader.new }
+    ensures ok { IfOk result (Serves R.remaining W.contents S.step
+        reader.old reader.new writer.old writer.new session.old session.new) }
+    ensures fault { IfErr result (Stops R.remaining W.contents S.step S.spends reads
+        reader.old reader.new writer.old writer.new session.old session.new) }
+    ensures reads { MadeAtMost reads reader.old reader.new }
 {
     let mut piece = [0u8; PIECE];
     let mut served = Served::NOTHING;
@@ -167,15 +165,10 @@ fn take_piece<W: Write, S: Session>(
     piece: &[u8],
 ) -> Result<Served, ServeFault>
     requires { has_failed writer.old ≡ false }
-    ensures ok { IfOk result (λ served. (output : List ℕ)
-        × Appends (W.contents (inside writer.old)) (W.contents (inside writer.new)) output
-        × Progress S.step session.old held.old piece.now output session.new held.new served) }
-    ensures few { IfOk result (λ served. IsFew served (length piece.now)) }
-    ensures works { OnOk result (has_failed writer.new ≡ false) }
-    ensures breaks { IfErr result (λ fault. (output : List ℕ)
-        × Appends (W.contents (inside writer.old)) (W.contents (inside writer.new)) output
-        × BreaksIn S.step S.spends fault session.old (ended_kept held.old piece.now) output session.new) }
-    ensures fault { IfErr result (IsOutFault (has_failed writer.new)) }
+    ensures ok { IfOk result (Takes W.contents S.step
+        writer.old writer.new session.old held.old piece.now session.new held.new) }
+    ensures fault { IfErr result (Breaks W.contents S.step S.spends
+        writer.old writer.new session.old (ended_kept held.old piece.now) session.new) }
 {
     let mut served = Served::NOTHING;
     for byte in piece {
@@ -197,15 +190,10 @@ fn finish<W: Write, S: Session>(
     held: &LineBuffer,
 ) -> Result<Served, ServeFault>
     requires { has_failed writer.old ≡ false }
-    ensures ok { IfOk result (λ served. (output : List ℕ)
-        × Appends (W.contents (inside writer.old)) (W.contents (inside writer.new)) output
-        × Answered S.step session.old (last_line held.now) output session.new served) }
-    ensures few { IfOk result (λ served. IsFew served 1) }
-    ensures works { OnOk result (has_failed writer.new ≡ false) }
-    ensures breaks { IfErr result (λ fault. (output : List ℕ)
-        × Appends (W.contents (inside writer.old)) (W.contents (inside writer.new)) output
-        × BreaksIn S.step S.spends fault session.old (last_line held.now) output session.new) }
-    ensures fault { IfErr result (IsOutFault (has_failed writer.new)) }
+    ensures ok { IfOk result (Answers W.contents S.step
+        writer.old writer.new session.old (last_line held.now) session.new) }
+    ensures fault { IfErr result (Breaks W.contents S.step S.spends
+        writer.old writer.new session.old (last_line held.now) session.new) }
 {
     if held.is_empty() {
         return Ok(Served::NOTHING);
@@ -220,20 +208,15 @@ fn answer<W: Write, S: Session>(
     line: &[u8],
 ) -> Result<Served, ServeFault>
     requires { has_failed writer.old ≡ false }
-    ensures ok { IfOk result (λ served. (output : List ℕ)
-        × Appends (W.contents (inside writer.old)) (W.contents (inside writer.new)) output
-        × Answered S.step session.old (line.now ∷ []) output session.new served) }
-    ensures few { IfOk result (λ served. IsFew served 1) }
-    ensures works { OnOk result (has_failed writer.new ≡ false) }
-    ensures breaks { IfErr result (λ fault. (output : List ℕ)
-        × Appends (W.contents (inside writer.old)) (W.contents (inside writer.new)) output
-        × BreaksAt S.step S.spends fault session.old line.now output session.new) }
-    ensures fault { IfErr result (IsOutFault (has_failed writer.new)) }
+    ensures ok { IfOk result (Answers W.contents S.step
+        writer.old writer.new session.old (line.now ∷ []) session.new) }
+    ensures fault { IfErr result (Breaks W.contents S.step S.spends
+        writer.old writer.new session.old (line.now ∷ []) session.new) }
 {
     let Message { by, call } = match decode(alloc, line) {
         Ok(message) => message,
         Err(fault) => {
-            write_line(writer, fault.text())?;
+            write_fault(writer, fault)?;
             return Ok(Served { lines: 1, calls: 0 });
         }
     };
@@ -247,12 +230,26 @@ fn answer<W: Write, S: Session>(
     Ok(Served { lines: 1, calls: 1 })
 }
 
+/// Writes the line that answers a line with this fault, and flushes it. Takes no memory.
+fn write_fault<W: Write>(writer: &mut Tap<W>, fault: WireFault) -> Result<(), ServeFault>
+    requires { has_failed writer.old ≡ false }
+    ensures ok { OnOk result (Writes W.contents writer.old writer.new (fault_text fault ++ 10 ∷ [])) }
+    ensures err { IfErr result (WritesPrefix W.contents writer.old writer.new (fault_text fault ++ 10 ∷ [])) }
+{
+    write_whole(writer, b"{\"fault\":\"")?;
+    write_whole(writer, fault.name().as_bytes())?;
+    if let WireFault::BadField(field) = fault {
+        write_whole(writer, b"\",\"field\":\"")?;
+        write_whole(writer, field.name().as_bytes())?;
+    }
+    write_line(writer, "\"}")
+}
+
+/// Writes the text and a newline, and flushes them.
 fn write_line<W: Write>(writer: &mut Tap<W>, text: &str) -> Result<(), ServeFault>
     requires { has_failed writer.old ≡ false }
-    ensures ok { OnOk result (Appends (W.contents (inside writer.old)) (W.contents (inside writer.new)) (text.now ++ 10 ∷ [])) }
-    ensures works { OnOk result (has_failed writer.new ≡ false) }
-    ensures err { IfErr result (λ fault. (fault ≡ ServeFault.Write) × (has_failed writer.new ≡ true)
-        × AppendsFront (W.contents (inside writer.old)) (W.contents (inside writer.new)) (text.now ++ 10 ∷ [])) }
+    ensures ok { OnOk result (Writes W.contents writer.old writer.new (text.now ++ 10 ∷ [])) }
+    ensures err { IfErr result (WritesPrefix W.contents writer.old writer.new (text.now ++ 10 ∷ [])) }
 {
     write_whole(writer, text.as_bytes())?;
     write_whole(writer, b"\n")?;
@@ -264,10 +261,8 @@ fn write_line<W: Write>(writer: &mut Tap<W>, text: &str) -> Result<(), ServeFaul
 
 fn write_whole<W: Write>(writer: &mut Tap<W>, bytes: &[u8]) -> Result<(), ServeFault>
     requires { has_failed writer.old ≡ false }
-    ensures ok { OnOk result (Appends (W.contents (inside writer.old)) (W.contents (inside writer.new)) bytes.now) }
-    ensures works { OnOk result (has_failed writer.new ≡ false) }
-    ensures err { IfErr result (λ fault. (fault ≡ ServeFault.Write) × (has_failed writer.new ≡ true)
-        × AppendsFront (W.contents (inside writer.old)) (W.contents (inside writer.new)) bytes.now) }
+    ensures ok { OnOk result (Writes W.contents writer.old writer.new bytes.now) }
+    ensures err { IfErr result (WritesPrefix W.contents writer.old writer.new bytes.now) }
 {
     let mut rest = bytes;
     while !rest.is_empty() {

@@ -1,70 +1,84 @@
-ghost use Rattle.std.specs.Prelude.{◌≡◌, ◌||◌, false, is_err};
+ghost use Rattle.std.specs.Prelude.{◌≡◌, ◌||◌, is_err};
 ghost use Rattle.std.specs.Io.{ReadsAtMost, WritesAtMost};
 ghost use Rattle.std.specs.Io.KnownBytes.{ReadConsumes, WriteAppends, Keeps};
 
 use std::io;
 use std::io::{Read, Write};
 
-/// A reader or a writer, and whether a call on it has failed.
+/// A reader or a writer, whether a call on it has failed, and whether it has ended.
 ///
 /// It counts its reads, which no program asks for: by that count a contract says how often it was read.
 #[derive(Drop)]
 pub struct Tap<T> {
     inner: T,
     failed: bool,
+    ended: bool,
     reads: u64,
 }
 
 impl<T> Tap<T> {
-    ghost use Rattle.pana_wire.specs.Tap.{inside, has_failed};
+    ghost use Rattle.pana_wire.specs.Tap.{inside, has_failed, has_ended, IsUnused};
 
-    /// A tap on this reader or writer. Takes no memory.
+    /// A tap that wraps this reader or writer. Takes no memory.
     pub fn new(inner: T) -> Tap<T>
         ensures inside { inside result ≡ inner }
-        ensures failed { has_failed result ≡ false }
+        ensures unused { IsUnused result }
     {
         Tap {
             inner,
             failed: false,
+            ended: false,
             reads: 0,
         }
     }
 
-    /// What the tap is on. Takes no memory.
+    /// What the tap wraps. Takes no memory.
     pub fn into_inner(self) -> T
         ensures { result ≡ inside self }
     {
         let Tap {
             inner,
             failed: _,
+            ended: _,
             reads: _,
         } = self;
         inner
     }
 
-    /// Whether a call through the tap has failed, or a write took no byte. Takes no memory.
+    /// Whether a call through the tap has failed, or a write took none of some bytes. Takes no memory.
     pub fn has_failed(&self) -> bool
         ensures { result ≡ has_failed self.now }
     {
         let Tap { failed, .. } = self;
         *failed
     }
+
+    /// Whether a read through the tap met the end: with room for a byte it gave none. Takes no memory.
+    pub fn has_ended(&self) -> bool
+        ensures { result ≡ has_ended self.now }
+    {
+        let Tap { ended, .. } = self;
+        *ended
+    }
 }
 
 impl<R: Read> Tap<R> {
-    ghost use Rattle.pana_wire.specs.Tap.{inside, has_failed, MadeReads};
+    ghost use Rattle.pana_wire.specs.Tap.{inside, has_failed, has_ended, read_none, MadeReads};
 
     /// Reads into the buffer, as the reader does.
     pub fn read(&mut self, buffer: &mut [u8]) -> io::Result<usize>
         ensures bound { ReadsAtMost result buffer.new }
         ensures bytes { ReadConsumes (R.remaining (inside self.old)) (R.remaining (inside self.new)) result buffer.new }
         ensures failed { has_failed self.new ≡ (has_failed self.old || is_err result) }
+        ensures ended { has_ended self.new ≡ (has_ended self.old || read_none result buffer.new) }
         ensures count { MadeReads 1 self.old self.new }
     {
         self.reads = self.reads.saturating_add(1);
         let result = self.inner.read(buffer);
-        if result.is_err() {
-            self.failed = true;
+        match &result {
+            Ok(0) if !buffer.is_empty() => self.ended = true,
+            Ok(_) => {}
+            Err(_) => self.failed = true,
         }
         result
     }
@@ -77,11 +91,13 @@ impl<W: Write> Tap<W> {
     pub fn write(&mut self, bytes: &[u8]) -> io::Result<usize>
         ensures bound { WritesAtMost result bytes.now }
         ensures bytes { WriteAppends (W.contents (inside self.old)) (W.contents (inside self.new)) result bytes.now }
-        ensures failed { has_failed self.new ≡ (has_failed self.old || write_failed result) }
+        ensures failed { has_failed self.new ≡ (has_failed self.old || write_failed result bytes.now) }
     {
         let result = self.inner.write(bytes);
-        if !matches!(&result, Ok(1..)) {
-            self.failed = true;
+        match &result {
+            Ok(0) if !bytes.is_empty() => self.failed = true,
+            Ok(_) => {}
+            Err(_) => self.failed = true,
         }
         result
     }

@@ -1,6 +1,6 @@
--- Where the line buffer is refused, no read was made.
+-- Where the line buffer can't be allocated, no read was made.
 use Rattle.std.proofs.Common.{arith}
 use Rattle.pana_wire.proofs.serving.serve.Goals as goal
 
-pub returns-in-Err-clause-at_most : goal.returns-in-Err-clause-at_most
-returns-in-Err-clause-at_most g c = (0, omega arith, omega arith)
+pub returns-in-Err-clause-reads : goal.returns-in-Err-clause-reads
+returns-in-Err-clause-reads g c = (0, omega arith, omega arith)

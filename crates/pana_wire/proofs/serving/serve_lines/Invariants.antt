@@ -1,8 +1,9 @@
--- All that was read is answered up to the last newline, and what came after it is held.
+-- All that was read is answered up to the last newline, what came after it is held, and no read met the end.
 use Rattle.std.proofs.Common.{◌≡◌, ℕ, ◌*◌, false, List, []}
 use Rattle.std.specs.Io.KnownBytes.{Consumes, Appends}
-use Rattle.pana_wire.specs.Tap.{inside, has_failed, MadeReads}
-use Rattle.pana_wire.specs.Progress.{Progress, IsFew}
+use Rattle.pana_wire.specs.Tap.{inside, has_failed, has_ended, MadeReads}
+use Rattle.pana_wire.specs.inner.Progress.{Progress}
+use Rattle.pana_wire.proofs.Steps.{IsFew}
 use Rattle.pana_wire.proofs.serving.serve_lines.Given as goal
 
 abbrev pub invariant-loop : goal.invariant-loop
@@ -14,5 +15,6 @@ invariant-loop g l = record {
   few : IsFew l.served (4096 * l.counter);
   reader : has_failed l.reader ≡ false;
   writer : has_failed l.writer ≡ false;
+  unended : has_ended l.reader ≡ has_ended l.fn.reader;
   made : MadeReads l.counter l.fn.reader l.reader;
 }

@@ -1,28 +1,37 @@
--- Where one of the writes fails, what was written is a front of the line.
+-- Where one of the writes fails, what was written is a prefix of the line.
 use Rattle.std.proofs.Common.{rules, [], ◌∷◌, ◌++◌, refl, subst}
 use Rattle.std.proofs.lemmas.Result.{err_from_is_err_and}
-use Rattle.std.specs.Io.KnownBytes.{Appends}
-use Rattle.std.proofs.KnownBytes.{Appends-trans, Appends-kept}
-use Rattle.pana_wire.specs.Tap.{inside, AppendsFront}
-use Rattle.pana_wire.proofs.Fronts.{front_first, front_then, front_all}
+use Rattle.std.proofs.KnownBytes.{Appends-kept}
+use Rattle.pana_wire.specs.inner.Writing.{Writes, WritesPrefix}
+use Rattle.pana_wire.proofs.Prefixes.{writes_both, breaks_first, breaks_second, whole_is_prefix}
 use Rattle.pana_wire.proofs.serving.write_line.Goals as goal
 
 pub returns-in_err-write_whole-clause-err : goal.returns-in_err-write_whole-clause-err
 returns-in_err-write_whole-clause-err g c =
-    let err = c.in_err-write_whole.ensures.err in
+    let contents = g.W.Write.contents in
+    let old = c.args.writer.now in
+    let new = c.write_whole.new.writer in
     let p = err_from_is_err_and c.from_residual.result c.from_residual.ensures.1 in
-    rw (p.1, p.2) (err.0, err.1, front_first _ _ c.args.text.now (10 ∷ []) (subst (λ l. AppendsFront (g.W.Write.contents (inside c.args.writer.now)) (g.W.Write.contents (inside c.write_whole.new.writer)) l) c.as_bytes.ensures.value err.2))
+    rw (p.1, p.2) (breaks_first contents old new c.args.text.now (10 ∷ []) _ (subst (λ l. WritesPrefix contents old new l c.in_err-write_whole.field-0.0) c.as_bytes.ensures.value c.in_err-write_whole.ensures.err))
 
 pub returns-in_err-write_whole-2-clause-err : goal.returns-in_err-write_whole-2-clause-err
 returns-in_err-write_whole-2-clause-err g c =
-    let err = c.in_err-write_whole-2.ensures.err in
+    let contents = g.W.Write.contents in
+    let old = c.args.writer.now in
+    let mid = c.write_whole.new.writer in
     let p = err_from_is_err_and c.from_residual-in_err-write_whole-2.result c.from_residual-in_err-write_whole-2.ensures.1 in
-    let text : Appends (g.W.Write.contents (inside c.args.writer.now)) (g.W.Write.contents (inside c.write_whole.new.writer)) c.args.text.now =
-    subst (λ l. Appends (g.W.Write.contents (inside c.args.writer.now)) (g.W.Write.contents (inside c.write_whole.new.writer)) l) c.as_bytes.ensures.value c.in_ok-write_whole.ensures.ok in
-    rw (p.1, p.2) (err.0, err.1, front_then _ _ _ c.args.text.now (10 ∷ []) text err.2)
+    let text : Writes contents old mid c.args.text.now = subst (λ l. Writes contents old mid l) c.as_bytes.ensures.value c.in_ok-write_whole.ensures.ok in
+    rw (p.1, p.2) (breaks_second contents old mid c.write_whole-2.new.writer c.args.text.now (10 ∷ []) _ text c.in_err-write_whole-2.ensures.err)
 
 pub returns-in-Err-clause-err : goal.returns-in-Err-clause-err
 returns-in-Err-clause-err g c =
-    let text : Appends (g.W.Write.contents (inside c.args.writer.now)) (g.W.Write.contents (inside c.write_whole.new.writer)) c.args.text.now =
-    subst (λ l. Appends (g.W.Write.contents (inside c.args.writer.now)) (g.W.Write.contents (inside c.write_whole.new.writer)) l) c.as_bytes.ensures.value c.in_ok-write_whole.ensures.ok in
-    (refl, search rules, front_all _ _ (c.args.text.now ++ 10 ∷ []) (Appends-kept _ _ _ _ (Appends-trans _ _ _ c.args.text.now (10 ∷ []) text c.in_ok-write_whole-2.ensures.ok) c.in-Err.ensures.bytes))
+    let contents = g.W.Write.contents in
+    let old = c.args.writer.now in
+    let mid = c.write_whole.new.writer in
+    let text : Writes contents old mid c.args.text.now = subst (λ l. Writes contents old mid l) c.as_bytes.ensures.value c.in_ok-write_whole.ensures.ok in
+    let both = writes_both contents old mid c.write_whole-2.new.writer c.args.text.now (10 ∷ []) text c.in_ok-write_whole-2.ensures.ok in
+    record {
+      is_write = refl;
+      failed = search rules;
+      written = whole_is_prefix _ _ (c.args.text.now ++ 10 ∷ []) (Appends-kept _ _ _ _ both.written c.in-Err.ensures.bytes);
+    }

@@ -1,0 +1,18 @@
+-- How a text is written through a tap.
+use Rattle.std.specs.Prelude.{◌≡◌, ℕ, List, Option, Bool, true, false}
+use Rattle.std.specs.Io.KnownBytes.{Appends}
+use Rattle.pana_wire.specs.declared.tap.Tap.{Tap}
+use Rattle.pana_wire.specs.declared.serving.ServeFault.{ServeFault}
+use Rattle.pana_wire.specs.declared.serving.ServeFault.TheVariants.{Write}
+use Rattle.pana_wire.specs.Tap.{inside, has_failed, AppendsPrefix}
+
+-- the whole text is written
+pub record Writes {W : Type 0} (contents : W → Option (List ℕ)) (old new : Tap W) (text : List ℕ) : Type 0 where
+  pub written : Appends (contents (inside old)) (contents (inside new)) text
+  pub works : has_failed new ≡ false
+
+-- a write failed, and a prefix of the text is written
+pub record WritesPrefix {W : Type 0} (contents : W → Option (List ℕ)) (old new : Tap W) (text : List ℕ) (fault : ServeFault) : Type 0 where
+  pub is_write : fault ≡ Write
+  pub failed : has_failed new ≡ true
+  pub written : AppendsPrefix (contents (inside old)) (contents (inside new)) text
