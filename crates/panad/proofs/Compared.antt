@@ -9,7 +9,7 @@ use Rattle.pana_text.specs.Form.{reading}
 use Rattle.pana_text.specs.Grammar.{Tells}
 use Rattle.pana_text.specs.Reading.{Fails}
 use Rattle.panad.specs.Compare.{AnswersTexts, SaysFault}
-use Rattle.panad.specs.declared.comparing.Answer.{Answer}
+use Rattle.panad.specs.declared.answer.Answer.{Answer}
 
 -- the fault is that of the text, or memory was refused for the stamp of the text
 abbrev Refuses : TextFault → List ℕ → Type 0

@@ -9,7 +9,7 @@ use Rattle.pana_text.specs.Fault.{fault_text}
 use Rattle.pana_text.specs.Form.{reading}
 use Rattle.pana_text.specs.declared.fault.TextFault.{TextFault}
 use Rattle.pana_text.specs.declared.fault.TextFault.TheVariants.{OutOfMemory}
-use Rattle.panad.specs.declared.comparing.Answer.{Answer}
+use Rattle.panad.specs.declared.answer.Answer.{Answer}
 
 -- the name of a relation
 abbrev pub rel_name : Rel → List ℕ

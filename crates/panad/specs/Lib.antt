@@ -1,2 +1,3 @@
 pub mod Never
+pub mod Fault
 pub mod Compare

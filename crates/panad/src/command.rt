@@ -1,8 +1,9 @@
-use crate::comparing::{Answer, compare_on};
+use crate::comparing::compare_on;
+use crate::fault::ProgramFault;
 use crate::running::run_on;
 use clap::error::{Error, ErrorKind};
 use clap::{Arg, ArgMatches, Command};
-use pana_wire::{ServeFault, Tap};
+use pana_wire::Tap;
 use std::alloc::{AllocError, Global};
 use std::io;
 use std::io::BufWriter;
@@ -27,13 +28,18 @@ A stamp is an id and an event of an Interval Tree Clock. Example:
     $ panad compare '((1,0),(0,1,0))' '((0,1),0)'
     Newer";
 
+/// The names of the commands.
+const RUN: &str = "run";
+
+const COMPARE: &str = "compare";
+
 /// The names of the two stamps on the command line.
 const FIRST: &str = "FIRST";
 
 const SECOND: &str = "SECOND";
 
 fn run_command<'a>(alloc: Global) -> Command<'a> {
-    Command::new(alloc, "run")
+    Command::new(alloc, RUN)
         .about(
             "Answers reports and questions, one line of JSON each, from standard input to standard output",
         )
@@ -47,7 +53,7 @@ fn compare_command<'a>(alloc: Global) -> Result<Command<'a>, AllocError> {
     let second = Arg::new(alloc, SECOND)
         .help("The text of the stamp that it is compared with")
         .required(true);
-    Command::new(alloc, "compare")
+    Command::new(alloc, COMPARE)
         .about("Tells how the first stamp stands to the second: Equal, Older, Newer or Conflict")
         .after_help(COMPARE_EXAMPLE)
         .arg(first)?
@@ -67,88 +73,76 @@ fn command_line<'a>(alloc: Global) -> Result<Command<'a>, AllocError> {
         .subcommand(compare_command(alloc)?)
 }
 
-fn run(rt: &HostRuntime) -> Result<ExitCode, ServeFault> {
+fn run(rt: &HostRuntime) -> Result<ExitCode, ProgramFault> {
     let alloc = rt.alloc();
-    let output = BufWriter::new(alloc, io::writer(rt)).map_err(|_| ServeFault::OutOfMemory)?;
+    let output = BufWriter::new(alloc, io::writer(rt)).map_err(|_| ProgramFault::OutOfMemory)?;
     let mut reader = Tap::new(rt.reader());
     let mut writer = Tap::new(output);
-    run_on(alloc, &mut reader, &mut writer, READS)?;
-    Ok(ExitCode::SUCCESS)
+    match run_on(alloc, &mut reader, &mut writer, READS) {
+        Ok(_) => Ok(ExitCode::SUCCESS),
+        Err(fault) => Err(ProgramFault::of_serving(fault)),
+    }
 }
 
-/// Tells what a command has to say.
-fn tell(rt: &HostRuntime, answer: &Answer) -> Result<ExitCode, ServeFault> {
-    print!(rt; "{}", answer.out).map_err(|_| ServeFault::Write)?;
-    let _ = eprint!(rt; "{}", answer.err);
-    Ok(ExitCode::from(answer.status))
-}
-
-fn compare(rt: &HostRuntime, words: &ArgMatches) -> Result<ExitCode, ServeFault> {
+fn compare(rt: &HostRuntime, words: &ArgMatches) -> Result<ExitCode, ProgramFault> {
     // Both words are required, so they are there.
     let first = words.get_str(FIRST).unwrap_or("");
     let second = words.get_str(SECOND).unwrap_or("");
-    let answer = compare_on(rt.alloc(), first, second).map_err(|_| ServeFault::OutOfMemory)?;
-    tell(rt, &answer)
+    compare_on(rt.alloc(), first, second)?.print(rt)
 }
 
-/// Prints help, or what is wrong with the words, and tells the status for it.
-fn explain(rt: &HostRuntime, error: &Error) -> Result<ExitCode, ServeFault> {
+/// Prints help, or what is wrong with the words, and returns the status for it.
+fn explain(rt: &HostRuntime, error: &Error) -> Result<ExitCode, ProgramFault> {
     if matches!(error.kind(), ErrorKind::OutOfMemory) {
-        return Err(ServeFault::OutOfMemory);
+        return Err(ProgramFault::OutOfMemory);
     }
     match error.print(rt) {
         Ok(()) => Ok(ExitCode::from(error.exit_code() as u8)),
-        Err(_) => Err(ServeFault::Write),
+        Err(_) => Err(ProgramFault::Write),
     }
 }
 
-/// The words of the command line, or `None` where one isn't UTF-8.
-fn words_of(rt: &HostRuntime) -> Result<Option<Vec<String>>, ServeFault> {
-    match std::env::args(rt) {
-        Ok(words) => match words.collect(rt.alloc()) {
-            Ok(words) => Ok(Some(words)),
-            Err(_) => Err(ServeFault::OutOfMemory),
-        },
-        Err(error) if matches!(error.kind(), io::ErrorKind::InvalidData) => Ok(None),
-        Err(_) => Err(ServeFault::OutOfMemory),
-    }
-}
-
-fn do_asked(rt: &HostRuntime, asked: &ArgMatches) -> Result<ExitCode, ServeFault> {
-    match asked.subcommand() {
-        Some(("compare", words)) => compare(rt, words),
-        _ => run(rt),
-    }
-}
-
-fn obey_words(rt: &HostRuntime, words: &[String]) -> Result<ExitCode, ServeFault> {
-    let command = command_line(rt.alloc()).map_err(|_| ServeFault::OutOfMemory)?;
-    match command.try_get_matches_from(words) {
-        Ok(asked) => do_asked(rt, &asked),
-        Err(error) => explain(rt, &error),
-    }
-}
-
-/// Tells that a word isn't UTF-8.
-fn refuse_words(rt: &HostRuntime) -> Result<ExitCode, ServeFault> {
-    let mut command = command_line(rt.alloc()).map_err(|_| ServeFault::OutOfMemory)?;
-    let error = command
-        .error(
-            ErrorKind::InvalidValue,
-            "a word of the command line isn't UTF-8",
-        )
-        .map_err(|_| ServeFault::OutOfMemory)?;
+/// Refuses the words for a reason that `clap` doesn't look at.
+fn refuse(rt: &HostRuntime, kind: ErrorKind, reason: &str) -> Result<ExitCode, ProgramFault> {
+    let mut command = command_line(rt.alloc())?;
+    let error = command.error(kind, reason)?;
     explain(rt, &error)
 }
 
-fn obey(rt: &HostRuntime) -> Result<ExitCode, ServeFault> {
-    match words_of(rt)? {
-        Some(words) => obey_words(rt, words.as_slice()),
-        None => refuse_words(rt),
+/// The words of the command line, or `None` where one isn't UTF-8.
+fn words_of(rt: &HostRuntime) -> Result<Option<Vec<String>>, ProgramFault> {
+    match std::env::args(rt) {
+        Ok(words) => Ok(Some(words.collect(rt.alloc())?)),
+        Err(error) if matches!(error.kind(), io::ErrorKind::InvalidData) => Ok(None),
+        Err(_) => Err(ProgramFault::OutOfMemory),
     }
 }
 
-/// Does what the command line asks. The status is 0, or 1 for a fault, which is told in one line on standard error,
+fn obey_words(rt: &HostRuntime, words: &[String]) -> Result<ExitCode, ProgramFault> {
+    let command = command_line(rt.alloc())?;
+    let asked = match command.try_get_matches_from(words) {
+        Ok(asked) => asked,
+        Err(error) => return explain(rt, &error),
+    };
+    match asked.subcommand() {
+        Some((RUN, _)) => run(rt),
+        Some((COMPARE, words)) => compare(rt, words),
+        _ => refuse(rt, ErrorKind::MissingSubcommand, "a command is required"),
+    }
+}
+
+fn obey(rt: &HostRuntime) -> Result<ExitCode, ProgramFault> {
+    match words_of(rt)? {
+        Some(words) => obey_words(rt, words.as_slice()),
+        None => refuse(
+            rt,
+            ErrorKind::InvalidValue,
+            "a word of the command line isn't UTF-8",
+        ),
+    }
+}
+
+/// Does what the command line asks. The status is 0, or 1 for a fault, which is printed in one line on standard error,
 /// or 2 for a command line that is refused.
 pub fn start(rt: &HostRuntime) -> ExitCode {
     match obey(rt) {

@@ -4,21 +4,11 @@ ghost use Rattle.pana_event.specs.Event.{Event};
 ghost use Rattle.pana_event.specs.Relation.{IsRelation};
 ghost use Rattle.panad.specs.Compare.{AnswersTexts, Compares, SaysFault, rel_name};
 
+use crate::answer::Answer;
 use pana_event::Rel;
 use pana_stamp::Stamp;
 use pana_text::{TextFault, read};
 use std::alloc::{AllocError, Global};
-
-/// What a command has to say, and its exit status.
-#[derive(Drop)]
-pub struct Answer {
-    /// For standard output: lines, each with its newline.
-    pub out: String,
-    /// For standard error: a line with its newline, or nothing.
-    pub err: String,
-    /// The exit status.
-    pub status: u8,
-}
 
 fn name_of(rel: Rel) -> &'static str
     ensures { result.now ≡ rel_name rel }

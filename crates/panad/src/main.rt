@@ -1,8 +1,10 @@
 //! `panad` tells of the copies of a file which are newest, which are obsolete, and which are in conflict.
 #![tactic(auto)]
 
+mod answer;
 mod command;
 mod comparing;
+mod fault;
 mod one_hall;
 mod running;
 #[cfg(test)]

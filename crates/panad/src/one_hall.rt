@@ -22,7 +22,7 @@ impl Model for OneHall {
 }
 
 impl OneHall {
-    /// A session on a new hall. The only refusal is want of memory.
+    /// A session on a new hall. The only error is a failed allocation.
     pub fn new(alloc: Global) -> Result<OneHall, AllocError>
         ensures { IfOk result (λ session. session ≡ []) }
     {

@@ -15,10 +15,13 @@ returns-in-Ok-clause-ok g c = IfOk-weaker c.serve.result _ _
 
 pub returns-in-Ok-clause-fault : goal.returns-in-Ok-clause-fault
 returns-in-Ok-clause-fault g c = IfErr-weaker c.serve.result _ _
-    (λ fault said. (c.serve.new.session, elim said [
-      | inl nothing ↦ inl (subst (λ old. NeverBegins c.args.reader.now c.serve.new.reader c.args.writer.now c.serve.new.writer old c.serve.new.session fault) c.in-Ok.ensures nothing)
-      | inr stops ↦ inr (subst (λ old. Stops g.R.Read.remaining g.W.Write.contents Steps IsNever c.args.reads c.args.reader.now c.serve.new.reader c.args.writer.now c.serve.new.writer old c.serve.new.session fault) c.in-Ok.ensures stops)
-    ]))
+    (λ fault said. (
+      c.serve.new.session,
+      elim said [
+        | inl nothing ↦ inl (subst (λ old. NeverBegins c.args.reader.now c.serve.new.reader c.args.writer.now c.serve.new.writer old c.serve.new.session fault) c.in-Ok.ensures nothing)
+        | inr stops ↦ inr (subst (λ old. Stops g.R.Read.remaining g.W.Write.contents Steps IsNever c.args.reads c.args.reader.now c.serve.new.reader c.args.writer.now c.serve.new.writer old c.serve.new.session fault) c.in-Ok.ensures stops)
+      ],
+    ))
     c.serve.ensures.fault
 
 pub returns-in-Ok-clause-never_spent : goal.returns-in-Ok-clause-never_spent
