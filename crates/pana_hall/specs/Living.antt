@@ -25,12 +25,12 @@ abbrev pub duplicated : ℕ → Place → Copy → Copy
 duplicated n place source = record { number = n; family = source.family; place = place; updates = source.updates; touch = n }
 
 -- the copy once entry n gave it these updates in place of its own
-abbrev pub told : ℕ → List ℕ → Copy → Copy
-told n updates copy = record copy { updates = updates; touch = n }
+abbrev pub with_updates : ℕ → List ℕ → Copy → Copy
+with_updates n updates copy = record copy { updates = updates; touch = n }
 
 -- the copy after edit n: it knows update n too
 abbrev pub edited : ℕ → Copy → Copy
-edited n copy = told n (n ∷ copy.updates) copy
+edited n copy = with_updates n (n ∷ copy.updates) copy
 
 -- what entry n's report changes
 abbrev pub after_report : ℕ → Report → List Copy → List Copy

@@ -1,7 +1,7 @@
 ghost use Rattle.std.specs.Prelude.{◌≡◌, ◌==◌, [], ◌∷◌, ◌++◌, true, is_some, find, position, nat_le, option_copied, count_by, OnOk, OnErr};
 ghost use Rattle.pana_copies.specs.Places.{same_place};
 ghost use Rattle.pana_hall.specs.Board.{is_of};
-ghost use Rattle.pana_hall.specs.Living.{copy_in, change, told};
+ghost use Rattle.pana_hall.specs.Living.{copy_in, change, with_updates};
 ghost use Rattle.pana_hall.specs.inner.Rising.{AreRising};
 
 use crate::living_copy::LivingCopy;
@@ -85,13 +85,13 @@ impl Copies {
     }
 
     /// Gives a copy that lives these updates, by this entry. Takes no memory.
-    pub fn tell(&mut self, number: u64, entry: u64, updates: UpdateSet)
+    pub fn set_updates(&mut self, number: u64, entry: u64, updates: UpdateSet)
         requires rising { AreRising 0 self.old }
         requires lives { is_some (copy_in self.old number) ≡ true }
-        ensures { self.new ≡ change number (told entry updates) self.old }
+        ensures { self.new ≡ change number (with_updates entry updates) self.old }
     {
         let index = self.index_of(number).unwrap();
-        self.list[index].tell(entry, updates);
+        self.list[index].set_updates(entry, updates);
     }
 
     fn index_of(&self, number: u64) -> Option<usize>

@@ -1,5 +1,5 @@
 ghost use Rattle.std.specs.Prelude.{◌≡◌, IfOk};
-ghost use Rattle.pana_hall.specs.Living.{registered, duplicated, told};
+ghost use Rattle.pana_hall.specs.Living.{registered, duplicated, with_updates};
 
 use crate::update_set::UpdateSet;
 use pana_copies::Place;
@@ -60,8 +60,8 @@ impl LivingCopy {
     }
 
     /// Gets these updates in place of its own, by this entry. Takes no memory.
-    pub fn tell(&mut self, entry: u64, updates: UpdateSet)
-        ensures { self.new ≡ told entry updates self.old }
+    pub fn set_updates(&mut self, entry: u64, updates: UpdateSet)
+        ensures { self.new ≡ with_updates entry updates self.old }
     {
         self.updates = updates;
         self.touch = entry;

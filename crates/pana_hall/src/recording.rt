@@ -77,7 +77,7 @@ fn edit(
     let known = copies.get(copy).unwrap().updates();
     let updates = known.with(alloc, entry)?;
     reserve(journal)?;
-    copies.tell(copy, entry, updates);
+    copies.set_updates(copy, entry, updates);
     Ok(journal.append(by, Report::Edit { copy }))
 }
 
