@@ -6,7 +6,7 @@ import sys
 from pathlib import Path
 
 TOP = Path(__file__).resolve().parent.parent
-LONGEST = 800
+LONGEST = 500
 # Folders that hold no text of ours.
 SKIPPED = {".git", ".build", "out", "tmp", "__pycache__"}
 # A paper cited by a number of its own; the repository states each rule in its own words.
@@ -16,6 +16,25 @@ CITED = re.compile(
 )
 LINK = re.compile(r"\]\(([^)\s]+)\)")
 ELSEWHERE = ("http://", "https://", "mailto:", "#")
+# Words of our own dialect, and what plain English has for them.
+DIALECT = {
+    r"tells?|told|telling": "reports, prints, returns",
+    r"want of memory": "out of memory",
+    r"growths? (of memory|is|are|was|were|refused)|(a|each|every|no|refused?|refuses|refusing) growths?": "an allocation, a failed allocation",
+    r"(a|the) front (of|that)|(a|the) front and (a|the) back": "a prefix, the rest",
+    r"stands? to": "relates to, compares with",
+    r"wrong bod(y|ies)": "a must-fail edit, a planted bug",
+    r"(reader|writer|tap)s? (is|are) on|taps? on": "wraps",
+    r"place (counted|of (a|the) byte)|first wrong place": "position",
+}
+SAID_OTHERWISE = [(re.compile(rf"\b({words})\b", re.IGNORECASE), plain) for words, plain in DIALECT.items()]
+# Where the words are looked for: texts whole, and of sources the comments.
+WORDED = ("*.md", "docs/**/*.md", "test", "panad", "package", ".ci/*", "tools/*", "tests/**/*.py", "tests/**/*.c")
+WORDED += ("tests/scenarios/*/about", "tests/scenarios/help*/output", "tests/scenarios/no_command/error")
+WORDED_SOURCES = ("crates/*/README.md", "crates/**/*.rt", "crates/**/*.antt", "crates/*/must-fail/*.edit")
+# Whether the sources' comments are held to these words too.
+SOURCES_ARE_WORDED = False
+COMMENT = re.compile(r"(?://|--)(.*)")
 
 
 def files():
@@ -40,7 +59,7 @@ def listed_crates():
 
 
 def long_sources():
-    """No source file is over 800 lines."""
+    """No source file is over 500 lines."""
     for file in sorted(TOP.glob("crates/*/src/**/*")):
         if file.is_file() and len(lines_of(file)) > LONGEST:
             yield f"{named(file)} has {len(lines_of(file))} lines, over {LONGEST}"
@@ -78,6 +97,54 @@ def citations():
                 yield f"{named(file)}:{number} cites a paper by number: {found[0]}"
 
 
+def words_of(file, line):
+    """What of a line is prose: of a source its comment, of any other text all of it."""
+    if file.suffix in (".rt", ".antt"):
+        found = COMMENT.search(line)
+        return found[1] if found else ""
+    return line
+
+
+def dialect():
+    """Pages, help, scripts and comments use the field's words."""
+    sources = WORDED_SOURCES if SOURCES_ARE_WORDED else ()
+    found = {it for pattern in (*WORDED, *sources) for it in TOP.glob(pattern) if it.is_file()}
+    for file in sorted(it for it in found if not SKIPPED & {*named(it).parts} and it != Path(__file__).resolve()):
+        for number, line in enumerate(lines_of(file), 1):
+            for words, plain in SAID_OTHERWISE:
+                other = words.search(words_of(file, line))
+                if other:
+                    yield f"{named(file)}:{number} says {other[0]!r}, and not: {plain}"
+
+
+def fault_of_edit(edit):
+    """Why a must-fail edit cannot be applied, or None. Its later pairs apply to what the earlier ones made."""
+    texts, file, old = {}, None, None
+    for line in lines_of(edit):
+        word, _, rest = line.partition(":")
+        rest = rest.removeprefix(" ")
+        if word == "file":
+            file = edit.parents[1] / rest.strip()
+            if not file.is_file():
+                return f"there is no {rest}"
+            texts.setdefault(file, file.read_text(encoding="utf-8"))
+        elif word == "old":
+            old = rest
+            if not file or texts[file].count(old) != 1:
+                return f"this is in its file {texts[file].count(old) if file else 0} times: {old}"
+        elif word == "new" and old:
+            texts[file] = texts[file].replace(old, rest)
+    return None if old else "it replaces nothing"
+
+
+def edits():
+    """Each must-fail edit replaces texts that stand once in their files."""
+    for edit in sorted(TOP.glob("crates/*/must-fail/*.edit")):
+        fault = fault_of_edit(edit)
+        if fault:
+            yield f"{named(edit)}: {fault}"
+
+
 def passes(check):
     """Whether the check finds nothing; prints its line, and what it finds."""
     try:
@@ -89,8 +156,11 @@ def passes(check):
     return not found
 
 
+CHECKS = (long_sources, crates_and_folders, dead_links, citations, dialect, edits)
+
+
 def main():
-    outcomes = [passes(it) for it in (long_sources, crates_and_folders, dead_links, citations)]
+    outcomes = [passes(it) for it in CHECKS]
     print(f"{outcomes.count(True)} passed, {outcomes.count(False)} failed")
     return 1 if outcomes.count(False) else 0
 

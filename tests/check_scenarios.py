@@ -1,10 +1,11 @@
 #!/usr/bin/env python3
 """Runs the program on each scenario and compares what it wrote and its status with what is wanted.
 
-usage: check_scenarios.py LAUNCHER
-The launcher is called through a link in an empty folder elsewhere, as a user may call it.
+usage: check_scenarios.py LAUNCHER [SCENARIO..]
+With no names of scenarios it runs them all. The launcher is called through a link in an empty folder elsewhere, as a user may call it.
 The last line is 'N passed, M failed'.
 """
+import contextlib
 import difflib
 import os
 import subprocess
@@ -20,7 +21,7 @@ LONGEST = 40
 
 
 def shown(text):
-    """The lines of some bytes, fit to be printed: a long one is cut, and a missing newline is told."""
+    """The lines of some bytes, fit to be printed: a long one is cut, and a missing newline is shown."""
     lines = text.decode(errors="backslashreplace").split("\n")
     lines = lines[:-1] if lines[-1] == "" else [*lines[:-1], lines[-1] + "  [no newline here]"]
     return [it if len(it) <= WIDEST else f"{it[:WIDEST]}.. ({len(it)} characters)" for it in lines]
@@ -37,11 +38,15 @@ def difference(name, wanted, got):
 
 def ran(run, launcher, room):
     """Runs the program as is said, and returns what came of it."""
-    settings = {"input": run.given, "stderr": subprocess.PIPE, "cwd": room, "timeout": SECONDS}
-    if run.to is None:
-        return subprocess.run([launcher, *run.args], stdout=subprocess.PIPE, **settings)
-    with open(run.to, "wb") as to:
-        return subprocess.run([launcher, *run.args], stdout=to, **settings)
+    settings = {"stdout": subprocess.PIPE, "stderr": subprocess.PIPE, "cwd": room, "timeout": SECONDS}
+    with contextlib.ExitStack() as opened:
+        if run.to is not None:
+            settings["stdout"] = opened.enter_context(open(run.to, "wb"))
+        if run.source is None:
+            return subprocess.run([launcher, *run.args], input=run.given, **settings)
+        source = os.open(run.source, os.O_RDONLY)
+        opened.callback(os.close, source)
+        return subprocess.run([launcher, *run.args], stdin=source, **settings)
 
 
 def faults_of(run, launcher, room):
@@ -79,8 +84,8 @@ def passes(folder, launcher, room):
     return False
 
 
-def main(launcher):
-    folders = scenario.folders()
+def main(launcher, *names):
+    folders = [scenario.FOLDER / it for it in names] or scenario.folders()
     with tempfile.TemporaryDirectory(prefix="scenarios-") as room:
         link, inside = Path(room) / "link", Path(room) / "empty"
         os.symlink(os.path.realpath(launcher), link)
@@ -92,4 +97,4 @@ def main(launcher):
 
 
 if __name__ == "__main__":
-    sys.exit(main(sys.argv[1]))
+    sys.exit(main(*sys.argv[1:]))

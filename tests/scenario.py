@@ -7,10 +7,11 @@ output   standard output, to the byte, or output.py, which prints it
 error    standard error, to the byte (absent: empty)
 status   the exit status (absent: 0)
 runs     in place of these five several runs, a line of JSON each, or runs.py, which prints them:
-         {"args": ["a", "b"], "output": "", "error": "", "status": 0}, where what is absent is as
-         here, and "to" may name a file for standard output to go to
-sweep    marks the scenario for the sweep of refused growths: for a session query lines that show
-         the state; for several runs the lines that may be told where memory is refused
+         {"args": ["a", "b"], "input": "", "output": "", "error": "", "status": 0}, where what is
+         absent is as here; "from" may name a file or folder for standard input, in place of "input",
+         and "to" a file for standard output, each by its whole path
+sweep    marks the scenario for the sweep of failed allocations: for a session query lines that show
+         the state; for several runs the lines that may be reported where an allocation failed
 """
 from __future__ import annotations
 
@@ -24,7 +25,9 @@ FOLDER = Path(__file__).resolve().parent / "scenarios"
 SESSION = {"args", "input", "input.py", "output", "output.py", "error", "status"}
 RUNS = {"runs", "runs.py"}
 FILES = {"about", "sweep", *SESSION, *RUNS}
-PARTS = {"args": list, "output": str, "error": str, "status": int, "to": str}
+PARTS = {"args": list, "input": str, "from": str, "output": str, "error": str, "status": int, "to": str}
+# What Python leaves beside a file that it has read.
+LEFT = "__pycache__"
 SECONDS = 60
 
 
@@ -39,6 +42,7 @@ class Run:
     output: bytes
     error: bytes
     status: int
+    source: str | None = None
     to: str | None = None
 
 
@@ -53,7 +57,7 @@ class Scenario:
 
 def folders():
     """The scenario folders by name."""
-    return sorted(it for it in FOLDER.iterdir() if not it.name.startswith("."))
+    return sorted(it for it in FOLDER.iterdir() if not it.name.startswith(".") and it.name != LEFT)
 
 
 def text_of(folder, name, default=None):
@@ -81,8 +85,11 @@ def run_of(line):
         raise BadScenario(f"a run is no JSON: {error}") from error
     if not isinstance(said, dict) or any(not isinstance(said[it], PARTS.get(it, ())) for it in said) or "args" not in said:
         raise BadScenario(f"this says no run: {line.decode(errors='replace')}")
-    output, error = (said.get(it, "").encode() for it in ("output", "error"))
-    return Run(said["args"], b"", output, error, said.get("status", 0), said.get("to"))
+    source, to = said.get("from"), said.get("to")
+    if "input" in said and source or any(it and not it.startswith("/") for it in (source, to)):
+        raise BadScenario(f"its input or output is not named rightly: {line.decode(errors='replace')}")
+    given, output, error = (said.get(it, "").encode() for it in ("input", "output", "error"))
+    return Run(said["args"], given, output, error, said.get("status", 0), source, to)
 
 
 def session_of(folder):
@@ -101,7 +108,7 @@ def session_of(folder):
 
 def read(folder):
     """The scenario of a folder, or BadScenario."""
-    names = {it.name for it in folder.iterdir()}
+    names = {it.name for it in folder.iterdir()} - {LEFT}
     if names - FILES:
         raise BadScenario(f"it has files that nothing reads: {', '.join(sorted(names - FILES))}")
     if names & RUNS and names & SESSION:

@@ -5,6 +5,8 @@
 built=$top/.build
 log=$built/build.log
 minutes_per_thousand_lines=2
+# By settings of the caller's the kit would build another program.
+unset RT_BACKEND RT_ALLOW_C RT_SECONDS
 
 say() {
   printf 'panad: %s\n' "$*" >&2
@@ -71,34 +73,26 @@ keep_program() {
     mv -f -- "$built/stamp.new" "$built/stamp"
 }
 
-tell_of_build() {
+announce_build() {
   local why=$1 lines
   lines=$(find "$top"/crates/*/src -name '*.rt' -type f -exec cat -- {} + | wc -l)
-  say "$why: proving and building the program; this takes about $((lines * minutes_per_thousand_lines / 1000 + 1)) min (log: $log)"
-}
-
-# Proves, links and tries the program on an empty session by rt run, which builds only what is proved.
-prove_and_link() {
-  local kit=$1
-  (
-    cd -- "$top/crates/panad" || exit
-    unset RT_BACKEND RT_ALLOW_C RT_SECONDS
-    exec "$kit/bin/rt" run -- run
-  ) </dev/null >"$log" 2>&1
+  say "$why: proving and building the program, in up to $((lines * minutes_per_thousand_lines / 1000 + 1)) min (log: $log)"
 }
 
 # Builds the program, or finds that another first use has done so meanwhile. Wants the lock.
 build_under_lock() {
-  local kit=$1 sum why='first use'
+  local kit=$1 sum status why='first use'
   is_current && return
   [ -x "$built/panad" ] && why='the sources or the kit have changed'
-  tell_of_build "$why"
+  announce_build "$why"
   sum=$(sources_sum)
-  if ! prove_and_link "$kit"; then
+  python3 -B "$top/tools/prove.py" "$kit/bin/rt" "$log" </dev/null >&2
+  status=$?
+  if [ "$status" -eq 1 ]; then
     tail -n 15 -- "$log" >&2
     say "the build failed; its whole log is $log"
-    return 1
   fi
+  [ "$status" -eq 0 ] || return "$status"
   keep_program "$kit" "$sum" && say 'built'
 }
 

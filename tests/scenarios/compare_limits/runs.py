@@ -14,20 +14,20 @@ def stamp_with_event(depth):
     return f"(1,{'(0,' * depth}1{',0)' * depth})"
 
 
-def tell(first, second, **wanted):
+def run(first, second, **wanted):
     print(json.dumps({"args": ["compare", first, second], **wanted}))
 
 
-def tell_fault(first, second, fault):
-    tell(first, second, error=f"panad: {fault}\n", status=1)
+def run_at_fault(first, second, fault):
+    run(first, second, error=f"panad: {fault}\n", status=1)
 
 
 for stamp in (stamp_with_id, stamp_with_event):
-    tell(stamp(256), stamp(256), output="Equal\n")
-    tell_fault(stamp(257), "(1,0)", "first stamp: TooDeep")
-    tell_fault("(1,0)", stamp(257), "second stamp: TooDeep")
-tell(stamp_with_event(255), stamp_with_event(256), output="Newer\n")
-tell(f"(1,{GREATEST - 1})", f"(1,{GREATEST})", output="Older\n")
-tell(f"(1,(1,{GREATEST - 1},0))", f"(1,{GREATEST})", output="Older\n")
-tell_fault(f"(1,{GREATEST + 1})", "(1,0)", "first stamp: TooLarge")
-tell_fault("(1,0)", f"(1,(1,{GREATEST},0))", "second stamp: TooLarge")
+    run(stamp(256), stamp(256), output="Equal\n")
+    run_at_fault(stamp(257), "(1,0)", "first stamp: TooDeep")
+    run_at_fault("(1,0)", stamp(257), "second stamp: TooDeep")
+run(stamp_with_event(255), stamp_with_event(256), output="Newer\n")
+run(f"(1,{GREATEST - 1})", f"(1,{GREATEST})", output="Older\n")
+run(f"(1,(1,{GREATEST - 1},0))", f"(1,{GREATEST})", output="Older\n")
+run_at_fault(f"(1,{GREATEST + 1})", "(1,0)", "first stamp: TooLarge")
+run_at_fault("(1,0)", f"(1,(1,{GREATEST},0))", "second stamp: TooLarge")

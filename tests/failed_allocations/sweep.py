@@ -1,19 +1,19 @@
 #!/usr/bin/env python3
-"""Runs the built program with its Nth growth of memory refused, for N = 1, 2, .. until none is, on each
+"""Runs the built program with its Nth allocation failing, for N = 1, 2, .. until none fails, on each
 scenario that has a file sweep, and judges every run.
 
 usage: sweep.py PROGRAM
 
-A session is talked to line by line. The program's answer to a line must be the expected one, or OutOfMemory:
-the line's fault, or the refusal of a call that takes memory. After OutOfMemory the scenario's queries
+The program is given a session line by line. The program's answer to a line must be the expected one, or OutOfMemory:
+the line's fault, or the refusal of a call that allocates. After OutOfMemory the scenario's queries
 must show the state from just before that line, and the same line, sent again, gets the expected
 answer. At the end the queries must show the final state.
 The program may end with 'panad: out of memory' and status 1 in two places: before its first answer,
 and where a call was taken whose answer could not be encoded, so never at a faulty line.
-What the queries must show is recorded in a run with nothing refused, whose other answers must be the
+What the queries must show is recorded in a run with no failed allocation, whose other answers must be the
 scenario's output.
-Of a scenario of several runs each is swept by itself: it must end as it says, or, where a growth was
-refused, with status 1, no output, and one of the lines of the file sweep on standard error.
+Of a scenario of several runs each is swept by itself: it must end as it says, or, where an allocation
+failed, with status 1, no output, and one of the lines of the file sweep on standard error.
 The last line is 'N passed, M failed', one for each scenario swept.
 """
 from __future__ import annotations
@@ -30,7 +30,7 @@ from pathlib import Path
 
 HERE = Path(__file__).resolve().parent
 sys.path.insert(0, str(HERE.parent))
-import refuser  # noqa: E402
+import failing  # noqa: E402
 import scenario  # noqa: E402
 
 PROCESSES = 4
@@ -39,8 +39,8 @@ SHOWN = 5
 WIDEST = 200
 REFUSED = b'{"code":9,"refused":"OutOfMemory"}'
 FAULT = b'{"fault":"OutOfMemory"}'
-# Expected answers of lines that make no call, or whose call finds its answer without taking memory.
-TAKE_NO_MEMORY = (b'{"fault"', b'{"code"', b'{"pair"')
+# Expected answers of lines that make no call, or whose call finds its answer with no allocation.
+ALLOCATE_NOTHING = (b'{"fault"', b'{"code"', b'{"pair"')
 LAST_WORDS = b"panad: out of memory\n"
 
 
@@ -59,7 +59,7 @@ class Step:
 
 @dataclass(frozen=True)
 class Session:
-    """What a run must do that is talked to line by line."""
+    """What a run must do that is given its lines one by one."""
 
     command: list[str]
     library: str
@@ -72,7 +72,7 @@ class Session:
 
 @dataclass(frozen=True)
 class Single:
-    """What a run must do that ends by itself, and which lines it may end with where memory is refused."""
+    """What a run must do that ends by itself, and which lines it may end with where an allocation failed."""
 
     command: list[str]
     library: str
@@ -94,13 +94,13 @@ def stop_hanging(*_):
 
 
 class Talk:
-    """A run of the program with one growth refused (0: none), line by line, that ends after SECONDS at most."""
+    """A run of the program with one failing allocation (0: none), line by line, that ends after SECONDS at most."""
 
-    def __init__(self, command, library, refused):
-        self.report = refuser.Report()
+    def __init__(self, command, library, at):
+        self.report = failing.Report()
         self.held = b""
         pipes = {"stdin": subprocess.PIPE, "stdout": subprocess.PIPE, "stderr": subprocess.PIPE, "bufsize": 0}
-        environment = self.report.environment(library, refused)
+        environment = self.report.environment(library, at)
         self.program = subprocess.Popen(command, env=environment, cwd="/", pass_fds=[self.report.number], **pipes)
 
     def __enter__(self):
@@ -144,7 +144,7 @@ class Talk:
         return self.program.wait(), rest, self.program.stderr.read()
 
     def counts(self):
-        """How many growths there were so far, and how many were refused."""
+        """How many allocations there were so far, and how many failed."""
         return self.report.counts()
 
 
@@ -175,19 +175,19 @@ def judge_end(talk, step, is_first):
 
 
 def talk_through(talk, plan):
-    """Sends all lines, judges each answer, and returns what came of the refusal."""
+    """Sends all lines, judges each answer, and returns what came of the failed allocation."""
     kind = "left no trace"
     for at, step in enumerate(plan.steps):
         answer = talk.ask(step.line)
-        if answer == FAULT or answer == REFUSED and not step.answer.startswith(TAKE_NO_MEMORY):
+        if answer == FAULT or answer == REFUSED and not step.answer.startswith(ALLOCATE_NOTHING):
             if kind == "answered OutOfMemory" or not talk.counts()[1]:
-                raise Broken(f"OutOfMemory at {clipped(step.line)}, and no growth was refused for it")
+                raise Broken(f"OutOfMemory at {clipped(step.line)}, and no allocation failed for it")
             kind = "answered OutOfMemory"
             want_same_state(talk, plan, step)
             answer = talk.ask(step.line)
         if answer is None:
             if kind == "answered OutOfMemory" or not talk.counts()[1]:
-                raise Broken(f"it ended at {clipped(step.line)}, and no growth was refused for it: {talk.end()}")
+                raise Broken(f"it ended at {clipped(step.line)}, and no allocation failed for it: {talk.end()}")
             return judge_end(talk, step, at == 0)
         want(f"the answer to {clipped(step.line)}", step.answer, answer)
     want_end(talk, 0, b"")
@@ -195,18 +195,18 @@ def talk_through(talk, plan):
 
 
 def judge_single(talk, plan):
-    """Judges a run that ends by itself, and returns what came of the refusal."""
+    """Judges a run that ends by itself, and returns what came of the failed allocation."""
     status, output, error = talk.end()
     if (status, output, error) == (plan.run.status, plan.run.output, plan.run.error):
         return "left no trace"
     if not talk.counts()[1] or status != 1 or output or error not in plan.last_words:
         words = " ".join(plan.run.args).encode()
         raise Broken(f"{clipped(words)} ended with {status}, the output {clipped(output)}, and {clipped(error)}")
-    return "told on standard error"
+    return "reported on standard error"
 
 
-def refused_run(plan, at):
-    """One run with growth number `at` refused: its growths, the refused ones, what came of it, and its fault."""
+def failing_run(plan, at):
+    """One run with allocation number `at` failing: its allocations, the failed ones, what came of it, and its fault."""
     try:
         with Talk(plan.command, plan.library, at) as talk:
             kind, fault = "broke", None
@@ -234,7 +234,7 @@ def want_output(run, steps):
 
 
 def recorded(case, program, library):
-    """Runs a session with nothing refused, the queries after every line, and returns what later runs must do."""
+    """Runs a session with no failed allocation, the queries after every line, and returns what later runs must do."""
     (run,), steps = case.runs, []
     with Talk([program, *run.args], library, 0) as talk:
         before = talk.ask_each(case.sweep)
@@ -248,21 +248,21 @@ def recorded(case, program, library):
 
 
 def swept(plan):
-    """Refuses each growth of the plan's run in turn: the runs, what came of them, and their faults."""
-    growths, _, _, fault = refused_run(plan, 0)
-    if fault or not growths:
-        return 1, Counter(), [f"with nothing refused: {fault or 'no growth was counted'}"]
+    """Has each allocation of the plan's run fail in turn: the runs, what came of them, and their faults."""
+    allocations, _, _, fault = failing_run(plan, 0)
+    if fault or not allocations:
+        return 1, Counter(), [f"with no failed allocation: {fault or 'no allocation was counted'}"]
     kinds, faults, runs = Counter(), [], 1
-    numbers = range(1, growths + 2)
+    numbers = range(1, allocations + 2)
     with ProcessPoolExecutor(PROCESSES) as pool:
-        for at, outcome in zip(numbers, pool.map(refused_run, [plan] * len(numbers), numbers, chunksize=4)):
-            _, refused, kind, fault = outcome
+        for at, outcome in zip(numbers, pool.map(failing_run, [plan] * len(numbers), numbers, chunksize=4)):
+            _, failed, kind, fault = outcome
             runs += 1
-            if not fault and refused != (at <= growths):
-                fault = f"{refused} growths were refused, of {growths} that it makes"
+            if not fault and failed != (at <= allocations):
+                fault = f"{failed} allocations failed, of {allocations} that it makes"
             if fault:
-                faults.append(f"growth {at} refused: {fault}")
-            elif refused:
+                faults.append(f"allocation {at} failed: {fault}")
+            elif failed:
                 kinds[kind] += 1
             if len(faults) == SHOWN:
                 pool.shutdown(wait=False, cancel_futures=True)
@@ -276,12 +276,14 @@ def plans_of(case, program, library):
         raise Broken("its file sweep is empty")
     if case.is_session:
         return [recorded(case, program, library)]
+    if any(run.given or run.source or run.to for run in case.runs):
+        raise Broken("a run that is swept has no input, and its output goes to no file")
     last_words = [it + b"\n" for it in case.sweep]
     return [Single([program, *run.args], library, run, last_words) for run in case.runs]
 
 
 def sweep(folder, program, library):
-    """Sweeps one scenario: its runs, its refused growths, and whether all is as it must be."""
+    """Sweeps one scenario: its runs, its failed allocations, and whether all is as it must be."""
     try:
         outcomes = [swept(it) for it in plans_of(scenario.read(folder), program, library)]
         runs = sum(it for it, _, _ in outcomes)
@@ -289,22 +291,22 @@ def sweep(folder, program, library):
         faults = [fault for _, _, some in outcomes for fault in some]
     except (Broken, scenario.BadScenario, subprocess.SubprocessError, OSError, ValueError) as error:
         runs, kinds, faults = 0, Counter(), [f"it could not be swept: {error}"]
-    told = ", ".join(f"{count} {kind}" for kind, count in sorted(kinds.items()))
-    print(f"{'FAILED' if faults else 'ok'} {folder.name}: of the growths refused {told or 'none'}", *faults, sep="\n    ", flush=True)
+    kinds_text = ", ".join(f"{count} {kind}" for kind, count in sorted(kinds.items()))
+    print(f"{'FAILED' if faults else 'ok'} {folder.name}: of the failed allocations {kinds_text or 'none'}", *faults, sep="\n    ", flush=True)
     return runs, sum(kinds.values()), not faults
 
 
 def main(program):
     folders = [it for it in scenario.folders() if (it / "sweep").exists()]
     with tempfile.TemporaryDirectory(prefix="sweep-") as room:
-        library = refuser.compiled(room)
+        library = failing.compiled(room)
         if library is None or not folders:
-            print("FAILED: refuse.c does not compile" if folders else "FAILED: no scenario has a file sweep")
+            print("FAILED: failing.c does not compile" if folders else "FAILED: no scenario has a file sweep")
             print(f"0 passed, {max(len(folders), 1)} failed")
             return 1
         outcomes = [sweep(it, os.path.realpath(program), library) for it in folders]
-    runs, refused, passed = (sum(it) for it in zip(*outcomes))
-    print(f"{refused} growths were refused in {runs} runs of {len(folders)} scenarios")
+    runs, failed, passed = (sum(it) for it in zip(*outcomes))
+    print(f"{failed} allocations failed in {runs} runs of {len(folders)} scenarios")
     print(f"{passed} passed, {len(folders) - passed} failed")
     return 0 if passed == len(folders) else 1
 

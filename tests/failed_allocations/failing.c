@@ -1,13 +1,13 @@
-/* Put before a program by LD_PRELOAD, it counts the program's growths (its calls of malloc, calloc,
- * realloc, aligned_alloc and posix_memalign, from its start) and refuses one of them.
+/* Put before a program by LD_PRELOAD, it counts the program's allocations (its calls of malloc, calloc,
+ * realloc, aligned_alloc and posix_memalign, from its start) and has one of them fail.
  *
- * REFUSE_AT      the growth to refuse, counted from 1; 0 or absent: none
- * REFUSE_REPORT  the number of an open descriptor of a file of 16 bytes, mapped while the program runs,
- *                so that it is right however the program ends: how many growths there were and how
- *                many were refused, each a 64-bit number of this machine
+ * FAIL_AT      the allocation that fails, counted from 1; 0 or absent: none
+ * FAIL_REPORT  the number of an open descriptor of a file of 16 bytes, mapped while the program runs,
+ *              so that it is right however the program ends: how many allocations there were and how
+ *              many failed, each a 64-bit number of this machine
  *
  * Only calls from the program's own code count. What the C library, the loader or another shared
- * object asks for is given, so buffers of stdio and the like are never refused. */
+ * object asks for is given, so buffers of stdio and the like never fail. */
 #define _GNU_SOURCE
 #include <errno.h>
 #include <link.h>
@@ -22,12 +22,12 @@ extern void *__libc_realloc(void *, size_t);
 extern void *__libc_memalign(size_t, size_t);
 
 struct report {
-    uint64_t growths;
-    uint64_t refused;
+    uint64_t allocations;
+    uint64_t failed;
 };
 
 static struct report *report;
-static uint64_t refused_one;
+static uint64_t failing_one;
 static uintptr_t code_start = UINTPTR_MAX;
 static uintptr_t code_end;
 
@@ -52,47 +52,47 @@ static void stop(const char *why, size_t length) {
 }
 
 __attribute__((constructor)) static void begin(void) {
-    static const char no_report[] = "refuse.c: REFUSE_REPORT is no file to keep a report in\n";
-    const char *at = getenv("REFUSE_AT"), *number = getenv("REFUSE_REPORT");
+    static const char no_report[] = "failing.c: FAIL_REPORT is no file to keep a report in\n";
+    const char *at = getenv("FAIL_AT"), *number = getenv("FAIL_REPORT");
     int file = number ? atoi(number) : -1;
     void *made = mmap(NULL, sizeof(struct report), PROT_READ | PROT_WRITE, MAP_SHARED, file, 0);
     if (made == MAP_FAILED) stop(no_report, sizeof no_report - 1);
     close(file);
-    refused_one = at ? strtoull(at, NULL, 10) : 0;
+    failing_one = at ? strtoull(at, NULL, 10) : 0;
     dl_iterate_phdr(note_program, NULL);
     report = made;
 }
 
-/* Counts a call from the given place, and says whether it is the one to refuse. */
-static int is_refused(void *caller) {
-    uintptr_t place = (uintptr_t)caller;
-    if (!report || place < code_start || place >= code_end) return 0;
-    if (__atomic_add_fetch(&report->growths, 1, __ATOMIC_SEQ_CST) != refused_one) return 0;
-    __atomic_add_fetch(&report->refused, 1, __ATOMIC_SEQ_CST);
+/* Counts an allocation that the given code asks for, and returns whether it is the one that fails. */
+static int fails(void *caller) {
+    uintptr_t address = (uintptr_t)caller;
+    if (!report || address < code_start || address >= code_end) return 0;
+    if (__atomic_add_fetch(&report->allocations, 1, __ATOMIC_SEQ_CST) != failing_one) return 0;
+    __atomic_add_fetch(&report->failed, 1, __ATOMIC_SEQ_CST);
     errno = ENOMEM;
     return 1;
 }
 
-#define IS_REFUSED is_refused(__builtin_return_address(0))
+#define FAILS fails(__builtin_return_address(0))
 
 void *malloc(size_t size) {
-    return IS_REFUSED ? NULL : __libc_malloc(size);
+    return FAILS ? NULL : __libc_malloc(size);
 }
 
 void *calloc(size_t count, size_t size) {
-    return IS_REFUSED ? NULL : __libc_calloc(count, size);
+    return FAILS ? NULL : __libc_calloc(count, size);
 }
 
 void *realloc(void *old, size_t size) {
-    return IS_REFUSED ? NULL : __libc_realloc(old, size);
+    return FAILS ? NULL : __libc_realloc(old, size);
 }
 
 void *aligned_alloc(size_t alignment, size_t size) {
-    return IS_REFUSED ? NULL : __libc_memalign(alignment, size);
+    return FAILS ? NULL : __libc_memalign(alignment, size);
 }
 
 int posix_memalign(void **result, size_t alignment, size_t size) {
-    if (IS_REFUSED) return ENOMEM;
+    if (FAILS) return ENOMEM;
     void *made = __libc_memalign(alignment, size);
     if (!made) return ENOMEM;
     *result = made;

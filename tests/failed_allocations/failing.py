@@ -1,4 +1,4 @@
-"""The library that refuses growths (refuse.c), and the report that it keeps of a run."""
+"""The library that has an allocation fail (failing.c), and the report that it keeps of a run."""
 from __future__ import annotations
 
 import os
@@ -7,13 +7,13 @@ import subprocess
 import tempfile
 from pathlib import Path
 
-SOURCE = Path(__file__).resolve().parent / "refuse.c"
+SOURCE = Path(__file__).resolve().parent / "failing.c"
 LAYOUT = struct.Struct("=QQ")
 
 
 def compiled(room):
     """The library, made in the folder `room`, or None where it does not compile."""
-    library = f"{room}/refuse.so"
+    library = f"{room}/failing.so"
     ended = subprocess.run(["cc", "-O2", "-shared", "-fPIC", "-o", library, SOURCE])
     return None if ended.returncode else library
 
@@ -36,11 +36,11 @@ class Report:
     def close(self):
         self.file.close()
 
-    def environment(self, library, refused):
-        """The environment of a run in which this growth is refused (0: none)."""
-        settings = {"LD_PRELOAD": library, "REFUSE_AT": str(refused), "REFUSE_REPORT": str(self.number)}
+    def environment(self, library, failing):
+        """The environment of a run in which this allocation fails (0: none)."""
+        settings = {"LD_PRELOAD": library, "FAIL_AT": str(failing), "FAIL_REPORT": str(self.number)}
         return {"PATH": os.environ.get("PATH", os.defpath), **settings}
 
     def counts(self):
-        """How many growths there were so far, and how many were refused."""
+        """How many allocations there were so far, and how many failed."""
         return LAYOUT.unpack(os.pread(self.number, LAYOUT.size, 0))
