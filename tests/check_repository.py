@@ -14,6 +14,8 @@ CITED = re.compile(
     r"\b(D([1-9]|1[0-9]|2[0-2])|T[1-5]\.[0-9]+|W([1-9]|1[0-9]|2[0-7])|R([1-9]|1[0-5]))\b"
     r"|\b(row|rows|demand|request|document) [0-9]+\b"
 )
+# A row of README's tables of causes and of faults.
+NAMED = re.compile(r"\| (?:\d+ \| )?`([A-Z]\w+)` \|")
 LINK = re.compile(r"\]\(([^)\s]+)\)")
 ELSEWHERE = ("http://", "https://", "mailto:", "#")
 # Words of our own dialect, and what plain English has for them.
@@ -35,6 +37,7 @@ WORDED_SOURCES = ("crates/*/README.md", "crates/**/*.rt", "crates/**/*.antt", "c
 # Whether the sources' comments are held to these words too.
 SOURCES_ARE_WORDED = False
 COMMENT = re.compile(r"(?://|--)(.*)")
+CODE = re.compile(r"`[^`]*`")
 
 
 def files():
@@ -98,11 +101,11 @@ def citations():
 
 
 def words_of(file, line):
-    """What of a line is prose: of a source its comment, of any other text all of it."""
+    """What of a line is prose: of a source its comment, of any other text all but names in backquotes."""
     if file.suffix in (".rt", ".antt"):
         found = COMMENT.search(line)
-        return found[1] if found else ""
-    return line
+        line = found[1] if found else ""
+    return CODE.sub("", line)
 
 
 def dialect():
@@ -156,7 +159,17 @@ def passes(check):
     return not found
 
 
-CHECKS = (long_sources, crates_and_folders, dead_links, citations, dialect, edits)
+def untried_names():
+    """Each cause and each fault in README's tables is in what a scenario or the sweep wants."""
+    wanted = [it for it in TOP.glob("tests/scenarios/*/*") if it.name.startswith(("output", "runs"))]
+    wanted = "".join("\n".join(lines_of(it)) for it in [*wanted, TOP / "tests/failed_allocations/sweep.py"])
+    names = [it[1] for it in map(NAMED.match, lines_of(TOP / "README.md")) if it]
+    if not names:
+        yield "README.md names no cause and no fault"
+    yield from (f"nothing looks at {it}" for it in names if f'"{it}"' not in wanted)
+
+
+CHECKS = (long_sources, crates_and_folders, dead_links, citations, dialect, edits, untried_names)
 
 
 def main():
