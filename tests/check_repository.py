@@ -2,6 +2,8 @@
 """Checks the repository itself: its layout, its links and its words. The last line is 'N passed, M failed'."""
 import os
 import re
+import shutil
+import subprocess
 import sys
 from pathlib import Path
 
@@ -14,6 +16,8 @@ CITED = re.compile(
     r"\b(D([1-9]|1[0-9]|2[0-2])|T[1-5]\.[0-9]+|W([1-9]|1[0-9]|2[0-7])|R([1-9]|1[0-5]))\b"
     r"|\b(row|rows|demand|request|document) [0-9]+\b"
 )
+# The version and the kit's line in the one constant that has them.
+VERSION = re.compile(r'VERSION: &str = "(\d+\.\d+\.\d+) \((.*)\)";')
 # A row of README's tables of causes and of faults.
 NAMED = re.compile(r"\| (?:\d+ \| )?`([A-Z]\w+)` \|")
 LINK = re.compile(r"\]\(([^)\s]+)\)")
@@ -148,6 +152,22 @@ def edits():
             yield f"{named(edit)}: {fault}"
 
 
+def kit_line():
+    """The version names the line of the kit that is here, and so does README, where it says what is proved."""
+    rt = shutil.which("rt") or "/opt/rattle/bin/rt"
+    kit = subprocess.run([rt, "version"], stdin=subprocess.DEVNULL, capture_output=True, text=True, check=True).stdout.strip()
+    source, page = TOP / "crates/panad/src/version.rt", TOP / "README.md"
+    version = VERSION.search("\n".join(lines_of(source)))
+    if not version:
+        yield f"{named(source)} has no version with the kit's line"
+    elif version[2] != kit:
+        yield f"{named(source)} names {version[2]}, and the kit here is {kit}"
+    if f"Proved with `{kit}`" not in "\n".join(lines_of(page)):
+        yield f"{named(page)} doesn't say that it is proved with {kit}"
+    if version and not any(it.startswith("## ") and version[1] in it for it in lines_of(TOP / "CHANGELOG.md")):
+        yield f"CHANGELOG.md has no heading for {version[1]}"
+
+
 def passes(check):
     """Whether the check finds nothing; prints its line, and what it finds."""
     try:
@@ -169,7 +189,7 @@ def untried_names():
     yield from (f"nothing looks at {it}" for it in names if f'"{it}"' not in wanted)
 
 
-CHECKS = (long_sources, crates_and_folders, dead_links, citations, dialect, edits, untried_names)
+CHECKS = (long_sources, crates_and_folders, dead_links, citations, dialect, edits, untried_names, kit_line)
 
 
 def main():

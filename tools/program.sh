@@ -1,4 +1,4 @@
-# shellcheck shell=bash disable=SC2154
+# shellcheck shell=bash disable=SC2154,SC2034
 # Finds the kit, and keeps the built program in .build/ with a stamp of what it was built from.
 # Read by ./panad and ./test, which set top, the repository's folder, beforehand.
 

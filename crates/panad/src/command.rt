@@ -1,6 +1,7 @@
 use crate::comparing::compare_on;
 use crate::fault::ProgramFault;
 use crate::running::run_on;
+use crate::version::VERSION;
 use clap::error::{Error, ErrorKind};
 use clap::{Arg, ArgMatches, Command};
 use pana_wire::Tap;
@@ -11,6 +12,17 @@ use std::process::ExitCode;
 
 /// How many reads a session of the program makes at most.
 const READS: u64 = 4_294_967_296;
+
+const LINES: &str = "\
+Each line of input to `panad run` is what a device reports, or asks:
+
+    {\"by\":\"laptop\",\"do\":\"register\",\"device\":\"laptop\",\"path\":\"plan.txt\"}
+    {\"by\":\"laptop\",\"do\":\"duplicate\",\"copy\":1,\"device\":\"usb\",\"path\":\"plan.txt\"}
+    {\"by\":\"usb\",\"do\":\"edit\",\"copy\":2}
+    {\"by\":\"desk\",\"do\":\"board\",\"family\":1}
+
+`panad run --help` and `panad compare --help` show an example. README.md has all
+answers, what is proved of them, and what isn't.";
 
 const RUN_EXAMPLE: &str = "\
 Example: a file on a laptop, its copy on a stick, an edit of the first, and then: which is newest?
@@ -40,9 +52,7 @@ const SECOND: &str = "SECOND";
 
 fn run_command<'a>(alloc: Global) -> Command<'a> {
     Command::new(alloc, RUN)
-        .about(
-            "Answers reports and questions, one line of JSON each, from standard input to standard output",
-        )
+        .about("Answers the reports and questions on standard input, one line of JSON each")
         .after_help(RUN_EXAMPLE)
 }
 
@@ -54,7 +64,7 @@ fn compare_command<'a>(alloc: Global) -> Result<Command<'a>, AllocError> {
         .help("The text of the stamp that it is compared with")
         .required(true);
     Command::new(alloc, COMPARE)
-        .about("Tells how the first stamp stands to the second: Equal, Older, Newer or Conflict")
+        .about("Prints how the first stamp relates to the second: Equal, Older, Newer or Conflict")
         .after_help(COMPARE_EXAMPLE)
         .arg(first)?
         .arg(second)
@@ -64,9 +74,10 @@ fn compare_command<'a>(alloc: Global) -> Result<Command<'a>, AllocError> {
 fn command_line<'a>(alloc: Global) -> Result<Command<'a>, AllocError> {
     Command::new(alloc, "panad")
         .about(
-            "Tells of the copies of a file which are newest, which are obsolete, and which are in conflict",
+            "Answers which copies of a file are newest, which are obsolete, and which are in conflict",
         )
-        .after_help("`panad run --help` and `panad compare --help` show an example.")
+        .version(VERSION)
+        .after_help(LINES)
         .subcommand_required(true)
         .arg_required_else_help(true)
         .subcommand(run_command(alloc))?

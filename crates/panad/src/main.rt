@@ -1,4 +1,4 @@
-//! `panad` tells of the copies of a file which are newest, which are obsolete, and which are in conflict.
+//! `panad` answers which copies of a file are newest, which are obsolete, and which are in conflict.
 #![tactic(auto)]
 
 mod answer;
@@ -9,6 +9,7 @@ mod one_hall;
 mod running;
 #[cfg(test)]
 mod tests;
+mod version;
 
 use std::process::ExitCode;
 
