@@ -27,6 +27,8 @@ WHERE = ("/lib/x86_64-linux-gnu", "/lib64", "/usr/lib64", "/usr/lib")
 NEWEST_C = 34
 WANTED = {"BUILT-FROM", "CHANGELOG.md", "README.md", "docs/DECISIONS.md", "docs/MAP.md", "docs/PROMISES.md", "panad", "panad.1"}
 VERSION = re.compile(r'VERSION: &str = "(\S+) \((.*)\)";')
+# A command in the help.
+COMMAND = re.compile(r"^  (\w+) ", re.MULTILINE)
 
 
 def packed(room, name):
@@ -75,6 +77,8 @@ def names_and_texts(unpacked, version, kit):
     manual = (unpacked / "panad.1").read_text()
     if f"panad {version}" not in manual or "@" in manual:
         yield "panad.1 doesn't name the version"
+    help_text = scenario.read(scenario.FOLDER / "help").runs[0].output.decode()
+    yield from (f"panad.1 lacks the command {it}" for it in COMMAND.findall(help_text) if it not in manual)
     said = dict(it.split(None, 1) for it in (unpacked / "BUILT-FROM").read_text().splitlines())
     sums = {"sources": (TOP / ".build/stamp").read_text().split()[0]}
     sums["program"] = subprocess.run(["sha256sum", unpacked / "panad"], capture_output=True, text=True).stdout.split()[0]

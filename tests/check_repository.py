@@ -35,7 +35,7 @@ DIALECT = {
 }
 SAID_OTHERWISE = [(re.compile(rf"\b({words})\b", re.IGNORECASE), plain) for words, plain in DIALECT.items()]
 # Where the words are looked for: texts whole, and of sources the comments.
-WORDED = ("*.md", "docs/**/*.md", "test", "panad", "package", ".ci/*", "tools/*", "tests/**/*.py", "tests/**/*.c")
+WORDED = ("*.md", "docs/**/*", "test", "panad", "package", ".ci/*", "tools/*", "tests/**/*.py", "tests/**/*.c")
 WORDED += ("tests/scenarios/*/about", "tests/scenarios/help*/output", "tests/scenarios/no_command/error")
 WORDED_SOURCES = ("crates/*/README.md", "crates/**/*.rt", "crates/**/*.antt", "crates/*/must-fail/*.edit")
 # Whether the sources' comments are held to these words too.

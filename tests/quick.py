@@ -9,6 +9,7 @@ The last line is 'N passed, M failed', one for each crate.
 from __future__ import annotations
 
 import hashlib
+import os
 import re
 import subprocess
 import sys
@@ -26,10 +27,10 @@ TEST = re.compile(rb"#\[test\]")
 
 
 def sum_of(files):
-    """One sum of some files, by path and content."""
+    """One sum of some files, by path and content; it is the same wherever the repository lies."""
     total = hashlib.sha256()
     for it in files:
-        total.update(repr((str(it), it.read_bytes())).encode())
+        total.update(repr((os.path.relpath(it, TOP) if TOP in it.parents else it.name, it.read_bytes())).encode())
     return total.hexdigest()
 
 

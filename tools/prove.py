@@ -19,7 +19,7 @@ from pathlib import Path
 
 TOP = Path(__file__).resolve().parent.parent
 PROGRAM = "panad"
-WIDEST = 78
+WIDEST = 79
 INTERRUPTED = 130
 COUNTED = re.compile(r"^(?:so far: (\d+) of (\d+) functions checked|checked \S+, (\d+) of (\d+))")
 
@@ -61,6 +61,8 @@ class Progress:
 
     def __post_init__(self):
         self.is_terminal = sys.stderr.isatty()
+        columns = os.get_terminal_size(sys.stderr.fileno()).columns if self.is_terminal else 0
+        self.width = min(columns or WIDEST, WIDEST) - 1
         self.start = time.monotonic()
 
     def begin(self, name):
@@ -80,7 +82,7 @@ class Progress:
         if self.is_terminal:
             so_far = minutes(time.monotonic() - self.start)
             text = f"panad: crate {self.at} of {self.count}, {self.name}{self.functions}, {so_far} min so far"
-            print(f"\r{text[:WIDEST]:{WIDEST}}", end="", file=sys.stderr, flush=True)
+            print(f"\r{text[: self.width]:{self.width}}", end="", file=sys.stderr, flush=True)
 
     def end(self, is_built):
         """Says that the crate is done, and that it is at fault where it is."""
@@ -91,7 +93,7 @@ class Progress:
 
     def clear(self):
         if self.is_terminal:
-            print(f"\r{'':{WIDEST}}\r", end="", file=sys.stderr, flush=True)
+            print(f"\r{'':{self.width}}\r", end="", file=sys.stderr, flush=True)
 
 
 def lines_of(pipe, wait):
