@@ -38,8 +38,8 @@ SAID_OTHERWISE = [(re.compile(rf"\b({words})\b", re.IGNORECASE), plain) for word
 WORDED = ("*.md", "docs/**/*", "test", "panad", "package", ".ci/*", "tools/*", "tests/**/*.py", "tests/**/*.c")
 WORDED += ("tests/scenarios/*/about", "tests/scenarios/help*/output", "tests/scenarios/no_command/error")
 WORDED_SOURCES = ("crates/*/README.md", "crates/**/*.rt", "crates/**/*.antt", "crates/*/must-fail/*.edit")
-# Whether the sources' comments are held to these words too.
-SOURCES_ARE_WORDED = False
+# Whether the crates are held to these words too, and to a README.md each.
+CRATES_ARE_DONE = False
 COMMENT = re.compile(r"(?://|--)(.*)")
 CODE = re.compile(r"`[^`]*`")
 
@@ -65,6 +65,13 @@ def listed_crates():
     return [it.split(":")[0].split()[0] for it in lines if it.strip()]
 
 
+def crate_pages():
+    """Each crate has a README.md, once the crates are held to it."""
+    for name in listed_crates() if CRATES_ARE_DONE else ():
+        if not (TOP / "crates" / name / "README.md").is_file():
+            yield f"crates/{name} has no README.md"
+
+
 def long_sources():
     """No source file is over 500 lines."""
     for file in sorted(TOP.glob("crates/*/src/**/*")):
@@ -86,10 +93,10 @@ def crates_and_folders():
 
 
 def dead_links():
-    """README.md is there, and each link to a file from a page at the top or under docs/ leads to one."""
+    """README.md is there, and each link to a file from a page at the top, under docs/ or of a crate leads to one."""
     if not (TOP / "README.md").is_file():
         yield "there is no README.md"
-    for page in sorted([*TOP.glob("*.md"), *TOP.glob("docs/**/*.md")]):
+    for page in sorted([*TOP.glob("*.md"), *TOP.glob("docs/**/*.md"), *TOP.glob("crates/*/README.md")]):
         for target in LINK.findall("\n".join(lines_of(page))):
             if not target.startswith(ELSEWHERE) and not (page.parent / target.split("#")[0]).exists():
                 yield f"{named(page)} links to {target}, which is not there"
@@ -114,7 +121,7 @@ def words_of(file, line):
 
 def dialect():
     """Pages, help, scripts and comments use the field's words."""
-    sources = WORDED_SOURCES if SOURCES_ARE_WORDED else ()
+    sources = WORDED_SOURCES if CRATES_ARE_DONE else ()
     found = {it for pattern in (*WORDED, *sources) for it in TOP.glob(pattern) if it.is_file()}
     for file in sorted(it for it in found if not SKIPPED & {*named(it).parts} and it != Path(__file__).resolve()):
         for number, line in enumerate(lines_of(file), 1):
@@ -189,7 +196,7 @@ def untried_names():
     yield from (f"nothing looks at {it}" for it in names if f'"{it}"' not in wanted)
 
 
-CHECKS = (long_sources, crates_and_folders, dead_links, citations, dialect, edits, untried_names, kit_line)
+CHECKS = (long_sources, crates_and_folders, crate_pages, dead_links, citations, dialect, edits, untried_names, kit_line)
 
 
 def main():
