@@ -38,8 +38,9 @@ SAID_OTHERWISE = [(re.compile(rf"\b({words})\b", re.IGNORECASE), plain) for word
 WORDED = ("*.md", "docs/**/*", "test", "panad", "package", ".ci/*", "tools/*", "tests/**/*.py", "tests/**/*.c")
 WORDED += ("tests/scenarios/*/about", "tests/scenarios/help*/output", "tests/scenarios/no_command/error")
 WORDED_SOURCES = ("crates/*/README.md", "crates/**/*.rt", "crates/**/*.antt", "crates/*/must-fail/*.edit")
-# Whether the crates are held to these words too, and to a README.md each.
+# Whether the crates are held to these words too, to a README.md each, and to so many must-fail edits.
 CRATES_ARE_DONE = False
+MOST_EDITS = 12
 COMMENT = re.compile(r"(?://|--)(.*)")
 CODE = re.compile(r"`[^`]*`")
 
@@ -65,11 +66,14 @@ def listed_crates():
     return [it.split(":")[0].split()[0] for it in lines if it.strip()]
 
 
-def crate_pages():
-    """Each crate has a README.md, once the crates are held to it."""
+def crate_folders():
+    """Each crate has a README.md and at most 12 must-fail edits, once the crates are held to it."""
     for name in listed_crates() if CRATES_ARE_DONE else ():
-        if not (TOP / "crates" / name / "README.md").is_file():
+        folder = TOP / "crates" / name
+        if not (folder / "README.md").is_file():
             yield f"crates/{name} has no README.md"
+        if len([*folder.glob("must-fail/*.edit")]) > MOST_EDITS:
+            yield f"crates/{name} has {len([*folder.glob('must-fail/*.edit')])} must-fail edits, over {MOST_EDITS}"
 
 
 def long_sources():
@@ -136,7 +140,7 @@ def fault_of_edit(edit):
     texts, file, old = {}, None, None
     for line in lines_of(edit):
         word, _, rest = line.partition(":")
-        rest = rest.removeprefix(" ")
+        rest = rest[1:] if rest.startswith(" ") else rest
         if word == "file":
             file = edit.parents[1] / rest.strip()
             if not file.is_file():
@@ -196,7 +200,7 @@ def untried_names():
     yield from (f"nothing looks at {it}" for it in names if f'"{it}"' not in wanted)
 
 
-CHECKS = (long_sources, crates_and_folders, crate_pages, dead_links, citations, dialect, edits, untried_names, kit_line)
+CHECKS = (long_sources, crates_and_folders, crate_folders, dead_links, citations, dialect, edits, untried_names, kit_line)
 
 
 def main():
