@@ -124,13 +124,14 @@ def words_of(file, line):
 
 
 def dialect():
-    """Pages, help, scripts and comments use the field's words."""
+    """Pages, help, scripts, comments and the names of files use the field's words."""
     sources = WORDED_SOURCES if CRATES_ARE_DONE else ()
     found = {it for pattern in (*WORDED, *sources) for it in TOP.glob(pattern) if it.is_file()}
     for file in sorted(it for it in found if not SKIPPED & {*named(it).parts} and it != Path(__file__).resolve()):
-        for number, line in enumerate(lines_of(file), 1):
+        name = re.sub(r"[_/.-]", " ", str(named(file)))
+        for number, prose in enumerate([name, *(words_of(file, it) for it in lines_of(file))]):
             for words, plain in SAID_OTHERWISE:
-                other = words.search(words_of(file, line))
+                other = words.search(prose)
                 if other:
                     yield f"{named(file)}:{number} says {other[0]!r}, and not: {plain}"
 
