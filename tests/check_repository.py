@@ -43,6 +43,9 @@ CRATES_ARE_DONE = False
 MOST_EDITS = 12
 COMMENT = re.compile(r"(?://|--)(.*)")
 CODE = re.compile(r"`[^`]*`")
+QUOTED = re.compile(r"`([^`]+)`")
+NAME = re.compile(r"\w+(::\w+)*")
+WORD = re.compile(r"\w+")
 
 
 def files():
@@ -201,7 +204,22 @@ def untried_names():
     yield from (f"nothing looks at {it}" for it in names if f'"{it}"' not in wanted)
 
 
-CHECKS = (long_sources, crates_and_folders, crate_folders, dead_links, citations, dialect, edits, untried_names, kit_line)
+def named_in_pages():
+    """What the map and the promises name in backquotes is there: files of the crates, and names in the sources."""
+    sources = [it for kind in ("rt", "antt") for it in TOP.glob(f"crates/*/*/**/*.{kind}") if "out" not in it.parts]
+    files = {end for it in sources for end in (it.name, f"{it.parent.name}/{it.name}")}
+    words = {word for it in [*sources, TOP / "crates.txt"] for line in lines_of(it) for word in WORD.findall(line)}
+    words |= {it.name for it in TOP.glob("tests/scenarios/*")} | {it.name for it in TOP.glob("tests/scenarios/*/*")}
+    words |= {it.stem for it in sources}
+    for page in (TOP / "docs/MAP.md", TOP / "docs/PROMISES.md"):
+        for number, line in enumerate(lines_of(page), 1):
+            for name in QUOTED.findall(line):
+                is_file = name.endswith((".rt", ".antt"))
+                if is_file and name not in files or not is_file and NAME.fullmatch(name) and name.split("::")[-1] not in words:
+                    yield f"{named(page)}:{number} names {name}, which is not there"
+
+
+CHECKS = (long_sources, crates_and_folders, crate_folders, dead_links, citations, dialect, edits, untried_names, named_in_pages, kit_line)
 
 
 def main():

@@ -131,15 +131,20 @@ def failed_proof(kit):
         yield "it went on"
 
 
+def wait_for_call(kit, call):
+    """Waits until rt was called so."""
+    end = time.monotonic() + SECONDS
+    while not (kit.kit / "calls").exists() or call not in kit.calls():
+        if time.monotonic() > end:
+            raise ValueError(f"rt was never called so: {call}")
+        time.sleep(0.05)
+
+
 def interrupted(kit):
     """An interrupted first use ends with status 130, and the next goes on."""
     kit.has_rt_do('case "$1" in run) sleep 60 ;; esac')
     with kit.start("./panad", "run") as started:
-        end = time.monotonic() + SECONDS
-        while not (kit.kit / "calls").exists() or "panad run -- run" not in kit.calls():
-            if time.monotonic() > end:
-                raise ValueError("it never came to the program")
-            time.sleep(0.05)
+        wait_for_call(kit, "panad run -- run")
         os.killpg(started.pid, signal.SIGINT)
         _, error = started.communicate(timeout=SECONDS)
     if started.returncode not in (130, -signal.SIGINT) or "interrupted" not in error.decode():
@@ -147,6 +152,18 @@ def interrupted(kit):
     kit.has_rt_do(WELL)
     if kit.run("./panad", "run")[:2] != (0, "answers\n"):
         yield "the next use didn't go on"
+
+
+def ended_alone(kit):
+    """Where tools/prove.py is ended by itself, rt is ended too."""
+    kit.has_rt_do('trap "kill \$!; echo ended >>$kit/calls; exit 1" TERM; sleep 60 & wait')
+    with kit.start("python3", "-B", "tools/prove.py", kit.kit / "bin" / "rt", kit.kit / "log") as started:
+        wait_for_call(kit, "low lib")
+        started.terminate()
+        started.communicate(timeout=SECONDS)
+    wait_for_call(kit, "ended")
+    if started.returncode != 130:
+        yield f"it ended with {started.returncode}"
 
 
 def gate_that_passes(kit):
@@ -193,7 +210,7 @@ def passes(check):
     return not found
 
 
-CHECKS = (other_arguments, first_use, on_a_terminal, failed_proof, interrupted, gate_that_passes, hollow_edit, quick)
+CHECKS = (other_arguments, first_use, on_a_terminal, failed_proof, interrupted, ended_alone, gate_that_passes, hollow_edit, quick)
 
 
 def main():

@@ -11,6 +11,7 @@ from __future__ import annotations
 import os
 import re
 import select
+import signal
 import subprocess
 import sys
 import time
@@ -116,14 +117,20 @@ def build(rt, name, log, progress):
     how = {"stdin": subprocess.DEVNULL, "stdout": subprocess.PIPE, "stderr": subprocess.STDOUT}
     print(f"== {name}", file=log, flush=True)
     with subprocess.Popen([rt, *words], cwd=TOP / "crates" / name, **how) as ran:
-        for line in lines_of(ran.stdout, progress.show):
-            print(line, file=log, flush=True)
-            progress.read(line)
-            progress.show()
+        try:
+            for line in lines_of(ran.stdout, progress.show):
+                print(line, file=log, flush=True)
+                progress.read(line)
+                progress.show()
+        except KeyboardInterrupt:
+            ran.terminate()
+            raise
     return ran.returncode == 0
 
 
 def main(rt, log):
+    for it in (signal.SIGTERM, signal.SIGHUP):
+        signal.signal(it, signal.default_int_handler)
     names = with_those_below([PROGRAM])
     progress = Progress(len(names))
     try:
