@@ -156,7 +156,7 @@ def interrupted(kit):
 
 def ended_alone(kit):
     """Where tools/prove.py is ended by itself, rt is ended too."""
-    kit.has_rt_do('trap "kill \$!; echo ended >>$kit/calls; exit 1" TERM; sleep 60 & wait')
+    kit.has_rt_do("trap 'kill $!; echo ended >>$kit/calls; exit 1' TERM; sleep 60 & wait")
     with kit.start("python3", "-B", "tools/prove.py", kit.kit / "bin" / "rt", kit.kit / "log") as started:
         wait_for_call(kit, "low lib")
         started.terminate()

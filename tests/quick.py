@@ -26,9 +26,9 @@ SECONDS = "60"
 TEST = re.compile(rb"#\[test\]")
 
 
-def sum_of(files):
-    """One sum of some files, by path and content; it is the same wherever the repository lies."""
-    total = hashlib.sha256()
+def sum_of(files, *more):
+    """One sum of some files, by path and content, and of more; it is the same wherever the repository lies."""
+    total = hashlib.sha256(repr(more).encode())
     for it in files:
         total.update(repr((os.path.relpath(it, TOP) if TOP in it.parents else it.name, it.read_bytes())).encode())
     return total.hexdigest()
@@ -51,8 +51,9 @@ def tested(kit, name):
     """Whether the crate's tests pass, and what was printed: those built before where nothing has changed since."""
     folder = TOP / "crates" / name
     program, passed = folder / "out" / f"{name}_tests", folder / "out" / "tests-passed"
-    below = [file for it in prove.with_those_below([name]) for file in sources(it)]
-    wanted = sum_of([TOP / "crates.txt", kit / "KIT-ID", *below])
+    below = prove.with_those_below([name])
+    files = [file for it in below for file in sources(it)]
+    wanted = sum_of([kit / "KIT-ID", *files], [(it, prove.uses()[it]) for it in below])
     if program.is_file() and passed.is_file() and passed.read_text() == f"{wanted} {sum_of([program])}":
         return ran([kit / "bin" / "rattle-test", "--seconds", SECONDS, program], folder)
     passed.unlink(missing_ok=True)
