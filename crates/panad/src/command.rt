@@ -25,7 +25,7 @@ Each line of input to `panad run` is what a device reports, or asks:
 answers, what is proved of them, and what isn't.";
 
 const RUN_EXAMPLE: &str = "\
-Example: a file on a laptop, its copy on a stick, an edit of the first, and then: which is newest?
+Example: a file on a laptop, its copy on a stick, an edit, and which is newest?
 
     $ panad run <<END
     {\"by\":\"laptop\",\"do\":\"register\",\"device\":\"laptop\",\"path\":\"plan.txt\"}
@@ -52,7 +52,7 @@ const SECOND: &str = "SECOND";
 
 fn run_command<'a>(alloc: Global) -> Command<'a> {
     Command::new(alloc, RUN)
-        .about("Answers the reports and questions on standard input, one line of JSON each")
+        .about("Answers the lines on standard input, each a report or a question")
         .after_help(RUN_EXAMPLE)
 }
 
@@ -64,7 +64,7 @@ fn compare_command<'a>(alloc: Global) -> Result<Command<'a>, AllocError> {
         .help("The text of the stamp that it is compared with")
         .required(true);
     Command::new(alloc, COMPARE)
-        .about("Prints how the first stamp relates to the second: Equal, Older, Newer or Conflict")
+        .about("Prints how two stamps relate: Equal, Older, Newer or Conflict")
         .after_help(COMPARE_EXAMPLE)
         .arg(first)?
         .arg(second)
@@ -73,9 +73,7 @@ fn compare_command<'a>(alloc: Global) -> Result<Command<'a>, AllocError> {
 /// What the words of the command line may be.
 fn command_line<'a>(alloc: Global) -> Result<Command<'a>, AllocError> {
     Command::new(alloc, "panad")
-        .about(
-            "Answers which copies of a file are newest, which are obsolete, and which are in conflict",
-        )
+        .about("Answers which copies of a file are newest, obsolete or in conflict")
         .version(VERSION)
         .after_help(LINES)
         .subcommand_required(true)
