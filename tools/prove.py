@@ -22,7 +22,7 @@ TOP = Path(__file__).resolve().parent.parent
 PROGRAM = "panad"
 WIDEST = 79
 INTERRUPTED = 130
-COUNTED = re.compile(r"^(?:so far: (\d+) of (\d+) functions checked|checked \S+, (\d+) of (\d+))")
+COUNTED = re.compile(r"so far: (\d+) of (\d+) functions checked")
 
 
 def uses():
@@ -75,8 +75,7 @@ class Progress:
         """Takes from a line of rt how many functions are checked, where it says so."""
         found = COUNTED.match(line)
         if found:
-            checked, all_of_them = [it for it in found.groups() if it]
-            self.functions = f", {checked} of {all_of_them} functions"
+            self.functions = f", {found[1]} of {found[2]} functions"
 
     def show(self):
         """Puts the changing line on a terminal."""
@@ -106,9 +105,11 @@ def lines_of(pipe, wait):
             continue
         more = os.read(pipe.fileno(), 65536)
         if not more:
-            return
+            break
         *whole, held = (held + more).split(b"\n")
         yield from (it.decode(errors="replace") for it in whole)
+    if held:
+        yield held.decode(errors="replace")
 
 
 def build(rt, name, log, progress):
