@@ -1,8 +1,16 @@
 -- How two copies relate.
+use Rattle.std.specs.Prelude.{ℕ, List, codes}
 use Rattle.pana_event.specs.Event.{Event}
 use Rattle.pana_event.specs.Order.{IsBelow}
 use Rattle.pana_event.specs.declared.rel.Rel.{Rel}
 use Rattle.pana_event.specs.declared.rel.Rel.TheVariants.{Equal, Older, Newer, Conflict}
+
+-- the name of a relation
+abbrev pub rel_name : Rel → List ℕ
+rel_name Equal = codes "Equal"
+rel_name Older = codes "Older"
+rel_name Newer = codes "Newer"
+rel_name Conflict = codes "Conflict"
 
 -- the relation of the second to the first, from that of the first to the second
 abbrev pub reverse_of : Rel → Rel

@@ -1,7 +1,7 @@
 //! How two copies relate.
 ghost use Rattle.std.specs.Prelude.{◌≡◌};
 ghost use Rattle.pana_event.specs.Event.{Event};
-ghost use Rattle.pana_event.specs.Relation.{IsRelation, reverse_of};
+ghost use Rattle.pana_event.specs.Relation.{IsRelation, rel_name, reverse_of};
 
 /// How one copy relates to another.
 #[derive(Clone, Copy, Debug, PartialEq, Eq)]
@@ -17,6 +17,18 @@ pub enum Rel {
 }
 
 impl Rel {
+    /// The name, as a program prints it. Takes no memory.
+    pub fn name(self) -> &'static str
+        ensures { result.now ≡ rel_name self }
+    {
+        match self {
+            Rel::Equal => "Equal",
+            Rel::Older => "Older",
+            Rel::Newer => "Newer",
+            Rel::Conflict => "Conflict",
+        }
+    }
+
     /// The relation of the other copy to this one. Takes no memory.
     pub fn reversed(self) -> Rel
         ensures value { result ≡ reverse_of self }

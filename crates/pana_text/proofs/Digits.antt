@@ -1,8 +1,9 @@
 -- Digits read one by one, with None above the limit.
 use Rattle.std.proofs.Common.{◌≡◌, ℕ, ◌+◌, ◌-◌, ◌*◌, ◌^◌, ◌<◌, ◌≤◌, Bool, true, false, cond, leb, ◌&&◌, length, get_or, List, [], ◌∷◌, Option, Some, None, refl, ap, ◌∙◌, arith, inl, inr}
 use Rattle.std.proofs.lemmas.Bool.{cases_lt, le-ltb, lt-ltb, lt-leb}
-use Rattle.pana_text.specs.Reading.{is_digit, digits_from}
-use Rattle.pana_text.specs.Limits.{fitted, with_digit}
+use Rattle.pana_text.specs.Grammar.{is_digit}
+use Rattle.pana_text.specs.inner.Reading.{digits_from}
+use Rattle.pana_text.specs.inner.Limits.{fitted, with_digit}
 
 -- the number so far with the digits in front put behind it, and what follows them
 abbrev pub fitted_digits : Option ℕ → List ℕ → Option ℕ × List ℕ

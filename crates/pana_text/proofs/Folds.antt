@@ -5,7 +5,8 @@ use Rattle.pana_id.specs.Id.{Id, zero_id, one_id, pair}
 use Rattle.pana_event.specs.Event.{Event, leaf, fork}
 use Rattle.pana_text.specs.declared.fault.TextFault.{TextFault}
 use Rattle.pana_text.specs.declared.fault.TextFault.TheVariants.{TooDeep}
-use Rattle.pana_text.specs.Reading.{◌>>=◌, wrong, after, is_digit, digits_from, number_at, behind_comma, fork_number_at, fork_closed, leaf_at, OfId, ids, id_or, pair_at, id_at, OfEvent, events, event_or, fork_at, event_at}
+use Rattle.pana_text.specs.Grammar.{is_digit}
+use Rattle.pana_text.specs.inner.Reading.{◌>>=◌, wrong, after, digits_from, number_at, behind_comma, fork_number_at, fork_closed, leaf_at, OfId, ids, id_or, pair_at, id_at, OfEvent, events, event_or, fork_at, event_at}
 
 -- what is read, seen by a function
 abbrev pub mapped : {A B : Type 0} → (A → B) → Result A TextFault → Result B TextFault

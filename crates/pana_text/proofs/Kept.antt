@@ -6,9 +6,9 @@ use Rattle.pana_id.specs.Id.{Id, zero_id, one_id, pair, is_zero as is_zero_id, I
 use Rattle.pana_event.specs.Event.{Event, leaf, fork, number, greatest, IsNormal, IsOpen}
 use Rattle.pana_text.specs.declared.id.IdKind.{IdKind}
 use Rattle.pana_text.specs.declared.event.EventKind.{EventKind}
-use Rattle.pana_text.specs.Reading.{ids}
-use Rattle.pana_text.specs.Form.{is_one, is_normal_id, is_leaf_zero, is_normal_event}
-use Rattle.pana_text.specs.Limits.{fitted, sum_fitted, max_fitted, capped, pair_kind, id_kinds, is_zero, fork_kind, event_kinds, capped_events}
+use Rattle.pana_text.specs.inner.Reading.{ids}
+use Rattle.pana_text.specs.inner.Form.{is_one, is_normal_id, is_leaf_zero, is_normal_event}
+use Rattle.pana_text.specs.inner.Limits.{fitted, sum_fitted, max_fitted, capped, pair_kind, id_kinds, is_zero, fork_kind, event_kinds, capped_events}
 use Rattle.pana_text.proofs.Digits.{fitted-at, fitted-past}
 use Rattle.pana_text.proofs.Folds.{folded_id, folded}
 

@@ -8,9 +8,9 @@ use Rattle.pana_text.specs.declared.fault.TextFault.{TextFault}
 use Rattle.pana_text.specs.declared.fault.TextFault.TheVariants.{Syntax, TooDeep, NotNormal, TooLarge, OutOfMemory}
 use Rattle.pana_text.specs.declared.id.IdKind.{IdKind}
 use Rattle.pana_text.specs.declared.event.EventKind.{EventKind}
-use Rattle.pana_text.specs.Reading.{◌>>=◌, Fails, after, OfId, ids, id_at, OfEvent, events, event_at, at_end, stamp_at}
-use Rattle.pana_text.specs.Form.{is_normal_id, is_normal_event, judged, reading, IsRead}
-use Rattle.pana_text.specs.Limits.{id_kinds, event_kinds, capped_events, judged_kinds}
+use Rattle.pana_text.specs.inner.Reading.{◌>>=◌, Fails, after, OfId, ids, id_at, OfEvent, events, event_at, at_end, stamp_at}
+use Rattle.pana_text.specs.inner.Form.{is_normal_id, is_normal_event, judged, reading, IsRead}
+use Rattle.pana_text.specs.inner.Limits.{id_kinds, event_kinds, capped_events, judged_kinds}
 use Rattle.pana_text.proofs.Digits.{fitted-at, fitted-past}
 use Rattle.pana_text.proofs.Folds.{mapped, bind_mapped, bind_same, front, folded_id, folded, id_at-fold, event_at-fold}
 use Rattle.pana_text.proofs.Kept.{kind_of_id, kind_of, folded_id-kinds, folded_id-ids, folded-kinds, folded-capped}

@@ -3,7 +3,7 @@ use Rattle.std.proofs.Common.{◌≡◌, ℕ, zero, suc, ◌-◌, ◌<◌, List,
 use Rattle.std.proofs.lemmas.Bool.{ne_eqb}
 use Rattle.pana_text.specs.declared.fault.TextFault.{TextFault}
 use Rattle.pana_text.specs.declared.fault.TextFault.TheVariants.{TooDeep}
-use Rattle.pana_text.specs.Reading.{OfId, OfEvent, id_or, pair_at, id_at, leaf_at, event_or, fork_at, event_at}
+use Rattle.pana_text.specs.inner.Reading.{OfId, OfEvent, id_or, pair_at, id_at, leaf_at, event_or, fork_at, event_at}
 
 pub id_at-deeper : {A : Type 0} (of : OfId A) (total n : ℕ) (text : List ℕ) → 0 < n → id_at of total n text ≡ id_or of total (pair_at of total (id_at of total (n - 1))) text
 id_at-deeper of total zero text h = absurd (omega arith)

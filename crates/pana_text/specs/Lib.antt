@@ -1,6 +1,5 @@
-pub mod Fault
-pub mod Form
-pub mod Grammar
-pub mod Limits
-pub mod Reading
 pub mod Text
+pub mod Grammar
+pub mod Fault
+pub mod Laws
+pub mod inner

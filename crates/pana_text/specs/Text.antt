@@ -1,7 +1,7 @@
 -- The one text of each id, event and stamp.
-use Rattle.std.specs.Prelude.{ℕ, List, [], ◌∷◌, ◌++◌, decimal}
-use Rattle.pana_id.specs.Id.{Id, zero_id, one_id, pair}
-use Rattle.pana_event.specs.Event.{Event, leaf, fork}
+use Rattle.std.specs.Prelude.{◌≡◌, ℕ, List, [], ◌∷◌, ◌++◌, decimal}
+use Rattle.pana_id.specs.Id.{Id, zero_id, one_id, pair, IsValid}
+use Rattle.pana_event.specs.Event.{Event, leaf, fork, IsSound}
 
 -- texts in parentheses, with commas between them
 abbrev pub in_two : List ℕ → List ℕ → List ℕ
@@ -16,7 +16,7 @@ id_text zero_id = 48 ∷ []
 id_text one_id = 49 ∷ []
 id_text (pair l r) = in_two (id_text l) (id_text r)
 
--- the text of an event: its number, and behind that of a fork its halves
+-- the text of an event: its number, and after that of a fork its halves
 abbrev pub event_text : Event → List ℕ
 event_text (leaf n) = decimal n
 event_text (fork n l r) = in_three (decimal n) (event_text l) (event_text r)
@@ -24,3 +24,11 @@ event_text (fork n l r) = in_three (decimal n) (event_text l) (event_text r)
 -- the text of a stamp: its id and its event
 abbrev pub stamp_text : Id → Event → List ℕ
 stamp_text i e = in_two (id_text i) (event_text e)
+
+-- the text is that of this stamp, whose trees are normal and within the limits
+abbrev pub IsTextOf : Id → Event → List ℕ → Type 0
+IsTextOf i e text = IsValid i × IsSound e × (text ≡ stamp_text i e)
+
+-- the text is that of some stamp
+abbrev pub IsTextOfStamp : List ℕ → Type 0
+IsTextOfStamp text = (i : Id) × (e : Event) × IsTextOf i e text

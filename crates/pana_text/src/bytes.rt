@@ -1,7 +1,7 @@
 //! The words of the grammar that both trees have: single bytes, and numbers.
 ghost use Rattle.std.specs.Prelude.{◌≡◌, ◌-◌, length};
-ghost use Rattle.pana_text.specs.Reading.{Reads, after, digits_from, fork_number_at, number_at};
-ghost use Rattle.pana_text.specs.Limits.{fitted, with_digit};
+ghost use Rattle.pana_text.specs.inner.Reading.{Reads, after, digits_from, fork_number_at, number_at};
+ghost use Rattle.pana_text.specs.inner.Limits.{fitted, with_digit};
 
 use crate::fault::TextFault;
 
@@ -47,7 +47,7 @@ fn digits_of(text: &[u8]) -> (Option<u64>, &[u8])
 
 /// The number in front, and what follows it.
 /// The number is `None` where it is above the greatest `u64`.
-#[tactic(auto, unfolding(crate::specs::Reading::number_at))]
+#[tactic(auto, unfolding(crate::specs::inner::Reading::number_at))]
 pub(crate) fn number_at(text: &[u8], total: usize) -> Result<(Option<u64>, &[u8]), TextFault>
     ensures { Reads (λ x. (x.0, x.1.now)) result (number_at fitted total text.now) }
 {
@@ -59,7 +59,7 @@ pub(crate) fn number_at(text: &[u8], total: usize) -> Result<(Option<u64>, &[u8]
 }
 
 /// The number of a fork in front with its comma, and what follows them.
-#[tactic(auto, unfolding(crate::specs::Reading::fork_number_at))]
+#[tactic(auto, unfolding(crate::specs::inner::Reading::fork_number_at))]
 pub(crate) fn fork_number_at(text: &[u8], total: usize) -> Result<(Option<u64>, &[u8]), TextFault>
     ensures { Reads (λ x. (x.0, x.1.now)) result (fork_number_at fitted total text.now) }
 {

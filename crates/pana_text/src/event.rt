@@ -1,8 +1,8 @@
 //! Events in a text: a pass that checks and takes no memory, and a pass that builds.
 ghost use Rattle.std.specs.Prelude.{◌≡◌};
 ghost use Rattle.pana_event.specs.Shape.{tree};
-ghost use Rattle.pana_text.specs.Reading.{Gives, Reads, event_at, fork_closed, leaf_at};
-ghost use Rattle.pana_text.specs.Limits.{capped_events, event_kinds, fork_kind, leaf_kind, sum_fitted, max_fitted};
+ghost use Rattle.pana_text.specs.inner.Reading.{Gives, Reads, event_at, fork_closed, leaf_at};
+ghost use Rattle.pana_text.specs.inner.Limits.{capped_events, event_kinds, fork_kind, leaf_kind, sum_fitted, max_fitted};
 
 use crate::bytes::{after, fork_number_at, number_at};
 use crate::fault::TextFault;

@@ -1,8 +1,8 @@
 //! Ids in a text: a pass that checks and takes no memory, and a pass that builds.
 ghost use Rattle.std.specs.Prelude.{◌≡◌};
 ghost use Rattle.pana_id.specs.Node.{tree};
-ghost use Rattle.pana_text.specs.Reading.{Gives, Reads, id_at, ids};
-ghost use Rattle.pana_text.specs.Limits.{id_kinds, one_kind, pair_kind, zero_kind};
+ghost use Rattle.pana_text.specs.inner.Reading.{Gives, Reads, id_at, ids};
+ghost use Rattle.pana_text.specs.inner.Limits.{id_kinds, one_kind, pair_kind, zero_kind};
 
 use crate::bytes::{after, syntax_at};
 use crate::fault::TextFault;

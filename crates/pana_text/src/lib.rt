@@ -1,10 +1,11 @@
-//! The one text of each stamp, as `((1,0),(0,1,0))`: written, and read with the first fault told.
+//! The one text of each stamp, as `((1,0),(0,1,0))`: written, and read with its first fault reported.
 #![tactic(auto)]
 
 mod bytes;
 mod event;
 mod fault;
 mod id;
+pub mod laws;
 mod reading;
 #[cfg(test)]
 mod tests;

@@ -1,14 +1,14 @@
 //! Stamps read from their texts.
-ghost use Rattle.std.specs.Prelude.{◌≡◌, IfErr, IfOk, OnOk};
+ghost use Rattle.std.specs.Prelude.{◌≡◌, IfErr, IfOk, MatchResult, OnOk};
 ghost use Rattle.pana_id.specs.Node.{tree as id_of};
-ghost use Rattle.pana_id.specs.Id.{Id, IsValid};
-ghost use Rattle.pana_event.specs.Event.{Event, IsSound};
+ghost use Rattle.pana_id.specs.Id.{Id};
+ghost use Rattle.pana_event.specs.Event.{Event};
 ghost use Rattle.pana_event.specs.Shape.{tree as event_of};
-ghost use Rattle.pana_text.specs.Reading.{Gives, Reads, at_end, ids, stamp_at};
-ghost use Rattle.pana_text.specs.Form.{IsRead, reading};
-ghost use Rattle.pana_text.specs.Grammar.{Tells};
-ghost use Rattle.pana_text.specs.Text.{stamp_text};
-ghost use Rattle.pana_text.specs.Limits.{capped_events, event_kinds, id_kinds, judged_kinds};
+ghost use Rattle.pana_text.specs.inner.Reading.{Gives, Reads, at_end, ids, stamp_at};
+ghost use Rattle.pana_text.specs.inner.Form.{IsRead, reading};
+ghost use Rattle.pana_text.specs.Grammar.{Says};
+ghost use Rattle.pana_text.specs.Text.{IsTextOf};
+ghost use Rattle.pana_text.specs.inner.Limits.{capped_events, event_kinds, id_kinds, judged_kinds};
 
 use crate::bytes::{after, syntax_at};
 use crate::event::{EventKind, build_event, check_event};
@@ -32,7 +32,7 @@ fn at_end(rest: &[u8], total: usize) -> Result<(), TextFault>
 const MAX_DEPTH: u32 = 256;
 
 /// What is kept of the two trees of a whole text, which may be `deepest` deep. Takes no memory.
-#[tactic(auto, unfolding(crate::specs::Reading::stamp_at))]
+#[tactic(auto, unfolding(crate::specs::inner::Reading::stamp_at))]
 fn kinds_of(text: &[u8], deepest: u32) -> Result<(IdKind, EventKind), TextFault>
     ensures { Reads (λ x. x) result (stamp_at id_kinds event_kinds deepest text.now) }
 {
@@ -71,7 +71,7 @@ fn check(text: &[u8]) -> Result<(), TextFault>
 }
 
 /// The two trees of a whole text, which may be `deepest` deep.
-#[tactic(auto, unfolding(crate::specs::Reading::stamp_at))]
+#[tactic(auto, unfolding(crate::specs::inner::Reading::stamp_at))]
 fn build(
     alloc: Global,
     text: &[u8],
@@ -90,7 +90,7 @@ fn build(
 }
 
 /// Which stamp the text is read as, or which fault.
-#[tactic(auto, using(crate::proofs::Built::builds, crate::proofs::FirstWrong::no_want))]
+#[tactic(auto, using(crate::proofs::Built::builds, crate::proofs::Returned::no_want))]
 fn read_exactly(alloc: Global, text: &[u8]) -> Result<Stamp, TextFault>
     ensures exact { Gives (λ stamp. (stamp.id, stamp.event)) result (reading text.now) }
     ensures memory { IfErr result (λ fault. fault ≡ TextFault.OutOfMemory → IsRead text.now) }
@@ -105,20 +105,18 @@ fn read_exactly(alloc: Global, text: &[u8]) -> Result<Stamp, TextFault>
 /// # Errors
 ///
 /// `Syntax` or `TooDeep`, whichever comes first from the left; else `NotNormal`; else `TooLarge`. All
-/// these come before memory is taken. `OutOfMemory` where a growth was refused.
+/// these come before memory is taken. `OutOfMemory` where an allocation failed.
 ///
 /// Passes the text twice, to check and to build, and takes a box for each pair and each fork.
 pub fn read(alloc: Global, text: &str) -> Result<Stamp, TextFault>
     // What is read is the text of the stamp.
-    ensures found { IfOk result (λ stamp. text.now ≡ stamp_text stamp.id stamp.event) }
+    ensures found { IfOk result (λ stamp. IsTextOf stamp.id stamp.event text.now) }
     // The text of a stamp is read as that stamp, unless memory runs out.
-    ensures only { (i : Id) (e : Event) → IsValid i → IsSound e → text.now ≡ stamp_text i e → Gives {Y = Id × Event} (λ stamp. (stamp.id, stamp.event)) result (Ok (i, e)) }
+    ensures only { (i : Id) (e : Event) → IsTextOf i e text.now → MatchResult result (λ stamp. (stamp.id ≡ i) × (stamp.event ≡ e)) (λ fault. fault ≡ TextFault.OutOfMemory) }
     // By the grammar: a syntax fault is at the first byte that it doesn't have there, and a depth fault where one
-    // parenthesis too many opens; the form and the levels are those of the trees that the text spells. Want of memory is
-    // told of a stamp's text alone.
-    ensures tells { IfErr result (λ fault. Tells fault text.now) }
-    // Which stamp it is, or which fault.
-    ensures exact { Gives (λ stamp. (stamp.id, stamp.event)) result (reading text.now) }
+    // parenthesis too many opens; the form and the levels are those of the trees that the text spells. That memory ran
+    // out is reported of a stamp's text alone. Of each text just one fault says something true (`laws`).
+    ensures says { IfErr result (λ fault. Says fault text.now) }
 {
     read_exactly(alloc, text.as_bytes())
 }

@@ -1,6 +1,6 @@
 use Rattle.std.proofs.Common.{◌≡◌, rules, arith}
-use Rattle.pana_text.specs.Reading.{event_at, leaf_at}
-use Rattle.pana_text.specs.Limits.{event_kinds}
+use Rattle.pana_text.specs.inner.Reading.{event_at, leaf_at}
+use Rattle.pana_text.specs.inner.Limits.{event_kinds}
 use Rattle.pana_text.proofs.Steps.{leaves}
 use Rattle.pana_text.proofs.event.+check_event.Goals as goal
 use Rattle.pana_text.proofs.event.+check_event.Goals.{in_default-via-then-text-lt1, in_default-via-else-text-lt1+in_default-1}

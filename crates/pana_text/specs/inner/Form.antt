@@ -4,7 +4,7 @@ use Rattle.pana_id.specs.Id.{Id, zero_id, one_id, pair, is_zero}
 use Rattle.pana_event.specs.Event.{Event, leaf, fork, number, greatest}
 use Rattle.pana_text.specs.declared.fault.TextFault.{TextFault}
 use Rattle.pana_text.specs.declared.fault.TextFault.TheVariants.{NotNormal, TooLarge}
-use Rattle.pana_text.specs.Reading.{◌>>=◌, ids, events, stamp_at}
+use Rattle.pana_text.specs.inner.Reading.{◌>>=◌, ids, events, stamp_at}
 
 -- whether the id is 1
 abbrev pub is_one : Id → Bool

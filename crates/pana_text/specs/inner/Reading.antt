@@ -2,6 +2,7 @@
 use Rattle.std.specs.Prelude.{◌≡◌, ℕ, zero, suc, ◌+◌, ◌-◌, ◌*◌, Bool, ◌&&◌, nat_le, ◌==◌, if◌then◌else◌, List, [], ◌∷◌, length, Result, Ok, Err, ⊤}
 use Rattle.pana_id.specs.Id.{Id, zero_id, one_id, pair}
 use Rattle.pana_event.specs.Event.{Event, leaf, fork}
+use Rattle.pana_text.specs.Grammar.{is_digit}
 use Rattle.pana_text.specs.declared.fault.TextFault.{TextFault}
 use Rattle.pana_text.specs.declared.fault.TextFault.TheVariants.{Syntax, TooDeep, NotNormal, TooLarge, OutOfMemory}
 
@@ -40,10 +41,7 @@ after total byte (b ∷ rest) = if b == byte then Ok rest else wrong total (b �
 
 -- ---- numbers
 
-abbrev pub is_digit : ℕ → Bool
-is_digit b = nat_le 48 b && nat_le b 57
-
--- a number with the digits in front put behind it, and what follows them
+-- a number with the digits that the text begins with after it, and what follows them
 abbrev pub digits_from : ℕ → List ℕ → ℕ × List ℕ
 digits_from n [] = (n, [])
 digits_from n (b ∷ rest) = if is_digit b then digits_from (n * 10 + (b - 48)) rest else (n, b ∷ rest)

@@ -5,7 +5,7 @@ use Rattle.pana_text.specs.declared.fault.TextFault.{TextFault}
 use Rattle.pana_text.specs.declared.fault.TextFault.TheVariants.{NotNormal, TooLarge}
 use Rattle.pana_text.specs.declared.id.IdKind.{IdKind}
 use Rattle.pana_text.specs.declared.event.EventKind.{EventKind}
-use Rattle.pana_text.specs.Reading.{OfId, OfEvent}
+use Rattle.pana_text.specs.inner.Reading.{OfId, OfEvent}
 
 -- the number, where it is below 2 ^ 64
 abbrev pub fitted : ℕ → Option ℕ
