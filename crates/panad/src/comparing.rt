@@ -1,8 +1,8 @@
-//! How one stamp stands to another.
-ghost use Rattle.std.specs.Prelude.{◌≡◌, ◌++◌, ◌∷◌, [], IfOk, string_bytes};
+//! How one stamp relates to another.
+ghost use Rattle.std.specs.Prelude.{IfOk};
 ghost use Rattle.pana_event.specs.Event.{Event};
 ghost use Rattle.pana_event.specs.Relation.{IsRelation};
-ghost use Rattle.panad.specs.Compare.{AnswersTexts, Compares, SaysFault, rel_name};
+ghost use Rattle.panad.specs.Compare.{AnswersTexts, Compares, SaysFault};
 
 use crate::answer::Answer;
 use pana_event::Rel;
@@ -10,22 +10,11 @@ use pana_stamp::Stamp;
 use pana_text::{TextFault, read};
 use std::alloc::{AllocError, Global};
 
-fn name_of(rel: Rel) -> &'static str
-    ensures { result.now ≡ rel_name rel }
-{
-    match rel {
-        Rel::Equal => "Equal",
-        Rel::Older => "Older",
-        Rel::Newer => "Newer",
-        Rel::Conflict => "Conflict",
-    }
-}
-
 impl Answer {
     fn of_relation(alloc: Global, rel: Rel) -> Result<Answer, AllocError>
         ensures { IfOk result (λ answer. (e f : Event) → IsRelation e f rel → Compares e f answer) }
     {
-        let name = name_of(rel);
+        let name = rel.name();
         Ok(Answer {
             out: format!(in alloc; "{name}\n")?,
             err: String::new(alloc),
@@ -33,28 +22,30 @@ impl Answer {
         })
     }
 
-    /// The fault of the stamp at this place, `first` or `second`.
-    fn of_fault(alloc: Global, place: &str, fault: TextFault) -> Result<Answer, AllocError>
-        ensures { IfOk result (SaysFault place.now fault) }
+    /// The fault of the stamp with this name, `first` or `second`.
+    fn of_fault(alloc: Global, name: &str, fault: TextFault) -> Result<Answer, AllocError>
+        ensures { IfOk result (SaysFault name.now fault) }
     {
         Ok(Answer {
             out: String::new(alloc),
-            err: format!(in alloc; "panad: {place} stamp: {fault}\n")?,
+            err: format!(in alloc; "panad: {name} stamp: {fault}\n")?,
             status: 1,
         })
     }
 }
 
-/// How the stamp of the first text stands to that of the second, or which fault a text has. The first text is read
-/// first, so where it has a fault nothing is told of the second.
+/// How the stamp of the first text relates to that of the second, or which fault a text has. The first text is read
+/// first, so where it has a fault nothing is reported of the second.
 ///
 /// # Errors
 ///
-/// `AllocError` where memory is refused for the answer. Memory refused for a stamp is answered as that stamp's fault
-/// `OutOfMemory`.
+/// `AllocError` where an allocation failed for the answer. One that failed for a stamp is answered as that stamp's
+/// fault `OutOfMemory`.
 ///
 /// Reads each text as `read` does, and visits each node of the two events at most twice more.
 pub fn compare_on(alloc: Global, a: &str, b: &str) -> Result<Answer, AllocError>
+    // Of each text just one fault says something true (`pana_text::laws`), so the texts determine the answer, but for
+    // `OutOfMemory`, which may be reported of a stamp's text.
     ensures { IfOk result (AnswersTexts a.now b.now) }
 {
     let first = match read(alloc, a) {
