@@ -1,80 +1,74 @@
--- What spells two trees is read as them.
-use Rattle.std.proofs.Common.{◌≡◌, ℕ, zero, suc, ◌^◌, ◌<◌, ◌≤◌, true, false, List, [], ◌∷◌, ◌++◌, length, get_or, refl, sym, ap, ◌∙◌, subst, arith, Result, Ok, Err, inl, inr}
+-- What spells two trees is read as what a reader makes of them.
+use Rattle.std.proofs.Common.{◌≡◌, ℕ, zero, suc, ◌^◌, ◌<◌, ◌≤◌, false, List, [], ◌∷◌, ◌++◌, length, get_or, refl, sym, ap, ◌∙◌, subst, arith, Result, Ok, Err}
 use Rattle.std.specs.Prelude.{decimal}
-use Rattle.std.proofs.lemmas.Bool.{ne_eqb, lt-ltb}
-use Rattle.pana_id.specs.Id.{Id, zero_id, one_id, pair, IsValid, depth as depth_of_id}
-use Rattle.pana_event.specs.Event.{Event, leaf as leaf_of, fork as fork_of, greatest, depth, IsSound}
+use Rattle.std.proofs.lemmas.Bool.{ne_eqb}
+use Rattle.pana_id.specs.Id.{Id, zero_id, one_id, pair, depth as depth_of_id}
+use Rattle.pana_event.specs.Event.{Event, leaf as leaf_of, fork as fork_of, greatest, depth}
 use Rattle.pana_text.specs.declared.fault.TextFault.{TextFault}
 use Rattle.pana_text.specs.declared.fault.TextFault.TheVariants.{TooDeep}
-use Rattle.pana_text.specs.inner.Reading.{◌>>=◌, behind_comma, fork_number_at, fork_closed, leaf_at, ids, id_at, events, event_or, fork_at, event_at, stamp_at}
-use Rattle.pana_text.specs.Text.{in_two, in_three, id_text, event_text, stamp_text, IsTextOf}
+use Rattle.pana_text.specs.inner.Reading.{◌>>=◌, after_comma, fork_number_at, fork_closed, leaf_at, OfId, id_at, OfEvent, event_or, fork_at, event_at, stamp_at}
+use Rattle.pana_text.specs.Text.{in_two, in_three, id_text, event_text, IsTextOf}
 use Rattle.pana_text.specs.Grammar.{is_digit, IsNumber, number_from, Spelled, leaf, fork, HasNumbers, spelling, event_of, Spells}
-use Rattle.pana_text.specs.inner.Form.{is_normal_id, is_normal_event, judged, reading}
-use Rattle.pana_text.proofs.Folds.{closed, behind_left, fork_behind, behind_number}
-use Rattle.pana_text.proofs.Stamps.{closing, behind_id, id_part, found, read_as}
-use Rattle.pana_text.proofs.Kept.{id-normal, event-normal, normal-id, normal-event}
+use Rattle.pana_text.proofs.Appends.{two_parts, three_parts}
+use Rattle.pana_text.proofs.Folds.{folded_id, folded, closed, after_left, fork_after_left, after_number, closing, after_id, id_part}
 use Rattle.pana_text.proofs.Numbers.{digit_or_zero, number-again, number-decimal, decimal-number, decimal-value}
-use Rattle.pana_text.proofs.Spellings.{two_parts, three_parts, spells}
 
 -- ---- ids
 
-id-again : (total n : ℕ) (i : Id) (rest : List ℕ) → depth_of_id i ≤ n → id_at ids total n (id_text i ++ rest) ≡ Ok (i, rest)
-id-again total zero zero_id rest h = refl
-id-again total zero one_id rest h = refl
-id-again total zero (pair l r) rest h = absurd (omega arith)
-id-again total (suc n) zero_id rest h = refl
-id-again total (suc n) one_id rest h = refl
-id-again total (suc n) (pair l r) rest h =
-    ap (λ (t : List ℕ). id_at ids total (suc n) t) (two_parts (id_text l) (id_text r) rest)
-    ∙ (ap (λ (x : Result (Id × List ℕ) TextFault). x >>= behind_left ids total (id_at ids total n)) (id-again total n l (44 ∷ (id_text r ++ (41 ∷ rest))) (omega arith))
-    ∙ ap (λ (x : Result (Id × List ℕ) TextFault). x >>= closed ids total l) (id-again total n r (41 ∷ rest) (omega arith)))
+id-again : {A : Type 0} (of : OfId A) (total n : ℕ) (i : Id) (rest : List ℕ) → depth_of_id i ≤ n → id_at of total n (id_text i ++ rest) ≡ Ok (folded_id of i, rest)
+id-again of total zero zero_id rest h = refl
+id-again of total zero one_id rest h = refl
+id-again of total zero (pair l r) rest h = absurd (omega arith)
+id-again of total (suc n) zero_id rest h = refl
+id-again of total (suc n) one_id rest h = refl
+id-again of total (suc n) (pair l r) rest h =
+    ap (λ (t : List ℕ). id_at of total (suc n) t) (two_parts (id_text l) (id_text r) rest)
+    ∙ (ap (λ (x : Result (_ × List ℕ) TextFault). x >>= after_left of total (id_at of total n)) (id-again of total n l (44 ∷ (id_text r ++ (41 ∷ rest))) (omega arith))
+    ∙ ap (λ (x : Result (_ × List ℕ) TextFault). x >>= closed of total (folded_id of l)) (id-again of total n r (41 ∷ rest) (omega arith)))
 
 -- ---- events
 
-leaf-branch : (total : ℕ) (opened : List ℕ → Result (Event × List ℕ) TextFault) (text : List ℕ) → 48 ≤ get_or text 0 0 → event_or events total opened text ≡ leaf_at events total text
-leaf-branch total opened [] h = refl
-leaf-branch total opened (b ∷ rest) h = rw (ne_eqb b 40 (λ e. omega arith)) refl
+leaf-branch : {N A : Type 0} (of : OfEvent N A) (total : ℕ) (opened : List ℕ → Result (A × List ℕ) TextFault) (text : List ℕ) → 48 ≤ get_or text 0 0 → event_or of total opened text ≡ leaf_at of total text
+leaf-branch of total opened [] h = refl
+leaf-branch of total opened (b ∷ rest) h = rw (ne_eqb b 40 (λ e. omega arith)) refl
 
-leaf-again : (total b : ℕ) (ds : List ℕ) (opened : List ℕ → Result (Event × List ℕ) TextFault) (rest : List ℕ) → IsNumber ds → is_digit b ≡ false → event_or events total opened (ds ++ (b ∷ rest)) ≡ Ok (leaf_of (number_from 0 ds), b ∷ rest)
-leaf-again total b ds opened rest h stops =
-    leaf-branch total opened (ds ++ (b ∷ rest)) (digit_or_zero ds (b ∷ rest) h)
-    ∙ ap (λ (x : Result (ℕ × List ℕ) TextFault). x >>= λ n. Ok (leaf_of n.0, n.1)) (number-again total b ds rest h stops)
+leaf-again : {N A : Type 0} (of : OfEvent N A) (total b : ℕ) (ds : List ℕ) (opened : List ℕ → Result (A × List ℕ) TextFault) (rest : List ℕ) → IsNumber ds → is_digit b ≡ false → event_or of total opened (ds ++ (b ∷ rest)) ≡ Ok (of.of_leaf (of.of_number (number_from 0 ds)), b ∷ rest)
+leaf-again of total b ds opened rest h stops =
+    leaf-branch of total opened (ds ++ (b ∷ rest)) (digit_or_zero ds (b ∷ rest) h)
+    ∙ ap (λ (x : Result (_ × List ℕ) TextFault). x >>= λ n. Ok (of.of_leaf n.0, n.1)) (number-again of.of_number total b ds rest h stops)
 
-fork_number-again : (total : ℕ) (ds rest : List ℕ) → IsNumber ds → fork_number_at (λ n. n) total (ds ++ (44 ∷ rest)) ≡ Ok (number_from 0 ds, rest)
+fork_number-again : {N : Type 0} (num : ℕ → N) (total : ℕ) (ds rest : List ℕ) → IsNumber ds → fork_number_at num total (ds ++ (44 ∷ rest)) ≡ Ok (num (number_from 0 ds), rest)
 unfolding fork_number_at
-fork_number-again total ds rest h = ap (λ (x : Result (ℕ × List ℕ) TextFault). x >>= behind_comma total) (number-again total 44 ds rest h refl)
+fork_number-again num total ds rest h = ap (λ (x : Result (_ × List ℕ) TextFault). x >>= after_comma total) (number-again num total 44 ds rest h refl)
 
-event-again : (total n : ℕ) (s : Spelled) (b : ℕ) (rest : List ℕ) → depth (event_of s) ≤ n → HasNumbers s → is_digit b ≡ false → event_at events total n (spelling s ++ (b ∷ rest)) ≡ Ok (event_of s, b ∷ rest)
-event-again total zero (leaf ds) b rest h is stops = leaf-again total b ds (λ _. Err TooDeep) rest is stops
-event-again total zero (fork ds l r) b rest h is stops = absurd (omega arith)
-event-again total (suc n) (leaf ds) b rest h is stops = leaf-again total b ds (fork_at events total (event_at events total n)) rest is stops
-event-again total (suc n) (fork ds l r) b rest h is stops =
-    let half = event_at events total n in
-    ap (λ (t : List ℕ). event_at events total (suc n) t) (three_parts ds (spelling l) (spelling r) (b ∷ rest))
-    ∙ (ap (λ (x : Result (ℕ × List ℕ) TextFault). x >>= behind_number events total half) (fork_number-again total ds (spelling l ++ (44 ∷ (spelling r ++ (41 ∷ (b ∷ rest))))) is.0)
-    ∙ (ap (λ (x : Result (Event × List ℕ) TextFault). x >>= fork_behind events total half (number_from 0 ds)) (event-again total n l 44 (spelling r ++ (41 ∷ (b ∷ rest))) (omega arith) is.1 refl)
-    ∙ ap (λ (x : Result (Event × List ℕ) TextFault). x >>= fork_closed events total (number_from 0 ds) (event_of l)) (event-again total n r 41 (b ∷ rest) (omega arith) is.2 refl)))
+event-again : {N A : Type 0} (of : OfEvent N A) (total n : ℕ) (s : Spelled) (b : ℕ) (rest : List ℕ) → depth (event_of s) ≤ n → HasNumbers s → is_digit b ≡ false → event_at of total n (spelling s ++ (b ∷ rest)) ≡ Ok (folded of (event_of s), b ∷ rest)
+event-again of total zero (leaf ds) b rest h is stops = leaf-again of total b ds (λ _. Err TooDeep) rest is stops
+event-again of total zero (fork ds l r) b rest h is stops = absurd (omega arith)
+event-again of total (suc n) (leaf ds) b rest h is stops = leaf-again of total b ds (fork_at of total (event_at of total n)) rest is stops
+event-again of total (suc n) (fork ds l r) b rest h is stops =
+    let half = event_at of total n in
+    ap (λ (t : List ℕ). event_at of total (suc n) t) (three_parts ds (spelling l) (spelling r) (b ∷ rest))
+    ∙ (ap (λ (x : Result (_ × List ℕ) TextFault). x >>= after_number of total half) (fork_number-again of.of_number total ds (spelling l ++ (44 ∷ (spelling r ++ (41 ∷ (b ∷ rest))))) is.0)
+    ∙ (ap (λ (x : Result (_ × List ℕ) TextFault). x >>= fork_after_left of total half (of.of_number (number_from 0 ds))) (event-again of total n l 44 (spelling r ++ (41 ∷ (b ∷ rest))) (omega arith) is.1 refl)
+    ∙ ap (λ (x : Result (_ × List ℕ) TextFault). x >>= fork_closed of total (of.of_number (number_from 0 ds)) (folded of (event_of l))) (event-again of total n r 41 (b ∷ rest) (omega arith) is.2 refl)))
 
 -- ---- stamps
 
-parts-again : (total : ℕ) (i : Id) (s : Spelled) → depth_of_id i ≤ 256 → depth (event_of s) ≤ 256 → HasNumbers s → id_part ids events total 256 (id_text i ++ (44 ∷ (spelling s ++ (41 ∷ [])))) ≡ read_as (i, event_of s)
-parts-again total i s di de is =
-    ap (λ (x : Result (Id × List ℕ) TextFault). x >>= behind_id events total 256) (id-again total 256 i (44 ∷ (spelling s ++ (41 ∷ []))) di)
-    ∙ ap (λ (x : Result (Event × List ℕ) TextFault). x >>= closing total i) (event-again total 256 s 41 [] de is refl)
+parts-again : {A N B : Type 0} (of_id : OfId A) (of : OfEvent N B) (total : ℕ) (i : Id) (s : Spelled) → depth_of_id i ≤ 256 → depth (event_of s) ≤ 256 → HasNumbers s
+    → id_part of_id of total 256 (id_text i ++ (44 ∷ (spelling s ++ (41 ∷ [])))) ≡ Ok (folded_id of_id i, folded of (event_of s))
+parts-again of_id of total i s di de is =
+    ap (λ (x : Result (_ × List ℕ) TextFault). x >>= after_id of total 256) (id-again of_id total 256 i (44 ∷ (spelling s ++ (41 ∷ []))) di)
+    ∙ ap (λ (x : Result (_ × List ℕ) TextFault). x >>= closing total (folded_id of_id i)) (event-again of total 256 s 41 [] de is refl)
 
-spelling-again : (i : Id) (s : Spelled) → depth_of_id i ≤ 256 → depth (event_of s) ≤ 256 → HasNumbers s → stamp_at ids events 256 (in_two (id_text i) (spelling s)) ≡ read_as (i, event_of s)
+spelling-again : {A N B : Type 0} (of_id : OfId A) (of : OfEvent N B) (i : Id) (s : Spelled) → depth_of_id i ≤ 256 → depth (event_of s) ≤ 256 → HasNumbers s
+    → stamp_at of_id of 256 (in_two (id_text i) (spelling s)) ≡ Ok (folded_id of_id i, folded of (event_of s))
 unfolding stamp_at
-spelling-again i s di de is = parts-again (length (in_two (id_text i) (spelling s))) i s di de is
+spelling-again of_id of i s di de is = parts-again of_id of (length (in_two (id_text i) (spelling s))) i s di de is
 
-pub stamp-again : (text : List ℕ) (i : Id) (e : Event) → Spells text i e → stamp_at ids events 256 text ≡ read_as (i, e)
-stamp-again text i e h =
-    ap (stamp_at ids events 256) h.whole
-    ∙ (spelling-again i h.spelled h.id_within (subst (λ (f : Event). depth f ≤ 256) (sym h.event) h.event_within) h.numbers ∙ ap (λ (f : Event). read_as (i, f)) h.event)
-
--- what spells two trees is read as they are judged
-pub reading-again : (text : List ℕ) (i : Id) (e : Event) → Spells text i e → reading text ≡ judged (i, e)
-unfolding reading
-reading-again text i e h = ap (λ (x : Result (Id × Event) TextFault). x >>= judged) (stamp-again text i e h)
+pub stamp-again : {A N B : Type 0} (of_id : OfId A) (of : OfEvent N B) (text : List ℕ) (i : Id) (e : Event) → Spells text i e → stamp_at of_id of 256 text ≡ Ok (folded_id of_id i, folded of e)
+stamp-again of_id of text i e h =
+    ap (stamp_at of_id of 256) h.whole
+    ∙ (spelling-again of_id of i h.spelled h.id_within (subst (λ (f : Event). depth f ≤ 256) (sym h.event) h.event_within) h.numbers ∙ ap (λ (f : Event). Ok (folded_id of_id i, folded of f)) h.event)
 
 -- ---- the text of a stamp
 
@@ -108,28 +102,9 @@ text-spells text i e (v, s, t) = record {
   event_within = s.shallow;
 }
 
-judged-again : (i : Id) (e : Event) → is_normal_id i ≡ true → is_normal_event e ≡ true → greatest e < 2 ^ 64 → judged (i, e) ≡ read_as (i, e)
-judged-again i e p q fits = rw (p, q, lt-ltb (greatest e) (2 ^ 64) fits) refl
-
--- the text of a stamp is read as that stamp
-pub text-again : (text : List ℕ) (i : Id) (e : Event) → IsTextOf i e text → reading text ≡ read_as (i, e)
-text-again text i e h =
-    reading-again text i e (text-spells text i e h) ∙ judged-again i e (id-normal i h.0.normal) (event-normal e h.1.normal) h.1.fits
-
 -- an event whose levels are within the limit has one spelling
-one_spelling : (s : Spelled) → HasNumbers s → greatest (event_of s) < 2 ^ 64 → spelling s ≡ event_text (event_of s)
+pub one_spelling : (s : Spelled) → HasNumbers s → greatest (event_of s) < 2 ^ 64 → spelling s ≡ event_text (event_of s)
 one_spelling (leaf ds) h fits = sym (number-decimal ds h fits)
 one_spelling (fork ds l r) h fits =
     ap (λ (t : List ℕ). in_three t (spelling l) (spelling r)) (sym (number-decimal ds h.0 (omega arith)))
     ∙ (ap (λ (t : List ℕ). in_three (decimal (number_from 0 ds)) t (spelling r)) (one_spelling l h.1 (omega arith)) ∙ ap (λ (t : List ℕ). in_three (decimal (number_from 0 ds)) (event_text (event_of l)) t) (one_spelling r h.2 (omega arith)))
-
--- what is read as a stamp is the text of that stamp
-pub read-text : (text : List ℕ) (s : Id × Event) → reading text ≡ read_as s → IsTextOf s.0 s.1 text
-read-text text s h =
-    let f = found text s h in
-    let k = spells text s f.spelled in
-    let small : greatest (event_of k.spelled) < 2 ^ 64 = subst (λ (e : Event). greatest e < 2 ^ 64) (sym k.event) f.fits in (
-      record { normal = normal-id s.0 f.normal_id; within = k.id_within },
-      record { normal = normal-event s.1 f.normal_event; shallow = k.event_within; fits = f.fits },
-      k.whole ∙ ap (λ (u : List ℕ). in_two (id_text s.0) u) (one_spelling k.spelled k.numbers small ∙ ap event_text k.event),
-    )

@@ -1,19 +1,22 @@
--- No two faults hold of one text: a fault that says something true is the one that reading gives.
-use Rattle.std.proofs.Common.{◌≡◌, ℕ, ◌^◌, ◌≤◌, Bool, true, false, List, [], ◌∷◌, ◌++◌, length, take, drop, get_or, Option, Some, None, refl, sym, ap, ◌∙◌, subst, append_assoc, append-nil, arith, Result, Ok, Err, inl, inr, ◌⊎◌}
-use Rattle.std.specs.Prelude.{◌&&◌, nat_lt}
-use Rattle.std.proofs.lemmas.Bool.{le-ltb}
+-- No two faults hold of one text: a fault that says something true is the one that the check gives.
+use Rattle.std.proofs.Common.{◌≡◌, ℕ, List, [], ◌∷◌, ◌++◌, length, take, drop, get_or, Option, Some, None, refl, sym, ap, ◌∙◌, subst, append_assoc, append-nil, Result, Ok, Err, inl, inr, ◌⊎◌}
+use Rattle.std.specs.Prelude.{⊤, ◌&&◌, IfOk, IfErr, MatchResult}
 use Rattle.pana_id.specs.Id.{Id, IsNormal as IsNormalId}
 use Rattle.pana_event.specs.Event.{Event, IsNormal, greatest}
 use Rattle.pana_text.specs.declared.fault.TextFault.{TextFault}
 use Rattle.pana_text.specs.declared.fault.TextFault.TheVariants.{Syntax, TooDeep, NotNormal, TooLarge, OutOfMemory}
-use Rattle.pana_text.specs.inner.Form.{is_normal_id, is_normal_event, judged, reading}
+use Rattle.pana_text.specs.declared.id.IdKind.{IdKind}
+use Rattle.pana_text.specs.declared.event.EventKind.{EventKind}
+use Rattle.pana_text.specs.inner.Limits.{id_kinds, event_kinds, levels_judged, judged_kinds}
+use Rattle.pana_text.specs.inner.Reading.{◌>>=◌}
 use Rattle.pana_text.specs.Text.{IsTextOf}
 use Rattle.pana_text.specs.Grammar.{IsInGrammar, IsFirstWrong, OpensTooDeep, Spells, Says, room_after, room}
-use Rattle.pana_text.proofs.Again.{stamp-again, reading-again, text-again, text-spells, read-text}
-use Rattle.pana_text.proofs.FirstWrong.{whole_text, says-at, true_false, normal_passes}
-use Rattle.pana_text.proofs.Kept.{split_and, normal-id, normal-event}
+use Rattle.pana_text.proofs.Again.{stamp-again, text-spells}
+use Rattle.pana_text.proofs.Checked.{built_again, Stamped, kinds_in, checked, checked_stamped}
+use Rattle.pana_text.proofs.Digits.{fitted-at, fitted-past}
+use Rattle.pana_text.proofs.FirstWrong.{read_whole, read_spells, unread_says}
+use Rattle.pana_text.proofs.Kept.{kind_of_id, kind_of, judged, split_and, normal-id, normal-event, id-normal, event-normal, greatest-fitted}
 use Rattle.pana_text.proofs.Numbers.{test_cases}
-use Rattle.pana_text.proofs.Returned.{parts_are}
 
 -- ---- prefixes
 
@@ -88,27 +91,24 @@ wrong_not_spelled text p i e (a, b, w, pa, begins, na, ra) h = na b refl (subst 
 
 deep_not_spelled : (text : List ℕ) (i : Id) (e : Event) → OpensTooDeep text → Spells text i e → ⊥
 deep_not_spelled text i e (c, d, v, begins, rc) h =
-    let t = whole_text text (i, e) (stamp-again text i e h) in
+    let t = read_whole id_kinds event_kinds text (kind_of_id i, kind_of e) (stamp-again id_kinds event_kinds text i e h) in
     room_past c d t.left_over rc (subst (λ (s : List ℕ). room (Some 257) s ≡ Some t.left_over) v t.within)
 
--- ---- the fault is that of reading
+-- ---- the fault is that of the check
 
--- a text that is read to its end spells two trees
-spells_of : (text : List ℕ) (r : Result (Id × Event) TextFault) → reading text ≡ r
+-- a text spells two trees, or has a syntax fault, or opens a tree too deep
+comes_to : (text : List ℕ) (r : Result (IdKind × EventKind) TextFault) → kinds_in text ≡ r
     → ((i : Id) × (e : Event) × Spells text i e) ⊎ ((p : ℕ) × (r ≡ Err (Syntax p)) × IsFirstWrong p text) ⊎ ((r ≡ Err TooDeep) × OpensTooDeep text)
-spells_of text (Ok s) h = inl (s.0, s.1, text-spells text s.0 s.1 (read-text text s h))
-spells_of text (Err (Syntax p)) h = inr (inl (p, refl, says-at text (Syntax p) h))
-spells_of text (Err TooDeep) h = inr (inr (refl, says-at text TooDeep h))
-spells_of text (Err NotNormal) h = let (i, e, s, n) = says-at text NotNormal h in inl (i, e, s)
-spells_of text (Err TooLarge) h = let (i, e, s, n, m, l) = says-at text TooLarge h in inl (i, e, s)
-spells_of text (Err OutOfMemory) h = let (i, e, s) = says-at text OutOfMemory h in inl (i, e, text-spells text i e s)
+comes_to text (Ok k) h = inl (read_spells id_kinds event_kinds text k h)
+comes_to text (Err (Syntax p)) h = inr (inl (p, refl, unread_says id_kinds event_kinds text (Syntax p) h))
+comes_to text (Err TooDeep) h = inr (inr (refl, unread_says id_kinds event_kinds text TooDeep h))
+comes_to text (Err NotNormal) h = let (i, e, s, n) = unread_says id_kinds event_kinds text NotNormal h in inl (i, e, s)
+comes_to text (Err TooLarge) h = let (i, e, s, n, m, l) = unread_says id_kinds event_kinds text TooLarge h in inl (i, e, s)
+comes_to text (Err OutOfMemory) h = let (i, e, s) = unread_says id_kinds event_kinds text OutOfMemory h in inl (i, e, text-spells text i e s)
 
-refused : TextFault → Result (Id × Event) TextFault
-refused e = Err e
-
-wrong_is : (text : List ℕ) (p : ℕ) → IsFirstWrong p text → reading text ≡ Err (Syntax p)
+wrong_is : (text : List ℕ) (p : ℕ) → IsFirstWrong p text → kinds_in text ≡ Err (Syntax p)
 wrong_is text p h =
-    elim (spells_of text (reading text) refl) [
+    elim (comes_to text (kinds_in text) refl) [
       | inl s ↦ let (i, e, k) = s in absurd (wrong_not_spelled text p i e h k)
       | inr s ↦ elim s [
         | inl k ↦ let (q, is, w) = k in is ∙ ap (λ (n : ℕ). Err (Syntax n)) (one_position text q p w h)
@@ -116,9 +116,9 @@ wrong_is text p h =
       ]
     ]
 
-deep_is : (text : List ℕ) → OpensTooDeep text → reading text ≡ Err TooDeep
+deep_is : (text : List ℕ) → OpensTooDeep text → kinds_in text ≡ Err TooDeep
 deep_is text h =
-    elim (spells_of text (reading text) refl) [
+    elim (comes_to text (kinds_in text) refl) [
       | inl s ↦ let (i, e, k) = s in absurd (deep_not_spelled text i e h k)
       | inr s ↦ elim s [
         | inl k ↦ let (q, is, w) = k in absurd (wrong_not_deep text q w h)
@@ -126,37 +126,57 @@ deep_is text h =
       ]
     ]
 
-not_normal_is : (i : Id) (e : Event) → (IsNormalId i × IsNormal e → ⊥) → judged (i, e) ≡ Err NotNormal
+-- what spells two trees is checked as they are judged
+judged_is : (text : List ℕ) (i : Id) (e : Event) → Spells text i e → checked text ≡ judged i e
+judged_is text i e s = ap (λ (r : Result (IdKind × EventKind) TextFault). r >>= judged_kinds) (stamp-again id_kinds event_kinds text i e s)
+
+not_normal_is : (i : Id) (e : Event) → (IsNormalId i × IsNormal e → ⊥) → judged i e ≡ Err NotNormal
 not_normal_is i e h =
-    elim (test_cases (is_normal_id i && is_normal_event e)) [
-      | inl good ↦ let tests = split_and (is_normal_id i) (is_normal_event e) good in absurd (h (normal-id i tests.0, normal-event e tests.1))
+    elim (test_cases ((kind_of_id i).is_normal && (kind_of e).is_normal)) [
+      | inl good ↦ let tests = split_and (kind_of_id i).is_normal (kind_of e).is_normal good in absurd (h (normal-id i tests.0, normal-event e tests.1))
       | inr bad ↦ rw bad refl
     ]
 
-too_large_is : (i : Id) (e : Event) → IsNormalId i → IsNormal e → 2 ^ 64 ≤ greatest e → judged (i, e) ≡ Err TooLarge
-too_large_is i e n m l = rw (normal_passes i e n m, le-ltb (greatest e) (2 ^ 64) l) refl
+normal_is : (i : Id) (e : Event) → IsNormalId i → IsNormal e → judged i e ≡ levels_judged (kind_of e).greatest
+normal_is i e n m = rw (id-normal i n, event-normal e m) refl
 
--- the fault that reading gives, or that of memory for the text of a stamp
-abbrev fault_of : Result (Id × Event) TextFault → TextFault
+-- the fault that the check gives, or that of memory for the text of a stamp
+abbrev fault_of : Result ⊤ TextFault → TextFault
 fault_of (Ok s) = OutOfMemory
 fault_of (Err e) = e
 
-is_fault_of : (text : List ℕ) (fault : TextFault) → Says fault text → fault_of (reading text) ≡ fault
-is_fault_of text (Syntax p) h = ap fault_of (wrong_is text p h)
-is_fault_of text TooDeep h = ap fault_of (deep_is text h)
-is_fault_of text NotNormal (i, e, s, n) = ap fault_of (reading-again text i e s ∙ not_normal_is i e n)
-is_fault_of text TooLarge (i, e, s, n, m, l) = ap fault_of (reading-again text i e s ∙ too_large_is i e n m l)
-is_fault_of text OutOfMemory (i, e, h) = ap fault_of (text-again text i e h)
+is_fault_of : (text : List ℕ) (fault : TextFault) → Says fault text → fault_of (checked text) ≡ fault
+is_fault_of text (Syntax p) h = ap (λ (r : Result (IdKind × EventKind) TextFault). fault_of (r >>= judged_kinds)) (wrong_is text p h)
+is_fault_of text TooDeep h = ap (λ (r : Result (IdKind × EventKind) TextFault). fault_of (r >>= judged_kinds)) (deep_is text h)
+is_fault_of text NotNormal (i, e, s, n) = ap fault_of (judged_is text i e s ∙ not_normal_is i e n)
+is_fault_of text TooLarge (i, e, s, n, m, l) =
+    ap fault_of (judged_is text i e s ∙ (normal_is i e n m ∙ ap levels_judged (greatest-fitted e ∙ fitted-past (greatest e) l)))
+is_fault_of text OutOfMemory (i, e, h) =
+    ap fault_of (judged_is text i e (text-spells text i e h) ∙ (normal_is i e h.0.normal h.1.normal ∙ ap levels_judged (greatest-fitted e ∙ fitted-at (greatest e) h.1.fits)))
 
 pub faults_exclude : (text : List ℕ) (first second : TextFault) → Says first text → Says second text → first ≡ second
 faults_exclude text first second h k = sym (is_fault_of text first h) ∙ is_fault_of text second k
 
-has_fault : (text : List ℕ) (r : Result (Id × Event) TextFault) → reading text ≡ r → (fault : TextFault) × Says fault text
-has_fault text (Ok s) h = (OutOfMemory, (s.0, s.1, read-text text s h))
-has_fault text (Err e) h = (e, says-at text e h)
+has_fault : (text : List ℕ) (r : Result ⊤ TextFault) → Stamped text r → (fault : TextFault) × Says fault text
+has_fault text (Ok x) h = (OutOfMemory, h)
+has_fault text (Err e) h = (e, h)
 
 pub each_has_a_fault : (text : List ℕ) → (fault : TextFault) × Says fault text
-each_has_a_fault text = has_fault text (reading text) refl
+each_has_a_fault text = has_fault text (checked text) (checked_stamped text)
 
 pub of_one_stamp : (text : List ℕ) (i j : Id) (e f : Event) → IsTextOf i e text → IsTextOf j f text → (i ≡ j) × (e ≡ f)
-of_one_stamp text i j e f h k = parts_are j i f e (sym (text-again text j f k) ∙ text-again text i e h)
+of_one_stamp text i j e f h k =
+    let both : ◌≡◌ {A = Result (Id × Event) TextFault} (Ok (i, e)) (Ok (j, f)) = sym (built_again text i e h) ∙ built_again text j f k in
+    let same : ◌≡◌ {A = Id × Event} (i, e) (j, f) = cc in
+    (ap (λ (s : Id × Event). s.0) same, ap (λ (s : Id × Event). s.1) same)
+
+-- ---- a result that says so
+
+only_at : {X : Type 0} (view : X → Id × Event) (r : Result X TextFault) (text : List ℕ) → IfOk r (λ x. IsTextOf (view x).0 (view x).1 text) → IfErr r (λ fault. Says fault text)
+    → (i : Id) (e : Event) → IsTextOf i e text → MatchResult r (λ x. ((view x).0 ≡ i) × ((view x).1 ≡ e)) (λ fault. fault ≡ OutOfMemory)
+only_at view (Ok x) text found says i e h = of_one_stamp text (view x).0 i (view x).1 e found h
+only_at view (Err fault) text found says i e h = faults_exclude text fault OutOfMemory says (i, e, h)
+
+pub only_text : {X : Type 0} (view : X → Id × Event) (r : Result X TextFault) (bytes text : List ℕ) → bytes ≡ text → IfOk r (λ x. IsTextOf (view x).0 (view x).1 bytes) → IfErr r (λ fault. Says fault bytes)
+    → (i : Id) (e : Event) → IsTextOf i e text → MatchResult r (λ x. ((view x).0 ≡ i) × ((view x).1 ≡ e)) (λ fault. fault ≡ OutOfMemory)
+only_text view r bytes text same found says i e h = only_at view r bytes found says i e (subst (IsTextOf i e) (sym same) h)

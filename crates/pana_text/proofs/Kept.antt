@@ -1,34 +1,58 @@
 -- What the check keeps of a tree is what its definition says of the tree.
-use Rattle.std.proofs.Common.{◌≡◌, ℕ, ◌+◌, ◌^◌, ◌<◌, min, max, Bool, true, false, ◌&&◌, ◌||◌, not, Option, refl, sym, ap, ◌∙◌, arith, ◌⊎◌, inl, inr}
-use Rattle.std.specs.Prelude.{◌==◌}
+use Rattle.std.proofs.Common.{◌≡◌, ℕ, ◌+◌, ◌^◌, ◌<◌, ◌≤◌, min, max, Bool, true, false, cond, ◌&&◌, ◌||◌, not, Option, refl, sym, ap, ◌∙◌, arith, ◌⊎◌, inl, inr, Result, Ok, Err}
+use Rattle.std.specs.Prelude.{◌==◌, ⊤}
 use Rattle.std.proofs.lemmas.Bool.{cases_lt, eq-eqb, ne_eqb, eqb-true, eqb-false}
-use Rattle.pana_id.specs.Id.{Id, zero_id, one_id, pair, is_zero as is_zero_id, IsNormal as IsNormalId, IsOpen as IsOpenId}
-use Rattle.pana_event.specs.Event.{Event, leaf, fork, number, greatest, IsNormal, IsOpen}
+use Rattle.pana_id.specs.Id.{Id, zero_id, one_id, pair, IsNormal as IsNormalId, IsOpen as IsOpenId}
+use Rattle.pana_event.specs.Event.{Event, leaf, fork, number, greatest, are_same_leaf, IsNormal}
+use Rattle.pana_text.specs.declared.fault.TextFault.{TextFault}
+use Rattle.pana_text.specs.declared.fault.TextFault.TheVariants.{Syntax, TooDeep, NotNormal, TooLarge, OutOfMemory}
 use Rattle.pana_text.specs.declared.id.IdKind.{IdKind}
 use Rattle.pana_text.specs.declared.event.EventKind.{EventKind}
-use Rattle.pana_text.specs.inner.Reading.{ids}
-use Rattle.pana_text.specs.inner.Form.{is_one, is_normal_id, is_leaf_zero, is_normal_event}
-use Rattle.pana_text.specs.inner.Limits.{fitted, sum_fitted, max_fitted, capped, pair_kind, id_kinds, is_zero, fork_kind, event_kinds, capped_events}
+use Rattle.pana_text.specs.inner.Limits.{fitted, sum_fitted, max_fitted, is_zero, id_kinds, event_kinds, levels_judged, judged_kinds}
 use Rattle.pana_text.proofs.Digits.{fitted-at, fitted-past}
 use Rattle.pana_text.proofs.Folds.{folded_id, folded}
+
+pub split_and : (a b : Bool) → (a && b) ≡ true → (a ≡ true) × (b ≡ true)
+split_and true true h = (refl, refl)
+split_and true false h = absurd cc
+split_and false b h = absurd cc
 
 -- ---- ids
 
 abbrev pub kind_of_id : Id → IdKind
-kind_of_id i = record { is_zero = is_zero_id i; is_one = is_one i; is_normal = is_normal_id i }
+kind_of_id i = folded_id id_kinds i
 
-pub folded_id-kinds : (i : Id) → folded_id id_kinds i ≡ kind_of_id i
-folded_id-kinds zero_id = refl
-folded_id-kinds one_id = refl
-folded_id-kinds (pair l r) =
-    ap (λ (k : IdKind). pair_kind k (folded_id id_kinds r)) (folded_id-kinds l) ∙ ap (λ (k : IdKind). pair_kind (kind_of_id l) k) (folded_id-kinds r)
+open_test : (l r : Id) → not ((kind_of_id l).is_zero && (kind_of_id r).is_zero) ≡ true → not ((kind_of_id l).is_one && (kind_of_id r).is_one) ≡ true → IsOpenId l r
+open_test zero_id zero_id p q = absurd cc
+open_test one_id one_id p q = absurd cc
+open_test l r p q = tt
 
-pub folded_id-ids : (i : Id) → folded_id ids i ≡ i
-folded_id-ids zero_id = refl
-folded_id-ids one_id = refl
-folded_id-ids (pair l r) = ap (λ (k : Id). pair k (folded_id ids r)) (folded_id-ids l) ∙ ap (λ (k : Id). pair l k) (folded_id-ids r)
+test_open : (l r : Id) → IsOpenId l r → (not ((kind_of_id l).is_zero && (kind_of_id r).is_zero) && not ((kind_of_id l).is_one && (kind_of_id r).is_one)) ≡ true
+test_open zero_id zero_id h = absurd h
+test_open one_id one_id h = absurd h
+test_open l r h = refl
+
+-- an id that passes the test is normal, and a normal one passes it
+pub normal-id : (i : Id) → (kind_of_id i).is_normal ≡ true → IsNormalId i
+normal-id zero_id h = tt
+normal-id one_id h = tt
+normal-id (pair l r) h =
+    let k = kind_of_id l in
+    let m = kind_of_id r in
+    let outer = split_and ((k.is_normal && m.is_normal) && not (k.is_zero && m.is_zero)) (not (k.is_one && m.is_one)) h in
+    let inner = split_and (k.is_normal && m.is_normal) (not (k.is_zero && m.is_zero)) outer.0 in
+    let both = split_and k.is_normal m.is_normal inner.0 in
+    (normal-id l both.0, normal-id r both.1, open_test l r inner.1 outer.1)
+
+pub id-normal : (i : Id) → IsNormalId i → (kind_of_id i).is_normal ≡ true
+id-normal zero_id h = refl
+id-normal one_id h = refl
+id-normal (pair l r) h = rw (id-normal l h.0, id-normal r h.1) (test_open l r h.2)
 
 -- ---- events
+
+abbrev pub kind_of : Event → EventKind
+kind_of e = folded event_kinds e
 
 not-zero : (n : ℕ) → 0 < n → (n == 0) ≡ false
 not-zero n h = ne_eqb n 0 (λ e. omega arith)
@@ -60,82 +84,16 @@ sum_fitted-fitted m n =
       | inr le ↦ rw (fitted-past m le, fitted-past (m + n) (omega arith)) refl
     ]
 
-abbrev pub kind_of : Event → EventKind
-kind_of e = record { is_leaf_zero = is_leaf_zero e; from_zero = number e == 0; is_normal = is_normal_event e; greatest = fitted (greatest e) }
+pub greatest-fitted : (e : Event) → (kind_of e).greatest ≡ fitted (greatest e)
+greatest-fitted (leaf n) = refl
+greatest-fitted (fork n l r) =
+    ap (λ (m : Option ℕ). sum_fitted (fitted n) (max_fitted m (kind_of r).greatest)) (greatest-fitted l)
+    ∙ (ap (λ (m : Option ℕ). sum_fitted (fitted n) (max_fitted (fitted (greatest l)) m)) (greatest-fitted r)
+    ∙ (ap (λ (m : Option ℕ). sum_fitted (fitted n) m) (max_fitted-fitted (greatest l) (greatest r)) ∙ sum_fitted-fitted n (max (greatest l) (greatest r))))
 
-abbrev kind_with : Bool → ℕ → Event → Event → Option ℕ → EventKind
-kind_with z n l r m = record { is_leaf_zero = false; from_zero = z; is_normal = is_normal_event (fork n l r); greatest = m }
-
-abbrev leaf_with : Bool → ℕ → EventKind
-leaf_with z n = record { is_leaf_zero = z; from_zero = z; is_normal = true; greatest = fitted n }
-
-fork_kind-at : (n : ℕ) (l r : Event) → fork_kind (fitted n) (kind_of l) (kind_of r) ≡ kind_of (fork n l r)
-fork_kind-at n l r =
-    let zeros = is_zero-fitted n in
-    let most : sum_fitted (fitted n) (max_fitted (fitted (greatest l)) (fitted (greatest r))) ≡ fitted (n + max (greatest l) (greatest r)) =
-    ap (λ (m : Option ℕ). sum_fitted (fitted n) m) (max_fitted-fitted (greatest l) (greatest r)) ∙ sum_fitted-fitted n (max (greatest l) (greatest r)) in
-    ap (λ (z : Bool). kind_with z n l r (sum_fitted (fitted n) (max_fitted (fitted (greatest l)) (fitted (greatest r))))) zeros ∙ ap (λ (m : Option ℕ). kind_with (n == 0) n l r m) most
-
-leaf_kind-at : (n : ℕ) → folded event_kinds (leaf n) ≡ kind_of (leaf n)
-leaf_kind-at n = ap (λ (z : Bool). leaf_with z n) (is_zero-fitted n)
-
-pub folded-kinds : (e : Event) → folded event_kinds e ≡ kind_of e
-folded-kinds (leaf n) = leaf_kind-at n
-folded-kinds (fork n l r) =
-    ap (λ (k : EventKind). fork_kind (fitted n) k (folded event_kinds r)) (folded-kinds l) ∙ (ap (λ (k : EventKind). fork_kind (fitted n) (kind_of l) k) (folded-kinds r) ∙ fork_kind-at n l r)
-
--- no number is above the limit, so the tree is the same with its numbers at the limit
-pub folded-capped : (e : Event) → greatest e < 2 ^ 64 → folded capped_events e ≡ e
-folded-capped (leaf n) h = ap (λ (m : Option ℕ). leaf (capped m)) (fitted-at n h)
-folded-capped (fork n l r) h =
-    let number_is : capped (fitted n) ≡ n = ap capped (fitted-at n (omega arith)) in
-    ap (λ (m : ℕ). fork m (folded capped_events l) (folded capped_events r)) number_is
-    ∙ (ap (λ (k : Event). fork n k (folded capped_events r)) (folded-capped l (omega arith)) ∙ ap (λ (k : Event). fork n l k) (folded-capped r (omega arith)))
-
--- ---- the tests of the form
-
-pub split_and : (a b : Bool) → (a && b) ≡ true → (a ≡ true) × (b ≡ true)
-split_and true true h = (refl, refl)
-split_and true false h = absurd cc
-split_and false b h = absurd cc
-
-open-id : (l r : Id) → not (is_zero_id l && is_zero_id r) ≡ true → not (is_one l && is_one r) ≡ true → IsOpenId l r
-open-id zero_id zero_id p q = absurd cc
-open-id zero_id one_id p q = tt
-open-id zero_id (pair a b) p q = tt
-open-id one_id zero_id p q = tt
-open-id one_id one_id p q = absurd cc
-open-id one_id (pair a b) p q = tt
-open-id (pair a b) zero_id p q = tt
-open-id (pair a b) one_id p q = tt
-open-id (pair a b) (pair c d) p q = tt
-
--- a tree that passes the test is normal
-pub normal-id : (i : Id) → is_normal_id i ≡ true → IsNormalId i
-normal-id zero_id h = tt
-normal-id one_id h = tt
-normal-id (pair l r) h =
-    let outer = split_and ((is_normal_id l && is_normal_id r) && not (is_zero_id l && is_zero_id r)) (not (is_one l && is_one r)) h in
-    let inner = split_and (is_normal_id l && is_normal_id r) (not (is_zero_id l && is_zero_id r)) outer.0 in
-    let both = split_and (is_normal_id l) (is_normal_id r) inner.0 in
-    (normal-id l both.0, normal-id r both.1, open-id l r inner.1 outer.1)
-
-id-open : (l r : Id) → IsOpenId l r → (not (is_zero_id l && is_zero_id r) && not (is_one l && is_one r)) ≡ true
-id-open zero_id zero_id h = absurd h
-id-open zero_id one_id h = refl
-id-open zero_id (pair a b) h = refl
-id-open one_id zero_id h = refl
-id-open one_id one_id h = absurd h
-id-open one_id (pair a b) h = refl
-id-open (pair a b) zero_id h = refl
-id-open (pair a b) one_id h = refl
-id-open (pair a b) (pair c d) h = refl
-
--- a normal tree passes the test
-pub id-normal : (i : Id) → IsNormalId i → is_normal_id i ≡ true
-id-normal zero_id h = refl
-id-normal one_id h = refl
-id-normal (pair l r) h = rw (id-normal l h.0, id-normal r h.1) (id-open l r h.2)
+from_zero-number : (e : Event) → (kind_of e).from_zero ≡ (number e == 0)
+from_zero-number (leaf n) = is_zero-fitted n
+from_zero-number (fork n l r) = is_zero-fitted n
 
 or_true : (b : Bool) → (b || true) ≡ true
 or_true true = refl
@@ -177,33 +135,62 @@ leaves-differ m n h p = ne_eqb m n (λ e. false_true (not ((m == 0) && (n == 0))
 differ-leaves : (m n : ℕ) → (m == n) ≡ false → not ((m == 0) && (n == 0)) ≡ true
 differ-leaves m n h = not_both (m == 0) (n == 0) (λ p q. eqb-false m n h (eqb-true m 0 p ∙ sym (eqb-true n 0 q)))
 
-open-event : (l r : Event) → ((number l == 0) || (number r == 0)) ≡ true → not (is_leaf_zero l && is_leaf_zero r) ≡ true → IsOpen l r
-open-event (leaf m) (leaf n) p q = record { from_zero = one_from_zero m n p; differ = leaves-differ m n (one_from_zero m n p) q }
-open-event (leaf m) (fork n c d) p q = record { from_zero = one_from_zero m n p; differ = refl }
-open-event (fork m a b) (leaf n) p q = record { from_zero = one_from_zero m n p; differ = refl }
-open-event (fork m a b) (fork n c d) p q = record { from_zero = one_from_zero m n p; differ = refl }
-
--- a tree that passes the test is normal
-pub normal-event : (e : Event) → is_normal_event e ≡ true → IsNormal e
-normal-event (leaf n) h = tt
-normal-event (fork n l r) h =
-    let outer = split_and ((is_normal_event l && is_normal_event r) && ((number l == 0) || (number r == 0))) (not (is_leaf_zero l && is_leaf_zero r)) h in
-    let inner = split_and (is_normal_event l && is_normal_event r) ((number l == 0) || (number r == 0)) outer.0 in
-    let both = split_and (is_normal_event l) (is_normal_event r) inner.0 in
-    (open-event l r inner.1 outer.1, normal-event l both.0, normal-event r both.1)
+differ_test : (l r : Event) → min (number l) (number r) ≡ 0 → not ((kind_of l).is_leaf_zero && (kind_of r).is_leaf_zero) ≡ true → are_same_leaf l r ≡ false
+differ_test (leaf m) (leaf n) h p = leaves-differ m n h (rw (← is_zero-fitted m, ← is_zero-fitted n) p)
+differ_test (leaf m) (fork n c d) h p = refl
+differ_test (fork m a b) (leaf n) h p = refl
+differ_test (fork m a b) (fork n c d) h p = refl
 
 not-and-false : (b : Bool) → not (b && false) ≡ true
 not-and-false true = refl
 not-and-false false = refl
 
-event-open : (l r : Event) → IsOpen l r → not (is_leaf_zero l && is_leaf_zero r) ≡ true
-event-open (leaf m) (leaf n) h = differ-leaves m n h.differ
-event-open (leaf m) (fork n c d) h = not-and-false (m == 0)
-event-open (fork m a b) (leaf n) h = refl
-event-open (fork m a b) (fork n c d) h = refl
+test_differ : (l r : Event) → are_same_leaf l r ≡ false → not ((kind_of l).is_leaf_zero && (kind_of r).is_leaf_zero) ≡ true
+test_differ (leaf m) (leaf n) h = rw (is_zero-fitted m, is_zero-fitted n) (differ-leaves m n h)
+test_differ (leaf m) (fork n c d) h = not-and-false (is_zero (fitted m))
+test_differ (fork m a b) (leaf n) h = refl
+test_differ (fork m a b) (fork n c d) h = refl
 
--- a normal tree passes the test
-pub event-normal : (e : Event) → IsNormal e → is_normal_event e ≡ true
+-- an event that passes the test is normal, and a normal one passes it
+pub normal-event : (e : Event) → (kind_of e).is_normal ≡ true → IsNormal e
+normal-event (leaf n) h = tt
+normal-event (fork n l r) h =
+    let k = kind_of l in
+    let m = kind_of r in
+    let outer = split_and ((k.is_normal && m.is_normal) && (k.from_zero || m.from_zero)) (not (k.is_leaf_zero && m.is_leaf_zero)) h in
+    let inner = split_and (k.is_normal && m.is_normal) (k.from_zero || m.from_zero) outer.0 in
+    let both = split_and k.is_normal m.is_normal inner.0 in
+    let from_zero = one_from_zero (number l) (number r) (rw (← from_zero-number l, ← from_zero-number r) inner.1) in
+    (record { from_zero = from_zero; differ = differ_test l r from_zero outer.1 }, normal-event l both.0, normal-event r both.1)
+
+pub event-normal : (e : Event) → IsNormal e → (kind_of e).is_normal ≡ true
 event-normal (leaf n) h = refl
 event-normal (fork n l r) h =
-    rw (event-normal l h.1, event-normal r h.2, from_zero-one (number l) (number r) h.0.from_zero) (event-open l r h.0)
+    rw (event-normal l h.1, event-normal r h.2, from_zero-number l, from_zero-number r, from_zero-one (number l) (number r) h.0.from_zero) (test_differ l r h.0.differ)
+
+-- ---- both
+
+-- what the check says of two trees
+abbrev pub judged : Id → Event → Result ⊤ TextFault
+judged i e = judged_kinds (kind_of_id i, kind_of e)
+
+-- what a judgement says of two trees
+abbrev pub Judged : Id → Event → Result ⊤ TextFault → Type 0
+Judged i e (Ok x) = IsNormalId i × IsNormal e × (greatest e < 2 ^ 64)
+Judged i e (Err NotNormal) = IsNormalId i × IsNormal e → ⊥
+Judged i e (Err TooLarge) = IsNormalId i × IsNormal e × (2 ^ 64 ≤ greatest e)
+Judged i e (Err (Syntax place)) = ⊥
+Judged i e (Err TooDeep) = ⊥
+Judged i e (Err OutOfMemory) = ⊥
+
+form_test : (i : Id) (e : Event) (t : Bool) → ((kind_of_id i).is_normal && (kind_of e).is_normal) ≡ t → Judged i e (cond t (levels_judged (kind_of e).greatest) (Err NotNormal))
+form_test i e true h =
+    let both = split_and (kind_of_id i).is_normal (kind_of e).is_normal h in
+    elim (cases_lt (greatest e) (2 ^ 64)) [
+      | inl less ↦ rw (greatest-fitted e, fitted-at (greatest e) less) (normal-id i both.0, normal-event e both.1, less)
+      | inr more ↦ rw (greatest-fitted e, fitted-past (greatest e) more) (normal-id i both.0, normal-event e both.1, more)
+    ]
+form_test i e false h = λ n. let k : true ≡ false = rw (id-normal i n.0, event-normal e n.1) at h in absurd cc
+
+pub judgement : (i : Id) (e : Event) → Judged i e (judged i e)
+judgement i e = form_test i e ((kind_of_id i).is_normal && (kind_of e).is_normal) refl

@@ -1,13 +1,17 @@
 -- The grammar byte by byte: what may follow what has been read, as a list of parts that are still to come.
-use Rattle.std.proofs.Common.{◌≡◌, ◌≢◌, ℕ, zero, suc, ◌≤◌, Bool, true, false, cond, List, [], ◌∷◌, ◌++◌, length, get_or, Option, Some, None, refl, sym, ap, ◌∙◌, subst, arith, inl, inr}
+use Rattle.std.proofs.Common.{◌≡◌, ℕ, Bool, true, false, cond, List, [], ◌∷◌, ◌++◌, get_or, Option, Some, None, refl, sym, ap, ◌∙◌, subst, arith, inl, inr}
 use Rattle.std.specs.Prelude.{◌==◌}
 use Rattle.std.proofs.lemmas.Bool.{eqb-true, eqb-false, ne_eqb}
 use Rattle.pana_id.specs.Id.{Id, zero_id, one_id, pair}
 use Rattle.pana_text.specs.Text.{in_two, id_text}
-use Rattle.pana_text.specs.Grammar.{is_digit, all_digits, IsNumber, Spelled, leaf, fork, HasNumbers, spelling}
-use Rattle.pana_text.proofs.Each.{by_test}
+use Rattle.pana_text.specs.Grammar.{is_digit, IsNumber, Spelled, leaf, fork, HasNumbers, spelling}
 use Rattle.pana_text.proofs.Numbers.{AreDigits, digit-from, digits-parts, digit_or_zero}
-use Rattle.pana_text.proofs.Spellings.{two_parts, three_parts}
+use Rattle.pana_text.proofs.Appends.{two_parts, three_parts}
+
+-- a property of a test's two results
+pub by_test : {A : Type 0} (P : A → Type 0) (t : Bool) (x y : A) → (t ≡ true → P x) → (t ≡ false → P y) → P (cond t x y)
+by_test P true x y f g = f refl
+by_test P false x y f g = g refl
 
 -- the byte that ends a part
 pub data Mark : Type 0 where

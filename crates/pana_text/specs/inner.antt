@@ -1,4 +1,3 @@
 -- Words that only inner functions and proofs need: nobody has to believe them.
-pub mod Form
 pub mod Limits
 pub mod Reading

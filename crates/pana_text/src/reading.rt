@@ -5,9 +5,8 @@ ghost use Rattle.pana_id.specs.Id.{Id};
 ghost use Rattle.pana_event.specs.Event.{Event};
 ghost use Rattle.pana_event.specs.Shape.{tree as event_of};
 ghost use Rattle.pana_text.specs.inner.Reading.{Gives, Reads, at_end, ids, stamp_at};
-ghost use Rattle.pana_text.specs.inner.Form.{IsRead, reading};
 ghost use Rattle.pana_text.specs.Grammar.{Says};
-ghost use Rattle.pana_text.specs.Text.{IsTextOf};
+ghost use Rattle.pana_text.specs.Text.{IsTextOf, IsTextOfStamp};
 ghost use Rattle.pana_text.specs.inner.Limits.{capped_events, event_kinds, id_kinds, judged_kinds};
 
 use crate::bytes::{after, syntax_at};
@@ -59,11 +58,11 @@ fn judge(id: IdKind, event: EventKind) -> Result<(), TextFault>
     }
 }
 
-/// Tells the first fault of a text, in one pass. Takes no memory.
-#[tactic(auto, using(crate::proofs::Stamps::checks))]
+/// Finds the first fault of a text, in one pass. Takes no memory.
+#[tactic(auto, using(crate::proofs::Checked::checks))]
 fn check(text: &[u8]) -> Result<(), TextFault>
-    ensures ok { OnOk result (IsRead text.now) }
-    ensures fault { IfErr result (λ fault. reading text.now ≡ Err fault) }
+    ensures ok { OnOk result (IsTextOfStamp text.now) }
+    ensures fault { IfErr result (λ fault. Says fault text.now) }
 {
     let (id, event) = kinds_of(text, MAX_DEPTH)?;
     judge(id, event)?;
@@ -89,11 +88,10 @@ fn build(
     Ok((id, event))
 }
 
-/// Which stamp the text is read as, or which fault.
-#[tactic(auto, using(crate::proofs::Built::builds, crate::proofs::Returned::no_want))]
-fn read_exactly(alloc: Global, text: &[u8]) -> Result<Stamp, TextFault>
-    ensures exact { Gives (λ stamp. (stamp.id, stamp.event)) result (reading text.now) }
-    ensures memory { IfErr result (λ fault. fault ≡ TextFault.OutOfMemory → IsRead text.now) }
+#[tactic(auto, using(crate::proofs::Checked::builds))]
+fn read_bytes(alloc: Global, text: &[u8]) -> Result<Stamp, TextFault>
+    ensures found { IfOk result (λ stamp. IsTextOf stamp.id stamp.event text.now) }
+    ensures says { IfErr result (λ fault. Says fault text.now) }
 {
     check(text)?;
     let (id, event) = build(alloc, text, MAX_DEPTH)?;
@@ -118,5 +116,5 @@ pub fn read(alloc: Global, text: &str) -> Result<Stamp, TextFault>
     // out is reported of a stamp's text alone. Of each text just one fault says something true (`laws`).
     ensures says { IfErr result (λ fault. Says fault text.now) }
 {
-    read_exactly(alloc, text.as_bytes())
+    read_bytes(alloc, text.as_bytes())
 }

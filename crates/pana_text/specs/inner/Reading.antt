@@ -1,7 +1,6 @@
 -- Reading a text from left to right: a value and the bytes after it, or the first fault.
-use Rattle.std.specs.Prelude.{◌≡◌, ℕ, zero, suc, ◌+◌, ◌-◌, ◌*◌, Bool, ◌&&◌, nat_le, ◌==◌, if◌then◌else◌, List, [], ◌∷◌, length, Result, Ok, Err, ⊤}
+use Rattle.std.specs.Prelude.{◌≡◌, ℕ, zero, suc, ◌+◌, ◌-◌, ◌*◌, ◌==◌, if◌then◌else◌, List, [], ◌∷◌, length, Result, Ok, Err, ⊤}
 use Rattle.pana_id.specs.Id.{Id, zero_id, one_id, pair}
-use Rattle.pana_event.specs.Event.{Event, leaf, fork}
 use Rattle.pana_text.specs.Grammar.{is_digit}
 use Rattle.pana_text.specs.declared.fault.TextFault.{TextFault}
 use Rattle.pana_text.specs.declared.fault.TextFault.TheVariants.{Syntax, TooDeep, NotNormal, TooLarge, OutOfMemory}
@@ -53,12 +52,12 @@ number_at num total (b ∷ rest) =
     if b == 48 then Ok (num 0, rest)
     else (if is_digit b then Ok (num (digits_from 0 (b ∷ rest)).0, (digits_from 0 (b ∷ rest)).1) else wrong total (b ∷ rest))
 
--- a number and the comma behind it
-abbrev pub behind_comma : {N : Type 0} → ℕ → N × List ℕ → Result (N × List ℕ) TextFault
-behind_comma total n = after total 44 n.1 >>= λ rest. Ok (n.0, rest)
+-- a number and the comma after it
+abbrev pub after_comma : {N : Type 0} → ℕ → N × List ℕ → Result (N × List ℕ) TextFault
+after_comma total n = after total 44 n.1 >>= λ rest. Ok (n.0, rest)
 
 unfoldable pub fork_number_at : {N : Type 0} → (ℕ → N) → ℕ → List ℕ → Result (N × List ℕ) TextFault
-fork_number_at num total text = number_at num total text >>= behind_comma total
+fork_number_at num total text = number_at num total text >>= after_comma total
 
 -- ---- ids
 
@@ -100,10 +99,6 @@ pub record OfEvent (N A : Type 0) : Type 0 where
   pub of_number : ℕ → N
   pub of_leaf : N → A
   pub of_fork : N → A → A → A
-
--- the event itself
-abbrev pub events : OfEvent ℕ Event
-events = record { of_number = λ n. n; of_leaf = leaf; of_fork = fork }
 
 -- a leaf's number
 abbrev pub leaf_at : {N A : Type 0} → OfEvent N A → ℕ → List ℕ → Result (A × List ℕ) TextFault

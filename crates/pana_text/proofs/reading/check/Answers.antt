@@ -1,11 +1,6 @@
 use Rattle.std.proofs.lemmas.Result.{err_from_is_err_and}
-use Rattle.pana_text.proofs.Stamps.{checked_ok, checked_fault, checked_spelling}
+use Rattle.pana_text.proofs.Checked.{checked_ok, checked_fault}
 use Rattle.pana_text.proofs.reading.check.Goals as goal
-
-pub returns-in_err-id-clause-fault : goal.returns-in_err-id-clause-fault
-returns-in_err-id-clause-fault c =
-    let p = err_from_is_err_and c.from_residual.result c.from_residual.ensures.1 in
-    rw (p.1, p.2) (checked_spelling c.args.text.now c.in_err-id.field-0.0 c.in_err-id.ensures)
 
 pub returns-in_err-judge-clause-fault : goal.returns-in_err-judge-clause-fault
 returns-in_err-judge-clause-fault c =
