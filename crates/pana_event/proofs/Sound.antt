@@ -38,8 +38,8 @@ IsSound-joined e f first second =
     }
 
 -- the test is true exactly where the one event is below the other
-pub leq_tells : (e f : Event) → IsNormal f → depth e ≤ 256 → depth f ≤ 256 → IsTrue (is_leq e f) ↔ IsBelow e f
-leq_tells e f normal first second =
+pub leq_says : (e f : Event) → IsNormal f → depth e ≤ 256 → depth f ≤ 256 → IsTrue (is_leq e f) ↔ IsBelow e f
+leq_says e f normal first second =
     (λ leq. leq-is-below e f first second leq, λ below. below-is-leq e f first second normal below)
 
 -- normal events of which each is below the other are one tree

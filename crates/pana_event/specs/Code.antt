@@ -1,15 +1,15 @@
--- Events as lists of their numbers, by which a proof tells them apart.
+-- Events as lists of their numbers, by which a proof tells one from another.
 use Rattle.std.specs.Prelude.{◌≡◌, ℕ, Bool, true, false, List, [], ◌∷◌, refl}
 use Rattle.std.proofs.Common.{◌∙◌}
 use Rattle.std.specs.Coded.{Coded, code_by, coded_bool, coded_list, coded_ℕ, coded×}
 use Rattle.pana_event.specs.Event.{Event, leaf, fork}
 
--- an event's numbers, each fork behind its halves and marked true, in front of a rest
+-- an event's numbers, each fork after its halves and marked true, before a rest
 abbrev pub placed : Event → List (Bool × ℕ) → List (Bool × ℕ)
 placed (leaf n) rest = (false, n) ∷ rest
 placed (fork n l r) rest = placed l (placed r ((true, n) ∷ rest))
 
--- the last of two or more events under a number, in front of the others
+-- the last of two or more events under a number, before the others
 abbrev pub forked : ℕ → List Event → List Event
 forked n (r ∷ l ∷ done) = fork n l r ∷ done
 forked n done = done

@@ -79,7 +79,7 @@ impl Node {
     ///
     /// # Errors
     ///
-    /// `AllocError` where memory is refused. Allocates once a fork; visits each node once.
+    /// `AllocError` where an allocation failed. Allocates once a fork; visits each node once.
     pub fn copy_of(&self, alloc: Global) -> Result<Node, AllocError>
         ensures { IfOk result (λ node. tree node ≡ tree self.now) }
     {
@@ -97,7 +97,7 @@ impl Node {
     ///
     /// # Errors
     ///
-    /// `AllocError` where memory is refused. Allocates once.
+    /// `AllocError` where an allocation failed. Allocates once.
     pub fn fork_of(alloc: Global, number: u64, left: Node, right: Node) -> Result<Node, AllocError>
         ensures { IfOk result (λ node. tree node ≡ fork number (tree left) (tree right)) }
     {
@@ -110,7 +110,7 @@ impl Node {
     ///
     /// # Errors
     ///
-    /// `AllocError` where memory is refused. Allocates at most once.
+    /// `AllocError` where an allocation failed. Allocates at most once.
     pub fn norm_of(
         alloc: Global,
         number: u64,
@@ -160,7 +160,7 @@ impl Node {
     ///
     /// # Errors
     ///
-    /// `AllocError` where memory is refused. Allocates at most once a fork of either; visits each node once.
+    /// `AllocError` where an allocation failed. Allocates at most once a fork of either; visits each node once.
     #[tactic(auto, using(crate::proofs::Joins::greatest_joins))]
     pub fn join(
         &self,
@@ -193,7 +193,7 @@ impl Node {
     ///
     /// # Errors
     ///
-    /// `AllocError` where memory is refused. Allocates at most once a fork; visits each node once.
+    /// `AllocError` where an allocation failed. Allocates at most once a fork; visits each node once.
     #[tactic(auto, using(crate::proofs::Joins::greatest_joins))]
     fn raised(&self, alloc: Global, level: u64, base: u64) -> Result<Node, AllocError>
         requires { base + greatest (tree self.now) < 2 ^ 64 }

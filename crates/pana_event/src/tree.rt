@@ -113,7 +113,7 @@ impl EventTree {
     ///
     /// # Errors
     ///
-    /// `AllocError` where memory is refused. Allocates at most once a fork of either; visits each node once.
+    /// `AllocError` where an allocation failed. Allocates at most once a fork of either; visits each node once.
     pub fn join(
         alloc: Global,
         first: &EventTree,
@@ -132,7 +132,7 @@ impl EventTree {
     ///
     /// # Errors
     ///
-    /// `AllocError` where memory is refused. Allocates once a fork; visits each node once.
+    /// `AllocError` where an allocation failed. Allocates once a fork; visits each node once.
     pub fn copy_of(&self, alloc: Global) -> Result<EventTree, AllocError>
         ensures { IfOk result (λ copy. copy ≡ self.now) }
     {

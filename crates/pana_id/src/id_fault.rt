@@ -10,7 +10,7 @@ use std::fmt;
 pub enum IdFault {
     /// A part would be deeper than 256.
     TooDeep,
-    /// A growth was refused.
+    /// An allocation failed.
     OutOfMemory,
 }
 

@@ -109,7 +109,7 @@ impl IdTree {
     /// owns is then owned by exactly one part, and neither part is 0 where the id isn't.
     ///
     /// `TooDeep` comes exactly where the id has a single 1, at depth 256, and before memory is taken.
-    /// `OutOfMemory` comes where a growth was refused. The id stays as it is in any case.
+    /// `OutOfMemory` comes where an allocation failed. The id stays as it is in any case.
     /// Takes at most two boxes a pair of the id and two more, and visits each node at most twice.
     pub fn split(&self, alloc: Global) -> Result<(IdTree, IdTree), IdFault>
         ensures trees { IfOk result (λ two. two ≡ parts self.now) }
@@ -126,7 +126,7 @@ impl IdTree {
     /// The sum of two ids with no point in common, by the sum of Interval Tree Clocks: it owns what
     /// either owns.
     ///
-    /// `OutOfMemory` comes where a growth was refused, and no other error. The two ids stay as they are.
+    /// `OutOfMemory` comes where an allocation failed, and no other error. The two ids stay as they are.
     /// Takes at most a box a pair of the two, and visits each node of them at most once.
     pub fn sum(alloc: Global, left: &IdTree, right: &IdTree) -> Result<IdTree, IdFault>
         requires { SharesNoPoint left.now right.now }

@@ -146,7 +146,7 @@ IsGrown-grow i e normal within some ready =
     record {
       place = place_of i e;
       best = IsGrowthPlace-place_of i e (grow i e) (cost_of i e) (place_of i e) grows;
-      told = grows.told;
+      costs = grows.costs;
       levels = λ point long. grows.levels point (omega arith);
     }
 

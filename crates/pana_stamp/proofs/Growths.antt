@@ -32,7 +32,7 @@ pub record Over (i : Id) (e : Event) (c : Cost) : Type 0 where
 -- the event grows to g, at a place that is the last of those that cost least, which is c
 pub record Growth (i : Id) (e g : Event) (c : Cost) (place : List Bool) : Type 0 where
   pub one : leads_to_one i place ≡ true
-  pub told : c ≡ cost_at e place
+  pub costs : c ≡ cost_at e place
   pub bounds : Bounds i e c
   pub last : (path : List Bool) → leads_to_one i path ≡ true → is_right_of path place ≡ true → CostsLess c (cost_at e path)
   pub found : grown_at i e c.opened c.levels ≡ Some g
@@ -154,7 +154,7 @@ growth_right i j e g c place half other =
     let first : x ≡ Some g = back j (right_of e) c.opened c.levels k (Some g) half.found in
     record {
       one = half.one;
-      told = ap (one_up k) half.told ∙ sym (cost-right e place);
+      costs = ap (one_up k) half.costs ∙ sym (cost-right e place);
       bounds = bounds_pair i j e c other half.bounds;
       last = last_right i j e c place half.last;
       found =
@@ -172,7 +172,7 @@ growth_left i j e g c place half other over =
     let second : y ≡ Some g = back i (left_of e) c.opened c.levels k (Some g) half.found in
     record {
       one = half.one;
-      told = ap (one_up k) half.told ∙ sym (cost-left e place);
+      costs = ap (one_up k) half.costs ∙ sym (cost-left e place);
       bounds = bounds_pair i j e c half.bounds other;
       last = last_left i j e c place half.last over;
       found =
@@ -189,7 +189,7 @@ growth_one : (n : ℕ) → Growth one_id (leaf n) (leaf (n + 1)) (cost_with 0 0)
 growth_one n =
     record {
       one = refl;
-      told = refl;
+      costs = refl;
       bounds = record {
         least = λ path leads. record { opens = omega arith; deep = λ same. omega arith };
         none = λ o l less. let z : o ≡ 0 = omega (arith, less.opens) in absurd (omega (arith, less.deep z));
@@ -245,6 +245,6 @@ pub IsGrowthPlace-place_of : (i : Id) (e : Event) (g : Event) (c : Cost) (place 
 IsGrowthPlace-place_of i e g c place growth =
     record {
       one = growth.one;
-      least = λ path leads. subst (λ (d : Cost). CostsAtMost d (cost_at e path)) growth.told (growth.bounds.least path leads);
-      last = λ path leads later. subst (λ (d : Cost). CostsLess d (cost_at e path)) growth.told (growth.last path leads later);
+      least = λ path leads. subst (λ (d : Cost). CostsAtMost d (cost_at e path)) growth.costs (growth.bounds.least path leads);
+      last = λ path leads later. subst (λ (d : Cost). CostsLess d (cost_at e path)) growth.costs (growth.last path leads later);
     }

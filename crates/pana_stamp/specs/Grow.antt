@@ -104,5 +104,5 @@ one_at (true ∷ path) (true ∷ point) = one_at path point
 pub record IsGrown (i : Id) (old new : Event) (cost : Cost) : Type 0 where
   pub place : List Bool
   pub best : IsGrowthPlace i old place
-  pub told : cost ≡ cost_at old place
+  pub costs : cost ≡ cost_at old place
   pub levels : AtPoints (λ point. level new point ≡ level old point + one_at place point)

@@ -17,7 +17,7 @@ use std::alloc::{AllocError, Global};
 ///
 /// # Errors
 ///
-/// `AllocError` where memory is refused. Allocates at most once a fork of the event; visits each node at most once.
+/// `AllocError` where an allocation failed. Allocates at most once a fork of the event; visits each node at most once.
 pub fn fill(alloc: Global, id: &IdTree, event: &EventTree) -> Result<EventTree, AllocError>
     ensures tree { IfOk result (λ new. new ≡ fill_of id.now event.now) }
     ensures filled { IfOk result (IsFilled id.now event.now) }

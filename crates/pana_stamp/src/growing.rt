@@ -21,7 +21,7 @@ use std::alloc::{AllocError, Global};
 ///
 /// # Errors
 ///
-/// `AllocError` where memory is refused. Allocates at most once a fork of the event and once a level of the
+/// `AllocError` where an allocation failed. Allocates at most once a fork of the event and once a level of the
 /// place. A first walk finds the least cost and takes no memory, a second one grows the place that has it;
 /// each visits a node at most once.
 pub fn grow(alloc: Global, id: &IdTree, event: &EventTree) -> Result<(EventTree, Cost), AllocError>

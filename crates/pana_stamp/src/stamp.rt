@@ -60,7 +60,7 @@ impl Stamp {
     ///
     /// # Errors
     ///
-    /// `AllocError` where memory is refused. Allocates at most once a fork of the event and once a level of
+    /// `AllocError` where an allocation failed. Allocates at most once a fork of the event and once a level of
     /// the id; visits each node a few times.
     pub fn event(&self, alloc: Global) -> Result<EventTree, AllocError>
         requires owner { is_zero self.now.id ≡ false }
@@ -84,7 +84,7 @@ impl Stamp {
     /// # Errors
     ///
     /// `TooDeep` exactly where the id has a single 1, at depth 256, and before memory is taken. `OutOfMemory`
-    /// where memory is refused. The stamp stays as it is in any case. Allocates for the two ids and a copy of
+    /// where an allocation failed. The stamp stays as it is in any case. Allocates for the two ids and a copy of
     /// the event twice; visits each node at most twice.
     pub fn fork(&self, alloc: Global) -> Result<(Stamp, Stamp), IdFault>
         ensures ids { IfOk result (λ two. (two.0.id, two.1.id) ≡ parts self.now.id) }
@@ -107,7 +107,7 @@ impl Stamp {
     ///
     /// # Errors
     ///
-    /// `AllocError` where memory is refused; both stamps stay as they are in any case. Allocates at most once
+    /// `AllocError` where an allocation failed; both stamps stay as they are in any case. Allocates at most once
     /// a pair of the ids and once a fork of the events; visits each node once.
     pub fn join(alloc: Global, first: &Stamp, second: &Stamp) -> Result<Stamp, AllocError>
         requires { SharesNoPoint first.now.id second.now.id }

@@ -5,7 +5,7 @@ use Rattle.pana_text.specs.Grammar.{is_digit}
 use Rattle.pana_text.specs.inner.Reading.{digits_from}
 use Rattle.pana_text.specs.inner.Limits.{fitted, with_digit}
 
--- the number so far with the digits in front put behind it, and what follows them
+-- the number so far with the digits that the text begins with after it, and what follows them
 abbrev pub fitted_digits : Option ℕ → List ℕ → Option ℕ × List ℕ
 fitted_digits n [] = (n, [])
 fitted_digits n (b ∷ rest) = cond (is_digit b) (fitted_digits (with_digit n (b - 48)) rest) (n, b ∷ rest)
@@ -38,7 +38,7 @@ and-false : (t : Bool) (n : Option ℕ) (b : ℕ) (rest : List ℕ) → cond (t 
 and-false true n b rest = refl
 and-false false n b rest = refl
 
--- no digit is in front
+-- the text begins with no digit
 pub stop_empty : (n : Option ℕ) (text : List ℕ) → length text < 1 → fitted_digits n text ≡ (n, text)
 stop_empty n [] h = refl
 stop_empty n (b ∷ rest) h = absurd (omega arith)

@@ -5,7 +5,7 @@ ghost use Rattle.pana_text.specs.inner.Limits.{fitted, with_digit};
 
 use crate::fault::TextFault;
 
-/// The fault at the front of the end `rest` of a text of `total` bytes.
+/// The syntax fault at the first byte of `rest`, the last bytes of a text of `total` bytes.
 pub(crate) fn syntax_at(rest: &[u8], total: usize) -> TextFault
     ensures { result ≡ TextFault.Syntax (total - length rest.now) }
 {
@@ -29,7 +29,7 @@ fn with_digit(number: Option<u64>, digit: u64) -> Option<u64>
     number?.checked_mul(10)?.checked_add(digit)
 }
 
-/// The number of the digits in front, and what follows them.
+/// The number of the digits that the text begins with, and what follows them.
 /// The number is `None` where it is above the greatest `u64`.
 #[tactic(auto, using(crate::proofs::Digits::start))]
 fn digits_of(text: &[u8]) -> (Option<u64>, &[u8])
@@ -45,7 +45,7 @@ fn digits_of(text: &[u8]) -> (Option<u64>, &[u8])
     (number, rest)
 }
 
-/// The number in front, and what follows it.
+/// The number that the text begins with, and what follows it.
 /// The number is `None` where it is above the greatest `u64`.
 #[tactic(auto, unfolding(crate::specs::inner::Reading::number_at))]
 pub(crate) fn number_at(text: &[u8], total: usize) -> Result<(Option<u64>, &[u8]), TextFault>
@@ -58,7 +58,7 @@ pub(crate) fn number_at(text: &[u8], total: usize) -> Result<(Option<u64>, &[u8]
     }
 }
 
-/// The number of a fork in front with its comma, and what follows them.
+/// The number of a fork that the text begins with, and what follows its comma.
 #[tactic(auto, unfolding(crate::specs::inner::Reading::fork_number_at))]
 pub(crate) fn fork_number_at(text: &[u8], total: usize) -> Result<(Option<u64>, &[u8]), TextFault>
     ensures { Reads (λ x. (x.0, x.1.now)) result (fork_number_at fitted total text.now) }

@@ -67,7 +67,7 @@ fn check_leaf(text: &[u8], total: usize) -> Result<(EventKind, &[u8]), TextFault
     Ok((EventKind::of_leaf(number), rest))
 }
 
-/// What is kept of the event in front, and what follows it. `deeper` more forks may open.
+/// What is kept of the event that the text begins with, and what follows it. `deeper` more forks may open.
 #[tactic(auto, using(crate::proofs::Steps::deeper))]
 pub(crate) fn check_event(
     text: &[u8],
@@ -100,7 +100,7 @@ fn build_leaf(text: &[u8], total: usize) -> Result<(Node, &[u8]), TextFault>
     Ok((Node::Leaf(number.unwrap_or(u64::MAX)), rest))
 }
 
-/// The fork of these parts, behind which a parenthesis closes. Takes a box.
+/// The fork of these parts, after which a parenthesis closes. Takes a box.
 /// A number above the greatest `u64` is taken for that.
 fn build_fork(
     alloc: Global,
@@ -117,7 +117,7 @@ fn build_fork(
     Ok((Node::fork_of(alloc, number, left, right)?, rest))
 }
 
-/// The event in front, and what follows it. `deeper` more forks may open. Takes a box a fork.
+/// The event that the text begins with, and what follows it. `deeper` more forks may open. Takes a box a fork.
 /// A number above the greatest `u64` is taken for that.
 #[tactic(auto, using(crate::proofs::Steps::deeper))]
 pub(crate) fn build_event(

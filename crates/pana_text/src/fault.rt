@@ -8,7 +8,7 @@ use std::fmt;
 /// Why a text was not read as a stamp.
 #[derive(Clone, Copy, Debug, PartialEq, Eq)]
 pub enum TextFault {
-    /// The byte at this place, counted from 0, can't stand there, or the text ends there too early.
+    /// The byte at this position, counted from 0, can't stand there, or the text ends there too early.
     Syntax(u64),
     /// A parenthesis opens a tree deeper than 256.
     TooDeep,
@@ -16,7 +16,7 @@ pub enum TextFault {
     NotNormal,
     /// A level is above the greatest `u64`.
     TooLarge,
-    /// A growth was refused.
+    /// An allocation failed.
     OutOfMemory,
 }
 
@@ -28,7 +28,7 @@ impl fmt::Display for TextFault {
 
     fn fmt<W: fmt::Write>(&self, f: &mut fmt::Formatter<W>) -> fmt::Result {
         match self {
-            TextFault::Syntax(place) => write!(f, "Syntax at {place}"),
+            TextFault::Syntax(position) => write!(f, "Syntax at {position}"),
             TextFault::TooDeep => f.write_str("TooDeep"),
             TextFault::NotNormal => f.write_str("NotNormal"),
             TextFault::TooLarge => f.write_str("TooLarge"),

@@ -53,7 +53,7 @@ impl IdKind {
     }
 }
 
-/// What is kept of the id in front, and what follows it. `deeper` more pairs may open.
+/// What is kept of the id that the text begins with, and what follows it. `deeper` more pairs may open.
 #[tactic(auto, using(crate::proofs::Steps::deeper))]
 pub(crate) fn check_id(text: &[u8], deeper: u32, total: usize) -> Result<(IdKind, &[u8]), TextFault>
     ensures { Reads (λ x. (x.0, x.1.now)) result (id_at id_kinds total deeper text.now) }
@@ -75,7 +75,7 @@ pub(crate) fn check_id(text: &[u8], deeper: u32, total: usize) -> Result<(IdKind
     }
 }
 
-/// The id in front, and what follows it. `deeper` more pairs may open. Takes a box a pair.
+/// The id that the text begins with, and what follows it. `deeper` more pairs may open. Takes a box a pair.
 #[tactic(auto, using(crate::proofs::Steps::deeper))]
 pub(crate) fn build_id(
     alloc: Global,

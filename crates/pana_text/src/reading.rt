@@ -45,7 +45,7 @@ fn kinds_of(text: &[u8], deepest: u32) -> Result<(IdKind, EventKind), TextFault>
     Ok((id, event))
 }
 
-/// Tells a form that isn't normal, and else a level that is too large.
+/// Reports a form that isn't normal, and else a level that is too large.
 fn judge(id: IdKind, event: EventKind) -> Result<(), TextFault>
     ensures { Reads (λ _. tt) result (judged_kinds (id, event)) }
 {

@@ -32,7 +32,7 @@ fn reads_and_writes(rt: HostRuntime) -> Result<(), Fail> {
 }
 
 #[test]
-fn tells_the_form(rt: HostRuntime) {
+fn reports_the_form(rt: HostRuntime) {
     assert_fault(&rt, rt.alloc(), "((1,1),0)", TextFault::NotNormal);
     assert_fault(&rt, rt.alloc(), "((0,0),0)", TextFault::NotNormal);
     assert_fault(&rt, rt.alloc(), "(1,(1,2,2))", TextFault::NotNormal);
@@ -47,7 +47,7 @@ fn tells_the_form(rt: HostRuntime) {
 }
 
 #[test]
-fn tells_the_place(rt: HostRuntime) {
+fn reports_the_position(rt: HostRuntime) {
     assert_fault(&rt, rt.alloc(), "(1,01)", TextFault::Syntax(4));
     assert_fault(&rt, rt.alloc(), "(1", TextFault::Syntax(2));
     assert_fault(&rt, rt.alloc(), "", TextFault::Syntax(0));
@@ -57,7 +57,7 @@ fn tells_the_place(rt: HostRuntime) {
 }
 
 #[test]
-fn tells_the_level(rt: HostRuntime) {
+fn reports_the_level(rt: HostRuntime) {
     assert_fault(
         &rt,
         rt.alloc(),
@@ -93,7 +93,7 @@ fn deep(alloc: Global, depth: u32) -> Result<String, TextFault> {
 }
 
 #[test]
-fn tells_the_depth(rt: HostRuntime) -> Result<(), Fail> {
+fn reports_the_depth(rt: HostRuntime) -> Result<(), Fail> {
     let within = deep(rt.alloc(), 256)?;
     assert!(rt; comes_back(rt.alloc(), within.as_str())?);
     let beyond = deep(rt.alloc(), 257)?;

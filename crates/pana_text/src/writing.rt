@@ -49,7 +49,7 @@ fn write_event(text: &mut String, event: &pana_event::Node) -> Result<(), AllocE
 ///
 /// # Errors
 ///
-/// `AllocError` where memory is refused. Visits each node once.
+/// `AllocError` where an allocation failed. Visits each node once.
 #[tactic(auto, using(crate::proofs::Appends::appends))]
 pub fn write(alloc: Global, stamp: &Stamp) -> Result<String, AllocError>
     ensures { IfOk result (λ text. string_bytes text ≡ stamp_text stamp.now.id stamp.now.event) }

@@ -11,7 +11,7 @@ use Rattle.pana_text.specs.inner.Reading.{OfId, OfEvent}
 abbrev pub fitted : ℕ → Option ℕ
 fitted n = if nat_lt n (2 ^ 64) then Some n else None
 
--- one more digit behind a number
+-- a number with one more digit
 abbrev pub with_digit : Option ℕ → ℕ → Option ℕ
 with_digit None digit = None
 with_digit (Some n) digit = fitted (n * 10 + digit)
@@ -81,6 +81,6 @@ abbrev pub levels_judged : Option ℕ → Result ⊤ TextFault
 levels_judged (Some n) = Ok tt
 levels_judged None = Err TooLarge
 
--- what the kinds of two trees are refused for: the form first, then the levels
+-- which fault the kinds of two trees show: that of the form first, then that of the levels
 abbrev pub judged_kinds : IdKind × EventKind → Result ⊤ TextFault
 judged_kinds k = if k.0.is_normal && k.1.is_normal then levels_judged k.1.greatest else Err NotNormal

@@ -16,7 +16,7 @@ abbrev pub Reads : {X Y : Type 0} → (X → Y) → Result X TextFault → Resul
 Reads view (Ok x) read = read ≡ Ok (view x)
 Reads view (Err e) read = read ≡ Err e
 
--- a call was refused with the fault that reading gives, or for want of memory
+-- a call failed with the fault that reading gives, or memory ran out
 abbrev pub Fails : {Y : Type 0} → TextFault → Result Y TextFault → Type 0
 Fails (Syntax place) read = read ≡ Err (Syntax place)
 Fails TooDeep read = read ≡ Err TooDeep
@@ -24,12 +24,12 @@ Fails NotNormal read = read ≡ Err NotNormal
 Fails TooLarge read = read ≡ Err TooLarge
 Fails OutOfMemory read = Unit {0}
 
--- what a call returned, seen by view, is what reading gives, want of memory aside
+-- what a call returned, seen by view, is what reading gives, unless memory ran out
 abbrev pub Gives : {X Y : Type 0} → (X → Y) → Result X TextFault → Result Y TextFault → Type 0
 Gives view (Ok x) read = read ≡ Ok (view x)
 Gives view (Err e) read = Fails e read
 
--- the fault at the front of what is left of a text with so many bytes
+-- the fault at the first byte of what is left of a text with so many bytes
 abbrev pub wrong : {A : Type 0} → ℕ → List ℕ → Result A TextFault
 wrong total rest = Err (Syntax (total - length rest))
 
@@ -45,7 +45,7 @@ abbrev pub digits_from : ℕ → List ℕ → ℕ × List ℕ
 digits_from n [] = (n, [])
 digits_from n (b ∷ rest) = if is_digit b then digits_from (n * 10 + (b - 48)) rest else (n, b ∷ rest)
 
--- a number, seen by num: a 0 that stands alone, or digits with no 0 in front
+-- a number, seen by num: a 0 that stands alone, or digits that don't begin with 0
 unfoldable pub number_at : {N : Type 0} → (ℕ → N) → ℕ → List ℕ → Result (N × List ℕ) TextFault
 number_at num total [] = wrong total []
 number_at num total (b ∷ rest) =
@@ -71,7 +71,7 @@ pub record OfId (A : Type 0) : Type 0 where
 abbrev pub ids : OfId Id
 ids = record { of_zero = zero_id; of_one = one_id; of_pair = pair }
 
--- a 0, a 1, or what stands behind an opening parenthesis
+-- a 0, a 1, or what follows an opening parenthesis
 abbrev pub id_or : {A : Type 0} → OfId A → ℕ → (List ℕ → Result (A × List ℕ) TextFault) → List ℕ → Result (A × List ℕ) TextFault
 id_or of total opened [] = wrong total []
 id_or of total opened (b ∷ rest) =
@@ -104,12 +104,12 @@ pub record OfEvent (N A : Type 0) : Type 0 where
 abbrev pub leaf_at : {N A : Type 0} → OfEvent N A → ℕ → List ℕ → Result (A × List ℕ) TextFault
 leaf_at of total text = number_at of.of_number total text >>= λ n. Ok (of.of_leaf n.0, n.1)
 
--- a leaf, or what stands behind an opening parenthesis
+-- a leaf, or what follows an opening parenthesis
 abbrev pub event_or : {N A : Type 0} → OfEvent N A → ℕ → (List ℕ → Result (A × List ℕ) TextFault) → List ℕ → Result (A × List ℕ) TextFault
 event_or of total opened [] = leaf_at of total []
 event_or of total opened (b ∷ rest) = if b == 40 then opened rest else leaf_at of total (b ∷ rest)
 
--- the fork of a number and two halves, behind which the parenthesis closes
+-- the fork of a number and two halves, after which the parenthesis closes
 abbrev pub fork_closed : {N A : Type 0} → OfEvent N A → ℕ → N → A → A × List ℕ → Result (A × List ℕ) TextFault
 fork_closed of total n l r = after total 41 r.1 >>= λ rest. Ok (of.of_fork n l r.0, rest)
 
