@@ -7,13 +7,12 @@ use Rattle.pana_hall.specs.declared.reply.Reply.{Reply}
 use Rattle.pana_wire.specs.declared.message.Message.{Message}
 use Rattle.pana_wire.specs.declared.tap.Tap.{Tap}
 use Rattle.pana_wire.specs.declared.serving.ServeFault.{ServeFault}
-use Rattle.pana_wire.specs.declared.serving.ServeFault.TheVariants.{Write}
 use Rattle.pana_wire.specs.Line.{line_says}
 use Rattle.pana_wire.specs.Reply.{reply_text}
 use Rattle.pana_wire.specs.Tap.{AppendsPrefix}
-use Rattle.pana_wire.specs.Session.{AnswersLine, BreaksIn}
+use Rattle.pana_wire.specs.Session.{AnswersLine}
 use Rattle.pana_wire.specs.inner.Writing.{Writes, WritesPrefix}
-use Rattle.pana_wire.specs.inner.Progress.{Breaks, IsOutFault}
+use Rattle.pana_wire.specs.inner.Progress.{Breaks}
 
 -- a prefix of the first of two texts
 prefix_of_first : (a b : Option (List ℕ)) (text more : List ℕ) → AppendsPrefix a b text → AppendsPrefix a b (text ++ more)

@@ -1,5 +1,5 @@
 -- The steps of a session's text on a hall are a run.
-use Rattle.std.proofs.Common.{◌≡◌, ℕ, ◌+◌, List, [], ◌∷◌, ◌++◌, length, Result, Ok, Err, refl, sym, ap, subst, ◌∙◌, arith, inl, inr}
+use Rattle.std.proofs.Common.{◌≡◌, ℕ, ◌+◌, List, [], ◌∷◌, ◌++◌, length, Result, Ok, Err, refl, sym, subst, arith, inl, inr}
 use Rattle.pana_journal.specs.declared.entry.Entry.{Entry}
 use Rattle.pana_hall.specs.Run.{Exchange, IsRunFrom, journal_from}
 use Rattle.pana_hall.specs.Step.{Steps}
@@ -9,8 +9,8 @@ use Rattle.pana_wire.specs.declared.message.Message.{Message}
 use Rattle.pana_wire.specs.Fault.{fault_text}
 use Rattle.pana_wire.specs.Line.{line_says}
 use Rattle.pana_wire.specs.Lines.{lines_of}
-use Rattle.pana_wire.specs.Session.{AnswersSaid, AnswersLine, AnswersLines, SessionText}
-use Rattle.pana_wire.specs.Laws.{IsExchangeOf, IsFaultOf, IsRunOf, IsServedByRun}
+use Rattle.pana_wire.specs.Session.{AnswersSaid, AnswersLines, SessionText}
+use Rattle.pana_wire.specs.Laws.{IsFaultOf, IsRunOf, IsServedByRun}
 
 -- a run from the old journal to the new one answers the lines
 record Runs (old : List Entry) (lines : List (List ℕ)) (output : List ℕ) (new : List Entry) (steps : ℕ) : Type 0 where

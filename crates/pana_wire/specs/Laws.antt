@@ -1,5 +1,5 @@
 -- What follows of every session's text.
-use Rattle.std.specs.Prelude.{◌≡◌, ℕ, List, [], ◌∷◌, ◌++◌, length, Result, Ok, Err, ◌⊎◌}
+use Rattle.std.specs.Prelude.{◌≡◌, ℕ, List, [], ◌∷◌, ◌++◌, length, Ok, Err, ◌⊎◌}
 use Rattle.pana_journal.specs.declared.entry.Entry.{Entry}
 use Rattle.pana_hall.specs.Run.{Exchange, IsRun, journal_from}
 use Rattle.pana_wire.specs.declared.fault.WireFault.{WireFault}

@@ -310,7 +310,7 @@ fn a_session_is_served(rt: HostRuntime) -> Result<(), Fail> {
     let mut writer = Tap::new(Vec::new(alloc));
     let served = serve(alloc, &mut reader, &mut writer, &mut session, 100);
     assert_eq!(rt; served, Ok(Served { lines: 6, calls: 1 }));
-    assert!(rt; !reader.has_failed() && !writer.has_failed());
+    assert!(rt; !reader.has_failed() && reader.has_ended() && !writer.has_failed());
     assert_eq!(rt; writer.into_inner().as_slice(), ANSWERS.as_bytes());
     Ok(())
 }
@@ -344,15 +344,11 @@ fn serving_breaks_off(rt: HostRuntime) -> Result<(), Fail> {
     let input = b"[1]\n{\"by\":\"a\",\"do\":\"edit\",\"copy\":1}\n";
 
     let mut session = Numbering { made: 0, most: 0 };
+    let mut reader = Tap::new(Dripping(input));
     let mut writer = Tap::new(Vec::new(alloc));
-    let served = serve(
-        alloc,
-        &mut Tap::new(Dripping(input)),
-        &mut writer,
-        &mut session,
-        3,
-    );
+    let served = serve(alloc, &mut reader, &mut writer, &mut session, 3);
     assert_eq!(rt; served, Err(ServeFault::Turns));
+    assert!(rt; !reader.has_ended());
     assert_eq!(rt; writer.into_inner().len(), 0);
 
     let mut writer = Tap::new(Vec::new(alloc));

@@ -1,6 +1,6 @@
 -- How far serving has come.
-use Rattle.std.specs.Prelude.{◌≡◌, ℕ, ◌+◌, ◌≤◌, List, [], length, Option, Bool, true, false}
-use Rattle.std.specs.Io.KnownBytes.{Consumes, Appends}
+use Rattle.std.specs.Prelude.{◌≡◌, ℕ, ◌+◌, List, length, Option, Bool, true, false}
+use Rattle.std.specs.Io.KnownBytes.{Appends}
 use Rattle.pana_hall.specs.declared.call.Call.{Call}
 use Rattle.pana_hall.specs.declared.reply.Reply.{Reply}
 use Rattle.pana_wire.specs.declared.tap.Tap.{Tap}

@@ -1,5 +1,5 @@
 -- How a text is written through a tap.
-use Rattle.std.specs.Prelude.{◌≡◌, ℕ, List, Option, Bool, true, false}
+use Rattle.std.specs.Prelude.{◌≡◌, ℕ, List, Option, true, false}
 use Rattle.std.specs.Io.KnownBytes.{Appends}
 use Rattle.pana_wire.specs.declared.tap.Tap.{Tap}
 use Rattle.pana_wire.specs.declared.serving.ServeFault.{ServeFault}

@@ -1,12 +1,11 @@
 -- Each piece goes on where the last one ended, and at the end what is held is the last line.
-use Rattle.std.proofs.Common.{rules, ◌≡◌, ◌+◌, ◌*◌, ◌<◌, ◌≤◌, [], ◌++◌, true, false, length, take, refl, sym, subst, ◌∙◌, arith}
+use Rattle.std.proofs.Common.{rules, ◌≡◌, ◌+◌, ◌*◌, ◌<◌, ◌≤◌, [], ◌++◌, true, false, length, take, refl, sym, subst, arith}
 use Rattle.std.proofs.lemmas.Grind.{common_steps}
 use Rattle.std.proofs.lemmas.Result.{err_from_is_err_and}
 use Rattle.std.proofs.KnownBytes.{Appends-trans, Consumes-trans, Consumes-kept}
-use Rattle.pana_wire.specs.Lines.{last_line}
 use Rattle.pana_wire.specs.Tap.{has_failed, has_ended, MadeReads}
 use Rattle.pana_wire.specs.inner.Progress.{Progress}
-use Rattle.pana_wire.proofs.Steps.{IsFew, progress_both, progress_few, answered_few, last_few, few_both, few_more, few_lines, few_calls}
+use Rattle.pana_wire.proofs.Steps.{IsFew, progress_both, progress_few, few_both, few_more, few_lines, few_calls}
 use Rattle.pana_wire.proofs.Ends.{read_nothing, reads_more, failed_is_no_end, byte_is_no_end, none_is_end, whole_text, ended_text, broken_piece, broken_last, out_cause}
 use Rattle.pana_wire.proofs.serving.serve_lines.Goals as goal
 

@@ -1,10 +1,10 @@
 -- A newline answers the line that is held, another byte is held, and where serving breaks off it does so at a newline.
-use Rattle.std.proofs.Common.{rules, ◌≡◌, ◌+◌, ◌^◌, ◌<◌, suc, [], ◌∷◌, ◌++◌, get_or, take, drop, refl, sym, ap, ◌∙◌, take-append-drop, arith}
+use Rattle.std.proofs.Common.{◌≡◌, ◌+◌, suc, [], ◌∷◌, ◌++◌, get_or, take, drop, refl, sym, ap, ◌∙◌, take-append-drop, arith}
 use Rattle.std.proofs.Math.Seq.{drop-cons}
 use Rattle.std.proofs.lemmas.List.{take_more}
 use Rattle.std.proofs.lemmas.Result.{err_from_is_err_and}
-use Rattle.std.proofs.KnownBytes.{Appends-nil, Appends-trans}
-use Rattle.pana_wire.proofs.Steps.{IsFew, begun, step_line, step_byte, answered_few, few_both, few_more}
+use Rattle.std.proofs.KnownBytes.{Appends-trans}
+use Rattle.pana_wire.proofs.Steps.{IsFew, step_line, step_byte, answered_few, few_both, few_more}
 use Rattle.pana_wire.proofs.Ends.{broken_at}
 use Rattle.pana_wire.proofs.serving.take_piece.Goals as goal
 use Rattle.pana_wire.proofs.serving.take_piece.Goals.{then-byte-eq10+in_ok-answered, else-byte-eq10}

@@ -1,10 +1,10 @@
 -- The line is written in pieces, and where a write fails a prefix of it.
-use Rattle.std.proofs.Common.{◌≡◌, sym, subst, ◌∙◌}
+use Rattle.std.proofs.Common.{sym, subst, ◌∙◌}
 use Rattle.std.proofs.lemmas.Result.{err_from_is_err_and, on_ok_weaker, IfErr-weaker}
 use Rattle.pana_wire.specs.Field.{field_name}
 use Rattle.pana_wire.specs.Shown.{fault_name}
 use Rattle.pana_wire.specs.inner.Writing.{Writes, WritesPrefix}
-use Rattle.pana_wire.proofs.FaultLine.{closing, fault_end, end_closes, broken_opening, broken_name, broken_end, whole_line, broken_middle, broken_field, broken_closing, whole_end}
+use Rattle.pana_wire.proofs.FaultLine.{closing, end_closes, broken_opening, broken_name, broken_end, whole_line, broken_middle, broken_field, broken_closing, whole_end}
 use Rattle.pana_wire.proofs.serving.write_fault.Goals as goal
 use Rattle.pana_wire.proofs.serving.write_fault.Goals.{in-BadField+in_ok-write_whole-3+in_ok-write_whole-4, in_default}
 
@@ -60,16 +60,16 @@ returns-clause-ok g c =
     let new = c.write_line.new.writer in
     let name : Writes contents mid named (fault_name fault) = subst (λ l. Writes contents mid named l) (c.as_bytes.ensures.value ∙ c.name.ensures) c.in_ok-write_whole-2.ensures.ok in
     on_ok_weaker c.write_line.result (λ last. whole_line contents fault c.args.writer.now mid named new c.in_ok-write_whole.ensures.ok name (
-      elim c.match-fault.branch [
-        | in-BadField+in_ok-write_whole-3+in_ok-write_whole-4 w ↦
-            let more = w.write_whole-in-BadField.new.writer in
-            let until = w.write_whole-in-BadField-2.new.writer in
-            let field : Writes contents more until (field_name w.in-BadField.field) =
-            subst (λ l. Writes contents more until l) (w.as_bytes-in-BadField.ensures.value ∙ w.name-in-BadField.ensures) w.in_ok-write_whole-4.ensures.ok in
-            whole_end contents fault w.in-BadField.field named more until new w.in-BadField.is w.in_ok-write_whole-3.ensures.ok field (subst (λ t. Writes contents t new closing) w.writer-is last)
-        | in_default w ↦
-            subst (λ l. Writes contents named new l) (sym (end_closes fault w.in_default.not-BadField)) (subst (λ t. Writes contents t new closing) w.writer-is last)
-      ])) c.write_line.ensures.ok
+    elim c.match-fault.branch [
+      | in-BadField+in_ok-write_whole-3+in_ok-write_whole-4 w ↦
+          let more = w.write_whole-in-BadField.new.writer in
+          let until = w.write_whole-in-BadField-2.new.writer in
+          let field : Writes contents more until (field_name w.in-BadField.field) =
+          subst (λ l. Writes contents more until l) (w.as_bytes-in-BadField.ensures.value ∙ w.name-in-BadField.ensures) w.in_ok-write_whole-4.ensures.ok in
+          whole_end contents fault w.in-BadField.field named more until new w.in-BadField.is w.in_ok-write_whole-3.ensures.ok field (subst (λ t. Writes contents t new closing) w.writer-is last)
+      | in_default w ↦
+          subst (λ l. Writes contents named new l) (sym (end_closes fault w.in_default.not-BadField)) (subst (λ t. Writes contents t new closing) w.writer-is last)
+    ])) c.write_line.ensures.ok
 
 pub returns-clause-err : goal.returns-clause-err
 returns-clause-err g c =
@@ -80,13 +80,13 @@ returns-clause-err g c =
     let new = c.write_line.new.writer in
     let name : Writes contents mid named (fault_name fault) = subst (λ l. Writes contents mid named l) (c.as_bytes.ensures.value ∙ c.name.ensures) c.in_ok-write_whole-2.ensures.ok in
     IfErr-weaker c.write_line.result _ _ (λ why last. broken_end contents fault c.args.writer.now mid named new why c.in_ok-write_whole.ensures.ok name (
-      elim c.match-fault.branch [
-        | in-BadField+in_ok-write_whole-3+in_ok-write_whole-4 w ↦
-            let more = w.write_whole-in-BadField.new.writer in
-            let until = w.write_whole-in-BadField-2.new.writer in
-            let field : Writes contents more until (field_name w.in-BadField.field) =
-            subst (λ l. Writes contents more until l) (w.as_bytes-in-BadField.ensures.value ∙ w.name-in-BadField.ensures) w.in_ok-write_whole-4.ensures.ok in
-            broken_closing contents fault w.in-BadField.field named more until new why w.in-BadField.is w.in_ok-write_whole-3.ensures.ok field (subst (λ t. WritesPrefix contents t new closing why) w.writer-is last)
-        | in_default w ↦
-            subst (λ l. WritesPrefix contents named new l why) (sym (end_closes fault w.in_default.not-BadField)) (subst (λ t. WritesPrefix contents t new closing why) w.writer-is last)
-      ])) c.write_line.ensures.err
+    elim c.match-fault.branch [
+      | in-BadField+in_ok-write_whole-3+in_ok-write_whole-4 w ↦
+          let more = w.write_whole-in-BadField.new.writer in
+          let until = w.write_whole-in-BadField-2.new.writer in
+          let field : Writes contents more until (field_name w.in-BadField.field) =
+          subst (λ l. Writes contents more until l) (w.as_bytes-in-BadField.ensures.value ∙ w.name-in-BadField.ensures) w.in_ok-write_whole-4.ensures.ok in
+          broken_closing contents fault w.in-BadField.field named more until new why w.in-BadField.is w.in_ok-write_whole-3.ensures.ok field (subst (λ t. WritesPrefix contents t new closing why) w.writer-is last)
+      | in_default w ↦
+          subst (λ l. WritesPrefix contents named new l why) (sym (end_closes fault w.in_default.not-BadField)) (subst (λ t. WritesPrefix contents t new closing why) w.writer-is last)
+    ])) c.write_line.ensures.err
