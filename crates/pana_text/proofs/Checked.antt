@@ -34,9 +34,7 @@ judged-says : (text : List ℕ) (i : Id) (e : Event) (r : Result ⊤ TextFault) 
 judged-says text i e (Ok x) s h = (i, e, text_of text i e s h.0 h.1 h.2)
 judged-says text i e (Err NotNormal) s h = (i, e, s, h)
 judged-says text i e (Err TooLarge) s h = (i, e, s, h.0, h.1, h.2)
-judged-says text i e (Err (Syntax place)) s h = absurd h
-judged-says text i e (Err TooDeep) s h = absurd h
-judged-says text i e (Err OutOfMemory) s h = absurd h
+judged-says text i e (Err _) s h = absurd h
 
 kinds_are : (k m : IdKind × EventKind) → ◌≡◌ {A = Result (IdKind × EventKind) TextFault} (Ok k) (Ok m) → k ≡ m
 kinds_are k m h = cc
@@ -104,11 +102,8 @@ not_refused text e (i, f, h) b = let again = built_again text i f h in cc
 
 -- a build fails where memory runs out alone
 pub build_says : (text : List ℕ) (e : TextFault) → IsTextOfStamp text → Fails e (stamp_at ids capped_events 256 text) → Says e text
-build_says text (Syntax place) r h = absurd (not_refused text (Syntax place) r h)
-build_says text TooDeep r h = absurd (not_refused text TooDeep r h)
-build_says text NotNormal r h = absurd (not_refused text NotNormal r h)
-build_says text TooLarge r h = absurd (not_refused text TooLarge r h)
 build_says text OutOfMemory r h = r
+build_says text e r h = absurd (not_refused text e r h)
 
 pub ruleset builds = (built, built_id_normal, built_event_normal, built_id_within, built_event_within, built_event_fits, build_says)
 

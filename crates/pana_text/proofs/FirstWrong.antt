@@ -46,9 +46,7 @@ ended text (Err (Syntax place)) t = let (end, words) = some_words t.next in (
   (t.left_over, t.within),
 )
 ended text (Err TooDeep) t = let (end, words) = some_words t.next in (t.prefix, t.rest, t.whole, (end, in_grammar (t.prefix ++ (40 ∷ end)) (t.begins end words)), t.within)
-ended text (Err NotNormal) t = absurd t
-ended text (Err TooLarge) t = absurd t
-ended text (Err OutOfMemory) t = absurd t
+ended text (Err _) t = absurd t
 
 module _ {A N B : Type 0} (of_id : OfId A) (of : OfEvent N B) (text : List ℕ) where
   run-outcome : Outcome (stamp ∷ []) 257 (length text) text (stamp_at of_id of 256 text >>= λ s. Ok tt)

@@ -42,9 +42,7 @@ abbrev pub Outcome : List Part → ℕ → ℕ → List ℕ → Result ⊤ TextF
 Outcome parts left total text (Ok x) = Whole parts left text
 Outcome parts left total text (Err (Syntax place)) = Stuck parts left total place text
 Outcome parts left total text (Err TooDeep) = Deep parts left text
-Outcome parts left total text (Err NotNormal) = ⊥
-Outcome parts left total text (Err TooLarge) = ⊥
-Outcome parts left total text (Err OutOfMemory) = ⊥
+Outcome parts left total text (Err _) = ⊥
 
 stuck_here : (parts : List Part) (left total : ℕ) (text : List ℕ) → ((end : List ℕ) → take 1 end ≡ take 1 text → Words parts end → ⊥) → Stuck parts left total (total - length text) text
 stuck_here parts left total text never = record {
@@ -127,9 +125,7 @@ module _ (p : Part) (parts new : List Part) (left b : ℕ) (steps : step p b ≡
     within = ap (λ (o : Option ℕ). room o h.prefix) e ∙ h.within;
     begins = λ end w. forth (h.prefix ++ (40 ∷ end)) (h.begins end w);
   }
-  later k total text (Err NotNormal) e h = h
-  later k total text (Err TooLarge) e h = h
-  later k total text (Err OutOfMemory) e h = h
+  later k total text (Err _) e h = absurd h
 
   by_room : (total : ℕ) (rest : List ℕ) → ((k : ℕ) → Outcome (new ++ parts) k total rest (run total k (new ++ parts) rest)) → (o : Option ℕ) → room_after left b ≡ o
       → Outcome (p ∷ parts) left total (b ∷ rest) (given o (Err TooDeep) (λ k. run total k (new ++ parts) rest))
