@@ -46,6 +46,9 @@ CODE = re.compile(r"`[^`]*`")
 QUOTED = re.compile(r"`([^`]+)`")
 NAME = re.compile(r"\w+(::\w+)*")
 WORD = re.compile(r"\w+")
+# The pages whose names are all names of the sources, and the folders that a path of ours begins with.
+NAMING = ("MAP.md", "PROMISES.md")
+PARTS = ("tests", "docs", "tools", "crates", "src", "specs", "proofs", "must-fail", ".ci")
 
 
 def files():
@@ -204,18 +207,27 @@ def untried_names():
     yield from (f"nothing looks at {it}" for it in names if f'"{it}"' not in wanted)
 
 
+def is_there(page, name):
+    """Whether what a page names in backquotes is a path from the top or in a crate, or no path of ours."""
+    first = name.split("/")[0]
+    if "/" not in name or " " in name or first not in PARTS:
+        return True
+    return any([*at.glob(name)] for at in (TOP, page.parent, *TOP.glob("crates/*")))
+
+
 def named_in_pages():
-    """What the map and the promises name in backquotes is there: files of the crates, and names in the sources."""
+    """What pages name in backquotes is there: paths, files of the crates, and in map and promises names in the sources."""
     sources = [it for kind in ("rt", "antt") for it in TOP.glob(f"crates/*/*/**/*.{kind}") if "out" not in it.parts]
     files = {end for it in sources for end in (it.name, f"{it.parent.name}/{it.name}")}
     words = {word for it in [*sources, TOP / "crates.txt"] for line in lines_of(it) for word in WORD.findall(line)}
     words |= {it.name for it in TOP.glob("tests/scenarios/*")} | {it.name for it in TOP.glob("tests/scenarios/*/*")}
     words |= {it.stem for it in sources}
-    for page in (TOP / "docs/MAP.md", TOP / "docs/PROMISES.md"):
+    for page in sorted([*TOP.glob("*.md"), *TOP.glob("docs/*.md"), *TOP.glob("crates/*/README.md")]):
         for number, line in enumerate(lines_of(page), 1):
             for name in QUOTED.findall(line):
                 is_file = name.endswith((".rt", ".antt"))
-                if is_file and name not in files or not is_file and NAME.fullmatch(name) and name.split("::")[-1] not in words:
+                is_known = name.split("::")[-1] in words or page.name not in NAMING or not NAME.fullmatch(name)
+                if not (name in files or is_there(page, name) if is_file else is_known and is_there(page, name)):
                     yield f"{named(page)}:{number} names {name}, which is not there"
 
 
