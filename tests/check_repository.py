@@ -38,8 +38,7 @@ SAID_OTHERWISE = [(re.compile(rf"\b({words})\b", re.IGNORECASE), plain) for word
 WORDED = ("*.md", "docs/**/*", "test", "panad", "package", ".ci/*", "tools/*", "tests/**/*.py", "tests/**/*.c")
 WORDED += ("tests/scenarios/*/about", "tests/scenarios/help*/output", "tests/scenarios/no_command/error")
 WORDED_SOURCES = ("crates/*/README.md", "crates/**/*.rt", "crates/**/*.antt", "crates/*/must-fail/*.edit")
-# Whether the crates are held to these words too, to a README.md each, and to so many must-fail edits.
-CRATES_ARE_DONE = False
+# How many must-fail edits a crate has at most.
 MOST_EDITS = 12
 COMMENT = re.compile(r"(?://|--)(.*)")
 CODE = re.compile(r"`[^`]*`")
@@ -73,8 +72,8 @@ def listed_crates():
 
 
 def crate_folders():
-    """Each crate has a README.md and at most 12 must-fail edits, once the crates are held to it."""
-    for name in listed_crates() if CRATES_ARE_DONE else ():
+    """Each crate has a README.md and at most 12 must-fail edits."""
+    for name in listed_crates():
         folder = TOP / "crates" / name
         if not (folder / "README.md").is_file():
             yield f"crates/{name} has no README.md"
@@ -131,8 +130,7 @@ def words_of(file, line):
 
 def dialect():
     """Pages, help, scripts, comments and the names of files use the field's words."""
-    sources = WORDED_SOURCES if CRATES_ARE_DONE else ()
-    found = {it for pattern in (*WORDED, *sources) for it in TOP.glob(pattern) if it.is_file()}
+    found = {it for pattern in (*WORDED, *WORDED_SOURCES) for it in TOP.glob(pattern) if it.is_file()}
     for file in sorted(it for it in found if not SKIPPED & {*named(it).parts} and it != Path(__file__).resolve()):
         name = re.sub(r"[_/.-]", " ", str(named(file)))
         for number, prose in enumerate([name, *(words_of(file, it) for it in lines_of(file))]):

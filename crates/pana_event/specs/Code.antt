@@ -1,4 +1,4 @@
--- Events as lists of their numbers, by which a proof tells one from another.
+-- Events as lists of their numbers, by which a proof distinguishes two events.
 use Rattle.std.specs.Prelude.{◌≡◌, ℕ, Bool, true, false, List, [], ◌∷◌, refl}
 use Rattle.std.proofs.Common.{◌∙◌}
 use Rattle.std.specs.Coded.{Coded, code_by, coded_bool, coded_list, coded_ℕ, coded×}
