@@ -24,7 +24,7 @@ impl Model for LineBuffer {
 }
 
 impl LineBuffer {
-    /// No byte. Takes all the memory that it ever takes, 65,537 bytes; the only refusal is want of it.
+    /// No byte. Takes all the memory that it ever takes, 65,537 bytes; the only error is that this allocation fails.
     pub fn new(alloc: Global) -> Result<LineBuffer, AllocError>
         ensures { IfOk result (λ held. held ≡ []) }
     {

@@ -1,5 +1,5 @@
 -- A session that makes every call is never spent.
-use Rattle.std.specs.Prelude.{◌≡◌, ◌≢◌, ℕ, Bool, List, [], ◌∷◌}
+use Rattle.std.specs.Prelude.{◌≢◌, ℕ, Bool, List, [], ◌∷◌}
 use Rattle.std.proofs.Common.{inl, inr, subst}
 use Rattle.pana_hall.specs.declared.call.Call.{Call}
 use Rattle.pana_hall.specs.declared.reply.Reply.{Reply}

@@ -1,9 +1,8 @@
 -- What is served begins with the new hall's journal, which is empty.
-use Rattle.std.proofs.Common.{inl, inr, refl, subst, arith}
+use Rattle.std.proofs.Common.{inl, inr, subst}
 use Rattle.std.proofs.lemmas.Result.{IfOk-weaker, IfErr-weaker}
 use Rattle.pana_hall.specs.Step.{Steps}
-use Rattle.pana_wire.specs.Session.{Serves, Stops, NeverBegins, lines_come}
-use Rattle.pana_wire.specs.Tap.{has_ended}
+use Rattle.pana_wire.specs.Session.{Serves, Stops, NeverBegins}
 use Rattle.panad.specs.Never.{IsNever}
 use Rattle.panad.proofs.NeverSpent.{never_spent}
 use Rattle.panad.proofs.running.run_on.Goals as goal
