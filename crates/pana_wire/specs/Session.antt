@@ -97,7 +97,7 @@ pub record Stops {R W S : Type 0} (remaining : R → Option (List ℕ)) (content
   pub ends : EndsBy step spends fault (has_ended reader_new) old input output new
   pub cause : HasCause fault most reader_old reader_new (has_failed writer_new)
 
--- memory for serving itself was refused, before the first read, and nothing has happened
+-- an allocation for serving itself failed, before the first read, and nothing has happened
 pub record NeverBegins {R W S : Type 0} (reader_old reader_new : Tap R) (writer_old writer_new : Tap W) (old new : S) (fault : ServeFault) : Type 0 where
   pub memory : fault ≡ OutOfMemory
   pub reader : reader_new ≡ reader_old
