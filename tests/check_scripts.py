@@ -214,6 +214,8 @@ CHECKS = (other_arguments, first_use, on_a_terminal, failed_proof, interrupted, 
 
 
 def main():
+    # A shell starts what it runs in the background with this signal ignored, and so would be what is started here.
+    signal.signal(signal.SIGINT, signal.default_int_handler)
     outcomes = [passes(it) for it in CHECKS]
     print(f"{outcomes.count(True)} passed, {outcomes.count(False)} failed")
     return 1 if outcomes.count(False) else 0
