@@ -1,66 +1,80 @@
--- Living copies stand by rising number.
-use Rattle.std.specs.Prelude.{◌≡◌, ℕ, zero, suc, ◌+◌, ◌<◌, ◌≤◌, true, false, cond, ◌==◌, List, [], ◌∷◌, ◌++◌, fold, Some, None, option_map, slice_get}
-use Rattle.std.specs.Option.{option_to_list}
-use Rattle.std.proofs.Common.{refl, ap, ◌∙◌, arith, append-nil}
-use Rattle.pana_journal.specs.declared.report.Report.{Report}
-use Rattle.pana_journal.specs.declared.report.Report.TheVariants.{Register, Duplicate, Edit}
+-- Lists by rising numbers.
+use Rattle.std.specs.Prelude.{◌≡◌, ◌≢◌, ◌⊎◌, ℕ, ◌+◌, ◌-◌, ◌<◌, ◌≤◌, zero, suc, Bool, true, false, cond, ◌==◌, List, [], ◌∷◌, ◌++◌, length, filter, Some, None, slice_get}
+use Rattle.std.specs.List.{AllByRecursion}
+use Rattle.std.proofs.Common.{refl, ap, ◌∙◌, subst, inl, inr, arith}
+use Rattle.std.proofs.lemmas.Bool.{ne_eqb, eqb-false}
 use Rattle.pana_journal.specs.declared.entry.Entry.{Entry}
-use Rattle.pana_journal.specs.Entries.{IsNumbered}
-use Rattle.pana_hall.specs.Copy.{Copy}
-use Rattle.pana_hall.specs.Living.{copies_of, living, copy_in, change, edited, registered, duplicated, after_report, after_entry}
-use Rattle.pana_hall.specs.inner.Rising.{AreRising}
+use Rattle.pana_journal.specs.Entries.{entry_at}
+use Rattle.pana_hall.specs.Laws.{AreRising}
 
--- each number is above the one before it, the first above the low bound, and none above the high one
-abbrev AreWithin : ℕ → ℕ → List Copy → Type 0
-AreWithin low high [] = low ≤ high
-AreWithin low high (copy ∷ copies) = (low < copy.number) × AreWithin copy.number high copies
+pub rises_lower : {X : Type 0} (key : X → ℕ) (low low' : ℕ) (xs : List X) → low' ≤ low → AreRising key low xs → AreRising key low' xs
+rises_lower key low low' [] below rises = tt
+rises_lower key low low' (x ∷ xs) below rises = let first = rises.0 in (omega arith, rises.1)
 
-within_rises : (low high : ℕ) (copies : List Copy) → AreWithin low high copies → AreRising low copies
-within_rises low high [] within = tt
-within_rises low high (copy ∷ copies) within = (within.0, within_rises copy.number high copies within.1)
-
-within_higher : (low high : ℕ) (copies : List Copy) → AreWithin low high copies → AreWithin low (high + 1) copies
-within_higher low high [] within = omega arith
-within_higher low high (copy ∷ copies) within = (within.0, within_higher copy.number high copies within.1)
-
-within_push : (low high : ℕ) (copies : List Copy) (copy : Copy) → AreWithin low high copies → copy.number ≡ high + 1 → AreWithin low (high + 1) (copies ++ copy ∷ [])
-within_push low high [] copy within next = (omega arith, omega arith)
-within_push low high (first ∷ copies) copy within next = (within.0, within_push first.number high copies copy within.1 next)
-
-within_edited : (low high n number : ℕ) (copies : List Copy) → AreWithin low high copies → AreWithin low high (change number (edited n) copies)
-within_edited low high n number [] within = within
-within_edited low high n number (copy ∷ copies) within =
-    let rest : AreWithin copy.number high (change number (edited n) copies) = within_edited copy.number high n number copies within.1 in
-    elim (copy.number == number) as (λ b. AreWithin low high (cond b (edited n copy) copy ∷ change number (edited n) copies)) [
-      | true ↦ (within.0, rest)
-      | false ↦ (within.0, rest)
+pub rises_filter : {X : Type 0} (key : X → ℕ) (low : ℕ) (q : X → Bool) (xs : List X) → AreRising key low xs → AreRising key low (filter q xs)
+rises_filter key low q [] rises = tt
+rises_filter key low q (x ∷ xs) rises =
+    let first = rises.0 in
+    elim (q x) as (λ b. AreRising key low (cond b (x ∷ filter q xs) (filter q xs))) [
+      | true ↦ (rises.0, rises_filter key (key x) q xs rises.1)
+      | false ↦ rises_lower key (key x) low (filter q xs) (omega arith) (rises_filter key (key x) q xs rises.1)
     ]
 
-within_report : (high : ℕ) (report : Report) (copies : List Copy) → AreWithin 0 high copies → AreWithin 0 (high + 1) (after_report (high + 1) report copies)
-within_report high (Register place) copies within = within_push 0 high copies (registered (high + 1) place) within refl
-within_report high (Duplicate source place) copies within =
-    elim (copy_in copies source) as (λ found. AreWithin 0 (high + 1) (copies ++ option_to_list (option_map (duplicated (high + 1) place) found))) [
-      | None ↦ rw (append-nil copies) (within_higher 0 high copies within)
-      | Some copy ↦ within_push 0 high copies (duplicated (high + 1) place copy) within refl
+pub rises_push : {X : Type 0} (key : X → ℕ) (low : ℕ) (xs : List X) (y : X) → AreRising key low xs → AllByRecursion (λ x. key x < key y) xs → low < key y → AreRising key low (xs ++ y ∷ [])
+rises_push key low [] y rises below more = (more, tt)
+rises_push key low (x ∷ xs) y rises below more = (rises.0, rises_push key (key x) xs y rises.1 below.1 below.0)
+
+pub rises_above : {X : Type 0} (key : X → ℕ) (low : ℕ) (xs : List X) (y : X) → AreRising key low (xs ++ y ∷ []) → low < key y
+rises_above key low [] y rises = rises.0
+rises_above key low (x ∷ xs) y rises = let first = rises.0 in let rest : key x < key y = rises_above key (key x) xs y rises.1 in omega arith
+
+-- the last is above all others
+pub rises_last : {X : Type 0} (key : X → ℕ) (low : ℕ) (xs : List X) (y : X) → AreRising key low (xs ++ y ∷ []) → AllByRecursion (λ x. key x < key y) xs
+rises_last key low [] y rises = tt
+rises_last key low (x ∷ xs) y rises = (rises_above key (key x) xs y rises.1, rises_last key (key x) xs y rises.1)
+
+pub slice_get-append : {X : Type 0} (xs ys : List X) (i : ℕ) (x : X) → slice_get xs i ≡ Some x → slice_get (xs ++ ys) i ≡ Some x
+slice_get-append [] ys i x e = absurd (cc)
+slice_get-append (z ∷ xs) ys zero x e = e
+slice_get-append (z ∷ xs) ys (suc i) x e = slice_get-append xs ys i x e
+
+pub slice_get-push : {X : Type 0} (xs : List X) (x : X) → slice_get (xs ++ x ∷ []) (length xs) ≡ Some x
+slice_get-push [] x = refl
+slice_get-push (z ∷ xs) x = slice_get-push xs x
+
+pub entry_at-append : (journal more : List Entry) (n : ℕ) (entry : Entry) → entry_at journal n ≡ Some entry → entry_at (journal ++ more) n ≡ Some entry
+entry_at-append journal more n entry e =
+    elim (n == 0) as (λ b. cond b None (slice_get journal (n - 1)) ≡ Some entry → cond b None (slice_get (journal ++ more) (n - 1)) ≡ Some entry) [
+      | true ↦ λ h. absurd (cc)
+      | false ↦ λ h. slice_get-append journal more (n - 1) entry h
+    ] e
+
+pub entry_at-push : (journal : List Entry) (entry : Entry) → entry_at (journal ++ entry ∷ []) (length journal + 1) ≡ Some entry
+entry_at-push journal entry =
+    let place : length journal + 1 - 1 ≡ length journal = omega arith in
+    ap (λ b. cond b None (slice_get (journal ++ entry ∷ []) (length journal + 1 - 1))) (ne_eqb (length journal + 1) 0 (λ h. omega arith))
+    ∙ ap (slice_get (journal ++ entry ∷ [])) place ∙ slice_get-push journal entry
+
+-- an entry that is found in a journal and one more is the new one, or was found before
+pub slice_get-push_cases : {X : Type 0} (xs : List X) (y : X) (i : ℕ) (x : X) → slice_get (xs ++ y ∷ []) i ≡ Some x → (slice_get xs i ≡ Some x) ⊎ ((i ≡ length xs) × (y ≡ x))
+slice_get-push_cases [] y zero x e = inr (refl, cc)
+slice_get-push_cases [] y (suc i) x e = absurd (cc)
+slice_get-push_cases (z ∷ xs) y zero x e = inl e
+slice_get-push_cases (z ∷ xs) y (suc i) x e =
+    elim (slice_get-push_cases xs y i x e) [
+      | inl old ↦ inl old
+      | inr new ↦ inr (ap suc new.0, new.1)
     ]
-within_report high (Edit copy) copies within = within_edited 0 (high + 1) (high + 1) copy copies (within_higher 0 high copies within)
 
--- entries numbered from one above the number on
-abbrev AreNumbered : ℕ → List Entry → Type 0
-AreNumbered n [] = Unit {0}
-AreNumbered n (entry ∷ entries) = (entry.number ≡ n + 1) × AreNumbered (n + 1) entries
+pub slice_get-each : {X : Type 0} (P : X → Type 0) (xs : List X) (i : ℕ) (x : X) → AllByRecursion P xs → slice_get xs i ≡ Some x → P x
+slice_get-each P [] i x each e = absurd (cc)
+slice_get-each P (z ∷ xs) zero x each e = let same : z ≡ x = cc in subst P same each.0
+slice_get-each P (z ∷ xs) (suc i) x each e = slice_get-each P xs i x each.1 e
 
-numbered : (n : ℕ) (entries : List Entry) → ((i : ℕ) (entry : Entry) → slice_get entries i ≡ Some entry → entry.number ≡ n + (i + 1)) → AreNumbered n entries
-numbered n [] each = tt
-numbered n (entry ∷ entries) each =
-    (each 0 entry refl, numbered (n + 1) entries (λ i e found. let at : e.number ≡ n + (suc i + 1) = each (suc i) e found in omega arith))
-
-within_fold : (n : ℕ) (copies : List Copy) (entries : List Entry) → AreWithin 0 n copies → AreNumbered n entries → AreRising 0 (fold after_entry copies entries)
-within_fold n copies [] within each = within_rises 0 n copies within
-within_fold n copies (entry ∷ entries) within each =
-    let next : AreWithin 0 (n + 1) (after_entry copies entry) = rw (each.0) (within_report n entry.report copies within) in
-    within_fold (n + 1) (after_entry copies entry) entries next each.1
-
-pub living_rises : (journal : List Entry) → IsNumbered journal → AreRising 0 (living journal)
-unfolding copies_of
-living_rises journal each = within_fold 0 [] journal (omega arith) (numbered 0 journal (λ i entry found. let at : entry.number ≡ i + 1 = each i entry found in omega arith))
+-- an entry with number n is at index n - 1
+pub entry_at_place : (journal : List Entry) (n : ℕ) (entry : Entry) → entry_at journal n ≡ Some entry → (n ≢ 0) × (slice_get journal (n - 1) ≡ Some entry)
+entry_at_place journal n entry e =
+    elim (n == 0) as (λ b. (n == 0) ≡ b → cond b None (slice_get journal (n - 1)) ≡ Some entry → (n ≢ 0) × (slice_get journal (n - 1) ≡ Some entry)) [
+      | true ↦ λ z h. absurd (cc)
+      | false ↦ λ z h. (eqb-false n 0 z, h)
+    ] refl e

@@ -6,7 +6,7 @@ use Rattle.pana_event.specs.declared.rel.Rel.TheVariants.{Equal, Older, Newer, C
 use Rattle.pana_hall.specs.declared.board.BoardRow.{BoardRow}
 use Rattle.pana_hall.specs.declared.board.BoardView.{BoardView}
 use Rattle.pana_hall.specs.Relation.{relation, is_rel}
-use Rattle.pana_hall.specs.Copy.{Copy}
+use Rattle.pana_hall.specs.Living.{Copy}
 
 -- whether the copy is of the family
 abbrev pub is_of : ℕ → Copy → Bool

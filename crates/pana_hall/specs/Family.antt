@@ -1,15 +1,21 @@
 -- The family of an entry.
-use Rattle.std.specs.Prelude.{ℕ, Bool, true, false, ◌==◌, List, Option, Some, None, fold, if◌then◌else◌}
+use Rattle.std.specs.Prelude.{ℕ, Bool, true, false, ◌==◌, List, filter, Option, Some, None, fold, if◌then◌else◌}
 use Rattle.pana_journal.specs.declared.report.Report.{Report}
-use Rattle.pana_journal.specs.declared.report.Report.TheVariants.{Register, Duplicate, Edit}
+use Rattle.pana_journal.specs.declared.report.Report.TheVariants.{Register, Duplicate, Edit, Reconcile, Merge, Relocate, Remove, Confirm, Withdraw}
 use Rattle.pana_journal.specs.declared.entry.Entry.{Entry}
 use Rattle.pana_journal.specs.Entries.{entry_at}
 
--- the copy that a report names first, to whose family it belongs. A Register names none: it begins a family of its own
+-- the copy, or the entry, to whose family a report belongs. A Register names none: it begins a family of its own
 abbrev pub subject : Report → Option ℕ
 subject (Register place) = None
 subject (Duplicate copy place) = Some copy
 subject (Edit copy) = Some copy
+subject (Reconcile a b) = Some a
+subject (Merge a b) = Some a
+subject (Relocate copy place) = Some copy
+subject (Remove copy heir) = Some copy
+subject (Confirm entry) = Some entry
+subject (Withdraw entry) = Some entry
 
 -- the family of entry n with this subject, where family_of gives that of each entry before
 abbrev pub begun_or_joined : (ℕ → ℕ) → ℕ → Option ℕ → ℕ
@@ -24,11 +30,14 @@ with_entry family_of entry n = if n == entry.number then begun_or_joined family_
 abbrev pub families : List Entry → ℕ → ℕ
 families journal = fold with_entry (λ n. n) journal
 
+-- the entries of a family
+abbrev pub entries_of : ℕ → (ℕ → ℕ) → List Entry → List Entry
+entries_of family family_of entries = filter (λ entry. family_of entry.number == family) entries
+
 -- whether the report begins a family
 abbrev pub is_register : Report → Bool
 is_register (Register place) = true
-is_register (Duplicate copy place) = false
-is_register (Edit copy) = false
+is_register _ = false
 
 -- whether there is such an entry, and its report passes the test
 abbrev pub has_report : (Report → Bool) → Option Entry → Bool

@@ -1,25 +1,62 @@
--- What follows of every run, and of the relation of sets.
-use Rattle.std.specs.Prelude.{◌≡◌, ◌≢◌, ℕ, ◌<◌, ◌≤◌, ◌↔◌, List, map, length, IsTrue}
-use Rattle.std.specs.List.{All, AllPairs}
+-- What follows of every run: for the tables of the families, and for the places of the copies.
+use Rattle.std.specs.Prelude.{◌≡◌, ◌≢◌, ◌↔◌, ℕ, ◌+◌, ◌<◌, ◌≤◌, List, [], ◌∷◌, ◌++◌, length, filter, IsTrue}
+use Rattle.std.specs.List.{AllByRecursion}
 use Rattle.pana_journal.specs.declared.entry.Entry.{Entry}
-use Rattle.pana_hall.specs.Copy.{Copy}
 use Rattle.pana_event.specs.declared.rel.Rel.TheVariants.{Equal, Older, Newer, Conflict}
 use Rattle.pana_hall.specs.Updates.{has}
 use Rattle.pana_hall.specs.Relation.{relation}
 use Rattle.pana_hall.specs.Family.{families}
-use Rattle.pana_hall.specs.Living.{living}
+use Rattle.pana_hall.specs.Living.{Copy, copy_in, living, after_entry}
+use Rattle.pana_hall.specs.Pending.{pending}
+use Rattle.pana_hall.specs.Board.{is_of}
+use Rattle.pana_hall.specs.Tables.{table}
 
--- living copies in order: no two are kept at one place; each number is below those after it, and none is above the
--- last; and each copy is of the family that its number has
-pub record AreOrderly (copies : List Copy) (family_of : ℕ → ℕ) (last : ℕ) : Type 0 where
-  pub places : AllPairs (λ place other. place ≢ other) (map (λ copy. copy.place) copies)
-  pub rising : AllPairs (λ number later. number < later) (map (λ copy. copy.number) copies)
-  pub numbers : All (λ number. number ≤ last) (map (λ copy. copy.number) copies)
-  pub families : map (λ copy. copy.family) copies ≡ map (λ copy. family_of copy.number) copies
+-- the family of the next entry
+abbrev pub family_of_next : List Entry → Entry → ℕ
+family_of_next journal entry = families (journal ++ entry ∷ []) entry.number
 
--- those of a journal are, each of the family of the entry that made it
-abbrev pub IsOrderly : List Entry → Type 0
-IsOrderly journal = AreOrderly (living journal) (families journal) (length journal)
+-- the entry changes the family's table; leaving out one more gives what leaving out one less gave before it
+pub record AddsLayer (most family : ℕ) (journal : List Entry) (entry : Entry) : Type 0 where
+  pub now : table most 0 family (journal ++ entry ∷ []) ≡ after_entry (table most 0 family journal) entry
+  pub undone : (k : ℕ) → k < most → table most (k + 1) family (journal ++ entry ∷ []) ≡ table most k family journal
+
+-- the entry takes the family back by one entry
+abbrev pub DropsLayer : ℕ → ℕ → List Entry → Entry → Type 0
+DropsLayer most family journal entry = (k : ℕ) → table most k family (journal ++ entry ∷ []) ≡ table most (k + 1) family journal
+
+-- the entry leaves the family's tables, as far back as entries stay pending
+abbrev pub KeepsLayers : ℕ → ℕ → List Entry → Entry → Type 0
+KeepsLayers most family journal entry = (k : ℕ) → k ≤ length (pending most family (journal ++ entry ∷ [])) → table most k family (journal ++ entry ∷ []) ≡ table most k family journal
+
+-- the entry leaves all tables of a family, and what is pending in it
+pub record LeavesAlone (most family : ℕ) (journal : List Entry) (entry : Entry) : Type 0 where
+  pub tables : (k : ℕ) → table most k family (journal ++ entry ∷ []) ≡ table most k family journal
+  pub pending : pending most family (journal ++ entry ∷ []) ≡ pending most family journal
+
+-- each key is above the one before it, and the first above the bound
+abbrev pub AreRising : {X : Type 0} → (X → ℕ) → ℕ → List X → Type 0
+AreRising key low [] = Unit {0}
+AreRising key low (x ∷ xs) = (low < key x) × AreRising key (key x) xs
+
+-- no two copies are kept at one place
+abbrev pub AreApart : List Copy → Type 0
+AreApart [] = Unit {0}
+AreApart (copy ∷ copies) = AllByRecursion (λ other. copy.place ≢ other.place) copies × AreApart copies
+
+-- the living copies are those of the families' tables, by rising number; each is of the family of the entry that made it
+pub record AreMerged (most : ℕ) (journal : List Entry) : Type 0 where
+  pub tables : (family : ℕ) → filter (is_of family) (living journal) ≡ table most 0 family journal
+  pub found : (number : ℕ) → copy_in (living journal) number ≡ copy_in (table most 0 (families journal number) journal) number
+  pub rising : AreRising (λ copy. copy.number) 0 (living journal)
+  pub families : AllByRecursion (λ copy. (copy.family ≡ families journal copy.number) × (copy.number ≤ length journal)) (living journal)
+
+-- the living copies are kept at places of their own, their numbers rise and are those of entries, and each is of the
+-- family of the entry that made it
+pub record IsOrderly (journal : List Entry) : Type 0 where
+  pub apart : AreApart (living journal)
+  pub rising : AreRising (λ copy. copy.number) 0 (living journal)
+  pub numbers : AllByRecursion (λ copy. copy.number ≤ length journal) (living journal)
+  pub families : AllByRecursion (λ copy. copy.family ≡ families journal copy.number) (living journal)
 
 -- each member of the first set is one of the second
 abbrev pub IsSubset : List ℕ → List ℕ → Type 0

@@ -11,21 +11,27 @@ use Rattle.pana_hall.specs.declared.reply.Reply.{Reply}
 use Rattle.pana_hall.specs.declared.reply.Reply.TheVariants as replies
 use Rattle.pana_hall.specs.Living.{living}
 use Rattle.pana_hall.specs.Board.{board_of}
+use Rattle.pana_hall.specs.Queries.{family_rows, pair_of, holdings}
+use Rattle.pana_journal.specs.Entries.{page}
 use Rattle.pana_hall.specs.Refusal.{refusal}
 
 -- the reply answers the query
 abbrev pub Answers : List Entry → Query → Reply → Type 0
+Answers journal queries.Families reply = reply ≡ replies.Families (family_rows journal (living journal))
 Answers journal (queries.Board family) reply = reply ≡ replies.Board (board_of family (living journal))
+Answers journal (queries.Pair a b) reply = reply ≡ replies.Pair (pair_of (living journal) a b)
+Answers journal (queries.Holdings device) reply = reply ≡ replies.Holdings (holdings (living journal) device)
+Answers journal (queries.JournalFrom n) reply = reply ≡ replies.Journal (page journal n)
 
 -- the reply grants a call that nothing stands against: a report is the next entry, a query is answered
 abbrev pub Grants : List Entry → Call → Reply → Type 0
 Grants journal (calls.Report report) reply = reply ≡ replies.Done (length journal + 1)
 Grants journal (calls.Query query) reply = Answers journal query reply
 
--- the call may be refused so for a shortage, although nothing stands against it: memory may run out
+-- the call may be refused so for a shortage, although nothing stands against it: memory may run out, but for a Pair
 abbrev pub IsShortage : List Entry → Call → Cause → Type 0
-IsShortage journal (calls.Report report) cause = cause ≡ causes.OutOfMemory
-IsShortage journal (calls.Query query) cause = cause ≡ causes.OutOfMemory
+IsShortage journal (calls.Query (queries.Pair a b)) cause = ⊥
+IsShortage journal call cause = cause ≡ causes.OutOfMemory
 
 -- the reply to a call, given why it is refused: that cause and no other; else what is granted, or a shortage
 abbrev pub PermitsBy : Option Cause → List Entry → Call → Reply → Type 0

@@ -100,7 +100,7 @@ fn is_newest(family: u64, copies: &[LivingCopy], copy: &LivingCopy) -> bool
     copy.family() == family && !has_other(Rel::Newer, copy, copies)
 }
 
-fn newest_of(alloc: Global, family: u64, copies: &[LivingCopy]) -> Result<Vec<u64>, AllocError>
+pub fn newest_of(alloc: Global, family: u64, copies: &[LivingCopy]) -> Result<Vec<u64>, AllocError>
     ensures { IfOk result (λ numbers. numbers.items ≡ map (λ copy. copy.number) (newest family copies.now)) }
 {
     let mut numbers = Vec::new(alloc);
@@ -136,7 +136,7 @@ fn any_torn(family: u64, copies: &[LivingCopy]) -> bool
 }
 
 /// Whether two of the newest copies of the family are in conflict.
-fn is_split(family: u64, copies: &[LivingCopy]) -> bool
+pub fn is_split(family: u64, copies: &[LivingCopy]) -> bool
     ensures { result ≡ has_conflict (newest family copies.now) }
 {
     any_torn(family, copies)

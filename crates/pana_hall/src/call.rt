@@ -1,10 +1,19 @@
+use pana_copies::DeviceName;
 use pana_journal::Report;
 
 /// What is asked of a hall. No query changes it.
 #[derive(Debug, PartialEq, Eq, Drop)]
 pub enum Query {
+    /// Each family with a living copy.
+    Families,
     /// The board of the family with this number.
     Board { family: u64 },
+    /// How the first copy relates to the second.
+    Pair { a: u64, b: u64 },
+    /// The living copies on this device.
+    Holdings { device: DeviceName },
+    /// The entries from this number on, at most 100.
+    JournalFrom { entry: u64 },
 }
 
 /// What a session or a scanner sends to a hall: it reports a change, or asks for an answer.

@@ -8,12 +8,22 @@ pub enum Cause {
     JournalFull,
     /// No living copy has this number.
     UnknownCopy(u64),
+    /// The two copies are one.
+    SameCopy,
+    /// The two copies are of two families.
+    OtherFamily,
     /// This living copy has the place that is asked for.
     PlaceTaken(u64),
     /// The family has 256 living copies.
     FamilyFull,
     /// Memory ran out.
     OutOfMemory,
+    /// No entry that reported something of a copy has this number.
+    UnknownEntry,
+    /// Another device reported the entry.
+    NotYours,
+    /// The entry isn't pending, or, where it is to be withdrawn, isn't the last that is.
+    Settled,
     /// No Register entry has this number.
     UnknownFamily,
 }
@@ -26,9 +36,14 @@ impl Cause {
         match self {
             Cause::JournalFull => 1,
             Cause::UnknownCopy(_) => 2,
+            Cause::SameCopy => 3,
+            Cause::OtherFamily => 4,
             Cause::PlaceTaken(_) => 6,
             Cause::FamilyFull => 7,
             Cause::OutOfMemory => 9,
+            Cause::UnknownEntry => 10,
+            Cause::NotYours => 11,
+            Cause::Settled => 12,
             Cause::UnknownFamily => 13,
         }
     }
@@ -40,9 +55,14 @@ impl Cause {
         match self {
             Cause::JournalFull => "JournalFull",
             Cause::UnknownCopy(_) => "UnknownCopy",
+            Cause::SameCopy => "SameCopy",
+            Cause::OtherFamily => "OtherFamily",
             Cause::PlaceTaken(_) => "PlaceTaken",
             Cause::FamilyFull => "FamilyFull",
             Cause::OutOfMemory => "OutOfMemory",
+            Cause::UnknownEntry => "UnknownEntry",
+            Cause::NotYours => "NotYours",
+            Cause::Settled => "Settled",
             Cause::UnknownFamily => "UnknownFamily",
         }
     }

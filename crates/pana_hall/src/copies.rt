@@ -1,8 +1,8 @@
-ghost use Rattle.std.specs.Prelude.{◌≡◌, ◌==◌, [], ◌∷◌, ◌++◌, true, is_some, find, position, nat_le, option_copied, count_by, OnOk, OnErr};
+ghost use Rattle.std.specs.Prelude.{◌≡◌, ◌==◌, [], ◌∷◌, ◌++◌, find, position, nat_le, option_copied, count_by, IfOk, OnOk, OnErr};
 ghost use Rattle.pana_copies.specs.Places.{same_place};
 ghost use Rattle.pana_hall.specs.Board.{is_of};
-ghost use Rattle.pana_hall.specs.Living.{copy_in, change, with_updates};
-ghost use Rattle.pana_hall.specs.inner.Rising.{AreRising};
+ghost use Rattle.pana_hall.specs.Living.{copy_in, known_to, change, with_updates, moved, without};
+ghost use Rattle.pana_hall.specs.Laws.{AreRising};
 
 use crate::living_copy::LivingCopy;
 use crate::update_set::UpdateSet;
@@ -21,7 +21,7 @@ pub struct Copies {
 
 impl Model for Copies {
     ghost use Rattle.std.specs.Prelude.{List};
-    ghost use Rattle.pana_hall.specs.Copy.{Copy};
+    ghost use Rattle.pana_hall.specs.Living.{Copy};
 
     ghost Value = { List Copy };
 
@@ -59,6 +59,16 @@ impl Copies {
         self.list.iter().find(|copy| copy.place().is_same(place))
     }
 
+    /// What the copy with this number knows: nothing, where it doesn't live. Fails only where memory runs out.
+    pub fn known_to(&self, alloc: Global, number: u64) -> Result<UpdateSet, AllocError>
+        ensures { IfOk result (λ set. set ≡ known_to self.now number) }
+    {
+        match self.get(number) {
+            Some(copy) => copy.updates().copy_of(),
+            None => Ok(UpdateSet::new(alloc)),
+        }
+    }
+
     /// Whether the family has all the 256 copies that it takes. Takes no memory.
     pub fn is_full(&self, family: u64) -> bool
         ensures { result ≡ nat_le 256 (count_by (is_of family) self.now) }
@@ -84,14 +94,34 @@ impl Copies {
         Ok(())
     }
 
-    /// Gives a copy that lives these updates, by this entry. Takes no memory.
+    /// Gives the copy with this number these updates, by this entry, if it lives. Takes no memory.
     pub fn set_updates(&mut self, number: u64, entry: u64, updates: UpdateSet)
-        requires rising { AreRising 0 self.old }
-        requires lives { is_some (copy_in self.old number) ≡ true }
+        requires { AreRising (λ copy. copy.number) 0 self.old }
         ensures { self.new ≡ change number (with_updates entry updates) self.old }
     {
-        let index = self.index_of(number).unwrap();
-        self.list[index].set_updates(entry, updates);
+        if let Some(index) = self.index_of(number) {
+            self.list[index].set_updates(entry, updates);
+        }
+    }
+
+    /// Keeps the copy with this number at this place, from this entry on, if it lives. Takes no memory.
+    pub fn relocate(&mut self, number: u64, entry: u64, place: Place)
+        requires { AreRising (λ copy. copy.number) 0 self.old }
+        ensures { self.new ≡ change number (moved entry place) self.old }
+    {
+        if let Some(index) = self.index_of(number) {
+            self.list[index].relocate(entry, place);
+        }
+    }
+
+    /// Takes out the copy with this number, if it lives. Takes no memory.
+    pub fn remove(&mut self, number: u64)
+        requires { AreRising (λ copy. copy.number) 0 self.old }
+        ensures { self.new ≡ without number self.old }
+    {
+        if let Some(index) = self.index_of(number) {
+            let _ = self.list.remove(index);
+        }
     }
 
     fn index_of(&self, number: u64) -> Option<usize>

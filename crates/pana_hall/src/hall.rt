@@ -1,11 +1,13 @@
-ghost use Rattle.std.specs.Prelude.{◌≡◌, [], IfOk, OnErr};
+ghost use Rattle.std.specs.Prelude.{◌≡◌, ◌≤◌, [], length, IfOk, OnErr};
+ghost use Rattle.pana_hall.specs.Accepted.{IsAccepted};
 ghost use Rattle.pana_hall.specs.Permit.{Permits, journal_after};
 ghost use Rattle.pana_hall.specs.Run.{RunsTo};
 
-use crate::board::board_of;
+use crate::answering::answer;
 use crate::call::{Call, Query};
 use crate::cause::Cause;
 use crate::copies::Copies;
+use crate::families::Families;
 use crate::recording::record;
 use crate::refusal::{query_refusal, report_refusal};
 use crate::reply::Reply;
@@ -22,20 +24,21 @@ use std::marker::Model;
 #[derive(Debug, Drop)]
 pub struct Hall {
     alloc: Global,
-    copies: Copies,
     journal: Journal,
+    families: Families,
+    copies: Copies,
 }
 
 impl Model for Hall {
-    ghost use Rattle.std.specs.Prelude.{◌≡◌, List};
+    ghost use Rattle.std.specs.Prelude.{List};
     ghost use Rattle.pana_journal.specs.declared.entry.Entry.{Entry};
-    ghost use Rattle.pana_hall.specs.Living.{living};
+    ghost use Rattle.pana_hall.specs.inner.Recording.{IsKept};
 
     ghost Value = { List Entry };
 
     ghost view = { λ hall. hall.journal.entries };
 
-    ghost invariant = { λ hall. hall.copies ≡ living hall.journal.entries };
+    ghost invariant = { λ hall. IsKept hall.journal.entries hall.families hall.copies };
 }
 
 impl Hall {
@@ -48,8 +51,9 @@ impl Hall {
     {
         Ok(Hall {
             alloc,
-            copies: Copies::new(alloc),
             journal: Journal::new(alloc),
+            families: Families::new(alloc),
+            copies: Copies::new(alloc),
         })
     }
 
@@ -63,6 +67,15 @@ impl Hall {
             Call::Report(report) => self.report(by, report),
             Call::Query(query) => self.query(by, query),
         }
+    }
+
+    /// How many entries the journal has, at most 1,000,000. Takes no memory.
+    pub fn length(&self) -> u64
+        ensures length { result ≡ length self.now }
+        ensures within { length self.now ≤ 1000000 }
+        ensures accepted { IsAccepted 8 self.now }
+    {
+        self.journal.length()
     }
 
     /// Takes calls of devices in order, and returns their replies: a run, where the hall was new. Fails only where
@@ -86,11 +99,12 @@ impl Hall {
         ensures permitted { Permits self.old by.now (calls.Report report) result }
         ensures journal { self.new ≡ journal_after self.old by.now (calls.Report report) result }
     {
-        if let Some(cause) = report_refusal(&self.journal, &self.copies, by, &report) {
+        let alloc = self.alloc;
+        let (journal, families, copies) = (&mut self.journal, &mut self.families, &mut self.copies);
+        if let Some(cause) = report_refusal(alloc, journal, families, copies, by, &report) {
             return Reply::Refused(cause);
         }
-        let alloc = self.alloc;
-        match record(alloc, &mut self.copies, &mut self.journal, by, report) {
+        match record(alloc, journal, families, copies, by, report) {
             Ok(entry) => Reply::Done { entry },
             Err(_) => Reply::Refused(Cause::OutOfMemory),
         }
@@ -104,11 +118,9 @@ impl Hall {
         if let Some(cause) = query_refusal(&self.journal, &self.copies, &query) {
             return Reply::Refused(cause);
         }
-        match query {
-            Query::Board { family } => match board_of(self.alloc, family, self.copies.as_slice()) {
-                Ok(view) => Reply::Board(view),
-                Err(_) => Reply::Refused(Cause::OutOfMemory),
-            },
+        match answer(self.alloc, &self.journal, &self.copies, query) {
+            Ok(reply) => reply,
+            Err(_) => Reply::Refused(Cause::OutOfMemory),
         }
     }
 }

@@ -1,10 +1,33 @@
 //! What holds of every run, and of the relation of two sets: functions that do nothing, whose contracts are the laws.
+//! A family's last 8 entries are pending; `table 8 k family journal` is the family's living copies with the last k
+//! pending entries left out.
 
-ghost use Rattle.std.specs.Prelude.{List, ℕ, []};
+ghost use Rattle.std.specs.Prelude.{◌≡◌, ◌≢◌, ℕ, ◌+◌, ◌≤◌, List, [], ◌∷◌, ◌++◌, ◌==◌, length, find, count_by, option_and_then, option_map, if◌then◌else◌, Some, true};
+ghost use Rattle.std.specs.Bool.{then_some};
+ghost use Rattle.std.specs.List.{AllByRecursion, list_any};
+ghost use Rattle.std.specs.Str.{bytes_eq};
+ghost use Rattle.pana_journal.specs.declared.report.Report.TheVariants.{Confirm, Withdraw};
+ghost use Rattle.pana_journal.specs.declared.entry.Entry.{Entry};
+ghost use Rattle.pana_journal.specs.Entries.{entry_at};
+ghost use Rattle.pana_hall.specs.Updates.{has};
+ghost use Rattle.pana_hall.specs.Family.{families, is_family, is_register, subject};
+ghost use Rattle.pana_hall.specs.Effective.{is_of_copies};
+ghost use Rattle.pana_hall.specs.Living.{Copy, copy_in, known_to, living};
+ghost use Rattle.pana_hall.specs.Pending.{pending, pend, is_last};
+ghost use Rattle.pana_hall.specs.Board.{board_of, is_of};
+ghost use Rattle.pana_hall.specs.Queries.{begun, family_row, holding, holdings};
+ghost use Rattle.pana_hall.specs.Refusal.{brought_back, displaced};
 ghost use Rattle.pana_hall.specs.Run.{Exchange, IsRun, journal_from};
-ghost use Rattle.pana_hall.specs.Laws.{IsOrderly, RelatesSets};
+ghost use Rattle.pana_hall.specs.Tables.{table, tables};
+ghost use Rattle.pana_hall.specs.Accepted.{Accepts, IsAccepted};
+ghost use Rattle.pana_hall.specs.declared.cause.Cause.TheVariants.{OutOfMemory};
+ghost use Rattle.pana_hall.specs.declared.loading.LoadFault.{LoadFault};
+ghost use Rattle.pana_hall.specs.declared.loading.LoadCause.TheVariants.{Refused};
+ghost use Rattle.pana_hall.specs.Load.{IsLoadFault};
+ghost use Rattle.pana_hall.specs.Laws.{AddsLayer, AreApart, AreMerged, AreRising, DropsLayer, IsOrderly, KeepsLayers, LeavesAlone, RelatesSets, family_of_next};
 
-/// After every run no two living copies have one place, their numbers rise, and each is of its entry's family.
+/// After every run no two living copies have one place, their numbers rise, none is above that of the last entry, and
+/// each copy is of its entry's family. Entries that are withdrawn are no exception.
 pub fn every_run_is_orderly()
     ensures { (run : List Exchange) → IsRun run → IsOrderly (journal_from [] run) }
 {}
@@ -12,4 +35,118 @@ pub fn every_run_is_orderly()
 /// Two copies are equal, one is obsolete, or they are in conflict, by the members of their sets alone.
 pub fn relation_is_that_of_sets()
     ensures { (a b : List ℕ) → RelatesSets a b }
+{}
+
+/// The journal of a run refuses none of its entries, and each such journal is that of a run.
+pub fn accepted_are_those_of_runs()
+    ensures accepted { (run : List Exchange) → IsRun run → IsAccepted 8 (journal_from [] run) }
+    ensures of_run { (journal : List Entry) → IsAccepted 8 journal → (run : List Exchange) × IsRun run × (journal_from [] run ≡ journal) }
+{}
+
+/// The entries of a hall's journal load: nothing but memory stops them.
+pub fn own_entries_load()
+    ensures { (entries : List Entry) (fault : LoadFault) → IsAccepted 8 entries → IsLoadFault entries fault → fault.cause ≡ Refused OutOfMemory }
+{}
+
+/// A report of copies changes its family's table as it says. With one pending entry more left out, the table is the
+/// one from before with one less.
+pub fn report_adds_a_layer()
+    ensures { (journal : List Entry) (entry : Entry) → IsAccepted 8 journal → Accepts 8 journal entry
+        → is_of_copies entry.report ≡ true → AddsLayer 8 (family_of_next journal entry) journal entry }
+{}
+
+/// A Withdraw takes its family back by one entry.
+pub fn withdraw_drops_a_layer()
+    ensures { (journal : List Entry) (entry : Entry) (m : ℕ) → IsAccepted 8 journal → Accepts 8 journal entry
+        → entry.report ≡ Withdraw m → DropsLayer 8 (family_of_next journal entry) journal entry }
+{}
+
+/// A Confirm leaves its family's tables, as far back as entries stay pending.
+pub fn confirm_keeps_layers()
+    ensures { (journal : List Entry) (entry : Entry) (m : ℕ) → IsAccepted 8 journal → Accepts 8 journal entry
+        → entry.report ≡ Confirm m → KeepsLayers 8 (family_of_next journal entry) journal entry }
+{}
+
+/// No entry changes a family but its own.
+pub fn others_are_left_alone()
+    ensures { (journal : List Entry) (entry : Entry) (family : ℕ) → IsAccepted 8 journal → Accepts 8 journal entry
+        → family_of_next journal entry ≢ family → LeavesAlone 8 family journal entry }
+{}
+
+/// No family has more than 256 living copies, also where its pending entries are undone.
+pub fn no_family_is_larger()
+    ensures { (journal : List Entry) (family : ℕ) → IsAccepted 8 journal → AllByRecursion (λ table. length table ≤ 256) (tables 8 family journal) }
+{}
+
+/// The number of the next entry is that of a family with no copy and nothing pending; the families that are known are
+/// those that a Register began.
+pub fn families_are_begun()
+    ensures next { (journal : List Entry) (k : ℕ) → IsAccepted 8 journal
+        → (table 8 k (length journal + 1) journal ≡ []) × (pending 8 (length journal + 1) journal ≡ []) }
+    ensures known { (journal : List Entry) (number : ℕ) → IsAccepted 8 journal → is_family journal number ≡ has (begun journal) number }
+{}
+
+/// The living copies are the families' tables, merged by rising number, and no other list by rising number has the
+/// same copies.
+pub fn tables_merge()
+    ensures merged { (journal : List Entry) → IsAccepted 8 journal → AreMerged 8 journal }
+    ensures one { (copies others : List Copy) → AreRising (λ copy. copy.number) 0 copies → AreRising (λ copy. copy.number) 0 others
+        → ((number : ℕ) → copy_in copies number ≡ copy_in others number) → copies ≡ others }
+{}
+
+/// No two living copies are kept at one place, also where entries are withdrawn.
+pub fn no_place_twice()
+    ensures { (journal : List Entry) → IsAccepted 8 journal → AreApart (living journal) }
+{}
+
+/// What no pending list of one entry refuses, no longer one does.
+pub fn longer_list_refuses_no_more()
+    ensures longer { (k : ℕ) (journal : List Entry) → IsAccepted 1 journal → IsAccepted (k + 1) journal }
+    ensures eight { (journal : List Entry) → IsAccepted 1 journal → IsAccepted 8 journal }
+{}
+
+/// What is pending in a family after its next entry; what is pending in a family is of it.
+pub fn pending_goes_by_family()
+    ensures next { (journal : List Entry) (entry : Entry) → IsAccepted 8 journal → Accepts 8 journal entry
+        → pending 8 (family_of_next journal entry) (journal ++ entry ∷ [])
+        ≡ pend 8 entry.number entry.report (pending 8 (family_of_next journal entry) journal) }
+    ensures own { (journal : List Entry) (family number : ℕ) → IsAccepted 8 journal
+        → has (pending 8 family journal) number ≡ true → families journal number ≡ family }
+{}
+
+/// A report about a copy that lives is of the copy's family.
+pub fn report_is_of_its_copys_family()
+    ensures { (journal : List Entry) (entry : Entry) (number : ℕ) (copy : Copy) → IsAccepted 8 journal
+        → subject entry.report ≡ Some number → copy_in (living journal) number ≡ Some copy → family_of_next journal entry ≡ copy.family }
+{}
+
+/// The copy that a Withdraw of a family's last pending entry would bring back is the one of the family's table from
+/// before that entry, and there always is one.
+pub fn withdraw_brings_back_from_the_table()
+    ensures table { (journal : List Entry) (entry : Entry) (number copy : ℕ) → IsAccepted 8 journal
+        → is_last number (pending 8 (families journal number) journal) ≡ true → entry_at journal number ≡ Some entry
+        → displaced entry.report ≡ Some copy → brought_back number journal ≡ copy_in (table 8 1 (families journal number) journal) copy }
+    ensures lives { (journal : List Entry) (entry : Entry) (number copy : ℕ) → IsAccepted 8 journal
+        → is_last number (pending 8 (families journal number) journal) ≡ true → entry_at journal number ≡ Some entry
+        → displaced entry.report ≡ Some copy → (back : Copy) × (brought_back number journal ≡ Some back) × (back.number ≡ copy) }
+{}
+
+/// The answers about a family can be read off its table.
+pub fn answers_come_from_tables()
+    ensures board { (journal : List Entry) (family : ℕ) → board_of family (table 8 0 family journal) ≡ board_of family (living journal) }
+    ensures row { (journal : List Entry) (family : ℕ) → family_row (table 8 0 family journal) family ≡ family_row (living journal) family }
+    ensures lives { (journal : List Entry) (family : ℕ) → list_any (is_of family) (table 8 0 family journal) ≡ list_any (is_of family) (living journal) }
+    ensures known { (journal : List Entry) (number : ℕ) → IsAccepted 8 journal → known_to (living journal) number ≡ known_to (table 8 0 (families journal number) journal) number }
+    ensures count { (journal : List Entry) (family : ℕ) → length (table 8 0 family journal) ≡ count_by (is_of family) (living journal) }
+{}
+
+/// The holdings of a device rise by copy, and are read off the living copies one by one; the families that a journal
+/// has begun rise, and a Register adds its own.
+pub fn holdings_and_families_rise()
+    ensures holdings { (journal : List Entry) (device : List ℕ) → IsAccepted 8 journal → AreRising (λ holding. holding.copy) 0 (holdings (living journal) device) }
+    ensures found { (journal : List Entry) (device : List ℕ) (number : ℕ) → IsAccepted 8 journal
+        → find (λ holding. holding.copy == number) (holdings (living journal) device)
+        ≡ option_map holding (option_and_then (λ copy. then_some (bytes_eq copy.place.device device) copy) (copy_in (living journal) number)) }
+    ensures families { (journal : List Entry) → IsAccepted 8 journal → AreRising (λ family. family) 0 (begun journal) }
+    ensures next { (journal : List Entry) (entry : Entry) → begun (journal ++ entry ∷ []) ≡ begun journal ++ (if is_register entry.report then entry.number ∷ [] else []) }
 {}

@@ -1,5 +1,5 @@
 ghost use Rattle.std.specs.Prelude.{◌≡◌, IfOk};
-ghost use Rattle.pana_hall.specs.Living.{registered, duplicated, with_updates};
+ghost use Rattle.pana_hall.specs.Living.{registered, duplicated, with_updates, moved};
 
 use crate::update_set::UpdateSet;
 use pana_copies::Place;
@@ -18,7 +18,7 @@ pub struct LivingCopy {
 }
 
 impl Model for LivingCopy {
-    ghost use Rattle.pana_hall.specs.Copy.{Copy};
+    ghost use Rattle.pana_hall.specs.Living.{Copy};
 
     ghost Value = { Copy };
 
@@ -67,6 +67,14 @@ impl LivingCopy {
         self.touch = entry;
     }
 
+    /// Is kept at this place from this entry on. Takes no memory.
+    pub fn relocate(&mut self, entry: u64, place: Place)
+        ensures { self.new ≡ moved entry place self.old }
+    {
+        self.place = place;
+        self.touch = entry;
+    }
+
     /// The number of the entry that made it. Takes no memory.
     pub fn number(&self) -> u64
         ensures { result ≡ self.now.number }
@@ -86,6 +94,13 @@ impl LivingCopy {
         ensures { result.now ≡ self.now.place }
     {
         &self.place
+    }
+
+    /// The entry that changed it last. Takes no memory.
+    pub fn touch(&self) -> u64
+        ensures { result ≡ self.now.touch }
+    {
+        self.touch
     }
 
     /// The updates that it knows. Takes no memory.

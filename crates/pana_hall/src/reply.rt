@@ -1,5 +1,10 @@
 use crate::board::BoardView;
 use crate::cause::Cause;
+use crate::family_row::FamilyRow;
+use crate::holding::Holding;
+use pana_event::Rel;
+use pana_journal::EntryList;
+use pana_list::PlainList;
 use std::error::Error;
 use std::fmt;
 
@@ -8,8 +13,16 @@ use std::fmt;
 pub enum Reply {
     /// The report was accepted, as the entry with this number.
     Done { entry: u64 },
+    /// The families that have a living copy, by rising number.
+    Families(PlainList<FamilyRow>),
     /// The board that was asked for.
     Board(BoardView),
+    /// How the first copy relates to the second.
+    Pair(Rel),
+    /// The living copies on the device, by rising number.
+    Holdings(PlainList<Holding>),
+    /// Entries of the journal.
+    Journal(EntryList),
     /// The call was refused, and changed nothing.
     Refused(Cause),
 }

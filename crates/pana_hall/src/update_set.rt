@@ -1,4 +1,4 @@
-ghost use Rattle.std.specs.Prelude.{◌≡◌, ◌==◌, [], ◌∷◌, IfOk};
+ghost use Rattle.std.specs.Prelude.{◌≡◌, ◌==◌, [], ◌∷◌, ◌++◌, IfOk};
 ghost use Rattle.pana_hall.specs.Updates.{has, is_within};
 
 use std::alloc::{AllocError, Global};
@@ -56,6 +56,16 @@ impl UpdateSet {
         let mut numbers = Vec::with_capacity(alloc, self.numbers.len().saturating_add(1))?;
         numbers.push(update)?;
         numbers.extend_from_slice(&self.numbers)?;
+        Ok(UpdateSet { numbers })
+    }
+
+    /// The updates of either set. Fails only where memory runs out.
+    pub fn union(&self, alloc: Global, other: &UpdateSet) -> Result<UpdateSet, AllocError>
+        ensures { IfOk result (λ set. set ≡ self.now ++ other.now) }
+    {
+        let mut numbers = Vec::new(alloc);
+        numbers.extend_from_slice(&self.numbers)?;
+        numbers.extend_from_slice(&other.numbers)?;
         Ok(UpdateSet { numbers })
     }
 

@@ -1,14 +1,21 @@
-ghost use Rattle.std.specs.Prelude.{◌≡◌, ◌+◌, ◌<◌, ◌≤◌, ◌↔◌, [], ◌∷◌, ◌++◌, length, nat_le, option_copied, IfSome, OnOk, IsErrOf};
+ghost use Rattle.std.specs.Prelude.{◌≡◌, ◌+◌, ◌<◌, ◌≤◌, ◌↔◌, [], ◌∷◌, ◌++◌, length, nat_le, option_copied, IfSome, IfOk, OnOk, IsErrOf};
 
 use crate::entry::Entry;
 use crate::report::Report;
 use pana_copies::DeviceName;
-use std::alloc::Global;
+use pana_list::PlainList;
+use std::alloc::{AllocError, Global};
 use std::marker::Model;
 use thiserror::Error;
 
 /// How many entries a journal takes.
 const MOST_ENTRIES: usize = 1_000_000;
+
+/// How many entries a page of the journal has at most.
+const PAGE: usize = 100;
+
+/// Entries of a journal.
+pub type EntryList = PlainList<Entry>;
 
 /// Why there is no room for one more entry.
 #[derive(Clone, Copy, Debug, PartialEq, Eq, Error)]
@@ -39,7 +46,7 @@ impl Model for Journal {
 }
 
 impl Journal {
-    ghost use Rattle.pana_journal.specs.Entries.{IsNumbered, entry_at};
+    ghost use Rattle.pana_journal.specs.Entries.{IsNumbered, entry_at, page};
 
     /// A journal with no entry. Takes no memory.
     pub fn new(alloc: Global) -> Journal
@@ -86,6 +93,34 @@ impl Journal {
         ensures number { IfSome result (λ entry. entry.now.number ≡ number) }
     {
         self.entries.get(number.checked_sub(1)? as usize)
+    }
+
+    /// The entries from this number on, at most 100; 0 counts as 1, and there is none past the end. Fails only where
+    /// memory runs out.
+    pub fn slice(&self, from: u64) -> Result<EntryList, AllocError>
+        ensures { IfOk result (λ list. list ≡ page self.now.entries from) }
+    {
+        let mut copies = Vec::new(*self.entries.allocator());
+        for entry in self.page(from) {
+            copies.push(entry.copy_of()?)?;
+        }
+        Ok(EntryList::from_vec(copies))
+    }
+
+    /// All entries in order. Takes no memory.
+    pub fn as_slice(&self) -> &[Entry]
+        ensures entries { result.now ≡ self.now.entries }
+        ensures numbered { IsNumbered self.now.entries }
+    {
+        self.entries.as_slice()
+    }
+
+    fn page(&self, from: u64) -> &[Entry]
+        ensures { result.now ≡ page self.now.entries from }
+    {
+        let first = (from.saturating_sub(1) as usize).min(self.entries.len());
+        let rest = &self.entries[first..];
+        &rest[..PAGE.min(rest.len())]
     }
 
     /// How many entries there are, at most 1,000,000. Takes no memory.

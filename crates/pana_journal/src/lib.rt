@@ -6,5 +6,5 @@ mod journal;
 mod report;
 
 pub use crate::entry::Entry;
-pub use crate::journal::{Journal, JournalFault};
+pub use crate::journal::{EntryList, Journal, JournalFault};
 pub use crate::report::Report;

@@ -48,4 +48,17 @@ impl<T> PlainList<T> {
     {
         self.items.as_slice()
     }
+
+    /// Puts the items of the other list behind those of this one. Fails only where memory runs out, and then changes
+    /// nothing.
+    pub fn append(&mut self, other: PlainList<T>) -> Result<(), AllocError>
+    where
+        T: Drop,
+        ensures ok { OnOk result (self.new ≡ self.old ++ other) }
+        ensures err { OnErr result (self.new ≡ self.old) }
+    {
+        let PlainList { items: mut more } = other;
+        self.items.append(&mut more)?;
+        Ok(())
+    }
 }

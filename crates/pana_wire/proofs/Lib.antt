@@ -4,5 +4,7 @@ pub mod Steps
 pub mod Ends
 pub mod Prefixes
 pub mod ReadBack
+pub mod DumpBack
+pub mod EntriesBack
 pub mod SessionRun
 pub mod FaultLine

@@ -1,15 +1,16 @@
 -- Laws of writing a prefix of a text.
-use Rattle.std.proofs.Common.{◌≡◌, ℕ, List, [], ◌∷◌, ◌++◌, Option, refl, sym, ap, subst, ◌∙◌, append_assoc, append-nil, inl, Ok}
+use Rattle.std.proofs.Common.{◌≡◌, ℕ, List, [], ◌∷◌, ◌++◌, Option, false, refl, sym, ap, subst, ◌∙◌, append_assoc, append-nil, inl, Ok}
 use Rattle.std.specs.Io.KnownBytes.{Appends}
-use Rattle.std.proofs.KnownBytes.{Appends-trans}
+use Rattle.std.proofs.KnownBytes.{Appends-nil, Appends-trans}
 use Rattle.pana_hall.specs.declared.call.Call.{Call}
 use Rattle.pana_hall.specs.declared.reply.Reply.{Reply}
 use Rattle.pana_wire.specs.declared.message.Message.{Message}
 use Rattle.pana_wire.specs.declared.tap.Tap.{Tap}
 use Rattle.pana_wire.specs.declared.serving.ServeFault.{ServeFault}
+use Rattle.pana_wire.specs.declared.serving.ServeFault.TheVariants.{OutOfMemory}
 use Rattle.pana_wire.specs.Line.{line_says}
 use Rattle.pana_wire.specs.Reply.{reply_text}
-use Rattle.pana_wire.specs.Tap.{AppendsPrefix}
+use Rattle.pana_wire.specs.Tap.{has_failed, AppendsPrefix}
 use Rattle.pana_wire.specs.Session.{AnswersLine}
 use Rattle.pana_wire.specs.inner.Writing.{Writes, WritesPrefix}
 use Rattle.pana_wire.specs.inner.Progress.{Breaks}
@@ -51,6 +52,16 @@ module _ {S : Type 0} (step : S → List ℕ → Call → Reply → S → Type 0
   pub said_line : (old : S) (line : List ℕ) (m : Message) (reply : Reply) (text : List ℕ) (new : S) → line_says line ≡ Ok m
       → step old m.by m.call reply new → text ≡ reply_text reply → AnswersLine step old line text new 1
   said_line old line m reply text new says done e = inl (rw says (reply, done, e, refl))
+
+  -- memory ran out for the answer to a line
+  pub lost_reply : {W : Type 0} (contents : W → Option (List ℕ)) (spends : S → S → Type 0) (old : S) (line : List ℕ) (m : Message) (reply : Reply) (new : S) (a : Tap W)
+      → line_says line ≡ Ok m → step old m.by m.call reply new → has_failed a ≡ false → Breaks contents step spends a a old (line ∷ []) new OutOfMemory
+  lost_reply contents spends old line m reply new a says done works = record {
+    output = [];
+    writes = Appends-nil _;
+    breaks = inl (m, reply, says, done, refl);
+    is_out = works;
+  }
 
   -- a write failed in the answer to a line
   pub broken_write : {W : Type 0} (contents : W → Option (List ℕ)) (spends : S → S → Type 0) (fault : ServeFault) (old : S) (line text : List ℕ) (new : S) (steps : ℕ) (a b : Tap W)

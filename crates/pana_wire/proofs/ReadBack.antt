@@ -1,5 +1,5 @@
 -- The line of a report is read back as the report.
-use Rattle.std.specs.Prelude.{◌≡◌, ℕ, ◌≤◌, true, false, List, length, nat_lt, Some, Ok}
+use Rattle.std.specs.Prelude.{◌≡◌, ℕ, ◌≤◌, true, false, List, length, nat_lt, Option, Some, None, Ok}
 use Rattle.std.proofs.Common.{refl, arith}
 use Rattle.std.specs.Str.{is_utf8}
 use Rattle.std.proofs.lemmas.Bool.{le-ltb}
@@ -7,29 +7,43 @@ use Rattle.serde_json.specs.Data.{Data, depth}
 use Rattle.serde_json.specs.Read.{read, max_depth}
 use Rattle.pana_copies.specs.Names.{is_device, is_path}
 use Rattle.pana_journal.specs.declared.report.Report.{Report}
-use Rattle.pana_journal.specs.declared.report.Report.TheVariants.{Register, Duplicate, Edit}
+use Rattle.pana_journal.specs.declared.report.Report.TheVariants.{Register, Duplicate, Edit, Reconcile, Merge, Relocate, Remove, Confirm, Withdraw}
 use Rattle.pana_hall.specs.declared.call.Call.TheVariants as calls
-use Rattle.pana_wire.specs.Line.{device_in, path_in, number_in, place_in, word_in, call_in, message_in, object_in, text_in, data_in, line_says}
-use Rattle.pana_wire.specs.Report.{report_data, HasNames}
+use Rattle.pana_wire.specs.Line.{device_in, path_in, number_in, place_in, heir_in, word_in, report_in, call_in, message_in, object_in, text_in, data_in, line_says}
+use Rattle.pana_wire.specs.Word.{word_of}
+use Rattle.pana_wire.specs.Report.{put_report, report_data}
+use Rattle.pana_wire.specs.inner.Names.{HasNames}
 
 object_back : (by : List ℕ) (report : Report) → object_in (report_data by report) ≡ Ok (report_data by report)
-unfolding report_data object_in
-object_back by (Register place) = refl
-object_back by (Duplicate copy place) = refl
-object_back by (Edit copy) = refl
+unfolding report_data put_report object_in
+object_back by report = refl
 
 message_back : (by : List ℕ) (report : Report) → is_device by ≡ true → HasNames report
     → message_in (report_data by report) ≡ Ok (record { by = by; call = calls.Report report })
-unfolding report_data message_in call_in word_in place_in device_in path_in number_in
+unfolding report_data put_report message_in call_in report_in word_in place_in device_in path_in number_in heir_in word_of
 message_back by (Register place) named names = rw (named, names.0, names.1) refl
 message_back by (Duplicate copy place) named names = rw (named, names.0, names.1) refl
 message_back by (Edit copy) named names = rw named refl
+message_back by (Reconcile a b) named names = rw named refl
+message_back by (Merge a b) named names = rw named refl
+message_back by (Relocate copy place) named names = rw (named, names.0, names.1) refl
+message_back by (Remove copy None) named names = rw named refl
+message_back by (Remove copy (Some heir)) named names = rw named refl
+message_back by (Confirm entry) named names = rw named refl
+message_back by (Withdraw entry) named names = rw named refl
 
 pub report_shallow : (by : List ℕ) (report : Report) → depth (report_data by report) ≤ max_depth
-unfolding report_data
+unfolding report_data put_report
 report_shallow by (Register place) = omega arith
 report_shallow by (Duplicate copy place) = omega arith
 report_shallow by (Edit copy) = omega arith
+report_shallow by (Reconcile a b) = omega arith
+report_shallow by (Merge a b) = omega arith
+report_shallow by (Relocate copy place) = omega arith
+report_shallow by (Remove copy None) = omega arith
+report_shallow by (Remove copy (Some heir)) = omega arith
+report_shallow by (Confirm entry) = omega arith
+report_shallow by (Withdraw entry) = omega arith
 
 pub line_back : (by line : List ℕ) (report : Report) → is_device by ≡ true → HasNames report
     → is_utf8 line ≡ true → read line ≡ Some (report_data by report) → length line ≤ 65536

@@ -1,7 +1,7 @@
 -- The names of the fields of a line.
 use Rattle.std.specs.Prelude.{ℕ, List, codes}
 use Rattle.pana_wire.specs.declared.field.Field.{Field}
-use Rattle.pana_wire.specs.declared.field.Field.TheVariants.{By, Do, Device, Path, Copy, Family}
+use Rattle.pana_wire.specs.declared.field.Field.TheVariants.{By, Do, Device, Path, Copy, Family, A, B, Heir, Entry, From, Number, Entries}
 
 -- the name of a field
 abbrev pub field_name : Field → List ℕ
@@ -11,3 +11,10 @@ field_name Device = codes "device"
 field_name Path = codes "path"
 field_name Copy = codes "copy"
 field_name Family = codes "family"
+field_name A = codes "a"
+field_name B = codes "b"
+field_name Heir = codes "heir"
+field_name Entry = codes "entry"
+field_name From = codes "from"
+field_name Number = codes "number"
+field_name Entries = codes "entries"

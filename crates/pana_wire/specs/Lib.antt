@@ -2,6 +2,7 @@ pub mod Field
 pub mod Word
 pub mod Fault
 pub mod Line
+pub mod Dump
 pub mod Report
 pub mod Reply
 pub mod Lines

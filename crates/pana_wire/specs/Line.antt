@@ -1,12 +1,13 @@
 -- What a line says: its message, or its first fault. What counts as JSON, which value counts where a name stands
 -- twice, and which number fits 64 bits, is what `serde_json` reads.
-use Rattle.std.specs.Prelude.{◌≡◌, ℕ, Bool, List, [], ◌∷◌, length, nat_lt, Option, Some, None, is_some, option_and_then, Result, Ok, Err, if◌then◌else◌}
+use Rattle.std.specs.Prelude.{◌≡◌, ℕ, Bool, List, [], ◌∷◌, length, nat_lt, Option, Some, None, is_some, option_and_then, option_map, Result, Ok, Err, if◌then◌else◌}
 use Rattle.std.specs.Str.{is_utf8}
 use Rattle.serde_json.specs.Data.{Data}
 use Rattle.serde_json.specs.Read.{read}
-use Rattle.serde_json.specs.Find.{get, as_str, as_number, as_u64, as_object}
+use Rattle.serde_json.specs.Find.{get, as_null, as_str, as_number, as_u64, as_object}
 use Rattle.pana_copies.specs.Names.{is_device, is_path}
 use Rattle.pana_copies.specs.declared.place.Place.{Place}
+use Rattle.pana_journal.specs.declared.report.Report.{Report}
 use Rattle.pana_journal.specs.declared.report.Report.TheVariants as reports
 use Rattle.pana_hall.specs.declared.call.Query.TheVariants as queries
 use Rattle.pana_hall.specs.declared.call.Call.{Call}
@@ -56,6 +57,15 @@ path_in field d = found field (option_and_then (when is_path) (string_in field d
 unfoldable pub number_in : Field → Data → Result ℕ WireFault
 number_in field d = found field (option_and_then as_u64 (option_and_then as_number (get (field_name field) d)))
 
+-- the number that is there; none where there is nothing, or `null`
+abbrev pub number_or_none : Option Data → Option (Option ℕ)
+number_or_none None = Some None
+number_or_none (Some d) = if is_some (as_null d) then Some None else option_map (λ n. Some n) (option_and_then as_u64 (as_number d))
+
+-- the heir in a field, where there is one
+unfoldable pub heir_in : Field → Data → Result (Option ℕ) WireFault
+heir_in field d = found field (number_or_none (get (field_name field) d))
+
 -- the place that two fields make
 unfoldable pub place_in : Field → Field → Data → Result Place WireFault
 place_in device path d = do
@@ -67,22 +77,64 @@ place_in device path d = do
 unfoldable pub word_in : Data → Result Word WireFault
 word_in d = found fields.Do (option_and_then word_of (string_in fields.Do d))
 
--- the call of a word, from the fields that the word has
+-- the report of a word, from the fields that the word has; a word for a query has none
+abbrev pub report_from : Word → List Field → Data → Result Report WireFault
+report_from words.Register (device ∷ path ∷ []) d = do
+  place ← place_in device path d
+  Ok (reports.Register place)
+report_from words.Duplicate (copy ∷ device ∷ path ∷ []) d = do
+  copy ← number_in copy d
+  place ← place_in device path d
+  Ok (reports.Duplicate copy place)
+report_from words.Edit (copy ∷ []) d = do
+  copy ← number_in copy d
+  Ok (reports.Edit copy)
+report_from words.Reconcile (a ∷ b ∷ []) d = do
+  a ← number_in a d
+  b ← number_in b d
+  Ok (reports.Reconcile a b)
+report_from words.Merge (a ∷ b ∷ []) d = do
+  a ← number_in a d
+  b ← number_in b d
+  Ok (reports.Merge a b)
+report_from words.Relocate (copy ∷ device ∷ path ∷ []) d = do
+  copy ← number_in copy d
+  place ← place_in device path d
+  Ok (reports.Relocate copy place)
+report_from words.Remove (copy ∷ heir ∷ []) d = do
+  copy ← number_in copy d
+  heir ← heir_in heir d
+  Ok (reports.Remove copy heir)
+report_from words.Confirm (entry ∷ []) d = do
+  entry ← number_in entry d
+  Ok (reports.Confirm entry)
+report_from words.Withdraw (entry ∷ []) d = do
+  entry ← number_in entry d
+  Ok (reports.Withdraw entry)
+report_from word others d = Err (BadField fields.Do)
+
+unfoldable pub report_in : Word → Data → Result Report WireFault
+report_in word d = report_from word (fields_of word) d
+
+-- the call of a word, from the fields that the word has: a query, or else a report
 abbrev pub call_from : Word → List Field → Data → Result Call WireFault
-call_from words.Register (device ∷ path ∷ []) d = do
-  place ← place_in device path d
-  Ok (calls.Report (reports.Register place))
-call_from words.Duplicate (copy ∷ device ∷ path ∷ []) d = do
-  copy ← number_in copy d
-  place ← place_in device path d
-  Ok (calls.Report (reports.Duplicate copy place))
-call_from words.Edit (copy ∷ []) d = do
-  copy ← number_in copy d
-  Ok (calls.Report (reports.Edit copy))
+call_from words.Families [] d = Ok (calls.Query queries.Families)
 call_from words.Board (family ∷ []) d = do
   family ← number_in family d
   Ok (calls.Query (queries.Board family))
-call_from word others d = Err (BadField fields.Do)
+call_from words.Pair (a ∷ b ∷ []) d = do
+  a ← number_in a d
+  b ← number_in b d
+  Ok (calls.Query (queries.Pair a b))
+call_from words.Holdings (device ∷ []) d = do
+  device ← device_in device d
+  Ok (calls.Query (queries.Holdings device))
+call_from words.Journal (entry ∷ []) d = do
+  entry ← number_in entry d
+  Ok (calls.Query (queries.JournalFrom entry))
+call_from word others d = do
+  report ← report_in word d
+  Ok (calls.Report report)
 
 unfoldable pub call_in : Word → Data → Result Call WireFault
 call_in word d = call_from word (fields_of word) d
@@ -95,9 +147,13 @@ message_in d = do
   call ← call_in word d
   Ok (record { by = by; call = call })
 
+-- the text that bytes are: of UTF-8, and at most so many
+abbrev pub text_within : ℕ → List ℕ → Result (List ℕ) WireFault
+text_within most bytes = if nat_lt most (length bytes) then Err TooLong else (if is_utf8 bytes then Ok bytes else Err NotUtf8)
+
 -- the text of a line: at most 65,536 bytes, of UTF-8
 unfoldable pub text_in : List ℕ → Result (List ℕ) WireFault
-text_in line = if nat_lt 65536 (length line) then Err TooLong else (if is_utf8 line then Ok line else Err NotUtf8)
+text_in line = text_within 65536 line
 
 -- the line is text: at most 65,536 bytes, of UTF-8
 abbrev pub IsText : List ℕ → Type 0

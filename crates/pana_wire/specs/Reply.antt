@@ -1,18 +1,19 @@
 -- The object that each reply stands for, and its text.
 use Rattle.std.specs.Prelude.{ℕ, List, map, codes, Option, Some, None}
-use Rattle.serde_json.specs.Data.{Data, number, unsigned, boolean, string, array, object, member, no_members}
+use Rattle.serde_json.specs.Data.{Data, boolean, string, array, object, member, no_members}
 use Rattle.serde_json.specs.View.{items_of}
 use Rattle.serde_json.specs.Written.{compact_text}
+use Rattle.pana_event.specs.Relation.{rel_name}
+use Rattle.pana_journal.specs.declared.entry.Entry.{Entry}
+use Rattle.pana_hall.specs.declared.family_row.FamilyRow.{FamilyRow}
+use Rattle.pana_hall.specs.declared.holding.Holding.{Holding}
 use Rattle.pana_hall.specs.declared.board.BoardRow.{BoardRow}
 use Rattle.pana_hall.specs.declared.board.BoardView.{BoardView}
 use Rattle.pana_hall.specs.declared.cause.Cause.{Cause}
 use Rattle.pana_hall.specs.declared.reply.Reply.{Reply}
-use Rattle.pana_hall.specs.declared.reply.Reply.TheVariants.{Done, Board, Refused}
+use Rattle.pana_hall.specs.declared.reply.Reply.TheVariants.{Done, Families, Board, Pair, Holdings, Journal, Refused}
 use Rattle.pana_hall.specs.Cause.{code_of, cause_name, cause_copy}
-
--- a number in JSON
-abbrev pub number_data : ℕ → Data
-number_data n = number (unsigned n)
+use Rattle.pana_wire.specs.Report.{number_data, entry_data}
 
 -- a list of numbers
 unfoldable pub numbers_data : List ℕ → Data
@@ -43,6 +44,34 @@ board_data board = object (
     member (codes "split") (boolean board.split)
     no_members))))
 
+-- a family with a living copy
+unfoldable pub family_data : FamilyRow → Data
+family_data row = object (
+    member (codes "copies") (number_data row.copies) (
+    member (codes "family") (number_data row.family) (
+    member (codes "newest") (number_data row.newest) (
+    member (codes "split") (boolean row.split)
+    no_members))))
+
+unfoldable pub families_data : List FamilyRow → Data
+families_data rows = array (items_of (map family_data rows))
+
+-- a living copy on a device
+unfoldable pub holding_data : Holding → Data
+holding_data holding = object (
+    member (codes "copy") (number_data holding.copy) (
+    member (codes "family") (number_data holding.family) (
+    member (codes "path") (string holding.path) (
+    member (codes "touch") (number_data holding.touch)
+    no_members))))
+
+unfoldable pub holdings_data : List Holding → Data
+holdings_data holdings = array (items_of (map holding_data holdings))
+
+-- entries of the journal
+unfoldable pub entries_data : List Entry → Data
+entries_data entries = array (items_of (map entry_data entries))
+
 -- a refusal: the code and the name of its cause, with the copy that it names between them
 abbrev pub refusal_data : ℕ → Option ℕ → List ℕ → Data
 refusal_data code None name = object (
@@ -62,7 +91,11 @@ refused_data cause = refusal_data (code_of cause) (cause_copy cause) (cause_name
 -- the object that a reply stands for
 unfoldable pub reply_data : Reply → Data
 reply_data (Done entry) = object (member (codes "done") (number_data entry) no_members)
+reply_data (Families rows) = object (member (codes "families") (families_data rows) no_members)
 reply_data (Board board) = object (member (codes "board") (board_data board) no_members)
+reply_data (Pair rel) = object (member (codes "pair") (string (rel_name rel)) no_members)
+reply_data (Holdings holdings) = object (member (codes "holdings") (holdings_data holdings) no_members)
+reply_data (Journal entries) = object (member (codes "entries") (entries_data entries) no_members)
 reply_data (Refused cause) = refused_data cause
 
 -- the text of a reply: its object, with no blank

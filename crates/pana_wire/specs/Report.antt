@@ -1,11 +1,11 @@
--- The line of a report: an object with the device that speaks, the word, and the word's fields.
-use Rattle.std.specs.Prelude.{◌≡◌, ℕ, true, List, [], ◌∷◌, ◌++◌}
+-- The line of a report, and an entry: objects with the device that speaks, the word, and the word's fields.
+use Rattle.std.specs.Prelude.{ℕ, List, [], ◌∷◌, Option, Some, None}
 use Rattle.serde_json.specs.Data.{Data, number, unsigned, string, object, Members, no_members, put}
 use Rattle.serde_json.specs.Written.{compact_text}
-use Rattle.pana_copies.specs.Names.{is_device, is_path}
 use Rattle.pana_copies.specs.declared.place.Place.{Place}
+use Rattle.pana_journal.specs.declared.entry.Entry.{Entry}
 use Rattle.pana_journal.specs.declared.report.Report.{Report}
-use Rattle.pana_journal.specs.declared.report.Report.TheVariants.{Register, Duplicate, Edit}
+use Rattle.pana_journal.specs.declared.report.Report.TheVariants.{Register, Duplicate, Edit, Reconcile, Merge, Relocate, Remove, Confirm, Withdraw}
 use Rattle.pana_wire.specs.declared.field.Field.{Field}
 use Rattle.pana_wire.specs.declared.field.Field.TheVariants as fields
 use Rattle.pana_wire.specs.declared.word.Word.{Word}
@@ -18,32 +18,54 @@ abbrev pub report_word : Report → Word
 report_word (Register place) = words.Register
 report_word (Duplicate copy place) = words.Duplicate
 report_word (Edit copy) = words.Edit
+report_word (Reconcile a b) = words.Reconcile
+report_word (Merge a b) = words.Merge
+report_word (Relocate copy place) = words.Relocate
+report_word (Remove copy heir) = words.Remove
+report_word (Confirm entry) = words.Confirm
+report_word (Withdraw entry) = words.Withdraw
 
--- what stands in the fields of a place, and in those of a report's word
+-- a number in JSON
+abbrev pub number_data : ℕ → Data
+number_data n = number (unsigned n)
+
+-- what stands in the fields of a place, of an heir where there is one, and in those of a report's word
 abbrev pub place_contents : Place → List Data
 place_contents place = string place.device ∷ string place.path ∷ []
 
+abbrev pub heir_contents : Option ℕ → List Data
+heir_contents None = []
+heir_contents (Some heir) = number_data heir ∷ []
+
 abbrev pub contents_of : Report → List Data
 contents_of (Register place) = place_contents place
-contents_of (Duplicate copy place) = number (unsigned copy) ∷ place_contents place
-contents_of (Edit copy) = number (unsigned copy) ∷ []
+contents_of (Duplicate copy place) = number_data copy ∷ place_contents place
+contents_of (Edit copy) = number_data copy ∷ []
+contents_of (Reconcile a b) = number_data a ∷ number_data b ∷ []
+contents_of (Merge a b) = number_data a ∷ number_data b ∷ []
+contents_of (Relocate copy place) = number_data copy ∷ place_contents place
+contents_of (Remove copy heir) = number_data copy ∷ heir_contents heir
+contents_of (Confirm entry) = number_data entry ∷ []
+contents_of (Withdraw entry) = number_data entry ∷ []
 
 -- the members, with these contents in these fields, put in one after another
 abbrev pub put_fields : List Field → List Data → Members → Members
 put_fields (field ∷ fields) (content ∷ contents) members = put_fields fields contents (put (field_name field) content members)
 put_fields _ _ members = members
 
+-- the members, with those of a device's report put in
+unfoldable pub put_report : List ℕ → Report → Members → Members
+put_report by report members =
+    put_fields (fields.By ∷ fields.Do ∷ fields_of (report_word report)) (string by ∷ string (word_name (report_word report)) ∷ contents_of report) members
+
 -- the object of a device's report
 unfoldable pub report_data : List ℕ → Report → Data
-report_data by report =
-    object (put_fields (fields.By ∷ fields.Do ∷ fields_of (report_word report)) (string by ∷ string (word_name (report_word report)) ∷ contents_of report) no_members)
+report_data by report = object (put_report by report no_members)
 
 -- its text, with no blank
 unfoldable pub report_text : List ℕ → Report → List ℕ
 report_text by report = compact_text (report_data by report)
 
--- the names in a report are names of devices and paths, as those of each report of a program are
-abbrev pub HasNames : Report → Type 0
-HasNames (Register place) = (is_device place.device ≡ true) × (is_path place.path ≡ true)
-HasNames (Duplicate copy place) = (is_device place.device ≡ true) × (is_path place.path ≡ true)
-HasNames (Edit copy) = Unit {0}
+-- the object of an entry: its number, and its device's report
+unfoldable pub entry_data : Entry → Data
+entry_data entry = object (put_report entry.by entry.report (put (field_name fields.Number) (number_data entry.number) no_members))

@@ -1,4 +1,5 @@
 -- Words that only inner functions and proofs need.
 pub mod Kept
+pub mod Names
 pub mod Progress
 pub mod Writing

@@ -16,6 +16,20 @@ pub enum Field {
     Copy,
     /// The number of a family.
     Family,
+    /// The number of the first of two copies.
+    A,
+    /// The number of the second of two copies.
+    B,
+    /// The number of the copy that inherits, where one does.
+    Heir,
+    /// The number of an entry.
+    Entry,
+    /// The number of the first entry of a page.
+    From,
+    /// The number that an entry has.
+    Number,
+    /// The entries of a dump.
+    Entries,
 }
 
 impl Field {
@@ -30,6 +44,13 @@ impl Field {
             Field::Path => "path",
             Field::Copy => "copy",
             Field::Family => "family",
+            Field::A => "a",
+            Field::B => "b",
+            Field::Heir => "heir",
+            Field::Entry => "entry",
+            Field::From => "from",
+            Field::Number => "number",
+            Field::Entries => "entries",
         }
     }
 }

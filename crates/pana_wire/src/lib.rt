@@ -1,13 +1,17 @@
 //! Lines: what a line of bytes asks, the text of each reply, and a session from bytes to bytes.
 #![tactic(auto)]
 
+mod dump;
 mod fault;
 mod field;
 mod laws;
 mod line_buffer;
 mod message;
 mod reading;
+mod report_writing;
 mod serving;
+#[cfg(test)]
+mod serving_tests;
 mod session;
 mod tap;
 #[cfg(test)]
@@ -15,12 +19,14 @@ mod tests;
 mod word;
 mod writing;
 
+pub use crate::dump::decode_dump;
 pub use crate::fault::WireFault;
 pub use crate::field::Field;
 pub use crate::laws::every_session_is_a_run;
 pub use crate::message::Message;
 pub use crate::reading::decode;
+pub use crate::report_writing::encode_call;
 pub use crate::serving::{ServeFault, Served, serve};
 pub use crate::session::Session;
 pub use crate::tap::Tap;
-pub use crate::writing::{encode, encode_call};
+pub use crate::writing::encode;

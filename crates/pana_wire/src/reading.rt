@@ -1,6 +1,6 @@
 ghost use Rattle.std.specs.Prelude.{◌≡◌, ◌≢◌, IfErr, OnOk};
 ghost use Rattle.serde_json.specs.View.{view};
-ghost use Rattle.pana_wire.specs.Line.{Gives, IsText, Shows, text_in, data_in, object_in, device_in, path_in, number_in, place_in, word_in, call_in, message_in, line_says};
+ghost use Rattle.pana_wire.specs.Line.{Gives, IsText, Shows, text_within, data_in, object_in, device_in, path_in, number_in, heir_in, place_in, word_in, report_in, call_in, message_in, line_says};
 
 use crate::fault::WireFault;
 use crate::field::Field;
@@ -20,34 +20,33 @@ const LONGEST_LINE: usize = 65536;
 /// The faults are those of `WireFault`, in its order; the fields are tried in the order `by`, `do`, and then those of
 /// the word, as `Word::fields` has them. It takes memory for the value that the line is and for the names in it; where
 /// that runs out the fault is `OutOfMemory`. To find a line too long, or not UTF-8, takes none.
-#[tactic(auto, unfolding(crate::specs::Line::line_says))]
+#[tactic(auto, unfolding(crate::specs::Line::line_says, crate::specs::Line::text_in))]
 pub fn decode(alloc: Global, line: &[u8]) -> Result<Message, WireFault>
     ensures exact { Gives result (line_says line.now) }
     ensures memory { IfErr result (λ fault. fault ≡ WireFault.OutOfMemory → IsText line.now) }
 {
-    let text = text_in(line)?;
+    let text = text_within(line, LONGEST_LINE)?;
     let value = value_in(alloc, text)?;
     check_object(&value)?;
     message_in(alloc, &value)
 }
 
-#[tactic(auto, unfolding(crate::specs::Line::text_in))]
-fn text_in(line: &[u8]) -> Result<&str, WireFault>
-    ensures exact { Shows (λ text. text.now) result (text_in line.now) }
-    ensures text { OnOk result (IsText line.now) }
+pub fn text_within(bytes: &[u8], most: usize) -> Result<&str, WireFault>
+    ensures exact { Shows (λ text. text.now) result (text_within most bytes.now) }
+    ensures text { OnOk result (text_within most bytes.now ≡ Ok bytes.now) }
     ensures memory { IfErr result (λ fault. fault ≢ WireFault.OutOfMemory) }
 {
-    if line.len() > LONGEST_LINE {
+    if bytes.len() > most {
         return Err(WireFault::TooLong);
     }
-    match std::str::from_utf8(line) {
+    match std::str::from_utf8(bytes) {
         Ok(text) => Ok(text),
         Err(_) => Err(WireFault::NotUtf8),
     }
 }
 
 #[tactic(auto, unfolding(crate::specs::Line::data_in))]
-fn value_in(alloc: Global, text: &str) -> Result<Value, WireFault>
+pub fn value_in(alloc: Global, text: &str) -> Result<Value, WireFault>
     ensures { Shows view result (data_in text.now) }
 {
     match Value::from_str(alloc, text) {
@@ -58,7 +57,7 @@ fn value_in(alloc: Global, text: &str) -> Result<Value, WireFault>
 }
 
 #[tactic(auto, unfolding(crate::specs::Line::object_in))]
-fn check_object(value: &Value) -> Result<(), WireFault>
+pub fn check_object(value: &Value) -> Result<(), WireFault>
     ensures { Shows (λ _. view value.now) result (object_in (view value.now)) }
 {
     if value.is_object() {
@@ -79,7 +78,7 @@ fn message_in(alloc: Global, value: &Value) -> Result<Message, WireFault>
 }
 
 #[tactic(auto, unfolding(crate::specs::Line::word_in))]
-fn word_in(value: &Value) -> Result<Word, WireFault>
+pub fn word_in(value: &Value) -> Result<Word, WireFault>
     ensures { Gives result (word_in (view value.now)) }
 {
     let Some(text) = value.get(Field::Do.name()).and_then(Value::as_str) else {
@@ -96,24 +95,65 @@ fn call_in(alloc: Global, word: Word, value: &Value) -> Result<Call, WireFault>
     ensures { Gives result (call_in word (view value.now)) }
 {
     let fields = word.fields();
+    let query = match word {
+        Word::Families => Query::Families,
+        Word::Board => Query::Board {
+            family: number_in(fields[0], value)?,
+        },
+        Word::Pair => Query::Pair {
+            a: number_in(fields[0], value)?,
+            b: number_in(fields[1], value)?,
+        },
+        Word::Holdings => Query::Holdings {
+            device: device_in(alloc, fields[0], value)?,
+        },
+        Word::Journal => Query::JournalFrom {
+            entry: number_in(fields[0], value)?,
+        },
+        _ => return Ok(Call::Report(report_in(alloc, word, value)?)),
+    };
+    Ok(Call::Query(query))
+}
+
+#[tactic(auto, unfolding(crate::specs::Line::report_in))]
+pub fn report_in(alloc: Global, word: Word, value: &Value) -> Result<Report, WireFault>
+    ensures { Gives result (report_in word (view value.now)) }
+{
+    let fields = word.fields();
     match word {
-        Word::Register => {
-            let place = place_in(alloc, fields[0], fields[1], value)?;
-            Ok(Call::Report(Report::Register { place }))
-        }
-        Word::Duplicate => {
-            let copy = number_in(fields[0], value)?;
-            let place = place_in(alloc, fields[1], fields[2], value)?;
-            Ok(Call::Report(Report::Duplicate { copy, place }))
-        }
-        Word::Edit => {
-            let copy = number_in(fields[0], value)?;
-            Ok(Call::Report(Report::Edit { copy }))
-        }
-        Word::Board => {
-            let family = number_in(fields[0], value)?;
-            Ok(Call::Query(Query::Board { family }))
-        }
+        Word::Register => Ok(Report::Register {
+            place: place_in(alloc, fields[0], fields[1], value)?,
+        }),
+        Word::Duplicate => Ok(Report::Duplicate {
+            copy: number_in(fields[0], value)?,
+            place: place_in(alloc, fields[1], fields[2], value)?,
+        }),
+        Word::Edit => Ok(Report::Edit {
+            copy: number_in(fields[0], value)?,
+        }),
+        Word::Reconcile => Ok(Report::Reconcile {
+            a: number_in(fields[0], value)?,
+            b: number_in(fields[1], value)?,
+        }),
+        Word::Merge => Ok(Report::Merge {
+            a: number_in(fields[0], value)?,
+            b: number_in(fields[1], value)?,
+        }),
+        Word::Relocate => Ok(Report::Relocate {
+            copy: number_in(fields[0], value)?,
+            place: place_in(alloc, fields[1], fields[2], value)?,
+        }),
+        Word::Remove => Ok(Report::Remove {
+            copy: number_in(fields[0], value)?,
+            heir: heir_in(fields[1], value)?,
+        }),
+        Word::Confirm => Ok(Report::Confirm {
+            entry: number_in(fields[0], value)?,
+        }),
+        Word::Withdraw => Ok(Report::Withdraw {
+            entry: number_in(fields[0], value)?,
+        }),
+        _ => Err(WireFault::BadField(Field::Do)),
     }
 }
 
@@ -127,7 +167,7 @@ fn place_in(alloc: Global, device: Field, path: Field, value: &Value) -> Result<
 }
 
 #[tactic(auto, unfolding(crate::specs::Line::device_in))]
-fn device_in(alloc: Global, field: Field, value: &Value) -> Result<DeviceName, WireFault>
+pub fn device_in(alloc: Global, field: Field, value: &Value) -> Result<DeviceName, WireFault>
     ensures { Gives result (device_in field (view value.now)) }
 {
     let Some(text) = value.get(field.name()).and_then(Value::as_str) else {
@@ -155,11 +195,27 @@ fn path_in(alloc: Global, field: Field, value: &Value) -> Result<CopyPath, WireF
 }
 
 #[tactic(auto, unfolding(crate::specs::Line::number_in))]
-fn number_in(field: Field, value: &Value) -> Result<u64, WireFault>
+pub fn number_in(field: Field, value: &Value) -> Result<u64, WireFault>
     ensures { Gives result (number_in field (view value.now)) }
 {
     match value.get(field.name()).and_then(Value::as_u64) {
         Some(number) => Ok(number),
+        None => Err(WireFault::BadField(field)),
+    }
+}
+
+#[tactic(auto, unfolding(crate::specs::Line::heir_in))]
+fn heir_in(field: Field, value: &Value) -> Result<Option<u64>, WireFault>
+    ensures { Gives result (heir_in field (view value.now)) }
+{
+    let Some(heir) = value.get(field.name()) else {
+        return Ok(None);
+    };
+    if heir.is_null() {
+        return Ok(None);
+    }
+    match heir.as_u64() {
+        Some(number) => Ok(Some(number)),
         None => Err(WireFault::BadField(field)),
     }
 }

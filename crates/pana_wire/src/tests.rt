@@ -1,13 +1,10 @@
-use crate::{
-    Field, Message, ServeFault, Served, Session, Tap, WireFault, decode, encode, encode_call, serve,
-};
+use crate::{Field, Message, WireFault, decode, decode_dump, encode, encode_call};
 use pana_copies::{CopyPath, DeviceName, NameFault, Place};
-use pana_hall::{BoardRow, BoardView, Call, Cause, Query, Reply, Spent};
-use pana_journal::Report;
+use pana_event::Rel;
+use pana_hall::{BoardRow, BoardView, Call, Cause, FamilyRow, Holding, Query, Reply};
+use pana_journal::{Entry, EntryList, Report};
 use pana_list::PlainList;
 use std::alloc::Global;
-use std::io;
-use std::io::{Read, Write};
 use std::test::Fail;
 
 fn place(alloc: Global, device: &str, path: &str) -> Result<Place, NameFault> {
@@ -17,109 +14,75 @@ fn place(alloc: Global, device: &str, path: &str) -> Result<Place, NameFault> {
     })
 }
 
-/// A session that numbers its calls, and has only so many of them.
-#[derive(Drop)]
-struct Numbering {
-    made: u64,
-    most: u64,
-}
-
-impl Session for Numbering {
-    ghost use Rattle.std.specs.Prelude.{◌≡◌, ◌+◌};
-
-    ghost step = { λ old by call reply new. new.made ≡ old.made + 1 };
-
-    ghost spends = { λ old new. new ≡ old };
-
-    fn call(&mut self, _by: &DeviceName, _call: Call) -> Result<Reply, Spent> {
-        if self.made >= self.most {
-            return Err(Spent);
-        }
-        self.made += 1;
-        Ok(Reply::Done { entry: self.made })
-    }
-}
-
-/// A reader that gives one byte at a time.
-#[derive(Drop)]
-struct Dripping<'a>(&'a [u8]);
-
-impl Read for Dripping<'_> {
-    fn read(&mut self, buffer: &mut [u8]) -> io::Result<usize> {
-        let Some((first, others)) = self.0.split_first() else {
-            return Ok(0);
-        };
-        if buffer.is_empty() {
-            return Ok(0);
-        }
-        buffer[0] = *first;
-        self.0 = others;
-        Ok(1)
-    }
-}
-
-/// A reader that always fails.
-#[derive(Drop)]
-struct Broken;
-
-impl Read for Broken {
-    fn read(&mut self, _buffer: &mut [u8]) -> io::Result<usize> {
-        Err(io::Error::from(io::ErrorKind::BrokenPipe))
-    }
-}
-
-/// A writer that takes one byte at a time, and none once it is full. It counts its flushes.
-#[derive(Drop)]
-struct Narrow {
-    bytes: Vec<u8>,
-    room: usize,
-    flushes: usize,
-}
-
-impl Write for Narrow {
-    fn write(&mut self, bytes: &[u8]) -> io::Result<usize> {
-        if self.room == 0 || bytes.is_empty() {
-            return Ok(0);
-        }
-        self.bytes.push(bytes[0])?;
-        self.room -= 1;
-        Ok(1)
-    }
-
-    fn flush(&mut self) -> io::Result<()> {
-        self.flushes = self.flushes.saturating_add(1);
-        Ok(())
-    }
-}
-
 #[test]
-fn each_word_is_read(rt: HostRuntime) -> Result<(), Fail> {
+fn each_word_for_a_report_is_read(rt: HostRuntime) -> Result<(), Fail> {
     let alloc = rt.alloc();
     let rows = [
         (
             "{\"by\":\"laptop\",\"do\":\"register\",\"device\":\"usb\",\"path\":\"a/\\u00e9\"}",
-            Call::Report(Report::Register {
+            Report::Register {
                 place: place(alloc, "usb", "a/é")?,
-            }),
+            },
         ),
         (
             " {\"path\":\"b\",\"device\":\"x\",\"copy\":18446744073709551615,\"do\":\"duplicate\",\"by\":\"laptop\"} ",
-            Call::Report(Report::Duplicate {
+            Report::Duplicate {
                 copy: u64::MAX,
                 place: place(alloc, "x", "b")?,
-            }),
+            },
         ),
         (
             "{\"by\":\"laptop\",\"do\":\"edit\",\"copy\":\"x\",\"other\":[{}],\"copy\":7}",
-            Call::Report(Report::Edit { copy: 7 }),
+            Report::Edit { copy: 7 },
         ),
         (
-            "{\"by\":\"laptop\",\"do\":\"board\",\"family\":0}",
-            Call::Query(Query::Board { family: 0 }),
+            "{\"by\":\"laptop\",\"do\":\"reconcile\",\"a\":1,\"b\":2}",
+            Report::Reconcile { a: 1, b: 2 },
+        ),
+        (
+            "{\"by\":\"laptop\",\"do\":\"merge\",\"a\":3,\"b\":3}",
+            Report::Merge { a: 3, b: 3 },
+        ),
+        (
+            "{\"by\":\"laptop\",\"do\":\"relocate\",\"copy\":4,\"device\":\"usb\",\"path\":\"c\"}",
+            Report::Relocate {
+                copy: 4,
+                place: place(alloc, "usb", "c")?,
+            },
+        ),
+        (
+            "{\"by\":\"laptop\",\"do\":\"remove\",\"copy\":5}",
+            Report::Remove {
+                copy: 5,
+                heir: None,
+            },
+        ),
+        (
+            "{\"by\":\"laptop\",\"do\":\"remove\",\"copy\":5,\"heir\":null}",
+            Report::Remove {
+                copy: 5,
+                heir: None,
+            },
+        ),
+        (
+            "{\"by\":\"laptop\",\"do\":\"remove\",\"copy\":5,\"heir\":0}",
+            Report::Remove {
+                copy: 5,
+                heir: Some(0),
+            },
+        ),
+        (
+            "{\"by\":\"laptop\",\"do\":\"confirm\",\"entry\":6}",
+            Report::Confirm { entry: 6 },
+        ),
+        (
+            "{\"by\":\"laptop\",\"do\":\"withdraw\",\"entry\":7}",
+            Report::Withdraw { entry: 7 },
         ),
     ];
-    for (line, call) in rows {
+    for (line, report) in rows {
         let by = DeviceName::new(alloc, "laptop")?;
+        let call = Call::Report(report);
         assert_eq!(rt;
             decode(alloc, line.as_bytes()),
             Ok(Message { by, call }),
@@ -130,7 +93,43 @@ fn each_word_is_read(rt: HostRuntime) -> Result<(), Fail> {
 }
 
 #[test]
-fn each_fault_is_told(rt: HostRuntime) -> Result<(), Fail> {
+fn each_word_for_a_query_is_read(rt: HostRuntime) -> Result<(), Fail> {
+    let alloc = rt.alloc();
+    let rows = [
+        ("{\"by\":\"laptop\",\"do\":\"families\"}", Query::Families),
+        (
+            "{\"by\":\"laptop\",\"do\":\"board\",\"family\":0}",
+            Query::Board { family: 0 },
+        ),
+        (
+            "{\"by\":\"laptop\",\"do\":\"pair\",\"b\":2,\"a\":1}",
+            Query::Pair { a: 1, b: 2 },
+        ),
+        (
+            "{\"by\":\"laptop\",\"do\":\"holdings\",\"device\":\"usb\"}",
+            Query::Holdings {
+                device: DeviceName::new(alloc, "usb")?,
+            },
+        ),
+        (
+            "{\"by\":\"laptop\",\"do\":\"journal\",\"from\":0}",
+            Query::JournalFrom { entry: 0 },
+        ),
+    ];
+    for (line, query) in rows {
+        let by = DeviceName::new(alloc, "laptop")?;
+        let call = Call::Query(query);
+        assert_eq!(rt;
+            decode(alloc, line.as_bytes()),
+            Ok(Message { by, call }),
+            "{line}"
+        );
+    }
+    Ok(())
+}
+
+#[test]
+fn each_fault_is_reported(rt: HostRuntime) -> Result<(), Fail> {
     let alloc = rt.alloc();
     let rows = [
         ("", WireFault::NotJson),
@@ -203,6 +202,42 @@ fn each_fault_is_told(rt: HostRuntime) -> Result<(), Fail> {
             "{\"by\":\"a\",\"do\":\"board\",\"copy\":1}",
             WireFault::BadField(Field::Family),
         ),
+        (
+            "{\"by\":\"a\",\"do\":\"stamps\",\"family\":1}",
+            WireFault::BadField(Field::Do),
+        ),
+        (
+            "{\"by\":\"a\",\"do\":\"reconcile\",\"b\":\"x\"}",
+            WireFault::BadField(Field::A),
+        ),
+        (
+            "{\"by\":\"a\",\"do\":\"pair\",\"a\":1}",
+            WireFault::BadField(Field::B),
+        ),
+        (
+            "{\"by\":\"a\",\"do\":\"remove\",\"heir\":false}",
+            WireFault::BadField(Field::Copy),
+        ),
+        (
+            "{\"by\":\"a\",\"do\":\"remove\",\"copy\":1,\"heir\":false}",
+            WireFault::BadField(Field::Heir),
+        ),
+        (
+            "{\"by\":\"a\",\"do\":\"remove\",\"copy\":1,\"heir\":\"\"}",
+            WireFault::BadField(Field::Heir),
+        ),
+        (
+            "{\"by\":\"a\",\"do\":\"confirm\",\"copy\":1}",
+            WireFault::BadField(Field::Entry),
+        ),
+        (
+            "{\"by\":\"a\",\"do\":\"holdings\",\"device\":\"A\"}",
+            WireFault::BadField(Field::Device),
+        ),
+        (
+            "{\"by\":\"a\",\"do\":\"journal\"}",
+            WireFault::BadField(Field::From),
+        ),
     ];
     for (line, fault) in rows {
         assert_eq!(rt; decode(alloc, line.as_bytes()), Err(fault), "{line}");
@@ -213,6 +248,19 @@ fn each_fault_is_told(rt: HostRuntime) -> Result<(), Fail> {
     let not_text = vec![in alloc; 255u8; 65537]?;
     assert_eq!(rt; decode(alloc, not_text.as_slice()), Err(WireFault::TooLong));
     Ok(())
+}
+
+/// The one entry of the example.
+fn edits(alloc: Global) -> Result<EntryList, Fail> {
+    let by = DeviceName::new(alloc, "laptop")?;
+    let report = Report::Edit { copy: 1 };
+    Ok(PlainList::from_vec(vec![in alloc;
+        Entry {
+            number: 3,
+            by,
+            report
+        },
+    ]?))
 }
 
 #[test]
@@ -238,6 +286,37 @@ fn each_reply_is_written(rt: HostRuntime) -> Result<(), Fail> {
     let replies = [
         (Reply::Done { entry: 3 }, "{\"done\":3}"),
         (
+            Reply::Families(PlainList::from_vec(vec![in alloc;
+                FamilyRow {
+                    family: 1,
+                    copies: 2,
+                    newest: 1,
+                    split: false,
+                },
+            ]?)),
+            "{\"families\":[{\"copies\":2,\"family\":1,\"newest\":1,\"split\":false}]}",
+        ),
+        (Reply::Pair(Rel::Older), "{\"pair\":\"Older\"}"),
+        (
+            Reply::Holdings(PlainList::from_vec(vec![in alloc;
+                Holding {
+                    copy: 2,
+                    family: 1,
+                    path: CopyPath::new(alloc, "a")?,
+                    touch: 2,
+                },
+            ]?)),
+            "{\"holdings\":[{\"copy\":2,\"family\":1,\"path\":\"a\",\"touch\":2}]}",
+        ),
+        (
+            Reply::Journal(edits(alloc)?),
+            "{\"entries\":[{\"by\":\"laptop\",\"copy\":1,\"do\":\"edit\",\"number\":3}]}",
+        ),
+        (
+            Reply::Refused(Cause::SameCopy),
+            "{\"code\":3,\"refused\":\"SameCopy\"}",
+        ),
+        (
             Reply::Board(board),
             "{\"board\":{\"copies\":[{\"conflict\":3,\"copy\":1,\"device\":\"laptop\",\"equal\":2,\"newer\":0,\"older\":1,\"path\":\"a\\\"b\"}],\"family\":1,\"newest\":[1,2],\"split\":true}}",
         ),
@@ -260,7 +339,6 @@ fn each_reply_is_written(rt: HostRuntime) -> Result<(), Fail> {
     Ok(())
 }
 
-/// A line with each fault, and then a message without a newline.
 #[test]
 fn each_report_is_written(rt: HostRuntime) -> Result<(), Fail> {
     let alloc = rt.alloc();
@@ -283,6 +361,43 @@ fn each_report_is_written(rt: HostRuntime) -> Result<(), Fail> {
             Report::Edit { copy: 7 },
             "{\"by\":\"usb\",\"copy\":7,\"do\":\"edit\"}",
         ),
+        (
+            Report::Reconcile { a: 2, b: 1 },
+            "{\"a\":2,\"b\":1,\"by\":\"usb\",\"do\":\"reconcile\"}",
+        ),
+        (
+            Report::Merge { a: 2, b: 1 },
+            "{\"a\":2,\"b\":1,\"by\":\"usb\",\"do\":\"merge\"}",
+        ),
+        (
+            Report::Relocate {
+                copy: 7,
+                place: place(alloc, "desk", "b")?,
+            },
+            "{\"by\":\"usb\",\"copy\":7,\"device\":\"desk\",\"do\":\"relocate\",\"path\":\"b\"}",
+        ),
+        (
+            Report::Remove {
+                copy: 7,
+                heir: None,
+            },
+            "{\"by\":\"usb\",\"copy\":7,\"do\":\"remove\"}",
+        ),
+        (
+            Report::Remove {
+                copy: 7,
+                heir: Some(8),
+            },
+            "{\"by\":\"usb\",\"copy\":7,\"do\":\"remove\",\"heir\":8}",
+        ),
+        (
+            Report::Confirm { entry: 7 },
+            "{\"by\":\"usb\",\"do\":\"confirm\",\"entry\":7}",
+        ),
+        (
+            Report::Withdraw { entry: 7 },
+            "{\"by\":\"usb\",\"do\":\"withdraw\",\"entry\":7}",
+        ),
     ];
     for (report, text) in reports {
         assert_eq!(rt; encode_call(alloc, &by, &report)?.as_str(), text);
@@ -290,111 +405,86 @@ fn each_report_is_written(rt: HostRuntime) -> Result<(), Fail> {
     Ok(())
 }
 
-fn faulty_lines(alloc: Global) -> Result<Vec<u8>, std::alloc::AllocError> {
-    let mut input = vec![in alloc; b'x'; 65537]?;
-    input.extend_from_slice(
-        b"\n\n[1]\n{\"by\":\"A\",\"do\":\"x\"}\n{\"by\":\"a\",\"do\":\"edit\"}\n{\"by\":\"a\",\"do\":\"edit\",\"copy\":1}",
-    )?;
-    Ok(input)
-}
-
-const ANSWERS: &str =
-    "{\"fault\":\"TooLong\"}\n{\"fault\":\"NotJson\"}\n{\"fault\":\"NotObject\"}\n{\"fault\":\"BadField\",\"field\":\"by\"}\n{\"fault\":\"BadField\",\"field\":\"copy\"}\n{\"done\":1}\n";
-
 #[test]
-fn a_session_is_served(rt: HostRuntime) -> Result<(), Fail> {
+fn a_dump_is_read(rt: HostRuntime) -> Result<(), Fail> {
     let alloc = rt.alloc();
-    let input = faulty_lines(alloc)?;
-    let mut session = Numbering { made: 0, most: 9 };
-    let mut reader = Tap::new(input.as_slice());
-    let mut writer = Tap::new(Vec::new(alloc));
-    let served = serve(alloc, &mut reader, &mut writer, &mut session, 100);
-    assert_eq!(rt; served, Ok(Served { lines: 6, calls: 1 }));
-    assert!(rt; !reader.has_failed() && reader.has_ended() && !writer.has_failed());
-    assert_eq!(rt; writer.into_inner().as_slice(), ANSWERS.as_bytes());
-    Ok(())
-}
-
-#[test]
-fn bytes_one_by_one_are_the_same_lines(rt: HostRuntime) -> Result<(), Fail> {
-    let alloc = rt.alloc();
-    let input = faulty_lines(alloc)?;
-    let mut session = Numbering { made: 0, most: 9 };
-    let mut reader = Tap::new(Dripping(input.as_slice()));
-    let mut writer = Tap::new(Narrow {
-        bytes: Vec::new(alloc),
-        room: 1000,
-        flushes: 0,
-    });
-    let served = serve(alloc, &mut reader, &mut writer, &mut session, 100_000);
-    assert_eq!(rt; served, Ok(Served { lines: 6, calls: 1 }));
-    let Narrow {
-        bytes,
-        room: _,
-        flushes,
-    } = writer.into_inner();
-    assert_eq!(rt; bytes.as_slice(), ANSWERS.as_bytes());
-    assert_eq!(rt; flushes, 6);
-    Ok(())
-}
-
-#[test]
-fn serving_breaks_off(rt: HostRuntime) -> Result<(), Fail> {
-    let alloc = rt.alloc();
-    let input = b"[1]\n{\"by\":\"a\",\"do\":\"edit\",\"copy\":1}\n";
-
-    let mut session = Numbering { made: 0, most: 0 };
-    let mut reader = Tap::new(Dripping(input));
-    let mut writer = Tap::new(Vec::new(alloc));
-    let served = serve(alloc, &mut reader, &mut writer, &mut session, 3);
-    assert_eq!(rt; served, Err(ServeFault::Turns));
-    assert!(rt; !reader.has_ended());
-    assert_eq!(rt; writer.into_inner().len(), 0);
-
-    let mut writer = Tap::new(Vec::new(alloc));
-    let served = serve(
-        alloc,
-        &mut Tap::new(Dripping(input)),
-        &mut writer,
-        &mut session,
-        100,
-    );
-    assert_eq!(rt; served, Err(ServeFault::Spent));
+    let line =
+        "{\"entries\":[{\"by\":\"usb\",\"do\":\"remove\",\"copy\":1,\"number\":9},{\"number\":9,\"by\":\"x\",\"do\":\"confirm\",\"entry\":2}]}";
+    let entries = decode_dump(alloc, line.as_bytes())?;
+    let first = Entry {
+        number: 9,
+        by: DeviceName::new(alloc, "usb")?,
+        report: Report::Remove {
+            copy: 1,
+            heir: None,
+        },
+    };
+    let second = Entry {
+        number: 9,
+        by: DeviceName::new(alloc, "x")?,
+        report: Report::Confirm { entry: 2 },
+    };
+    assert_eq!(rt; entries.as_slice(), [first, second].as_slice());
+    let text = encode(alloc, &Reply::Journal(edits(alloc)?))?;
+    let again = decode_dump(alloc, text.as_bytes())?;
+    assert_eq!(rt; again.as_slice(), edits(alloc)?.as_slice());
     assert_eq!(rt;
-        writer.into_inner().as_slice(),
-        b"{\"fault\":\"NotObject\"}\n".as_slice()
+        decode_dump(alloc, b"{\"entries\":[]}")?.as_slice().len(),
+        0
     );
+    Ok(())
+}
 
-    let mut writer = Tap::new(Narrow {
-        bytes: Vec::new(alloc),
-        room: 4,
-        flushes: 0,
-    });
-    let served = serve(
-        alloc,
-        &mut Tap::new(Dripping(input)),
-        &mut writer,
-        &mut session,
-        100,
+#[test]
+fn each_fault_of_a_dump_is_reported(rt: HostRuntime) -> Result<(), Fail> {
+    let alloc = rt.alloc();
+    let rows = [
+        ("{\"entries\":[", WireFault::NotJson),
+        ("[{}]", WireFault::NotObject),
+        ("{}", WireFault::BadField(Field::Entries)),
+        (
+            "{\"entries\":{\"number\":1}}",
+            WireFault::BadField(Field::Entries),
+        ),
+        (
+            "{\"entries\":[{\"number\":-1},[]]}",
+            WireFault::BadField(Field::Entries),
+        ),
+        (
+            "{\"entries\":[{\"number\":-1,\"by\":\"\",\"do\":\"\"},{}]}",
+            WireFault::BadField(Field::Number),
+        ),
+        (
+            "{\"entries\":[{\"number\":1,\"by\":\"\",\"do\":\"\"}]}",
+            WireFault::BadField(Field::By),
+        ),
+        (
+            "{\"entries\":[{\"number\":1,\"by\":\"a\",\"do\":\"pair\"}]}",
+            WireFault::BadField(Field::Do),
+        ),
+        (
+            "{\"entries\":[{\"number\":1,\"by\":\"a\",\"do\":\"edit\"},{\"by\":\"a\"}]}",
+            WireFault::BadField(Field::Copy),
+        ),
+        (
+            "{\"entries\":[{\"number\":1,\"by\":\"a\",\"do\":\"edit\",\"copy\":1},{\"by\":\"a\"}]}",
+            WireFault::BadField(Field::Number),
+        ),
+    ];
+    for (line, fault) in rows {
+        let read = decode_dump(alloc, line.as_bytes());
+        assert_eq!(rt; read.err(), Some(fault), "{line}");
+    }
+    assert_eq!(rt; decode_dump(alloc, b"\xff").err(), Some(WireFault::NotUtf8));
+    let blanks = vec![in alloc; b' '; 1_048_576]?;
+    assert_eq!(rt;
+        decode_dump(alloc, blanks.as_slice()).err(),
+        Some(WireFault::NotJson)
     );
-    assert_eq!(rt; served, Err(ServeFault::Write));
-    assert!(rt; writer.has_failed());
-    let Narrow {
-        bytes,
-        room: _,
-        flushes: _,
-    } = writer.into_inner();
-    assert_eq!(rt; bytes.as_slice(), b"{\"fa".as_slice());
-
-    let mut reader = Tap::new(Broken);
-    let served = serve(
-        alloc,
-        &mut reader,
-        &mut Tap::new(Vec::new(alloc)),
-        &mut session,
-        100,
+    let not_text = vec![in alloc; 255u8; 1_048_577]?;
+    assert_eq!(rt;
+        decode_dump(alloc, not_text.as_slice()).err(),
+        Some(WireFault::TooLong)
     );
-    assert_eq!(rt; served, Err(ServeFault::Read));
-    assert!(rt; reader.has_failed());
     Ok(())
 }

@@ -9,11 +9,36 @@ pub enum Word {
     Register,
     Duplicate,
     Edit,
+    Reconcile,
+    Merge,
+    Relocate,
+    Remove,
+    Confirm,
+    Withdraw,
+    Families,
     Board,
+    Pair,
+    Holdings,
+    Journal,
 }
 
 /// All words.
-const WORDS: [Word; 4] = [Word::Register, Word::Duplicate, Word::Edit, Word::Board];
+const WORDS: [Word; 14] = [
+    Word::Register,
+    Word::Duplicate,
+    Word::Edit,
+    Word::Reconcile,
+    Word::Merge,
+    Word::Relocate,
+    Word::Remove,
+    Word::Confirm,
+    Word::Withdraw,
+    Word::Families,
+    Word::Board,
+    Word::Pair,
+    Word::Holdings,
+    Word::Journal,
+];
 
 impl Word {
     /// The word as it is spelled. Takes no memory.
@@ -24,7 +49,17 @@ impl Word {
             Word::Register => "register",
             Word::Duplicate => "duplicate",
             Word::Edit => "edit",
+            Word::Reconcile => "reconcile",
+            Word::Merge => "merge",
+            Word::Relocate => "relocate",
+            Word::Remove => "remove",
+            Word::Confirm => "confirm",
+            Word::Withdraw => "withdraw",
+            Word::Families => "families",
             Word::Board => "board",
+            Word::Pair => "pair",
+            Word::Holdings => "holdings",
+            Word::Journal => "journal",
         }
     }
 
@@ -36,12 +71,23 @@ impl Word {
             Word::Register => &[Field::Device, Field::Path],
             Word::Duplicate => &[Field::Copy, Field::Device, Field::Path],
             Word::Edit => &[Field::Copy],
+            Word::Reconcile => &[Field::A, Field::B],
+            Word::Merge => &[Field::A, Field::B],
+            Word::Relocate => &[Field::Copy, Field::Device, Field::Path],
+            Word::Remove => &[Field::Copy, Field::Heir],
+            Word::Confirm => &[Field::Entry],
+            Word::Withdraw => &[Field::Entry],
+            Word::Families => &[],
             Word::Board => &[Field::Family],
+            Word::Pair => &[Field::A, Field::B],
+            Word::Holdings => &[Field::Device],
+            Word::Journal => &[Field::From],
         }
     }
 }
 
 /// The word that the text is, if it is one. Takes no memory.
+#[tactic(auto, unfolding(crate::specs::Word::word_of))]
 pub fn word_of(text: &str) -> Option<Word>
     ensures { result ≡ word_of text.now }
 {

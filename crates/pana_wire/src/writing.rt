@@ -1,23 +1,21 @@
-ghost use Rattle.std.specs.Prelude.{◌≡◌, ◌≤◌, true, length, IfOk, OnOk, string_bytes};
+ghost use Rattle.std.specs.Prelude.{◌≡◌, IfOk, OnOk, string_bytes};
 ghost use Rattle.serde_json.specs.View.{view};
-ghost use Rattle.pana_copies.specs.Names.{is_device};
-ghost use Rattle.pana_wire.specs.Line.{line_says};
-ghost use Rattle.pana_wire.specs.Report.{report_word, report_data, report_text, HasNames};
-ghost use Rattle.pana_wire.specs.Reply.{row_data, rows_data, numbers_data, board_data, refused_data, reply_data, reply_text};
+ghost use Rattle.pana_wire.specs.inner.Names.{HasReplyNames};
+ghost use Rattle.pana_wire.specs.Dump.{IsReadBack};
+ghost use Rattle.pana_wire.specs.Reply.{row_data, rows_data, numbers_data, board_data, family_data, families_data, holding_data, holdings_data, refused_data, reply_data, reply_text};
 
-use crate::field::Field;
-use crate::word::Word;
-use pana_copies::DeviceName;
-use pana_hall::{BoardRow, BoardView, Call, Cause, Reply};
-use pana_journal::Report;
+use crate::report_writing::entries_value;
+use pana_hall::{BoardRow, BoardView, Cause, FamilyRow, Holding, Reply};
 use serde_json::{Value, json};
 use std::alloc::{AllocError, Global};
 
-/// The line that answers a call with this reply: an object in JSON with no blank, its names in byte order.
+/// The line that answers a call with this reply: an object in JSON with no blank, its names in byte order. `decode_dump` reads
+/// the line of a `Journal` back as its entries, where the line has at most 1,048,576 bytes.
 ///
 /// It takes memory for the object and for its text, and fails only where that runs out.
 pub fn encode(alloc: Global, reply: &Reply) -> Result<String, AllocError>
-    ensures { IfOk result (λ text. string_bytes text ≡ reply_text reply.now) }
+    ensures text { IfOk result (λ text. string_bytes text ≡ reply_text reply.now) }
+    ensures back { IfOk result (λ text. IsReadBack reply.now (string_bytes text)) }
 {
     let value = reply_value(alloc, reply)?;
     value.to_string(alloc)
@@ -25,13 +23,27 @@ pub fn encode(alloc: Global, reply: &Reply) -> Result<String, AllocError>
 
 #[tactic(auto, unfolding(crate::specs::Reply::reply_data))]
 fn reply_value(alloc: Global, reply: &Reply) -> Result<Value, AllocError>
-    ensures { IfOk result (λ value. view value ≡ reply_data reply.now) }
+    ensures value { IfOk result (λ value. view value ≡ reply_data reply.now) }
+    ensures names { OnOk result (HasReplyNames reply.now) }
 {
     match reply {
         Reply::Done { entry } => json!(in alloc; { "done": *entry }),
+        Reply::Families(rows) => {
+            let families = families_value(alloc, rows.as_slice())?;
+            json!(in alloc; { "families": families })
+        }
         Reply::Board(board) => {
             let board = board_value(alloc, board)?;
             json!(in alloc; { "board": board })
+        }
+        Reply::Pair(rel) => json!(in alloc; { "pair": rel.name() }),
+        Reply::Holdings(rows) => {
+            let holdings = holdings_value(alloc, rows.as_slice())?;
+            json!(in alloc; { "holdings": holdings })
+        }
+        Reply::Journal(list) => {
+            let entries = entries_value(alloc, list.as_slice())?;
+            json!(in alloc; { "entries": entries })
         }
         Reply::Refused(cause) => refused_value(alloc, cause),
     }
@@ -88,6 +100,52 @@ fn numbers_value(alloc: Global, numbers: &[u64]) -> Result<Value, AllocError>
     Ok(Value::Array(values))
 }
 
+#[tactic(auto, unfolding(crate::specs::Reply::families_data))]
+fn families_value(alloc: Global, rows: &[FamilyRow]) -> Result<Value, AllocError>
+    ensures { IfOk result (λ value. view value ≡ families_data rows.now) }
+{
+    let mut values = Vec::new(alloc);
+    for row in rows {
+        values.push(family_value(alloc, row)?)?;
+    }
+    Ok(Value::Array(values))
+}
+
+#[tactic(auto, unfolding(crate::specs::Reply::family_data))]
+fn family_value(alloc: Global, row: &FamilyRow) -> Result<Value, AllocError>
+    ensures { IfOk result (λ value. view value ≡ family_data row.now) }
+{
+    json!(in alloc; {
+        "copies": row.copies,
+        "family": row.family,
+        "newest": row.newest,
+        "split": row.split
+    })
+}
+
+#[tactic(auto, unfolding(crate::specs::Reply::holdings_data))]
+fn holdings_value(alloc: Global, holdings: &[Holding]) -> Result<Value, AllocError>
+    ensures { IfOk result (λ value. view value ≡ holdings_data holdings.now) }
+{
+    let mut values = Vec::new(alloc);
+    for holding in holdings {
+        values.push(holding_value(alloc, holding)?)?;
+    }
+    Ok(Value::Array(values))
+}
+
+#[tactic(auto, unfolding(crate::specs::Reply::holding_data))]
+fn holding_value(alloc: Global, holding: &Holding) -> Result<Value, AllocError>
+    ensures { IfOk result (λ value. view value ≡ holding_data holding.now) }
+{
+    json!(in alloc; {
+        "copy": holding.copy,
+        "family": holding.family,
+        "path": holding.path.as_str(),
+        "touch": holding.touch
+    })
+}
+
 #[tactic(auto, unfolding(crate::specs::Reply::refused_data))]
 fn refused_value(alloc: Global, cause: &Cause) -> Result<Value, AllocError>
     ensures { IfOk result (λ value. view value ≡ refused_data cause.now) }
@@ -97,58 +155,5 @@ fn refused_value(alloc: Global, cause: &Cause) -> Result<Value, AllocError>
     match cause.copy() {
         Some(copy) => json!(in alloc; { "code": code, "copy": copy, "refused": name }),
         None => json!(in alloc; { "code": code, "refused": name }),
-    }
-}
-
-/// The line that makes a device's report, without its newline: an object in JSON with no blank, its names in byte
-/// order. `decode` reads it back as the report.
-///
-/// It takes memory for the object and for its text, and fails only where that runs out.
-pub fn encode_call(alloc: Global, by: &DeviceName, report: &Report) -> Result<String, AllocError>
-    ensures text { IfOk result (λ text. string_bytes text ≡ report_text by.now report.now) }
-    ensures back { IfOk result (λ text. length (string_bytes text) ≤ 65536
-        → line_says (string_bytes text) ≡ Ok (record { by = by.now; call = Call.Report report.now })) }
-{
-    let value = report_value(alloc, by, report)?;
-    value.to_string(alloc)
-}
-
-fn report_word(report: &Report) -> Word
-    ensures { result ≡ report_word report.now }
-{
-    match report {
-        Report::Register { .. } => Word::Register,
-        Report::Duplicate { .. } => Word::Duplicate,
-        Report::Edit { .. } => Word::Edit,
-    }
-}
-
-#[tactic(auto, unfolding(crate::specs::Report::report_data))]
-fn report_value(alloc: Global, by: &DeviceName, report: &Report) -> Result<Value, AllocError>
-    ensures value { IfOk result (λ value. view value ≡ report_data by.now report.now) }
-    ensures by { OnOk result (is_device by.now ≡ true) }
-    ensures names { OnOk result (HasNames report.now) }
-{
-    let word = report_word(report);
-    let fields = word.fields();
-    match report {
-        Report::Register { place } => json!(in alloc; {
-            (Field::By.name()): by.as_str(),
-            (Field::Do.name()): word.name(),
-            (fields[0].name()): place.device.as_str(),
-            (fields[1].name()): place.path.as_str()
-        }),
-        Report::Duplicate { copy, place } => json!(in alloc; {
-            (Field::By.name()): by.as_str(),
-            (Field::Do.name()): word.name(),
-            (fields[0].name()): *copy,
-            (fields[1].name()): place.device.as_str(),
-            (fields[2].name()): place.path.as_str()
-        }),
-        Report::Edit { copy } => json!(in alloc; {
-            (Field::By.name()): by.as_str(),
-            (Field::Do.name()): word.name(),
-            (fields[0].name()): *copy
-        }),
     }
 }

@@ -1,6 +1,8 @@
 use Rattle.std.specs.Prelude.{[]}
-use Rattle.pana_hall.proofs.Orderly.{run_keeps, empty_is_orderly}
+use Rattle.pana_hall.specs.Run.{journal_from}
+use Rattle.pana_hall.proofs.Runs.{run_accepted}
+use Rattle.pana_hall.proofs.Steps.{orderly}
 use Rattle.pana_hall.proofs.laws.every_run_is_orderly.Goals as goal
 
 pub returns : goal.returns
-returns c = λ run permitted. run_keeps [] run permitted empty_is_orderly
+returns c = λ run permitted. orderly 8 (journal_from [] run) (run_accepted run permitted)

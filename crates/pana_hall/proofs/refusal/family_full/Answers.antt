@@ -1,6 +1,5 @@
-use Rattle.std.proofs.Common.{◌≡◌, ◌∙◌, ap, sym, rules, Some}
+use Rattle.std.proofs.Common.{◌≡◌, ◌∙◌, ap, rules, Some}
 use Rattle.std.specs.Prelude.{nat_le, count_by}
-use Rattle.std.specs.Option.{option_copied}
 use Rattle.std.specs.Bool.{then_some}
 use Rattle.pana_hall.specs.declared.cause.Cause.TheVariants.{FamilyFull}
 use Rattle.pana_hall.specs.Living.{copy_in}

@@ -1,7 +1,7 @@
 -- The values are those of the numbers so far.
 use Rattle.std.proofs.Common.{◌≡◌, map, take}
 use Rattle.serde_json.specs.View.{view}
-use Rattle.pana_wire.specs.Reply.{number_data}
+use Rattle.pana_wire.specs.Report.{number_data}
 use Rattle.pana_wire.proofs.writing.numbers_value.Given as goal
 
 abbrev pub invariant-loop-number : goal.invariant-loop-number

@@ -1,0 +1,293 @@
+-- What holds of each journal that refuses none of its entries.
+use Rattle.std.specs.Prelude.{◌≡◌, ℕ, ◌+◌, ◌<◌, ◌≤◌, true, false, cond, not, ◌==◌, List, [], ◌∷◌, ◌++◌, length, map, filter, Option, Some, None, slice_get, ◌-◌, ◌⊎◌}
+use Rattle.std.specs.List.{AllByRecursion}
+use Rattle.std.proofs.Common.{refl, sym, ap, ◌∙◌, subst, inl, inr, arith, append-nil, append_assoc}
+use Rattle.std.proofs.lemmas.Bool.{eqb-false}
+use Rattle.std.proofs.lemmas.List.{length-append, map-append}
+use Rattle.std.proofs.lemmas.List.Elements.{filter-append}
+use Rattle.pana_journal.specs.declared.report.Report.{Report}
+use Rattle.pana_journal.specs.declared.report.Report.TheVariants.{Register, Duplicate, Edit, Reconcile, Merge, Relocate, Remove, Confirm, Withdraw}
+use Rattle.pana_journal.specs.declared.entry.Entry.{Entry}
+use Rattle.pana_journal.specs.Entries.{entry_at}
+use Rattle.pana_hall.specs.declared.cause.Cause.{Cause}
+use Rattle.pana_hall.specs.Family.{families, begun_or_joined, subject}
+use Rattle.pana_hall.specs.Effective.{effective, is_of_copies}
+use Rattle.pana_hall.specs.Living.{Copy, copy_in, living}
+use Rattle.pana_hall.specs.Pending.{pending, pend, last, behind}
+use Rattle.pana_hall.specs.Refusal.{report_refusal, full, unknown, same, other_family, unknown_entry, first}
+use Rattle.pana_hall.specs.Accepted.{Accepts, AcceptsAll, IsAccepted}
+use Rattle.pana_hall.specs.Laws.{AreRising}
+use Rattle.pana_hall.proofs.Lists.{each_append, each_weaker, last_is_end, behind_is_end, map_filter}
+use Rattle.pana_hall.proofs.Locality.{Joins, Belongs, IsWell, Fits, found_fits, copies_fit}
+use Rattle.pana_hall.proofs.Grown.{KeepsFamilies, own, each_effective, family_new, family_old, own_copies, own_confirm, own_withdraw, own_other, pending-push, pending_is}
+use Rattle.pana_hall.proofs.Allowed.{first_none, known, one_family, known_entry}
+use Rattle.pana_hall.proofs.Rising.{rises_push, slice_get-push_cases, slice_get-each, entry_at-append, entry_at-push, entry_at_place}
+
+-- the pending numbers of a family are the last ones of its effective entries
+abbrev pub EndsInPending : ℕ → ℕ → List Entry → Type 0
+EndsInPending most family journal = (prefix : List ℕ) × (map (λ e. e.number) (own family journal) ≡ prefix ++ pending most family journal)
+
+pub record IsSound (most : ℕ) (journal : List Entry) : Type 0 where
+  pub well : AllByRecursion (IsWell (families journal) (length journal)) journal
+  pub found : AllByRecursion (λ e. entry_at journal e.number ≡ Some e) journal
+  pub numbered : (i : ℕ) (e : Entry) → slice_get journal i ≡ Some e → e.number ≡ i + 1
+  pub rising : AreRising (λ e. e.number) 0 journal
+  pub ends : (family : ℕ) → EndsInPending most family journal
+
+pub living_fit : (most : ℕ) (journal : List Entry) → IsSound most journal → AllByRecursion (Fits (families journal) (length journal)) (living journal)
+living_fit most journal sound = copies_fit (families journal) (length journal) (effective journal) (each_effective _ journal sound.well)
+
+-- a living copy that the next entry names first
+joins : (of of' : ℕ → ℕ) (last n c : ℕ) (copies : List Copy) (copy : Copy) → AllByRecursion (Fits of last) copies → n ≡ last + 1
+    → ((k : ℕ) → k < n → of' k ≡ of k) → of c ≡ of' n → copy_in copies c ≡ Some copy → Joins of' n c
+joins of of' last n c copies copy fits next old new found =
+    let here = found_fits of last c copies copy fits found in
+    let number = here.0 in
+    let within = here.1.within in
+    let earlier : c < n = omega arith in
+    record { earlier = earlier; family = old c earlier ∙ new }
+
+-- the two copies that the next entry names
+both_join : (journal : List Entry) (of' : ℕ → ℕ) (n a b : ℕ) → AllByRecursion (Fits (families journal) (length journal)) (living journal)
+    → n ≡ length journal + 1 → ((k : ℕ) → k < n → of' k ≡ families journal k) → of' n ≡ families journal a
+    → first (unknown a (living journal) ∷ unknown b (living journal) ∷ same a b ∷ other_family a b (living journal) ∷ []) ≡ None → Joins of' n a × Joins of' n b
+both_join journal of' n a b fits next old new free =
+    let of = families journal in
+    let known_a = first_none (unknown a (living journal)) _ free in
+    let known_b = first_none (unknown b (living journal)) _ known_a.1 in
+    let alike = first_none (other_family a b (living journal)) [] (first_none (same a b) _ known_b.1).1 in
+    let x = known a (living journal) known_a.0 in
+    let y = known b (living journal) known_b.0 in
+    let one = one_family a b (living journal) x.0 y.0 alike.0 x.1 y.1 in
+    let here = found_fits of (length journal) a (living journal) x.0 fits x.1 in
+    let there = found_fits of (length journal) b (living journal) y.0 fits y.1 in
+    let of_both : of b ≡ of a = ap of (sym there.0) ∙ sym there.1.family ∙ one ∙ here.1.family ∙ ap of here.0 in (
+      joins of of' (length journal) n a (living journal) x.0 fits next old (sym new) x.1,
+      joins of of' (length journal) n b (living journal) y.0 fits next old (of_both ∙ sym new) y.1,
+    )
+
+-- the report of the next entry is about copies of its family
+pub belongs_new : (most : ℕ) (journal : List Entry) (of' : ℕ → ℕ) (n : ℕ) (by : List ℕ) (report : Report) → AllByRecursion (Fits (families journal) (length journal)) (living journal)
+    → n ≡ length journal + 1 → ((k : ℕ) → k < n → of' k ≡ families journal k) → of' n ≡ begun_or_joined (families journal) n (subject report)
+    → report_refusal most journal (living journal) by report ≡ None → Belongs of' n report
+belongs_new most journal of' n by (Register place) fits next old new free = new
+belongs_new most journal of' n by (Duplicate c place) fits next old new free =
+    let known_c = first_none (unknown c (living journal)) _ (first_none (full journal) _ free).1 in
+    let copy = known c (living journal) known_c.0 in
+    joins (families journal) of' (length journal) n c (living journal) copy.0 fits next old (sym new) copy.1
+belongs_new most journal of' n by (Edit c) fits next old new free =
+    let known_c = first_none (unknown c (living journal)) _ (first_none (full journal) _ free).1 in
+    let copy = known c (living journal) known_c.0 in
+    joins (families journal) of' (length journal) n c (living journal) copy.0 fits next old (sym new) copy.1
+belongs_new most journal of' n by (Reconcile a b) fits next old new free = both_join journal of' n a b fits next old new (first_none (full journal) _ free).1
+belongs_new most journal of' n by (Merge a b) fits next old new free = both_join journal of' n a b fits next old new (first_none (full journal) _ free).1
+belongs_new most journal of' n by (Relocate c place) fits next old new free =
+    let known_c = first_none (unknown c (living journal)) _ (first_none (full journal) _ free).1 in
+    let copy = known c (living journal) known_c.0 in
+    joins (families journal) of' (length journal) n c (living journal) copy.0 fits next old (sym new) copy.1
+belongs_new most journal of' n by (Remove c None) fits next old new free =
+    let known_c = first_none (unknown c (living journal)) _ (first_none (full journal) _ free).1 in
+    let copy = known c (living journal) known_c.0 in
+    joins (families journal) of' (length journal) n c (living journal) copy.0 fits next old (sym new) copy.1
+belongs_new most journal of' n by (Remove c (Some heir)) fits next old new free =
+    let known_c = first_none (unknown c (living journal)) _ (first_none (full journal) _ free).1 in
+    let copy = known c (living journal) known_c.0 in
+    joins (families journal) of' (length journal) n c (living journal) copy.0 fits next old (sym new) copy.1
+belongs_new most journal of' n by (Confirm entry) fits next old new free = tt
+belongs_new most journal of' n by (Withdraw entry) fits next old new free = tt
+
+joins_kept : (of of' : ℕ → ℕ) (m n c : ℕ) → Joins of n c → n < m → ((k : ℕ) → k < m → of' k ≡ of k) → Joins of' n c
+joins_kept of of' m n c joined before old = let earlier = joined.earlier in record { earlier = joined.earlier; family = old c (omega arith) ∙ joined.family ∙ sym (old n before) }
+
+-- and stays so
+belongs_kept : (of of' : ℕ → ℕ) (m n : ℕ) (report : Report) → Belongs of n report → n < m → ((k : ℕ) → k < m → of' k ≡ of k) → Belongs of' n report
+belongs_kept of of' m n (Register place) belongs before old = old n before ∙ belongs
+belongs_kept of of' m n (Duplicate copy place) belongs before old = joins_kept of of' m n copy belongs before old
+belongs_kept of of' m n (Edit copy) belongs before old = joins_kept of of' m n copy belongs before old
+belongs_kept of of' m n (Reconcile a b) belongs before old = (joins_kept of of' m n a belongs.0 before old, joins_kept of of' m n b belongs.1 before old)
+belongs_kept of of' m n (Merge a b) belongs before old = (joins_kept of of' m n a belongs.0 before old, joins_kept of of' m n b belongs.1 before old)
+belongs_kept of of' m n (Relocate copy place) belongs before old = joins_kept of of' m n copy belongs before old
+belongs_kept of of' m n (Remove copy heir) belongs before old = joins_kept of of' m n copy belongs before old
+belongs_kept of of' m n (Confirm entry) belongs before old = tt
+belongs_kept of of' m n (Withdraw entry) belongs before old = tt
+
+-- the entries before the next one stay in their families
+pub keeps_families : (most : ℕ) (journal : List Entry) (entry : Entry) → IsSound most journal → entry.number ≡ length journal + 1 → KeepsFamilies journal entry
+keeps_families most journal entry sound next =
+    each_weaker (IsWell (families journal) (length journal)) _ journal (λ e well. let within = well.within in family_old journal entry e.number (omega arith)) sound.well
+
+-- what the refusals of a Confirm and a Withdraw say of the entry that they name
+pub named_by : (most : ℕ) (journal : List Entry) (by : List ℕ) (report : Report) (m : ℕ) → (report ≡ Confirm m) ⊎ (report ≡ Withdraw m)
+    → report_refusal most journal (living journal) by report ≡ None → (entry : Entry) × (entry_at journal m ≡ Some entry) × (is_of_copies entry.report ≡ true)
+named_by most journal by report m (inl is) free =
+    let alone : report_refusal most journal (living journal) by (Confirm m) ≡ None = rw is at free in
+    known_entry m journal (first_none (unknown_entry m journal) _ (first_none (full journal) _ alone).1).0
+named_by most journal by report m (inr is) free =
+    let alone : report_refusal most journal (living journal) by (Withdraw m) ≡ None = rw is at free in
+    known_entry m journal (first_none (unknown_entry m journal) _ (first_none (full journal) _ alone).1).0
+
+-- the family of a Confirm or a Withdraw is that of the entry that it names
+pub family_named : (most : ℕ) (journal : List Entry) (entry : Entry) (m : ℕ) → (entry.report ≡ Confirm m) ⊎ (entry.report ≡ Withdraw m)
+    → families (journal ++ entry ∷ []) entry.number ≡ families journal m
+family_named most journal entry m (inl is) = family_new journal entry ∙ ap (λ r. begun_or_joined (families journal) entry.number (subject r)) is
+family_named most journal entry m (inr is) = family_new journal entry ∙ ap (λ r. begun_or_joined (families journal) entry.number (subject r)) is
+
+-- reports by kind: of copies, a Confirm or a Withdraw
+pub data Kind (report : Report) : Type 0 where
+  OfCopies : (is : is_of_copies report ≡ true) → Kind report
+  Confirms : (m : ℕ) → (is : report ≡ Confirm m) → Kind report
+  Withdraws : (m : ℕ) → (is : report ≡ Withdraw m) → Kind report
+
+pub kind_of : (report : Report) → Kind report
+kind_of (Confirm m) = Confirms m refl
+kind_of (Withdraw m) = Withdraws m refl
+kind_of report = OfCopies refl
+
+-- what a report of copies makes of its family's pending numbers
+pub pend_copies : (most n : ℕ) (report : Report) (numbers : List ℕ) → is_of_copies report ≡ true → pend most n report numbers ≡ last most (numbers ++ n ∷ [])
+pend_copies most n (Confirm m) numbers e = absurd (cc)
+pend_copies most n (Withdraw m) numbers e = absurd (cc)
+pend_copies most n report numbers e = refl
+
+ends_copies : (most family : ℕ) (journal : List Entry) (entry : Entry) → IsSound most journal → KeepsFamilies journal entry → is_of_copies entry.report ≡ true → EndsInPending most family (journal ++ entry ∷ [])
+ends_copies most family journal entry sound keeps of_copies =
+    let ends = sound.ends family in
+    let numbers = pending most family journal in
+    rw (own_copies family journal entry keeps of_copies, pending-push most family journal entry keeps)
+    (elim (families (journal ++ entry ∷ []) entry.number == family) as (λ b. (prefix : List ℕ)
+    × (map (λ e. e.number) (own family journal ++ cond b (entry ∷ []) []) ≡ prefix ++ cond b (pend most entry.number entry.report numbers) numbers)) [
+      | true ↦
+          let cut = last_is_end most (numbers ++ entry.number ∷ []) in (
+            ends.0 ++ cut.0,
+            map-append (λ e. e.number) (own family journal) (entry ∷ [])
+                ∙ ap (λ l. l ++ entry.number ∷ []) ends.1
+                ∙ append_assoc ends.0 numbers (entry.number ∷ [])
+                ∙ ap (λ l. ends.0 ++ l) cut.1
+                ∙ sym (append_assoc ends.0 cut.0 _)
+                ∙ ap (λ l. (ends.0 ++ cut.0) ++ l) (sym (pend_copies most entry.number entry.report numbers of_copies)),
+          )
+      | false ↦ (ends.0, ap (map (λ e. e.number)) (append-nil (own family journal)) ∙ ends.1)
+    ])
+
+ends_confirm : (most family : ℕ) (journal : List Entry) (entry : Entry) (m : ℕ) → IsSound most journal → KeepsFamilies journal entry → entry.report ≡ Confirm m → EndsInPending most family (journal ++ entry ∷ [])
+ends_confirm most family journal entry m sound keeps is =
+    let ends = sound.ends family in
+    let numbers = pending most family journal in
+    let cut = behind_is_end m numbers in
+    rw (own_confirm family journal entry m keeps is, pending_is most family journal entry (Confirm m) keeps is)
+    (elim (families (journal ++ entry ∷ []) entry.number == family) as (λ b. (prefix : List ℕ)
+    × (map (λ e. e.number) (own family journal) ≡ prefix ++ cond b (behind m numbers) numbers)) [
+      | true ↦ (ends.0 ++ cut.0, ends.1 ∙ ap (λ l. ends.0 ++ l) cut.1 ∙ sym (append_assoc ends.0 cut.0 (behind m numbers)))
+      | false ↦ ends
+    ])
+
+ends_withdraw : (most family : ℕ) (journal : List Entry) (entry : Entry) (m : ℕ) → IsSound most journal → KeepsFamilies journal entry → entry.report ≡ Withdraw m → EndsInPending most family (journal ++ entry ∷ [])
+ends_withdraw most family journal entry m sound keeps is =
+    let ends = sound.ends family in
+    let numbers = pending most family journal in
+    let here = family_named most journal entry m (inr is) in
+    rw (own_withdraw family journal entry m keeps is, pending_is most family journal entry (Withdraw m) keeps is)
+    (elim (families (journal ++ entry ∷ []) entry.number == family) as (λ b. (families (journal ++ entry ∷ []) entry.number == family) ≡ b → (prefix : List ℕ)
+    × (map (λ e. e.number) (filter (λ e. not (m == e.number)) (own family journal)) ≡ prefix ++ cond b (filter (λ n. not (m == n)) numbers) numbers)) [
+      | true ↦ λ e. (
+        filter (λ n. not (m == n)) ends.0,
+        map_filter (λ e. e.number) (λ n. not (m == n)) (own family journal) ∙ ap (filter (λ n. not (m == n))) ends.1 ∙ filter-append _ ends.0 numbers,
+      )
+      | false ↦ λ e. (
+        ends.0,
+        ap (map (λ e. e.number)) (own_other family (families journal) m (effective journal) (λ h. eqb-false _ family e (here ∙ h))) ∙ ends.1,
+      )
+    ] refl)
+
+-- the family of the next entry is its own number, or an earlier one
+bounded_copy : (of : ℕ → ℕ) (last c : ℕ) (copies : List Copy) → AllByRecursion (Fits of last) copies → unknown c copies ≡ None → of c ≤ last
+bounded_copy of last c copies fits open_ =
+    let copy = known c copies open_ in
+    let here = found_fits of last c copies copy.0 fits copy.1 in
+    let bounded = here.1.bounded in
+    let same : copy.0.family ≡ of c = here.1.family ∙ ap of here.0 in
+    omega arith
+
+bounded_new : (most : ℕ) (journal : List Entry) (n : ℕ) (by : List ℕ) (report : Report) → IsSound most journal → n ≡ length journal + 1
+    → report_refusal most journal (living journal) by report ≡ None → begun_or_joined (families journal) n (subject report) ≤ n
+bounded_new most journal n by report sound next free =
+    let fits = living_fit most journal sound in
+    let of = families journal in
+    let one : (c : ℕ) (causes : List (Option Cause)) → first (full journal ∷ unknown c (living journal) ∷ causes) ≡ None → of c ≤ n =
+    λ c causes open_. let bounded = bounded_copy of (length journal) c (living journal) fits (first_none (unknown c (living journal)) causes (first_none (full journal) _ open_).1).0 in omega arith in
+    let of_entry : (m : ℕ) → (report ≡ Confirm m) ⊎ (report ≡ Withdraw m) → of m ≤ n =
+    λ m is.
+    let found = named_by most journal by report m is free in
+    let place = entry_at_place journal m found.0 found.1 in
+    let not_zero = place.0 in
+    let named : found.0.number ≡ m - 1 + 1 = sound.numbered (m - 1) found.0 place.1 in
+    let same : found.0.number ≡ m = omega arith in
+    let bounded = (slice_get-each (IsWell of (length journal)) journal (m - 1) found.0 sound.well place.1).bounded in
+    let of_same : of found.0.number ≡ of m = ap of same in
+    omega arith in
+    elim report as (λ r. report ≡ r → report_refusal most journal (living journal) by r ≡ None → begun_or_joined of n (subject r) ≤ n) [
+      | Register place ↦ λ is open_. omega arith
+      | Duplicate c place ↦ λ is open_. one c _ open_
+      | Edit c ↦ λ is open_. one c _ open_
+      | Reconcile a b ↦ λ is open_. one a _ open_
+      | Merge a b ↦ λ is open_. one a _ open_
+      | Relocate c place ↦ λ is open_. one c _ open_
+      | Remove c None ↦ λ is open_. one c _ open_
+      | Remove c (Some heir) ↦ λ is open_. one c _ open_
+      | Confirm m ↦ λ is open_. of_entry m (inl is)
+      | Withdraw m ↦ λ is open_. of_entry m (inr is)
+    ] refl free
+
+-- one entry more that isn't refused
+pub sound_grows : (most : ℕ) (journal : List Entry) (entry : Entry) → IsSound most journal → Accepts most journal entry → IsSound most (journal ++ entry ∷ [])
+sound_grows most journal entry sound accepts =
+    let keeps = keeps_families most journal entry sound accepts.next in
+    let next = accepts.next in
+    let longer : length (journal ++ entry ∷ []) ≡ length journal + 1 = length-append journal (entry ∷ []) in
+    let of' = families (journal ++ entry ∷ []) in
+    let old : (k : ℕ) → k < entry.number → of' k ≡ families journal k = family_old journal entry in
+    record {
+      well = each_append _ journal (entry ∷ [])
+          (each_weaker (IsWell (families journal) (length journal)) _ journal
+          (λ e well.
+          let within = well.within in
+          let bounded = well.bounded in
+          let before : e.number < entry.number = omega arith in
+          let same : of' e.number ≡ families journal e.number = old e.number before in
+          record { belongs = belongs_kept (families journal) of' entry.number e.number e.report well.belongs before old; within = omega arith; bounded = omega arith }) sound.well) (
+            record {
+              belongs = belongs_new most journal of' entry.number entry.by entry.report (living_fit most journal sound) next old (family_new journal entry) accepts.free;
+              within = omega arith;
+              bounded =
+                  let new = family_new journal entry in
+                  let bounded = bounded_new most journal entry.number entry.by entry.report sound next accepts.free in omega arith;
+            },
+            tt,
+          );
+      found = each_append _ journal (entry ∷ [])
+          (each_weaker (λ e. entry_at journal e.number ≡ Some e) _ journal (λ e h. entry_at-append journal (entry ∷ []) e.number e h) sound.found)
+          (ap (entry_at (journal ++ entry ∷ [])) next ∙ entry_at-push journal entry, tt);
+      numbered = λ i e at. elim (slice_get-push_cases journal entry i e at) [
+        | inl before ↦ sound.numbered i e before
+        | inr now ↦ let place = now.0 in let number : entry.number ≡ e.number = ap (λ x. x.number) now.1 in omega arith
+      ];
+      rising = rises_push (λ e. e.number) 0 journal entry sound.rising
+          (each_weaker (IsWell (families journal) (length journal)) _ journal (λ e well. let within = well.within in omega arith) sound.well) (omega arith);
+      ends = λ family. elim (kind_of entry.report) [
+        | OfCopies is ↦ ends_copies most family journal entry sound keeps is
+        | Confirms m is ↦ ends_confirm most family journal entry m sound keeps is
+        | Withdraws m is ↦ ends_withdraw most family journal entry m sound keeps is
+      ];
+    }
+
+pub empty_is_sound : (most : ℕ) → IsSound most []
+empty_is_sound most = record { well = tt; found = tt; numbered = λ i e at. absurd (cc); rising = tt; ends = λ family. ([], refl) }
+
+-- each accepted journal is sound
+pub accepted_grows : (most : ℕ) (journal entries : List Entry) → IsSound most journal → AcceptsAll most journal entries → IsSound most (journal ++ entries)
+accepted_grows most journal [] sound all = rw (append-nil journal) sound
+accepted_grows most journal (entry ∷ entries) sound all =
+    subst (IsSound most) (append_assoc journal (entry ∷ []) entries) (accepted_grows most (journal ++ entry ∷ []) entries (sound_grows most journal entry sound all.0) all.1)
+
+pub accepted_is_sound : (most : ℕ) (journal : List Entry) → IsAccepted most journal → IsSound most journal
+accepted_is_sound most journal accepted = accepted_grows most [] journal (empty_is_sound most) accepted

@@ -1,0 +1,263 @@
+-- The tables of the families, as entries come.
+use Rattle.std.specs.Prelude.{◌≡◌, ◌≢◌, ℕ, ◌+◌, ◌-◌, ◌<◌, ◌≤◌, Bool, true, false, cond, not, ◌&&◌, ◌||◌, ◌==◌, List, [], ◌∷◌, ◌++◌, length, map, filter, fold, drop, Some, None, option_map}
+use Rattle.std.specs.List.{AllByRecursion}
+use Rattle.std.specs.Option.{option_to_list}
+use Rattle.std.proofs.Common.{refl, sym, ap, ◌∙◌, subst, inr, arith, append-nil, append_assoc}
+use Rattle.std.proofs.lemmas.Bool.{eq-eqb, ne_eqb, not-false}
+use Rattle.std.proofs.lemmas.List.{length-drop, drop-drop, drop_all}
+use Rattle.std.proofs.lemmas.List.Elements.{filter_agree, filter-append}
+use Rattle.pana_journal.specs.declared.report.Report.{Report}
+use Rattle.pana_journal.specs.declared.report.Report.TheVariants.{Register, Duplicate, Edit, Reconcile, Merge, Relocate, Remove, Confirm, Withdraw}
+use Rattle.pana_journal.specs.declared.entry.Entry.{Entry}
+use Rattle.pana_hall.specs.Updates.{has}
+use Rattle.pana_hall.specs.Family.{families}
+use Rattle.pana_hall.specs.Effective.{effective, is_of_copies, is_withdrawn, left_out}
+use Rattle.pana_hall.specs.Living.{Copy, copy_in, living, copies_of, after_entry, after_report, change, registered, duplicated}
+use Rattle.pana_hall.specs.Pending.{pending, pend, last, behind, is_last}
+use Rattle.pana_hall.specs.Board.{is_of}
+use Rattle.pana_hall.specs.Refusal.{report_refusal, full, unknown_entry, not_yours, settled_or_followed, pending_with}
+use Rattle.pana_hall.specs.Accepted.{Accepts}
+use Rattle.pana_hall.specs.Tables.{table}
+use Rattle.pana_hall.specs.Laws.{family_of_next, AddsLayer, DropsLayer, KeepsLayers, LeavesAlone, AreRising, AreMerged}
+use Rattle.pana_hall.proofs.Lists.{each_filter, each_weaker, filter_all, filter_swap, filter_filter, any_push, last_push, last_end, behind_is_end, is_last_push}
+use Rattle.pana_hall.proofs.Locality.{IsWell, Fits, copies_of-family, copies_of-push, copy_in-family, report_fits}
+use Rattle.pana_hall.proofs.Grown.{KeepsFamilies, own, each_effective, own_copies, own_confirm, own_withdraw, own_other, pending-push, pending_is}
+use Rattle.pana_hall.proofs.Allowed.{first_none, none_false}
+use Rattle.pana_hall.proofs.Rising.{rises_lower, rises_filter, rises_push, rises_last}
+use Rattle.pana_hall.proofs.Sound.{IsSound, keeps_families, living_fit, family_named, OfCopies, Confirms, Withdraws, kind_of, pend_copies}
+
+-- nothing is left out
+pub last_none : (numbers : List ℕ) → last 0 numbers ≡ []
+last_none numbers = drop_all (length numbers - 0) numbers (omega arith)
+
+left_out_none : (entries : List Entry) → left_out [] entries ≡ entries
+left_out_none [] = refl
+left_out_none (e ∷ entries) = ap (λ l. e ∷ l) (left_out_none entries)
+
+left_out_now : (numbers : List ℕ) (entries : List Entry) → left_out (last 0 numbers) entries ≡ entries
+left_out_now numbers entries = ap (λ l. left_out l entries) (last_none numbers) ∙ left_out_none entries
+
+not_or : (a b : Bool) → not (a || b) ≡ (not b && not a)
+not_or true true = refl
+not_or true false = refl
+not_or false true = refl
+not_or false false = refl
+
+-- one number more is left out
+pub left_out_push : (numbers : List ℕ) (n : ℕ) (entries : List Entry) → left_out (numbers ++ n ∷ []) entries ≡ left_out numbers (filter (λ e. not (n == e.number)) entries)
+left_out_push numbers n entries =
+    filter_agree _ _ (λ e. ap not (any_push (λ k. k == e.number) numbers n) ∙ not_or (has numbers e.number) (n == e.number)) entries
+    ∙ sym (filter_filter (λ e. not (has numbers e.number)) (λ e. not (n == e.number)) entries)
+
+last_last : (k most : ℕ) (numbers : List ℕ) → k ≤ most → last k (last most numbers) ≡ last k numbers
+last_last k most numbers within =
+    drop-drop _ (length numbers - most) numbers
+    ∙ ap (λ i. drop i numbers) (let cut = length-drop (length numbers - most) numbers in omega arith)
+
+-- the tables come from the family's effective entries
+pub table_own : (most k family : ℕ) (journal : List Entry) → IsSound most journal → table most k family journal ≡ copies_of (left_out (last k (pending most family journal)) (own family journal))
+table_own most k family journal sound =
+    copies_of-family (families journal) (length journal) family _ (each_filter _ _ (effective journal) (each_effective _ journal sound.well))
+    ∙ ap copies_of (filter_swap _ _ (effective journal))
+
+table_now : (most family : ℕ) (journal : List Entry) → IsSound most journal → table most 0 family journal ≡ copies_of (own family journal)
+table_now most family journal sound = table_own most 0 family journal sound ∙ ap copies_of (left_out_now (pending most family journal) (own family journal))
+
+-- the numbers of a journal's entries are below the next one
+pub own_below : (most family n : ℕ) (journal : List Entry) → IsSound most journal → n ≡ length journal + 1 → AllByRecursion (λ e. not (n == e.number) ≡ true) (own family journal)
+own_below most family n journal sound next =
+    each_filter _ _ (effective journal) (each_effective _ journal
+    (each_weaker (IsWell (families journal) (length journal)) _ journal (λ e well. let within = well.within in ap not (ne_eqb n e.number (λ h. omega arith))) sound.well))
+
+pub adds_layer : (most : ℕ) (journal : List Entry) (entry : Entry) → IsSound most journal → IsSound most (journal ++ entry ∷ []) → Accepts most journal entry
+    → is_of_copies entry.report ≡ true → AddsLayer most (family_of_next journal entry) journal entry
+adds_layer most journal entry sound sound' accepts of_copies =
+    let family = family_of_next journal entry in
+    let keeps = keeps_families most journal entry sound accepts.next in
+    let here : (family == family) ≡ true = eq-eqb family family refl in
+    let more : own family (journal ++ entry ∷ []) ≡ own family journal ++ entry ∷ [] = own_copies family journal entry keeps of_copies ∙ ap (λ b. own family journal ++ cond b (entry ∷ []) []) here in
+    let numbers = pending most family journal in
+    let pending' : pending most family (journal ++ entry ∷ []) ≡ last most (numbers ++ entry.number ∷ []) =
+    pending-push most family journal entry keeps ∙ ap (λ b. cond b (pend most entry.number entry.report numbers) numbers) here ∙ pend_copies most entry.number entry.report numbers of_copies in
+    record {
+      now = table_now most family (journal ++ entry ∷ []) sound' ∙ ap copies_of more ∙ copies_of-push (own family journal) entry ∙ ap (λ l. after_entry l entry) (sym (table_now most family journal sound));
+      undone = λ k within.
+          table_own most (k + 1) family (journal ++ entry ∷ []) sound'
+          ∙ ap (λ l. copies_of (left_out (last (k + 1) l) (own family (journal ++ entry ∷ [])))) pending'
+          ∙ ap (λ l. copies_of (left_out l (own family (journal ++ entry ∷ [])))) (last_last (k + 1) most (numbers ++ entry.number ∷ []) (omega arith) ∙ last_push k numbers entry.number)
+          ∙ ap copies_of
+          (left_out_push (last k numbers) entry.number (own family (journal ++ entry ∷ []))
+          ∙ ap (left_out (last k numbers))
+          (ap (filter (λ e. not (entry.number == e.number))) more
+          ∙ filter-append _ (own family journal) (entry ∷ [])
+          ∙ ap (λ l. l ++ cond (not (entry.number == entry.number)) (entry ∷ []) []) (filter_all _ (own family journal) (own_below most family entry.number journal sound accepts.next))
+          ∙ ap (λ b. own family journal ++ cond (not b) (entry ∷ []) []) (eq-eqb entry.number entry.number refl)
+          ∙ append-nil (own family journal)))
+          ∙ sym (table_own most k family journal sound);
+    }
+
+pub keeps_layers : (most m : ℕ) (journal : List Entry) (entry : Entry) → IsSound most journal → IsSound most (journal ++ entry ∷ []) → Accepts most journal entry
+    → entry.report ≡ Confirm m → KeepsLayers most (family_of_next journal entry) journal entry
+keeps_layers most m journal entry sound sound' accepts is k within =
+    let family = family_of_next journal entry in
+    let keeps = keeps_families most journal entry sound accepts.next in
+    let numbers = pending most family journal in
+    let pending' : pending most family (journal ++ entry ∷ []) ≡ behind m numbers =
+    pending_is most family journal entry (Confirm m) keeps is ∙ ap (λ b. cond b (behind m numbers) numbers) (eq-eqb family family refl) in
+    let cut = behind_is_end m numbers in
+    table_own most k family (journal ++ entry ∷ []) sound'
+    ∙ ap (λ l. copies_of (left_out (last k l) (own family (journal ++ entry ∷ [])))) pending'
+    ∙ ap (λ l. copies_of (left_out (last k (behind m numbers)) l)) (own_confirm family journal entry m keeps is)
+    ∙ ap (λ l. copies_of (left_out l (own family journal))) (sym (last_end k cut.0 (behind m numbers) (rw pending' at within)) ∙ ap (last k) (sym cut.1))
+    ∙ sym (table_own most k family journal sound)
+
+pub leaves_alone : (most family : ℕ) (journal : List Entry) (entry : Entry) → IsSound most journal → IsSound most (journal ++ entry ∷ []) → Accepts most journal entry
+    → family_of_next journal entry ≢ family → LeavesAlone most family journal entry
+leaves_alone most family journal entry sound sound' accepts other =
+    let keeps = keeps_families most journal entry sound accepts.next in
+    let apart : (families (journal ++ entry ∷ []) entry.number == family) ≡ false = ne_eqb (families (journal ++ entry ∷ []) entry.number) family other in
+    let numbers = pending most family journal in
+    let pending' : pending most family (journal ++ entry ∷ []) ≡ numbers = pending-push most family journal entry keeps ∙ ap (λ b. cond b (pend most entry.number entry.report numbers) numbers) apart in
+    let own' : own family (journal ++ entry ∷ []) ≡ own family journal = elim (kind_of entry.report) [
+      | OfCopies is ↦ own_copies family journal entry keeps is ∙ ap (λ b. own family journal ++ cond b (entry ∷ []) []) apart ∙ append-nil (own family journal)
+      | Confirms m is ↦ own_confirm family journal entry m keeps is
+      | Withdraws m is ↦ own_withdraw family journal entry m keeps is ∙ own_other family (families journal) m (effective journal) (λ h. other (family_named most journal entry m (inr is) ∙ h))
+    ] in
+    record {
+      tables = λ k. table_own most k family (journal ++ entry ∷ []) sound'
+          ∙ ap (λ l. copies_of (left_out (last k l) (own family (journal ++ entry ∷ [])))) pending'
+          ∙ ap (λ l. copies_of (left_out (last k numbers) l)) own'
+          ∙ sym (table_own most k family journal sound);
+      pending = pending';
+    }
+
+pub rises_effective : (low : ℕ) (journal : List Entry) → AreRising (λ e. e.number) low journal → AreRising (λ e. e.number) low (effective journal)
+rises_effective low [] rises = tt
+rises_effective low (x ∷ journal) rises =
+    let first = rises.0 in
+    elim (is_of_copies x.report && not (is_withdrawn x.number journal)) as (λ b. AreRising (λ e. e.number) low (cond b (x ∷ effective journal) (effective journal))) [
+      | true ↦ (rises.0, rises_effective x.number journal rises.1)
+      | false ↦ rises_lower (λ e. e.number) x.number low (effective journal) (omega arith) (rises_effective x.number journal rises.1)
+    ]
+
+rises_numbers : (low : ℕ) (entries : List Entry) → AreRising (λ e. e.number) low entries → AreRising (λ n. n) low (map (λ e. e.number) entries)
+rises_numbers low [] rises = tt
+rises_numbers low (e ∷ entries) rises = (rises.0, rises_numbers e.number entries rises.1)
+
+pub each_right : {X : Type 0} (P : X → Type 0) (xs ys : List X) → AllByRecursion P (xs ++ ys) → AllByRecursion P ys
+each_right P [] ys all = all
+each_right P (x ∷ xs) ys all = each_right P xs ys all.1
+
+-- a family whose last pending entry is m: the numbers of its effective entries end in m, and all others are below it
+pub record EndsIn (most family m : ℕ) (journal : List Entry) : Type 0 where
+  pub before : List ℕ
+  pub pending : pending most family journal ≡ before ++ m ∷ []
+  pub prefix : List ℕ
+  pub own : map (λ e. e.number) (own family journal) ≡ prefix ++ m ∷ []
+  pub below_pending : AllByRecursion (λ n. n < m) before
+  pub below : AllByRecursion (λ n. n < m) prefix
+
+pub ends_at : (most m : ℕ) (journal : List Entry) → IsSound most journal → is_last m (pending_with most m journal) ≡ true → EndsIn most (families journal m) m journal
+ends_at most m journal sound at_end =
+    let cut = is_last_push m (pending_with most m journal) at_end in
+    let ends = sound.ends (families journal m) in
+    let whole : map (λ e. e.number) (own (families journal m) journal) ≡ (ends.0 ++ cut.0) ++ m ∷ [] = ends.1 ∙ ap (λ l. ends.0 ++ l) cut.1 ∙ sym (append_assoc ends.0 cut.0 (m ∷ [])) in
+    let below : AllByRecursion (λ n. n < m) (ends.0 ++ cut.0) = rises_last (λ n. n) 0 (ends.0 ++ cut.0) m
+    (subst (AreRising (λ n. n) 0) whole (rises_numbers 0 (own (families journal m) journal) (rises_filter (λ e. e.number) 0 _ (effective journal) (rises_effective 0 journal sound.rising)))) in
+    record { before = cut.0; pending = cut.1; prefix = ends.0 ++ cut.0; own = whole; below_pending = each_right (λ n. n < m) ends.0 cut.0 below; below = below }
+
+pub ends_in : (most m : ℕ) (journal : List Entry) (by : List ℕ) (report : Report) → IsSound most journal → report ≡ Withdraw m
+    → report_refusal most journal (living journal) by report ≡ None → EndsIn most (families journal m) m journal
+ends_in most m journal by report sound is free =
+    let alone : report_refusal most journal (living journal) by (Withdraw m) ≡ None = rw is at free in
+    let open_ = first_none (settled_or_followed most m journal) _ (first_none (not_yours by m journal) _ (first_none (unknown_entry m journal) _ (first_none (full journal) _ alone).1).1).1 in
+    ends_at most m journal sound (not-false _ (none_false _ _ open_.0))
+
+pub filter_below : (m : ℕ) (numbers : List ℕ) → AllByRecursion (λ n. n < m) numbers → filter (λ n. not (m == n)) (numbers ++ m ∷ []) ≡ numbers
+filter_below m numbers below =
+    filter-append _ numbers (m ∷ [])
+    ∙ ap (λ l. l ++ cond (not (m == m)) (m ∷ []) []) (filter_all _ numbers (each_weaker (λ n. n < m) _ numbers (λ n h. ap not (ne_eqb m n (λ d. omega arith))) below))
+    ∙ ap (λ b. numbers ++ cond (not b) (m ∷ []) []) (eq-eqb m m refl)
+    ∙ append-nil numbers
+
+-- such an entry is taken out, and the others stay
+pub pending_withdrawn : (most family m : ℕ) (journal : List Entry) (entry : Entry) (before : List ℕ) → KeepsFamilies journal entry → entry.report ≡ Withdraw m → family_of_next journal entry ≡ family
+    → pending most family journal ≡ before ++ m ∷ [] → AllByRecursion (λ n. n < m) before → pending most family (journal ++ entry ∷ []) ≡ before
+pending_withdrawn most family m journal entry before keeps is here ends below =
+    let numbers = pending most family journal in
+    pending_is most family journal entry (Withdraw m) keeps is
+    ∙ ap (λ b. cond b (filter (λ n. not (m == n)) numbers) numbers) (eq-eqb (family_of_next journal entry) family here)
+    ∙ ap (filter (λ n. not (m == n))) ends ∙ filter_below m before below
+
+pub drops_layer : (most m : ℕ) (journal : List Entry) (entry : Entry) → IsSound most journal → IsSound most (journal ++ entry ∷ []) → Accepts most journal entry
+    → entry.report ≡ Withdraw m → DropsLayer most (family_of_next journal entry) journal entry
+drops_layer most m journal entry sound sound' accepts is k =
+    let family = family_of_next journal entry in
+    let keeps = keeps_families most journal entry sound accepts.next in
+    let named : family ≡ families journal m = family_named most journal entry m (inr is) in
+    let ends = subst (λ f. EndsIn most f m journal) (sym named) (ends_in most m journal entry.by entry.report sound is accepts.free) in
+    let pending' = pending_withdrawn most family m journal entry ends.before keeps is refl ends.pending ends.below_pending in
+    table_own most k family (journal ++ entry ∷ []) sound'
+    ∙ ap (λ l. copies_of (left_out (last k l) (own family (journal ++ entry ∷ [])))) pending'
+    ∙ ap (λ l. copies_of (left_out (last k ends.before) l)) (own_withdraw family journal entry m keeps is)
+    ∙ ap copies_of (sym (left_out_push (last k ends.before) m (own family journal)))
+    ∙ ap (λ l. copies_of (left_out l (own family journal))) (sym (last_push k ends.before m) ∙ ap (last (k + 1)) (sym ends.pending))
+    ∙ sym (table_own most (k + 1) family journal sound)
+
+-- rising numbers
+rises_changed : (low number : ℕ) (f : Copy → Copy) → ((copy : Copy) → (f copy).number ≡ copy.number) → (copies : List Copy)
+    → AreRising (λ c. c.number) low copies → AreRising (λ c. c.number) low (change number f copies)
+rises_changed low number f kept [] rises = tt
+rises_changed low number f kept (copy ∷ copies) rises =
+    let same : (cond (copy.number == number) (f copy) copy).number ≡ copy.number =
+    elim (copy.number == number) as (λ b. (cond b (f copy) copy).number ≡ copy.number) [ true ↦ kept copy | false ↦ refl ] in
+    (subst (λ n. low < n) (sym same) rises.0, subst (λ n. AreRising (λ c. c.number) n (change number f copies)) (sym same) (rises_changed copy.number number f kept copies rises.1))
+
+rises_report : (last n : ℕ) (of : ℕ → ℕ) (report : Report) (copies : List Copy) → last < n → AllByRecursion (Fits of last) copies
+    → AreRising (λ c. c.number) 0 copies → AreRising (λ c. c.number) 0 (after_report n report copies)
+rises_report last n of (Register place) copies more fits rises =
+    rises_push (λ c. c.number) 0 copies (registered n place) rises (each_weaker (Fits of last) _ copies (λ c fit. let within = fit.within in omega arith) fits) (omega arith)
+rises_report last n of (Duplicate source place) copies more fits rises =
+    elim (copy_in copies source) as (λ o. AreRising (λ c. c.number) 0 (copies ++ option_to_list (option_map (duplicated n place) o))) [
+      | None ↦ rw (append-nil copies) rises
+      | Some c ↦ rises_push (λ c. c.number) 0 copies (duplicated n place c) rises (each_weaker (Fits of last) _ copies (λ c fit. let within = fit.within in omega arith) fits) (omega arith)
+    ]
+rises_report last n of (Edit copy) copies more fits rises = rises_changed 0 copy _ (λ c. refl) copies rises
+rises_report last n of (Reconcile a b) copies more fits rises = rises_changed 0 b _ (λ c. refl) _ (rises_changed 0 a _ (λ c. refl) copies rises)
+rises_report last n of (Merge a b) copies more fits rises = rises_changed 0 b _ (λ c. refl) _ (rises_changed 0 a _ (λ c. refl) copies rises)
+rises_report last n of (Relocate copy place) copies more fits rises = rises_changed 0 copy _ (λ c. refl) copies rises
+rises_report last n of (Remove copy heir) copies more fits rises = rises_filter (λ c. c.number) 0 _ copies rises
+rises_report last n of (Confirm entry) copies more fits rises = rises
+rises_report last n of (Withdraw entry) copies more fits rises = rises
+
+rises_fold : (low last : ℕ) (of : ℕ → ℕ) (copies : List Copy) (entries : List Entry) → AreRising (λ e. e.number) low entries → AllByRecursion (IsWell of last) entries
+    → AllByRecursion (Fits of low) copies → AreRising (λ c. c.number) 0 copies → AreRising (λ c. c.number) 0 (fold after_entry copies entries)
+rises_fold low last of copies [] rising well fits rises = rises
+rises_fold low last of copies (entry ∷ entries) rising well fits rises =
+    let more = rising.0 in
+    rises_fold entry.number last of (after_entry copies entry) entries rising.1 well.1
+    (report_fits of entry.number entry.number entry.report copies well.0.belongs (omega arith)
+    (each_weaker (Fits of low) (Fits of entry.number) copies (λ c fit. let within = fit.within in let bounded = fit.bounded in record { family = fit.family; within = omega arith; bounded = omega arith }) fits))
+    (rises_report low entry.number of entry.report copies rising.0 fits rises)
+
+copies_rise : (last : ℕ) (of : ℕ → ℕ) (entries : List Entry) → AreRising (λ e. e.number) 0 entries → AllByRecursion (IsWell of last) entries → AreRising (λ c. c.number) 0 (copies_of entries)
+unfolding copies_of
+copies_rise last of entries rising well = rises_fold 0 last of [] entries rising well tt tt
+
+pub living_rises : (most : ℕ) (journal : List Entry) → IsSound most journal → AreRising (λ c. c.number) 0 (living journal)
+living_rises most journal sound = copies_rise (length journal) (families journal) (effective journal) (rises_effective 0 journal sound.rising) (each_effective _ journal sound.well)
+
+-- the table of a family is that of its living copies
+pub table_living : (most family : ℕ) (journal : List Entry) → filter (is_of family) (living journal) ≡ table most 0 family journal
+table_living most family journal = ap (λ l. filter (is_of family) (copies_of l)) (sym (left_out_now (pending most family journal) (effective journal)))
+
+pub merged : (most : ℕ) (journal : List Entry) → IsSound most journal → AreMerged most journal
+merged most journal sound =
+    let fits = living_fit most journal sound in
+    record {
+      tables = λ family. table_living most family journal;
+      found = λ number. sym (ap (λ l. copy_in l number) (sym (table_living most (families journal number) journal))
+          ∙ copy_in-family (families journal) (length journal) (families journal number) number (living journal) fits refl);
+      rising = living_rises most journal sound;
+      families = each_weaker (Fits (families journal) (length journal)) _ (living journal) (λ c fit. (fit.family, fit.within)) fits;
+    }

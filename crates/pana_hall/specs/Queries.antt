@@ -1,0 +1,41 @@
+-- The answers to queries, where nothing stands against them.
+use Rattle.std.specs.Prelude.{ℕ, List, map, filter, length, count_by}
+use Rattle.std.specs.List.{list_any}
+use Rattle.std.specs.Str.{bytes_eq}
+use Rattle.pana_event.specs.declared.rel.Rel.{Rel}
+use Rattle.pana_journal.specs.declared.entry.Entry.{Entry}
+use Rattle.pana_hall.specs.declared.family_row.FamilyRow.{FamilyRow}
+use Rattle.pana_hall.specs.declared.holding.Holding.{Holding}
+use Rattle.pana_hall.specs.Relation.{relation}
+use Rattle.pana_hall.specs.Family.{is_register}
+use Rattle.pana_hall.specs.Living.{Copy, known_to}
+use Rattle.pana_hall.specs.Board.{is_of, newest, has_conflict}
+
+-- a family's row: how many living copies it has, how many of them are newest, and whether it is split
+abbrev pub family_row : List Copy → ℕ → FamilyRow
+family_row copies family = record {
+  family = family;
+  copies = count_by (is_of family) copies;
+  newest = length (newest family copies);
+  split = has_conflict (newest family copies);
+}
+
+-- the numbers of the families that a journal has begun
+abbrev pub begun : List Entry → List ℕ
+begun journal = map (λ entry. entry.number) (filter (λ entry. is_register entry.report) journal)
+
+-- a row for each family with a living copy, by rising number
+abbrev pub family_rows : List Entry → List Copy → List FamilyRow
+family_rows journal copies = map (family_row copies) (filter (λ family. list_any (is_of family) copies) (begun journal))
+
+-- how the first copy relates to the second, by what they know
+abbrev pub pair_of : List Copy → ℕ → ℕ → Rel
+pair_of copies a b = relation (known_to copies a) (known_to copies b)
+
+-- a copy as a holding of its device
+abbrev pub holding : Copy → Holding
+holding copy = record { copy = copy.number; family = copy.family; path = copy.place.path; touch = copy.touch }
+
+-- the living copies on a device, by rising number
+abbrev pub holdings : List Copy → List ℕ → List Holding
+holdings copies device = map holding (filter (λ copy. bytes_eq copy.place.device device) copies)

@@ -1,0 +1,92 @@
+-- The line of a Journal reply is read back as its entries.
+use Rattle.std.proofs.Common.{◌≡◌, ℕ, ◌≤◌, true, false, List, [], ◌∷◌, length, map, nat_lt, codes, Option, Some, None, Ok, refl, sym, ap, ◌∙◌, arith}
+use Rattle.std.specs.List.{All}
+use Rattle.std.specs.Str.{is_utf8}
+use Rattle.std.proofs.lemmas.Bool.{le-ltb}
+use Rattle.std.proofs.lemmas.List.Elements.{All-head, All-tail}
+use Rattle.serde_json.specs.Data.{Data, object, member, no_members, put, depth, items_depth}
+use Rattle.serde_json.specs.Read.{read, max_depth}
+use Rattle.serde_json.specs.View.{items_of}
+use Rattle.pana_copies.specs.Names.{is_device}
+use Rattle.pana_journal.specs.declared.entry.Entry.{Entry}
+use Rattle.pana_journal.specs.declared.report.Report.{Report}
+use Rattle.pana_journal.specs.declared.report.Report.TheVariants as reports
+use Rattle.pana_hall.specs.declared.reply.Reply.{Reply}
+use Rattle.pana_hall.specs.declared.reply.Reply.TheVariants.{Done, Families, Board, Pair, Holdings, Journal, Refused}
+use Rattle.pana_wire.specs.declared.field.Field.TheVariants as fields
+use Rattle.pana_wire.specs.Field.{field_name}
+use Rattle.pana_wire.specs.Word.{word_of}
+use Rattle.pana_wire.specs.Line.{device_in, path_in, number_in, heir_in, place_in, word_in, report_in, object_in, data_in}
+use Rattle.pana_wire.specs.Dump.{are_objects, objects_in, entry_in, entries_in, dump_says, IsReadBack}
+use Rattle.pana_wire.specs.Report.{number_data, put_report, entry_data}
+use Rattle.pana_wire.specs.Reply.{entries_data, reply_data}
+use Rattle.pana_wire.specs.inner.Names.{HasNames, HasEntryNames, HasReplyNames}
+use Rattle.pana_wire.proofs.DumpBack.{objects_found}
+
+abbrev entry_object : ℕ → List ℕ → Report → Data
+entry_object n by report = object (put_report by report (put (field_name fields.Number) (number_data n) no_members))
+
+entry_back : (n : ℕ) (by : List ℕ) (report : Report) → is_device by ≡ true → HasNames report
+    → entry_in (entry_object n by report) ≡ Ok (record { number = n; by = by; report = report })
+unfolding put_report entry_in report_in word_in place_in device_in path_in number_in heir_in word_of
+entry_back n by (reports.Register place) named names = rw (named, names.0, names.1) refl
+entry_back n by (reports.Duplicate copy place) named names = rw (named, names.0, names.1) refl
+entry_back n by (reports.Edit copy) named names = rw named refl
+entry_back n by (reports.Reconcile a b) named names = rw named refl
+entry_back n by (reports.Merge a b) named names = rw named refl
+entry_back n by (reports.Relocate copy place) named names = rw (named, names.0, names.1) refl
+entry_back n by (reports.Remove copy None) named names = rw named refl
+entry_back n by (reports.Remove copy (Some heir)) named names = rw named refl
+entry_back n by (reports.Confirm entry) named names = rw named refl
+entry_back n by (reports.Withdraw entry) named names = rw named refl
+
+entry_shallow : (n : ℕ) (by : List ℕ) (report : Report) → depth (entry_object n by report) ≤ 1
+unfolding put_report
+entry_shallow n by (reports.Register place) = omega arith
+entry_shallow n by (reports.Duplicate copy place) = omega arith
+entry_shallow n by (reports.Edit copy) = omega arith
+entry_shallow n by (reports.Reconcile a b) = omega arith
+entry_shallow n by (reports.Merge a b) = omega arith
+entry_shallow n by (reports.Relocate copy place) = omega arith
+entry_shallow n by (reports.Remove copy None) = omega arith
+entry_shallow n by (reports.Remove copy (Some heir)) = omega arith
+entry_shallow n by (reports.Confirm entry) = omega arith
+entry_shallow n by (reports.Withdraw entry) = omega arith
+
+entries_back : (entries : List Entry) → All HasEntryNames entries → entries_in (map entry_data entries) ≡ Ok entries
+unfolding entry_data
+entries_back [] names = refl
+entries_back (entry ∷ entries) names =
+    let named = All-head HasEntryNames entry entries names in
+    rw (entry_back entry.number entry.by entry.report named.0 named.1, entries_back entries (All-tail HasEntryNames entry entries names)) refl
+
+entries_shallow : (entries : List Entry) → items_depth (items_of (map entry_data entries)) ≤ 1
+unfolding entry_data
+entries_shallow [] = omega arith
+entries_shallow (entry ∷ entries) = omega (arith, entry_shallow entry.number entry.by entry.report, entries_shallow entries)
+
+all_objects : (entries : List Entry) → are_objects (map entry_data entries) ≡ true
+unfolding entry_data
+all_objects [] = refl
+all_objects (entry ∷ entries) = all_objects entries
+
+reply_shallow : (entries : List Entry) → depth (reply_data (Journal entries)) ≤ max_depth
+unfolding reply_data entries_data
+reply_shallow entries = omega (arith, entries_shallow entries)
+
+dump_back : (line : List ℕ) (entries : List Entry) → All HasEntryNames entries → is_utf8 line ≡ true → read line ≡ Some (reply_data (Journal entries))
+    → length line ≤ 1048576 → dump_says line ≡ Ok entries
+unfolding dump_says data_in object_in reply_data entries_data
+dump_back line entries names utf8 is short =
+    let within : nat_lt 1048576 (length line) ≡ false = le-ltb 1048576 (length line) short in
+    rw (within, utf8, is, objects_found (reply_data (Journal entries)) (map entry_data entries) refl (all_objects entries)) (entries_back entries names)
+
+pub reply_back : (reply : Reply) (line : List ℕ) → HasReplyNames reply → is_utf8 line ≡ true → (depth (reply_data reply) ≤ max_depth → read line ≡ Some (reply_data reply))
+    → IsReadBack reply line
+reply_back (Done entry) line names utf8 is = tt
+reply_back (Families rows) line names utf8 is = tt
+reply_back (Board board) line names utf8 is = tt
+reply_back (Pair rel) line names utf8 is = tt
+reply_back (Holdings holdings) line names utf8 is = tt
+reply_back (Journal entries) line names utf8 is = λ short. dump_back line entries names utf8 (is (reply_shallow entries)) short
+reply_back (Refused cause) line names utf8 is = tt

@@ -1,0 +1,78 @@
+//! Dumps: lines with entries of a journal.
+ghost use Rattle.std.specs.Prelude.{◌≡◌, IfErr, map};
+ghost use Rattle.serde_json.specs.View.{view};
+ghost use Rattle.pana_wire.specs.Line.{Gives, Shows};
+ghost use Rattle.pana_wire.specs.Dump.{IsDumpText, are_objects, objects_in, entry_in, entries_in, dump_says};
+
+use crate::fault::WireFault;
+use crate::field::Field;
+use crate::reading::{
+    check_object, device_in, number_in, report_in, text_within, value_in, word_in,
+};
+use pana_journal::{Entry, EntryList};
+use serde_json::Value;
+use std::alloc::Global;
+
+/// The longest line of a dump that is read, in bytes.
+const LONGEST_DUMP: usize = 1_048_576;
+
+/// The entries that a line of a dump has, or its first fault.
+///
+/// The faults are those of `WireFault`, in its order. `entries` must be a list of objects, and the whole list is looked
+/// at before its first entry is read; then the fields of each entry are tried in the order `number`, `by`, `do`, and
+/// those of the word, which must be one for a report. It takes memory as `decode` does, and for the entries.
+#[tactic(auto, unfolding(crate::specs::Dump::dump_says))]
+pub fn decode_dump(alloc: Global, line: &[u8]) -> Result<EntryList, WireFault>
+    ensures exact { Gives result (dump_says line.now) }
+    ensures memory { IfErr result (λ fault. fault ≡ WireFault.OutOfMemory → IsDumpText line.now) }
+{
+    let text = text_within(line, LONGEST_DUMP)?;
+    let value = value_in(alloc, text)?;
+    check_object(&value)?;
+    let objects = objects_in(&value)?;
+    entries_in(alloc, objects)
+}
+
+#[tactic(auto, unfolding(crate::specs::Dump::objects_in))]
+fn objects_in(value: &Value) -> Result<&[Value], WireFault>
+    ensures { Shows (λ objects. map view objects.now) result (objects_in (view value.now)) }
+{
+    let Some(values) = value.get(Field::Entries.name()).and_then(Value::as_array) else {
+        return Err(WireFault::BadField(Field::Entries));
+    };
+    if are_objects(values.as_slice()) {
+        Ok(values.as_slice())
+    } else {
+        Err(WireFault::BadField(Field::Entries))
+    }
+}
+
+fn are_objects(values: &[Value]) -> bool
+    ensures { result ≡ are_objects (map view values.now) }
+{
+    values.iter().all(|value| value.is_object())
+}
+
+fn entries_in(alloc: Global, objects: &[Value]) -> Result<EntryList, WireFault>
+    ensures { Gives result (entries_in (map view objects.now)) }
+{
+    let mut entries = Vec::new(alloc);
+    for object in objects {
+        let entry = entry_in(alloc, object)?;
+        if entries.push(entry).is_err() {
+            return Err(WireFault::OutOfMemory);
+        }
+    }
+    Ok(EntryList::from_vec(entries))
+}
+
+#[tactic(auto, unfolding(crate::specs::Dump::entry_in))]
+fn entry_in(alloc: Global, object: &Value) -> Result<Entry, WireFault>
+    ensures { Gives result (entry_in (view object.now)) }
+{
+    let number = number_in(Field::Number, object)?;
+    let by = device_in(alloc, Field::By, object)?;
+    let word = word_in(object)?;
+    let report = report_in(alloc, word, object)?;
+    Ok(Entry { number, by, report })
+}

@@ -1,0 +1,174 @@
+//! Reports and entries as objects.
+ghost use Rattle.std.specs.Prelude.{◌≡◌, ◌≤◌, true, length, IfOk, OnOk, string_bytes};
+ghost use Rattle.std.specs.List.{All};
+ghost use Rattle.serde_json.specs.Data.{string, put};
+ghost use Rattle.serde_json.specs.View.{view, members_view};
+ghost use Rattle.pana_copies.specs.Names.{is_device};
+ghost use Rattle.pana_wire.specs.Field.{field_name};
+ghost use Rattle.pana_wire.specs.Line.{line_says};
+ghost use Rattle.pana_wire.specs.inner.Names.{HasPlaceNames, HasNames, HasEntryNames};
+ghost use Rattle.pana_wire.specs.Report.{number_data, report_word, put_report, report_data, report_text, entry_data};
+ghost use Rattle.pana_wire.specs.Reply.{entries_data};
+
+use crate::field::Field;
+use crate::word::Word;
+use pana_copies::{DeviceName, Place};
+use pana_hall::Call;
+use pana_journal::{Entry, Report};
+use serde_json::{Map, Value};
+use std::alloc::{AllocError, Global};
+
+/// The line that makes a device's report, without its newline: an object in JSON with no blank, its names in byte
+/// order. `decode` reads it back as the report.
+///
+/// It takes memory for the object and for its text, and fails only where that runs out.
+pub fn encode_call(alloc: Global, by: &DeviceName, report: &Report) -> Result<String, AllocError>
+    ensures text { IfOk result (λ text. string_bytes text ≡ report_text by.now report.now) }
+    ensures back { IfOk result (λ text. length (string_bytes text) ≤ 65536
+        → line_says (string_bytes text) ≡ Ok (record { by = by.now; call = Call.Report report.now })) }
+{
+    let value = report_value(alloc, by, report)?;
+    value.to_string(alloc)
+}
+
+#[tactic(auto, unfolding(crate::specs::Report::report_data))]
+fn report_value(alloc: Global, by: &DeviceName, report: &Report) -> Result<Value, AllocError>
+    ensures value { IfOk result (λ value. view value ≡ report_data by.now report.now) }
+    ensures by { OnOk result (is_device by.now ≡ true) }
+    ensures names { OnOk result (HasNames report.now) }
+{
+    let mut members = Map::new(alloc);
+    put_report(alloc, &mut members, by, report)?;
+    Ok(Value::Object(members))
+}
+
+#[tactic(auto, unfolding(crate::specs::Reply::entries_data))]
+pub fn entries_value(alloc: Global, entries: &[Entry]) -> Result<Value, AllocError>
+    ensures value { IfOk result (λ value. view value ≡ entries_data entries.now) }
+    ensures names { OnOk result (All HasEntryNames entries.now) }
+{
+    let mut values = Vec::new(alloc);
+    for entry in entries {
+        values.push(entry_value(alloc, entry)?)?;
+    }
+    Ok(Value::Array(values))
+}
+
+#[tactic(auto, unfolding(crate::specs::Report::entry_data))]
+fn entry_value(alloc: Global, entry: &Entry) -> Result<Value, AllocError>
+    ensures value { IfOk result (λ value. view value ≡ entry_data entry.now) }
+    ensures names { OnOk result (HasEntryNames entry.now) }
+{
+    let mut members = Map::new(alloc);
+    put_number(alloc, &mut members, Field::Number, entry.number)?;
+    put_report(alloc, &mut members, &entry.by, &entry.report)?;
+    Ok(Value::Object(members))
+}
+
+fn report_word(report: &Report) -> Word
+    ensures { result ≡ report_word report.now }
+{
+    match report {
+        Report::Register { .. } => Word::Register,
+        Report::Duplicate { .. } => Word::Duplicate,
+        Report::Edit { .. } => Word::Edit,
+        Report::Reconcile { .. } => Word::Reconcile,
+        Report::Merge { .. } => Word::Merge,
+        Report::Relocate { .. } => Word::Relocate,
+        Report::Remove { .. } => Word::Remove,
+        Report::Confirm { .. } => Word::Confirm,
+        Report::Withdraw { .. } => Word::Withdraw,
+    }
+}
+
+#[tactic(auto, unfolding(crate::specs::Report::put_report))]
+fn put_report(
+    alloc: Global,
+    members: &mut Map<String, Value>,
+    by: &DeviceName,
+    report: &Report,
+) -> Result<(), AllocError>
+    ensures value { OnOk result (members_view members.new.entries ≡ put_report by.now report.now (members_view members.old.entries)) }
+    ensures by { OnOk result (is_device by.now ≡ true) }
+    ensures names { OnOk result (HasNames report.now) }
+{
+    let word = report_word(report);
+    let fields = word.fields();
+    put_text(alloc, members, Field::By, by.as_str())?;
+    put_text(alloc, members, Field::Do, word.name())?;
+    match report {
+        Report::Register { place } => put_place(alloc, members, fields[0], fields[1], place),
+        Report::Duplicate { copy, place } | Report::Relocate { copy, place } => {
+            put_number(alloc, members, fields[0], *copy)?;
+            put_place(alloc, members, fields[1], fields[2], place)
+        }
+        Report::Edit { copy } => put_number(alloc, members, fields[0], *copy),
+        Report::Reconcile { a, b } | Report::Merge { a, b } => {
+            put_number(alloc, members, fields[0], *a)?;
+            put_number(alloc, members, fields[1], *b)
+        }
+        Report::Remove { copy, heir } => {
+            put_number(alloc, members, fields[0], *copy)?;
+            match heir {
+                Some(heir) => put_number(alloc, members, fields[1], *heir),
+                None => Ok(()),
+            }
+        }
+        Report::Confirm { entry } | Report::Withdraw { entry } => {
+            put_number(alloc, members, fields[0], *entry)
+        }
+    }
+}
+
+fn put_place(
+    alloc: Global,
+    members: &mut Map<String, Value>,
+    device: Field,
+    path: Field,
+    place: &Place,
+) -> Result<(), AllocError>
+    ensures value { OnOk result (members_view members.new.entries ≡ put (field_name path) (string place.now.path) (put (field_name device) (string place.now.device) (members_view members.old.entries))) }
+    ensures names { OnOk result (HasPlaceNames place.now) }
+{
+    put_text(alloc, members, device, place.device.as_str())?;
+    put_text(alloc, members, path, place.path.as_str())
+}
+
+fn put_number(
+    alloc: Global,
+    members: &mut Map<String, Value>,
+    field: Field,
+    number: u64,
+) -> Result<(), AllocError>
+    ensures { OnOk result (members_view members.new.entries ≡ put (field_name field) (number_data number) (members_view members.old.entries)) }
+{
+    put_value(alloc, members, field, Value::from(number))
+}
+
+fn put_text(
+    alloc: Global,
+    members: &mut Map<String, Value>,
+    field: Field,
+    text: &str,
+) -> Result<(), AllocError>
+    ensures { OnOk result (members_view members.new.entries ≡ put (field_name field) (string text.now) (members_view members.old.entries)) }
+{
+    put_value(
+        alloc,
+        members,
+        field,
+        Value::String(String::from_str(alloc, text)?),
+    )
+}
+
+fn put_value(
+    alloc: Global,
+    members: &mut Map<String, Value>,
+    field: Field,
+    value: Value,
+) -> Result<(), AllocError>
+    ensures { OnOk result (members_view members.new.entries ≡ put (field_name field) (view value) (members_view members.old.entries)) }
+{
+    members.insert(String::from_str(alloc, field.name())?, value)?;
+    Ok(())
+}
