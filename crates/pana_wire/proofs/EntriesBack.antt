@@ -1,5 +1,5 @@
 -- The line of a Journal reply is read back as its entries.
-use Rattle.std.proofs.Common.{◌≡◌, ℕ, ◌≤◌, true, false, List, [], ◌∷◌, length, map, nat_lt, codes, Option, Some, None, Ok, refl, sym, ap, ◌∙◌, arith}
+use Rattle.std.proofs.Common.{◌≡◌, ℕ, ◌≤◌, true, false, List, [], ◌∷◌, length, map, nat_lt, codes, Option, Some, None, Ok, ◌⊎◌, inl, inr, refl, sym, ap, subst, ◌∙◌, arith}
 use Rattle.std.specs.List.{All}
 use Rattle.std.specs.Str.{is_utf8}
 use Rattle.std.proofs.lemmas.Bool.{le-ltb}
@@ -19,9 +19,10 @@ use Rattle.pana_wire.specs.Word.{word_of}
 use Rattle.pana_wire.specs.Line.{device_in, path_in, number_in, heir_in, place_in, word_in, report_in, object_in, data_in}
 use Rattle.pana_wire.specs.Dump.{are_objects, objects_in, entry_in, entries_in, dump_says, IsReadBack}
 use Rattle.pana_wire.specs.Report.{number_data, put_report, entry_data}
-use Rattle.pana_wire.specs.Reply.{entries_data, reply_data}
+use Rattle.pana_wire.specs.Reply.{entries_data, reply_data, reply_text}
 use Rattle.pana_wire.specs.inner.Names.{HasNames, HasEntryNames, HasReplyNames}
 use Rattle.pana_wire.proofs.DumpBack.{objects_found}
+use Rattle.pana_wire.proofs.Short.{page_short}
 
 abbrev entry_object : ℕ → List ℕ → Report → Data
 entry_object n by report = object (put_report by report (put (field_name fields.Number) (number_data n) no_members))
@@ -81,12 +82,17 @@ dump_back line entries names utf8 is short =
     let within : nat_lt 1048576 (length line) ≡ false = le-ltb 1048576 (length line) short in
     rw (within, utf8, is, objects_found (reply_data (Journal entries)) (map entry_data entries) refl (all_objects entries)) (entries_back entries names)
 
-pub reply_back : (reply : Reply) (line : List ℕ) → HasReplyNames reply → is_utf8 line ≡ true → (depth (reply_data reply) ≤ max_depth → read line ≡ Some (reply_data reply))
+few_or_short : (entries : List Entry) (line : List ℕ) → All HasEntryNames entries → line ≡ reply_text (Journal entries)
+    → (length entries ≤ 100) ⊎ (length line ≤ 1048576) → length line ≤ 1048576
+few_or_short entries line names is (inl few) = subst (λ text. length text ≤ 1048576) (sym is) (page_short entries names few)
+few_or_short entries line names is (inr short) = short
+
+pub reply_back : (reply : Reply) (line : List ℕ) → HasReplyNames reply → line ≡ reply_text reply → is_utf8 line ≡ true → (depth (reply_data reply) ≤ max_depth → read line ≡ Some (reply_data reply))
     → IsReadBack reply line
-reply_back (Done entry) line names utf8 is = tt
-reply_back (Families rows) line names utf8 is = tt
-reply_back (Board board) line names utf8 is = tt
-reply_back (Pair rel) line names utf8 is = tt
-reply_back (Holdings holdings) line names utf8 is = tt
-reply_back (Journal entries) line names utf8 is = λ short. dump_back line entries names utf8 (is (reply_shallow entries)) short
-reply_back (Refused cause) line names utf8 is = tt
+reply_back (Done entry) line names is utf8 reads = tt
+reply_back (Families rows) line names is utf8 reads = tt
+reply_back (Board board) line names is utf8 reads = tt
+reply_back (Pair rel) line names is utf8 reads = tt
+reply_back (Holdings holdings) line names is utf8 reads = tt
+reply_back (Journal entries) line names is utf8 reads = λ short. dump_back line entries names utf8 (reads (reply_shallow entries)) (few_or_short entries line names is short)
+reply_back (Refused cause) line names is utf8 reads = tt

@@ -4,6 +4,7 @@ pub mod Steps
 pub mod Ends
 pub mod Prefixes
 pub mod ReadBack
+pub mod Short
 pub mod DumpBack
 pub mod EntriesBack
 pub mod SessionRun

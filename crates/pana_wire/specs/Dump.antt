@@ -1,5 +1,5 @@
 -- What a line of a dump says: its entries in order, or its first fault.
-use Rattle.std.specs.Prelude.{◌≡◌, ◌≤◌, ℕ, List, length, [], ◌∷◌, Bool, is_some, option_map, option_and_then, Result, Ok, Err}
+use Rattle.std.specs.Prelude.{◌≡◌, ◌≤◌, ◌⊎◌, ℕ, List, length, [], ◌∷◌, Bool, is_some, option_map, option_and_then, Result, Ok, Err}
 use Rattle.std.specs.List.{list_all}
 use Rattle.serde_json.specs.Data.{Data, Items, no_items, item}
 use Rattle.serde_json.specs.Find.{get, as_array, as_object}
@@ -54,7 +54,7 @@ dump_says line = do
   objects ← objects_in object
   entries_in objects
 
--- the text of a Journal reply is read back as its entries, where it has at most 1,048,576 bytes
+-- the text of a Journal reply is read back as its entries, where there are at most 100, or it has at most 1,048,576 bytes
 abbrev pub IsReadBack : Reply → List ℕ → Type 0
-IsReadBack (Journal entries) text = length text ≤ 1048576 → dump_says text ≡ Ok entries
+IsReadBack (Journal entries) text = (length entries ≤ 100) ⊎ (length text ≤ 1048576) → dump_says text ≡ Ok entries
 IsReadBack _ text = Unit {0}

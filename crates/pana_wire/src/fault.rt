@@ -8,7 +8,7 @@ use std::fmt;
 /// Why a line asks nothing: the first of these that holds, in this order.
 #[derive(Clone, Copy, Debug, PartialEq, Eq)]
 pub enum WireFault {
-    /// It has more than 65,536 bytes.
+    /// It has more than 65,536 bytes, or as a line of a dump more than 1,048,576.
     TooLong,
     /// It isn't UTF-8.
     NotUtf8,

@@ -1,5 +1,5 @@
 //! Reports and entries as objects.
-ghost use Rattle.std.specs.Prelude.{◌≡◌, ◌≤◌, true, length, IfOk, OnOk, string_bytes};
+ghost use Rattle.std.specs.Prelude.{◌≡◌, true, IfOk, OnOk, string_bytes};
 ghost use Rattle.std.specs.List.{All};
 ghost use Rattle.serde_json.specs.Data.{string, put};
 ghost use Rattle.serde_json.specs.View.{view, members_view};
@@ -24,8 +24,7 @@ use std::alloc::{AllocError, Global};
 /// It takes memory for the object and for its text, and fails only where that runs out.
 pub fn encode_call(alloc: Global, by: &DeviceName, report: &Report) -> Result<String, AllocError>
     ensures text { IfOk result (λ text. string_bytes text ≡ report_text by.now report.now) }
-    ensures back { IfOk result (λ text. length (string_bytes text) ≤ 65536
-        → line_says (string_bytes text) ≡ Ok (record { by = by.now; call = Call.Report report.now })) }
+    ensures back { IfOk result (λ text. line_says (string_bytes text) ≡ Ok (record { by = by.now; call = Call.Report report.now })) }
 {
     let value = report_value(alloc, by, report)?;
     value.to_string(alloc)

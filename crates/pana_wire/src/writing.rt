@@ -9,8 +9,9 @@ use pana_hall::{BoardRow, BoardView, Cause, FamilyRow, Holding, Reply};
 use serde_json::{Value, json};
 use std::alloc::{AllocError, Global};
 
-/// The line that answers a call with this reply: an object in JSON with no blank, its names in byte order. `decode_dump` reads
-/// the line of a `Journal` back as its entries, where the line has at most 1,048,576 bytes.
+/// The line that answers a call with this reply: an object in JSON with no blank, its names in byte order. `decode_dump`
+/// reads the line of a `Journal` back as its entries, where there are at most 100, as a hall returns, or the line has at
+/// most 1,048,576 bytes.
 ///
 /// It takes memory for the object and for its text, and fails only where that runs out.
 pub fn encode(alloc: Global, reply: &Reply) -> Result<String, AllocError>

@@ -9,6 +9,7 @@ use Rattle.serde_json.specs.Written.{has_float, compact_text}
 use Rattle.pana_wire.specs.Reply.{reply_text}
 use Rattle.pana_wire.proofs.EntriesBack.{reply_back}
 use Rattle.pana_wire.proofs.Whole.{reply_whole}
+use Rattle.pana_wire.proofs.Short.{IfOk-both}
 use Rattle.pana_wire.proofs.writing.encode.Goals as goal
 
 pub returns-clause-text : goal.returns-clause-text
@@ -20,8 +21,9 @@ returns-clause-text c =
 pub returns-clause-back : goal.returns-clause-back
 returns-clause-back c =
     let value = c.in_ok-value.ensures.value in
-    IfOk-weaker c.to_string.result _ _
-    (λ text reads. reply_back c.args.reply.now (string_bytes text) c.in_ok-value.ensures.names
+    IfOk-both c.to_string.result _ _ _
+    (λ text reads is. reply_back c.args.reply.now (string_bytes text) c.in_ok-value.ensures.names is
     (is_utf8-from_IsUtf8 _ (IsUtf8-string_bytes text))
     (λ shallow. reads (subst (λ d. depth d ≤ max_depth) (sym value) shallow) ∙ ap (λ d. Some d) value))
     c.to_string.ensures.reads_back
+    (returns-clause-text c)
