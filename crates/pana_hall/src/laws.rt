@@ -10,10 +10,10 @@ ghost use Rattle.pana_journal.specs.declared.report.Report.TheVariants.{Confirm,
 ghost use Rattle.pana_journal.specs.declared.entry.Entry.{Entry};
 ghost use Rattle.pana_journal.specs.Entries.{entry_at};
 ghost use Rattle.pana_hall.specs.Updates.{has};
-ghost use Rattle.pana_hall.specs.Family.{families, is_family, is_register, subject};
-ghost use Rattle.pana_hall.specs.Effective.{is_of_copies};
-ghost use Rattle.pana_hall.specs.Living.{Copy, copy_in, known_to, living};
-ghost use Rattle.pana_hall.specs.Pending.{pending, pend, is_last};
+ghost use Rattle.pana_hall.specs.Family.{entries_of, families, is_family, is_register, subject};
+ghost use Rattle.pana_hall.specs.Effective.{effective, is_of_copies, left_out};
+ghost use Rattle.pana_hall.specs.Living.{Copy, copies_of, copy_in, known_to, living};
+ghost use Rattle.pana_hall.specs.Pending.{is_last, last, pend, pending};
 ghost use Rattle.pana_hall.specs.Board.{board_of, is_of};
 ghost use Rattle.pana_hall.specs.Queries.{begun, family_row, holding, holdings};
 ghost use Rattle.pana_hall.specs.Refusal.{brought_back, displaced};
@@ -46,6 +46,12 @@ pub fn accepted_are_those_of_runs()
 /// The entries of a hall's journal load: nothing but memory stops them.
 pub fn own_entries_load()
     ensures { (entries : List Entry) (fault : LoadFault) → IsAccepted 8 entries → IsLoadFault entries fault → fault.cause ≡ Refused OutOfMemory }
+{}
+
+/// A family's tables are what its own entries make, the others left out.
+pub fn own_entries_make_the_tables()
+    ensures { (journal : List Entry) (k family : ℕ) → IsAccepted 8 journal
+        → table 8 k family journal ≡ copies_of (left_out (last k (pending 8 family journal)) (entries_of family (families journal) (effective journal))) }
 {}
 
 /// A report of copies changes its family's table as it says. With one pending entry more left out, the table is the

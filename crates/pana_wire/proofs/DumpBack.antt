@@ -1,15 +1,15 @@
 -- How a dump is read: the list of its objects, and one entry after another.
-use Rattle.std.proofs.Common.{◌≡◌, ℕ, ◌+◌, ◌<◌, Bool, true, false, List, [], ◌∷◌, ◌++◌, length, get_or, map, take, drop, is_some, Option, Some, Result, Ok, Err, option_and_then, refl, sym, ap, ◌∙◌}
+use Rattle.std.proofs.Common.{◌≡◌, ℕ, ◌+◌, ◌<◌, true, false, List, [], ◌∷◌, ◌++◌, length, get_or, map, take, drop, Some, Result, Ok, Err, option_and_then, refl, sym, ap, ◌∙◌}
 use Rattle.std.proofs.lemmas.List.{take-append-drop, map-append, drop_more}
-use Rattle.serde_json.specs.Data.{Data, Items}
-use Rattle.serde_json.specs.Find.{get, as_array, as_object}
+use Rattle.serde_json.specs.Data.{Data}
+use Rattle.serde_json.specs.Find.{get, as_array}
 use Rattle.serde_json.specs.View.{items_of}
 use Rattle.pana_journal.specs.declared.entry.Entry.{Entry}
 use Rattle.pana_wire.specs.declared.field.Field.TheVariants as fields
 use Rattle.pana_wire.specs.declared.fault.WireFault.{WireFault}
 use Rattle.pana_wire.specs.declared.fault.WireFault.TheVariants.{TooLong, NotUtf8, NotJson, NotObject, BadField, OutOfMemory}
 use Rattle.pana_wire.specs.Field.{field_name}
-use Rattle.pana_wire.specs.Line.{◌>>=◌, found, when, Fails}
+use Rattle.pana_wire.specs.Line.{◌>>=◌, Fails}
 use Rattle.pana_wire.specs.Dump.{listed, are_objects, objects_in, entry_in, entries_in}
 
 pub listed_items : (ds : List Data) → listed (items_of ds) ≡ ds

@@ -1,10 +1,10 @@
 -- The line of a Journal reply is read back as its entries.
-use Rattle.std.proofs.Common.{◌≡◌, ℕ, ◌≤◌, true, false, List, [], ◌∷◌, length, map, nat_lt, codes, Option, Some, None, Ok, ◌⊎◌, inl, inr, refl, sym, ap, subst, ◌∙◌, arith}
+use Rattle.std.proofs.Common.{◌≡◌, ℕ, ◌≤◌, true, false, List, [], ◌∷◌, length, map, nat_lt, Some, None, Ok, ◌⊎◌, inl, inr, refl, sym, subst, arith}
 use Rattle.std.specs.List.{All}
 use Rattle.std.specs.Str.{is_utf8}
 use Rattle.std.proofs.lemmas.Bool.{le-ltb}
 use Rattle.std.proofs.lemmas.List.Elements.{All-head, All-tail}
-use Rattle.serde_json.specs.Data.{Data, object, member, no_members, put, depth, items_depth}
+use Rattle.serde_json.specs.Data.{Data, object, no_members, put, depth, items_depth}
 use Rattle.serde_json.specs.Read.{read, max_depth}
 use Rattle.serde_json.specs.View.{items_of}
 use Rattle.pana_copies.specs.Names.{is_device}
@@ -17,7 +17,7 @@ use Rattle.pana_wire.specs.declared.field.Field.TheVariants as fields
 use Rattle.pana_wire.specs.Field.{field_name}
 use Rattle.pana_wire.specs.Word.{word_of}
 use Rattle.pana_wire.specs.Line.{device_in, path_in, number_in, heir_in, place_in, word_in, report_in, object_in, data_in}
-use Rattle.pana_wire.specs.Dump.{are_objects, objects_in, entry_in, entries_in, dump_says, IsReadBack}
+use Rattle.pana_wire.specs.Dump.{are_objects, entry_in, entries_in, dump_says, IsReadBack}
 use Rattle.pana_wire.specs.Report.{number_data, put_report, entry_data}
 use Rattle.pana_wire.specs.Reply.{entries_data, reply_data, reply_text}
 use Rattle.pana_wire.specs.inner.Names.{HasNames, HasEntryNames, HasReplyNames}

@@ -1,11 +1,11 @@
 -- The line of a report is read back as the report.
-use Rattle.std.specs.Prelude.{◌≡◌, ℕ, ◌≤◌, true, false, List, length, nat_lt, Option, Some, None, Ok}
+use Rattle.std.specs.Prelude.{◌≡◌, ℕ, ◌≤◌, true, false, List, length, nat_lt, Some, None, Ok}
 use Rattle.std.proofs.Common.{refl, arith}
 use Rattle.std.specs.Str.{is_utf8}
 use Rattle.std.proofs.lemmas.Bool.{le-ltb}
-use Rattle.serde_json.specs.Data.{Data, depth}
+use Rattle.serde_json.specs.Data.{depth}
 use Rattle.serde_json.specs.Read.{read, max_depth}
-use Rattle.pana_copies.specs.Names.{is_device, is_path}
+use Rattle.pana_copies.specs.Names.{is_device}
 use Rattle.pana_journal.specs.declared.report.Report.{Report}
 use Rattle.pana_journal.specs.declared.report.Report.TheVariants.{Register, Duplicate, Edit, Reconcile, Merge, Relocate, Remove, Confirm, Withdraw}
 use Rattle.pana_hall.specs.declared.call.Call.TheVariants as calls

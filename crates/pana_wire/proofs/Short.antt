@@ -1,17 +1,17 @@
 -- The text of a report, and that of 100 entries, is short enough to be read back.
-use Rattle.std.proofs.Common.{◌≡◌, ℕ, zero, suc, ◌+◌, ◌*◌, ◌≤◌, ◌==◌, ◌&&◌, ◌/◌, ◌%◌, Bool, true, false, cond, if◌then◌else◌, List, [], ◌∷◌, ◌++◌, length, map, nat_le, nat_lt, Option, Some, None, Result, Ok, Err, refl, arith}
+use Rattle.std.proofs.Common.{◌≡◌, ℕ, zero, suc, ◌+◌, ◌*◌, ◌≤◌, ◌==◌, ◌&&◌, ◌/◌, ◌%◌, Bool, true, false, cond, if◌then◌else◌, List, [], ◌∷◌, ◌++◌, length, map, nat_le, nat_lt, Some, None, Result, Ok, Err, refl, arith}
 use Rattle.std.specs.Result.{IfOk}
 use Rattle.std.specs.Char.{digit_char}
-use Rattle.std.specs.List.{All, list_all}
+use Rattle.std.specs.List.{All}
 use Rattle.std.specs.Fmt.{decimal, digits, digits_onto, digit_glyph}
 use Rattle.std.proofs.lemmas.Bool.{leb-true}
 use Rattle.std.proofs.lemmas.List.{length-append}
 use Rattle.std.proofs.lemmas.List.Elements.{All-head, All-tail}
 use Rattle.json.specs.Print.{escape, escape_byte, escape_letter, quoted}
-use Rattle.serde_json.specs.Data.{Num, unsigned, negative, float, Data, null, boolean, number, string, array, object, Items, no_items, item, Members, no_members, member, put}
+use Rattle.serde_json.specs.Data.{unsigned, negative, float, Data, null, boolean, number, string, array, object, Items, no_items, item, Members, no_members, member, put}
 use Rattle.serde_json.specs.View.{items_of}
 use Rattle.serde_json.specs.Written.{compact_text, items_text, members_text, comma_if, number_text}
-use Rattle.pana_copies.specs.Names.{is_device, is_path, is_device_byte, is_path_byte}
+use Rattle.pana_copies.specs.Names.{is_device, is_path}
 use Rattle.pana_journal.specs.declared.entry.Entry.{Entry}
 use Rattle.pana_journal.specs.declared.report.Report.{Report}
 use Rattle.pana_journal.specs.declared.report.Report.TheVariants as reports
@@ -100,9 +100,16 @@ mutual
   members_fit : (later : Bool) (ms : Members) → length (members_text later ms) ≤ members_size ms
   members_fit later no_members = omega arith
   members_fit later (member k d ms) =
-      omega (arith, length-append (comma_if later) (quoted k ++ 58 ∷ (compact_text d ++ members_text true ms)), comma_short later,
-      length-append (quoted k) (58 ∷ (compact_text d ++ members_text true ms)), quoted_short k,
-      length-append (compact_text d) (members_text true ms), fits d, members_fit true ms)
+      omega (
+        arith,
+        length-append (comma_if later) (quoted k ++ 58 ∷ (compact_text d ++ members_text true ms)),
+        comma_short later,
+        length-append (quoted k) (58 ∷ (compact_text d ++ members_text true ms)),
+        quoted_short k,
+        length-append (compact_text d) (members_text true ms),
+        fits d,
+        members_fit true ms,
+      )
 
 middle : (a b c : Bool) → (a && b && c) ≡ true → b ≡ true
 middle true true c is = refl

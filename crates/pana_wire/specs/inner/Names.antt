@@ -1,5 +1,5 @@
 -- That the names in reports, entries and replies are names of devices and paths, as those of a program are by their types.
-use Rattle.std.specs.Prelude.{◌≡◌, ℕ, true, List}
+use Rattle.std.specs.Prelude.{◌≡◌, true}
 use Rattle.std.specs.List.{All}
 use Rattle.pana_copies.specs.Names.{is_device, is_path}
 use Rattle.pana_copies.specs.declared.place.Place.{Place}

@@ -4,7 +4,6 @@ use Rattle.std.specs.Str.{is_utf8}
 use Rattle.std.proofs.lemmas.Bool.{false_from_ne_true}
 use Rattle.std.proofs.lemmas.Grind.{common_steps}
 use Rattle.std.proofs.lemmas.Str.{is_utf8-from_IsUtf8, IsUtf8-from_is_utf8}
-use Rattle.pana_wire.specs.Line.{text_within}
 use Rattle.pana_wire.proofs.reading.text_within.Goals as goal
 
 pub returns-in-Ok : goal.returns-in-Ok
