@@ -2,4 +2,6 @@
 
 mod calls;
 mod comparing;
+mod dumps;
 mod sessions;
+mod talk;

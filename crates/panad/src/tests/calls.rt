@@ -1,5 +1,6 @@
 //! Each call of the lower crates that takes memory, once, with memory there.
 
+use super::talk::answer;
 use pana_copies::{CopyPath, DeviceName, Place};
 use pana_hall::{Call, Hall, Query, Reply};
 use pana_journal::{Entry, Journal, JournalFault, Report};
@@ -37,6 +38,22 @@ fn copies_of_entries(rt: HostRuntime) -> Result<(), Fail> {
             place: place(rt.alloc(), "usb", "b")?
         },
         Report::Edit { copy: 8 },
+        Report::Reconcile { a: 1, b: 2 },
+        Report::Merge { a: 3, b: 4 },
+        Report::Relocate {
+            copy: 5,
+            place: place(rt.alloc(), "usb", "c")?
+        },
+        Report::Remove {
+            copy: 6,
+            heir: Some(7)
+        },
+        Report::Remove {
+            copy: 6,
+            heir: None
+        },
+        Report::Confirm { entry: 10 },
+        Report::Withdraw { entry: 11 },
     ]?;
     for report in &reports {
         let by = DeviceName::new(rt.alloc(), "desk")?;
@@ -62,6 +79,93 @@ fn full_journal(rt: HostRuntime) -> Result<(), Fail> {
     assert_eq!(rt; journal.length(), 1_000_000);
     assert!(rt; journal.is_full());
     assert_eq!(rt; journal.reserve_one(), Err(JournalFault::JournalFull));
+    Ok(())
+}
+
+#[test]
+fn pages_of_a_journal(rt: HostRuntime) -> Result<(), Fail> {
+    let by = DeviceName::new(rt.alloc(), "desk")?;
+    let mut journal = Journal::new(rt.alloc());
+    for _ in 0..250 {
+        journal.reserve_one()?;
+        let _ = journal.append(by.copy_of()?, Report::Edit { copy: 1 });
+    }
+    let rows = [
+        (0, 100, Some(1)),
+        (1, 100, Some(1)),
+        (151, 100, Some(151)),
+        (152, 99, Some(152)),
+        (250, 1, Some(250)),
+        (251, 0, None),
+        (u64::MAX, 0, None),
+    ];
+    for (from, length, first) in rows {
+        let page = journal.slice(from)?;
+        assert_eq!(rt; page.as_slice().len(), length, "from {from}");
+        assert_eq!(rt;
+            page.as_slice().first().map(|entry| entry.number),
+            first,
+            "from {from}"
+        );
+    }
+    Ok(())
+}
+
+#[test]
+fn each_call_is_answered(rt: HostRuntime) -> Result<(), Fail> {
+    let alloc = rt.alloc();
+    let mut hall = Hall::new(alloc)?;
+    let rows = [
+        (
+            "\"do\":\"register\",\"device\":\"laptop\",\"path\":\"a\"",
+            "{\"done\":1}",
+        ),
+        (
+            "\"do\":\"duplicate\",\"copy\":1,\"device\":\"usb\",\"path\":\"a\"",
+            "{\"done\":2}",
+        ),
+        ("\"do\":\"edit\",\"copy\":1", "{\"done\":3}"),
+        ("\"do\":\"edit\",\"copy\":2", "{\"done\":4}"),
+        ("\"do\":\"pair\",\"a\":1,\"b\":2", "{\"pair\":\"Conflict\"}"),
+        (
+            "\"do\":\"families\"",
+            "{\"families\":[{\"copies\":2,\"family\":1,\"newest\":2,\"split\":true}]}",
+        ),
+        ("\"do\":\"merge\",\"a\":1,\"b\":2", "{\"done\":5}"),
+        ("\"do\":\"pair\",\"a\":1,\"b\":2", "{\"pair\":\"Equal\"}"),
+        ("\"do\":\"withdraw\",\"entry\":5", "{\"done\":6}"),
+        ("\"do\":\"reconcile\",\"a\":1,\"b\":2", "{\"done\":7}"),
+        ("\"do\":\"confirm\",\"entry\":7", "{\"done\":8}"),
+        (
+            "\"do\":\"relocate\",\"copy\":2,\"device\":\"usb\",\"path\":\"b\"",
+            "{\"done\":9}",
+        ),
+        (
+            "\"do\":\"holdings\",\"device\":\"usb\"",
+            "{\"holdings\":[{\"copy\":2,\"family\":1,\"path\":\"b\",\"touch\":9}]}",
+        ),
+        ("\"do\":\"remove\",\"copy\":1,\"heir\":2", "{\"done\":10}"),
+        (
+            "\"do\":\"board\",\"family\":1",
+            "{\"board\":{\"copies\":[{\"conflict\":0,\"copy\":2,\"device\":\"usb\",\"equal\":0,\"newer\":0,\"older\":0,\"path\":\"b\"}],\"family\":1,\"newest\":[2],\"split\":false}}",
+        ),
+        (
+            "\"do\":\"journal\",\"from\":10",
+            "{\"entries\":[{\"by\":\"laptop\",\"copy\":1,\"do\":\"remove\",\"heir\":2,\"number\":10}]}",
+        ),
+        (
+            "\"do\":\"edit\",\"copy\":1",
+            "{\"code\":2,\"copy\":1,\"refused\":\"UnknownCopy\"}",
+        ),
+    ];
+    for (asked, said) in rows {
+        let line = format!(in alloc; "{{\"by\":\"laptop\",{asked}}}")?;
+        assert_eq!(rt;
+            answer(alloc, &mut hall, line.as_str())?.as_str(),
+            said,
+            "{line}"
+        );
+    }
     Ok(())
 }
 
