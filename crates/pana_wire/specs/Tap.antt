@@ -35,6 +35,11 @@ write_failed (Err e) bytes = true
 abbrev pub MadeReads : {T : Type 0} → ℕ → Tap T → Tap T → Type 0
 MadeReads n old new = new.reads ≡ max old.reads (min (old.reads + n) (2 ^ 64 - 1))
 
+-- nothing was read through the tap
+pub record IsUnread {T : Type 0} (old new : Tap T) : Type 0 where
+  pub ended : has_ended new ≡ has_ended old
+  pub reads : MadeReads 0 old new
+
 -- no more reads than this were made through the tap
 abbrev pub MadeAtMost : {T : Type 0} → ℕ → Tap T → Tap T → Type 0
 MadeAtMost most old new = (made : ℕ) × (made ≤ most) × MadeReads made old new

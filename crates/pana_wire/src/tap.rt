@@ -85,13 +85,14 @@ impl<R: Read> Tap<R> {
 }
 
 impl<W: Write> Tap<W> {
-    ghost use Rattle.pana_wire.specs.Tap.{inside, has_failed, write_failed};
+    ghost use Rattle.pana_wire.specs.Tap.{inside, has_failed, write_failed, IsUnread};
 
     /// Writes some of the bytes, as the writer does.
     pub fn write(&mut self, bytes: &[u8]) -> io::Result<usize>
         ensures bound { WritesAtMost result bytes.now }
         ensures bytes { WriteAppends (W.contents (inside self.old)) (W.contents (inside self.new)) result bytes.now }
         ensures failed { has_failed self.new ≡ (has_failed self.old || write_failed result bytes.now) }
+        ensures unread { IsUnread self.old self.new }
     {
         let result = self.inner.write(bytes);
         match &result {
@@ -106,6 +107,7 @@ impl<W: Write> Tap<W> {
     pub fn flush(&mut self) -> io::Result<()>
         ensures bytes { Keeps (W.contents (inside self.old)) (W.contents (inside self.new)) }
         ensures failed { has_failed self.new ≡ (has_failed self.old || is_err result) }
+        ensures unread { IsUnread self.old self.new }
     {
         let result = self.inner.flush();
         if result.is_err() {
