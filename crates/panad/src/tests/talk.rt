@@ -12,7 +12,7 @@ pub fn answer(alloc: Global, hall: &mut Hall, line: &str) -> Result<String, Fail
     Ok(encode(alloc, &reply)?)
 }
 
-/// A hall that was told these lines, each of which it has done.
+/// A new hall that has done these lines.
 pub fn hall_of(alloc: Global, lines: &[&str]) -> Result<Hall, Fail> {
     let mut hall = Hall::new(alloc)?;
     for line in lines {
