@@ -12,6 +12,7 @@ pub mod Limits
 pub mod Runs
 pub mod Begun
 pub mod Seen
+pub mod OwnPaths
 pub mod Sorted
 pub mod Relations
 pub mod Chosen

@@ -6,6 +6,7 @@ pub mod Effective
 pub mod Living
 pub mod Pending
 pub mod Board
+pub mod Holdings
 pub mod Queries
 pub mod Refusal
 pub mod Permit

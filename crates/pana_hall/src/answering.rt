@@ -4,6 +4,7 @@ ghost use Rattle.std.specs.List.{list_any};
 ghost use Rattle.std.specs.Str.{bytes_eq};
 ghost use Rattle.pana_hall.specs.Family.{is_register};
 ghost use Rattle.pana_hall.specs.Board.{is_of, newest, has_conflict};
+ghost use Rattle.pana_hall.specs.Accepted.{IsAccepted};
 ghost use Rattle.pana_hall.specs.Living.{copy_in, living};
 ghost use Rattle.pana_hall.specs.Queries.{begun, family_row, family_rows, holding, holdings, pair_of};
 ghost use Rattle.pana_hall.specs.Refusal.{query_refusal};
@@ -14,7 +15,7 @@ use crate::call::{Call, Query};
 use crate::cause::Cause;
 use crate::copies::Copies;
 use crate::family_row::FamilyRow;
-use crate::holding::Holding;
+use crate::holding::{Holding, HoldingList};
 use crate::living_copy::LivingCopy;
 use crate::relation::relation;
 use crate::reply::Reply;
@@ -123,6 +124,7 @@ pub fn answer(
     copies: &Copies,
     query: Query,
 ) -> Result<Reply, AllocError>
+    requires accepted { IsAccepted 8 journal.now.entries }
     requires kept { copies.now ≡ living journal.now.entries }
     requires free { query_refusal journal.now.entries copies.now query ≡ None }
     ensures ok { IfOk result (λ reply. Answers journal.now.entries query reply) }
@@ -137,7 +139,7 @@ pub fn answer(
         Query::Pair { a, b } => Ok(Reply::Pair(pair_of(copies, a, b))),
         Query::Holdings { device } => {
             let made = holdings(alloc, copies.as_slice(), &device)?;
-            Ok(Reply::Holdings(PlainList::from_vec(made)))
+            Ok(Reply::Holdings(HoldingList::from_vec(made)))
         }
         Query::JournalFrom { entry } => Ok(Reply::Journal(journal.slice(entry)?)),
     }

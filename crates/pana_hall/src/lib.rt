@@ -27,6 +27,6 @@ pub use crate::call::{Call, Query};
 pub use crate::cause::Cause;
 pub use crate::family_row::FamilyRow;
 pub use crate::hall::Hall;
-pub use crate::holding::Holding;
+pub use crate::holding::{Holding, HoldingList};
 pub use crate::loading::{LoadCause, LoadFault};
 pub use crate::reply::{Reply, Spent};

@@ -1,7 +1,7 @@
 use crate::board::BoardView;
 use crate::cause::Cause;
 use crate::family_row::FamilyRow;
-use crate::holding::Holding;
+use crate::holding::HoldingList;
 use pana_event::Rel;
 use pana_journal::EntryList;
 use pana_list::PlainList;
@@ -20,7 +20,7 @@ pub enum Reply {
     /// How the first copy relates to the second.
     Pair(Rel),
     /// The living copies on the device, by rising number.
-    Holdings(PlainList<Holding>),
+    Holdings(HoldingList),
     /// Entries of the journal.
     Journal(EntryList),
     /// The call was refused, and changed nothing.

@@ -1,7 +1,7 @@
 use crate::{Field, Message, WireFault, decode, decode_dump, encode, encode_call};
 use pana_copies::{CopyPath, DeviceName, NameFault, Place};
 use pana_event::Rel;
-use pana_hall::{BoardRow, BoardView, Call, Cause, FamilyRow, Holding, Query, Reply};
+use pana_hall::{BoardRow, BoardView, Call, Cause, FamilyRow, Holding, HoldingList, Query, Reply};
 use pana_journal::{Entry, EntryList, Report};
 use pana_list::PlainList;
 use std::alloc::Global;
@@ -298,7 +298,7 @@ fn each_reply_is_written(rt: HostRuntime) -> Result<(), Fail> {
         ),
         (Reply::Pair(Rel::Older), "{\"pair\":\"Older\"}"),
         (
-            Reply::Holdings(PlainList::from_vec(vec![in alloc;
+            Reply::Holdings(HoldingList::from_vec(vec![in alloc;
                 Holding {
                     copy: 2,
                     family: 1,
