@@ -14,6 +14,11 @@ def board(copies, newest):
     answer({"board": {"copies": copies, "family": 1, "newest": newest, "split": False}})
 
 
+def families():
+    first = {"copies": 256, "family": 1, "newest": 1, "split": False}
+    answer({"families": [first, {"copies": 2, "family": 258, "newest": 2, "split": False}]})
+
+
 for number in range(1, 257):
     answer({"done": number})
 answer({"code": 7, "refused": "FamilyFull"})
@@ -26,3 +31,14 @@ for number in (257, 258, 259):
     answer({"done": number})
 answer({"code": 6, "copy": 258, "refused": "PlaceTaken"})
 board([row(1, older=255)] + [row(it, equal=254, newer=1) for it in range(2, 257)], [1])
+families()
+answer({"done": 260})
+answer({"done": 261})
+answer({"code": 7, "refused": "FamilyFull"})
+answer({"code": 12, "refused": "Settled"})
+answer({"done": 262})
+answer({"done": 263})
+answer({"code": 7, "refused": "FamilyFull"})
+answer({"done": 264})
+families()
+answer({"pair": "Equal"})
