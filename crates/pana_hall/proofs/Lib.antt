@@ -14,6 +14,7 @@ pub mod Begun
 pub mod Seen
 pub mod OwnPaths
 pub mod Sorted
+pub mod Unions
 pub mod Relations
 pub mod Chosen
 pub mod Undone

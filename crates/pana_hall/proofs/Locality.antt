@@ -10,6 +10,7 @@ use Rattle.pana_copies.specs.declared.place.Place.{Place}
 use Rattle.pana_journal.specs.declared.report.Report.{Report}
 use Rattle.pana_journal.specs.declared.report.Report.TheVariants.{Register, Duplicate, Edit, Reconcile, Merge, Relocate, Remove, Confirm, Withdraw}
 use Rattle.pana_journal.specs.declared.entry.Entry.{Entry}
+use Rattle.pana_hall.specs.Updates.{union}
 use Rattle.pana_hall.specs.Family.{entries_of}
 use Rattle.pana_hall.specs.Living.{Copy, copy_in, known_to, change, without, registered, duplicated, with_updates, edited, moved, after_report, after_entry, copies_of}
 use Rattle.pana_hall.specs.Board.{is_of}
@@ -168,14 +169,14 @@ entry-here of last family n (Reconcile a b) copies fits belongs here =
     let first = known_to-family of last family a copies fits (belongs.0.family ∙ here) in
     let second = known_to-family of last family b copies fits (belongs.1.family ∙ here) in
     change-family family b _ (λ c. refl) _
-    ∙ ap (change b (with_updates n (known_to copies a ++ known_to copies b))) (change-family family a _ (λ c. refl) copies)
-    ∙ ap (λ l. change b (with_updates n l) (change a (with_updates n l) (filter (is_of family) copies))) (ap (λ l. l ++ known_to copies b) (sym first) ∙ ap (λ l. known_to (filter (is_of family) copies) a ++ l) (sym second))
+    ∙ ap (change b (with_updates n (union (known_to copies a) (known_to copies b)))) (change-family family a _ (λ c. refl) copies)
+    ∙ ap (λ l. change b (with_updates n l) (change a (with_updates n l) (filter (is_of family) copies))) (ap (λ l. union l (known_to copies b)) (sym first) ∙ ap (union (known_to (filter (is_of family) copies) a)) (sym second))
 entry-here of last family n (Merge a b) copies fits belongs here =
     let first = known_to-family of last family a copies fits (belongs.0.family ∙ here) in
     let second = known_to-family of last family b copies fits (belongs.1.family ∙ here) in
     change-family family b _ (λ c. refl) _
-    ∙ ap (change b (with_updates n (n ∷ known_to copies a ++ known_to copies b))) (change-family family a _ (λ c. refl) copies)
-    ∙ ap (λ l. change b (with_updates n (n ∷ l)) (change a (with_updates n (n ∷ l)) (filter (is_of family) copies))) (ap (λ l. l ++ known_to copies b) (sym first) ∙ ap (λ l. known_to (filter (is_of family) copies) a ++ l) (sym second))
+    ∙ ap (change b (with_updates n (union (n ∷ known_to copies a) (known_to copies b)))) (change-family family a _ (λ c. refl) copies)
+    ∙ ap (λ l. change b (with_updates n l) (change a (with_updates n l) (filter (is_of family) copies))) (ap (λ l. union (n ∷ l) (known_to copies b)) (sym first) ∙ ap (union (n ∷ known_to (filter (is_of family) copies) a)) (sym second))
 entry-here of last family n (Relocate copy place) copies fits belongs here = change-family family copy _ (λ c. refl) copies
 entry-here of last family n (Remove copy heir) copies fits belongs here = filter_swap (is_of family) _ copies
 entry-here of last family n (Confirm entry) copies fits belongs here = refl

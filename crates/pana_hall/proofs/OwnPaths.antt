@@ -25,11 +25,11 @@ paths_apart : (place : Place) (device : List ℕ) (copies : List Copy) → place
 paths_apart place device [] on apart = tt
 paths_apart place device (copy ∷ copies) on apart =
     elim (bytes_eq copy.place.device device) as (λ b. bytes_eq copy.place.device device ≡ b
-        → AllByRecursion (λ other. place.path ≢ other.path) (map holding (cond b (copy ∷ on_device device copies) (on_device device copies)))) [
+    → AllByRecursion (λ other. place.path ≢ other.path) (map holding (cond b (copy ∷ on_device device copies) (on_device device copies)))) [
       | true ↦ λ e. (
-          (λ same. apart.0 (one_place place copy.place (on ∙ sym ((bytes_eq-Decides copy.place.device device).0 e)) same)),
-          paths_apart place device copies on apart.1,
-        )
+        (λ same. apart.0 (one_place place copy.place (on ∙ sym ((bytes_eq-Decides copy.place.device device).0 e)) same)),
+        paths_apart place device copies on apart.1,
+      )
       | false ↦ λ e. paths_apart place device copies on apart.1
     ] refl
 
@@ -37,7 +37,7 @@ own_paths : (device : List ℕ) (copies : List Copy) → AreApart copies → Hav
 own_paths device [] apart = tt
 own_paths device (copy ∷ copies) apart =
     elim (bytes_eq copy.place.device device) as (λ b. bytes_eq copy.place.device device ≡ b
-        → HaveOwnPaths (map holding (cond b (copy ∷ on_device device copies) (on_device device copies)))) [
+    → HaveOwnPaths (map holding (cond b (copy ∷ on_device device copies) (on_device device copies)))) [
       | true ↦ λ e. (paths_apart copy.place device copies ((bytes_eq-Decides copy.place.device device).0 e) apart.0, own_paths device copies apart.1)
       | false ↦ λ e. own_paths device copies apart.1
     ] refl

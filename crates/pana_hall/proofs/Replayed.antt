@@ -8,6 +8,7 @@ use Rattle.pana_journal.specs.declared.report.Report.{Report}
 use Rattle.pana_journal.specs.declared.report.Report.TheVariants.{Register, Duplicate, Edit, Reconcile, Merge, Relocate, Remove, Confirm, Withdraw}
 use Rattle.pana_journal.specs.declared.entry.Entry.{Entry}
 use Rattle.pana_hall.specs.Effective.{effective, is_of_copies, is_withdrawn, left_out}
+use Rattle.pana_hall.specs.Updates.{union}
 use Rattle.pana_hall.specs.Living.{Copy, copy_in, change, without, known_to, with_updates, edited, moved, registered, duplicated, after_report}
 use Rattle.pana_hall.specs.Laws.{AreRising}
 use Rattle.pana_hall.specs.inner.Places.{placed, place_after}
@@ -93,10 +94,10 @@ within_report high (Duplicate source place) copies within =
     ]
 within_report high (Edit copy) copies within = within_change 0 (high + 1) copy (edited (high + 1)) (λ c. refl) copies (within_higher 0 high copies within)
 within_report high (Reconcile a b) copies within =
-    let both = known_to copies a ++ known_to copies b in
+    let both = union (known_to copies a) (known_to copies b) in
     within_change 0 (high + 1) b (with_updates (high + 1) both) (λ c. refl) _ (within_change 0 (high + 1) a (with_updates (high + 1) both) (λ c. refl) copies (within_higher 0 high copies within))
 within_report high (Merge a b) copies within =
-    let both = (high + 1) ∷ known_to copies a ++ known_to copies b in
+    let both = union ((high + 1) ∷ known_to copies a) (known_to copies b) in
     within_change 0 (high + 1) b (with_updates (high + 1) both) (λ c. refl) _ (within_change 0 (high + 1) a (with_updates (high + 1) both) (λ c. refl) copies (within_higher 0 high copies within))
 within_report high (Relocate copy place) copies within = within_change 0 (high + 1) copy (moved (high + 1) place) (λ c. refl) copies (within_higher 0 high copies within)
 within_report high (Remove copy heir) copies within = within_without 0 (high + 1) copy copies (within_higher 0 high copies within)

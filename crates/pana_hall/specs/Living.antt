@@ -6,6 +6,7 @@ use Rattle.pana_copies.specs.declared.place.Place.{Place}
 use Rattle.pana_journal.specs.declared.report.Report.{Report}
 use Rattle.pana_journal.specs.declared.report.Report.TheVariants.{Register, Duplicate, Edit, Reconcile, Merge, Relocate, Remove, Confirm, Withdraw}
 use Rattle.pana_journal.specs.declared.entry.Entry.{Entry}
+use Rattle.pana_hall.specs.Updates.{union}
 use Rattle.pana_hall.specs.Effective.{effective}
 
 -- a living copy: the updates are the set of those that it knows, and the touch is the entry that changed it last
@@ -61,8 +62,8 @@ abbrev pub after_report : ℕ → Report → List Copy → List Copy
 after_report n (Register place) copies = copies ++ registered n place ∷ []
 after_report n (Duplicate source place) copies = copies ++ option_to_list (option_map (duplicated n place) (copy_in copies source))
 after_report n (Edit copy) copies = change copy (edited n) copies
-after_report n (Reconcile a b) copies = let both = known_to copies a ++ known_to copies b in change b (with_updates n both) (change a (with_updates n both) copies)
-after_report n (Merge a b) copies = let both = n ∷ known_to copies a ++ known_to copies b in change b (with_updates n both) (change a (with_updates n both) copies)
+after_report n (Reconcile a b) copies = let both = union (known_to copies a) (known_to copies b) in change b (with_updates n both) (change a (with_updates n both) copies)
+after_report n (Merge a b) copies = let both = union (n ∷ known_to copies a) (known_to copies b) in change b (with_updates n both) (change a (with_updates n both) copies)
 after_report n (Relocate copy place) copies = change copy (moved n place) copies
 after_report n (Remove copy heir) copies = without copy copies
 after_report n (Confirm entry) copies = copies

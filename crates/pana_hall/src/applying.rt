@@ -81,7 +81,7 @@ fn reconcile(
 {
     let both = copies
         .known_to(alloc, a)?
-        .union(alloc, &copies.known_to(alloc, b)?)?;
+        .union(&copies.known_to(alloc, b)?)?;
     share(copies, entry, a, b, both)
 }
 
@@ -91,7 +91,7 @@ fn merge(alloc: Global, copies: &mut Copies, entry: u64, a: u64, b: u64) -> Resu
     ensures err { OnErr result (copies.new ≡ copies.old) }
 {
     let first = copies.known_to(alloc, a)?.with(alloc, entry)?;
-    let both = first.union(alloc, &copies.known_to(alloc, b)?)?;
+    let both = first.union(&copies.known_to(alloc, b)?)?;
     share(copies, entry, a, b, both)
 }
 

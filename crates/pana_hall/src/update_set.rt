@@ -1,5 +1,5 @@
-ghost use Rattle.std.specs.Prelude.{◌≡◌, ◌==◌, [], ◌∷◌, ◌++◌, IfOk};
-ghost use Rattle.pana_hall.specs.Updates.{has, is_within};
+ghost use Rattle.std.specs.Prelude.{◌≡◌, ◌==◌, not, [], ◌∷◌, filter, IfOk};
+ghost use Rattle.pana_hall.specs.Updates.{has, is_within, union};
 
 use std::alloc::{AllocError, Global};
 use std::marker::Model;
@@ -28,6 +28,19 @@ fn is_within(inner: &[u64], outer: &[u64]) -> bool
     ensures { result ≡ is_within inner.now outer.now }
 {
     inner.iter().all(|number| has(outer, *number))
+}
+
+/// The numbers of the second list that the first lacks. Fails only where memory runs out.
+fn missing_from(alloc: Global, numbers: &[u64], others: &[u64]) -> Result<Vec<u64>, AllocError>
+    ensures { IfOk result (λ missing. missing.items ≡ filter (λ number. not (has numbers.now number)) others.now) }
+{
+    let mut missing = Vec::new(alloc);
+    for number in others {
+        if !has(numbers, *number) {
+            missing.push(*number)?;
+        }
+    }
+    Ok(missing)
 }
 
 impl UpdateSet {
@@ -59,13 +72,14 @@ impl UpdateSet {
         Ok(UpdateSet { numbers })
     }
 
-    /// The updates of either set. Fails only where memory runs out.
-    pub fn union(&self, alloc: Global, other: &UpdateSet) -> Result<UpdateSet, AllocError>
-        ensures { IfOk result (λ set. set ≡ self.now ++ other.now) }
+    /// The updates of either set, each once where each set has it once. O(n m) for sets of n and m updates. Fails only
+    /// where memory runs out.
+    pub fn union(&self, other: &UpdateSet) -> Result<UpdateSet, AllocError>
+        ensures { IfOk result (λ set. set ≡ union self.now other.now) }
     {
-        let mut numbers = Vec::new(alloc);
-        numbers.extend_from_slice(&self.numbers)?;
-        numbers.extend_from_slice(&other.numbers)?;
+        let mut numbers = self.numbers.clone()?;
+        let missing = missing_from(*self.numbers.allocator(), &self.numbers, &other.numbers)?;
+        numbers.extend_from_slice(&missing)?;
         Ok(UpdateSet { numbers })
     }
 

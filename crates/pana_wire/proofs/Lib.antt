@@ -1,5 +1,6 @@
 pub mod Whole
 pub mod Lines
+pub mod Cut
 pub mod Steps
 pub mod Ends
 pub mod Prefixes

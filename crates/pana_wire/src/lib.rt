@@ -1,6 +1,7 @@
 //! Lines: what a line of bytes asks, the text of each reply, and a session from bytes to bytes.
 #![tactic(auto)]
 
+mod cutting;
 mod dump;
 mod fault;
 mod field;
@@ -19,6 +20,7 @@ mod tests;
 mod word;
 mod writing;
 
+pub use crate::cutting::next_line;
 pub use crate::dump::decode_dump;
 pub use crate::fault::WireFault;
 pub use crate::field::Field;

@@ -1,0 +1,77 @@
+-- The first line of a text ends at its first newline, or is the whole of it.
+use Rattle.std.proofs.Common.{◌≡◌, ℕ, ◌+◌, ◌-◌, ◌<◌, ◌≤◌, suc, ◌==◌, Bool, true, false, cond, not, nat_lt, List, [], ◌∷◌, ◌++◌, length, take, drop, position, Some, None, refl, sym, ap, ◌∙◌, append-nil, arith}
+use Rattle.std.specs.List.{position_or_len}
+use Rattle.std.proofs.lemmas.Bool.{ltb-false, ltb-true}
+use Rattle.std.proofs.lemmas.List.{append_assoc, take_all}
+use Rattle.pana_wire.specs.Lines.{ended, unended, last_line, lines_of}
+
+abbrev newline_at : List ℕ → ℕ
+newline_at text = position_or_len (λ b. b == 10) text
+
+ended_first : (begun text : List ℕ) → newline_at text < length text → ended begun text ≡ (begun ++ take (newline_at text) text) ∷ ended [] (drop (newline_at text + 1) text)
+ended_first begun [] within = absurd (omega arith)
+ended_first begun (b ∷ bs) within =
+    elim (b == 10) as (λ t. cond (not t) (1 + newline_at bs) 0 < suc (length bs)
+        → cond t (begun ∷ ended [] bs) (ended (begun ++ b ∷ []) bs)
+        ≡ (begun ++ take (cond (not t) (1 + newline_at bs) 0) (b ∷ bs)) ∷ ended [] (drop (cond (not t) (1 + newline_at bs) 0 + 1) (b ∷ bs))) [
+      | true ↦ λ h. ap (λ l. l ∷ ended [] bs) (sym (append-nil begun))
+      | false ↦ λ h. ended_first (begun ++ b ∷ []) bs (omega arith) ∙ ap (λ l. l ∷ ended [] (drop (newline_at bs + 1) bs)) (append_assoc begun (b ∷ []) (take (newline_at bs) bs))
+    ] within
+
+unended_first : (begun text : List ℕ) → newline_at text < length text → unended begun text ≡ unended [] (drop (newline_at text + 1) text)
+unended_first begun [] within = absurd (omega arith)
+unended_first begun (b ∷ bs) within =
+    elim (b == 10) as (λ t. cond (not t) (1 + newline_at bs) 0 < suc (length bs)
+        → cond t (unended [] bs) (unended (begun ++ b ∷ []) bs) ≡ unended [] (drop (cond (not t) (1 + newline_at bs) 0 + 1) (b ∷ bs))) [
+      | true ↦ λ h. refl
+      | false ↦ λ h. unended_first (begun ++ b ∷ []) bs (omega arith)
+    ] within
+
+ended_none : (begun text : List ℕ) → length text ≤ newline_at text → ended begun text ≡ []
+ended_none begun [] beyond = refl
+ended_none begun (b ∷ bs) beyond =
+    elim (b == 10) as (λ t. suc (length bs) ≤ cond (not t) (1 + newline_at bs) 0 → cond t (begun ∷ ended [] bs) (ended (begun ++ b ∷ []) bs) ≡ []) [
+      | true ↦ λ h. absurd (omega arith)
+      | false ↦ λ h. ended_none (begun ++ b ∷ []) bs (omega arith)
+    ] beyond
+
+unended_none : (begun text : List ℕ) → length text ≤ newline_at text → unended begun text ≡ begun ++ text
+unended_none begun [] beyond = sym (append-nil begun)
+unended_none begun (b ∷ bs) beyond =
+    elim (b == 10) as (λ t. suc (length bs) ≤ cond (not t) (1 + newline_at bs) 0 → cond t (unended [] bs) (unended (begun ++ b ∷ []) bs) ≡ begun ++ b ∷ bs) [
+      | true ↦ λ h. absurd (omega arith)
+      | false ↦ λ h. unended_none (begun ++ b ∷ []) bs (omega arith) ∙ append_assoc begun (b ∷ []) bs
+    ] beyond
+
+-- a newline that is found
+pub found_within : (text : List ℕ) (i : ℕ) → position (λ b. b == 10) text ≡ Some i → (i ≡ newline_at text) × (newline_at text < length text)
+found_within text i found =
+    elim (nat_lt (newline_at text) (length text)) as (λ b. nat_lt (newline_at text) (length text) ≡ b → cond b (Some (newline_at text)) None ≡ Some i
+    → (i ≡ newline_at text) × (newline_at text < length text)) [
+      | true ↦ λ e h. (cc, ltb-true (newline_at text) (length text) e)
+      | false ↦ λ e h. absurd (cc)
+    ] refl found
+
+found_none : (text : List ℕ) → position (λ b. b == 10) text ≡ None → length text ≤ newline_at text
+found_none text found =
+    elim (nat_lt (newline_at text) (length text)) as (λ b. nat_lt (newline_at text) (length text) ≡ b → cond b (Some (newline_at text)) None ≡ None → length text ≤ newline_at text) [
+      | true ↦ λ e h. absurd (cc)
+      | false ↦ λ e h. ltb-false (newline_at text) (length text) e
+    ] refl found
+
+pub cut_first : (text : List ℕ) (i : ℕ) → position (λ b. b == 10) text ≡ Some i → lines_of text ≡ take i text ∷ lines_of (take (length text - (i + 1)) (drop (i + 1) text))
+cut_first text i found =
+    let at = found_within text i found in
+    let rest = drop (i + 1) text in
+    rw (take_all (length text - (i + 1)) rest (omega (arith, length_drop (i + 1) text)), at.0)
+    (ap (λ l. l ++ last_line (unended [] text)) (ended_first [] text at.1)
+    ∙ ap (λ l. take (newline_at text) text ∷ (ended [] (drop (newline_at text + 1) text) ++ last_line l)) (unended_first [] text at.1))
+
+pub cut_last : (text : List ℕ) → position (λ b. b == 10) text ≡ None → (length text == 0) ≡ false → lines_of text ≡ text ∷ []
+cut_last text found some =
+    let beyond = found_none text found in
+    rw (ended_none [] text beyond, unended_none [] text beyond) (whole text some)
+  where
+    whole : (text : List ℕ) → (length text == 0) ≡ false → last_line text ≡ text ∷ []
+    whole [] some = absurd (cc)
+    whole (b ∷ bs) some = refl

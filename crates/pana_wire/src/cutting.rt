@@ -1,0 +1,24 @@
+//! A text as lines.
+ghost use Rattle.std.specs.Prelude.{◌≡◌, ◌<◌, ◌==◌, [], ◌∷◌, length, position, None, IfSome};
+ghost use Rattle.pana_wire.specs.Lines.{lines_of};
+
+/// Where the first newline stands.
+fn end_of_line(text: &[u8]) -> Option<usize>
+    ensures { result ≡ position (λ byte. byte == 10) text.now }
+{
+    text.iter().position(|byte| *byte == b'\n')
+}
+
+/// The first line of a text, without its newline, and what comes behind it; none where the text is empty. What comes
+/// after the last newline is a line where there is a byte. Takes no memory. O(n) in the bytes of the line.
+pub fn next_line(text: &[u8]) -> Option<(&[u8], &[u8])>
+    ensures line { IfSome result (λ cut. lines_of text.now ≡ cut.0.now ∷ lines_of cut.1.now) }
+    ensures shorter { IfSome result (λ cut. length cut.1.now < length text.now) }
+    ensures empty { result ≡ None → text.now ≡ [] }
+{
+    match end_of_line(text) {
+        Some(end) => Some((&text[..end], &text[end + 1..])),
+        None if text.is_empty() => None,
+        None => Some((text, &[])),
+    }
+}
