@@ -1,5 +1,5 @@
 -- The first line of a text ends at its first newline, or is the whole of it.
-use Rattle.std.proofs.Common.{◌≡◌, ℕ, ◌+◌, ◌-◌, ◌<◌, ◌≤◌, suc, ◌==◌, Bool, true, false, cond, not, nat_lt, List, [], ◌∷◌, ◌++◌, length, take, drop, position, Some, None, refl, sym, ap, ◌∙◌, append-nil, arith}
+use Rattle.std.proofs.Common.{◌≡◌, ℕ, ◌+◌, ◌-◌, ◌<◌, ◌≤◌, suc, ◌==◌, Bool, true, false, cond, not, nat_lt, List, [], ◌∷◌, ◌++◌, length, take, drop, position, Some, None, refl, sym, ap, ◌∙◌, append-nil, length-drop, arith}
 use Rattle.std.specs.List.{position_or_len}
 use Rattle.std.proofs.lemmas.Bool.{ltb-false, ltb-true}
 use Rattle.std.proofs.lemmas.List.{append_assoc, take_all}
@@ -8,6 +8,12 @@ use Rattle.pana_wire.specs.Lines.{ended, unended, last_line, lines_of}
 abbrev newline_at : List ℕ → ℕ
 newline_at text = position_or_len (λ b. b == 10) text
 
+take_next : (n b : ℕ) (bs : List ℕ) → take (1 + n) (b ∷ bs) ≡ b ∷ take n bs
+take_next n b bs = let next : 1 + n ≡ suc n = omega arith in ap (λ m. take m (b ∷ bs)) next
+
+drop_next : (n b : ℕ) (bs : List ℕ) → drop (1 + n + 1) (b ∷ bs) ≡ drop (n + 1) bs
+drop_next n b bs = let next : 1 + n + 1 ≡ suc (n + 1) = omega arith in ap (λ m. drop m (b ∷ bs)) next
+
 ended_first : (begun text : List ℕ) → newline_at text < length text → ended begun text ≡ (begun ++ take (newline_at text) text) ∷ ended [] (drop (newline_at text + 1) text)
 ended_first begun [] within = absurd (omega arith)
 ended_first begun (b ∷ bs) within =
@@ -15,7 +21,10 @@ ended_first begun (b ∷ bs) within =
         → cond t (begun ∷ ended [] bs) (ended (begun ++ b ∷ []) bs)
         ≡ (begun ++ take (cond (not t) (1 + newline_at bs) 0) (b ∷ bs)) ∷ ended [] (drop (cond (not t) (1 + newline_at bs) 0 + 1) (b ∷ bs))) [
       | true ↦ λ h. ap (λ l. l ∷ ended [] bs) (sym (append-nil begun))
-      | false ↦ λ h. ended_first (begun ++ b ∷ []) bs (omega arith) ∙ ap (λ l. l ∷ ended [] (drop (newline_at bs + 1) bs)) (append_assoc begun (b ∷ []) (take (newline_at bs) bs))
+      | false ↦ λ h. ended_first (begun ++ b ∷ []) bs (omega arith)
+          ∙ ap (λ l. l ∷ ended [] (drop (newline_at bs + 1) bs)) (append_assoc begun (b ∷ []) (take (newline_at bs) bs))
+          ∙ ap (λ l. (begun ++ l) ∷ ended [] (drop (newline_at bs + 1) bs)) (sym (take_next (newline_at bs) b bs))
+          ∙ ap (λ l. (begun ++ take (1 + newline_at bs) (b ∷ bs)) ∷ ended [] l) (sym (drop_next (newline_at bs) b bs))
     ] within
 
 unended_first : (begun text : List ℕ) → newline_at text < length text → unended begun text ≡ unended [] (drop (newline_at text + 1) text)
@@ -24,7 +33,7 @@ unended_first begun (b ∷ bs) within =
     elim (b == 10) as (λ t. cond (not t) (1 + newline_at bs) 0 < suc (length bs)
         → cond t (unended [] bs) (unended (begun ++ b ∷ []) bs) ≡ unended [] (drop (cond (not t) (1 + newline_at bs) 0 + 1) (b ∷ bs))) [
       | true ↦ λ h. refl
-      | false ↦ λ h. unended_first (begun ++ b ∷ []) bs (omega arith)
+      | false ↦ λ h. unended_first (begun ++ b ∷ []) bs (omega arith) ∙ ap (unended []) (sym (drop_next (newline_at bs) b bs))
     ] within
 
 ended_none : (begun text : List ℕ) → length text ≤ newline_at text → ended begun text ≡ []
@@ -63,7 +72,7 @@ pub cut_first : (text : List ℕ) (i : ℕ) → position (λ b. b == 10) text �
 cut_first text i found =
     let at = found_within text i found in
     let rest = drop (i + 1) text in
-    rw (take_all (length text - (i + 1)) rest (omega (arith, length_drop (i + 1) text)), at.0)
+    rw (take_all (length text - (i + 1)) rest (omega (arith, length-drop (i + 1) text)), at.0)
     (ap (λ l. l ++ last_line (unended [] text)) (ended_first [] text at.1)
     ∙ ap (λ l. take (newline_at text) text ∷ (ended [] (drop (newline_at text + 1) text) ++ last_line l)) (unended_first [] text at.1))
 

@@ -21,6 +21,9 @@ Each line of input to `panad run` is what a device reports, or asks:
     {\"by\":\"usb\",\"do\":\"edit\",\"copy\":2}
     {\"by\":\"desk\",\"do\":\"board\",\"family\":1}
 
+Reports: register, duplicate, edit, reconcile, merge, relocate, remove, confirm,
+withdraw. Questions: families, board, pair, holdings, journal.
+
 `panad run --help` and `panad compare --help` show an example. README.md has all
 answers, what is proved of them, and what isn't.";
 
