@@ -1,0 +1,11 @@
+//! The table of a board, as text for people.
+#![tactic(auto)]
+
+mod cell;
+mod printing;
+mod state;
+#[cfg(test)]
+mod tests;
+mod widths;
+
+pub use crate::printing::print;
