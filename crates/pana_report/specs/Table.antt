@@ -20,7 +20,7 @@ abbrev pub blanks : ℕ → List ℕ
 blanks count = replicate count 32
 
 -- a text on its side of a column, with blanks up to the column's width
-abbrev pub cell : Alignment → ℕ → List ℕ → List ℕ
+unfoldable pub cell : Alignment → ℕ → List ℕ → List ℕ
 cell Left column text = text ++ blanks (column - width text)
 cell Right column text = blanks (column - width text) ++ text
 

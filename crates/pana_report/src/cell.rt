@@ -15,13 +15,14 @@ pub(crate) enum Alignment {
 fn write_blanks(text: &mut String, count: usize) -> Result<(), AllocError>
     ensures { OnOk result (string_bytes text.new ≡ string_bytes text.old ++ blanks count) }
 {
-    for _ in 0..count {
+    for _i in 0..count {
         text.push_str(" ")?;
     }
     Ok(())
 }
 
 /// Appends the content on its side of a column, with blanks up to the column's width.
+#[tactic(auto, unfolding(crate::specs::Table::cell))]
 pub(crate) fn write_cell(
     text: &mut String,
     side: Alignment,

@@ -1,5 +1,6 @@
 //! The lines of the table.
 ghost use Rattle.std.specs.Prelude.{◌≡◌, ◌++◌, IfOk, OnOk, string_bytes, codes};
+ghost use Rattle.std.specs.List.{flat_map};
 ghost use Rattle.pana_report.specs.Table.{blanks, cell, family_line, table_text, yes_or_no};
 ghost use Rattle.pana_report.specs.inner.Lines.{line_of, heads_of, row_line_of};
 
@@ -35,7 +36,7 @@ fn write_next(
 }
 
 /// Appends a line with these texts in its columns.
-#[tactic(auto, using(crate::proofs::Appends::appends), unfolding(crate::specs::inner::Lines::line_of))]
+#[tactic(auto, using(crate::proofs::Pieces::line_pieces))]
 fn write_line(text: &mut String, widths: &Widths, texts: &Texts) -> Result<(), AllocError>
     ensures { OnOk result (string_bytes text.new ≡ string_bytes text.old
         ++ line_of widths.now texts.now.copy.now texts.now.place.now texts.now.state.now
@@ -51,6 +52,7 @@ fn write_line(text: &mut String, widths: &Widths, texts: &Texts) -> Result<(), A
     text.push_str("\n")
 }
 
+#[tactic(auto, unfolding(crate::specs::inner::Lines::heads_of))]
 fn write_heads(text: &mut String, widths: &Widths) -> Result<(), AllocError>
     ensures { OnOk result (string_bytes text.new ≡ string_bytes text.old ++ heads_of widths.now) }
 {
@@ -66,6 +68,7 @@ fn write_heads(text: &mut String, widths: &Widths) -> Result<(), AllocError>
     write_line(text, widths, &heads)
 }
 
+#[tactic(auto, unfolding(crate::specs::inner::Lines::row_line_of))]
 fn write_row(
     alloc: Global,
     text: &mut String,
@@ -92,6 +95,20 @@ fn write_row(
     write_line(text, widths, &texts)
 }
 
+fn write_rows(
+    alloc: Global,
+    text: &mut String,
+    widths: &Widths,
+    rows: &[BoardRow],
+) -> Result<(), AllocError>
+    ensures { OnOk result (string_bytes text.new ≡ string_bytes text.old ++ flat_map (row_line_of widths.now) rows.now) }
+{
+    for row in rows {
+        write_row(alloc, text, widths, row)?;
+    }
+    Ok(())
+}
+
 fn yes_or_no(answer: bool) -> &'static str
     ensures { result.now ≡ yes_or_no answer }
 {
@@ -99,7 +116,7 @@ fn yes_or_no(answer: bool) -> &'static str
 }
 
 /// The line about the family.
-#[tactic(auto, using(crate::proofs::Appends::appends), unfolding(crate::specs::Table::family_line))]
+#[tactic(auto, using(crate::proofs::Pieces::family_pieces))]
 fn family_line(alloc: Global, board: &BoardView) -> Result<String, AllocError>
     ensures { IfOk result (λ text. string_bytes text ≡ family_line board.now) }
 {
@@ -114,7 +131,7 @@ fn family_line(alloc: Global, board: &BoardView) -> Result<String, AllocError>
 /// # Errors
 ///
 /// `AllocError` where an allocation failed. Takes time in O(bytes of the table).
-#[tactic(auto, unfolding(crate::specs::Table::table_text))]
+#[tactic(auto, using(crate::proofs::Same::same_heads, crate::proofs::Same::same_rows), unfolding(crate::specs::Table::table_text))]
 pub fn print(alloc: Global, board: &BoardView) -> Result<String, AllocError>
     ensures { IfOk result (λ text. string_bytes text ≡ table_text board.now) }
 {
@@ -122,8 +139,6 @@ pub fn print(alloc: Global, board: &BoardView) -> Result<String, AllocError>
     let widths = Widths::of(alloc, rows)?;
     let mut text = family_line(alloc, board)?;
     write_heads(&mut text, &widths)?;
-    for row in rows {
-        write_row(alloc, &mut text, &widths, row)?;
-    }
+    write_rows(alloc, &mut text, &widths, rows)?;
     Ok(text)
 }

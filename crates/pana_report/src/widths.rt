@@ -35,6 +35,7 @@ pub(crate) fn place_text(alloc: Global, place: &Place) -> Result<String, AllocEr
 impl Widths {
     ghost use Rattle.pana_report.specs.inner.Lines.{widths_of};
 
+    #[tactic(auto, unfolding(crate::specs::inner::Lines::widths_of))]
     pub(crate) fn of(alloc: Global, rows: &[BoardRow]) -> Result<Widths, AllocError>
         ensures { IfOk result (λ widths. widths ≡ widths_of rows.now) }
     {
