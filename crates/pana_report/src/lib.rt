@@ -2,6 +2,8 @@
 #![tactic(auto)]
 
 mod cell;
+mod line;
+mod place;
 mod printing;
 mod state;
 #[cfg(test)]

@@ -41,7 +41,7 @@ fn board(family: u64, rows: Vec<BoardRow>, newest: Vec<u64>, split: bool) -> Boa
 fn wide_path(rt: HostRuntime) -> Result<(), Fail> {
     let rows = vec![in rt.alloc();
         row(rt.alloc(), 1, "a", "日本", [0, 0, 1, 0])?,
-        row(rt.alloc(), 2, "b", "x", [0, 0, 1, 0])?
+        row(rt.alloc(), 2, "b", "x", [0, 0, 1, 0])?,
     ]?;
     let newest = vec![in rt.alloc(); 1, 2]?;
     let text = print(rt.alloc(), &board(1, rows, newest, false))?;
@@ -59,7 +59,7 @@ COPY  PLACE   STATE     NEWER  OLDER  EQUAL  CONFLICT
 fn conflict(rt: HostRuntime) -> Result<(), Fail> {
     let rows = vec![in rt.alloc();
         row(rt.alloc(), 1, "laptop", "plan.txt", [0, 0, 0, 1])?,
-        row(rt.alloc(), 2, "usb", "plan.txt", [0, 0, 0, 1])?
+        row(rt.alloc(), 2, "usb", "plan.txt", [0, 0, 0, 1])?,
     ]?;
     let newest = vec![in rt.alloc(); 1, 2]?;
     let text = print(rt.alloc(), &board(1, rows, newest, true))?;
@@ -75,7 +75,10 @@ COPY  PLACE            STATE     NEWER  OLDER  EQUAL  CONFLICT
 
 #[test]
 fn empty_board(rt: HostRuntime) -> Result<(), Fail> {
-    let text = print(rt.alloc(), &board(7, vec![in rt.alloc()]?, vec![in rt.alloc()]?, false))?;
+    let text = print(
+        rt.alloc(),
+        &board(7, vec![in rt.alloc()]?, vec![in rt.alloc()]?, false),
+    )?;
     let table = "\
 family 7: copies 0, newest 0, split no
 COPY  PLACE  STATE     NEWER  OLDER  EQUAL  CONFLICT

@@ -1,7 +1,7 @@
 //! The widths of columns.
-ghost use Rattle.std.specs.Prelude.{◌≡◌, ◌++◌, ◌∷◌, IfOk, string_bytes};
+ghost use Rattle.std.specs.Prelude.{◌≡◌, IfOk};
 
-use pana_copies::Place;
+use crate::place::place_text;
 use pana_hall::BoardRow;
 use std::alloc::{AllocError, Global};
 use unicode_width::UnicodeWidthStr;
@@ -15,7 +15,10 @@ pub(crate) const CONFLICT: usize = 8;
 /// The width of the column of states.
 pub(crate) const STATE: usize = 8;
 
+/// The least width of the column of numbers, that of its head.
 const LEAST_COPY: usize = 4;
+
+/// The least width of the column of places, that of its head.
 const LEAST_PLACE: usize = 5;
 
 /// The widths of the columns that are as wide as their widest text.
@@ -25,16 +28,10 @@ pub(crate) struct Widths {
     pub place: usize,
 }
 
-/// The text of a place, as `usb:plan.txt`.
-pub(crate) fn place_text(alloc: Global, place: &Place) -> Result<String, AllocError>
-    ensures { IfOk result (λ text. string_bytes text ≡ place.now.device ++ 58 ∷ place.now.path) }
-{
-    format!(in alloc; "{}:{}", place.device.as_str(), place.path.as_str())
-}
-
 impl Widths {
     ghost use Rattle.pana_report.specs.inner.Lines.{widths_of};
 
+    /// The widths for these copies: those of the longest number and the widest place, and at least those of the heads.
     #[tactic(auto, unfolding(crate::specs::inner::Lines::widths_of))]
     pub(crate) fn of(alloc: Global, rows: &[BoardRow]) -> Result<Widths, AllocError>
         ensures { IfOk result (λ widths. widths ≡ widths_of rows.now) }
