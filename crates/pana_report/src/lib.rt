@@ -2,6 +2,7 @@
 #![tactic(auto)]
 
 mod cell;
+pub mod laws;
 mod line;
 mod place;
 mod printing;

@@ -2,7 +2,7 @@ use crate::print;
 use pana_copies::{CopyPath, DeviceName, NameFault, Place};
 use pana_hall::{BoardRow, BoardView};
 use pana_list::PlainList;
-use std::alloc::{AllocError, Global};
+use std::alloc::Global;
 use std::process::Abort;
 use std::test::Fail;
 
@@ -82,6 +82,25 @@ fn empty_board(rt: HostRuntime) -> Result<(), Fail> {
     let table = "\
 family 7: copies 0, newest 0, split no
 COPY  PLACE  STATE     NEWER  OLDER  EQUAL  CONFLICT
+";
+    assert_eq!(rt; text.as_str(), table);
+    Ok(())
+}
+
+/// A copy that is obsolete and in conflict with others, and a number longer than the head of its column.
+#[test]
+fn long_numbers(rt: HostRuntime) -> Result<(), Fail> {
+    let rows = vec![in rt.alloc();
+        row(rt.alloc(), 9, "desk", "a", [0, 1, 2, 0])?,
+        row(rt.alloc(), 123456, "usb", "b", [1, 0, 0, 255])?,
+    ]?;
+    let newest = vec![in rt.alloc(); 9]?;
+    let text = print(rt.alloc(), &board(9, rows, newest, false))?;
+    let table = "\
+family 9: copies 2, newest 1, split no
+  COPY  PLACE   STATE     NEWER  OLDER  EQUAL  CONFLICT
+     9  desk:a  newest        0      1      2         0
+123456  usb:b   obsolete      1      0      0       255
 ";
     assert_eq!(rt; text.as_str(), table);
     Ok(())
