@@ -1,5 +1,5 @@
 -- Lines put together of their pieces.
-use Rattle.std.proofs.Common.{◌≡◌, ℕ, List, [], ◌∷◌, ◌++◌, append_assoc, length}
+use Rattle.std.proofs.Common.{◌≡◌, ℕ, List, ◌++◌, append_assoc, length}
 use Rattle.std.specs.Prelude.{codes, decimal}
 use Rattle.pana_hall.specs.declared.board.BoardView.{BoardView}
 use Rattle.pana_report.specs.declared.cell.Alignment.TheVariants.{Left, Right}

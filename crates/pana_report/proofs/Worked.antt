@@ -5,10 +5,10 @@ use Rattle.std.specs.Fmt.{digits}
 use Rattle.unicode_width.proofs.Computing.{unicode_width}
 use Rattle.pana_hall.specs.declared.board.BoardRow.{BoardRow}
 use Rattle.pana_hall.specs.declared.board.BoardView.{BoardView}
-use Rattle.pana_report.specs.Table.{cell, columns, head_line, copy_line, family_line, table_text, newline, place_text}
+use Rattle.pana_report.specs.Table.{cell, columns, head_line, copy_line, family_line, table_text, newline}
 
-abbrev row : ℕ → List ℕ → List ℕ → (newer older equal conflict : ℕ) → BoardRow
-row copy device path newer older equal conflict =
+abbrev row_of : ℕ → List ℕ → List ℕ → (newer older equal conflict : ℕ) → BoardRow
+row_of copy device path newer older equal conflict =
     record { copy = copy; place = record { device = device; path = path }; newer = newer; older = older; equal = equal; conflict = conflict }
 
 -- a board with no copy: two lines
@@ -22,7 +22,7 @@ empty_board = refl
 abbrev wide : BoardView
 wide = record {
   family = 1;
-  rows = row 1 (codes "a") (encode_utf8_all (codes "日本")) 0 0 1 0 ∷ row 2 (codes "b") (codes "x") 0 0 1 0 ∷ [];
+  rows = row_of 1 (codes "a") (encode_utf8_all (codes "日本")) 0 0 1 0 ∷ row_of 2 (codes "b") (codes "x") 0 0 1 0 ∷ [];
   newest = 1 ∷ 2 ∷ [];
   split = false;
 }
@@ -38,7 +38,7 @@ wide_path = refl
 -- two copies in conflict
 conflict : table_text (record {
   family = 1;
-  rows = row 1 (codes "laptop") (codes "plan.txt") 0 0 0 1 ∷ row 2 (codes "usb") (codes "plan.txt") 0 0 0 1 ∷ [];
+  rows = row_of 1 (codes "laptop") (codes "plan.txt") 0 0 0 1 ∷ row_of 2 (codes "usb") (codes "plan.txt") 0 0 0 1 ∷ [];
   newest = 1 ∷ 2 ∷ [];
   split = true;
 }) ≡ codes "family 1: copies 2, newest 2, split yes" ++ newline
@@ -49,7 +49,7 @@ unfolding unicode_width digits cell columns head_line copy_line family_line tabl
 conflict = refl
 
 -- a copy that is older than one and in conflict with another is obsolete; a number may be longer than its head
-obsolete : copy_line (columns (row 12345 (codes "usb") (codes "p") 1 2 3 4 ∷ [])) (row 12345 (codes "usb") (codes "p") 1 2 3 4)
+obsolete : copy_line (columns (row_of 12345 (codes "usb") (codes "p") 1 2 3 4 ∷ [])) (row_of 12345 (codes "usb") (codes "p") 1 2 3 4)
     ≡ codes "12345  usb:p  obsolete      1      2      3         4" ++ newline
 unfolding unicode_width digits cell columns copy_line
 obsolete = refl
