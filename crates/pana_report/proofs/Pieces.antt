@@ -1,0 +1,23 @@
+-- Lines put together of their pieces.
+use Rattle.std.proofs.Common.{◌≡◌, ℕ, List, ◌++◌, append_assoc, length}
+use Rattle.std.specs.Prelude.{codes, decimal}
+use Rattle.pana_hall.specs.declared.board.BoardView.{BoardView}
+use Rattle.pana_report.specs.declared.cell.Alignment.TheVariants.{Left, Right}
+use Rattle.pana_report.specs.declared.widths.Widths.{Widths}
+use Rattle.pana_report.specs.Table.{blanks, cell, newline, family_line, yes_or_no}
+use Rattle.pana_report.specs.inner.Lines.{line_of}
+
+-- a line behind a text, cell by cell
+pub line_pieces : (text : List ℕ) (widths : Widths) (copy place state newer older equal conflict : List ℕ)
+    → text ++ line_of widths copy place state newer older equal conflict
+    ≡ text ++ cell Right widths.copy copy ++ (blanks 2 ++ cell Left widths.place place) ++ (blanks 2 ++ cell Left 8 state)
+    ++ (blanks 2 ++ cell Right 5 newer) ++ (blanks 2 ++ cell Right 5 older) ++ (blanks 2 ++ cell Right 5 equal) ++ (blanks 2 ++ cell Right 8 conflict) ++ newline
+unfolding line_of
+line_pieces text widths copy place state newer older equal conflict = simp append_assoc
+
+-- the line about the family, as a format writes it
+pub family_pieces : (board : BoardView) → family_line board
+    ≡ codes "family " ++ (decimal board.family ++ (codes ": copies " ++ (decimal (length board.rows)
+    ++ (codes ", newest " ++ (decimal (length board.newest) ++ (codes ", split " ++ (yes_or_no board.split ++ newline)))))))
+unfolding family_line
+family_pieces board = simp append_assoc

@@ -1,0 +1,26 @@
+-- The lines of the table, from the widths and the texts in them.
+use Rattle.std.specs.Prelude.{ℕ, List, [], ◌∷◌, ◌++◌, decimal, codes}
+use Rattle.pana_hall.specs.declared.board.BoardRow.{BoardRow}
+use Rattle.pana_report.specs.declared.cell.Alignment.TheVariants.{Left, Right}
+use Rattle.pana_report.specs.declared.widths.Widths.{Widths}
+use Rattle.pana_report.specs.Table.{cell, side_by_side, newline, widest, copy_text, place_text, state_name, state_of}
+
+-- the widths that depend on the copies
+unfoldable pub widths_of : List BoardRow → Widths
+widths_of rows = record { copy = widest 4 copy_text rows; place = widest 5 place_text rows }
+
+-- the line with these texts in its columns
+unfoldable pub line_of : Widths → (copy place state newer older equal conflict : List ℕ) → List ℕ
+line_of widths copy place state newer older equal conflict =
+    side_by_side (cell Right widths.copy copy ∷ cell Left widths.place place ∷ cell Left 8 state
+    ∷ cell Right 5 newer ∷ cell Right 5 older ∷ cell Right 5 equal ∷ cell Right 8 conflict ∷ [])
+    ++ newline
+
+-- the line of heads
+unfoldable pub heads_of : Widths → List ℕ
+heads_of widths = line_of widths (codes "COPY") (codes "PLACE") (codes "STATE") (codes "NEWER") (codes "OLDER") (codes "EQUAL") (codes "CONFLICT")
+
+-- the line of a copy
+unfoldable pub row_line_of : Widths → BoardRow → List ℕ
+row_line_of widths row = line_of widths (copy_text row) (place_text row) (state_name (state_of row))
+    (decimal row.newer) (decimal row.older) (decimal row.equal) (decimal row.conflict)

@@ -1,0 +1,45 @@
+//! Cells: texts with blanks up to the width of their column.
+ghost use Rattle.std.specs.Prelude.{◌≡◌, ◌++◌, OnOk, string_bytes};
+ghost use Rattle.pana_report.specs.Table.{blanks, cell};
+
+use std::alloc::AllocError;
+use unicode_width::UnicodeWidthStr;
+
+/// The side of a column to which its texts go.
+#[derive(Clone, Copy, Debug, PartialEq, Eq)]
+pub(crate) enum Alignment {
+    Left,
+    Right,
+}
+
+fn write_blanks(text: &mut String, count: usize) -> Result<(), AllocError>
+    ensures { OnOk result (string_bytes text.new ≡ string_bytes text.old ++ blanks count) }
+{
+    for _i in 0..count {
+        text.push_str(" ")?;
+    }
+    Ok(())
+}
+
+/// Appends the content on its side of a column, with blanks up to the column's width.
+#[tactic(auto, unfolding(crate::specs::Table::cell))]
+pub(crate) fn write_cell(
+    text: &mut String,
+    side: Alignment,
+    column: usize,
+    content: &str,
+) -> Result<(), AllocError>
+    ensures { OnOk result (string_bytes text.new ≡ string_bytes text.old ++ cell side column content.now) }
+{
+    let missing = column.saturating_sub(content.width());
+    match side {
+        Alignment::Left => {
+            text.push_str(content)?;
+            write_blanks(text, missing)
+        }
+        Alignment::Right => {
+            write_blanks(text, missing)?;
+            text.push_str(content)
+        }
+    }
+}

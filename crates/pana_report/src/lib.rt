@@ -1,0 +1,14 @@
+//! The table of a board, as text for people.
+#![tactic(auto)]
+
+mod cell;
+pub mod laws;
+mod line;
+mod place;
+mod printing;
+mod state;
+#[cfg(test)]
+mod tests;
+mod widths;
+
+pub use crate::printing::print;

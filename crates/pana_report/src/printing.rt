@@ -1,0 +1,109 @@
+//! The lines of the table, one after another.
+ghost use Rattle.std.specs.Prelude.{◌≡◌, ◌++◌, IfOk, OnOk, string_bytes};
+ghost use Rattle.std.specs.List.{flat_map};
+ghost use Rattle.pana_report.specs.Table.{family_line, table_text, yes_or_no};
+ghost use Rattle.pana_report.specs.inner.Lines.{heads_of, row_line_of};
+
+use crate::line::{Texts, write_line};
+use crate::place::place_text;
+use crate::state::State;
+use crate::widths::Widths;
+use pana_hall::{BoardRow, BoardView};
+use std::alloc::{AllocError, Global};
+
+/// Appends the line of heads.
+#[tactic(auto, unfolding(crate::specs::inner::Lines::heads_of))]
+fn write_heads(text: &mut String, widths: &Widths) -> Result<(), AllocError>
+    ensures { OnOk result (string_bytes text.new ≡ string_bytes text.old ++ heads_of widths.now) }
+{
+    let heads = Texts {
+        copy: "COPY",
+        place: "PLACE",
+        state: "STATE",
+        newer: "NEWER",
+        older: "OLDER",
+        equal: "EQUAL",
+        conflict: "CONFLICT",
+    };
+    write_line(text, widths, &heads)
+}
+
+/// Appends the line of a copy.
+#[tactic(auto, unfolding(crate::specs::inner::Lines::row_line_of))]
+fn write_row(
+    alloc: Global,
+    text: &mut String,
+    widths: &Widths,
+    row: &BoardRow,
+) -> Result<(), AllocError>
+    ensures { OnOk result (string_bytes text.new ≡ string_bytes text.old ++ row_line_of widths.now row.now) }
+{
+    let copy = row.copy.to_string(alloc)?;
+    let place = place_text(alloc, &row.place)?;
+    let newer = row.newer.to_string(alloc)?;
+    let older = row.older.to_string(alloc)?;
+    let equal = row.equal.to_string(alloc)?;
+    let conflict = row.conflict.to_string(alloc)?;
+    let texts = Texts {
+        copy: copy.as_str(),
+        place: place.as_str(),
+        state: State::of(row).name(),
+        newer: newer.as_str(),
+        older: older.as_str(),
+        equal: equal.as_str(),
+        conflict: conflict.as_str(),
+    };
+    write_line(text, widths, &texts)
+}
+
+fn write_rows(
+    alloc: Global,
+    text: &mut String,
+    widths: &Widths,
+    rows: &[BoardRow],
+) -> Result<(), AllocError>
+    ensures { OnOk result (string_bytes text.new ≡ string_bytes text.old ++ flat_map (row_line_of widths.now) rows.now) }
+{
+    for row in rows {
+        write_row(alloc, text, widths, row)?;
+    }
+    Ok(())
+}
+
+fn yes_or_no(answer: bool) -> &'static str
+    ensures { result.now ≡ yes_or_no answer }
+{
+    if answer { "yes" } else { "no" }
+}
+
+/// The line about the family.
+#[tactic(auto, using(crate::proofs::Pieces::family_pieces))]
+fn family_line(alloc: Global, board: &BoardView) -> Result<String, AllocError>
+    ensures { IfOk result (λ text. string_bytes text ≡ family_line board.now) }
+{
+    let copies = board.rows.as_slice().len();
+    let newest = board.newest.as_slice().len();
+    let split = yes_or_no(board.split);
+    format!(in alloc;
+        "family {}: copies {copies}, newest {newest}, split {split}\n",
+        board.family
+    )
+}
+
+/// The table of a board, as text for people: a line about the family, a line of heads, and a line for each copy, in the
+/// board's order. Each line ends with a newline, and the columns line up in a terminal.
+///
+/// # Errors
+///
+/// `AllocError` where an allocation failed. Takes O(length of the table) time and memory.
+#[tactic(auto, using(crate::proofs::Same::same_heads, crate::proofs::Same::same_rows), unfolding(crate::specs::Table::table_text))]
+pub fn print(alloc: Global, board: &BoardView) -> Result<String, AllocError>
+    ensures { IfOk result (λ text. string_bytes text ≡ table_text board.now) }
+{
+    let rows = board.rows.as_slice();
+    let widths = Widths::of(alloc, rows)?;
+    let mut text = family_line(alloc, board)?;
+    write_heads(&mut text, &widths)?;
+    write_rows(alloc, &mut text, &widths, rows)?;
+    Ok(text)
+}
