@@ -1,5 +1,5 @@
 -- The number and the name of each cause of a refusal, and the copy that it names.
-use Rattle.std.specs.Prelude.{ℕ, List, codes, Option, Some, None}
+use Rattle.std.specs.Prelude.{ℕ, List, ◌++◌, codes, decimal, Option, Some, None}
 use Rattle.pana_hall.specs.declared.cause.Cause.{Cause}
 use Rattle.pana_hall.specs.declared.cause.Cause.TheVariants.{JournalFull, UnknownCopy, SameCopy, OtherFamily, PlaceTaken, FamilyFull, OutOfMemory, UnknownEntry, NotYours, Settled, UnknownFamily}
 
@@ -36,3 +36,12 @@ abbrev pub cause_copy : Cause → Option ℕ
 cause_copy (UnknownCopy copy) = Some copy
 cause_copy (PlaceTaken copy) = Some copy
 cause_copy _ = None
+
+-- a name, and behind it the copy, where there is one
+abbrev pub shown_with : List ℕ → Option ℕ → List ℕ
+shown_with name None = name
+shown_with name (Some copy) = name ++ codes " " ++ decimal copy
+
+-- how a cause is printed
+abbrev pub shown_cause : Cause → List ℕ
+shown_cause cause = shown_with (cause_name cause) (cause_copy cause)

@@ -1,5 +1,5 @@
 -- Why entries are not loaded.
-use Rattle.std.specs.Prelude.{◌≡◌, ◌≢◌, ◌+◌, List, ◌∷◌, ◌++◌, length, ◌⊎◌}
+use Rattle.std.specs.Prelude.{◌≡◌, ◌≢◌, ℕ, ◌+◌, List, ◌∷◌, ◌++◌, length, codes, decimal, ◌⊎◌}
 use Rattle.pana_journal.specs.declared.entry.Entry.{Entry}
 use Rattle.pana_hall.specs.declared.call.Call.TheVariants as calls
 use Rattle.pana_hall.specs.declared.cause.Cause.TheVariants as causes
@@ -7,6 +7,7 @@ use Rattle.pana_hall.specs.declared.reply.Reply.TheVariants as replies
 use Rattle.pana_hall.specs.declared.loading.LoadFault.{LoadFault}
 use Rattle.pana_hall.specs.declared.loading.LoadCause.{LoadCause}
 use Rattle.pana_hall.specs.declared.loading.LoadCause.TheVariants.{OutOfOrder, Refused}
+use Rattle.pana_hall.specs.Cause.{shown_cause}
 use Rattle.pana_hall.specs.Accepted.{IsAccepted}
 use Rattle.pana_hall.specs.Permit.{Permits}
 
@@ -28,3 +29,11 @@ pub record StopsAt (entries : List Entry) (fault : LoadFault) : Type 0 where
 -- the new hall itself ran out of memory, or one of the entries stops
 abbrev pub IsLoadFault : List Entry → LoadFault → Type 0
 IsLoadFault entries fault = ((fault.at ≡ 0) × (fault.cause ≡ Refused causes.OutOfMemory)) ⊎ StopsAt entries fault
+
+-- how it is printed where loading stopped, and why
+abbrev pub shown_load_cause : LoadCause → List ℕ
+shown_load_cause OutOfOrder = codes "OutOfOrder"
+shown_load_cause (Refused cause) = shown_cause cause
+
+abbrev pub shown_load_fault : LoadFault → List ℕ
+shown_load_fault fault = codes "entry " ++ decimal fault.at ++ codes ": " ++ shown_load_cause fault.cause

@@ -1,6 +1,9 @@
 ghost use Rattle.std.specs.Prelude.{◌≡◌};
 ghost use Rattle.pana_hall.specs.Cause.{code_of, cause_name, cause_copy};
 
+use std::error::Error;
+use std::fmt;
+
 /// Why a call was refused. A refused call changes nothing.
 #[derive(Clone, Copy, Debug, PartialEq, Eq)]
 pub enum Cause {
@@ -77,3 +80,19 @@ impl Cause {
         }
     }
 }
+
+impl fmt::Display for Cause {
+    ghost use Rattle.std.specs.Prelude.{Some};
+    ghost use Rattle.pana_hall.specs.Cause.{shown_cause};
+
+    ghost output = { λ cause. Some (shown_cause cause) };
+
+    fn fmt<W: fmt::Write>(&self, f: &mut fmt::Formatter<W>) -> fmt::Result {
+        match self.copy() {
+            Some(copy) => write!(f, "{} {copy}", self.name()),
+            None => f.write_str(self.name()),
+        }
+    }
+}
+
+impl Error for Cause {}

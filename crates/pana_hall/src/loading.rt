@@ -7,6 +7,8 @@ use crate::hall::Hall;
 use crate::reply::Reply;
 use pana_journal::{Entry, EntryList};
 use std::alloc::Global;
+use std::error::Error;
+use std::fmt;
 
 /// Why an entry was not taken.
 #[derive(Clone, Copy, Debug, PartialEq, Eq)]
@@ -23,6 +25,34 @@ pub struct LoadFault {
     pub at: u64,
     pub cause: LoadCause,
 }
+
+impl fmt::Display for LoadCause {
+    ghost use Rattle.std.specs.Prelude.{Some};
+    ghost use Rattle.pana_hall.specs.Load.{shown_load_cause};
+
+    ghost output = { λ cause. Some (shown_load_cause cause) };
+
+    fn fmt<W: fmt::Write>(&self, f: &mut fmt::Formatter<W>) -> fmt::Result {
+        match self {
+            LoadCause::OutOfOrder => f.write_str("OutOfOrder"),
+            LoadCause::Refused(cause) => write!(f, "{cause}"),
+        }
+    }
+}
+
+impl fmt::Display for LoadFault {
+    ghost use Rattle.std.specs.Prelude.{Some};
+    ghost use Rattle.pana_hall.specs.Load.{shown_load_fault};
+
+    ghost output = { λ fault. Some (shown_load_fault fault) };
+
+    fn fmt<W: fmt::Write>(&self, f: &mut fmt::Formatter<W>) -> fmt::Result {
+        let LoadFault { at, cause } = self;
+        write!(f, "entry {at}: {cause}")
+    }
+}
+
+impl Error for LoadFault {}
 
 impl Hall {
     ghost use Rattle.pana_hall.specs.Accepted.{IsAccepted};

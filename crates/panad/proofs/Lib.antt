@@ -1,2 +1,4 @@
 pub mod Compared
 pub mod NeverSpent
+pub mod Asked
+pub mod Joined

@@ -1,3 +1,7 @@
 pub mod Never
 pub mod Fault
 pub mod Compare
+pub mod Answered
+pub mod Tables
+pub mod Load
+pub mod Show

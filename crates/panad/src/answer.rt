@@ -1,4 +1,9 @@
+ghost use Rattle.std.specs.Prelude.{◌≡◌, ℕ, List, Some, IfOk, string_bytes};
+ghost use Rattle.panad.specs.Answered.{Prints, Reports};
+
 use crate::fault::ProgramFault;
+use std::alloc::{AllocError, Global};
+use std::fmt;
 use std::process::ExitCode;
 
 /// What a command has to say, and its exit status.
@@ -13,6 +18,28 @@ pub struct Answer {
 }
 
 impl Answer {
+    /// This text for standard output, and status 0. Takes no memory.
+    pub fn printed(alloc: Global, out: String) -> Answer
+        ensures { Prints (string_bytes out) result }
+    {
+        Answer {
+            out,
+            err: String::new(alloc),
+            status: 0,
+        }
+    }
+
+    /// One line for standard error that says so, and status 1. Fails only where memory runs out.
+    pub fn reported<D: fmt::Display>(alloc: Global, what: &D) -> Result<Answer, AllocError>
+        ensures { IfOk result (λ answer. (text : List ℕ) → D.output what.now ≡ Some text → Reports text answer) }
+    {
+        Ok(Answer {
+            out: String::new(alloc),
+            err: format!(in alloc; "panad: {what}\n")?,
+            status: 1,
+        })
+    }
+
     /// Prints both texts, and returns the status. That standard error can't be written is no fault.
     pub fn print(&self, rt: &HostRuntime) -> Result<ExitCode, ProgramFault> {
         print!(rt; "{}", self.out).map_err(|_| ProgramFault::Write)?;

@@ -5,8 +5,12 @@ mod answer;
 mod command;
 mod comparing;
 mod fault;
+mod line_fault;
+mod loading;
 mod one_hall;
 mod running;
+mod showing;
+mod tables;
 #[cfg(test)]
 mod tests;
 mod version;
