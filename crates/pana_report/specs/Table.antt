@@ -2,7 +2,6 @@
 use Rattle.std.specs.Prelude.{ℕ, ◌-◌, ◌==◌, max, Bool, false, not, if◌then◌else◌, List, [], ◌∷◌, ◌++◌, length, map, fold, replicate, codes, chars, decimal}
 use Rattle.std.specs.List.{flat_map}
 use Rattle.unicode_width.specs.Width.{str_width}
-use Rattle.pana_copies.specs.declared.place.Place.{Place}
 use Rattle.pana_hall.specs.declared.board.BoardRow.{BoardRow}
 use Rattle.pana_hall.specs.declared.board.BoardView.{BoardView}
 use Rattle.pana_report.specs.declared.cell.Alignment.{Alignment}
@@ -31,18 +30,15 @@ cell Right column text = blanks (column - width text) ++ text
 abbrev pub copy_text : BoardRow → List ℕ
 copy_text row = decimal row.copy
 
--- a place, as device:path
-abbrev pub location_text : Place → List ℕ
-location_text place = place.device ++ (codes ":" ++ place.path)
-
--- the copy's place
+-- its place, as device:path
 abbrev pub place_text : BoardRow → List ℕ
-place_text row = location_text row.place
+place_text row = row.place.device ++ (codes ":" ++ row.place.path)
 
--- obsolete where a copy is newer, else in conflict where one is, else newest
+-- its state: obsolete where another is newer, else in conflict where one is, else newest
 abbrev pub state_of : BoardRow → State
 state_of row = if not (row.newer == 0) then Obsolete else if not (row.conflict == 0) then Conflict else Newest
 
+-- the name of a state
 abbrev pub state_name : State → List ℕ
 state_name Newest = codes "newest"
 state_name Obsolete = codes "obsolete"
@@ -57,6 +53,7 @@ pub record Column : Type 0 where
   pub width : ℕ
   pub text : BoardRow → List ℕ
 
+-- the column of these four
 abbrev pub column : List ℕ → Alignment → ℕ → (BoardRow → List ℕ) → Column
 column head side width text = record { head = head; side = side; width = width; text = text }
 
@@ -78,7 +75,7 @@ columns rows =
 
 -- ---- lines
 
--- the line ends
+-- the byte that ends a line
 abbrev pub newline : List ℕ
 newline = 10 ∷ []
 

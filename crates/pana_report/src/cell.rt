@@ -12,6 +12,7 @@ pub(crate) enum Alignment {
     Right,
 }
 
+/// Appends so many blanks.
 fn write_blanks(text: &mut String, count: usize) -> Result<(), AllocError>
     ensures { OnOk result (string_bytes text.new ≡ string_bytes text.old ++ blanks count) }
 {

@@ -1,13 +1,14 @@
-//! The text of a place.
+//! The text of a copy's place.
 ghost use Rattle.std.specs.Prelude.{◌≡◌, IfOk, string_bytes};
-ghost use Rattle.pana_report.specs.Table.{location_text};
+ghost use Rattle.pana_report.specs.Table.{place_text};
 
-use pana_copies::Place;
+use pana_hall::BoardRow;
 use std::alloc::{AllocError, Global};
 
-/// The text of a place, as `usb:plan.txt`.
-pub(crate) fn place_text(alloc: Global, place: &Place) -> Result<String, AllocError>
-    ensures { IfOk result (λ text. string_bytes text ≡ location_text place.now) }
+/// The text of the copy's place, as `usb:plan.txt`.
+pub(crate) fn place_text(alloc: Global, row: &BoardRow) -> Result<String, AllocError>
+    ensures { IfOk result (λ text. string_bytes text ≡ place_text row.now) }
 {
+    let place = &row.place;
     format!(in alloc; "{}:{}", place.device.as_str(), place.path.as_str())
 }

@@ -39,7 +39,7 @@ fn write_row(
     ensures { OnOk result (string_bytes text.new ≡ string_bytes text.old ++ row_line_of widths.now row.now) }
 {
     let copy = row.copy.to_string(alloc)?;
-    let place = place_text(alloc, &row.place)?;
+    let place = place_text(alloc, row)?;
     let newer = row.newer.to_string(alloc)?;
     let older = row.older.to_string(alloc)?;
     let equal = row.equal.to_string(alloc)?;

@@ -1,4 +1,4 @@
-//! What a person does about a copy depends on its state.
+//! The states of copies: what a person has to do about each.
 ghost use Rattle.std.specs.Prelude.{◌≡◌};
 ghost use Rattle.pana_report.specs.Table.{state_of, state_name};
 
@@ -16,6 +16,7 @@ pub(crate) enum State {
 }
 
 impl State {
+    /// The state of the copy of this row.
     pub(crate) fn of(row: &BoardRow) -> State
         ensures { result ≡ state_of row.now }
     {
@@ -28,6 +29,7 @@ impl State {
         }
     }
 
+    /// The name, as the table shows it.
     pub(crate) fn name(self) -> &'static str
         ensures { result.now ≡ state_name self }
     {

@@ -40,9 +40,9 @@ impl Widths {
         let mut place = LEAST_PLACE;
         for row in rows {
             let number = row.copy.to_string(alloc)?;
-            let location = place_text(alloc, &row.place)?;
+            let text = place_text(alloc, row)?;
             copy = copy.max(number.as_str().width());
-            place = place.max(location.as_str().width());
+            place = place.max(text.as_str().width());
         }
         Ok(Widths { copy, place })
     }
