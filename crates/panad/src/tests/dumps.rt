@@ -78,47 +78,60 @@ fn load_faults(rt: HostRuntime) -> Result<(), Fail> {
     Ok(())
 }
 
-/// The lines of a long story: three copies of each of 40 files, edited apart, merged, moved, removed and withdrawn.
-fn long_story(alloc: Global) -> Result<Hall, Fail> {
-    let mut hall = hall_of(alloc, &[])?;
-    for file in 0..40u64 {
-        let first = hall.length() + 1;
-        let (second, third) = (first + 1, first + 2);
-        let lines = [
-            format!(in alloc; "\"do\":\"register\",\"device\":\"laptop\",\"path\":\"{file}\"")?,
-            format!(in alloc;
-                "\"do\":\"duplicate\",\"copy\":{first},\"device\":\"usb\",\"path\":\"{file}\""
-            )?,
-            format!(in alloc;
-                "\"do\":\"duplicate\",\"copy\":{first},\"device\":\"desk\",\"path\":\"{file}\""
-            )?,
-            format!(in alloc; "\"do\":\"edit\",\"copy\":{first}")?,
-            format!(in alloc; "\"do\":\"edit\",\"copy\":{second}")?,
-            format!(in alloc; "\"do\":\"merge\",\"a\":{first},\"b\":{second}")?,
-            format!(in alloc; "\"do\":\"confirm\",\"entry\":{third}")?,
-            format!(in alloc;
-                "\"do\":\"relocate\",\"copy\":{third},\"device\":\"desk\",\"path\":\"old {file}\""
-            )?,
-            format!(in alloc; "\"do\":\"remove\",\"copy\":{second},\"heir\":{third}")?,
-            format!(in alloc; "\"do\":\"withdraw\",\"entry\":{}", first + 8)?,
-            format!(in alloc; "\"do\":\"reconcile\",\"a\":{second},\"b\":{third}")?,
-        ];
-        for line in lines {
-            let whole = format!(in alloc; "{{\"by\":\"laptop\",{line}}}")?;
-            let said = answer(alloc, &mut hall, whole.as_str())?;
-            let done = format!(in alloc; "{{\"done\":{}}}", hall.length())?;
-            if said != done {
-                return Err(Fail::new(format!(in alloc; "{whole} was answered {said}")?));
-            }
-        }
+/// Reports this by the laptop, which is done.
+fn report(alloc: Global, hall: &mut Hall, words: &str) -> Result<(), Fail> {
+    let line = format!(in alloc; "{{\"by\":\"laptop\",{words}}}")?;
+    let said = answer(alloc, hall, line.as_str())?;
+    let done = format!(in alloc; "{{\"done\":{}}}", hall.length())?;
+    if said == done {
+        Ok(())
+    } else {
+        Err(Fail::new(line))
     }
-    Ok(hall)
+}
+
+/// Reports that this copy is duplicated to a place.
+fn duplicate(alloc: Global, hall: &mut Hall, copy: u64, device: &str) -> Result<(), Fail> {
+    let words = format!(in alloc;
+        "\"do\":\"duplicate\",\"copy\":{copy},\"device\":\"{device}\",\"path\":\"{copy}\""
+    )?;
+    report(alloc, hall, words.as_str())
+}
+
+/// Reports what is done to a copy, or to two.
+fn change(alloc: Global, hall: &mut Hall, word: &str, a: u64, b: u64) -> Result<(), Fail> {
+    let words = format!(in alloc;
+        "\"do\":\"{word}\",\"copy\":{a},\"a\":{a},\"b\":{b},\"heir\":{b},\"entry\":{a},\"device\":\"desk\",\"path\":\"old {a}\""
+    )?;
+    report(alloc, hall, words.as_str())
+}
+
+/// A file's story of 11 reports: three copies, edited apart, merged, moved, removed and brought back.
+fn story(alloc: Global, hall: &mut Hall) -> Result<(), Fail> {
+    let first = hall.length() + 1;
+    let words = format!(in alloc;
+        "\"do\":\"register\",\"device\":\"laptop\",\"path\":\"{first}\""
+    )?;
+    report(alloc, hall, words.as_str())?;
+    duplicate(alloc, hall, first, "usb")?;
+    duplicate(alloc, hall, first, "desk")?;
+    change(alloc, hall, "edit", first, 0)?;
+    change(alloc, hall, "edit", first + 1, 0)?;
+    change(alloc, hall, "merge", first, first + 1)?;
+    change(alloc, hall, "confirm", first + 2, 0)?;
+    change(alloc, hall, "relocate", first + 2, 0)?;
+    change(alloc, hall, "remove", first + 1, first + 2)?;
+    change(alloc, hall, "withdraw", first + 8, 0)?;
+    change(alloc, hall, "reconcile", first + 1, first + 2)
 }
 
 #[test]
 fn a_dump_in_pages_loads(rt: HostRuntime) -> Result<(), Fail> {
     let alloc = rt.alloc();
-    let mut hall = long_story(alloc)?;
+    let mut hall = hall_of(alloc, &[])?;
+    for _ in 0..40 {
+        story(alloc, &mut hall)?;
+    }
     let entries = dump(alloc, &mut hall)?;
     assert_eq!(rt; entries.as_slice().len(), 440);
     let Ok(mut again) = Hall::load(alloc, entries) else {
