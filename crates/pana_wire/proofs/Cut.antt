@@ -1,8 +1,8 @@
 -- The first line of a text ends at its first newline, or is the whole of it.
-use Rattle.std.proofs.Common.{◌≡◌, ℕ, ◌+◌, ◌-◌, ◌<◌, ◌≤◌, suc, ◌==◌, Bool, true, false, cond, not, nat_lt, List, [], ◌∷◌, ◌++◌, length, take, drop, position, Some, None, refl, sym, ap, ◌∙◌, append-nil, length-drop, arith}
+use Rattle.std.proofs.Common.{◌≡◌, ℕ, ◌+◌, ◌-◌, ◌<◌, ◌≤◌, suc, ◌==◌, Bool, true, false, cond, not, nat_lt, List, [], ◌∷◌, ◌++◌, length, take, drop, map, position, Some, None, refl, sym, ap, ◌∙◌, append-nil, length-drop, arith}
 use Rattle.std.specs.List.{position_or_len}
 use Rattle.std.proofs.lemmas.Bool.{ltb-false, ltb-true}
-use Rattle.std.proofs.lemmas.List.{append_assoc, take_all}
+use Rattle.std.proofs.lemmas.List.{append_assoc, map-append, take_all}
 use Rattle.pana_wire.specs.Lines.{ended, unended, last_line, lines_of}
 
 abbrev newline_at : List ℕ → ℕ
@@ -84,3 +84,14 @@ cut_last text found some =
     whole : (text : List ℕ) → (length text == 0) ≡ false → last_line text ≡ text ∷ []
     whole [] some = absurd (cc)
     whole (b ∷ bs) some = refl
+
+-- one line more, and the rest without it
+pub one_line_more : {X : Type 0} (f : X → List ℕ) (items : List X) (x : X) (all rest later : List (List ℕ))
+    → all ≡ map f items ++ rest → rest ≡ f x ∷ later → all ≡ map f (items ++ x ∷ []) ++ later
+one_line_more f items x all rest later is next =
+    is ∙ ap (λ l. map f items ++ l) next ∙ sym (append_assoc (map f items) (f x ∷ []) later) ∙ ap (λ l. l ++ later) (sym (map-append f items (x ∷ [])))
+
+-- no byte is left, so no line is
+pub no_line_more : {X : Type 0} (f : X → List ℕ) (items : List X) (all : List (List ℕ)) (rest : List ℕ)
+    → all ≡ map f items ++ lines_of rest → rest ≡ [] → map f items ≡ all
+no_line_more f items all rest is empty = sym (is ∙ ap (λ r. map f items ++ lines_of r) empty ∙ append-nil (map f items))

@@ -1,6 +1,8 @@
 //! A text as lines.
-ghost use Rattle.std.specs.Prelude.{◌≡◌, ◌<◌, ◌==◌, [], ◌∷◌, length, position, None, IfSome};
+ghost use Rattle.std.specs.Prelude.{◌≡◌, ◌<◌, ◌==◌, [], ◌∷◌, length, map, position, None, IfOk, IfSome};
 ghost use Rattle.pana_wire.specs.Lines.{lines_of};
+
+use std::alloc::{AllocError, Global};
 
 /// Where the first newline stands.
 fn end_of_line(text: &[u8]) -> Option<usize>
@@ -9,9 +11,8 @@ fn end_of_line(text: &[u8]) -> Option<usize>
     text.iter().position(|byte| *byte == b'\n')
 }
 
-/// The first line of a text, without its newline, and what comes behind it; none where the text is empty. What comes
-/// after the last newline is a line where there is a byte. Takes no memory. O(n) in the bytes of the line.
-pub fn next_line(text: &[u8]) -> Option<(&[u8], &[u8])>
+/// The first line of a text, and what comes behind it; none where the text is empty.
+fn next_line(text: &[u8]) -> Option<(&[u8], &[u8])>
     ensures line { IfSome result (λ cut. lines_of text.now ≡ cut.0.now ∷ lines_of cut.1.now) }
     ensures shorter { IfSome result (λ cut. length cut.1.now < length text.now) }
     ensures empty { result ≡ None → text.now ≡ [] }
@@ -21,4 +22,18 @@ pub fn next_line(text: &[u8]) -> Option<(&[u8], &[u8])>
         None if text.is_empty() => None,
         None => Some((text, &[])),
     }
+}
+
+/// The lines of a text in order, without their newlines. What comes after the last newline is a line where there is a
+/// byte. O(n) in the bytes of the text. Fails only where memory runs out for the list.
+pub fn split_lines(alloc: Global, text: &[u8]) -> Result<Vec<&[u8]>, AllocError>
+    ensures { IfOk result (λ lines. map (λ line. line.now) lines.items ≡ lines_of text.now) }
+{
+    let mut lines = Vec::new(alloc);
+    let mut rest = text;
+    while let Some((line, later)) = next_line(rest) {
+        lines.push(line)?;
+        rest = later;
+    }
+    Ok(lines)
 }

@@ -20,7 +20,7 @@ mod tests;
 mod word;
 mod writing;
 
-pub use crate::cutting::next_line;
+pub use crate::cutting::split_lines;
 pub use crate::dump::decode_dump;
 pub use crate::fault::WireFault;
 pub use crate::field::Field;

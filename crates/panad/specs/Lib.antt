@@ -5,3 +5,4 @@ pub mod Answered
 pub mod Tables
 pub mod Load
 pub mod Show
+pub mod inner

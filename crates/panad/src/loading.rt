@@ -1,7 +1,7 @@
 //! A dump read, loaded and printed as tables.
 ghost use Rattle.std.specs.Prelude.{◌≡◌, IfOk, MatchResult};
 ghost use Rattle.pana_hall.specs.Accepted.{IsAccepted};
-ghost use Rattle.pana_wire.specs.Lines.{lines_of};
+ghost use Rattle.panad.specs.inner.{texts};
 ghost use Rattle.panad.specs.Answered.{Prints, Reports};
 ghost use Rattle.panad.specs.Load.{AnswersDump, AnswersEntries, HasFault, SayEntries};
 ghost use Rattle.panad.specs.Tables.{tables_text};
@@ -9,25 +9,27 @@ ghost use Rattle.panad.specs.Tables.{tables_text};
 use crate::answer::Answer;
 use crate::line_fault::LineFault;
 use crate::tables::tables_of;
-use pana_hall::{Hall, LoadFault};
+use pana_hall::Hall;
 use pana_journal::EntryList;
-use pana_wire::{decode_dump, next_line};
+use pana_wire::{decode_dump, split_lines};
 use std::alloc::{AllocError, Global};
 
 /// The entries in the lines of a dump, or its first line with a fault.
-fn entries_in(alloc: Global, bytes: &[u8]) -> Result<Result<EntryList, LineFault>, AllocError>
-    ensures { IfOk result (λ read. MatchResult read (SayEntries (lines_of bytes.now)) (HasFault (lines_of bytes.now))) }
+fn entries_in(
+    alloc: Global,
+    lines: &[&[u8]],
+) -> Result<Result<EntryList, LineFault>, AllocError>
+    ensures { IfOk result (λ read. MatchResult read (SayEntries (texts lines.now)) (HasFault (texts lines.now))) }
 {
     let mut entries = EntryList::new(alloc);
-    let mut rest = bytes;
-    let mut line = 0u64;
-    while let Some((text, later)) = next_line(rest) {
-        line += 1;
-        match decode_dump(alloc, text) {
+    for (index, line) in lines.iter().enumerate() {
+        match decode_dump(alloc, line) {
             Ok(more) => entries.append(more)?,
-            Err(fault) => return Ok(Err(LineFault { line, fault })),
+            Err(fault) => {
+                let line = index as u64 + 1;
+                return Ok(Err(LineFault { line, fault }));
+            }
         }
-        rest = later;
     }
     Ok(Ok(entries))
 }
@@ -41,7 +43,7 @@ fn answer_entries(alloc: Global, entries: EntryList) -> Result<Answer, AllocErro
             let _ = hall.length();
             Ok(Answer::printed(alloc, tables_of(alloc, &mut hall)?))
         }
-        Err(LoadFault { at: 0, .. }) => Err(AllocError),
+        Err(fault) if fault.at == 0 => Err(AllocError),
         Err(fault) => Answer::reported(alloc, &fault),
     }
 }
@@ -56,7 +58,8 @@ fn answer_entries(alloc: Global, entries: EntryList) -> Result<Answer, AllocErro
 pub fn load_on(alloc: Global, bytes: &[u8]) -> Result<Answer, AllocError>
     ensures { IfOk result (AnswersDump bytes.now) }
 {
-    match entries_in(alloc, bytes)? {
+    let lines = split_lines(alloc, bytes)?;
+    match entries_in(alloc, lines.as_slice())? {
         Ok(entries) => answer_entries(alloc, entries),
         Err(fault) => Answer::reported(alloc, &fault),
     }

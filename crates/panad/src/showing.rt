@@ -1,12 +1,12 @@
 //! Lines made as calls on a new hall, and its tables in place of the answers.
 ghost use Rattle.std.specs.Prelude.{◌≡◌, ◌++◌, [], IfOk, OnOk, option_map, string_bytes};
-ghost use Rattle.pana_wire.specs.Lines.{lines_of};
-ghost use Rattle.panad.specs.Show.{AnswersLines, TakesLine, TakesLines, shown_reason};
+ghost use Rattle.panad.specs.inner.{texts};
+ghost use Rattle.panad.specs.Show.{AnswersLines, TakesLine, TakesLines, report_of, shown_reason};
 
 use crate::answer::Answer;
 use crate::tables::tables_of;
 use pana_hall::{Cause, Hall, Reply};
-use pana_wire::{Message, WireFault, decode, next_line};
+use pana_wire::{Message, WireFault, decode, split_lines};
 use std::alloc::{AllocError, Global};
 use std::fmt;
 
@@ -47,21 +47,33 @@ fn take_line(alloc: Global, hall: &mut Hall, line: &[u8]) -> Option<Reason>
     }
 }
 
+/// Appends the report about a line that wasn't done.
+fn push_report(
+    alloc: Global,
+    reports: &mut String,
+    number: u64,
+    reason: Option<Reason>,
+) -> Result<(), AllocError>
+    ensures { OnOk result (string_bytes reports.new ≡ string_bytes reports.old ++ report_of number (option_map shown_reason reason)) }
+{
+    match reason {
+        Some(reason) => {
+            let report = format!(in alloc; "panad: line {number}: {reason}\n")?;
+            reports.push_str(report.as_str())
+        }
+        None => Ok(()),
+    }
+}
+
 /// Makes the calls of all lines on the hall, and returns the reports about those that weren't done. Fails only where
 /// memory runs out for these.
-fn take_lines(alloc: Global, hall: &mut Hall, bytes: &[u8]) -> Result<String, AllocError>
-    ensures { IfOk result (λ reports. TakesLines 1 hall.old (lines_of bytes.now) (string_bytes reports) hall.new) }
+fn take_lines(alloc: Global, hall: &mut Hall, lines: &[&[u8]]) -> Result<String, AllocError>
+    ensures { IfOk result (λ reports. TakesLines 1 hall.old (texts lines.now) (string_bytes reports) hall.new) }
 {
     let mut reports = String::new(alloc);
-    let mut rest = bytes;
-    let mut number = 0u64;
-    while let Some((line, later)) = next_line(rest) {
-        number += 1;
-        if let Some(reason) = take_line(alloc, hall, line) {
-            let report = format!(in alloc; "panad: line {number}: {reason}\n")?;
-            reports.push_str(report.as_str())?;
-        }
-        rest = later;
+    for (index, line) in lines.iter().enumerate() {
+        let reason = take_line(alloc, hall, line);
+        push_report(alloc, &mut reports, index as u64 + 1, reason)?;
     }
     Ok(reports)
 }
@@ -78,7 +90,8 @@ pub fn show_on(alloc: Global, bytes: &[u8]) -> Result<Answer, AllocError>
     ensures { IfOk result (AnswersLines bytes.now) }
 {
     let mut hall = Hall::new(alloc)?;
-    let err = take_lines(alloc, &mut hall, bytes)?;
+    let lines = split_lines(alloc, bytes)?;
+    let err = take_lines(alloc, &mut hall, lines.as_slice())?;
     let out = tables_of(alloc, &mut hall)?;
     let status = if err.is_empty() { 0 } else { 1 };
     Ok(Answer { out, err, status })
