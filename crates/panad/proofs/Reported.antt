@@ -37,14 +37,24 @@ changed_on_ok (Err e) new pushed old is = tt
 -- one line more
 pub takes_one_more : (n : ℕ) (old : List Entry) (lines : List (List ℕ)) (reports : List ℕ) (mid : List Entry) (line : List ℕ) (why : Option (List ℕ)) (new : List Entry)
     → TakesLines n old lines reports mid → TakesLine mid line why new → TakesLines n old (lines ++ line ∷ []) (reports ++ report_of (n + length lines) why) new
-takes_one_more n old [] reports mid line why new (none, same) takes =
-    (new, why, [], subst (λ journal. TakesLine journal line why new) same takes, (refl, refl),
-    ap (λ l. l ++ report_of (n + 0) why) none ∙ ap (λ m. report_of m why) (omega arith) ∙ sym (append-nil (report_of n why)))
-takes_one_more n old (first ∷ lines) reports mid line why new (next, reason, rest, takes_first, takes_rest, whole) takes =
-    (next, reason, rest ++ report_of (n + 1 + length lines) why, takes_first, takes_one_more (n + 1) next lines rest mid line why new takes_rest takes,
-    ap (λ l. l ++ report_of (n + length (first ∷ lines)) why) whole
-    ∙ append_assoc (report_of n reason) rest (report_of (n + length (first ∷ lines)) why)
-    ∙ ap (λ m. report_of n reason ++ (rest ++ report_of m why)) (omega arith))
+takes_one_more n old [] reports mid line why new (none, same) takes = (
+  new,
+  why,
+  [],
+  subst (λ journal. TakesLine journal line why new) same takes,
+  (refl, refl),
+  ap (λ l. l ++ report_of (n + 0) why) none ∙ ap (λ m. report_of m why) (omega arith) ∙ sym (append-nil (report_of n why)),
+)
+takes_one_more n old (first ∷ lines) reports mid line why new (next, reason, rest, takes_first, takes_rest, whole) takes = (
+  next,
+  reason,
+  rest ++ report_of (n + 1 + length lines) why,
+  takes_first,
+  takes_one_more (n + 1) next lines rest mid line why new takes_rest takes,
+  ap (λ l. l ++ report_of (n + length (first ∷ lines)) why) whole
+      ∙ append_assoc (report_of n reason) rest (report_of (n + length (first ∷ lines)) why)
+      ∙ ap (λ m. report_of n reason ++ (rest ++ report_of m why)) (omega arith),
+)
 
 -- one line more
 pub say_one_more : (lines : List (List ℕ)) (entries : List Entry) (line : List ℕ) (more : List Entry)

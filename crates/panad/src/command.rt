@@ -1,14 +1,17 @@
+use crate::answer::Answer;
 use crate::comparing::compare_on;
 use crate::fault::ProgramFault;
+use crate::loading::load_on;
 use crate::running::run_on;
+use crate::showing::show_on;
 use crate::version::VERSION;
 use clap::error::{Error, ErrorKind};
 use clap::{Arg, ArgMatches, Command};
 use pana_wire::Tap;
 use std::alloc::{AllocError, Global};
-use std::io;
-use std::io::BufWriter;
+use std::io::{BufWriter, Read};
 use std::process::ExitCode;
+use std::{fs, io};
 
 /// How many reads a session of the program makes at most.
 const READS: u64 = 4_294_967_296;
@@ -24,8 +27,9 @@ Each line of input to `panad run` is what a device reports, or asks:
 Reports: register, duplicate, edit, reconcile, merge, relocate, remove, confirm,
 withdraw. Questions: families, board, pair, holdings, journal.
 
-`panad run --help` and `panad compare --help` show an example. README.md has all
-answers, what is proved of them, and what isn't.";
+`panad show` takes such lines and prints tables in place of the answers.
+`panad COMMAND --help` shows an example. README.md has all answers, what is
+proved of them, and what isn't.";
 
 const RUN_EXAMPLE: &str = "\
 Example: a file on a laptop, its copy on a stick, an edit, and which is newest?
@@ -37,6 +41,31 @@ Example: a file on a laptop, its copy on a stick, an edit, and which is newest?
     {\"by\":\"laptop\",\"do\":\"board\",\"family\":1}
     END";
 
+const SHOW_EXAMPLE: &str = "\
+Example: the same lines, and how the copies compare?
+
+    $ panad show <<END
+    {\"by\":\"laptop\",\"do\":\"register\",\"device\":\"laptop\",\"path\":\"plan.txt\"}
+    {\"by\":\"laptop\",\"do\":\"duplicate\",\"copy\":1,\"device\":\"usb\",\"path\":\"plan.txt\"}
+    {\"by\":\"laptop\",\"do\":\"edit\",\"copy\":1}
+    END
+    family 1: copies 2, newest 1, split no
+    COPY  PLACE            STATE     NEWER  OLDER  EQUAL  CONFLICT
+       1  laptop:plan.txt  newest        0      1      0         0
+       2  usb:plan.txt     obsolete      1      0      0         0
+
+A line that is faulty or refused is reported with its number, and the rest goes
+on; the status is 1 then.";
+
+const LOAD_EXAMPLE: &str = "\
+A dump is the answers to `journal` questions, a line each. Example:
+
+    $ panad load backup.dump
+    family 1: copies 2, newest 1, split no
+    COPY  PLACE            STATE     NEWER  OLDER  EQUAL  CONFLICT
+       1  laptop:plan.txt  newest        0      1      0         0
+       2  usb:plan.txt     obsolete      1      0      0         0";
+
 const COMPARE_EXAMPLE: &str = "\
 A stamp is an id and an event of an Interval Tree Clock. Example:
 
@@ -46,7 +75,14 @@ A stamp is an id and an event of an Interval Tree Clock. Example:
 /// The names of the commands.
 const RUN: &str = "run";
 
+const SHOW: &str = "show";
+
+const LOAD: &str = "load";
+
 const COMPARE: &str = "compare";
+
+/// The name of the file on the command line.
+const FILE: &str = "FILE";
 
 /// The names of the two stamps on the command line.
 const FIRST: &str = "FIRST";
@@ -57,6 +93,26 @@ fn run_command<'a>(alloc: Global) -> Command<'a> {
     Command::new(alloc, RUN)
         .about("Answers the lines on standard input, each a report or a question")
         .after_help(RUN_EXAMPLE)
+}
+
+fn show_command<'a>(alloc: Global) -> Result<Command<'a>, AllocError> {
+    let file = Arg::new(alloc, FILE).help(
+        "The file with the lines; standard input where there is none",
+    );
+    Command::new(alloc, SHOW)
+        .about("Takes lines as `run` does, and prints a table of each family's copies")
+        .after_help(SHOW_EXAMPLE)
+        .arg(file)
+}
+
+fn load_command<'a>(alloc: Global) -> Result<Command<'a>, AllocError> {
+    let file = Arg::new(alloc, FILE)
+        .help("The file with the dump")
+        .required(true);
+    Command::new(alloc, LOAD)
+        .about("Loads a dump of a journal, and prints a table of each family's copies")
+        .after_help(LOAD_EXAMPLE)
+        .arg(file)
 }
 
 fn compare_command<'a>(alloc: Global) -> Result<Command<'a>, AllocError> {
@@ -82,6 +138,8 @@ fn command_line<'a>(alloc: Global) -> Result<Command<'a>, AllocError> {
         .subcommand_required(true)
         .arg_required_else_help(true)
         .subcommand(run_command(alloc))?
+        .subcommand(show_command(alloc)?)?
+        .subcommand(load_command(alloc)?)?
         .subcommand(compare_command(alloc)?)
 }
 
@@ -101,6 +159,54 @@ fn compare(rt: &HostRuntime, words: &ArgMatches) -> Result<ExitCode, ProgramFaul
     let first = words.get_str(FIRST).unwrap_or("");
     let second = words.get_str(SECOND).unwrap_or("");
     compare_on(rt.alloc(), first, second)?.print(rt)
+}
+
+/// The bytes of a file, or `None` where it can't be read.
+fn bytes_of(rt: &HostRuntime, name: &str) -> Result<Option<Vec<u8>>, ProgramFault> {
+    match fs::read(rt, name) {
+        Ok(bytes) => Ok(Some(bytes)),
+        Err(error) if matches!(error.kind(), io::ErrorKind::OutOfMemory) => {
+            Err(ProgramFault::OutOfMemory)
+        }
+        Err(_) => Ok(None),
+    }
+}
+
+/// The bytes of standard input.
+fn bytes_of_input(rt: &HostRuntime) -> Result<Vec<u8>, ProgramFault> {
+    let mut bytes = Vec::new(rt.alloc());
+    match rt.reader().read_to_end(&mut bytes) {
+        Ok(_) => Ok(bytes),
+        Err(error) if matches!(error.kind(), io::ErrorKind::OutOfMemory) => {
+            Err(ProgramFault::OutOfMemory)
+        }
+        Err(_) => Err(ProgramFault::Read),
+    }
+}
+
+fn cannot_read(rt: &HostRuntime, name: &str) -> Result<ExitCode, ProgramFault> {
+    let text = format!(in rt.alloc(); "cannot read {name}")?;
+    Answer::reported(rt.alloc(), &text)?.print(rt)
+}
+
+fn show(rt: &HostRuntime, words: &ArgMatches) -> Result<ExitCode, ProgramFault> {
+    let bytes = match words.get_str(FILE) {
+        Some(name) => match bytes_of(rt, name)? {
+            Some(bytes) => bytes,
+            None => return cannot_read(rt, name),
+        },
+        None => bytes_of_input(rt)?,
+    };
+    show_on(rt.alloc(), bytes.as_slice())?.print(rt)
+}
+
+fn load(rt: &HostRuntime, words: &ArgMatches) -> Result<ExitCode, ProgramFault> {
+    // The word is required, so it is there.
+    let name = words.get_str(FILE).unwrap_or("");
+    match bytes_of(rt, name)? {
+        Some(bytes) => load_on(rt.alloc(), bytes.as_slice())?.print(rt),
+        None => cannot_read(rt, name),
+    }
 }
 
 /// Prints help, or what is wrong with the words, and returns the status for it.
@@ -138,6 +244,8 @@ fn obey_words(rt: &HostRuntime, words: &[String]) -> Result<ExitCode, ProgramFau
     };
     match asked.subcommand() {
         Some((RUN, _)) => run(rt),
+        Some((SHOW, words)) => show(rt, words),
+        Some((LOAD, words)) => load(rt, words),
         Some((COMPARE, words)) => compare(rt, words),
         _ => refuse(rt, ErrorKind::MissingSubcommand, "a command is required"),
     }

@@ -15,10 +15,7 @@ use pana_wire::{decode_dump, split_lines};
 use std::alloc::{AllocError, Global};
 
 /// The entries in the lines of a dump, or its first line with a fault.
-fn entries_in(
-    alloc: Global,
-    lines: &[&[u8]],
-) -> Result<Result<EntryList, LineFault>, AllocError>
+fn entries_in(alloc: Global, lines: &[&[u8]]) -> Result<Result<EntryList, LineFault>, AllocError>
     ensures { IfOk result (λ read. MatchResult read (SayEntries (texts lines.now)) (HasFault (texts lines.now))) }
 {
     let mut entries = EntryList::new(alloc);
