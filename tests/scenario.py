@@ -10,6 +10,7 @@ runs     in place of these five several runs, a line of JSON each, or runs.py, w
          {"args": ["a", "b"], "input": "", "output": "", "error": "", "status": 0}, where what is
          absent is as here; "from" may name a file or folder for standard input, in place of "input",
          and "to" a file for standard output, each by its whole path
+data     a folder with files for the runs: {data} in arguments and texts stands for its path
 sweep    marks the scenario for the sweep of failed allocations: for a session query lines that show
          the state; for several runs the lines that may be reported where an allocation failed
 """
@@ -24,7 +25,8 @@ from pathlib import Path
 FOLDER = Path(__file__).resolve().parent / "scenarios"
 SESSION = {"args", "input", "input.py", "output", "output.py", "error", "status"}
 RUNS = {"runs", "runs.py"}
-FILES = {"about", "sweep", *SESSION, *RUNS}
+FILES = {"about", "data", "sweep", *SESSION, *RUNS}
+DATA = "{data}"
 PARTS = {"args": list, "input": str, "from": str, "output": str, "error": str, "status": int, "to": str}
 # What Python leaves beside a file that it has read.
 LEFT = "__pycache__"
@@ -77,7 +79,12 @@ def text_of(folder, name, default=None):
     return default
 
 
-def run_of(line):
+def words_of(folder, words):
+    """The arguments, where the folder with the files is named by its path."""
+    return [it.replace(DATA, str(folder / "data")) for it in words]
+
+
+def run_of(folder, line):
     """The run that a line of the file runs says."""
     try:
         said = json.loads(line)
@@ -88,8 +95,8 @@ def run_of(line):
     source, to = said.get("from"), said.get("to")
     if "input" in said and source or any(it and not it.startswith("/") for it in (source, to)):
         raise BadScenario(f"its input or output is not named rightly: {line.decode(errors='replace')}")
-    given, output, error = (said.get(it, "").encode() for it in ("input", "output", "error"))
-    return Run(said["args"], given, output, error, said.get("status", 0), source, to)
+    given, output, error = (words_of(folder, [said.get(it, "")])[0].encode() for it in ("input", "output", "error"))
+    return Run(words_of(folder, said["args"]), given, output, error, said.get("status", 0), source, to)
 
 
 def session_of(folder):
@@ -98,7 +105,7 @@ def session_of(folder):
     if not status.isdigit():
         raise BadScenario("its status is no number")
     return Run(
-        args=text_of(folder, "args", b"run\n").decode().splitlines(),
+        args=words_of(folder, text_of(folder, "args", b"run\n").decode().splitlines()),
         given=text_of(folder, "input", b""),
         output=text_of(folder, "output"),
         error=text_of(folder, "error", b""),
@@ -117,7 +124,7 @@ def read(folder):
     if not about or "\n" in about:
         raise BadScenario("its about is not one sentence on one line")
     is_session = not names & RUNS
-    runs = [session_of(folder)] if is_session else [run_of(it) for it in text_of(folder, "runs").splitlines()]
+    runs = [session_of(folder)] if is_session else [run_of(folder, it) for it in text_of(folder, "runs").splitlines()]
     if not runs:
         raise BadScenario("it has no run")
     return Scenario(folder.name, about, is_session, runs, text_of(folder, "sweep", b"").splitlines())
