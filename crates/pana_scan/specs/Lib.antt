@@ -2,3 +2,4 @@ pub mod Order
 pub mod Listing
 pub mod Baseline
 pub mod Plan
+pub mod inner

@@ -6,6 +6,7 @@ use Rattle.pana_hall.specs.declared.holding.Holding.{Holding}
 use Rattle.pana_scan.specs.declared.baseline.BaselineRow.{BaselineRow}
 use Rattle.pana_scan.specs.declared.baseline.Mark.{Mark}
 use Rattle.pana_scan.specs.declared.listing.Found.{Found}
+use Rattle.pana_scan.specs.declared.listing.FoundRow.{FoundRow}
 use Rattle.pana_scan.specs.declared.listing.Found.TheVariants.{Seen, Unreadable}
 use Rattle.pana_scan.specs.declared.outcome.Outcome.{Outcome}
 use Rattle.pana_scan.specs.declared.step.Plan.{Plan}
@@ -49,28 +50,37 @@ abbrev pub outcome_for : List ℕ → Known → Outcome
 outcome_for device known = outcome_at device known.path known.found known.mark known.living
 
 -- what the three lists have of a path
-abbrev pub known_of : List BaselineRow → List Holding → Contents → Path → Known
-known_of baseline holdings listing path = record {
+abbrev pub known_of : List FoundRow → List BaselineRow → List Holding → Path → Known
+known_of found baseline holdings path = record {
   path = path;
-  found = option_map (λ row. row.found) (find (λ row. bytes_eq row.path path) listing.rows);
+  found = option_map (λ row. row.found) (find (λ row. bytes_eq row.path path) found);
   mark = option_map (λ row. row.mark) (find (λ row. bytes_eq row.path path) baseline);
   living = find (λ holding. bytes_eq holding.path path) holdings;
 }
 
 -- the paths of the three lists, each once, in byte order
-abbrev pub paths_of : List BaselineRow → List Holding → Contents → List Path
-paths_of baseline holdings listing =
-    in_order (map (λ row. row.path) listing.rows ++ map (λ row. row.path) baseline ++ map (λ holding. holding.path) holdings)
+abbrev pub paths_of : List FoundRow → List BaselineRow → List Holding → List Path
+paths_of found baseline holdings =
+    in_order (map (λ row. row.path) found ++ map (λ row. row.path) baseline ++ map (λ holding. holding.path) holdings)
 
--- what a scan calls for at each path, in byte order
-abbrev pub knowns_of : List BaselineRow → List Holding → Contents → List Known
-knowns_of baseline holdings listing = map (known_of baseline holdings listing) (paths_of baseline holdings listing)
+-- what is known of each of these paths
+abbrev pub knowns : List FoundRow → List BaselineRow → List Holding → List Known
+knowns found baseline holdings = map (known_of found baseline holdings) (paths_of found baseline holdings)
 
--- the plan: the steps of all paths, and the rows that the baseline keeps of them
+-- the steps that the paths call for
+abbrev pub steps_for : List ℕ → List Known → List Step
+steps_for device = filter_map (λ known. (outcome_for device known).step)
+
+-- the row that the baseline keeps of a path
+abbrev pub row_for : List ℕ → Known → Option BaselineRow
+row_for device known = option_map (λ mark. record { path = known.path; mark = mark }) (outcome_for device known).mark
+
+-- the rows that the baseline keeps of the paths
+abbrev pub rows_for : List ℕ → List Known → List BaselineRow
+rows_for device = filter_map (row_for device)
+
+-- what a scan calls for: the steps of all paths in byte order, and the rows that the baseline keeps of them
 abbrev pub plan_of : List BaselineRow → List Holding → Contents → Plan
 plan_of baseline holdings listing =
-    let known = knowns_of baseline holdings listing in
-    record {
-      steps = filter_map (λ it. (outcome_for listing.device it).step) known;
-      baseline = filter_map (λ it. option_map (λ mark. record { path = it.path; mark = mark }) (outcome_for listing.device it).mark) known;
-    }
+    let known = knowns listing.rows baseline holdings in
+    record { steps = steps_for listing.device known; baseline = rows_for listing.device known }

@@ -1,5 +1,5 @@
 //! What earlier scans of a device have found and reported.
-ghost use Rattle.std.specs.Prelude.{◌≡◌, [], IfSome, IfNone, OnOk, OnErr};
+ghost use Rattle.std.specs.Prelude.{◌≡◌, [], MatchResult, OnOk, OnErr};
 
 use crate::merging::HasPath;
 use crate::step::Step;
@@ -40,7 +40,8 @@ impl Model for Baseline {
 }
 
 impl Baseline {
-    ghost use Rattle.pana_scan.specs.Baseline.{MarksRise, settled};
+    ghost use Rattle.pana_scan.specs.Baseline.{MarksRise, settled, with_row, without};
+    ghost use Rattle.pana_scan.specs.inner.Position.{IsAt, IsGap};
 
     /// The baseline without a row, before the first scan. Takes no memory.
     pub fn new(alloc: Global) -> Baseline
@@ -90,7 +91,10 @@ impl Baseline {
         }
     }
 
-    fn put(&mut self, path: &CopyPath, mark: Mark) -> Result<(), AllocError> {
+    fn put(&mut self, path: &CopyPath, mark: Mark) -> Result<(), AllocError>
+        ensures ok { OnOk result (self.new ≡ with_row (record { path = path.now; mark = mark }) self.old) }
+        ensures err { OnErr result (self.new ≡ self.old) }
+    {
         match self.position(path) {
             Ok(at) => self.rows[at].mark = mark,
             Err(at) => {
@@ -101,14 +105,18 @@ impl Baseline {
         Ok(())
     }
 
-    fn take_out(&mut self, path: &CopyPath) {
+    fn take_out(&mut self, path: &CopyPath)
+        ensures { self.new ≡ without path.now self.old }
+    {
         if let Ok(at) = self.position(path) {
             self.rows.remove(at);
         }
     }
 
     /// Where the row of this path is, or else where it goes.
-    fn position(&self, path: &CopyPath) -> Result<usize, usize> {
+    fn position(&self, path: &CopyPath) -> Result<usize, usize>
+        ensures { MatchResult result (IsAt path.now self.now) (IsGap path.now self.now) }
+    {
         self.rows
             .as_slice()
             .binary_search_by(|row| row.path.as_str().cmp(path.as_str()))

@@ -1,5 +1,7 @@
 //! A listing, a baseline and the holdings of a device, gone through once, path by path.
-ghost use Rattle.std.specs.Prelude.{◌≡◌, ℕ, List};
+ghost use Rattle.std.specs.Prelude.{◌≡◌, ◌∷◌, [], ℕ, List, option_copied, option_map, IfSome, IfNone};
+ghost use Rattle.pana_scan.specs.inner.Heads.{first_path, head_at, lesser, rest_at};
+ghost use Rattle.pana_scan.specs.inner.Left.{AllRise, known_at, left, living_left};
 
 use crate::baseline::{BaselineRow, Mark};
 use crate::listing::{Found, FoundRow};
@@ -57,7 +59,12 @@ pub(crate) struct Sources<'a> {
 
 impl<'a> Sources<'a> {
     /// The least path that is left, with what is known of it.
-    pub(crate) fn next(&mut self) -> Option<Spot<'a>> {
+    pub(crate) fn next(&mut self) -> Option<Spot<'a>>
+        requires { AllRise self.old }
+        ensures rise { AllRise self.new }
+        ensures some { IfSome result (λ spot. left self.old ≡ known_at spot ∷ left self.new) }
+        ensures none { IfNone result (left self.old ≡ []) }
+    {
         let path = self.least()?;
         let found = take(&mut self.found, path);
         let kept = take(&mut self.kept, path);
@@ -70,17 +77,28 @@ impl<'a> Sources<'a> {
         })
     }
 
-    fn least(&self) -> Option<&'a CopyPath> {
-        lesser(first(self.found), lesser(first(self.kept), first(self.living)))
+    fn least(&self) -> Option<&'a CopyPath>
+        ensures { option_copied result ≡ lesser (first_path (λ row. row.path) self.now.found.now)
+            (lesser (first_path (λ row. row.path) self.now.kept.now) (first_path (λ holding. holding.now.path) self.now.living.now)) }
+    {
+        lesser(
+            first(self.found),
+            lesser(first(self.kept), first(self.living)),
+        )
     }
 }
 
 /// The path of the first row, if there is one.
-fn first<T: HasPath>(rows: &[T]) -> Option<&CopyPath> {
+fn first<T: HasPath>(rows: &[T]) -> Option<&CopyPath>
+    ensures { option_copied result ≡ first_path T.path rows.now }
+{
     Some(rows.first()?.path())
 }
 
-fn lesser<'a>(one: Option<&'a CopyPath>, other: Option<&'a CopyPath>) -> Option<&'a CopyPath> {
+/// The lesser of two paths, where both are there.
+fn lesser<'a>(one: Option<&'a CopyPath>, other: Option<&'a CopyPath>) -> Option<&'a CopyPath>
+    ensures { option_copied result ≡ lesser (option_copied one) (option_copied other) }
+{
     match (one, other) {
         (Some(a), Some(b)) => Some(if b.as_str() < a.as_str() { b } else { a }),
         (Some(a), None) => Some(a),
@@ -89,7 +107,10 @@ fn lesser<'a>(one: Option<&'a CopyPath>, other: Option<&'a CopyPath>) -> Option<
 }
 
 /// The first row, taken off where it has this path.
-fn take<'a, T: HasPath>(rows: &mut &'a [T], path: &CopyPath) -> Option<&'a T> {
+fn take<'a, T: HasPath>(rows: &mut &'a [T], path: &CopyPath) -> Option<&'a T>
+    ensures row { option_copied result ≡ head_at T.path path.now rows.old.now }
+    ensures rest { rows.new.now ≡ rest_at T.path path.now rows.old.now }
+{
     let (row, rest) = rows.split_first()?;
     if row.path() != path {
         return None;

@@ -1,7 +1,7 @@
 //! What a scan calls for at one path.
 ghost use Rattle.std.specs.Prelude.{◌≡◌, ◌==◌, ◌&&◌, not, Some, None, option_copied, IfOk};
 ghost use Rattle.std.specs.Str.{bytes_eq};
-ghost use Rattle.pana_scan.specs.Plan.{outcome_at};
+ghost use Rattle.pana_scan.specs.Plan.{keep, outcome_at};
 ghost use Rattle.pana_journal.specs.declared.report.Report.TheVariants.{Register, Edit, Remove};
 ghost use Rattle.pana_scan.specs.declared.listing.Found.TheVariants.{Seen};
 
@@ -24,7 +24,9 @@ pub(crate) struct Outcome {
 impl Outcome {
     const NOTHING: Outcome = Outcome { step: None, mark: None };
 
-    fn marked(fingerprint: [u8; 32], touch: u64) -> Outcome {
+    fn marked(fingerprint: [u8; 32], touch: u64) -> Outcome
+        ensures { result ≡ keep (Some (record { fingerprint = fingerprint; touch = touch })) }
+    {
         Outcome {
             step: None,
             mark: Some(Mark { fingerprint, touch }),
@@ -84,7 +86,9 @@ impl Spot<'_> {
         }
     }
 
-    fn register(&self, fingerprint: [u8; 32], device: &DeviceName) -> Result<Step, AllocError> {
+    fn register(&self, fingerprint: [u8; 32], device: &DeviceName) -> Result<Step, AllocError>
+        ensures { IfOk result (λ step. step ≡ record { path = self.now.path.now; fingerprint = Some fingerprint; report = Register (record { device = device.now; path = self.now.path.now }) }) }
+    {
         let place = Place {
             device: device.copy_of()?,
             path: self.path.copy_of()?,
@@ -92,15 +96,21 @@ impl Spot<'_> {
         self.step(Some(fingerprint), Report::Register { place })
     }
 
-    fn edit(&self, fingerprint: [u8; 32], copy: u64) -> Result<Step, AllocError> {
+    fn edit(&self, fingerprint: [u8; 32], copy: u64) -> Result<Step, AllocError>
+        ensures { IfOk result (λ step. step ≡ record { path = self.now.path.now; fingerprint = Some fingerprint; report = Edit copy }) }
+    {
         self.step(Some(fingerprint), Report::Edit { copy })
     }
 
-    fn remove(&self, copy: u64) -> Result<Step, AllocError> {
+    fn remove(&self, copy: u64) -> Result<Step, AllocError>
+        ensures { IfOk result (λ step. step ≡ record { path = self.now.path.now; fingerprint = None; report = Remove copy None }) }
+    {
         self.step(None, Report::Remove { copy, heir: None })
     }
 
-    fn step(&self, fingerprint: Option<[u8; 32]>, report: Report) -> Result<Step, AllocError> {
+    fn step(&self, fingerprint: Option<[u8; 32]>, report: Report) -> Result<Step, AllocError>
+        ensures { IfOk result (λ step. step ≡ record { path = self.now.path.now; fingerprint = fingerprint; report = report }) }
+    {
         Ok(Step {
             path: self.path.copy_of()?,
             fingerprint,
