@@ -1,2 +1,4 @@
 pub mod Order
 pub mod Merged
+pub mod Settled
+pub mod Listed

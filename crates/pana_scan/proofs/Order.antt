@@ -25,6 +25,10 @@ Rise paths = IsStrictlySortedBy path_cmp paths
 abbrev pub has : List Path → Path → Bool
 has paths path = list_any (λ other. bytes_eq other path) paths
 
+pub nothing_rises : Rise []
+unfolding IsStrictlySortedBy
+nothing_rises = tt
+
 pub same_path : (p q : Path) → path_cmp p q ≡ Equal → p ≡ q
 same_path = slice_cmp-IsAntisymmetric nat_cmp-IsAntisymmetric
 

@@ -1,7 +1,7 @@
 //! What earlier scans of a device have found and reported.
 ghost use Rattle.std.specs.Prelude.{◌≡◌, [], MatchResult, OnOk, OnErr};
 
-use crate::merging::HasPath;
+use crate::ordering::path_order;
 use crate::step::Step;
 use pana_copies::CopyPath;
 use std::alloc::{AllocError, Global};
@@ -119,6 +119,6 @@ impl Baseline {
     {
         self.rows
             .as_slice()
-            .binary_search_by(|row| row.path.as_str().cmp(path.as_str()))
+            .binary_search_by(|row| path_order(&row.path, path))
     }
 }

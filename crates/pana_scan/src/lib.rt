@@ -5,6 +5,7 @@ mod baseline;
 mod fingerprinting;
 mod listing;
 mod merging;
+mod ordering;
 mod outcome;
 mod planning;
 mod step;

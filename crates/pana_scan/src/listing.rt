@@ -1,7 +1,6 @@
 //! What a scan of a folder finds.
 ghost use Rattle.std.specs.Prelude.{◌≡◌, ◌↔◌, [], ◌∷◌, ◌++◌, IsTrue, OnOk, OnErr};
 
-use crate::merging::HasPath;
 use pana_copies::{CopyPath, DeviceName};
 use std::alloc::{AllocError, Global};
 use std::marker::Model;

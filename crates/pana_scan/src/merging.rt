@@ -97,7 +97,7 @@ fn first<T: HasPath>(rows: &[T]) -> Option<&CopyPath>
 
 /// The lesser of two paths, where both are there.
 fn lesser<'a>(one: Option<&'a CopyPath>, other: Option<&'a CopyPath>) -> Option<&'a CopyPath>
-    ensures { option_copied result ≡ lesser (option_copied one) (option_copied other) }
+    ensures { option_copied result ≡ lesser (option_copied one.entry) (option_copied other.entry) }
 {
     match (one, other) {
         (Some(a), Some(b)) => Some(if b.as_str() < a.as_str() { b } else { a }),

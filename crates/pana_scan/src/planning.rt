@@ -8,6 +8,7 @@ ghost use Rattle.pana_scan.specs.Plan.{plan_of};
 use crate::baseline::{Baseline, BaselineRow};
 use crate::listing::Listing;
 use crate::merging::Sources;
+use crate::ordering::path_order;
 use crate::outcome::Outcome;
 use crate::step::{Plan, Step, StepList};
 use pana_copies::CopyPath;
@@ -87,6 +88,6 @@ fn by_path<'a>(alloc: Global, holdings: &'a [Holding]) -> Result<Vec<&'a Holding
     for holding in holdings {
         living.push(holding)?;
     }
-    living.sort_by(|one, other| one.path.as_str().cmp(other.path.as_str()))?;
+    living.sort_by(|one, other| path_order(&one.path, &other.path))?;
     Ok(living)
 }
