@@ -2,3 +2,4 @@ pub mod Order
 pub mod Merged
 pub mod Settled
 pub mod Listed
+pub mod Hashed

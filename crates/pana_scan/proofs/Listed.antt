@@ -1,9 +1,11 @@
 -- The rows of a listing: a path goes in at the end, above the last.
-use Rattle.std.specs.Prelude.{◌≡◌, List, [], ◌∷◌, ◌++◌, map}
+use Rattle.std.specs.Prelude.{◌≡◌, ◌↔◌, ℕ, zero, suc, ◌+◌, ◌-◌, ◌<◌, Bool, IsTrue, List, [], ◌∷◌, ◌++◌, map, length, slice_index_or}
+use Rattle.std.specs.Ordering.{is_lt}
+use Rattle.pana_scan.proofs.Settled.{less_from}
 use Rattle.std.specs.List.{AllByRecursion}
 use Rattle.std.specs.List.Sorted.{IsStrictlySortedBy}
 use Rattle.std.specs.declared.cmp.Ordering.TheVariants.{Less}
-use Rattle.std.proofs.Common.{refl, sym, ap, ◌∙◌, subst}
+use Rattle.std.proofs.Common.{refl, sym, ap, ◌∙◌, subst, arith}
 use Rattle.pana_scan.specs.declared.listing.FoundRow.{FoundRow}
 use Rattle.pana_scan.specs.Order.{Path, path_cmp}
 use Rattle.pana_scan.specs.Listing.{IsAbove, RowsRise}
@@ -44,3 +46,27 @@ pub above_last : (rows before : List FoundRow) (last : FoundRow) (p : Path) → 
 above_last rows before last p is less others other is' =
     let same : last ≡ other = sym (last_pushed last before last) ∙ ap (last_or last) (sym is ∙ is') ∙ last_pushed last others other in
     subst (λ row. path_cmp row.path p ≡ Less) same less
+
+last_at : (rows : List FoundRow) (last : FoundRow) (i : ℕ) → i + 1 ≡ length rows → last ≡ slice_index_or rows i last → (before : List FoundRow) × (rows ≡ before ++ last ∷ [])
+last_at [] last i long is = absurd (omega (arith, long))
+last_at (row ∷ []) last zero long is = ([], ap (λ it. it ∷ []) (sym is))
+last_at (row ∷ []) last (suc i) long is = absurd (omega (arith, long))
+last_at (row ∷ next ∷ rows) last zero long is = absurd (omega (arith, long))
+last_at (row ∷ next ∷ rows) last (suc i) long is =
+    let rest = last_at (next ∷ rows) last i (omega (arith, long)) is in
+    (row ∷ rest.0, ap (λ more. row ∷ more) rest.1)
+
+-- what the comparison with the last row decides
+above_decides : (rows : List FoundRow) (last : FoundRow) (p : Path) → 0 < length rows → last ≡ slice_index_or rows (length rows - 1) last
+    → IsTrue (is_lt (path_cmp last.path p)) ↔ IsAbove rows p
+above_decides rows last p some is =
+    let split = last_at rows last (length rows - 1) (omega (arith, some)) is in (
+      (λ less. above_last rows split.0 last p split.1 (less_from (path_cmp last.path p) less)),
+      (λ above. ap is_lt (above split.0 last split.1)),
+    )
+
+pub above_answers : (seen rows : List FoundRow) (last : FoundRow) (p a b : Path) (r : Bool) → seen ≡ rows → 0 < length seen
+    → last ≡ slice_index_or seen (length seen - 1) last → a ≡ last.path → b ≡ p → r ≡ is_lt (path_cmp a b) → IsTrue r ↔ IsAbove rows p
+above_answers seen rows last p a b r same some is first second answer =
+    let said : r ≡ is_lt (path_cmp last.path p) = answer ∙ (λ t. is_lt (path_cmp (first t) (second t))) in
+    subst (λ x. IsTrue x ↔ IsAbove rows p) (sym said) (subst (λ more. IsTrue (is_lt (path_cmp last.path p)) ↔ IsAbove more p) same (above_decides seen last p some is))

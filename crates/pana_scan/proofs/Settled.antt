@@ -154,7 +154,7 @@ without_rise p rows rise = rise_filter key (is_other p) rows rise
 abbrev AreBelow : List Path → Path → Type 0
 AreBelow paths p = AllByRecursion (λ q. path_cmp q p ≡ Less) paths
 
-less_from : (o : Ordering) → is_lt o ≡ true → o ≡ Less
+pub less_from : (o : Ordering) → is_lt o ≡ true → o ≡ Less
 less_from Less is = refl
 less_from Equal is = absurd (true≢false (sym is))
 less_from Greater is = absurd (true≢false (sym is))

@@ -16,7 +16,9 @@ pub fn fingerprint<R: Read>(reader: &mut R, reads: u64) -> Option<[u8; 32]>
     let mut hasher = Sha256::new();
     let mut piece = [0u8; PIECE];
     for _ in 0..reads {
-        let count = reader.read(&mut piece).ok()?;
+        let Ok(count) = reader.read(&mut piece) else {
+            return None;
+        };
         if count == 0 {
             return Some(hasher.finalize());
         }
