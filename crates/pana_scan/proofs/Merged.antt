@@ -1,13 +1,13 @@
 -- Three lists in byte order of their paths, gone through once: the least first path is the first of all, and what the
 -- lists have of it stands at their heads.
-use Rattle.std.specs.Prelude.{◌≡◌, ℕ, Bool, true, false, cond, ◌||◌, ◌⊎◌, List, [], ◌∷◌, ◌++◌, map, find, Option, Some, None, option_map}
+use Rattle.std.specs.Prelude.{◌≡◌, ℕ, Bool, true, false, cond, ◌||◌, ◌⊎◌, List, [], ◌∷◌, ◌++◌, map, find, Option, Some, None, option_map, option_copied}
 use Rattle.std.specs.List.{AllByRecursion, list_any}
 use Rattle.std.specs.List.Sorted.{IsStrictlySortedBy}
 use Rattle.std.specs.declared.cmp.Ordering.{Ordering}
 use Rattle.std.specs.declared.cmp.Ordering.TheVariants.{Less, Equal, Greater}
 use Rattle.std.specs.Ordering.{is_lt, ordering_reverse}
 use Rattle.std.specs.Str.{bytes_eq}
-use Rattle.std.proofs.Common.{refl, sym, ap, ◌∙◌, subst, inl, inr}
+use Rattle.std.proofs.Common.{refl, sym, ap, ◌∙◌, subst, inl, inr, Bor}
 use Rattle.std.proofs.lemmas.Bool.{true≢false}
 use Rattle.pana_hall.specs.declared.holding.Holding.{Holding}
 use Rattle.pana_scan.specs.declared.baseline.BaselineRow.{BaselineRow}
@@ -279,3 +279,62 @@ knowns_none found kept living none =
     let outer = lesser_none (first_path found_path found) (lesser (first_path kept_path kept) (first_path living_path living)) none in
     let inner = lesser_none (first_path kept_path kept) (first_path living_path living) outer.1 in
     λ i. knowns (none_left found_path found outer.0 i) (none_left kept_path kept inner.0 i) (none_left living_path living inner.1 i)
+
+-- ---- holdings behind references
+
+abbrev lent_path : Bor Holding → Path
+lent_path holding = holding.now.path
+
+abbrev pub lent : List (Bor Holding) → List Holding
+lent = map (λ holding. holding.now)
+
+first_lent : (living : List (Bor Holding)) → first_path lent_path living ≡ first_path living_path (lent living)
+first_lent [] = refl
+first_lent (holding ∷ living) = refl
+
+head_lent : (p : Path) (living : List (Bor Holding)) → option_copied (head_at lent_path p living) ≡ head_at living_path p (lent living)
+head_lent p [] = refl
+head_lent p (holding ∷ living) =
+    elim (bytes_eq holding.now.path p) as (λ b. option_copied (cond b (Some holding) None) ≡ cond b (Some holding.now) None) [ true ↦ refl | false ↦ refl ]
+
+rest_lent : (p : Path) (living : List (Bor Holding)) → lent (rest_at lent_path p living) ≡ rest_at living_path p (lent living)
+rest_lent p [] = refl
+rest_lent p (holding ∷ living) =
+    elim (bytes_eq holding.now.path p) as (λ b. lent (cond b living (holding ∷ living)) ≡ cond b (lent living) (lent (holding ∷ living))) [ true ↦ refl | false ↦ refl ]
+
+abbrev least_path : List FoundRow → List BaselineRow → List (Bor Holding) → Option Path
+least_path found kept living = lesser (first_path found_path found) (lesser (first_path kept_path kept) (first_path lent_path living))
+
+least_lent : (found : List FoundRow) (kept : List BaselineRow) (living : List (Bor Holding))
+    → least_path found kept living ≡ lesser (first_path found_path found) (lesser (first_path kept_path kept) (first_path living_path (lent living)))
+least_lent found kept living = ap (λ it. lesser (first_path found_path found) (lesser (first_path kept_path kept) it)) (first_lent living)
+
+pub next_known : (found : List FoundRow) (kept : List BaselineRow) (living : List (Bor Holding)) (p : Path)
+    → RowsRise found → MarksRise kept → HoldingsRise (lent living) → Some p ≡ least_path found kept living
+    → knowns found kept (lent living) ≡ record {
+      path = p;
+      found = option_map (λ row. row.found) (head_at found_path p found);
+      mark = option_map (λ row. row.mark) (head_at kept_path p kept);
+      living = option_copied (head_at lent_path p living);
+    } ∷ knowns (rest_at found_path p found) (rest_at kept_path p kept) (lent (rest_at lent_path p living))
+next_known found kept living p rf rk rl is =
+    let least = least_of p _ _ _ (sym (is ∙ least_lent found kept living)) in
+    knowns_next p found kept (lent living) rf rk rl least
+    ∙ (λ i. record {
+      path = p;
+      found = option_map (λ row. row.found) (head_at found_path p found);
+      mark = option_map (λ row. row.mark) (head_at kept_path p kept);
+      living = sym (head_lent p living) i;
+    } ∷ knowns (rest_at found_path p found) (rest_at kept_path p kept) (sym (rest_lent p living) i))
+
+pub none_known : (found : List FoundRow) (kept : List BaselineRow) (living : List (Bor Holding)) → None ≡ least_path found kept living → knowns found kept (lent living) ≡ []
+none_known found kept living none = knowns_none found kept (lent living) (sym (none ∙ least_lent found kept living))
+
+pub rest_lent_rise : (p : Path) (living : List (Bor Holding)) → HoldingsRise (lent living) → HoldingsRise (lent (rest_at lent_path p living))
+rest_lent_rise p living rise = subst HoldingsRise (sym (rest_lent p living)) (rest_rise living_path p (lent living) rise)
+
+pub found_rest_rise : (p : Path) (found : List FoundRow) → RowsRise found → RowsRise (rest_at found_path p found)
+found_rest_rise = rest_rise found_path
+
+pub kept_rest_rise : (p : Path) (kept : List BaselineRow) → MarksRise kept → MarksRise (rest_at kept_path p kept)
+kept_rest_rise = rest_rise kept_path

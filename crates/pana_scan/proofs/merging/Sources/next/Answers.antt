@@ -1,12 +1,28 @@
-use Rattle.std.proofs.Common.{rules, ◌≡◌, ◌∷◌, [], ℕ, List, option_copied, option_map, IfSome, IfNone, ◌+◌, ◌-◌, ◌*◌, ◌<◌, ◌≤◌, length, ◌/◌, ◌%◌, Bool, true, false, nat_eq, nat_lt, ◌++◌, slice_index_or, slice_set, bit_and, bit_or, Fits, w8, w32, w64, Bor, MutBor}
-use Rattle.pana_scan.specs.inner.Heads.{first_path, head_at, lesser, rest_at}
-use Rattle.pana_scan.specs.inner.Left.{AllRise, known_at, left, living_left}
+use Rattle.std.proofs.Common.{◌≡◌, ◌∷◌, List, refl, sym, ap, ◌∙◌, subst, rules, option_map, option_copied}
+use Rattle.pana_scan.specs.Listing.{RowsRise}
+use Rattle.pana_scan.specs.Baseline.{MarksRise}
+use Rattle.pana_scan.specs.inner.Left.{HoldingsRise}
+use Rattle.pana_scan.specs.Plan.{Known, knowns}
+use Rattle.pana_scan.proofs.Merged.{lent, next_known, rest_lent_rise, found_rest_rise, kept_rest_rise}
 use Rattle.pana_scan.proofs.merging.Sources.next.Goals as goal
 
--- src/merging.rt:62:5
 pub returns-clause-rise : goal.returns-clause-rise
-returns-clause-rise c = ?
+returns-clause-rise c =
+    let p = c.in_ok-path.path.now in (
+      subst RowsRise (sym c.take-found.ensures.rest) (found_rest_rise p c.args.self.now.found.now c.requires.0),
+      subst MarksRise (sym c.take-kept.ensures.rest) (kept_rest_rise p c.args.self.now.kept.now c.requires.1),
+      subst (λ living. HoldingsRise (lent living)) (sym c.take-living.ensures.rest) (rest_lent_rise p c.args.self.now.living.now c.requires.2),
+    )
 
--- src/merging.rt:62:5
 pub returns-clause-some : goal.returns-clause-some
-returns-clause-some c = ?
+returns-clause-some c =
+    let p = c.in_ok-path.path.now in
+    let found : c.map.result ≡ option_map (λ row. row.found) (option_copied c.take-found.result) = search rules in
+    let mark : c.map-2.result ≡ option_map (λ row. row.mark) (option_copied c.take-kept.result) = search rules in
+    next_known c.args.self.now.found.now c.args.self.now.kept.now c.args.self.now.living.now p c.requires.0 c.requires.1 c.requires.2 c.in_ok-path.ensures
+    ∙ sym (λ i. record {
+      path = p;
+      found = (found ∙ ap (option_map (λ row. row.found)) c.take-found.ensures.row) i;
+      mark = (mark ∙ ap (option_map (λ row. row.mark)) c.take-kept.ensures.row) i;
+      living = ap option_copied (c.copied.ensures ∙ c.take-living.ensures.row) i;
+    } ∷ knowns (c.take-found.ensures.rest i) (c.take-kept.ensures.rest i) (lent (c.take-living.ensures.rest i)))
