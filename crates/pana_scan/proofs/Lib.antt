@@ -3,3 +3,5 @@ pub mod Merged
 pub mod Settled
 pub mod Listed
 pub mod Hashed
+pub mod Sorted
+pub mod Planned

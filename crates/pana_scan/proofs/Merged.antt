@@ -160,13 +160,13 @@ module _ {T : Type 0} (key : T → Path) where
 
 -- ---- three lists
 
-abbrev found_path : FoundRow → Path
+abbrev pub found_path : FoundRow → Path
 found_path row = row.path
 
-abbrev kept_path : BaselineRow → Path
+abbrev pub kept_path : BaselineRow → Path
 kept_path row = row.path
 
-abbrev living_path : Holding → Path
+abbrev pub living_path : Holding → Path
 living_path holding = holding.path
 
 or_true : (a : Bool) → (a || true) ≡ true
@@ -181,10 +181,10 @@ has_append (x ∷ xs) ys q = ap (λ b. bytes_eq x q || b) (has_append xs ys q) �
     or_assoc true b c = refl
     or_assoc false b c = refl
 
-abbrev three : List FoundRow → List BaselineRow → List Holding → List Path
+abbrev pub three : List FoundRow → List BaselineRow → List Holding → List Path
 three found kept living = map found_path found ++ map kept_path kept ++ map living_path living
 
-three_has : (found : List FoundRow) (kept : List BaselineRow) (living : List Holding) (q : Path)
+pub three_has : (found : List FoundRow) (kept : List BaselineRow) (living : List Holding) (q : Path)
     → has (three found kept living) q ≡ ((has (map found_path found) q || has (map kept_path kept) q) || has (map living_path living) q)
 three_has found kept living q =
     has_append (map found_path found ++ map kept_path kept) (map living_path living) q

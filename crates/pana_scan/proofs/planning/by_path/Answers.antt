@@ -1,22 +1,23 @@
-use Rattle.std.proofs.Common.{rules, ◌≡◌, ◌++◌, [], map, option_map, IfOk, OnOk, ℕ, ◌+◌, ◌-◌, ◌*◌, ◌<◌, ◌≤◌, length, ◌/◌, ◌%◌, Bool, true, false, nat_eq, nat_lt, List, ◌∷◌, slice_index_or, slice_set, bit_and, bit_or, Fits, w8, w32, w64, Bor, MutBor}
-use Rattle.std.specs.Option.{option_to_list}
+use Rattle.std.proofs.Common.{◌≡◌, sym, ap, ◌∙◌, subst, arith, rules}
+use Rattle.std.proofs.lemmas.List.{take_all}
+use Rattle.std.specs.Cmp.Lexicographic.{nat_list_cmp_total}
+use Rattle.std.proofs.lemmas.List.Sorted.{answers_always, ranks_by}
 use Rattle.pana_hall.specs.Holdings.{HaveOwnPaths}
-use Rattle.pana_scan.specs.inner.Left.{HoldingsRise, HoldTheSame}
-use Rattle.pana_scan.specs.Plan.{plan_of}
+use Rattle.pana_scan.specs.inner.Left.{HoldTheSame}
+use Rattle.pana_scan.proofs.Merged.{lent}
+use Rattle.pana_scan.proofs.Sorted.{precedes, sorted_rise, sorted_same}
 use Rattle.pana_scan.proofs.planning.by_path.Goals as goal
 
--- src/planning.rt:87:5
-pub loop-holding-init : goal.loop-holding-init
-loop-holding-init c = ?
-
--- src/planning.rt:87:5
-pub loop-holding-preserved : goal.loop-holding-preserved
-loop-holding-preserved c = ?
-
--- src/planning.rt:81:1
+-- the references are sorted by the paths of what they point to, and all holdings are among them
 pub returns-clause-rise : goal.returns-clause-rise
-returns-clause-rise c = ?
+returns-clause-rise c =
+    let all : lent c.loop-holding.living.items ≡ c.args.holdings.now = c.loop-holding.invariant ∙ take_all c.loop-holding.holding-index c.args.holdings.now (omega (arith, c.loop-holding-test.false)) in
+    sorted_rise c.loop-holding.living.items c.sort_by.new.self.items (subst HaveOwnPaths (sym all) c.requires) c.in_ok-sort_by.ensures.permutation
+    (c.in_ok-sort_by.ensures.sorted precedes (ranks_by nat_list_cmp_total (λ holding. holding.now.path)) (answers_always _ _ _ (λ f a r g called. search rules)))
 
--- src/planning.rt:81:1
 pub returns-clause-same : goal.returns-clause-same
-returns-clause-same c = ?
+returns-clause-same c =
+    let all : lent c.loop-holding.living.items ≡ c.args.holdings.now = c.loop-holding.invariant ∙ take_all c.loop-holding.holding-index c.args.holdings.now (omega (arith, c.loop-holding-test.false)) in
+    subst (λ holdings. HoldTheSame holdings (lent c.sort_by.new.self.items)) all
+    (sorted_same c.loop-holding.living.items c.sort_by.new.self.items c.in_ok-sort_by.ensures.permutation
+    (c.in_ok-sort_by.ensures.stable precedes (ranks_by nat_list_cmp_total (λ holding. holding.now.path)) (answers_always _ _ _ (λ f a r g called. search rules))))
