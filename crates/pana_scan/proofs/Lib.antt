@@ -5,3 +5,4 @@ pub mod Listed
 pub mod Hashed
 pub mod Sorted
 pub mod Planned
+pub mod Worked
