@@ -2,4 +2,5 @@ pub mod Order
 pub mod Listing
 pub mod Baseline
 pub mod Plan
+pub mod Disk
 pub mod inner

@@ -19,6 +19,6 @@ RowsRise rows = IsStrictlySortedBy path_cmp (map (λ row. row.path) rows)
 abbrev pub IsAbove : List FoundRow → Path → Type 0
 IsAbove rows path = (before : List FoundRow) (last : FoundRow) → rows ≡ before ++ last ∷ [] → path_cmp last.path path ≡ Less
 
--- one more, up to the greatest number of 64 bits
-abbrev pub one_more : ℕ → ℕ
-one_more n = min (n + 1) (2 ^ 64 - 1)
+-- so many more, up to the greatest number of 64 bits
+abbrev pub counted : ℕ → ℕ → ℕ
+counted n more = min (n + more) (2 ^ 64 - 1)

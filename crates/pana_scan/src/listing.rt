@@ -40,7 +40,7 @@ impl Model for Listing {
 }
 
 impl Listing {
-    ghost use Rattle.pana_scan.specs.Listing.{RowsRise, IsAbove, one_more};
+    ghost use Rattle.pana_scan.specs.Listing.{RowsRise, IsAbove, counted};
 
     /// The listing of this device without a path. Takes no memory.
     pub fn new(alloc: Global, device: DeviceName) -> Listing
@@ -95,10 +95,10 @@ impl Listing {
         Ok(())
     }
 
-    /// Counts a name that is passed over. The count stays at the greatest `u64`. Takes no memory.
-    pub fn skip(&mut self)
-        ensures { self.new ≡ record self.old { skipped = one_more self.old.skipped } }
+    /// Counts this many names more that were passed over. The count stays at the greatest `u64`. Takes no memory.
+    pub fn skip(&mut self, names: u64)
+        ensures { self.new ≡ record self.old { skipped = counted self.old.skipped names } }
     {
-        self.skipped = self.skipped.saturating_add(1);
+        self.skipped = self.skipped.saturating_add(names);
     }
 }

@@ -1,8 +1,11 @@
-use crate::{Baseline, BaselineRow, Found, Listing, Mark, Plan, Step, fingerprint, plan};
+use crate::{
+    Baseline, BaselineRow, Disk, Found, FoundRow, Listing, Mark, Plan, ScanFault, Step, fingerprint, plan, read_root,
+};
 use pana_copies::{CopyPath, DeviceName, NameFault, Place};
 use pana_hall::{Holding, HoldingList};
 use pana_journal::Report;
 use std::alloc::{AllocError, Global};
+use std::fs;
 use std::io;
 use std::io::Read;
 use std::test::Fail;
@@ -203,9 +206,67 @@ fn names_passed_over_are_counted(rt: HostRuntime) -> Result<(), AllocError> {
         return Err(AllocError);
     };
     let mut listing = Listing::new(alloc, device);
-    listing.skip();
-    listing.skip();
+    listing.skip(1);
+    listing.skip(1);
     assert_eq!(rt; listing.skipped(), 2);
     assert_eq!(rt; listing.device().as_str(), "usb");
+    Ok(())
+}
+
+/// A folder of this test's own, which isn't there yet.
+fn new_folder(rt: &HostRuntime, name: &str) -> Result<String, Fail> {
+    let folder = format!(in rt.alloc(); "{}/pana_scan_{name}", std::env::temp_dir(rt)?.as_path().display())?;
+    let _ = fs::remove_dir_all(rt, folder.as_str());
+    fs::create_dir(rt, folder.as_str())?;
+    Ok(folder)
+}
+
+#[test]
+fn folder_with_a_file_is_read(rt: HostRuntime) -> Result<(), Fail> {
+    let alloc = rt.alloc();
+    let root = new_folder(&rt, "file")?;
+    fs::write(&rt, format!(in alloc; "{root}/a")?, "abc")?;
+    let device = DeviceName::new(alloc, "usb")?;
+    let read = read_root(alloc, &mut Disk::new(&rt), &device, root.as_str());
+    fs::remove_dir_all(&rt, root.as_str())?;
+    let Ok(listing) = read else {
+        return Err(Fail::from(AllocError));
+    };
+    let expected = FoundRow {
+        path: path(alloc, "a")?,
+        found: Found::Seen(ABC),
+    };
+    assert_eq!(rt; listing.rows(), [expected].as_slice());
+    assert_eq!(rt; listing.skipped(), 0);
+    Ok(())
+}
+
+#[test]
+fn folder_that_is_missing_is_refused(rt: HostRuntime) -> Result<(), Fail> {
+    let device = DeviceName::new(rt.alloc(), "usb")?;
+    let read = read_root(rt.alloc(), &mut Disk::new(&rt), &device, "/pana_scan/is/not/there");
+    assert!(rt; matches!(read, Err(ScanFault::Folder)));
+    Ok(())
+}
+
+#[test]
+fn rows_are_in_byte_order_of_whole_paths(rt: HostRuntime) -> Result<(), Fail> {
+    let alloc = rt.alloc();
+    let root = new_folder(&rt, "order")?;
+    fs::create_dir(&rt, format!(in alloc; "{root}/a")?)?;
+    for name in ["a/b", "a-b", "ab"] {
+        fs::write(&rt, format!(in alloc; "{root}/{name}")?, "abc")?;
+    }
+    let device = DeviceName::new(alloc, "usb")?;
+    let read = read_root(alloc, &mut Disk::new(&rt), &device, root.as_str());
+    fs::remove_dir_all(&rt, root.as_str())?;
+    let Ok(listing) = read else {
+        return Err(Fail::from(AllocError));
+    };
+    let mut paths = Vec::new(alloc);
+    for row in listing.rows() {
+        paths.push(row.path.as_str())?;
+    }
+    assert_eq!(rt; paths.as_slice(), ["a-b", "a/b", "ab"].as_slice());
     Ok(())
 }
