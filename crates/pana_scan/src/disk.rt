@@ -1,5 +1,5 @@
 //! The folders that a scan lists, and what came of it.
-ghost use Rattle.std.specs.Prelude.{◌≡◌, ◌+◌, ◌<◌, ◌≤◌, IfOk, IfErr, OnOk, OnErr};
+ghost use Rattle.std.specs.Prelude.{◌≡◌, ◌+◌, IfErr, IfNone, IfSome, OnOk, OnSome};
 ghost use Rattle.pana_scan.specs.Disk.{HasCause, IsFresh, IsWithin, KeepsLimits, entries};
 
 use crate::scan_fault::ScanFault;
@@ -67,6 +67,11 @@ impl<'a, R: Files + AllocGlobal + Clone + Drop> Disk<'a, R> {
     /// The next entry of a folder; none for one whose name isn't UTF-8.
     pub(crate) fn next(&mut self, names: &mut ReadDir<R>) -> Option<Result<Option<DirEntry<R>>, ScanFault>>
         requires { IsWithin self.old }
+        ensures end { IfNone result (IsWithin self.new × (entries self.new ≡ entries self.old)) }
+        ensures ok { IfSome result (λ met. OnOk met (IsWithin self.new)) }
+        ensures fault { IfSome result (λ met. IfErr met (HasCause self.new)) }
+        ensures limits { KeepsLimits self.new }
+        ensures entries { OnSome result (entries self.new ≡ entries self.old + 1) }
     {
         let entry = names.next()?;
         Some(self.met(entry))

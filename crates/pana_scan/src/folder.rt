@@ -1,6 +1,9 @@
 //! A folder read into a listing.
-ghost use Rattle.std.specs.Prelude.{◌≡◌, ◌+◌, ◌≤◌, length, IfOk, IfErr, OnOk};
+ghost use Rattle.std.specs.Prelude.{◌≡◌, ◌+◌, ◌≤◌, [], ◌++◌, length, if◌then◌else◌, is_some, option_copied, string_bytes, IfOk, IfErr, OnOk};
 ghost use Rattle.pana_scan.specs.Disk.{HasCause, IsFresh, IsWithin, KeepsLimits, entries};
+ghost use Rattle.std.specs.Option.{option_to_list};
+ghost use Rattle.pana_scan.specs.Listing.{counted};
+ghost use Rattle.pana_scan.specs.inner.Tree.{depth_of, inner_text, is_folder, taken_path, whole_text};
 
 use crate::disk::{Disk, Kind};
 use crate::fingerprinting::fingerprint;
@@ -106,15 +109,27 @@ impl Tree {
         if kind == Kind::Other {
             return Ok(());
         }
-        let Some(path) = inner_path(alloc, folder, entry.file_name())? else {
+        let path = inner_path(alloc, folder, entry.file_name())?;
+        if let (Kind::Folder, Some(path)) = (kind, &path) {
+            disk.descend(depth_of(path))?;
+        }
+        self.keep(kind, path)?;
+        Ok(())
+    }
+
+    /// Keeps a path, as a folder's or a file's; counts one that isn't a copy's path.
+    fn keep(&mut self, kind: Kind, path: Option<CopyPath>) -> Result<(), AllocError>
+        ensures folders { OnOk result (self.new.folders.items ≡ self.old.folders.items ++ (if is_folder kind then option_to_list path else [])) }
+        ensures files { OnOk result (self.new.files.items ≡ self.old.files.items ++ (if is_folder kind then [] else option_to_list path)) }
+        ensures skipped { OnOk result (self.new.skipped ≡ (if is_some path then self.old.skipped else counted self.old.skipped 1)) }
+    {
+        let Some(path) = path else {
             self.skipped = self.skipped.saturating_add(1);
             return Ok(());
         };
-        if kind == Kind::Folder {
-            disk.descend(depth_of(&path))?;
-            self.folders.push(path)?;
-        } else {
-            self.files.push(path)?;
+        match kind {
+            Kind::Folder => self.folders.push(path)?,
+            Kind::File | Kind::Gone | Kind::Other => self.files.push(path)?,
         }
         Ok(())
     }
@@ -125,7 +140,9 @@ fn inner_path(
     alloc: Global,
     folder: Option<&CopyPath>,
     name: &str,
-) -> Result<Option<CopyPath>, AllocError> {
+) -> Result<Option<CopyPath>, AllocError>
+    ensures { IfOk result (λ path. path ≡ taken_path (inner_text (option_copied folder.entry) name.now)) }
+{
     let taken = match folder {
         Some(folder) => {
             let text = format!(in alloc; "{}/{name}", folder.as_str())?;
@@ -141,13 +158,17 @@ fn inner_path(
 }
 
 /// How many folders below the root a folder is.
-fn depth_of(folder: &CopyPath) -> u64 {
-    let slashes = folder.as_str().bytes().filter(|byte| *byte == b'/').count();
+fn depth_of(folder: &CopyPath) -> u64
+    ensures { result ≡ depth_of folder.now }
+{
+    let slashes = folder.as_str().as_bytes().iter().filter(|byte| **byte == b'/').count();
     (slashes as u64).saturating_add(1)
 }
 
 /// The path by which the system knows what is inside the root, or the root itself.
-fn whole_path(alloc: Global, root: &str, inner: Option<&CopyPath>) -> Result<String, AllocError> {
+fn whole_path(alloc: Global, root: &str, inner: Option<&CopyPath>) -> Result<String, AllocError>
+    ensures { IfOk result (λ path. string_bytes path ≡ whole_text root.now (option_copied inner.entry)) }
+{
     match inner {
         Some(inner) => format!(in alloc; "{root}/{}", inner.as_str()),
         None => String::from_str(alloc, root),

@@ -215,7 +215,8 @@ fn names_passed_over_are_counted(rt: HostRuntime) -> Result<(), AllocError> {
 
 /// A folder of this test's own, which isn't there yet.
 fn new_folder(rt: &HostRuntime, name: &str) -> Result<String, Fail> {
-    let folder = format!(in rt.alloc(); "{}/pana_scan_{name}", std::env::temp_dir(rt)?.as_path().display())?;
+    let own = std::process::id(rt.process());
+    let folder = format!(in rt.alloc(); "{}/pana_scan_{own}_{name}", std::env::temp_dir(rt)?.display())?;
     let _ = fs::remove_dir_all(rt, folder.as_str());
     fs::create_dir(rt, folder.as_str())?;
     Ok(folder)
