@@ -2,14 +2,13 @@
 use Rattle.std.specs.Prelude.{◌≡◌, ◌↔◌, ℕ, zero, suc, ◌+◌, ◌-◌, ◌<◌, Bool, IsTrue, List, [], ◌∷◌, ◌++◌, map, length, slice_index_or}
 use Rattle.std.specs.Ordering.{is_lt}
 use Rattle.pana_scan.proofs.Settled.{less_from}
-use Rattle.std.specs.List.{AllByRecursion}
 use Rattle.std.specs.List.Sorted.{IsStrictlySortedBy}
 use Rattle.std.specs.declared.cmp.Ordering.TheVariants.{Less}
 use Rattle.std.proofs.Common.{refl, sym, ap, ◌∙◌, subst, arith}
 use Rattle.pana_scan.specs.declared.listing.FoundRow.{FoundRow}
 use Rattle.pana_scan.specs.Order.{Path, path_cmp}
 use Rattle.pana_scan.specs.Listing.{IsAbove, RowsRise}
-use Rattle.pana_scan.proofs.Order.{IsBelow, Rise, less_then}
+use Rattle.pana_scan.proofs.Order.{IsBelow, less_then}
 
 abbrev key : FoundRow → Path
 key row = row.path
@@ -29,9 +28,9 @@ pub pushed_rise : (rows : List FoundRow) (new : FoundRow) → RowsRise rows → 
 unfolding IsStrictlySortedBy
 pushed_rise [] new rise above = (tt, tt)
 pushed_rise (row ∷ rows) new rise above = (
-    below_push row.path rows new rise.0 (first_below row rows new.path rise above),
-    pushed_rise rows new rise.1 (λ before last e. above (row ∷ before) last (ap (λ more. row ∷ more) e)),
-  )
+  below_push row.path rows new rise.0 (first_below row rows new.path rise above),
+  pushed_rise rows new rise.1 (λ before last e. above (row ∷ before) last (ap (λ more. row ∷ more) e)),
+)
 
 abbrev last_or : FoundRow → List FoundRow → FoundRow
 last_or d [] = d

@@ -1,11 +1,9 @@
 -- Three lists in byte order of their paths, gone through once: the least first path is the first of all, and what the
 -- lists have of it stands at their heads.
-use Rattle.std.specs.Prelude.{◌≡◌, ℕ, Bool, true, false, cond, ◌||◌, ◌⊎◌, List, [], ◌∷◌, ◌++◌, map, find, Option, Some, None, option_map, option_copied}
-use Rattle.std.specs.List.{AllByRecursion, list_any}
+use Rattle.std.specs.Prelude.{◌≡◌, Bool, true, false, cond, ◌||◌, ◌⊎◌, List, [], ◌∷◌, ◌++◌, map, find, Option, Some, None, option_map, option_copied}
 use Rattle.std.specs.List.Sorted.{IsStrictlySortedBy}
-use Rattle.std.specs.declared.cmp.Ordering.{Ordering}
 use Rattle.std.specs.declared.cmp.Ordering.TheVariants.{Less, Equal, Greater}
-use Rattle.std.specs.Ordering.{is_lt, ordering_reverse}
+use Rattle.std.specs.Ordering.{is_lt}
 use Rattle.std.specs.Str.{bytes_eq}
 use Rattle.std.proofs.Common.{refl, sym, ap, ◌∙◌, subst, inl, inr, Bor}
 use Rattle.std.proofs.lemmas.Bool.{true≢false}
@@ -15,10 +13,10 @@ use Rattle.pana_scan.specs.declared.listing.FoundRow.{FoundRow}
 use Rattle.pana_scan.specs.Order.{Path, path_cmp, in_order}
 use Rattle.pana_scan.specs.Listing.{RowsRise}
 use Rattle.pana_scan.specs.Baseline.{MarksRise}
-use Rattle.pana_scan.specs.Plan.{Known, known_of, knowns, paths_of}
+use Rattle.pana_scan.specs.Plan.{known_of, knowns, paths_of}
 use Rattle.pana_scan.specs.inner.Heads.{head_at, rest_at, first_path, lesser}
 use Rattle.pana_scan.specs.inner.Left.{HoldingsRise}
-use Rattle.pana_scan.proofs.Order.{IsBelow, Rise, has, same_path, eq_itself, turned, less_then, less_differs, greater_differs, eq_is_same, below_chain, below_has_not, below_append, in_order_rise, in_order_has, in_order_below, same_paths}
+use Rattle.pana_scan.proofs.Order.{IsBelow, Rise, has, same_path, eq_itself, turned, less_then, less_differs, greater_differs, eq_is_same, below_chain, below_append, in_order_rise, in_order_has, in_order_below, same_paths}
 
 -- ---- the lesser of two paths
 
@@ -41,10 +39,10 @@ IsLesser p a b = AtMost p a × AtMost p b × ((a ≡ Some p) ⊎ (b ≡ Some p))
 
 lesser_of_two : (p a b : Path) → Some (cond (is_lt (path_cmp b a)) b a) ≡ Some p → IsLesser p (Some a) (Some b)
 lesser_of_two p a b = elim (path_cmp b a) as (λ o. path_cmp b a ≡ o → Some (cond (is_lt o) b a) ≡ Some p → IsLesser p (Some a) (Some b)) [
-    | Less ↦ λ e is. let same = ap (some_or b) is in (inr (subst (λ z. path_cmp z a ≡ Less) same e), inl same, inr is)
-    | Equal ↦ λ e is. let same = ap (some_or a) is in (inl same, inl (same_path b a e ∙ same), inl is)
-    | Greater ↦ λ e is. let same = ap (some_or a) is in (inl same, inr (subst (λ z. path_cmp z b ≡ Less) same (turned b a Greater e)), inl is)
-  ] refl
+  | Less ↦ λ e is. let same = ap (some_or b) is in (inr (subst (λ z. path_cmp z a ≡ Less) same e), inl same, inr is)
+  | Equal ↦ λ e is. let same = ap (some_or a) is in (inl same, inl (same_path b a e ∙ same), inl is)
+  | Greater ↦ λ e is. let same = ap (some_or a) is in (inl same, inr (subst (λ z. path_cmp z b ≡ Less) same (turned b a Greater e)), inl is)
+] refl
 
 lesser_of : (p : Path) (a b : Option Path) → lesser a b ≡ Some p → IsLesser p a b
 lesser_of p (Some a) (Some b) is = lesser_of_two p a b is
@@ -79,15 +77,18 @@ least_of p a b c is =
           let none = lesser_none b c e in
           (first.0, at_most_none p b none.0, at_most_none p c none.1, elim some [ inl here ↦ inl here | inr here ↦ absurd (true≢false (sym (ap there here))) ])
       | Some q ↦ λ e at some.
-          let second = lesser_of q b c e in
-          (first.0, at_most_then p q b at second.0, at_most_then p q c at second.1,
+          let second = lesser_of q b c e in (
+            first.0,
+            at_most_then p q b at second.0,
+            at_most_then p q c at second.1,
             elim some [
               | inl here ↦ inl here
               | inr here ↦ let same = ap (some_or q) here in elim second.2 [
-                  | inl b-is ↦ inr (inl (b-is ∙ ap Some same))
-                  | inr c-is ↦ inr (inr (c-is ∙ ap Some same))
-                ]
-            ])
+                | inl b-is ↦ inr (inl (b-is ∙ ap Some same))
+                | inr c-is ↦ inr (inr (c-is ∙ ap Some same))
+              ]
+            ],
+          )
     ] refl first.1 first.2
 
 -- ---- one list, at a path that is at most its first
@@ -135,9 +136,9 @@ module _ {T : Type 0} (key : T → Path) where
       elim (at p row) as (λ b. at p row ≡ b → IsBelow p (map key (cond b rows (row ∷ rows)))) [
         | true ↦ λ e. subst (λ z. IsBelow z (map key rows)) (eq_is_same (key row) p e) rise.0
         | false ↦ λ e. elim most [
-            | inl is ↦ absurd (true≢false (sym (subst (λ z. bytes_eq (key row) z ≡ true) is (eq_itself (key row))) ∙ e))
-            | inr less ↦ (less, below_chain p (key row) (map key rows) less rise.0)
-          ]
+          | inl is ↦ absurd (true≢false (sym (subst (λ z. bytes_eq (key row) z ≡ true) is (eq_itself (key row))) ∙ e))
+          | inr less ↦ (less, below_chain p (key row) (map key rows) less rise.0)
+        ]
       ] refl
 
   pub has_rest : (p q : Path) (rows : List T) → bytes_eq p q ≡ false → has (map key rows) q ≡ has (map key (rest_at key p rows)) q
@@ -200,21 +201,21 @@ module _ (p : Path) (found : List FoundRow) (kept : List BaselineRow) (living : 
   below_rest : IsBelow p (rest_of p found kept living)
   below_rest =
       below_append p (map found_path (rest_at found_path p found) ++ map kept_path (rest_at kept_path p kept)) _
-        (below_append p (map found_path (rest_at found_path p found)) _
-          (rest_below found_path p found rf least.0)
-          (rest_below kept_path p kept rk least.1))
-        (rest_below living_path p living rl least.2)
+      (below_append p (map found_path (rest_at found_path p found)) _
+      (rest_below found_path p found rf least.0)
+      (rest_below kept_path p kept rk least.1))
+      (rest_below living_path p living rl least.2)
 
   three_has_first : has (three found kept living) p ≡ true
   three_has_first = three_has found kept living p ∙ elim least.3 [
-      | inl here ↦ ap (λ b. (b || has (map kept_path kept) p) || has (map living_path living) p) (has_first_path found_path p found here)
-      | inr more ↦ elim more [
-          | inl here ↦ ap (λ b. (has (map found_path found) p || b) || has (map living_path living) p) (has_first_path kept_path p kept here)
-              ∙ ap (λ b. b || has (map living_path living) p) (or_true (has (map found_path found) p))
-          | inr here ↦ ap (λ b. (has (map found_path found) p || has (map kept_path kept) p) || b) (has_first_path living_path p living here)
-              ∙ or_true (has (map found_path found) p || has (map kept_path kept) p)
-        ]
+    | inl here ↦ ap (λ b. (b || has (map kept_path kept) p) || has (map living_path living) p) (has_first_path found_path p found here)
+    | inr more ↦ elim more [
+      | inl here ↦ ap (λ b. (has (map found_path found) p || b) || has (map living_path living) p) (has_first_path kept_path p kept here)
+          ∙ ap (λ b. b || has (map living_path living) p) (or_true (has (map found_path found) p))
+      | inr here ↦ ap (λ b. (has (map found_path found) p || has (map kept_path kept) p) || b) (has_first_path living_path p living here)
+          ∙ or_true (has (map found_path found) p || has (map kept_path kept) p)
     ]
+  ]
 
   same_has : (q : Path) → has (in_order (three found kept living)) q ≡ has (p ∷ in_order (rest_of p found kept living)) q
   same_has q = in_order_has (three found kept living) q ∙ elim (bytes_eq p q) as (λ b. bytes_eq p q ≡ b

@@ -1,11 +1,11 @@
 -- Paths in byte order: how they compare, and lists of them that rise.
-use Rattle.std.specs.Prelude.{◌≡◌, ℕ, Bool, true, false, cond, ◌||◌, List, [], ◌∷◌, ◌++◌}
+use Rattle.std.specs.Prelude.{◌≡◌, Bool, true, false, ◌||◌, List, [], ◌∷◌, ◌++◌}
 use Rattle.std.specs.List.{AllByRecursion, list_any}
 use Rattle.std.specs.List.Sorted.{IsStrictlySortedBy}
 use Rattle.std.specs.declared.cmp.Ordering.{Ordering}
 use Rattle.std.specs.declared.cmp.Ordering.TheVariants.{Less, Equal, Greater}
-use Rattle.std.specs.Ordering.{is_lt, is_eq, is_gt, nat_cmp, ordering_reverse}
-use Rattle.std.specs.Cmp.Lexicographic.{slice_cmp, nat_list_cmp_total, texts_ties}
+use Rattle.std.specs.Ordering.{is_lt, is_eq, ordering_reverse}
+use Rattle.std.specs.Cmp.Lexicographic.{nat_list_cmp_total, texts_ties}
 use Rattle.std.specs.FinMap.{slice_cmp-IsAntisymmetric, nat_cmp-IsAntisymmetric}
 use Rattle.std.specs.Str.{bytes_eq}
 use Rattle.std.proofs.Common.{refl, sym, ap, ◌∙◌, subst}
@@ -52,10 +52,10 @@ greater_differs p q less = texts_ties q p ∙ ap is_eq (turned p q Less less)
 
 pub eq_is_same : (p q : Path) → bytes_eq p q ≡ true → p ≡ q
 eq_is_same p q e = elim (path_cmp p q) as (λ o. path_cmp p q ≡ o → is_eq o ≡ true → p ≡ q) [
-    | Less ↦ λ is h. absurd (true≢false (sym h))
-    | Equal ↦ λ is h. same_path p q is
-    | Greater ↦ λ is h. absurd (true≢false (sym h))
-  ] refl (sym (texts_ties p q) ∙ e)
+  | Less ↦ λ is h. absurd (true≢false (sym h))
+  | Equal ↦ λ is h. same_path p q is
+  | Greater ↦ λ is h. absurd (true≢false (sym h))
+] refl (sym (texts_ties p q) ∙ e)
 
 pub not_below_itself : (p : Path) → path_cmp p p ≡ Less → ⊥
 not_below_itself p less = true≢false (ap is_lt (sym less ∙ equal_itself p))
@@ -107,7 +107,7 @@ has_with : (p : Path) (paths : List Path) (q : Path) → has (with_path p paths)
 has_with p [] q = refl
 has_with p (next ∷ paths) q =
     elim (path_cmp p next) as (λ o. path_cmp p next ≡ o
-        → has (by_order o (p ∷ next ∷ paths) (next ∷ paths) (next ∷ with_path p paths)) q ≡ (bytes_eq p q || (bytes_eq next q || has paths q))) [
+    → has (by_order o (p ∷ next ∷ paths) (next ∷ paths) (next ∷ with_path p paths)) q ≡ (bytes_eq p q || (bytes_eq next q || has paths q))) [
       | Less ↦ λ e. refl
       | Equal ↦ λ e. or_same (bytes_eq next q) (has paths q) ∙ ap (λ x. bytes_eq x q || (bytes_eq next q || has paths q)) (sym (same_path p next e))
       | Greater ↦ λ e. ap (λ b. bytes_eq next q || b) (has_with p paths q) ∙ or_swap (bytes_eq next q) (bytes_eq p q) (has paths q)
@@ -140,13 +140,13 @@ missing p q paths less rise = below_has_not p (q ∷ paths) (less, below_chain p
 
 same_tails : (x y : Path) (xs ys : List Path) → IsBelow x xs → IsBelow y ys → ((q : Path) → has (x ∷ xs) q ≡ has (y ∷ ys) q) → x ≡ y → (q : Path) → has xs q ≡ has ys q
 same_tails x y xs ys bx by same is q = elim (bytes_eq x q) as (λ b. bytes_eq x q ≡ b → has xs q ≡ has ys q) [
-    | true ↦ λ e.
-        let here = eq_is_same x q e in
-        subst (λ z. has xs z ≡ false) here (below_has_not x xs bx)
-        ∙ sym (subst (λ z. has ys z ≡ false) (sym is ∙ here) (below_has_not y ys by))
-    | false ↦ λ e.
-        ap (λ b. b || has xs q) (sym e) ∙ same q ∙ ap (λ z. bytes_eq z q || has ys q) (sym is) ∙ ap (λ b. b || has ys q) e
-  ] refl
+  | true ↦ λ e.
+      let here = eq_is_same x q e in
+      subst (λ z. has xs z ≡ false) here (below_has_not x xs bx)
+      ∙ sym (subst (λ z. has ys z ≡ false) (sym is ∙ here) (below_has_not y ys by))
+  | false ↦ λ e.
+      ap (λ b. b || has xs q) (sym e) ∙ same q ∙ ap (λ z. bytes_eq z q || has ys q) (sym is) ∙ ap (λ b. b || has ys q) e
+] refl
 
 pub same_paths : (xs ys : List Path) → Rise xs → Rise ys → ((q : Path) → has xs q ≡ has ys q) → xs ≡ ys
 unfolding IsStrictlySortedBy

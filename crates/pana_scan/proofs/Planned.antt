@@ -10,7 +10,7 @@ use Rattle.pana_scan.specs.declared.baseline.Mark.{Mark}
 use Rattle.pana_scan.specs.declared.listing.FoundRow.{FoundRow}
 use Rattle.pana_scan.specs.Order.{Path}
 use Rattle.pana_scan.specs.Baseline.{MarksRise}
-use Rattle.pana_scan.specs.Plan.{Known, known_of, knowns, outcome_for, paths_of, row_for, rows_for}
+use Rattle.pana_scan.specs.Plan.{Known, known_of, knowns, outcome_for, paths_of, rows_for}
 use Rattle.pana_scan.proofs.Order.{IsBelow, Rise, in_order_rise}
 use Rattle.pana_scan.specs.inner.Left.{HoldTheSame}
 use Rattle.pana_scan.proofs.Merged.{lent, three}

@@ -1,5 +1,5 @@
 -- Rows in byte order of their paths, when one is put in, changed or taken out.
-use Rattle.std.specs.Prelude.{◌≡◌, ℕ, zero, suc, ◌+◌, ◌<◌, ◌≤◌, Bool, true, false, cond, not, List, [], ◌∷◌, ◌++◌, length, map, filter, take, drop, slice_index_or, slice_set, insert, remove, Result, Ok, Err, MatchResult}
+use Rattle.std.specs.Prelude.{◌≡◌, ℕ, zero, suc, ◌<◌, ◌≤◌, Bool, true, false, cond, not, List, [], ◌∷◌, ◌++◌, length, map, filter, slice_index_or, slice_set, insert, remove, Result, Ok, Err, MatchResult}
 use Rattle.std.specs.List.{AllByRecursion}
 use Rattle.std.specs.List.Sorted.{IsStrictlySortedBy, IsSortedBy, IsSearchInRange, IsBinarySearchResult}
 use Rattle.std.specs.declared.cmp.Ordering.{Ordering}
@@ -13,12 +13,10 @@ use Rattle.std.proofs.lemmas.List.Sorted.{searchable_from_sorted}
 use native.Mathlib.Numerals.{unary_clauses}
 use Rattle.pana_scan.specs.declared.baseline.BaselineRow.{BaselineRow}
 use Rattle.pana_scan.specs.declared.baseline.Mark.{Mark}
-use Rattle.pana_scan.specs.declared.listing.FoundRow.{FoundRow}
 use Rattle.pana_scan.specs.Order.{Path, path_cmp}
-use Rattle.pana_scan.specs.Listing.{IsAbove, RowsRise}
 use Rattle.pana_scan.specs.Baseline.{MarksRise, with_row, without}
 use Rattle.pana_scan.specs.inner.Position.{IsAt, IsGap}
-use Rattle.pana_scan.proofs.Order.{IsBelow, Rise, same_path, turned, less_then, below_chain, below_append}
+use Rattle.pana_scan.proofs.Order.{IsBelow, Rise, same_path, turned, below_chain}
 
 abbrev key : BaselineRow → Path
 key row = row.path
@@ -88,7 +86,7 @@ changed_at new (row ∷ rows) zero rise at =
     let same = at.1 row in
     let below = subst (λ z. IsBelow z (map key rows)) (same_path row.path new.path same) rise.0 in
     sym (λ i. (keep_by (is_below new.path) row rows false (ap is_lt same) ∙ none_below new.path rows below) i
-      ++ new ∷ (keep_by (is_above new.path) row rows false (ap is_gt same) ∙ all_above new.path rows below) i)
+    ++ new ∷ (keep_by (is_above new.path) row rows false (ap is_gt same) ∙ all_above new.path rows below) i)
 changed_at new (row ∷ rows) (suc i) rise at =
     let less = head_below new.path row rows i rise at in
     ap (λ more. row ∷ more) (changed_at new rows i rise.1 (tail_at new.path row rows i at))
@@ -104,9 +102,9 @@ greater_from p (row ∷ rows) all =
 
 tail_gap : (p : Path) (row : BaselineRow) (rows : List BaselineRow) (i : ℕ) → IsGap p (row ∷ rows) (suc i) → IsGap p rows i
 tail_gap p row rows i gap = (
-    omega (arith, gap.0),
-    (λ k d low high. gap.1.0 (suc k) d (omega arith) (omega (arith, high)), λ k d low high. gap.1.1 (suc k) d (omega (arith, low)) (omega (arith, high))),
-  )
+  omega (arith, gap.0),
+  (λ k d low high. gap.1.0 (suc k) d (omega arith) (omega (arith, high)), λ k d low high. gap.1.1 (suc k) d (omega (arith, low)) (omega (arith, high))),
+)
 
 pub inserted_at : (new : BaselineRow) (rows : List BaselineRow) (i : ℕ) → IsGap new.path rows i → insert rows i new ≡ with_row new rows
 inserted_at new [] zero gap = refl
@@ -194,8 +192,8 @@ rise_around (row ∷ lower) new higher rl below rh above =
 pub with_row_rise : (new : BaselineRow) (rows : List BaselineRow) → MarksRise rows → MarksRise (with_row new rows)
 with_row_rise new rows rise =
     rise_around (filter (is_below new.path) rows) new (filter (is_above new.path) rows)
-      (rise_filter key (is_below new.path) rows rise) (lower_are_below new.path rows)
-      (rise_filter key (is_above new.path) rows rise) (higher_are_above new.path rows)
+    (rise_filter key (is_below new.path) rows rise) (lower_are_below new.path rows)
+    (rise_filter key (is_above new.path) rows rise) (higher_are_above new.path rows)
 
 -- ---- where a search ends
 

@@ -1,16 +1,15 @@
 -- The holdings of a device, sorted by their paths: the paths rise, and each is found as before.
-use Rattle.std.specs.Prelude.{◌≡◌, ◌≢◌, ℕ, zero, suc, ◌+◌, Bool, true, false, cond, not, ◌&&◌, ◌||◌, List, [], ◌∷◌, ◌++◌, map, filter, find, Option, Some, None, option_map}
+use Rattle.std.specs.Prelude.{◌≡◌, ◌≢◌, suc, Bool, true, false, cond, not, ◌&&◌, ◌||◌, List, [], ◌∷◌, map, filter, find, Option, Some, None, option_map}
 use Rattle.std.specs.List.{AllByRecursion, IsDistinct, list_any}
 use Rattle.std.specs.List.Sorted.{IsStrictlySortedBy, IsSortedBy, IsPermutation, IsStableBy, ties}
-use Rattle.std.specs.declared.cmp.Ordering.{Ordering}
 use Rattle.std.specs.declared.cmp.Ordering.TheVariants.{Less, Equal, Greater}
-use Rattle.std.specs.Ordering.{is_lt, is_eq, ordering_reverse}
+use Rattle.std.specs.Ordering.{is_lt, is_eq}
 use Rattle.std.specs.Cmp.Lexicographic.{texts_ties, nat_list_eq_equiv}
 use Rattle.std.specs.Str.{bytes_eq}
 use Rattle.std.proofs.Common.{refl, sym, ap, ◌∙◌, subst, arith, Bor}
 use Rattle.std.proofs.lemmas.Bool.{true≢false}
 use Rattle.std.proofs.lemmas.List.Sorted.{list_any-IsPermutation}
-use Rattle.std.proofs.lemmas.Map.Keys.{IsDistinct-IsPermutation, IsDistinct-head, IsDistinct-tail, IsDistinct-cons}
+use Rattle.std.proofs.lemmas.Map.Keys.{IsDistinct-IsPermutation}
 use native.Mathlib.Numerals.{unary_clauses}
 use Rattle.pana_hall.specs.declared.holding.Holding.{Holding}
 use Rattle.pana_hall.specs.Holdings.{HaveOwnPaths}
@@ -39,12 +38,12 @@ same one other = bytes_eq one.now.path other.now.path
 others : (one : Lent) (holdings : List Lent) → AllByRecursion (λ other. one.now.path ≢ other.path) (lent holdings) → AllByRecursion (λ other. same one other ≡ false) holdings
 others one [] own = tt
 others one (other ∷ holdings) own = (
-    elim (same one other) as (λ b. same one other ≡ b → b ≡ false) [
-      | true ↦ λ e. absurd (own.0 (eq_is_same one.now.path other.now.path e))
-      | false ↦ λ e. refl
-    ] refl,
-    others one holdings own.1,
-  )
+  elim (same one other) as (λ b. same one other ≡ b → b ≡ false) [
+    | true ↦ λ e. absurd (own.0 (eq_is_same one.now.path other.now.path e))
+    | false ↦ λ e. refl
+  ] refl,
+  others one holdings own.1,
+)
 
 own_distinct : (holdings : List Lent) → HaveOwnPaths (lent holdings) → IsDistinct same holdings
 unfolding IsDistinct
@@ -53,10 +52,10 @@ own_distinct (one ∷ holdings) own = (others one holdings own.0, own_distinct h
 
 strictly : (p q : Path) → is_lt (path_cmp q p) ≡ false → bytes_eq p q ≡ false → path_cmp p q ≡ Less
 strictly p q not_less differ = elim (path_cmp p q) as (λ o. path_cmp p q ≡ o → o ≡ Less) [
-    | Less ↦ λ e. refl
-    | Equal ↦ λ e. absurd (true≢false (sym (texts_ties p q ∙ ap is_eq e) ∙ differ))
-    | Greater ↦ λ e. absurd (true≢false (sym (ap is_lt (turned p q Greater e)) ∙ not_less))
-  ] refl
+  | Less ↦ λ e. refl
+  | Equal ↦ λ e. absurd (true≢false (sym (texts_ties p q ∙ ap is_eq e) ∙ differ))
+  | Greater ↦ λ e. absurd (true≢false (sym (ap is_lt (turned p q Greater e)) ∙ not_less))
+] refl
 
 distinct_rise : (holdings : List Lent) → IsDistinct same holdings → IsSortedBy precedes holdings → Rise (map path_of holdings)
 unfolding IsDistinct IsStrictlySortedBy
@@ -98,9 +97,9 @@ module _ {T : Type 0} (test : T → Bool) where
   found_passes : (xs : List T) (x : T) → find test xs ≡ Some x → test x ≡ true
   found_passes [] x = λ is. absurd (true≢false (sym (ap there is)))
   found_passes (y ∷ xs) x = elim (test y) as (λ b. test y ≡ b → cond b (Some y) (find test xs) ≡ Some x → test x ≡ true) [
-      | true ↦ λ e is. subst (λ z. test z ≡ true) (ap (get y) is) e
-      | false ↦ λ e is. found_passes xs x is
-    ] refl
+    | true ↦ λ e is. subst (λ z. test z ≡ true) (ap (get y) is) e
+    | false ↦ λ e is. found_passes xs x is
+  ] refl
     where
       get : T → Option T → T
       get d None = d
@@ -117,10 +116,10 @@ none_of (Some x) is = absurd (true≢false is)
 -- two holdings tie where their paths are the same
 ties_same : (p q : Path) → (not (is_lt (path_cmp p q)) && not (is_lt (path_cmp q p))) ≡ bytes_eq q p
 ties_same p q = elim (path_cmp p q) as (λ o. path_cmp p q ≡ o → (not (is_lt o) && not (is_lt (path_cmp q p))) ≡ bytes_eq q p) [
-    | Less ↦ λ e. sym (texts_ties q p ∙ ap is_eq (turned p q Less e))
-    | Equal ↦ λ e. ap (λ o. not (is_lt o)) (turned p q Equal e) ∙ sym (texts_ties q p ∙ ap is_eq (turned p q Equal e))
-    | Greater ↦ λ e. ap (λ o. not (is_lt o)) (turned p q Greater e) ∙ sym (texts_ties q p ∙ ap is_eq (turned p q Greater e))
-  ] refl
+  | Less ↦ λ e. sym (texts_ties q p ∙ ap is_eq (turned p q Less e))
+  | Equal ↦ λ e. ap (λ o. not (is_lt o)) (turned p q Equal e) ∙ sym (texts_ties q p ∙ ap is_eq (turned p q Equal e))
+  | Greater ↦ λ e. ap (λ o. not (is_lt o)) (turned p q Greater e) ∙ sym (texts_ties q p ∙ ap is_eq (turned p q Greater e))
+] refl
 
 abbrev at : Path → Lent → Bool
 at q holding = bytes_eq holding.now.path q
@@ -163,11 +162,11 @@ has_found q (one ∷ holdings) =
 pub knowns_same : (found : List FoundRow) (kept : List BaselineRow) (before after : List Holding) → HoldTheSame before after → knowns found kept after ≡ knowns found kept before
 knowns_same found kept before after alike =
     let alike_has : (q : Path) → has (in_order (three found kept after)) q ≡ has (in_order (three found kept before)) q = λ q.
-          in_order_has (three found kept after) q ∙ three_has found kept after q
-          ∙ ap (λ b. (has (map found_path found) q || has (map kept_path kept) q) || b) (has_found q after ∙ ap there (alike q) ∙ sym (has_found q before))
-          ∙ sym (three_has found kept before q) ∙ sym (in_order_has (three found kept before) q) in
+    in_order_has (three found kept after) q ∙ three_has found kept after q
+    ∙ ap (λ b. (has (map found_path found) q || has (map kept_path kept) q) || b) (has_found q after ∙ ap there (alike q) ∙ sym (has_found q before))
+    ∙ sym (three_has found kept before q) ∙ sym (in_order_has (three found kept before) q) in
     let paths : paths_of found kept after ≡ paths_of found kept before =
-          same_paths (in_order (three found kept after)) (in_order (three found kept before)) (in_order_rise (three found kept after)) (in_order_rise (three found kept before)) alike_has in
+    same_paths (in_order (three found kept after)) (in_order (three found kept before)) (in_order_rise (three found kept after)) (in_order_rise (three found kept before)) alike_has in
     ap (map (known_of found kept after)) paths ∙ map_alike (paths_of found kept before)
   where
     map_alike : (paths : List Path) → map (known_of found kept after) paths ≡ map (known_of found kept before) paths

@@ -1,6 +1,6 @@
 -- A worked story, computed from the definitions: a scan of `usb`, where the baseline has `a` with one fingerprint and
 -- touch 2, and the scan finds another.
-use Rattle.std.specs.Prelude.{◌≡◌, ℕ, List, [], ◌∷◌, Option, Some, None, codes}
+use Rattle.std.specs.Prelude.{◌≡◌, ℕ, List, [], ◌∷◌, Some, None, codes}
 use Rattle.std.proofs.Common.{refl}
 use Rattle.pana_journal.specs.declared.report.Report.TheVariants.{Register, Edit, Remove}
 use Rattle.pana_hall.specs.declared.holding.Holding.{Holding}

@@ -1,5 +1,5 @@
 -- What a scan calls for: at one path, and over all paths.
-use Rattle.std.specs.Prelude.{ℕ, Bool, not, ◌&&◌, ◌==◌, cond, List, ◌++◌, Option, Some, None, map, find, filter_map, option_map}
+use Rattle.std.specs.Prelude.{ℕ, not, ◌&&◌, ◌==◌, cond, List, ◌++◌, Option, Some, None, map, find, filter_map, option_map}
 use Rattle.std.specs.Str.{bytes_eq}
 use Rattle.pana_journal.specs.declared.report.Report.TheVariants.{Register, Edit, Remove}
 use Rattle.pana_hall.specs.declared.holding.Holding.{Holding}
@@ -35,8 +35,8 @@ outcome_at device path (Some (Seen found)) None None = record {
 outcome_at device path (Some (Seen found)) None (Some copy) = keep (Some (record { fingerprint = found; touch = copy.touch }))
 outcome_at device path (Some (Seen found)) (Some mark) (Some copy) =
     cond (not (bytes_eq found mark.fingerprint) && mark.touch == copy.touch)
-      (record { step = Some (record { path = path; fingerprint = Some found; report = Edit copy.copy }); mark = Some mark })
-      (keep (Some (record { fingerprint = found; touch = copy.touch })))
+    (record { step = Some (record { path = path; fingerprint = Some found; report = Edit copy.copy }); mark = Some mark })
+    (keep (Some (record { fingerprint = found; touch = copy.touch })))
 outcome_at device path (Some (Seen found)) (Some mark) None = keep (Some (record { fingerprint = found; touch = 0 }))
 outcome_at device path None (Some mark) (Some copy) = record {
   step = Some (record { path = path; fingerprint = None; report = Remove copy.copy None });

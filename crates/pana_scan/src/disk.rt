@@ -3,10 +3,9 @@ ghost use Rattle.std.specs.Prelude.{◌≡◌, ◌+◌, IfErr, IfNone, IfSome, O
 ghost use Rattle.pana_scan.specs.Disk.{HasCause, IsFresh, IsWithin, KeepsLimits, entries};
 
 use crate::scan_fault::ScanFault;
-use std::fs;
 use std::fs::{DirEntry, File, Files, ReadDir};
-use std::io;
 use std::io::{Error, ErrorKind};
+use std::{fs, io};
 
 /// How many entries of folders a scan meets at most, of any kind.
 const MOST_ENTRIES: u64 = 100_000;
@@ -65,7 +64,10 @@ impl<'a, R: Files + AllocGlobal + Clone + Drop> Disk<'a, R> {
     }
 
     /// The next entry of a folder; none for one whose name isn't UTF-8.
-    pub(crate) fn next(&mut self, names: &mut ReadDir<R>) -> Option<Result<Option<DirEntry<R>>, ScanFault>>
+    pub(crate) fn next(
+        &mut self,
+        names: &mut ReadDir<R>,
+    ) -> Option<Result<Option<DirEntry<R>>, ScanFault>>
         requires { IsWithin self.old }
         ensures end { IfNone result (IsWithin self.new × (entries self.new ≡ entries self.old)) }
         ensures ok { IfSome result (λ met. OnOk met (IsWithin self.new)) }

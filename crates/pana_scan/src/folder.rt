@@ -59,7 +59,11 @@ pub fn read_root<R: Files + AllocGlobal + Clone + Drop>(
     while let Some(inner) = tree.folders.pop() {
         read_folder(alloc, disk, folder, Some(&inner), &mut tree)?;
     }
-    let Tree { mut files, skipped, .. } = tree;
+    let Tree {
+        mut files,
+        skipped,
+        ..
+    } = tree;
     files.sort_by(|one, other| path_order(one, other))?;
     Ok(look_at(alloc, disk, device, folder, files, skipped)?)
 }
@@ -161,7 +165,12 @@ fn inner_path(
 fn depth_of(folder: &CopyPath) -> u64
     ensures { result ≡ depth_of folder.now }
 {
-    let slashes = folder.as_str().as_bytes().iter().filter(|byte| **byte == b'/').count();
+    let slashes = folder
+        .as_str()
+        .as_bytes()
+        .iter()
+        .filter(|byte| **byte == b'/')
+        .count();
     (slashes as u64).saturating_add(1)
 }
 

@@ -22,7 +22,5 @@ pub use crate::planning::plan;
 pub use crate::scan_fault::ScanFault;
 pub use crate::step::{Plan, Step, StepList};
 
-
-
 #[cfg(test)]
 mod tests;

@@ -22,7 +22,10 @@ pub(crate) struct Outcome {
 }
 
 impl Outcome {
-    const NOTHING: Outcome = Outcome { step: None, mark: None };
+    const NOTHING: Outcome = Outcome {
+        step: None,
+        mark: None,
+    };
 
     fn marked(fingerprint: [u8; 32], touch: u64) -> Outcome
         ensures { result ≡ keep (Some (record { fingerprint = fingerprint; touch = touch })) }
@@ -47,7 +50,10 @@ impl Spot<'_> {
         ensures { IfOk result (λ it. it ≡ outcome_at device.now self.now.path.now self.now.found self.now.mark (option_copied self.now.living)) }
     {
         match self.found {
-            Some(Found::Unreadable) => Ok(Outcome { step: None, mark: self.mark }),
+            Some(Found::Unreadable) => Ok(Outcome {
+                step: None,
+                mark: self.mark,
+            }),
             Some(Found::Seen(fingerprint)) => self.outcome_of_seen(fingerprint, device),
             None => self.outcome_of_absent(device),
         }

@@ -1,14 +1,14 @@
 use crate::{
-    Baseline, BaselineRow, Disk, Found, FoundRow, Listing, Mark, Plan, ScanFault, Step, fingerprint, plan, read_root,
+    Baseline, BaselineRow, Disk, Found, FoundRow, Listing, Mark, Plan, ScanFault, Step,
+    fingerprint, plan, read_root,
 };
 use pana_copies::{CopyPath, DeviceName, NameFault, Place};
 use pana_hall::{Holding, HoldingList};
 use pana_journal::Report;
 use std::alloc::{AllocError, Global};
-use std::fs;
-use std::io;
 use std::io::Read;
 use std::test::Fail;
+use std::{fs, io};
 
 /// SHA-256 of `abc`, from the standard.
 const ABC: [u8; 32] = [
@@ -80,7 +80,10 @@ fn row(alloc: Global, fingerprint: [u8; 32], touch: u64) -> Result<BaselineRow, 
 fn changed_file_is_an_edit(rt: HostRuntime) -> Result<(), Fail> {
     let alloc = rt.alloc();
     let listing = listing_of(alloc, &[("a", Found::Seen(EMPTY))])?;
-    let Plan { steps, mut baseline } = plan(alloc, &settled(alloc, 2)?, &copy_2(alloc, 2)?, &listing)?;
+    let Plan {
+        steps,
+        mut baseline,
+    } = plan(alloc, &settled(alloc, 2)?, &copy_2(alloc, 2)?, &listing)?;
     let edit = Step {
         path: path(alloc, "a")?,
         fingerprint: Some(EMPTY),
@@ -119,7 +122,10 @@ fn unreadable_file_keeps_its_row(rt: HostRuntime) -> Result<(), Fail> {
 fn absent_file_is_removed_without_an_heir(rt: HostRuntime) -> Result<(), Fail> {
     let alloc = rt.alloc();
     let listing = listing_of(alloc, &[])?;
-    let Plan { steps, mut baseline } = plan(alloc, &settled(alloc, 2)?, &copy_2(alloc, 2)?, &listing)?;
+    let Plan {
+        steps,
+        mut baseline,
+    } = plan(alloc, &settled(alloc, 2)?, &copy_2(alloc, 2)?, &listing)?;
     let remove = Step {
         path: path(alloc, "a")?,
         fingerprint: None,
@@ -216,7 +222,10 @@ fn names_passed_over_are_counted(rt: HostRuntime) -> Result<(), AllocError> {
 /// A folder of this test's own, which isn't there yet.
 fn new_folder(rt: &HostRuntime, name: &str) -> Result<String, Fail> {
     let own = std::process::id(rt.process());
-    let folder = format!(in rt.alloc(); "{}/pana_scan_{own}_{name}", std::env::temp_dir(rt)?.display())?;
+    let folder = format!(in rt.alloc();
+        "{}/pana_scan_{own}_{name}",
+        std::env::temp_dir(rt)?.display()
+    )?;
     let _ = fs::remove_dir_all(rt, folder.as_str());
     fs::create_dir(rt, folder.as_str())?;
     Ok(folder)
@@ -245,7 +254,12 @@ fn folder_with_a_file_is_read(rt: HostRuntime) -> Result<(), Fail> {
 #[test]
 fn folder_that_is_missing_is_refused(rt: HostRuntime) -> Result<(), Fail> {
     let device = DeviceName::new(rt.alloc(), "usb")?;
-    let read = read_root(rt.alloc(), &mut Disk::new(&rt), &device, "/pana_scan/is/not/there");
+    let read = read_root(
+        rt.alloc(),
+        &mut Disk::new(&rt),
+        &device,
+        "/pana_scan/is/not/there",
+    );
     assert!(rt; matches!(read, Err(ScanFault::Folder)));
     Ok(())
 }

@@ -1,5 +1,5 @@
 -- Paths inside a folder that is read.
-use Rattle.std.specs.Prelude.{ℕ, ◌+◌, ◌==◌, Bool, true, false, cond, List, [], ◌∷◌, ◌++◌, Option, Some, None, count_by}
+use Rattle.std.specs.Prelude.{ℕ, ◌+◌, ◌==◌, Bool, true, false, cond, List, ◌∷◌, ◌++◌, Option, Some, None, count_by}
 use Rattle.pana_copies.specs.Names.{is_path}
 use Rattle.pana_scan.specs.declared.disk.Kind.{Kind}
 use Rattle.pana_scan.specs.declared.disk.Kind.TheVariants.{File, Folder, Other, Gone}

@@ -1,4 +1,4 @@
-use Rattle.std.proofs.Common.{subst, rules}
+use Rattle.std.proofs.Common.{rules}
 use Rattle.std.proofs.lemmas.Fn.{always_returns_same}
 use Rattle.pana_scan.specs.Order.{path_cmp}
 use Rattle.pana_scan.proofs.Settled.{placed}

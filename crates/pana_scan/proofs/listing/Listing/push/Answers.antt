@@ -1,4 +1,4 @@
-use Rattle.std.proofs.Common.{sym, ap, ◌∙◌, subst}
+use Rattle.std.proofs.Common.{sym, subst}
 use Rattle.pana_scan.specs.Listing.{RowsRise, IsAbove}
 use Rattle.pana_scan.proofs.Listed.{pushed_rise}
 use Rattle.pana_scan.proofs.listing.Listing.push.Goals as goal

@@ -1,8 +1,8 @@
-use Rattle.std.proofs.Common.{◌≡◌, ◌∷◌, List, refl, sym, ap, ◌∙◌, subst, rules, option_map, option_copied}
+use Rattle.std.proofs.Common.{◌≡◌, ◌∷◌, sym, ap, ◌∙◌, subst, rules, option_map, option_copied}
 use Rattle.pana_scan.specs.Listing.{RowsRise}
 use Rattle.pana_scan.specs.Baseline.{MarksRise}
 use Rattle.pana_scan.specs.inner.Left.{HoldingsRise}
-use Rattle.pana_scan.specs.Plan.{Known, knowns}
+use Rattle.pana_scan.specs.Plan.{knowns}
 use Rattle.pana_scan.proofs.Merged.{lent, next_known, rest_lent_rise, found_rest_rise, kept_rest_rise}
 use Rattle.pana_scan.proofs.merging.Sources.next.Goals as goal
 
