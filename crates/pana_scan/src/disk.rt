@@ -1,6 +1,6 @@
 //! The folders that a scan lists, and what came of it.
-ghost use Rattle.std.specs.Prelude.{◌≡◌, ◌+◌, IfErr, IfNone, IfSome, OnOk, OnSome};
-ghost use Rattle.pana_scan.specs.Disk.{HasCause, IsFresh, IsWithin, KeepsLimits, entries};
+ghost use Rattle.std.specs.Prelude.{◌≡◌, ◌+◌, ◌≤◌, IfErr, IfNone, IfSome, OnOk, OnSome};
+ghost use Rattle.pana_scan.specs.Disk.{HasCause, IsFresh, IsWithin, KeepsLimits, deepest, entries};
 
 use crate::scan_fault::ScanFault;
 use std::fs::{DirEntry, File, Files, ReadDir};
@@ -49,14 +49,19 @@ impl<'a, R: Files + AllocGlobal + Clone + Drop> Disk<'a, R> {
         }
     }
 
-    /// Begins to list a folder.
-    pub(crate) fn list(&mut self, folder: &str) -> Result<ReadDir<R>, ScanFault>
+    /// Begins to list a folder that is this many folders below the root.
+    pub(crate) fn list(&mut self, folder: &str, depth: u64) -> Result<ReadDir<R>, ScanFault>
         requires { IsWithin self.old }
         ensures ok { OnOk result (IsWithin self.new) }
         ensures fault { IfErr result (HasCause self.new) }
         ensures limits { KeepsLimits self.new }
         ensures entries { entries self.new ≡ entries self.old }
+        ensures depth { depth ≤ deepest self.new }
     {
+        self.deepest = self.deepest.max(depth);
+        if depth > MOST_NESTED {
+            return Err(ScanFault::TooNested);
+        }
         match fs::read_dir(self.files, folder) {
             Ok(names) => Ok(names),
             Err(fault) => Err(self.fault(&fault)),
@@ -74,6 +79,7 @@ impl<'a, R: Files + AllocGlobal + Clone + Drop> Disk<'a, R> {
         ensures fault { IfSome result (λ met. IfErr met (HasCause self.new)) }
         ensures limits { KeepsLimits self.new }
         ensures entries { OnSome result (entries self.new ≡ entries self.old + 1) }
+        ensures depth { deepest self.new ≡ deepest self.old }
     {
         let entry = names.next()?;
         Some(self.met(entry))
@@ -85,6 +91,7 @@ impl<'a, R: Files + AllocGlobal + Clone + Drop> Disk<'a, R> {
         ensures fault { IfErr result (HasCause self.new) }
         ensures limits { KeepsLimits self.new }
         ensures entries { entries self.new ≡ entries self.old + 1 }
+        ensures depth { deepest self.new ≡ deepest self.old }
     {
         self.entries += 1;
         if self.entries > MOST_ENTRIES {
@@ -104,6 +111,7 @@ impl<'a, R: Files + AllocGlobal + Clone + Drop> Disk<'a, R> {
         ensures fault { IfErr result (HasCause self.new) }
         ensures limits { KeepsLimits self.new }
         ensures entries { entries self.new ≡ entries self.old }
+        ensures depth { deepest self.new ≡ deepest self.old }
     {
         match entry.file_type() {
             Ok(of) if of.is_file() => Ok(Kind::File),
@@ -112,20 +120,6 @@ impl<'a, R: Files + AllocGlobal + Clone + Drop> Disk<'a, R> {
             Err(fault) if fault.kind() == ErrorKind::NotFound => Ok(Kind::Gone),
             Err(fault) => Err(self.fault(&fault)),
         }
-    }
-
-    /// Goes down to a folder that is this many folders below the root.
-    pub(crate) fn descend(&mut self, depth: u64) -> Result<(), ScanFault>
-        requires { IsWithin self.old }
-        ensures ok { OnOk result (IsWithin self.new) }
-        ensures fault { IfErr result (HasCause self.new) }
-        ensures entries { entries self.new ≡ entries self.old }
-    {
-        self.deepest = self.deepest.max(depth);
-        if depth > MOST_NESTED {
-            return Err(ScanFault::TooNested);
-        }
-        Ok(())
     }
 
     /// Opens a file to read it.
@@ -138,6 +132,7 @@ impl<'a, R: Files + AllocGlobal + Clone + Drop> Disk<'a, R> {
         ensures fault { HasCause self.new result }
         ensures limits { KeepsLimits self.new }
         ensures entries { entries self.new ≡ entries self.old }
+        ensures depth { deepest self.new ≡ deepest self.old }
     {
         if error.kind() == ErrorKind::OutOfMemory {
             return ScanFault::OutOfMemory;

@@ -1,9 +1,12 @@
 //! A folder read into a listing.
 ghost use Rattle.std.specs.Prelude.{◌≡◌, ◌+◌, ◌≤◌, [], ◌++◌, length, if◌then◌else◌, is_some, option_copied, string_bytes, IfOk, IfErr, OnOk};
-ghost use Rattle.pana_scan.specs.Disk.{HasCause, IsFresh, IsWithin, KeepsLimits, entries};
+ghost use Rattle.pana_scan.specs.Disk.{HasCause, IsFresh, IsWithin, KeepsLimits, deepest, entries};
 ghost use Rattle.std.specs.Option.{option_to_list};
+ghost use Rattle.std.specs.List.Sorted.{IsSortedBy};
+ghost use Rattle.std.specs.Ordering.{is_lt};
+ghost use Rattle.pana_scan.specs.Order.{path_cmp};
 ghost use Rattle.pana_scan.specs.Listing.{counted};
-ghost use Rattle.pana_scan.specs.inner.Tree.{depth_of, inner_text, is_folder, taken_path, whole_text};
+ghost use Rattle.pana_scan.specs.inner.Tree.{depth_of, inner_text, is_folder, nested, taken_path, whole_text};
 
 use crate::disk::{Disk, Kind};
 use crate::fingerprinting::fingerprint;
@@ -80,10 +83,15 @@ fn read_folder<R: Files + AllocGlobal + Clone + Drop>(
     ensures ok { OnOk result (IsWithin disk.new) }
     ensures fault { IfErr result (HasCause disk.new) }
     ensures limits { KeepsLimits disk.new }
+    ensures depth { OnOk result (nested (option_copied folder.entry) ≤ deepest disk.new) }
     ensures grows { OnOk result (length tree.new.folders.items + entries disk.old ≤ length tree.old.folders.items + entries disk.new) }
 {
     let whole = whole_path(alloc, root, folder)?;
-    let mut names = disk.list(whole.as_str())?;
+    let depth = match folder {
+        Some(folder) => depth_of(folder),
+        None => 0,
+    };
+    let mut names = disk.list(whole.as_str(), depth)?;
     while let Some(entry) = disk.next(&mut names) {
         match entry? {
             Some(entry) => tree.meet(alloc, disk, folder, &entry)?,
@@ -107,6 +115,7 @@ impl Tree {
         ensures fault { IfErr result (HasCause disk.new) }
         ensures limits { KeepsLimits disk.new }
         ensures entries { entries disk.new ≡ entries disk.old }
+        ensures depth { deepest disk.new ≡ deepest disk.old }
         ensures grows { OnOk result (length self.new.folders.items ≤ length self.old.folders.items + 1) }
     {
         let kind = disk.kind(entry)?;
@@ -114,9 +123,6 @@ impl Tree {
             return Ok(());
         }
         let path = inner_path(alloc, folder, entry.file_name())?;
-        if let (Kind::Folder, Some(path)) = (kind, &path) {
-            disk.descend(depth_of(path))?;
-        }
         self.keep(kind, path)?;
         Ok(())
     }
@@ -193,6 +199,7 @@ fn look_at<R: Files + AllocGlobal + Clone + Drop>(
     files: Vec<CopyPath>,
     skipped: u64,
 ) -> Result<Listing, AllocError>
+    requires { IsSortedBy (λ one other. is_lt (path_cmp one other)) files.items }
     ensures { IfOk result (λ listing. (listing.device ≡ device.now) × (listing.skipped ≡ skipped)) }
 {
     let mut listing = Listing::new(alloc, device.copy_of()?);

@@ -25,6 +25,11 @@ taken_path text = cond (is_path text) (Some text) None
 abbrev pub depth_of : Path → ℕ
 depth_of folder = count_by (λ byte. byte == 47) folder + 1
 
+-- how many folders below the root a folder inside it is, or the root
+abbrev pub nested : Option Path → ℕ
+nested None = 0
+nested (Some folder) = depth_of folder
+
 -- the path by which the system knows what is in the root, or the root
 abbrev pub whole_text : List ℕ → Option Path → List ℕ
 whole_text root None = root
