@@ -1,0 +1,8 @@
+pub mod Order
+pub mod Merged
+pub mod Settled
+pub mod Listed
+pub mod Hashed
+pub mod Sorted
+pub mod Planned
+pub mod Worked

@@ -1,0 +1,69 @@
+-- The steps and the rows of a plan, path by path.
+use Rattle.std.specs.Prelude.{◌≡◌, ℕ, List, [], ◌∷◌, ◌++◌, map, Option, Some, None, option_map}
+use Rattle.std.specs.List.{cons_option}
+use Rattle.std.specs.List.Sorted.{IsStrictlySortedBy}
+use Rattle.std.specs.Option.{option_to_list}
+use Rattle.std.proofs.Common.{refl, sym, ap, ◌∙◌, subst, append_assoc, append-nil, Bor}
+use Rattle.pana_hall.specs.declared.holding.Holding.{Holding}
+use Rattle.pana_scan.specs.declared.baseline.BaselineRow.{BaselineRow}
+use Rattle.pana_scan.specs.declared.baseline.Mark.{Mark}
+use Rattle.pana_scan.specs.declared.listing.FoundRow.{FoundRow}
+use Rattle.pana_scan.specs.Order.{Path}
+use Rattle.pana_scan.specs.Baseline.{MarksRise}
+use Rattle.pana_scan.specs.Plan.{Known, known_of, knowns, outcome_for, paths_of, rows_for}
+use Rattle.pana_scan.proofs.Order.{IsBelow, Rise, in_order_rise}
+use Rattle.pana_scan.specs.inner.Left.{HoldTheSame}
+use Rattle.pana_scan.proofs.Merged.{lent, three}
+use Rattle.pana_scan.proofs.Sorted.{knowns_same}
+
+-- one more, where there is one
+pub cons_after : {T : Type 0} (done : List T) (next : Option T) (rest : List T) → (done ++ option_to_list next) ++ rest ≡ done ++ cons_option next rest
+cons_after done None rest = ap (λ xs. xs ++ rest) (append-nil done)
+cons_after done (Some x) rest = append_assoc done (x ∷ []) rest
+
+abbrev key : BaselineRow → Path
+key row = row.path
+
+below_row : (q : Path) (path : Path) (mark : Option Mark) (rows : List BaselineRow) → IsBelow q (path ∷ map key rows)
+    → IsBelow q (map key (cons_option (option_map (λ it. record { path = path; mark = it }) mark) rows))
+below_row q path None rows below = below.1
+below_row q path (Some mark) rows below = below
+
+rows_below : (device : List ℕ) (q : Path) (known : List Known) → IsBelow q (map (λ it. it.path) known) → IsBelow q (map key (rows_for device known))
+rows_below device q [] below = tt
+rows_below device q (it ∷ known) below =
+    below_row q it.path (outcome_for device it).mark (rows_for device known) (below.0, rows_below device q known below.1)
+
+rise_row : (path : Path) (mark : Option Mark) (rows : List BaselineRow) → IsBelow path (map key rows) → MarksRise rows
+    → MarksRise (cons_option (option_map (λ it. record { path = path; mark = it }) mark) rows)
+unfolding IsStrictlySortedBy
+rise_row path None rows below rise = rise
+rise_row path (Some mark) rows below rise = (below, rise)
+
+known_rows_rise : (device : List ℕ) (known : List Known) → Rise (map (λ it. it.path) known) → MarksRise (rows_for device known)
+unfolding IsStrictlySortedBy
+known_rows_rise device [] rise = tt
+known_rows_rise device (it ∷ known) rise =
+    rise_row it.path (outcome_for device it).mark (rows_for device known) (rows_below device it.path known rise.0) (known_rows_rise device known rise.1)
+
+paths_known : (found : List FoundRow) (kept : List BaselineRow) (living : List Holding) (paths : List Path) → map (λ it. it.path) (map (known_of found kept living) paths) ≡ paths
+paths_known found kept living [] = refl
+paths_known found kept living (path ∷ paths) = ap (λ more. path ∷ more) (paths_known found kept living paths)
+
+pub plan_rows_rise : (device : List ℕ) (found : List FoundRow) (kept : List BaselineRow) (living : List Holding) → MarksRise (rows_for device (knowns found kept living))
+plan_rows_rise device found kept living =
+    known_rows_rise device (knowns found kept living)
+    (subst Rise (sym (paths_known found kept living (paths_of found kept living))) (in_order_rise (three found kept living)))
+
+-- ---- for the call
+
+pub whole : (found rows : List FoundRow) (kept base : List BaselineRow) (living sorted : List (Bor Holding)) (seen holdings : List Holding)
+    → found ≡ rows → kept ≡ base → living ≡ sorted → seen ≡ holdings → HoldTheSame seen (lent sorted) → knowns found kept (lent living) ≡ knowns rows base holdings
+whole found rows kept base living sorted seen holdings ef ek el eh alike =
+    (λ i. knowns (ef i) (ek i) (lent (el i))) ∙ knowns_same rows base holdings (lent sorted) (subst (λ h. HoldTheSame h (lent sorted)) eh alike)
+
+-- what was made of all, where nothing is left
+pub finished : {T : Type 0} (make : List Known → List T) (done : List T) (left all known : List Known)
+    → make [] ≡ [] → left ≡ [] → done ++ make left ≡ make all → all ≡ known → done ≡ make known
+finished make done left all known nil none so_far is =
+    sym (append-nil done) ∙ sym (ap (λ more. done ++ more) (ap make none ∙ nil)) ∙ so_far ∙ ap make is

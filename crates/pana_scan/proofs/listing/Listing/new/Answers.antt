@@ -1,0 +1,7 @@
+use Rattle.std.proofs.Common.{sym, subst}
+use Rattle.pana_scan.specs.Listing.{RowsRise}
+use Rattle.pana_scan.proofs.Order.{nothing_rises}
+use Rattle.pana_scan.proofs.listing.Listing.new.Goals as goal
+
+pub invariant_of-result : goal.invariant_of-result
+invariant_of-result c = subst RowsRise (sym c.new.ensures.items) nothing_rises

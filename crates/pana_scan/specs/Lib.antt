@@ -1,0 +1,6 @@
+pub mod Order
+pub mod Listing
+pub mod Baseline
+pub mod Plan
+pub mod Disk
+pub mod inner

@@ -1,0 +1,5 @@
+-- Words that only inner functions and proofs need: nobody has to believe them.
+pub mod Heads
+pub mod Left
+pub mod Position
+pub mod Tree

@@ -1,0 +1,93 @@
+//! What a scan calls for, over all paths.
+ghost use Rattle.std.specs.Prelude.{◌≡◌, ◌++◌, [], map, option_map, IfOk, OnOk};
+ghost use Rattle.std.specs.Option.{option_to_list};
+ghost use Rattle.pana_hall.specs.Holdings.{HaveOwnPaths};
+ghost use Rattle.pana_scan.specs.inner.Left.{HoldingsRise, HoldTheSame};
+ghost use Rattle.pana_scan.specs.Plan.{plan_of};
+
+use crate::baseline::{Baseline, BaselineRow};
+use crate::listing::Listing;
+use crate::merging::Sources;
+use crate::ordering::path_order;
+use crate::outcome::Outcome;
+use crate::step::{Plan, Step, StepList};
+use pana_copies::CopyPath;
+use pana_hall::{Holding, HoldingList};
+use std::alloc::{AllocError, Global};
+
+/// The steps that a listing calls for, in byte order of their paths, and the baseline before they are settled.
+///
+/// The holdings are those of the listing's device. Fails only where memory runs out. O(n) for n paths, besides
+/// O(m log m) to sort m holdings by their paths.
+pub fn plan(
+    alloc: Global,
+    baseline: &Baseline,
+    holdings: &HoldingList,
+    listing: &Listing,
+) -> Result<Plan, AllocError>
+    ensures { IfOk result (λ plan. plan ≡ plan_of baseline.now holdings.now listing.now) }
+{
+    let living = by_path(alloc, holdings.as_slice())?;
+    let mut sources = Sources {
+        found: listing.rows(),
+        kept: baseline.rows(),
+        living: living.as_slice(),
+    };
+    let mut draft = Draft::new(alloc);
+    while let Some(spot) = sources.next() {
+        draft.add(spot.path, spot.outcome(listing.device())?)?;
+    }
+    let Draft { steps, rows } = draft;
+    Ok(Plan {
+        steps: StepList::from_vec(steps),
+        baseline: Baseline::from_vec(rows),
+    })
+}
+
+/// The plan of the paths that were looked at so far.
+#[derive(Drop)]
+struct Draft {
+    steps: Vec<Step>,
+    rows: Vec<BaselineRow>,
+}
+
+impl Draft {
+    fn new(alloc: Global) -> Draft
+        ensures steps { result.steps.items ≡ [] }
+        ensures rows { result.rows.items ≡ [] }
+    {
+        Draft {
+            steps: Vec::new(alloc),
+            rows: Vec::new(alloc),
+        }
+    }
+
+    fn add(&mut self, path: &CopyPath, outcome: Outcome) -> Result<(), AllocError>
+        ensures steps { OnOk result (self.new.steps.items ≡ self.old.steps.items ++ option_to_list outcome.step) }
+        ensures rows { OnOk result (self.new.rows.items ≡ self.old.rows.items ++ option_to_list (option_map (λ mark. record { path = path.now; mark = mark }) outcome.mark)) }
+    {
+        let Outcome { step, mark } = outcome;
+        if let Some(step) = step {
+            self.steps.push(step)?;
+        }
+        if let Some(mark) = mark {
+            let path = path.copy_of()?;
+            self.rows.push(BaselineRow { path, mark })?;
+        }
+        Ok(())
+    }
+}
+
+/// The holdings in byte order of their paths.
+fn by_path<'a>(alloc: Global, holdings: &'a [Holding]) -> Result<Vec<&'a Holding>, AllocError>
+    requires { HaveOwnPaths holdings.now }
+    ensures rise { IfOk result (λ living. HoldingsRise (map (λ holding. holding.now) living.items)) }
+    ensures same { IfOk result (λ living. HoldTheSame holdings.now (map (λ holding. holding.now) living.items)) }
+{
+    let mut living = Vec::with_capacity(alloc, holdings.len())?;
+    for holding in holdings {
+        living.push(holding)?;
+    }
+    living.sort_by(|one, other| path_order(&one.path, &other.path))?;
+    Ok(living)
+}
