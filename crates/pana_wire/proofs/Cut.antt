@@ -1,5 +1,5 @@
 -- The first line of a text ends at its first newline, or is the whole of it.
-use Rattle.std.proofs.Common.{◌≡◌, ℕ, ◌+◌, ◌-◌, ◌<◌, ◌≤◌, suc, ◌==◌, Bool, true, false, cond, not, nat_lt, List, [], ◌∷◌, ◌++◌, length, take, drop, map, position, Some, None, refl, sym, ap, ◌∙◌, append-nil, length-drop, arith}
+use Rattle.std.proofs.Common.{◌≡◌, ℕ, ◌+◌, ◌-◌, ◌<◌, ◌≤◌, suc, ◌==◌, true, false, cond, not, nat_lt, List, [], ◌∷◌, ◌++◌, length, take, drop, map, position, Some, None, refl, sym, ap, ◌∙◌, append-nil, length-drop, arith}
 use Rattle.std.specs.List.{position_or_len}
 use Rattle.std.proofs.lemmas.Bool.{ltb-false, ltb-true}
 use Rattle.std.proofs.lemmas.List.{append_assoc, map-append, take_all}
@@ -18,8 +18,8 @@ ended_first : (begun text : List ℕ) → newline_at text < length text → ende
 ended_first begun [] within = absurd (omega arith)
 ended_first begun (b ∷ bs) within =
     elim (b == 10) as (λ t. cond (not t) (1 + newline_at bs) 0 < suc (length bs)
-        → cond t (begun ∷ ended [] bs) (ended (begun ++ b ∷ []) bs)
-        ≡ (begun ++ take (cond (not t) (1 + newline_at bs) 0) (b ∷ bs)) ∷ ended [] (drop (cond (not t) (1 + newline_at bs) 0 + 1) (b ∷ bs))) [
+    → cond t (begun ∷ ended [] bs) (ended (begun ++ b ∷ []) bs)
+    ≡ (begun ++ take (cond (not t) (1 + newline_at bs) 0) (b ∷ bs)) ∷ ended [] (drop (cond (not t) (1 + newline_at bs) 0 + 1) (b ∷ bs))) [
       | true ↦ λ h. ap (λ l. l ∷ ended [] bs) (sym (append-nil begun))
       | false ↦ λ h. ended_first (begun ++ b ∷ []) bs (omega arith)
           ∙ ap (λ l. l ∷ ended [] (drop (newline_at bs + 1) bs)) (append_assoc begun (b ∷ []) (take (newline_at bs) bs))
@@ -31,7 +31,7 @@ unended_first : (begun text : List ℕ) → newline_at text < length text → un
 unended_first begun [] within = absurd (omega arith)
 unended_first begun (b ∷ bs) within =
     elim (b == 10) as (λ t. cond (not t) (1 + newline_at bs) 0 < suc (length bs)
-        → cond t (unended [] bs) (unended (begun ++ b ∷ []) bs) ≡ unended [] (drop (cond (not t) (1 + newline_at bs) 0 + 1) (b ∷ bs))) [
+    → cond t (unended [] bs) (unended (begun ++ b ∷ []) bs) ≡ unended [] (drop (cond (not t) (1 + newline_at bs) 0 + 1) (b ∷ bs))) [
       | true ↦ λ h. refl
       | false ↦ λ h. unended_first (begun ++ b ∷ []) bs (omega arith) ∙ ap (unended []) (sym (drop_next (newline_at bs) b bs))
     ] within

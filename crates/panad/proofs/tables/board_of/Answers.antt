@@ -1,7 +1,4 @@
 use Rattle.std.proofs.Common.{◌∙◌}
-use Rattle.std.specs.Prelude.{◌≡◌}
-use Rattle.pana_hall.specs.Permit.{Permits}
-use Rattle.pana_hall.specs.declared.call.Call.TheVariants as calls
 use Rattle.pana_hall.specs.declared.call.Query.TheVariants as queries
 use Rattle.panad.proofs.Asked.{asked, board_asked}
 use Rattle.panad.proofs.tables.board_of.Goals as goal
