@@ -9,13 +9,15 @@ ghost use Rattle.pana_scan.specs.Listing.{counted};
 ghost use Rattle.pana_scan.specs.inner.Tree.{depth_of, inner_text, is_folder, nested, taken_path, whole_text};
 
 use crate::disk::{Disk, Kind};
-use crate::fingerprinting::fingerprint;
+use crate::fingerprinting::watched_fingerprint;
 use crate::listing::{Found, Listing};
 use crate::ordering::path_order;
 use crate::scan_fault::ScanFault;
+use crate::watch::Watch;
 use pana_copies::{CopyPath, DeviceName, NameFault};
 use std::alloc::{AllocError, Global};
 use std::fs::{DirEntry, Files};
+use std::io::ErrorKind;
 
 /// How often a file is read at most.
 const MOST_READS: u64 = 16_777_216;
@@ -41,11 +43,14 @@ struct Tree {
 /// `Folder` where a folder couldn't be listed; `TooMany` past 100,000 entries, of any kind; `TooNested` where a folder
 /// is more than 64 folders below the root; `OutOfMemory`. It takes memory for paths and fingerprints, and none for a
 /// file's bytes.
-pub fn read_root<R: Files + AllocGlobal + Clone + Drop>(
+///
+/// The watch learns of each file, and of what was read of it.
+pub fn read_root<R: Files + AllocGlobal + Clone + Drop, W: Watch>(
     alloc: Global,
     disk: &mut Disk<'_, R>,
     device: &DeviceName,
     folder: &str,
+    watch: &mut W,
 ) -> Result<Listing, ScanFault>
     requires { IsFresh disk.old }
     ensures device { IfOk result (λ listing. listing.device ≡ device.now) }
@@ -68,7 +73,7 @@ pub fn read_root<R: Files + AllocGlobal + Clone + Drop>(
         ..
     } = tree;
     files.sort_by(|one, other| path_order(one, other))?;
-    Ok(look_at(alloc, disk, device, folder, files, skipped)?)
+    Ok(look_at(alloc, disk, device, folder, files, skipped, watch)?)
 }
 
 /// Lists one folder, the root or one inside it, and keeps what is met.
@@ -191,13 +196,14 @@ fn whole_path(alloc: Global, root: &str, inner: Option<&CopyPath>) -> Result<Str
 }
 
 /// The listing of these files, which are sorted by their paths. A path that was met twice is listed once.
-fn look_at<R: Files + AllocGlobal + Clone + Drop>(
+fn look_at<R: Files + AllocGlobal + Clone + Drop, W: Watch>(
     alloc: Global,
     disk: &Disk<'_, R>,
     device: &DeviceName,
     root: &str,
     files: Vec<CopyPath>,
     skipped: u64,
+    watch: &mut W,
 ) -> Result<Listing, AllocError>
     requires { IsSortedBy (λ one other. is_lt (path_cmp one other)) files.items }
     ensures { IfOk result (λ listing. (listing.device ≡ device.now) × (listing.skipped ≡ skipped)) }
@@ -207,19 +213,26 @@ fn look_at<R: Files + AllocGlobal + Clone + Drop>(
     for path in files {
         if listing.is_above(&path) {
             let whole = whole_path(alloc, root, Some(&path))?;
-            listing.push(path, found(disk, whole.as_str()))?;
+            listing.push(path, found(disk, whole.as_str(), watch)?)?;
         }
     }
     Ok(listing)
 }
 
 /// What is found of a file.
-fn found<R: Files + AllocGlobal + Clone + Drop>(disk: &Disk<'_, R>, file: &str) -> Found {
-    let Ok(mut file) = disk.open(file) else {
-        return Found::Unreadable;
+fn found<R: Files + AllocGlobal + Clone + Drop, W: Watch>(
+    disk: &Disk<'_, R>,
+    file: &str,
+    watch: &mut W,
+) -> Result<Found, AllocError> {
+    watch.file_begun();
+    let mut file = match disk.open(file) {
+        Ok(file) => file,
+        Err(fault) if fault.kind() == ErrorKind::OutOfMemory => return Err(AllocError),
+        Err(_) => return Ok(Found::Unreadable),
     };
-    match fingerprint(&mut file, MOST_READS) {
+    Ok(match watched_fingerprint(&mut file, MOST_READS, watch) {
         Some(digest) => Found::Seen(digest),
         None => Found::Unreadable,
-    }
+    })
 }

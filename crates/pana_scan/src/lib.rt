@@ -12,6 +12,7 @@ mod outcome;
 mod planning;
 mod scan_fault;
 mod step;
+mod watch;
 
 pub use crate::baseline::{Baseline, BaselineRow, Mark};
 pub use crate::disk::Disk;
@@ -21,6 +22,7 @@ pub use crate::listing::{Found, FoundRow, Listing};
 pub use crate::planning::plan;
 pub use crate::scan_fault::ScanFault;
 pub use crate::step::{Plan, Step, StepList};
+pub use crate::watch::{Unwatched, Watch};
 
 #[cfg(test)]
 mod tests;

@@ -1,21 +1,37 @@
 use std::alloc::{AllocError, AllocFailed};
-use thiserror::Error;
+use std::error::Error;
+use std::fmt;
 
 /// Why a folder can't be scanned.
-#[derive(Clone, Copy, Debug, PartialEq, Eq, Error)]
+#[derive(Clone, Copy, Debug, PartialEq, Eq)]
 pub enum ScanFault {
     /// A folder couldn't be listed.
-    #[error("cannot list folder")]
     Folder,
     /// More than 100,000 entries were met.
-    #[error("too many entries")]
     TooMany,
     /// A folder is more than 64 folders below the root.
-    #[error("folders too deep")]
     TooNested,
-    #[error("out of memory")]
+    /// An allocation failed.
     OutOfMemory,
 }
+
+impl fmt::Display for ScanFault {
+    ghost use Rattle.std.specs.Prelude.{Some};
+    ghost use Rattle.pana_scan.specs.Fault.{shown_scan_fault};
+
+    ghost output = { λ fault. Some (shown_scan_fault fault) };
+
+    fn fmt<W: fmt::Write>(&self, f: &mut fmt::Formatter<W>) -> fmt::Result {
+        f.write_str(match self {
+            ScanFault::Folder => "cannot list folder",
+            ScanFault::TooMany => "too many entries",
+            ScanFault::TooNested => "folders too deep",
+            ScanFault::OutOfMemory => "out of memory",
+        })
+    }
+}
+
+impl Error for ScanFault {}
 
 impl<T: Drop> From<AllocFailed<T>> for ScanFault {
     ghost use Rattle.std.specs.Prelude.{◌≡◌};

@@ -1,6 +1,6 @@
 use crate::{
-    Baseline, BaselineRow, Disk, Found, FoundRow, Listing, Mark, Plan, ScanFault, Step,
-    fingerprint, plan, read_root,
+    Baseline, BaselineRow, Disk, Found, FoundRow, Listing, Mark, Plan, ScanFault, Step, Unwatched,
+    Watch, fingerprint, plan, read_root,
 };
 use pana_copies::{CopyPath, DeviceName, NameFault, Place};
 use pana_hall::{Holding, HoldingList};
@@ -231,13 +231,65 @@ fn new_folder(rt: &HostRuntime, name: &str) -> Result<String, Fail> {
     Ok(folder)
 }
 
+/// Counts what it learns of a scan.
+#[derive(Clone, Copy, Debug, PartialEq, Eq, Drop)]
+struct Tally {
+    files: u64,
+    bytes: usize,
+}
+
+impl Watch for Tally {
+    fn file_begun(&mut self) {
+        self.files = self.files.saturating_add(1);
+    }
+
+    fn bytes_read(&mut self, count: usize) {
+        self.bytes = self.bytes.saturating_add(count);
+    }
+}
+
+#[test]
+fn watch_learns_of_files_and_bytes(rt: HostRuntime) -> Result<(), Fail> {
+    let alloc = rt.alloc();
+    let root = new_folder(&rt, "watched")?;
+    fs::write(&rt, format!(in alloc; "{root}/a")?, "abc")?;
+    fs::write(&rt, format!(in alloc; "{root}/b")?, "")?;
+    let device = DeviceName::new(alloc, "usb")?;
+    let mut tally = Tally { files: 0, bytes: 0 };
+    let read = read_root(
+        alloc,
+        &mut Disk::new(&rt),
+        &device,
+        root.as_str(),
+        &mut tally,
+    );
+    fs::remove_dir_all(&rt, root.as_str())?;
+    assert!(rt; read.is_ok());
+    assert_eq!(rt; tally, Tally { files: 2, bytes: 3 });
+    Ok(())
+}
+
+/// What a scan of the folder finds.
+fn scanned(rt: &HostRuntime, folder: &str) -> Result<Listing, ScanFault> {
+    let device = match DeviceName::new(rt.alloc(), "usb") {
+        Ok(device) => device,
+        Err(_) => return Err(ScanFault::OutOfMemory),
+    };
+    read_root(
+        rt.alloc(),
+        &mut Disk::new(rt),
+        &device,
+        folder,
+        &mut Unwatched,
+    )
+}
+
 #[test]
 fn folder_with_a_file_is_read(rt: HostRuntime) -> Result<(), Fail> {
     let alloc = rt.alloc();
     let root = new_folder(&rt, "file")?;
     fs::write(&rt, format!(in alloc; "{root}/a")?, "abc")?;
-    let device = DeviceName::new(alloc, "usb")?;
-    let read = read_root(alloc, &mut Disk::new(&rt), &device, root.as_str());
+    let read = scanned(&rt, root.as_str());
     fs::remove_dir_all(&rt, root.as_str())?;
     let Ok(listing) = read else {
         return Err(Fail::from(AllocError));
@@ -252,16 +304,9 @@ fn folder_with_a_file_is_read(rt: HostRuntime) -> Result<(), Fail> {
 }
 
 #[test]
-fn folder_that_is_missing_is_refused(rt: HostRuntime) -> Result<(), Fail> {
-    let device = DeviceName::new(rt.alloc(), "usb")?;
-    let read = read_root(
-        rt.alloc(),
-        &mut Disk::new(&rt),
-        &device,
-        "/pana_scan/is/not/there",
-    );
+fn folder_that_is_missing_is_refused(rt: HostRuntime) {
+    let read = scanned(&rt, "/pana_scan/is/not/there");
     assert!(rt; matches!(read, Err(ScanFault::Folder)));
-    Ok(())
 }
 
 #[test]
@@ -272,8 +317,7 @@ fn rows_are_in_byte_order_of_whole_paths(rt: HostRuntime) -> Result<(), Fail> {
     for name in ["a/b", "a-b", "ab"] {
         fs::write(&rt, format!(in alloc; "{root}/{name}")?, "abc")?;
     }
-    let device = DeviceName::new(alloc, "usb")?;
-    let read = read_root(alloc, &mut Disk::new(&rt), &device, root.as_str());
+    let read = scanned(&rt, root.as_str());
     fs::remove_dir_all(&rt, root.as_str())?;
     let Ok(listing) = read else {
         return Err(Fail::from(AllocError));

@@ -1,9 +1,10 @@
 -- How the parts of a report are put together, and lines one after another.
-use Rattle.std.specs.Prelude.{◌≡◌, ◌≢◌, ℕ, ◌+◌, ◌<◌, List, [], ◌∷◌, ◌++◌, length, codes, if◌then◌else◌, Option, Some, Result, Ok, Err, OnOk}
+use Rattle.std.specs.Prelude.{◌≡◌, ◌≢◌, false, ℕ, ◌+◌, ◌<◌, decimal, List, [], ◌∷◌, ◌++◌, length, codes, if◌then◌else◌, Option, Some, Result, Ok, Err, OnOk}
 use Rattle.std.specs.Result.{is_ok}
 use Rattle.std.proofs.Common.{refl, sym, ap, ◌∙◌, subst, inl, inr, take, drop, get_or, append-nil, arith}
 use Rattle.std.specs.Borrow.{Bor}
 use Rattle.std.proofs.lemmas.List.{append_assoc, map-append, length-map, length-take-le, take-append-drop}
+use Rattle.std.proofs.lemmas.Bool.{ne_eqb}
 use Rattle.std.proofs.lemmas.Grind.{take_at_read}
 use Rattle.pana_journal.specs.declared.entry.Entry.{Entry}
 use Rattle.pana_wire.specs.Dump.{dump_says, IsDumpText}
@@ -17,6 +18,12 @@ use Rattle.panad.specs.declared.answer.Answer.{Answer}
 use Rattle.panad.specs.declared.line_fault.LineFault.{LineFault}
 use Rattle.panad.specs.Answered.{Reports, report_line}
 use Rattle.panad.specs.Load.{SayEntries, HasFault, AnswersDump, AnswersEntries, shown_line_fault}
+use Rattle.pana_copies.specs.Names.{is_device}
+use Rattle.pana_scan.specs.Disk.{HasCause}
+use Rattle.pana_scan.specs.declared.disk.Disk.{Disk}
+use Rattle.pana_scan.specs.declared.scan_fault.ScanFault.{ScanFault}
+use Rattle.pana_scan.specs.Fault.{shown_scan_fault}
+use Rattle.panad.specs.Scan.{AnswersScan, skipped_line}
 use Rattle.panad.specs.inner.{texts}
 use Rattle.panad.specs.Show.{TakesLine, TakesLines, report_of}
 
@@ -114,3 +121,20 @@ load_reported entries fault answer (inr stops) some says = inr (fault, stops, sa
 pub line_reported : (bytes : List ℕ) (fault : LineFault) (answer : Answer) → HasFault (lines_of bytes) fault
     → ((text : List ℕ) → Some (shown_line_fault fault) ≡ Some text → Reports text answer) → AnswersDump bytes answer
 line_reported bytes fault answer has says = inr (fault, has, says (shown_line_fault fault) refl)
+
+-- names were passed over
+pub skipped_report : (skipped : ℕ) → skipped ≢ 0 → codes "panad: " ++ (decimal skipped ++ codes " names skipped\n") ≡ skipped_line skipped
+skipped_report skipped some =
+    sym (ap (λ none. if none then [] else report_line (decimal skipped ++ codes " names skipped")) (ne_eqb skipped 0 some)
+    ∙ append_assoc (codes "panad: ") (decimal skipped ++ codes " names skipped") (10 ∷ [])
+    ∙ ap (λ t. codes "panad: " ++ t) (append_assoc (decimal skipped) (codes " names skipped") (10 ∷ [])))
+
+-- the device's name is none
+pub bad_device_reported : {R : Type 0} (device : List ℕ) (disk : Disk R) (answer : Answer) → is_device device ≡ false
+    → ((text : List ℕ) → Some (codes "BadDevice") ≡ Some text → Reports text answer) → AnswersScan device disk answer
+bad_device_reported device disk answer bad says = inl (bad, says (codes "BadDevice") refl)
+
+-- the folder can't be scanned
+pub scan_reported : {R : Type 0} (device : List ℕ) (disk : Disk R) (fault : ScanFault) (answer : Answer) → HasCause disk fault
+    → ((text : List ℕ) → Some (shown_scan_fault fault) ≡ Some text → Reports text answer) → AnswersScan device disk answer
+scan_reported device disk fault answer cause says = inr (inr (fault, cause, says (shown_scan_fault fault) refl))

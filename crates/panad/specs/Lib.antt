@@ -5,4 +5,5 @@ pub mod Answered
 pub mod Tables
 pub mod Load
 pub mod Show
+pub mod Scan
 pub mod inner

@@ -2,11 +2,14 @@ use crate::answer::Answer;
 use crate::comparing::compare_on;
 use crate::fault::ProgramFault;
 use crate::loading::load_on;
+use crate::progress::Progress;
 use crate::running::run_on;
+use crate::scanning::scan_on;
 use crate::showing::show_on;
 use crate::version::VERSION;
 use clap::error::{Error, ErrorKind};
 use clap::{Arg, ArgMatches, Command};
+use pana_scan::Disk;
 use pana_wire::Tap;
 use std::alloc::{AllocError, Global};
 use std::io::{BufWriter, Read};
@@ -66,6 +69,16 @@ A dump is the answers to `journal` questions, a line each. Example:
        1  laptop:plan.txt  newest        0      1      0         0
        2  usb:plan.txt     obsolete      1      0      0         0";
 
+const SCAN_EXAMPLE: &str = "\
+Each regular file below DIR is registered as a first copy, at its path relative to
+DIR. Example:
+
+    $ panad scan usb /media/usb > usb.lines
+    $ panad show usb.lines
+
+Symbolic links are passed over. Names that can't be reported are counted on
+standard error.";
+
 const COMPARE_EXAMPLE: &str = "\
 A stamp is an id and an event of an Interval Tree Clock. Example:
 
@@ -79,10 +92,17 @@ const SHOW: &str = "show";
 
 const LOAD: &str = "load";
 
+const SCAN: &str = "scan";
+
 const COMPARE: &str = "compare";
 
 /// The name of the file on the command line.
 const FILE: &str = "FILE";
+
+/// The names of the device and the folder on the command line.
+const DEVICE: &str = "DEVICE";
+
+const DIR: &str = "DIR";
 
 /// The names of the two stamps on the command line.
 const FIRST: &str = "FIRST";
@@ -115,6 +135,20 @@ fn load_command<'a>(alloc: Global) -> Result<Command<'a>, AllocError> {
         .arg(file)
 }
 
+fn scan_command<'a>(alloc: Global) -> Result<Command<'a>, AllocError> {
+    let device = Arg::new(alloc, DEVICE)
+        .help("The name of the device, 1 to 32 of a to z, 0 to 9, - and _")
+        .required(true);
+    let folder = Arg::new(alloc, DIR)
+        .help("The folder with the device's copies")
+        .required(true);
+    Command::new(alloc, SCAN)
+        .about("Prints the lines that register all files of a folder")
+        .after_help(SCAN_EXAMPLE)
+        .arg(device)?
+        .arg(folder)
+}
+
 fn compare_command<'a>(alloc: Global) -> Result<Command<'a>, AllocError> {
     let first = Arg::new(alloc, FIRST)
         .help("The text of a stamp")
@@ -140,6 +174,7 @@ fn command_line<'a>(alloc: Global) -> Result<Command<'a>, AllocError> {
         .subcommand(run_command(alloc))?
         .subcommand(show_command(alloc)?)?
         .subcommand(load_command(alloc)?)?
+        .subcommand(scan_command(alloc)?)?
         .subcommand(compare_command(alloc)?)
 }
 
@@ -152,6 +187,22 @@ fn run(rt: &HostRuntime) -> Result<ExitCode, ProgramFault> {
         Ok(_) => Ok(ExitCode::SUCCESS),
         Err(fault) => Err(ProgramFault::of_serving(fault)),
     }
+}
+
+fn scan(rt: &HostRuntime, words: &ArgMatches) -> Result<ExitCode, ProgramFault> {
+    // Both words are required, so they are there.
+    let device = words.get_str(DEVICE).unwrap_or("");
+    let folder = words.get_str(DIR).unwrap_or("");
+    let mut progress = Progress::new(rt);
+    let answer = scan_on(
+        rt.alloc(),
+        &mut Disk::new(rt),
+        device,
+        folder,
+        &mut progress,
+    );
+    progress.end();
+    answer?.print(rt)
 }
 
 fn compare(rt: &HostRuntime, words: &ArgMatches) -> Result<ExitCode, ProgramFault> {
@@ -246,6 +297,7 @@ fn obey_words(rt: &HostRuntime, words: &[String]) -> Result<ExitCode, ProgramFau
         Some((RUN, _)) => run(rt),
         Some((SHOW, words)) => show(rt, words),
         Some((LOAD, words)) => load(rt, words),
+        Some((SCAN, words)) => scan(rt, words),
         Some((COMPARE, words)) => compare(rt, words),
         _ => refuse(rt, ErrorKind::MissingSubcommand, "a command is required"),
     }

@@ -8,7 +8,9 @@ mod fault;
 mod line_fault;
 mod loading;
 mod one_hall;
+mod progress;
 mod running;
+mod scanning;
 mod showing;
 mod tables;
 #[cfg(test)]

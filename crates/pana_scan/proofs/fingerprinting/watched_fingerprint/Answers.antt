@@ -1,7 +1,7 @@
 use Rattle.std.proofs.Common.{◌≡◌, ◌∙◌, ℕ, length, take, refl, subst, arith, rules, []}
 use Rattle.std.specs.Io.KnownBytes.{Consumes}
 use Rattle.pana_scan.proofs.Hashed.{hashed_more, hashed_all}
-use Rattle.pana_scan.proofs.fingerprinting.fingerprint.Goals as goal
+use Rattle.pana_scan.proofs.fingerprinting.watched_fingerprint.Goals as goal
 
 pub loop-init : goal.loop-init
 loop-init g c = ((λ bytes is. ([], bytes, is, refl, c.new-hasher.ensures)), search rules)
