@@ -4,7 +4,8 @@
 usage: each_test.py CRATE..
 
 A test passes with no failed allocation. With one it ends with an error that says so, AllocError, AllocFailed
-or OutOfMemory: not with another answer, a failed assertion or a crash. Of a test with more than MOST
+or OutOfMemory: not with another answer, a failed assertion or a crash. What it leaves in the folder for temporary files is
+taken away. Of a test with more than MOST
 allocations, MOST fail in turn, evenly spread. The tests are those that `rt ci` or `rt test` has built.
 The last line is 'N passed, M failed', one for each crate.
 """
@@ -26,13 +27,13 @@ SECONDS = 60
 SHOWN = 5
 MOST = 2000
 LISTED = re.compile(r"^(\S+): test$", re.MULTILINE)
-OUT_OF_MEMORY = re.compile(rb"error: (AllocError|AllocFailed \{ \.\. \}|OutOfMemory)\nthe test failed: its result gives status 1\n")
+OUT_OF_MEMORY = re.compile(rb"error: (AllocError|AllocFailed \{ \.\. \}|OutOfMemory|Kind\(OutOfMemory\))\nthe test failed: its result gives status 1\n")
 
 
 def run(program, test, library, at):
     """Runs the test with allocation number `at` failing (0: none): its status, standard error, allocations, failed ones."""
     with failing.Report() as report:
-        environment = report.environment(library, at)
+        environment = {**report.environment(library, at), "TMPDIR": str(Path(library).parent)}
         ended = subprocess.run([program, test], env=environment, pass_fds=[report.number], capture_output=True, timeout=SECONDS)
         return (ended.returncode, ended.stderr, *report.counts())
 

@@ -206,12 +206,9 @@ fn reads_that_fail_or_run_out_give_no_fingerprint(rt: HostRuntime) {
 }
 
 #[test]
-fn names_passed_over_are_counted(rt: HostRuntime) -> Result<(), AllocError> {
+fn names_passed_over_are_counted(rt: HostRuntime) -> Result<(), Fail> {
     let alloc = rt.alloc();
-    let Ok(device) = DeviceName::new(alloc, "usb") else {
-        return Err(AllocError);
-    };
-    let mut listing = Listing::new(alloc, device);
+    let mut listing = Listing::new(alloc, DeviceName::new(alloc, "usb")?);
     listing.skip(1);
     listing.skip(1);
     assert_eq!(rt; listing.skipped(), 2);
@@ -264,7 +261,9 @@ fn watch_learns_of_files_and_bytes(rt: HostRuntime) -> Result<(), Fail> {
         &mut tally,
     );
     fs::remove_dir_all(&rt, root.as_str())?;
-    assert!(rt; read.is_ok());
+    if read.is_err() {
+        return Err(Fail::from(AllocError));
+    }
     assert_eq!(rt; tally, Tally { files: 2, bytes: 3 });
     Ok(())
 }
@@ -304,9 +303,13 @@ fn folder_with_a_file_is_read(rt: HostRuntime) -> Result<(), Fail> {
 }
 
 #[test]
-fn folder_that_is_missing_is_refused(rt: HostRuntime) {
+fn folder_that_is_missing_is_refused(rt: HostRuntime) -> Result<(), Fail> {
     let read = scanned(&rt, "/pana_scan/is/not/there");
+    if matches!(read, Err(ScanFault::OutOfMemory)) {
+        return Err(Fail::from(AllocError));
+    }
     assert!(rt; matches!(read, Err(ScanFault::Folder)));
+    Ok(())
 }
 
 #[test]
