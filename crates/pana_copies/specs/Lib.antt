@@ -1,2 +1,4 @@
+pub mod inner
 pub mod Names
 pub mod Places
+pub mod Spots

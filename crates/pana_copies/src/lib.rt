@@ -2,11 +2,15 @@
 #![tactic(auto)]
 
 mod copy_path;
+mod copy_table;
 mod device_name;
 mod name_fault;
 mod place;
+#[cfg(test)]
+mod tests;
 
 pub use crate::copy_path::CopyPath;
+pub use crate::copy_table::{CopyTable, KeptCopy};
 pub use crate::device_name::DeviceName;
 pub use crate::name_fault::NameFault;
 pub use crate::place::Place;

@@ -1,7 +1,7 @@
 -- How two copies relate.
-use Rattle.std.specs.Prelude.{ℕ, List, codes}
+use Rattle.std.specs.Prelude.{ℕ, List, codes, if◌then◌else◌}
 use Rattle.pana_event.specs.Event.{Event}
-use Rattle.pana_event.specs.Order.{IsBelow}
+use Rattle.pana_event.specs.Order.{IsBelow, is_leq}
 use Rattle.pana_event.specs.declared.rel.Rel.{Rel}
 use Rattle.pana_event.specs.declared.rel.Rel.TheVariants.{Equal, Older, Newer, Conflict}
 
@@ -26,3 +26,7 @@ IsRelation e f Equal = IsBelow e f × IsBelow f e
 IsRelation e f Older = IsBelow e f × ¬ IsBelow f e
 IsRelation e f Newer = IsBelow f e × ¬ IsBelow e f
 IsRelation e f Conflict = ¬ IsBelow e f × ¬ IsBelow f e
+
+-- the relation as the test says it, taken both ways round
+abbrev pub tested_relation : Event → Event → Rel
+tested_relation e f = if is_leq e f then (if is_leq f e then Equal else Older) else (if is_leq f e then Newer else Conflict)

@@ -2,8 +2,8 @@
 ghost use Rattle.std.specs.Prelude.{◌≡◌, ◌^◌, ◌<◌, ◌≤◌, ◌↔◌, max, length, IfOk, IsTrue};
 ghost use Rattle.pana_event.specs.Event.{IsGreatestLevel, IsLeastLevel, IsNormal, depth, greatest, leaf, least, level};
 ghost use Rattle.pana_event.specs.Join.{IsJoin, joined};
-ghost use Rattle.pana_event.specs.Order.{IsBelow};
-ghost use Rattle.pana_event.specs.Relation.{IsRelation};
+ghost use Rattle.pana_event.specs.Order.{IsBelow, is_leq};
+ghost use Rattle.pana_event.specs.Relation.{IsRelation, tested_relation};
 ghost use Rattle.pana_event.specs.Shape.{tree};
 
 use crate::node::Node;
@@ -88,7 +88,8 @@ impl EventTree {
 
     /// Whether this event is below the other or the same. Takes no memory; visits each node at most once.
     pub fn leq(&self, other: &EventTree) -> bool
-        ensures { IsTrue result ↔ IsBelow self.now other.now }
+        ensures levels { IsTrue result ↔ IsBelow self.now other.now }
+        ensures test { result ≡ is_leq self.now other.now }
     {
         self.node.is_below(0, &other.node, 0)
     }
@@ -97,6 +98,7 @@ impl EventTree {
     pub fn compare(&self, other: &EventTree) -> Rel
         ensures relation { IsRelation self.now other.now result }
         ensures same { (result ≡ Rel.Equal) ↔ (self.now ≡ other.now) }
+        ensures test { result ≡ tested_relation self.now other.now }
     {
         // whose contract says that both are normal
         let _ = self.node();

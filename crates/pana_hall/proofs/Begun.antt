@@ -7,7 +7,7 @@ use Rattle.std.proofs.lemmas.List.{map-append}
 use Rattle.std.proofs.lemmas.List.Elements.{filter-append}
 use Rattle.pana_journal.specs.declared.entry.Entry.{Entry}
 use Rattle.pana_journal.specs.Entries.{entry_at}
-use Rattle.pana_hall.specs.Updates.{has}
+use Rattle.pana_family.specs.Updates.{has}
 use Rattle.pana_hall.specs.Family.{is_register, has_report, is_family}
 use Rattle.pana_hall.specs.Queries.{begun}
 use Rattle.pana_hall.specs.Accepted.{Accepts, AcceptsAll, IsAccepted}
@@ -20,14 +20,14 @@ slice_get-other [] y (suc i) other = refl
 slice_get-other (x ∷ xs) y zero other = refl
 slice_get-other (x ∷ xs) y (suc i) other = slice_get-other xs y i (λ h. other (ap suc h))
 
-entry_at-other : (journal : List Entry) (entry : Entry) (n : ℕ) → n ≢ length journal + 1 → entry_at (journal ++ entry ∷ []) n ≡ entry_at journal n
+pub entry_at-other : (journal : List Entry) (entry : Entry) (n : ℕ) → n ≢ length journal + 1 → entry_at (journal ++ entry ∷ []) n ≡ entry_at journal n
 entry_at-other journal entry n other =
     elim (n == 0) as (λ b. (n == 0) ≡ b → cond b None (slice_get (journal ++ entry ∷ []) (n - 1)) ≡ cond b None (slice_get journal (n - 1))) [
       | true ↦ λ e. refl
       | false ↦ λ e. let not_zero = eqb-false n 0 e in slice_get-other journal entry (n - 1) (λ h. other (omega arith))
     ] refl
 
-entry_at-past : (journal : List Entry) → entry_at journal (length journal + 1) ≡ None
+pub entry_at-past : (journal : List Entry) → entry_at journal (length journal + 1) ≡ None
 entry_at-past journal =
     ap (λ b. cond b None (slice_get journal (length journal + 1 - 1))) (ne_eqb (length journal + 1) 0 (λ h. omega arith))
     ∙ slice_get_past journal (length journal + 1 - 1) (omega arith)

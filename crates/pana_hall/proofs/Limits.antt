@@ -8,7 +8,7 @@ use Rattle.pana_journal.specs.declared.report.Report.TheVariants.{Remove, Confir
 use Rattle.pana_journal.specs.declared.entry.Entry.{Entry}
 use Rattle.pana_hall.specs.declared.cause.Cause.{Cause}
 use Rattle.pana_hall.specs.declared.cause.Cause.TheVariants.{Settled}
-use Rattle.pana_hall.specs.Updates.{has}
+use Rattle.pana_family.specs.Updates.{has}
 use Rattle.pana_hall.specs.Family.{families}
 use Rattle.pana_hall.specs.Living.{living}
 use Rattle.pana_hall.specs.Pending.{pending, pend, last, behind, is_last}

@@ -10,7 +10,7 @@ use Rattle.pana_copies.specs.declared.place.Place.{Place}
 use Rattle.pana_journal.specs.declared.report.Report.{Report}
 use Rattle.pana_journal.specs.declared.report.Report.TheVariants.{Register, Duplicate, Edit, Reconcile, Merge, Relocate, Remove, Confirm, Withdraw}
 use Rattle.pana_journal.specs.declared.entry.Entry.{Entry}
-use Rattle.pana_hall.specs.Updates.{union}
+use Rattle.pana_family.specs.Updates.{union}
 use Rattle.pana_hall.specs.Family.{entries_of}
 use Rattle.pana_hall.specs.Living.{Copy, copy_in, known_to, change, without, registered, duplicated, with_updates, edited, moved, after_report, after_entry, copies_of}
 use Rattle.pana_hall.specs.Board.{is_of}

@@ -7,7 +7,7 @@ use Rattle.pana_journal.specs.declared.report.Report.{Report}
 use Rattle.pana_journal.specs.declared.report.Report.TheVariants.{Register, Duplicate, Edit, Reconcile, Merge, Relocate, Remove, Confirm, Withdraw}
 use Rattle.pana_journal.specs.declared.entry.Entry.{Entry}
 use Rattle.pana_journal.specs.Entries.{entry_at}
-use Rattle.pana_hall.specs.Updates.{has}
+use Rattle.pana_family.specs.Updates.{has}
 use Rattle.pana_hall.specs.Family.{families, begun_or_joined, subject, entries_of}
 use Rattle.pana_hall.specs.Effective.{effective, left_out}
 use Rattle.pana_hall.specs.Living.{Copy, copy_in, living, copies_of}
@@ -47,7 +47,7 @@ own_family family of (e ∷ entries) =
       | false ↦ λ h. own_family family of entries
     ] refl
 
-each_has : (P : ℕ → Type 0) (numbers : List ℕ) (n : ℕ) → AllByRecursion P numbers → has numbers n ≡ true → P n
+pub each_has : (P : ℕ → Type 0) (numbers : List ℕ) (n : ℕ) → AllByRecursion P numbers → has numbers n ≡ true → P n
 each_has P [] n each is = absurd (cc)
 each_has P (k ∷ numbers) n each is =
     elim (k == n) as (λ b. (k == n) ≡ b → (b || has numbers n) ≡ true → P n) [
@@ -104,7 +104,7 @@ unfolding copies_of
 copies_of_none = refl
 
 -- no entry so far is of the family that the next number would begin
-none_of : (family last : ℕ) (of : ℕ → ℕ) (entries : List Entry) → AllByRecursion (IsWell of last) entries → last < family → entries_of family of entries ≡ []
+pub none_of : (family last : ℕ) (of : ℕ → ℕ) (entries : List Entry) → AllByRecursion (IsWell of last) entries → last < family → entries_of family of entries ≡ []
 none_of family last of [] well above = refl
 none_of family last of (e ∷ entries) well above =
     let bounded = well.0.bounded in

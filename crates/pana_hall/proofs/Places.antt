@@ -58,14 +58,14 @@ apart_moved before after c place apart moves free a b copy other found found' on
       ]
     ]
 
-same_place-itself : (place : Place) → same_place place place ≡ true
+pub same_place-itself : (place : Place) → same_place place place ≡ true
 same_place-itself place =
     let device : bytes_eq place.device place.device ≡ true = (bytes_eq-Decides place.device place.device).1 refl in
     let path : bytes_eq place.path place.path ≡ true = (bytes_eq-Decides place.path place.path).1 refl in
     rw (device, path) refl
 
 -- where no copy passes the test, none that passes it is found
-none_passes : (p : Copy → Bool) (copies : List Copy) (a : ℕ) (copy : Copy) → find p copies ≡ None → copy_in copies a ≡ Some copy → p copy ≡ false
+pub none_passes : (p : Copy → Bool) (copies : List Copy) (a : ℕ) (copy : Copy) → find p copies ≡ None → copy_in copies a ≡ Some copy → p copy ≡ false
 none_passes p [] a copy none found = absurd (cc)
 none_passes p (c ∷ copies) a copy none found =
     elim (p c) as (λ b. p c ≡ b → cond b (Some c) (find p copies) ≡ None → p copy ≡ false) [
@@ -77,7 +77,7 @@ none_passes p (c ∷ copies) a copy none found =
     ] refl none
 
 -- a place that isn't taken has no copy
-free_of : (place : Place) (copies : List Copy) (a : ℕ) (copy : Copy) → taken place copies ≡ None → copy_in copies a ≡ Some copy → copy.place ≡ place → ⊥
+pub free_of : (place : Place) (copies : List Copy) (a : ℕ) (copy : Copy) → taken place copies ≡ None → copy_in copies a ≡ Some copy → copy.place ≡ place → ⊥
 free_of place copies a copy free found here =
     let no : same_place copy.place place ≡ false = none_passes (λ c. same_place c.place place) copies a copy (free_place place copies free) found in
     let yes : same_place copy.place place ≡ true = ap (λ p. same_place p place) here ∙ same_place-itself place in

@@ -7,14 +7,14 @@ use Rattle.std.proofs.lemmas.List.Sums.{length-filter}
 use Rattle.std.proofs.lemmas.List.Elements.{filter_agree}
 use Rattle.pana_event.specs.declared.rel.Rel.{Rel}
 use Rattle.pana_event.specs.declared.rel.Rel.TheVariants.{Equal, Older, Newer, Conflict}
-use Rattle.pana_hall.specs.Relation.{relation, is_rel}
+use Rattle.pana_family.specs.Relation.{relation, is_rel}
 use Rattle.pana_hall.specs.Living.{Copy}
 use Rattle.pana_hall.specs.Board.{is_of, relates, row_of, is_newest, newest, board_of}
 use Rattle.pana_hall.specs.Queries.{family_row}
 use Rattle.pana_hall.proofs.Chosen.{list_any-same, list_any-filter}
 use Rattle.pana_hall.proofs.Lists.{filter_filter, filter_all}
 
-each_passes : {X : Type 0} (p : X → Bool) (xs : List X) → AllByRecursion (λ x. p x ≡ true) (filter p xs)
+pub each_passes : {X : Type 0} (p : X → Bool) (xs : List X) → AllByRecursion (λ x. p x ≡ true) (filter p xs)
 each_passes p [] = tt
 each_passes p (x ∷ xs) =
     elim (p x) as (λ b. p x ≡ b → AllByRecursion (λ y. p y ≡ true) (cond b (x ∷ filter p xs) (filter p xs))) [
@@ -22,7 +22,7 @@ each_passes p (x ∷ xs) =
       | false ↦ λ e. each_passes p xs
     ] refl
 
-map_same : {X Y : Type 0} (f g : X → Y) (P : X → Type 0) (xs : List X) → ((x : X) → P x → f x ≡ g x) → AllByRecursion P xs → map f xs ≡ map g xs
+pub map_same : {X Y : Type 0} (f g : X → Y) (P : X → Type 0) (xs : List X) → ((x : X) → P x → f x ≡ g x) → AllByRecursion P xs → map f xs ≡ map g xs
 map_same f g P [] same each = refl
 map_same f g P (x ∷ xs) same each = ap (λ y. y ∷ map f xs) (same x each.0) ∙ ap (λ l. g x ∷ l) (map_same f g P xs same each.1)
 
@@ -41,7 +41,7 @@ relates_within family rel copy other here =
 count_table : (family : ℕ) (rel : Rel) (copies : List Copy) (copy : Copy) → copy.family ≡ family → count_by (relates rel copy) (filter (is_of family) copies) ≡ count_by (relates rel copy) copies
 count_table family rel copies copy here = count_filter (relates rel copy) (is_of family) copies (λ other. relates_within family rel copy other here)
 
-row_table : (family : ℕ) (copies : List Copy) (copy : Copy) → is_of family copy ≡ true → row_of (filter (is_of family) copies) copy ≡ row_of copies copy
+pub row_table : (family : ℕ) (copies : List Copy) (copy : Copy) → is_of family copy ≡ true → row_of (filter (is_of family) copies) copy ≡ row_of copies copy
 unfolding row_of
 row_table family copies copy of_it =
     let here : copy.family ≡ family = eqb-true copy.family family of_it in

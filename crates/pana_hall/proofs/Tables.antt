@@ -9,7 +9,7 @@ use Rattle.std.proofs.lemmas.List.Elements.{filter_agree, filter-append}
 use Rattle.pana_journal.specs.declared.report.Report.{Report}
 use Rattle.pana_journal.specs.declared.report.Report.TheVariants.{Register, Duplicate, Edit, Reconcile, Merge, Relocate, Remove, Confirm, Withdraw}
 use Rattle.pana_journal.specs.declared.entry.Entry.{Entry}
-use Rattle.pana_hall.specs.Updates.{has}
+use Rattle.pana_family.specs.Updates.{has}
 use Rattle.pana_hall.specs.Family.{families}
 use Rattle.pana_hall.specs.Effective.{effective, is_of_copies, is_withdrawn, left_out}
 use Rattle.pana_hall.specs.Living.{Copy, copy_in, living, copies_of, after_entry, after_report, change, registered, duplicated}
@@ -17,7 +17,7 @@ use Rattle.pana_hall.specs.Pending.{pending, pend, last, behind, is_last}
 use Rattle.pana_hall.specs.Board.{is_of}
 use Rattle.pana_hall.specs.Refusal.{report_refusal, full, unknown_entry, not_yours, settled_or_followed, pending_with}
 use Rattle.pana_hall.specs.Accepted.{Accepts}
-use Rattle.pana_hall.specs.Tables.{table}
+use Rattle.pana_hall.specs.Tables.{table, layer}
 use Rattle.pana_hall.specs.Laws.{family_of_next, AddsLayer, DropsLayer, KeepsLayers, LeavesAlone, AreRising, AreMerged}
 use Rattle.pana_hall.proofs.Lists.{each_filter, each_weaker, filter_all, filter_swap, filter_filter, any_push, last_push, last_end, behind_is_end, is_last_push}
 use Rattle.pana_hall.proofs.Locality.{IsWell, Fits, copies_of-family, copies_of-push, copy_in-family, report_fits}
@@ -69,66 +69,103 @@ own_below most family n journal sound next =
     each_filter _ _ (effective journal) (each_effective _ journal
     (each_weaker (IsWell (families journal) (length journal)) _ journal (λ e well. let within = well.within in ap not (ne_eqb n e.number (λ h. omega arith))) sound.well))
 
-pub adds_layer : (most : ℕ) (journal : List Entry) (entry : Entry) → IsSound most journal → IsSound most (journal ++ entry ∷ []) → Accepts most journal entry
-    → is_of_copies entry.report ≡ true → AddsLayer most (family_of_next journal entry) journal entry
-adds_layer most journal entry sound sound' accepts of_copies =
+-- a report of copies is the last of its family's entries
+pub own_report : (most : ℕ) (journal : List Entry) (entry : Entry) → IsSound most journal → Accepts most journal entry → is_of_copies entry.report ≡ true
+    → own (family_of_next journal entry) (journal ++ entry ∷ []) ≡ own (family_of_next journal entry) journal ++ entry ∷ []
+own_report most journal entry sound accepts of_copies =
     let family = family_of_next journal entry in
-    let keeps = keeps_families most journal entry sound accepts.next in
-    let here : (family == family) ≡ true = eq-eqb family family refl in
-    let more : own family (journal ++ entry ∷ []) ≡ own family journal ++ entry ∷ [] = own_copies family journal entry keeps of_copies ∙ ap (λ b. own family journal ++ cond b (entry ∷ []) []) here in
-    let numbers = pending most family journal in
-    let pending' : pending most family (journal ++ entry ∷ []) ≡ last most (numbers ++ entry.number ∷ []) =
-    pending-push most family journal entry keeps ∙ ap (λ b. cond b (pend most entry.number entry.report numbers) numbers) here ∙ pend_copies most entry.number entry.report numbers of_copies in
-    record {
-      now = table_now most family (journal ++ entry ∷ []) sound' ∙ ap copies_of more ∙ copies_of-push (own family journal) entry ∙ ap (λ l. after_entry l entry) (sym (table_now most family journal sound));
-      undone = λ k within.
-          table_own most (k + 1) family (journal ++ entry ∷ []) sound'
-          ∙ ap (λ l. copies_of (left_out (last (k + 1) l) (own family (journal ++ entry ∷ [])))) pending'
-          ∙ ap (λ l. copies_of (left_out l (own family (journal ++ entry ∷ [])))) (last_last (k + 1) most (numbers ++ entry.number ∷ []) (omega arith) ∙ last_push k numbers entry.number)
-          ∙ ap copies_of
-          (left_out_push (last k numbers) entry.number (own family (journal ++ entry ∷ []))
-          ∙ ap (left_out (last k numbers))
-          (ap (filter (λ e. not (entry.number == e.number))) more
-          ∙ filter-append _ (own family journal) (entry ∷ [])
-          ∙ ap (λ l. l ++ cond (not (entry.number == entry.number)) (entry ∷ []) []) (filter_all _ (own family journal) (own_below most family entry.number journal sound accepts.next))
-          ∙ ap (λ b. own family journal ++ cond (not b) (entry ∷ []) []) (eq-eqb entry.number entry.number refl)
-          ∙ append-nil (own family journal)))
-          ∙ sym (table_own most k family journal sound);
-    }
+    own_copies family journal entry (keeps_families most journal entry sound accepts.next) of_copies ∙ ap (λ b. own family journal ++ cond b (entry ∷ []) []) (eq-eqb family family refl)
 
-pub keeps_layers : (most m : ℕ) (journal : List Entry) (entry : Entry) → IsSound most journal → IsSound most (journal ++ entry ∷ []) → Accepts most journal entry
-    → entry.report ≡ Confirm m → KeepsLayers most (family_of_next journal entry) journal entry
-keeps_layers most m journal entry sound sound' accepts is k within =
+pub pending_report : (most : ℕ) (journal : List Entry) (entry : Entry) → IsSound most journal → Accepts most journal entry → is_of_copies entry.report ≡ true
+    → pending most (family_of_next journal entry) (journal ++ entry ∷ []) ≡ last most (pending most (family_of_next journal entry) journal ++ entry.number ∷ [])
+pending_report most journal entry sound accepts of_copies =
+    let family = family_of_next journal entry in
+    let numbers = pending most family journal in
+    pending-push most family journal entry (keeps_families most journal entry sound accepts.next)
+    ∙ ap (λ b. cond b (pend most entry.number entry.report numbers) numbers) (eq-eqb family family refl) ∙ pend_copies most entry.number entry.report numbers of_copies
+
+pub layer_now : (most family : ℕ) (journal : List Entry) → layer most 0 family journal ≡ own family journal
+layer_now most family journal = left_out_now (pending most family journal) (own family journal)
+
+pub layer_report : (most : ℕ) (journal : List Entry) (entry : Entry) → IsSound most journal → Accepts most journal entry → is_of_copies entry.report ≡ true
+    → layer most 0 (family_of_next journal entry) (journal ++ entry ∷ []) ≡ layer most 0 (family_of_next journal entry) journal ++ entry ∷ []
+layer_report most journal entry sound accepts of_copies =
+    let family = family_of_next journal entry in
+    layer_now most family (journal ++ entry ∷ []) ∙ own_report most journal entry sound accepts of_copies ∙ ap (λ l. l ++ entry ∷ []) (sym (layer_now most family journal))
+
+pub layer_undone : (most k : ℕ) (journal : List Entry) (entry : Entry) → IsSound most journal → Accepts most journal entry → is_of_copies entry.report ≡ true → k < most
+    → layer most (k + 1) (family_of_next journal entry) (journal ++ entry ∷ []) ≡ layer most k (family_of_next journal entry) journal
+layer_undone most k journal entry sound accepts of_copies within =
+    let family = family_of_next journal entry in
+    let numbers = pending most family journal in
+    let more = own_report most journal entry sound accepts of_copies in
+    ap (λ l. left_out (last (k + 1) l) (own family (journal ++ entry ∷ []))) (pending_report most journal entry sound accepts of_copies)
+    ∙ ap (λ l. left_out l (own family (journal ++ entry ∷ []))) (last_last (k + 1) most (numbers ++ entry.number ∷ []) (omega arith) ∙ last_push k numbers entry.number)
+    ∙ left_out_push (last k numbers) entry.number (own family (journal ++ entry ∷ []))
+    ∙ ap (left_out (last k numbers))
+    (ap (filter (λ e. not (entry.number == e.number))) more
+    ∙ filter-append _ (own family journal) (entry ∷ [])
+    ∙ ap (λ l. l ++ cond (not (entry.number == entry.number)) (entry ∷ []) []) (filter_all _ (own family journal) (own_below most family entry.number journal sound accepts.next))
+    ∙ ap (λ b. own family journal ++ cond (not b) (entry ∷ []) []) (eq-eqb entry.number entry.number refl)
+    ∙ append-nil (own family journal))
+
+pub layer_confirm : (most m k : ℕ) (journal : List Entry) (entry : Entry) → IsSound most journal → Accepts most journal entry → entry.report ≡ Confirm m
+    → k ≤ length (pending most (family_of_next journal entry) (journal ++ entry ∷ []))
+    → layer most k (family_of_next journal entry) (journal ++ entry ∷ []) ≡ layer most k (family_of_next journal entry) journal
+layer_confirm most m k journal entry sound accepts is within =
     let family = family_of_next journal entry in
     let keeps = keeps_families most journal entry sound accepts.next in
     let numbers = pending most family journal in
     let pending' : pending most family (journal ++ entry ∷ []) ≡ behind m numbers =
     pending_is most family journal entry (Confirm m) keeps is ∙ ap (λ b. cond b (behind m numbers) numbers) (eq-eqb family family refl) in
     let cut = behind_is_end m numbers in
-    table_own most k family (journal ++ entry ∷ []) sound'
-    ∙ ap (λ l. copies_of (left_out (last k l) (own family (journal ++ entry ∷ [])))) pending'
-    ∙ ap (λ l. copies_of (left_out (last k (behind m numbers)) l)) (own_confirm family journal entry m keeps is)
-    ∙ ap (λ l. copies_of (left_out l (own family journal))) (sym (last_end k cut.0 (behind m numbers) (rw pending' at within)) ∙ ap (last k) (sym cut.1))
-    ∙ sym (table_own most k family journal sound)
+    ap (λ l. left_out (last k l) (own family (journal ++ entry ∷ []))) pending'
+    ∙ ap (λ l. left_out (last k (behind m numbers)) l) (own_confirm family journal entry m keeps is)
+    ∙ ap (λ l. left_out l (own family journal)) (sym (last_end k cut.0 (behind m numbers) (rw pending' at within)) ∙ ap (last k) (sym cut.1))
 
-pub leaves_alone : (most family : ℕ) (journal : List Entry) (entry : Entry) → IsSound most journal → IsSound most (journal ++ entry ∷ []) → Accepts most journal entry
-    → family_of_next journal entry ≢ family → LeavesAlone most family journal entry
-leaves_alone most family journal entry sound sound' accepts other =
+pub pending_other : (most family : ℕ) (journal : List Entry) (entry : Entry) → IsSound most journal → Accepts most journal entry → family_of_next journal entry ≢ family
+    → pending most family (journal ++ entry ∷ []) ≡ pending most family journal
+pending_other most family journal entry sound accepts other =
+    pending-push most family journal entry (keeps_families most journal entry sound accepts.next)
+    ∙ ap (λ b. cond b (pend most entry.number entry.report (pending most family journal)) (pending most family journal)) (ne_eqb (families (journal ++ entry ∷ []) entry.number) family other)
+
+pub layer_other : (most k family : ℕ) (journal : List Entry) (entry : Entry) → IsSound most journal → Accepts most journal entry → family_of_next journal entry ≢ family
+    → layer most k family (journal ++ entry ∷ []) ≡ layer most k family journal
+layer_other most k family journal entry sound accepts other =
     let keeps = keeps_families most journal entry sound accepts.next in
     let apart : (families (journal ++ entry ∷ []) entry.number == family) ≡ false = ne_eqb (families (journal ++ entry ∷ []) entry.number) family other in
-    let numbers = pending most family journal in
-    let pending' : pending most family (journal ++ entry ∷ []) ≡ numbers = pending-push most family journal entry keeps ∙ ap (λ b. cond b (pend most entry.number entry.report numbers) numbers) apart in
     let own' : own family (journal ++ entry ∷ []) ≡ own family journal = elim (kind_of entry.report) [
       | OfCopies is ↦ own_copies family journal entry keeps is ∙ ap (λ b. own family journal ++ cond b (entry ∷ []) []) apart ∙ append-nil (own family journal)
       | Confirms m is ↦ own_confirm family journal entry m keeps is
       | Withdraws m is ↦ own_withdraw family journal entry m keeps is ∙ own_other family (families journal) m (effective journal) (λ h. other (family_named most journal entry m (inr is) ∙ h))
     ] in
+    ap (λ l. left_out (last k l) (own family (journal ++ entry ∷ []))) (pending_other most family journal entry sound accepts other)
+    ∙ ap (λ l. left_out (last k (pending most family journal)) l) own'
+
+-- the tables, of the entries
+pub adds_layer : (most : ℕ) (journal : List Entry) (entry : Entry) → IsSound most journal → IsSound most (journal ++ entry ∷ []) → Accepts most journal entry
+    → is_of_copies entry.report ≡ true → AddsLayer most (family_of_next journal entry) journal entry
+adds_layer most journal entry sound sound' accepts of_copies =
+    let family = family_of_next journal entry in
     record {
-      tables = λ k. table_own most k family (journal ++ entry ∷ []) sound'
-          ∙ ap (λ l. copies_of (left_out (last k l) (own family (journal ++ entry ∷ [])))) pending'
-          ∙ ap (λ l. copies_of (left_out (last k numbers) l)) own'
-          ∙ sym (table_own most k family journal sound);
-      pending = pending';
+      now = table_own most 0 family (journal ++ entry ∷ []) sound' ∙ ap copies_of (layer_report most journal entry sound accepts of_copies)
+          ∙ copies_of-push (layer most 0 family journal) entry ∙ ap (λ l. after_entry l entry) (sym (table_own most 0 family journal sound));
+      undone = λ k within. table_own most (k + 1) family (journal ++ entry ∷ []) sound'
+          ∙ ap copies_of (layer_undone most k journal entry sound accepts of_copies within) ∙ sym (table_own most k family journal sound);
+    }
+
+pub keeps_layers : (most m : ℕ) (journal : List Entry) (entry : Entry) → IsSound most journal → IsSound most (journal ++ entry ∷ []) → Accepts most journal entry
+    → entry.report ≡ Confirm m → KeepsLayers most (family_of_next journal entry) journal entry
+keeps_layers most m journal entry sound sound' accepts is k within =
+    let family = family_of_next journal entry in
+    table_own most k family (journal ++ entry ∷ []) sound' ∙ ap copies_of (layer_confirm most m k journal entry sound accepts is within) ∙ sym (table_own most k family journal sound)
+
+pub leaves_alone : (most family : ℕ) (journal : List Entry) (entry : Entry) → IsSound most journal → IsSound most (journal ++ entry ∷ []) → Accepts most journal entry
+    → family_of_next journal entry ≢ family → LeavesAlone most family journal entry
+leaves_alone most family journal entry sound sound' accepts other =
+    record {
+      tables = λ k. table_own most k family (journal ++ entry ∷ []) sound' ∙ ap copies_of (layer_other most k family journal entry sound accepts other) ∙ sym (table_own most k family journal sound);
+      pending = pending_other most family journal entry sound accepts other;
     }
 
 pub rises_effective : (low : ℕ) (journal : List Entry) → AreRising (λ e. e.number) low journal → AreRising (λ e. e.number) low (effective journal)
@@ -147,6 +184,17 @@ rises_numbers low (e ∷ entries) rises = (rises.0, rises_numbers e.number entri
 pub each_right : {X : Type 0} (P : X → Type 0) (xs ys : List X) → AllByRecursion P (xs ++ ys) → AllByRecursion P ys
 each_right P [] ys all = all
 each_right P (x ∷ xs) ys all = each_right P xs ys all.1
+
+rises_end : (low : ℕ) (prefix numbers : List ℕ) → AreRising (λ n. n) low (prefix ++ numbers) → AreRising (λ n. n) low numbers
+rises_end low [] numbers rises = rises
+rises_end low (n ∷ prefix) numbers rises = let first = rises.0 in rises_lower (λ k. k) n low numbers (omega arith) (rises_end n prefix numbers rises.1)
+
+-- the pending numbers of a family rise
+pub pending_rises : (most family : ℕ) (journal : List Entry) → IsSound most journal → AreRising (λ n. n) 0 (pending most family journal)
+pending_rises most family journal sound =
+    let ends = sound.ends family in
+    rises_end 0 ends.0 (pending most family journal)
+    (subst (AreRising (λ n. n) 0) ends.1 (rises_numbers 0 (own family journal) (rises_filter (λ e. e.number) 0 _ (effective journal) (rises_effective 0 journal sound.rising))))
 
 -- a family whose last pending entry is m: the numbers of its effective entries end in m, and all others are below it
 pub record EndsIn (most family m : ℕ) (journal : List Entry) : Type 0 where
@@ -189,20 +237,24 @@ pending_withdrawn most family m journal entry before keeps is here ends below =
     ∙ ap (λ b. cond b (filter (λ n. not (m == n)) numbers) numbers) (eq-eqb (family_of_next journal entry) family here)
     ∙ ap (filter (λ n. not (m == n))) ends ∙ filter_below m before below
 
-pub drops_layer : (most m : ℕ) (journal : List Entry) (entry : Entry) → IsSound most journal → IsSound most (journal ++ entry ∷ []) → Accepts most journal entry
-    → entry.report ≡ Withdraw m → DropsLayer most (family_of_next journal entry) journal entry
-drops_layer most m journal entry sound sound' accepts is k =
+pub layer_withdraw : (most m k : ℕ) (journal : List Entry) (entry : Entry) → IsSound most journal → Accepts most journal entry → entry.report ≡ Withdraw m
+    → layer most k (family_of_next journal entry) (journal ++ entry ∷ []) ≡ layer most (k + 1) (family_of_next journal entry) journal
+layer_withdraw most m k journal entry sound accepts is =
     let family = family_of_next journal entry in
     let keeps = keeps_families most journal entry sound accepts.next in
     let named : family ≡ families journal m = family_named most journal entry m (inr is) in
     let ends = subst (λ f. EndsIn most f m journal) (sym named) (ends_in most m journal entry.by entry.report sound is accepts.free) in
     let pending' = pending_withdrawn most family m journal entry ends.before keeps is refl ends.pending ends.below_pending in
-    table_own most k family (journal ++ entry ∷ []) sound'
-    ∙ ap (λ l. copies_of (left_out (last k l) (own family (journal ++ entry ∷ [])))) pending'
-    ∙ ap (λ l. copies_of (left_out (last k ends.before) l)) (own_withdraw family journal entry m keeps is)
-    ∙ ap copies_of (sym (left_out_push (last k ends.before) m (own family journal)))
-    ∙ ap (λ l. copies_of (left_out l (own family journal))) (sym (last_push k ends.before m) ∙ ap (last (k + 1)) (sym ends.pending))
-    ∙ sym (table_own most (k + 1) family journal sound)
+    ap (λ l. left_out (last k l) (own family (journal ++ entry ∷ []))) pending'
+    ∙ ap (λ l. left_out (last k ends.before) l) (own_withdraw family journal entry m keeps is)
+    ∙ sym (left_out_push (last k ends.before) m (own family journal))
+    ∙ ap (λ l. left_out l (own family journal)) (sym (last_push k ends.before m) ∙ ap (last (k + 1)) (sym ends.pending))
+
+pub drops_layer : (most m : ℕ) (journal : List Entry) (entry : Entry) → IsSound most journal → IsSound most (journal ++ entry ∷ []) → Accepts most journal entry
+    → entry.report ≡ Withdraw m → DropsLayer most (family_of_next journal entry) journal entry
+drops_layer most m journal entry sound sound' accepts is k =
+    let family = family_of_next journal entry in
+    table_own most k family (journal ++ entry ∷ []) sound' ∙ ap copies_of (layer_withdraw most m k journal entry sound accepts is) ∙ sym (table_own most (k + 1) family journal sound)
 
 -- rising numbers
 rises_changed : (low number : ℕ) (f : Copy → Copy) → ((copy : Copy) → (f copy).number ≡ copy.number) → (copies : List Copy)

@@ -5,7 +5,7 @@ use Rattle.pana_event.specs.declared.rel.Rel.{Rel}
 use Rattle.pana_event.specs.declared.rel.Rel.TheVariants.{Equal, Older, Newer, Conflict}
 use Rattle.pana_hall.specs.declared.board.BoardRow.{BoardRow}
 use Rattle.pana_hall.specs.declared.board.BoardView.{BoardView}
-use Rattle.pana_hall.specs.Relation.{relation, is_rel}
+use Rattle.pana_family.specs.Relation.{relation, is_rel}
 use Rattle.pana_hall.specs.Living.{Copy}
 
 -- whether the copy is of the family

@@ -1,7 +1,7 @@
 -- The number and the name of each cause of a refusal, and the copy that it names.
 use Rattle.std.specs.Prelude.{ℕ, List, ◌++◌, codes, decimal, Option, Some, None}
 use Rattle.pana_hall.specs.declared.cause.Cause.{Cause}
-use Rattle.pana_hall.specs.declared.cause.Cause.TheVariants.{JournalFull, UnknownCopy, SameCopy, OtherFamily, PlaceTaken, FamilyFull, OutOfMemory, UnknownEntry, NotYours, Settled, UnknownFamily}
+use Rattle.pana_hall.specs.declared.cause.Cause.TheVariants.{JournalFull, UnknownCopy, SameCopy, OtherFamily, PlaceTaken, FamilyFull, TooDeep, OutOfMemory, UnknownEntry, NotYours, Settled, UnknownFamily}
 
 -- the number that stands for a cause in a line; 5 was a cause once, and is never given away
 abbrev pub code_of : Cause → ℕ
@@ -11,6 +11,7 @@ code_of SameCopy = 3
 code_of OtherFamily = 4
 code_of (PlaceTaken copy) = 6
 code_of FamilyFull = 7
+code_of TooDeep = 8
 code_of OutOfMemory = 9
 code_of UnknownEntry = 10
 code_of NotYours = 11
@@ -25,6 +26,7 @@ cause_name SameCopy = codes "SameCopy"
 cause_name OtherFamily = codes "OtherFamily"
 cause_name (PlaceTaken copy) = codes "PlaceTaken"
 cause_name FamilyFull = codes "FamilyFull"
+cause_name TooDeep = codes "TooDeep"
 cause_name OutOfMemory = codes "OutOfMemory"
 cause_name UnknownEntry = codes "UnknownEntry"
 cause_name NotYours = codes "NotYours"

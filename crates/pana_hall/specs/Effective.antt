@@ -4,7 +4,7 @@ use Rattle.std.specs.List.{list_any}
 use Rattle.pana_journal.specs.declared.report.Report.{Report}
 use Rattle.pana_journal.specs.declared.report.Report.TheVariants.{Confirm, Withdraw}
 use Rattle.pana_journal.specs.declared.entry.Entry.{Entry}
-use Rattle.pana_hall.specs.Updates.{has}
+use Rattle.pana_family.specs.Updates.{has}
 
 -- whether it is a report of copies, as each but a Confirm and a Withdraw is
 abbrev pub is_of_copies : Report → Bool

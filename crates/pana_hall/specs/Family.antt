@@ -39,6 +39,11 @@ abbrev pub is_register : Report → Bool
 is_register (Register place) = true
 is_register _ = false
 
+-- whether the report makes a copy of another
+abbrev pub is_duplicate : Report → Bool
+is_duplicate (Duplicate copy place) = true
+is_duplicate _ = false
+
 -- whether there is such an entry, and its report passes the test
 abbrev pub has_report : (Report → Bool) → Option Entry → Bool
 has_report test None = false

@@ -1,10 +1,7 @@
 -- What follows of every run: for the tables of the families, and for the places of the copies.
-use Rattle.std.specs.Prelude.{◌≡◌, ◌≢◌, ◌↔◌, ℕ, ◌+◌, ◌<◌, ◌≤◌, List, [], ◌∷◌, ◌++◌, length, filter, IsTrue}
+use Rattle.std.specs.Prelude.{◌≡◌, ◌≢◌, ℕ, ◌+◌, ◌<◌, ◌≤◌, List, [], ◌∷◌, ◌++◌, length, filter}
 use Rattle.std.specs.List.{AllByRecursion}
 use Rattle.pana_journal.specs.declared.entry.Entry.{Entry}
-use Rattle.pana_event.specs.declared.rel.Rel.TheVariants.{Equal, Older, Newer, Conflict}
-use Rattle.pana_hall.specs.Updates.{has}
-use Rattle.pana_hall.specs.Relation.{relation}
 use Rattle.pana_hall.specs.Family.{families}
 use Rattle.pana_hall.specs.Living.{Copy, copy_in, living, after_entry}
 use Rattle.pana_hall.specs.Pending.{pending}
@@ -57,14 +54,3 @@ pub record IsOrderly (journal : List Entry) : Type 0 where
   pub rising : AreRising (λ copy. copy.number) 0 (living journal)
   pub numbers : AllByRecursion (λ copy. copy.number ≤ length journal) (living journal)
   pub families : AllByRecursion (λ copy. copy.family ≡ families journal copy.number) (living journal)
-
--- each member of the first set is one of the second
-abbrev pub IsSubset : List ℕ → List ℕ → Type 0
-IsSubset a b = (update : ℕ) → IsTrue (has a update) → IsTrue (has b update)
-
--- the relation says how the sets lie by their members, and nothing else of them
-pub record RelatesSets (a b : List ℕ) : Type 0 where
-  pub equal : (relation a b ≡ Equal) ↔ (IsSubset a b × IsSubset b a)
-  pub older : (relation a b ≡ Older) ↔ (IsSubset a b × ¬ IsSubset b a)
-  pub newer : (relation a b ≡ Newer) ↔ (IsSubset b a × ¬ IsSubset a b)
-  pub conflict : (relation a b ≡ Conflict) ↔ (¬ IsSubset a b × ¬ IsSubset b a)

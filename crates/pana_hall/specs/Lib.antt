@@ -1,11 +1,10 @@
-pub mod Updates
-pub mod Relation
 pub mod Cause
 pub mod Family
 pub mod Effective
 pub mod Living
 pub mod Pending
 pub mod Board
+pub mod Stamps
 pub mod Holdings
 pub mod Queries
 pub mod Refusal
@@ -14,6 +13,7 @@ pub mod Run
 pub mod Step
 pub mod Accepted
 pub mod Tables
+pub mod Sets
 pub mod Load
 pub mod Laws
 pub mod inner

@@ -6,7 +6,7 @@ use Rattle.pana_copies.specs.declared.place.Place.{Place}
 use Rattle.pana_journal.specs.declared.report.Report.{Report}
 use Rattle.pana_journal.specs.declared.report.Report.TheVariants.{Register, Duplicate, Edit, Reconcile, Merge, Relocate, Remove, Confirm, Withdraw}
 use Rattle.pana_journal.specs.declared.entry.Entry.{Entry}
-use Rattle.pana_hall.specs.Updates.{union}
+use Rattle.pana_family.specs.Updates.{union}
 use Rattle.pana_hall.specs.Effective.{effective}
 
 -- a living copy: the updates are the set of those that it knows, and the touch is the entry that changed it last

@@ -6,7 +6,7 @@ use Rattle.pana_event.specs.declared.rel.Rel.{Rel}
 use Rattle.pana_journal.specs.declared.entry.Entry.{Entry}
 use Rattle.pana_hall.specs.declared.family_row.FamilyRow.{FamilyRow}
 use Rattle.pana_hall.specs.declared.holding.Holding.{Holding}
-use Rattle.pana_hall.specs.Relation.{relation}
+use Rattle.pana_family.specs.Relation.{relation}
 use Rattle.pana_hall.specs.Family.{is_register}
 use Rattle.pana_hall.specs.Living.{Copy, known_to}
 use Rattle.pana_hall.specs.Board.{is_of, newest, has_conflict}

@@ -14,7 +14,7 @@ use Rattle.pana_hall.specs.declared.call.Call.{Call}
 use Rattle.pana_hall.specs.declared.call.Call.TheVariants as calls
 use Rattle.pana_hall.specs.declared.cause.Cause.{Cause}
 use Rattle.pana_hall.specs.declared.cause.Cause.TheVariants.{JournalFull, UnknownCopy, SameCopy, OtherFamily, PlaceTaken, FamilyFull, UnknownEntry, NotYours, Settled, UnknownFamily}
-use Rattle.pana_hall.specs.Updates.{has}
+use Rattle.pana_family.specs.Updates.{has}
 use Rattle.pana_hall.specs.Family.{families, has_report, is_family}
 use Rattle.pana_hall.specs.Effective.{effective, is_of_copies, left_out}
 use Rattle.pana_hall.specs.Living.{Copy, copy_in, copies_of, living}
@@ -113,6 +113,7 @@ report_refusal most journal copies by (Withdraw entry) = first (full journal ∷
 -- why a query is refused
 abbrev pub query_refusal : List Entry → List Copy → Query → Option Cause
 query_refusal journal copies (queries.Board family) = first (unknown_family family journal ∷ [])
+query_refusal journal copies (queries.Stamps family) = first (unknown_family family journal ∷ [])
 query_refusal journal copies (queries.Pair a b) = first (unknown a copies ∷ unknown b copies ∷ other_family a b copies ∷ [])
 query_refusal journal copies _ = None
 

@@ -1,4 +1,8 @@
 -- Words that only inner functions and proofs need: nobody has to believe them.
-pub mod Places
 pub mod Families
-pub mod Recording
+pub mod Places
+pub mod Spots
+pub mod OldPlaces
+pub mod Steps
+pub mod Kept
+pub mod Rows

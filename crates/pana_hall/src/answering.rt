@@ -1,146 +1,230 @@
 //! The answers to queries, where nothing stands against them.
-ghost use Rattle.std.specs.Prelude.{◌≡◌, true, is_some, map, filter, count_by, None, IfOk, IfErr};
-ghost use Rattle.std.specs.List.{list_any};
+ghost use Rattle.std.specs.Prelude.{◌≡◌, true, None, IsSome, IfOk, IfErr, map};
+ghost use Rattle.std.specs.List.{AllByRecursion};
 ghost use Rattle.std.specs.Str.{bytes_eq};
-ghost use Rattle.pana_hall.specs.Family.{is_register};
-ghost use Rattle.pana_hall.specs.Board.{is_of, newest, has_conflict};
-ghost use Rattle.pana_hall.specs.Accepted.{IsAccepted};
-ghost use Rattle.pana_hall.specs.Living.{copy_in, living};
-ghost use Rattle.pana_hall.specs.Queries.{begun, family_row, family_rows, holding, holdings, pair_of};
+ghost use Rattle.pana_copies.specs.Spots.{kept};
+ghost use Rattle.pana_family.specs.Sets.{Sets};
+ghost use Rattle.pana_family.specs.View.{Means};
+ghost use Rattle.pana_hall.specs.Board.{board_of};
+ghost use Rattle.pana_hall.specs.Stamps.{AreStampsOf};
+ghost use Rattle.pana_hall.specs.Living.{living};
+ghost use Rattle.pana_hall.specs.Queries.{family_rows, holdings, pair_of};
+ghost use Rattle.pana_hall.specs.inner.Rows.{holding_in, placed_row, row_of_sets};
 ghost use Rattle.pana_hall.specs.Refusal.{query_refusal};
 ghost use Rattle.pana_hall.specs.Permit.{Answers, IsShortage};
+ghost use Rattle.pana_hall.specs.inner.Kept.{IsKept};
 
-use crate::board::{board_of, is_split, newest_of};
+use crate::board::{BoardRow, BoardView};
 use crate::call::{Call, Query};
 use crate::cause::Cause;
-use crate::copies::Copies;
+use crate::families::Families;
 use crate::family_row::FamilyRow;
 use crate::holding::{Holding, HoldingList};
-use crate::living_copy::LivingCopy;
-use crate::relation::relation;
+use crate::kept_family::KeptFamily;
 use crate::reply::Reply;
-use pana_copies::DeviceName;
+use pana_copies::{CopyTable, DeviceName, Place};
 use pana_event::Rel;
-use pana_journal::{Entry, Journal, Report};
+use pana_family::{CopyCounts, CopyStamp};
+use pana_journal::Journal;
 use pana_list::PlainList;
 use std::alloc::{AllocError, Global};
 
-fn lives(family: u64, copies: &[LivingCopy]) -> bool
-    ensures { result ≡ list_any (is_of family) copies.now }
+fn pair_of(journal: &Journal, families: &Families, copies: &CopyTable, a: u64, b: u64) -> Rel
+    requires kept { IsKept journal.now.entries families.now.list.items families.now.positions.items copies.now }
+    requires free { query_refusal journal.now.entries (living journal.now.entries) (Query.Pair a b) ≡ None }
+    ensures { result ≡ pair_of (living journal.now.entries) a b }
 {
-    copies.iter().any(|copy| copy.family() == family)
-}
-
-fn count_in(family: u64, copies: &[LivingCopy]) -> u64
-    ensures { result ≡ count_by (is_of family) copies.now }
-{
-    let found = copies.iter().filter(|copy| copy.family() == family).count();
-    found as u64
-}
-
-fn family_row(alloc: Global, family: u64, copies: &[LivingCopy]) -> Result<FamilyRow, AllocError>
-    ensures { IfOk result (λ row. row ≡ family_row copies.now family) }
-{
-    let newest = newest_of(alloc, family, copies)?;
-    Ok(FamilyRow {
-        family,
-        copies: count_in(family, copies),
-        newest: newest.len() as u64,
-        split: is_split(family, copies),
-    })
-}
-
-fn is_register(report: &Report) -> bool
-    ensures { result ≡ is_register report.now }
-{
-    matches!(report, Report::Register { .. })
-}
-
-fn family_rows(
-    alloc: Global,
-    entries: &[Entry],
-    copies: &[LivingCopy],
-) -> Result<Vec<FamilyRow>, AllocError>
-    ensures { IfOk result (λ rows. rows.items ≡ family_rows entries.now copies.now) }
-{
-    let mut rows = Vec::new(alloc);
-    for entry in entries {
-        if is_register(&entry.report) {
-            if lives(entry.number, copies) {
-                rows.push(family_row(alloc, entry.number, copies)?)?;
-            }
-        }
-    }
-    Ok(rows)
-}
-
-fn pair_of(copies: &Copies, a: u64, b: u64) -> Rel
-    requires a { is_some (copy_in copies.now a) ≡ true }
-    requires b { is_some (copy_in copies.now b) ≡ true }
-    ensures { result ≡ pair_of copies.now a b }
-{
-    let first = copies.get(a).unwrap();
-    let second = copies.get(b).unwrap();
-    relation(first.updates(), second.updates())
-}
-
-fn is_on(device: &DeviceName, copy: &LivingCopy) -> bool
-    ensures { result ≡ bytes_eq copy.now.place.device device.now }
-{
-    copy.place().device == *device
-}
-
-fn holding(copy: &LivingCopy) -> Result<Holding, AllocError>
-    ensures { IfOk result (λ made. made ≡ holding copy.now) }
-{
-    Ok(Holding {
-        copy: copy.number(),
-        family: copy.family(),
-        path: copy.place().path.copy_of()?,
-        touch: copy.touch(),
-    })
-}
-
-fn holdings(
-    alloc: Global,
-    copies: &[LivingCopy],
-    device: &DeviceName,
-) -> Result<Vec<Holding>, AllocError>
-    ensures { IfOk result (λ made. made.items ≡ holdings copies.now device.now) }
-{
-    let mut made = Vec::new(alloc);
-    for copy in copies {
-        if is_on(device, copy) {
-            made.push(holding(copy)?)?;
-        }
-    }
-    Ok(made)
+    let _ = journal;
+    let _ = copies;
+    families.of_entry(a).unwrap().family().rel(a, b)
 }
 
 /// The answer to a query that nothing stands against. Fails only where memory runs out; a Pair takes none.
 pub fn answer(
     alloc: Global,
     journal: &Journal,
-    copies: &Copies,
+    families: &Families,
+    copies: &CopyTable,
     query: Query,
 ) -> Result<Reply, AllocError>
-    requires accepted { IsAccepted 8 journal.now.entries }
-    requires kept { copies.now ≡ living journal.now.entries }
-    requires free { query_refusal journal.now.entries copies.now query ≡ None }
+    requires kept { IsKept journal.now.entries families.now.list.items families.now.positions.items copies.now }
+    requires free { query_refusal journal.now.entries (living journal.now.entries) query ≡ None }
     ensures ok { IfOk result (λ reply. Answers journal.now.entries query reply) }
     ensures shortage { IfErr result (λ _. IsShortage journal.now.entries (Call.Query query) Cause.OutOfMemory) }
 {
     match query {
         Query::Families => {
-            let rows = family_rows(alloc, journal.as_slice(), copies.as_slice())?;
+            let rows = family_rows(alloc, journal, families, copies)?;
             Ok(Reply::Families(PlainList::from_vec(rows)))
         }
-        Query::Board { family } => Ok(Reply::Board(board_of(alloc, family, copies.as_slice())?)),
-        Query::Pair { a, b } => Ok(Reply::Pair(pair_of(copies, a, b))),
+        Query::Board { family } => {
+            Ok(Reply::Board(board_of(alloc, family, journal, families, copies)?))
+        }
+        Query::Stamps { family } => {
+            Ok(Reply::Stamps(stamps_of(family, journal, families, copies)?))
+        }
+        Query::Pair { a, b } => Ok(Reply::Pair(pair_of(journal, families, copies, a, b))),
         Query::Holdings { device } => {
-            let made = holdings(alloc, copies.as_slice(), &device)?;
+            let made = holdings(alloc, journal, families, copies, &device)?;
             Ok(Reply::Holdings(HoldingList::from_vec(made)))
         }
         Query::JournalFrom { entry } => Ok(Reply::Journal(journal.slice(entry)?)),
     }
+}
+
+fn family_rows(
+    alloc: Global,
+    journal: &Journal,
+    families: &Families,
+    copies: &CopyTable,
+) -> Result<Vec<FamilyRow>, AllocError>
+    requires kept { IsKept journal.now.entries families.now.list.items families.now.positions.items copies.now }
+    ensures { IfOk result (λ rows. rows.items ≡ family_rows journal.now.entries (living journal.now.entries)) }
+{
+    let _ = journal;
+    let _ = copies;
+    let mut rows = Vec::new(alloc);
+    for it in families.as_slice() {
+        if it.family().count() > 0 {
+            rows.push(family_row(it)?)?;
+        }
+    }
+    Ok(rows)
+}
+
+/// A family's row, read off its board.
+fn family_row(it: &KeptFamily) -> Result<FamilyRow, AllocError>
+    ensures { IfOk result (λ row. (sets : Sets) → Means it.now.family sets → row ≡ row_of_sets it.now.number sets.table) }
+{
+    let board = it.family().board()?;
+    Ok(FamilyRow {
+        family: it.number(),
+        copies: it.family().count() as u64,
+        newest: board.newest.as_slice().len() as u64,
+        split: board.split,
+    })
+}
+
+/// The board of a family: its rows with their places.
+fn board_of(
+    alloc: Global,
+    family: u64,
+    journal: &Journal,
+    families: &Families,
+    copies: &CopyTable,
+) -> Result<BoardView, AllocError>
+    requires kept { IsKept journal.now.entries families.now.list.items families.now.positions.items copies.now }
+    requires free { query_refusal journal.now.entries (living journal.now.entries) (Query.Board family) ≡ None }
+    ensures { IfOk result (λ view. view ≡ board_of family (living journal.now.entries)) }
+{
+    let _ = journal;
+    let board = families.of_entry(family).unwrap().family().board()?;
+    let rows = board_rows(alloc, copies, board.rows.as_slice())?;
+    Ok(BoardView {
+        family,
+        rows: PlainList::from_vec(rows),
+        newest: board.newest,
+        split: board.split,
+    })
+}
+
+/// The stamps of a family's copies.
+fn stamps_of(
+    family: u64,
+    journal: &Journal,
+    families: &Families,
+    copies: &CopyTable,
+) -> Result<PlainList<CopyStamp>, AllocError>
+    requires kept { IsKept journal.now.entries families.now.list.items families.now.positions.items copies.now }
+    requires free { query_refusal journal.now.entries (living journal.now.entries) (Query.Stamps family) ≡ None }
+    ensures { IfOk result (AreStampsOf family (living journal.now.entries)) }
+{
+    let _ = journal;
+    let _ = copies;
+    families.of_entry(family).unwrap().family().stamps()
+}
+
+/// The rows of a board, each with the place of its copy.
+fn board_rows(
+    alloc: Global,
+    copies: &CopyTable,
+    counts: &[CopyCounts],
+) -> Result<Vec<BoardRow>, AllocError>
+    requires { AllByRecursion (λ row. IsSome (kept copies.now row.copy)) counts.now }
+    ensures { IfOk result (λ rows. rows.items ≡ map (placed_row copies.now) counts.now) }
+{
+    let mut rows = Vec::new(alloc);
+    for row in counts {
+        rows.push(board_row(copies, row)?)?;
+    }
+    Ok(rows)
+}
+
+fn board_row(copies: &CopyTable, row: &CopyCounts) -> Result<BoardRow, AllocError>
+    requires { IsSome (kept copies.now row.now.copy) }
+    ensures { IfOk result (λ made. made ≡ placed_row copies.now row.now) }
+{
+    let place = copies.get(row.copy).unwrap().place.copy_of()?;
+    Ok(BoardRow {
+        copy: row.copy,
+        place,
+        newer: row.newer,
+        older: row.older,
+        equal: row.equal,
+        conflict: row.conflict,
+    })
+}
+
+fn is_on(device: &DeviceName, place: &Place) -> bool
+    ensures { result ≡ bytes_eq place.now.device device.now }
+{
+    place.device == *device
+}
+
+/// The living copy with this number as a holding, if it is on the device.
+fn holding_at(
+    journal: &Journal,
+    families: &Families,
+    copies: &CopyTable,
+    device: &DeviceName,
+    number: u64,
+) -> Result<Option<Holding>, AllocError>
+    requires kept { IsKept journal.now.entries families.now.list.items families.now.positions.items copies.now }
+    ensures { IfOk result (λ made. made ≡ holding_in (living journal.now.entries) device.now number) }
+{
+    let _ = journal;
+    let Some(found) = copies.get(number) else {
+        return Ok(None);
+    };
+    if !is_on(device, found.place) {
+        return Ok(None);
+    }
+    let path = found.place.path.copy_of()?;
+    let it = families.of_entry(number).unwrap();
+    Ok(Some(Holding {
+        copy: number,
+        family: found.family,
+        path,
+        touch: it.family().touch(number),
+    }))
+}
+
+/// The living copies on a device, by rising number.
+fn holdings(
+    alloc: Global,
+    journal: &Journal,
+    families: &Families,
+    copies: &CopyTable,
+    device: &DeviceName,
+) -> Result<Vec<Holding>, AllocError>
+    requires kept { IsKept journal.now.entries families.now.list.items families.now.positions.items copies.now }
+    ensures { IfOk result (λ made. made.items ≡ holdings (living journal.now.entries) device.now) }
+{
+    let mut made = Vec::new(alloc);
+    for earlier in 0..journal.length() {
+        if let Some(holding) = holding_at(journal, families, copies, device, earlier + 1)? {
+            made.push(holding)?;
+        }
+    }
+    Ok(made)
 }

@@ -8,6 +8,8 @@ pub enum Query {
     Families,
     /// The board of the family with this number.
     Board { family: u64 },
+    /// The stamps of the living copies of the family with this number.
+    Stamps { family: u64 },
     /// How the first copy relates to the second.
     Pair { a: u64, b: u64 },
     /// The living copies on this device.

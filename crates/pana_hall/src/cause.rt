@@ -19,6 +19,8 @@ pub enum Cause {
     PlaceTaken(u64),
     /// The family has 256 living copies.
     FamilyFull,
+    /// The source's id can't be divided any more: its one part is 256 deep.
+    TooDeep,
     /// Memory ran out.
     OutOfMemory,
     /// No entry that reported something of a copy has this number.
@@ -43,6 +45,7 @@ impl Cause {
             Cause::OtherFamily => 4,
             Cause::PlaceTaken(_) => 6,
             Cause::FamilyFull => 7,
+            Cause::TooDeep => 8,
             Cause::OutOfMemory => 9,
             Cause::UnknownEntry => 10,
             Cause::NotYours => 11,
@@ -62,6 +65,7 @@ impl Cause {
             Cause::OtherFamily => "OtherFamily",
             Cause::PlaceTaken(_) => "PlaceTaken",
             Cause::FamilyFull => "FamilyFull",
+            Cause::TooDeep => "TooDeep",
             Cause::OutOfMemory => "OutOfMemory",
             Cause::UnknownEntry => "UnknownEntry",
             Cause::NotYours => "NotYours",

@@ -1,75 +1,85 @@
-ghost use Rattle.std.specs.Prelude.{◌≡◌, ℕ, ◌<◌, [], ◌∷◌, ◌++◌, length, OnOk, OnErr};
-ghost use Rattle.pana_hall.specs.Family.{begun_or_joined, subject};
-ghost use Rattle.pana_hall.specs.inner.Families.{family_at};
+//! The families that have begun.
+ghost use Rattle.std.specs.Prelude.{◌≡◌, ◌<◌, [], ◌∷◌, ◌++◌, length, option_copied, OnOk, OnErr, ℕ};
+ghost use Rattle.pana_hall.specs.Family.{subject};
+ghost use Rattle.pana_hall.specs.inner.Families.{family_at, position_at};
+ghost use Rattle.pana_hall.specs.inner.Kept.{position_for};
 
+use crate::kept_family::KeptFamily;
 use pana_journal::Report;
 use std::alloc::{AllocError, Global};
-use std::marker::Model;
 
-/// The family of each entry of a journal, by its number.
-#[derive(Debug, Drop)]
+/// The families that have begun, by rising number, and for each entry of the journal the position of its family.
+#[derive(Drop)]
 pub struct Families {
-    numbers: Vec<u64>,
-}
-
-impl Model for Families {
-    ghost use Rattle.std.specs.Prelude.{List, ℕ};
-
-    ghost Value = { List ℕ };
-
-    ghost view = { λ families. families.numbers.items };
+    pub list: Vec<KeptFamily>,
+    pub positions: Vec<usize>,
 }
 
 impl Families {
-    /// Those of no entry. Takes no memory.
+    /// No family, of no entry. Takes no memory.
     pub fn new(alloc: Global) -> Families
-        ensures { result ≡ [] }
+        ensures list { result.list.items ≡ [] }
+        ensures positions { result.positions.items ≡ [] }
     {
         Families {
-            numbers: Vec::new(alloc),
+            list: Vec::new(alloc),
+            positions: Vec::new(alloc),
         }
     }
 
-    /// The family of the entry with this number; a number of no entry is its own. Takes no memory.
-    pub fn of(&self, number: u64) -> u64
-        ensures { result ≡ family_at self.now number }
+    /// The families in order. Takes no memory.
+    pub fn as_slice(&self) -> &[KeptFamily]
+        ensures { result.now ≡ self.now.list.items }
     {
-        match number.checked_sub(1) {
-            Some(index) => self.numbers.get(index as usize).copied().unwrap_or(number),
-            None => number,
+        self.list.as_slice()
+    }
+
+    /// The position of the family of an entry, if there is such an entry. Takes no memory.
+    pub fn position_of(&self, number: u64) -> Option<usize>
+        ensures { result ≡ position_at self.now.positions.items number }
+    {
+        self.positions.get(number.checked_sub(1)? as usize).copied()
+    }
+
+    /// The position for the family of a report: that of its subject's, or for a Register the next one. Takes no memory.
+    pub fn position_for(&self, report: &Report) -> Option<usize>
+        ensures { result ≡ position_for self.now.list.items self.now.positions.items report.now }
+    {
+        match subject(report) {
+            Some(number) => self.position_of(number),
+            None => Some(self.list.as_slice().len()),
         }
     }
 
-    /// Puts the family of the next entry at the end. Fails only where memory runs out, and then changes nothing.
-    pub fn push(&mut self, family: u64) -> Result<(), AllocError>
-        ensures ok { OnOk result (self.new ≡ self.old ++ family ∷ []) }
-        ensures err { OnErr result (self.new ≡ self.old) }
+    /// Puts the position of the next entry's family at the end. Fails only where memory runs out, and then changes nothing.
+    pub fn push_position(&mut self, position: usize) -> Result<(), AllocError>
+        ensures list { self.new.list ≡ self.old.list }
+        ensures ok { OnOk result (self.new.positions.items ≡ self.old.positions.items ++ position ∷ []) }
+        ensures err { OnErr result (self.new.positions.items ≡ self.old.positions.items) }
     {
-        self.numbers.push(family)?;
+        self.positions.push(position)?;
         Ok(())
     }
 
     /// Takes the last one away. Takes no memory.
-    pub fn pop(&mut self)
-        requires { 0 < length self.old }
-        ensures { (family : ℕ) × (self.old ≡ self.new ++ family ∷ []) }
+    pub fn pop_position(&mut self)
+        requires { 0 < length self.old.positions.items }
+        ensures list { self.new.list ≡ self.old.list }
+        ensures positions { (position : ℕ) × (self.old.positions.items ≡ self.new.positions.items ++ position ∷ []) }
     {
-        let _ = self.numbers.pop();
+        let _ = self.positions.pop();
     }
 
-    /// The family of the entry with this number, where it is the next one. Takes no memory.
-    pub fn of_next(&self, entry: u64, report: &Report) -> u64
-        ensures { result ≡ begun_or_joined (family_at self.now) entry (subject report.now) }
+    /// The family of an entry, if there is such an entry. Takes no memory.
+    pub fn of_entry(&self, number: u64) -> Option<&KeptFamily>
+        ensures { option_copied result ≡ family_at self.now.list.items self.now.positions.items number }
     {
-        match subject(report) {
-            Some(number) => self.of(number),
-            None => entry,
-        }
+        self.list.get(self.position_of(number)?)
     }
 }
 
 /// The copy, or the entry, to whose family a report belongs. A Register names none: it begins a family of its own.
-fn subject(report: &Report) -> Option<u64>
+pub fn subject(report: &Report) -> Option<u64>
     ensures { result ≡ subject report.now }
 {
     match report {

@@ -6,12 +6,12 @@ ghost use Rattle.pana_hall.specs.Run.{RunsTo};
 use crate::answering::answer;
 use crate::call::{Call, Query};
 use crate::cause::Cause;
-use crate::copies::Copies;
+use crate::depth::is_too_deep;
 use crate::families::Families;
 use crate::recording::record;
 use crate::refusal::{query_refusal, report_refusal};
 use crate::reply::Reply;
-use pana_copies::DeviceName;
+use pana_copies::{CopyTable, DeviceName};
 use pana_journal::{Journal, Report};
 use std::alloc::{AllocError, Global};
 use std::collections::VecDeque;
@@ -19,26 +19,25 @@ use std::marker::Model;
 
 /// All the copies of all the files, and the journal that they come from. To contracts it is its journal.
 ///
-/// It keeps each living copy with the set of the updates that it knows, and compares every pair anew for a board:
-/// a plain program, for faster ones to be compared with.
-#[derive(Debug, Drop)]
+/// It keeps a family of stamps for each file and the place of each living copy, and no set of updates.
+#[derive(Drop)]
 pub struct Hall {
     alloc: Global,
     journal: Journal,
     families: Families,
-    copies: Copies,
+    copies: CopyTable,
 }
 
 impl Model for Hall {
     ghost use Rattle.std.specs.Prelude.{List};
     ghost use Rattle.pana_journal.specs.declared.entry.Entry.{Entry};
-    ghost use Rattle.pana_hall.specs.inner.Recording.{IsKept};
+    ghost use Rattle.pana_hall.specs.inner.Kept.{IsKept};
 
     ghost Value = { List Entry };
 
     ghost view = { λ hall. hall.journal.entries };
 
-    ghost invariant = { λ hall. IsKept hall.journal.entries hall.families hall.copies };
+    ghost invariant = { λ hall. IsKept hall.journal.entries hall.families.list.items hall.families.positions.items hall.copies };
 }
 
 impl Hall {
@@ -53,7 +52,7 @@ impl Hall {
             alloc,
             journal: Journal::new(alloc),
             families: Families::new(alloc),
-            copies: Copies::new(alloc),
+            copies: CopyTable::new(alloc),
         })
     }
 
@@ -101,8 +100,11 @@ impl Hall {
     {
         let alloc = self.alloc;
         let (journal, families, copies) = (&mut self.journal, &mut self.families, &mut self.copies);
-        if let Some(cause) = report_refusal(alloc, journal, families, copies, by, &report) {
+        if let Some(cause) = report_refusal(journal, families, copies, by, &report) {
             return Reply::Refused(cause);
+        }
+        if is_too_deep(journal, families, copies, by, &report) {
+            return Reply::Refused(Cause::TooDeep);
         }
         match record(alloc, journal, families, copies, by, report) {
             Ok(entry) => Reply::Done { entry },
@@ -118,7 +120,13 @@ impl Hall {
         if let Some(cause) = query_refusal(&self.journal, &self.copies, &query) {
             return Reply::Refused(cause);
         }
-        match answer(self.alloc, &self.journal, &self.copies, query) {
+        match answer(
+            self.alloc,
+            &self.journal,
+            &self.families,
+            &self.copies,
+            query,
+        ) {
             Ok(reply) => reply,
             Err(_) => Reply::Refused(Cause::OutOfMemory),
         }

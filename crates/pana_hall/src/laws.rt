@@ -2,14 +2,19 @@
 //! A family's last 8 entries are pending; `table 8 k family journal` is the family's living copies with the last k
 //! pending entries left out.
 
-ghost use Rattle.std.specs.Prelude.{◌≡◌, ◌≢◌, ℕ, ◌+◌, ◌≤◌, List, [], ◌∷◌, ◌++◌, ◌==◌, ◌||◌, length, find, count_by, option_and_then, option_map, if◌then◌else◌, Some, true};
+ghost use Rattle.std.specs.Prelude.{◌≡◌, ◌≢◌, ℕ, ◌+◌, ◌≤◌, List, [], ◌∷◌, ◌++◌, ◌==◌, ◌||◌, ◌⊎◌, length, find, count_by, option_and_then, option_map, if◌then◌else◌, Some, true};
 ghost use Rattle.std.specs.Bool.{then_some};
 ghost use Rattle.std.specs.List.{AllByRecursion, list_any};
 ghost use Rattle.std.specs.Str.{bytes_eq};
-ghost use Rattle.pana_journal.specs.declared.report.Report.TheVariants.{Confirm, Withdraw};
+ghost use Rattle.pana_copies.specs.declared.place.Place.{Place};
+ghost use Rattle.pana_journal.specs.declared.report.Report.TheVariants.{Register, Confirm, Withdraw};
+ghost use Rattle.pana_family.specs.Table.{AreBelow};
+ghost use Rattle.pana_family.specs.Sets.{IsAbove, after, began, confirmed, withdrawn};
+ghost use Rattle.pana_hall.specs.Sets.{reported, sets_of};
 ghost use Rattle.pana_journal.specs.declared.entry.Entry.{Entry};
 ghost use Rattle.pana_journal.specs.Entries.{entry_at};
-ghost use Rattle.pana_hall.specs.Updates.{has, union};
+ghost use Rattle.pana_family.specs.Updates.{has, union};
+ghost use Rattle.pana_family.specs.Laws.{RelatesSets};
 ghost use Rattle.pana_hall.specs.Family.{entries_of, families, is_family, is_register, subject};
 ghost use Rattle.pana_hall.specs.Effective.{effective, is_of_copies, left_out};
 ghost use Rattle.pana_hall.specs.Living.{Copy, copies_of, copy_in, known_to, living};
@@ -20,11 +25,11 @@ ghost use Rattle.pana_hall.specs.Refusal.{brought_back, displaced};
 ghost use Rattle.pana_hall.specs.Run.{Exchange, IsRun, journal_from};
 ghost use Rattle.pana_hall.specs.Tables.{table, tables};
 ghost use Rattle.pana_hall.specs.Accepted.{Accepts, IsAccepted};
-ghost use Rattle.pana_hall.specs.declared.cause.Cause.TheVariants.{OutOfMemory};
+ghost use Rattle.pana_hall.specs.declared.cause.Cause.TheVariants.{OutOfMemory, TooDeep};
 ghost use Rattle.pana_hall.specs.declared.loading.LoadFault.{LoadFault};
 ghost use Rattle.pana_hall.specs.declared.loading.LoadCause.TheVariants.{Refused};
 ghost use Rattle.pana_hall.specs.Load.{IsLoadFault};
-ghost use Rattle.pana_hall.specs.Laws.{AddsLayer, AreApart, AreMerged, AreRising, DropsLayer, IsOrderly, KeepsLayers, LeavesAlone, RelatesSets, family_of_next};
+ghost use Rattle.pana_hall.specs.Laws.{AddsLayer, AreApart, AreMerged, AreRising, DropsLayer, IsOrderly, KeepsLayers, LeavesAlone, family_of_next};
 
 /// After every run no two living copies have one place, their numbers rise, none is above that of the last entry, and
 /// each copy is of its entry's family. Entries that are withdrawn are no exception.
@@ -48,9 +53,10 @@ pub fn accepted_are_those_of_runs()
     ensures of_run { (journal : List Entry) → IsAccepted 8 journal → (run : List Exchange) × IsRun run × (journal_from [] run ≡ journal) }
 {}
 
-/// The entries of a hall's journal load: nothing but memory stops them.
+/// The entries of a hall's journal load: nothing but a shortage stops them.
 pub fn own_entries_load()
-    ensures { (entries : List Entry) (fault : LoadFault) → IsAccepted 8 entries → IsLoadFault entries fault → fault.cause ≡ Refused OutOfMemory }
+    ensures { (entries : List Entry) (fault : LoadFault) → IsAccepted 8 entries → IsLoadFault entries fault
+        → (fault.cause ≡ Refused OutOfMemory) ⊎ (fault.cause ≡ Refused TooDeep) }
 {}
 
 /// A family's tables are what its own entries make, the others left out.
@@ -76,6 +82,25 @@ pub fn withdraw_drops_a_layer()
 pub fn confirm_keeps_layers()
     ensures { (journal : List Entry) (entry : Entry) (m : ℕ) → IsAccepted 8 journal → Accepts 8 journal entry
         → entry.report ≡ Confirm m → KeepsLayers 8 (family_of_next journal entry) journal entry }
+{}
+
+/// What a family with its parcels stands for goes by the report: its table is changed as the report says, or a Withdraw
+/// takes it back by an entry, or a Confirm leaves the table; and no entry changes it for another family. A Register begins
+/// a family. All numbers in a family's table are below that of the next entry.
+pub fn sets_go_by_report()
+    ensures report { (journal : List Entry) (entry : Entry) → IsAccepted 8 journal → Accepts 8 journal entry → is_of_copies entry.report ≡ true
+        → sets_of (family_of_next journal entry) (journal ++ entry ∷ [])
+        ≡ after entry.number (reported entry.number entry.report) (sets_of (family_of_next journal entry) journal) }
+    ensures withdraw { (journal : List Entry) (entry : Entry) (m : ℕ) → IsAccepted 8 journal → Accepts 8 journal entry → entry.report ≡ Withdraw m
+        → sets_of (family_of_next journal entry) (journal ++ entry ∷ []) ≡ withdrawn (sets_of (family_of_next journal entry) journal) }
+    ensures confirm { (journal : List Entry) (entry : Entry) (m : ℕ) → IsAccepted 8 journal → Accepts 8 journal entry → entry.report ≡ Confirm m
+        → sets_of (family_of_next journal entry) (journal ++ entry ∷ []) ≡ confirmed m (sets_of (family_of_next journal entry) journal) }
+    ensures other { (journal : List Entry) (entry : Entry) (family : ℕ) → IsAccepted 8 journal → Accepts 8 journal entry → family_of_next journal entry ≢ family
+        → sets_of family (journal ++ entry ∷ []) ≡ sets_of family journal }
+    ensures begun { (journal : List Entry) (entry : Entry) (place : Place) → IsAccepted 8 journal → Accepts 8 journal entry → entry.report ≡ Register place
+        → sets_of entry.number (journal ++ entry ∷ []) ≡ began entry.number }
+    ensures above { (journal : List Entry) (family : ℕ) → IsAccepted 8 journal → IsAbove (length journal + 1) (sets_of family journal).table }
+    ensures below { (journal : List Entry) (family : ℕ) → IsAccepted 8 journal → AreBelow (length journal + 1) (sets_of family journal).table }
 {}
 
 /// No entry changes a family but its own.

@@ -2,25 +2,23 @@
 #![tactic(auto)]
 
 mod answering;
-mod applying;
 mod board;
 mod call;
 mod cause;
-mod copies;
-mod effective;
+mod changing;
+mod depth;
 mod families;
 mod family_row;
 mod hall;
 mod holding;
+mod kept_family;
 pub mod laws;
-mod living_copy;
 mod loading;
-mod pending;
+mod old_place;
 mod recording;
 mod refusal;
-mod relation;
 mod reply;
-mod update_set;
+mod taking;
 
 pub use crate::board::{BoardRow, BoardView};
 pub use crate::call::{Call, Query};
@@ -30,3 +28,4 @@ pub use crate::hall::Hall;
 pub use crate::holding::{Holding, HoldingList};
 pub use crate::loading::{LoadCause, LoadFault};
 pub use crate::reply::{Reply, Spent};
+pub use pana_family::CopyStamp;

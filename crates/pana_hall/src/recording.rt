@@ -1,17 +1,78 @@
-//! What an accepted report makes of a journal, and of the families and copies that are kept of it.
-ghost use Rattle.std.specs.Prelude.{◌≡◌, ℕ, ◌+◌, ◌<◌, List, [], ◌∷◌, ◌++◌, length, None, OnOk, OnErr};
-ghost use Rattle.pana_journal.specs.declared.entry.Entry.{Entry};
-ghost use Rattle.pana_hall.specs.Accepted.{IsAccepted};
+//! What an accepted report makes of a journal, and of what is kept of it.
+ghost use Rattle.std.specs.Prelude.{◌≡◌, ℕ, ◌+◌, ◌<◌, List, [], ◌∷◌, ◌++◌, length, ◌==◌, if◌then◌else◌, Some, None, OnOk, OnErr};
+ghost use Rattle.pana_copies.specs.Spots.{kept};
+ghost use Rattle.pana_hall.specs.declared.kept_family.KeptFamily.{KeptFamily};
+ghost use Rattle.pana_hall.specs.inner.Spots.{SameSpots, IsFree};
+ghost use Rattle.pana_hall.specs.inner.Steps.{Begins};
+ghost use Rattle.pana_hall.specs.inner.Kept.{next_entry, AreListed, AreSpots, IsFamilyKept, IsReady, IsReadyAt, IsKept, Records, Splits};
 ghost use Rattle.pana_hall.specs.Living.{living};
 ghost use Rattle.pana_hall.specs.Refusal.{report_refusal};
-ghost use Rattle.pana_hall.specs.inner.Recording.{IsKept, Records};
 
-use crate::copies::Copies;
-use crate::effective::replayed;
+use crate::changing::{duplicate, relocate, remove, withdraw};
 use crate::families::Families;
-use pana_copies::DeviceName;
-use pana_journal::{Entry, Journal, Report};
+use crate::kept_family::KeptFamily;
+use pana_copies::{CopyTable, DeviceName, Place};
+use pana_journal::{Journal, Report};
 use std::alloc::{AllocError, Global};
+
+/// Does to a family that has begun, and to the table of copies, what the report of the next entry says. Fails only where
+/// memory runs out, and then changes nothing.
+pub fn change(
+    alloc: Global,
+    journal: &Journal,
+    by: &DeviceName,
+    it: &mut KeptFamily,
+    copies: &mut CopyTable,
+    report: &Report,
+) -> Result<(), AllocError>
+    requires ready { IsReady journal.now.entries by.now report.now it.old copies.old }
+    ensures number { it.new.number ≡ it.old.number }
+    ensures family { OnOk result (IsFamilyKept (journal.now.entries ++ next_entry journal.now.entries by.now report.now ∷ []) it.new) }
+    ensures spots { OnOk result (AreSpots (journal.now.entries ++ next_entry journal.now.entries by.now report.now ∷ []) copies.new) }
+    ensures same { OnErr result (it.new ≡ it.old) }
+    ensures still { OnErr result (SameSpots copies.old copies.new) }
+{
+    let entry = journal.length() + 1;
+    match report {
+        Report::Register { .. } => unreachable!(),
+        Report::Duplicate { copy, place } => duplicate(it, copies, entry, *copy, place),
+        Report::Edit { copy } => it.edit(entry, *copy),
+        Report::Reconcile { a, b } => it.reconcile(entry, *a, *b),
+        Report::Merge { a, b } => it.merge(entry, *a, *b),
+        Report::Relocate { copy, place } => relocate(alloc, it, copies, entry, *copy, place),
+        Report::Remove { copy, heir } => remove(alloc, it, copies, entry, *copy, *heir),
+        Report::Confirm { entry } => {
+            it.confirm(*entry);
+            Ok(())
+        }
+        Report::Withdraw { entry } => {
+            withdraw(it, copies, *entry, &journal.entry(*entry).unwrap().report)
+        }
+    }
+}
+
+/// Begins a family by the next entry, a Register at this place. Fails only where memory runs out, and then changes nothing.
+fn begin(
+    alloc: Global,
+    list: &mut Vec<KeptFamily>,
+    copies: &mut CopyTable,
+    entry: u64,
+    place: &Place,
+) -> Result<(), AllocError>
+    requires fresh { kept copies.old entry ≡ None }
+    requires free { IsFree place.now copies.old }
+    ensures list { OnOk result ((it : KeptFamily) × (list.new.items ≡ list.old.items ++ it ∷ []) × Begins entry it) }
+    ensures spots { OnOk result ((number : ℕ) → kept copies.new number
+        ≡ (if number == entry then Some (record { family = entry; place = place.now }) else kept copies.old number)) }
+    ensures same { OnErr result (list.new.items ≡ list.old.items) }
+    ensures still { OnErr result (SameSpots copies.old copies.new) }
+{
+    let place = place.copy_of()?;
+    copies.reserve()?;
+    list.push(KeptFamily::new(alloc, entry)?)?;
+    copies.insert(entry, entry, place);
+    Ok(())
+}
 
 /// Reserves room for one entry.
 fn reserve(journal: &mut Journal) -> Result<(), AllocError>
@@ -21,48 +82,63 @@ fn reserve(journal: &mut Journal) -> Result<(), AllocError>
     journal.reserve_one().map_err(|_| AllocError)
 }
 
-/// Does to the copies what the report of the next entry says: a Withdraw finds them anew, from the journal without the
-/// entry. Fails only where memory runs out, and then changes nothing.
-fn change(
+/// Does what the report of the next entry says to the families, of which the report's is at this position, and to the
+/// table of copies. Fails only where memory runs out, and then changes nothing.
+fn change_at(
     alloc: Global,
-    copies: &mut Copies,
-    entries: &[Entry],
+    journal: &Journal,
+    by: &DeviceName,
+    list: &mut Vec<KeptFamily>,
+    position: usize,
+    copies: &mut CopyTable,
     report: &Report,
 ) -> Result<(), AllocError>
-    requires accepted { IsAccepted 8 entries.now }
-    requires copies { copies.old ≡ living entries.now }
-    ensures ok { OnOk result ((by : List ℕ) → copies.new ≡ living (entries.now ++ record { number = length entries.now + 1; by = by; report = report.now } ∷ [])) }
-    ensures err { OnErr result (copies.new ≡ copies.old) }
+    requires ready { IsReadyAt journal.now.entries by.now report.now list.old.items position copies.old }
+    ensures list { OnOk result (AreListed (journal.now.entries ++ next_entry journal.now.entries by.now report.now ∷ []) list.new.items) }
+    ensures spots { OnOk result (AreSpots (journal.now.entries ++ next_entry journal.now.entries by.now report.now ∷ []) copies.new) }
+    ensures same { OnErr result (list.new.items ≡ list.old.items) }
+    ensures still { OnErr result (SameSpots copies.old copies.new) }
 {
     match report {
-        Report::Withdraw { entry } => {
-            *copies = replayed(alloc, *entry, entries)?;
-            Ok(())
+        Report::Register { place } => begin(alloc, list, copies, journal.length() + 1, place),
+        _ => {
+            // whose contract says that the position is within the list
+            let _ = list.as_slice();
+            change(alloc, journal, by, &mut list[position], copies, report)
         }
-        _ => copies.apply(alloc, entries.len() as u64 + 1, report),
     }
 }
 
-/// Makes a report that nothing stands against the next entry of the journal, and keeps its family and the copies that
-/// live after it. Fails only where memory runs out, and then changes nothing.
+/// Makes a report that nothing stands against the next entry of the journal, and keeps all of the journal that is kept.
+/// Fails only where memory runs out, and then the journal is as it was.
 pub fn record(
     alloc: Global,
     journal: &mut Journal,
     families: &mut Families,
-    copies: &mut Copies,
+    copies: &mut CopyTable,
     by: &DeviceName,
     report: Report,
 ) -> Result<u64, AllocError>
-    requires kept { IsKept journal.old.entries families.old copies.old }
-    requires free { report_refusal 8 journal.old.entries copies.old by.now report ≡ None }
-    ensures { Records journal.old.entries families.old copies.old by.now report result journal.new.entries families.new copies.new }
+    requires kept { IsKept journal.old.entries families.old.list.items families.old.positions.items copies.old }
+    requires free { report_refusal 8 journal.old.entries (living journal.old.entries) by.now report ≡ None }
+    requires splits { Splits families.old.list.items families.old.positions.items report }
+    ensures { Records journal.old.entries by.now report result journal.new.entries families.new.list.items families.new.positions.items copies.new }
 {
     let by = by.copy_of()?;
     reserve(journal)?;
-    let family = families.of_next(journal.length() + 1, &report);
-    families.push(family)?;
-    if let Err(error) = change(alloc, copies, journal.as_slice(), &report) {
-        families.pop();
+    let position = families.position_for(&report).unwrap();
+    families.push_position(position)?;
+    let changed = change_at(
+        alloc,
+        journal,
+        &by,
+        &mut families.list,
+        position,
+        copies,
+        &report,
+    );
+    if let Err(error) = changed {
+        families.pop_position();
         return Err(error);
     }
     Ok(journal.append(by, report))

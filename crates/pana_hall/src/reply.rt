@@ -3,6 +3,7 @@ use crate::cause::Cause;
 use crate::family_row::FamilyRow;
 use crate::holding::HoldingList;
 use pana_event::Rel;
+use pana_family::CopyStamp;
 use pana_journal::EntryList;
 use pana_list::PlainList;
 use std::error::Error;
@@ -17,6 +18,8 @@ pub enum Reply {
     Families(PlainList<FamilyRow>),
     /// The board that was asked for.
     Board(BoardView),
+    /// The stamps of the family's living copies, by rising number.
+    Stamps(PlainList<CopyStamp>),
     /// How the first copy relates to the second.
     Pair(Rel),
     /// The living copies on the device, by rising number.

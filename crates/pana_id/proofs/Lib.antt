@@ -1,3 +1,4 @@
+pub mod Divides
 pub mod Pairs
 pub mod Parts
 pub mod Points

@@ -1,5 +1,5 @@
-ghost use Rattle.std.specs.Prelude.{◌≡◌, ◌≤◌, ◌↔◌, not, length, IfOk, IsTrue, IsErrOf, IsOkUnless};
-ghost use Rattle.pana_id.specs.Id.{zero_id, one_id, depth as depth_of, has as owns, is_zero as zero_test, parts, sum_of, are_disjoint, is_single, IsNormal, IsValid, SharesNoPoint, IsParted, IsSum};
+ghost use Rattle.std.specs.Prelude.{◌≡◌, ◌≤◌, ◌↔◌, not, length, IfOk, OnErr, IsTrue, IsErrOf, IsOkUnless};
+ghost use Rattle.pana_id.specs.Id.{zero_id, one_id, depth as depth_of, has as owns, is_zero as zero_test, parts, sum_of, are_disjoint, is_single, IsNormal, Id, IsValid, SharesNoPoint, IsParted, IsSum};
 ghost use Rattle.pana_id.specs.Node.{tree};
 
 use crate::id_fault::IdFault;
@@ -97,9 +97,9 @@ impl IdTree {
         left.node.is_disjoint(&right.node)
     }
 
-    /// Whether both parts of the id stay within the limit.
+    /// Whether both parts of the id stay within the limit: false exactly where the id has a single 1, at depth 256.
     /// Takes no memory, and visits at most one pair a level.
-    fn splits(&self) -> bool
+    pub fn splits(&self) -> bool
         ensures { result ≡ not (is_single self.now 256) }
     {
         !self.node.is_single_at(MAX_DEPTH)
@@ -136,5 +136,38 @@ impl IdTree {
     {
         let whole = Node::sum(alloc, &left.node, &right.node)?;
         Ok(IdTree { node: whole })
+    }
+
+    /// Divides the id in place: leaves the first part of `split` here and returns the second. The halves of the
+    /// tree are moved, and none is copied.
+    ///
+    /// # Errors
+    ///
+    /// `TooDeep` exactly where the id has a single 1, at depth 256, and before memory is taken. `OutOfMemory`
+    /// where an allocation failed. The id is then as it was. Takes at most a box a pair on the way to where the
+    /// id is divided, and two more; visits at most one pair a level.
+    pub fn split_off(&mut self, alloc: Global) -> Result<IdTree, IdFault>
+        ensures trees { IfOk result (λ second. (self.new, second) ≡ parts self.old) }
+        ensures parted { IfOk result (λ second. IsParted self.old self.new second) }
+        ensures err { OnErr result (self.new ≡ self.old) }
+        ensures too_deep { IsErrOf result IdFault.TooDeep ↔ IsTrue (is_single self.old 256) }
+    {
+        if !self.splits() {
+            return Err(IdFault::TooDeep);
+        }
+        let second = self.node.split_off(alloc)?;
+        Ok(IdTree { node: second })
+    }
+
+    /// Makes this the sum of the two ids, by moving the other's halves in. What was split off is so taken back:
+    /// the id is then the tree that it was.
+    /// Takes no memory, and visits each node of the two at most once.
+    pub fn absorb(&mut self, other: IdTree)
+        requires { SharesNoPoint self.old other }
+        ensures tree { self.new ≡ sum_of self.old other }
+        ensures summed { IsSum self.new self.old other }
+        ensures back { (whole : Id) → IsNormal whole → (self.old, other) ≡ parts whole → self.new ≡ whole }
+    {
+        self.node.absorb(other.node);
     }
 }

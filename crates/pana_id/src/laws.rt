@@ -1,5 +1,5 @@
 ghost use Rattle.std.specs.Prelude.{◌≡◌, ℕ, ◌+◌, ◌≤◌, ◌↔◌, [], ◌∷◌, false, max, IsTrue};
-ghost use Rattle.pana_id.specs.Id.{Id, depth, has, parts, sum_of, are_disjoint, is_single, ones, AtPoints, IsNormal, IsValid, SharesNoPoint, IsParted, IsSum};
+ghost use Rattle.pana_id.specs.Id.{Id, depth, has, is_zero, parts, sum_of, are_disjoint, is_single, ones, AtPoints, IsNormal, IsValid, SharesNoPoint, IsParted, IsSum};
 
 /// Two normal ids of depth at most 256 that own the same points are the same tree.
 pub fn same_points_same_tree()
@@ -20,6 +20,13 @@ pub fn sum_of_two_ids()
     ensures summed { (i j : Id) → IsValid i → IsValid j → IsSum (sum_of i j) i j }
     ensures valid { (i j : Id) → IsValid i → IsValid j → IsValid (sum_of i j) }
     ensures depths { (i j : Id) → depth (sum_of i j) ≤ max (depth i) (depth j) }
+{}
+
+/// The sum of two ids with no point in common, of which neither is 0, can be divided, and its parts are no
+/// deeper than the deeper of the two.
+pub fn sum_can_be_divided()
+    ensures divides { (i j : Id) → SharesNoPoint i j → IsValid i → IsValid j → is_zero i ≡ false → is_zero j ≡ false → is_single (sum_of i j) 256 ≡ false }
+    ensures depths { (i j : Id) → SharesNoPoint i j → IsValid i → IsValid j → is_zero i ≡ false → is_zero j ≡ false → (depth (parts (sum_of i j)).0 ≤ max (depth i) (depth j)) × (depth (parts (sum_of i j)).1 ≤ max (depth i) (depth j)) }
 {}
 
 /// Two normal ids of depth at most 256 pass the test of `disjoint` exactly where no point of 256

@@ -1,8 +1,9 @@
-ghost use Rattle.std.specs.Prelude.{◌≡◌, ◌<◌, ◌≤◌, ◌^◌, length, IfOk, IsTrue};
+ghost use Rattle.std.specs.Prelude.{◌≡◌, ◌<◌, ◌≤◌, ◌^◌, length, IfOk, IsTrue, OnErr};
 ghost use Rattle.pana_id.specs.Id.{pair, norm, depth as depth_of, has as owns, is_zero as zero_test, parts, sum_of, are_disjoint, is_single};
 ghost use Rattle.pana_id.specs.Node.{tree};
 
 use std::alloc::{AllocError, Global};
+use std::mem;
 
 /// The tree of an id, in any form.
 ///
@@ -181,6 +182,62 @@ impl Node {
                 Node::norm_of(alloc, left, right)
             }
             _ => unreachable!(),
+        }
+    }
+
+    /// Leaves the first part of the id here and returns the second. The halves of a pair are moved, and none is
+    /// copied. Takes one box a pair on the way to where the id is divided, two where a 1 is cut; what fails
+    /// leaves the id as it was.
+    pub(crate) fn split_off(&mut self, alloc: Global) -> Result<Node, AllocError>
+        ensures ok { IfOk result (λ second. (tree self.new, tree second) ≡ parts (tree self.old)) }
+        ensures err { OnErr result (tree self.new ≡ tree self.old) }
+    {
+        match self {
+            Node::Zero => Ok(Node::Zero),
+            Node::One => {
+                let right = Node::pair_of(alloc, Node::Zero, Node::One)?;
+                *self = Node::pair_of(alloc, Node::One, Node::Zero)?;
+                Ok(right)
+            }
+            Node::Pair(halves) => {
+                // The box is taken first, so that nothing was changed where memory runs out.
+                let empty = Halves {
+                    left: Node::Zero,
+                    right: Node::Zero,
+                };
+                let mut second = Box::new(alloc, empty)?;
+                match (&halves.left, &halves.right) {
+                    (Node::Zero, _) => second.right = halves.right.split_off(alloc)?,
+                    (_, Node::Zero) => second.left = halves.left.split_off(alloc)?,
+                    _ => second.right = mem::replace(&mut halves.right, Node::Zero),
+                }
+                Ok(Node::Pair(second))
+            }
+        }
+    }
+
+    /// Makes this the sum of the two ids, by moving the other's halves in. Takes no memory; visits each node of
+    /// the two trees at most once.
+    pub(crate) fn absorb(&mut self, other: Node)
+        ensures { tree self.new ≡ sum_of (tree self.old) (tree other) }
+    {
+        match (&mut *self, other) {
+            (Node::Zero, other) => *self = other,
+            (_, Node::Zero) => {}
+            (Node::Pair(mine), Node::Pair(theirs)) => {
+                let Halves { left, right } = Box::into_inner(theirs);
+                mine.left.absorb(left);
+                mine.right.absorb(right);
+                let leaf = match (&mine.left, &mine.right) {
+                    (Node::Zero, Node::Zero) => Some(Node::Zero),
+                    (Node::One, Node::One) => Some(Node::One),
+                    _ => None,
+                };
+                if let Some(leaf) = leaf {
+                    *self = leaf;
+                }
+            }
+            _ => *self = Node::One,
         }
     }
 }

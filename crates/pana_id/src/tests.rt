@@ -76,3 +76,22 @@ fn builds_nodes(rt: HostRuntime) -> Result<(), Fail> {
     assert_eq!(rt; text.as_str(), "((1,0),(1,0))1");
     Ok(())
 }
+
+#[test]
+fn divides_in_place_and_absorbs(rt: HostRuntime) -> Result<(), Fail> {
+    let mut id = IdTree::one();
+    let mut given = Vec::new(rt.alloc());
+    for _ in 0..256 {
+        given.push(id.split_off(rt.alloc())?)?;
+    }
+    assert_eq!(rt; id.depth(), 256);
+    let deepest = text_of(rt.alloc(), &id)?;
+    assert!(rt; matches!(id.split_off(rt.alloc()), Err(IdFault::TooDeep)));
+    assert_eq!(rt; text_of(rt.alloc(), &id)?.as_str(), deepest.as_str());
+    for part in given.into_iter().rev() {
+        assert!(rt; IdTree::disjoint(&id, &part));
+        id.absorb(part);
+    }
+    assert_eq!(rt; text_of(rt.alloc(), &id)?.as_str(), "1");
+    Ok(())
+}

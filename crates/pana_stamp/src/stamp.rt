@@ -1,9 +1,9 @@
 //! Stamps: an id and what its owner knows.
-ghost use Rattle.std.specs.Prelude.{◌≡◌, ◌+◌, ◌^◌, ◌<◌, ◌↔◌, false, max, IfOk, IsErrOf, IsTrue};
+ghost use Rattle.std.specs.Prelude.{◌≡◌, ◌+◌, ◌^◌, ◌<◌, ◌↔◌, false, max, IfOk, OnErr, IsErrOf, IsTrue};
 ghost use Rattle.pana_event.specs.Event.{greatest, leaf};
 ghost use Rattle.pana_event.specs.Join.{IsJoin, joined};
-ghost use Rattle.pana_event.specs.Relation.{IsRelation};
-ghost use Rattle.pana_id.specs.Id.{IsParted, IsSum, SharesNoPoint, is_single, is_zero, one_id, parts, sum_of};
+ghost use Rattle.pana_event.specs.Relation.{IsRelation, tested_relation};
+ghost use Rattle.pana_id.specs.Id.{Id, IsNormal, IsParted, IsSum, SharesNoPoint, is_single, is_zero, one_id, parts, sum_of};
 ghost use Rattle.pana_stamp.specs.Fill.{fill as fill_of};
 ghost use Rattle.pana_stamp.specs.Grow.{grow as grow_of};
 ghost use Rattle.pana_stamp.specs.Raised.{IsRaised};
@@ -13,6 +13,7 @@ use crate::growing::grow;
 use pana_event::{EventTree, Rel};
 use pana_id::{IdFault, IdTree};
 use std::alloc::{AllocError, Global};
+use std::mem;
 
 /// The stamp of a copy: the id says which points are its own, the event which updates it knows.
 #[derive(Drop)]
@@ -53,6 +54,24 @@ impl Stamp {
         ensures { result.now ≡ self.now.event }
     {
         &self.event
+    }
+
+    /// Puts another event in place of the stamp's and returns the old one. The id stays as it is. Takes no memory; O(1).
+    pub fn replace_event(&mut self, event: EventTree) -> EventTree
+        ensures old { result ≡ self.old.event }
+        ensures event { self.new.event ≡ event }
+        ensures owner { self.new.id ≡ self.old.id }
+    {
+        mem::replace(&mut self.event, event)
+    }
+
+    /// Puts another id in place of the stamp's and returns the old one. The event stays as it is. Takes no memory; O(1).
+    pub fn replace_id(&mut self, id: IdTree) -> IdTree
+        ensures old { result ≡ self.old.id }
+        ensures owner { self.new.id ≡ id }
+        ensures event { self.new.event ≡ self.old.event }
+    {
+        mem::replace(&mut self.id, id)
     }
 
     /// The event after an update of the copy: what filling gives where that changes the event, and else the
@@ -124,11 +143,50 @@ impl Stamp {
         }
     }
 
+    /// The id, where the event is wanted no more. Takes no memory; lets the event go, and visits each node of it.
+    pub fn into_id(self) -> IdTree
+        ensures { result ≡ self.id }
+    {
+        self.id
+    }
+
+    /// Divides the id in place, by `IdTree::split_off`: leaves its first part here and returns the second. The event
+    /// stays as it is.
+    ///
+    /// # Errors
+    ///
+    /// `TooDeep` exactly where the id has a single 1, at depth 256, and before memory is taken. `OutOfMemory`
+    /// where an allocation failed. The stamp is then as it was. Takes at most a box a pair on the way to where the
+    /// id is divided, and two more; visits at most one pair of the id a level.
+    pub fn split_off(&mut self, alloc: Global) -> Result<IdTree, IdFault>
+        ensures ids { IfOk result (λ second. (self.new.id, second) ≡ parts self.old.id) }
+        ensures parted { IfOk result (λ second. IsParted self.old.id self.new.id second) }
+        ensures event { self.new.event ≡ self.old.event }
+        ensures err { OnErr result (self.new.id ≡ self.old.id) }
+        ensures too_deep { IsErrOf result IdFault.TooDeep ↔ IsTrue (is_single self.old.id 256) }
+    {
+        self.id.split_off(alloc)
+    }
+
+    /// Makes the id the sum of the two, by `IdTree::absorb`. An id that was split off is so taken back, and the id
+    /// is then the tree that it was. The event stays as it is.
+    /// Takes no memory; visits each node of the ids at most once.
+    pub fn absorb(&mut self, other: IdTree)
+        requires { SharesNoPoint self.old.id other }
+        ensures owner { self.new.id ≡ sum_of self.old.id other }
+        ensures summed { IsSum self.new.id self.old.id other }
+        ensures back { (whole : Id) → IsNormal whole → (self.old.id, other) ≡ parts whole → self.new.id ≡ whole }
+        ensures event { self.new.event ≡ self.old.event }
+    {
+        self.id.absorb(other);
+    }
+
     /// How what the first stamp's copy knows relates to what the second's does. The ids don't count. Takes no
     /// memory; visits each node of the events at most twice.
     pub fn compare(first: &Stamp, second: &Stamp) -> Rel
         ensures relation { IsRelation first.now.event second.now.event result }
         ensures same { (result ≡ Rel.Equal) ↔ (first.now.event ≡ second.now.event) }
+        ensures test { result ≡ tested_relation first.now.event second.now.event }
     {
         first.event.compare(&second.event)
     }

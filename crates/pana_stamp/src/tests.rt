@@ -68,12 +68,43 @@ fn forks_and_joins(rt: HostRuntime) -> Result<(), Fail> {
 }
 
 #[test]
+fn divides_in_place(rt: HostRuntime) -> Result<(), Fail> {
+    let alloc = rt.alloc();
+    let mut stamp = Stamp::new(IdTree::one(), right(alloc)?);
+    let given = stamp.split_off(alloc)?;
+    assert_eq!(rt; id_text(alloc, stamp.id().node())?.as_str(), "(1,0)");
+    assert_eq!(rt; id_text(alloc, given.node())?.as_str(), "(0,1)");
+    let copy = Stamp::new(given, EventTree::zero());
+    stamp.absorb(copy.into_id());
+    assert_eq!(rt; id_text(alloc, stamp.id().node())?.as_str(), "1");
+    assert_eq!(rt;
+        event_text(alloc, stamp.event_tree().node())?.as_str(),
+        "(0,0,1)"
+    );
+    Ok(())
+}
+
+#[test]
 fn compares(rt: HostRuntime) -> Result<(), Fail> {
     let alloc = rt.alloc();
     let older = Stamp::seed();
     let newer = Stamp::new(IdTree::zero(), right(alloc)?);
     assert_eq!(rt; Stamp::compare(&older, &newer), Rel::Older);
     assert_eq!(rt; Stamp::compare(&newer, &older), Rel::Newer);
+    Ok(())
+}
+
+#[test]
+fn replaces(rt: HostRuntime) -> Result<(), Fail> {
+    let alloc = rt.alloc();
+    let mut stamp = Stamp::seed();
+    let event = stamp.event(alloc)?;
+    let old = stamp.replace_event(event);
+    assert_eq!(rt; event_text(alloc, old.node())?.as_str(), "0");
+    assert_eq!(rt; event_text(alloc, stamp.event_tree().node())?.as_str(), "1");
+    let old = stamp.replace_id(IdTree::zero());
+    assert_eq!(rt; id_text(alloc, old.node())?.as_str(), "1");
+    assert_eq!(rt; id_text(alloc, stamp.id().node())?.as_str(), "0");
     Ok(())
 }
 

@@ -12,7 +12,7 @@ use Rattle.pana_journal.specs.declared.entry.Entry.{Entry}
 use Rattle.pana_journal.specs.declared.report.Report.{Report}
 use Rattle.pana_journal.specs.declared.report.Report.TheVariants as reports
 use Rattle.pana_hall.specs.declared.reply.Reply.{Reply}
-use Rattle.pana_hall.specs.declared.reply.Reply.TheVariants.{Done, Families, Board, Pair, Holdings, Journal, Refused}
+use Rattle.pana_hall.specs.declared.reply.Reply.TheVariants.{Done, Families, Board, Stamps, Pair, Holdings, Journal, Refused}
 use Rattle.pana_wire.specs.declared.field.Field.TheVariants as fields
 use Rattle.pana_wire.specs.Field.{field_name}
 use Rattle.pana_wire.specs.Word.{word_of}
@@ -92,6 +92,7 @@ pub reply_back : (reply : Reply) (line : List ℕ) → HasReplyNames reply → l
 reply_back (Done entry) line names is utf8 reads = tt
 reply_back (Families rows) line names is utf8 reads = tt
 reply_back (Board board) line names is utf8 reads = tt
+reply_back (Stamps stamps) line names is utf8 reads = tt
 reply_back (Pair rel) line names is utf8 reads = tt
 reply_back (Holdings holdings) line names is utf8 reads = tt
 reply_back (Journal entries) line names is utf8 reads = λ short. dump_back line entries names utf8 (reads (reply_shallow entries)) (few_or_short entries line names is short)

@@ -9,12 +9,13 @@ use Rattle.pana_journal.specs.declared.report.Report.TheVariants as reports
 use Rattle.pana_hall.specs.declared.family_row.FamilyRow.{FamilyRow}
 use Rattle.pana_hall.specs.declared.holding.Holding.{Holding}
 use Rattle.pana_hall.specs.declared.board.BoardRow.{BoardRow}
+use Rattle.pana_family.specs.declared.stamps.CopyStamp.{CopyStamp}
 use Rattle.pana_hall.specs.declared.reply.Reply.{Reply}
-use Rattle.pana_hall.specs.declared.reply.Reply.TheVariants.{Done, Families, Board, Pair, Holdings, Journal, Refused}
+use Rattle.pana_hall.specs.declared.reply.Reply.TheVariants.{Done, Families, Board, Stamps, Pair, Holdings, Journal, Refused}
 use Rattle.pana_wire.specs.Field.{field_name}
 use Rattle.pana_wire.specs.declared.field.Field.TheVariants as fields
 use Rattle.pana_wire.specs.Report.{number_data, put_report, report_data, entry_data}
-use Rattle.pana_wire.specs.Reply.{family_data, families_data, holding_data, holdings_data, entries_data, numbers_data, row_data, rows_data, board_data, refusal_data, refused_data, reply_data}
+use Rattle.pana_wire.specs.Reply.{family_data, families_data, holding_data, holdings_data, entries_data, numbers_data, row_data, rows_data, board_data, stamp_data, stamps_data, refusal_data, refused_data, reply_data}
 
 numbers_whole : (numbers : List ℕ) → items_have_float (items_of (map number_data numbers)) ≡ false
 numbers_whole [] = refl
@@ -28,6 +29,11 @@ rows_whole (row ∷ rows) = rows_whole rows
 refusal_whole : (code : ℕ) (copy : Option ℕ) (name : List ℕ) → has_float (refusal_data code copy name) ≡ false
 refusal_whole code None name = refl
 refusal_whole code (Some copy) name = refl
+
+stamps_whole : (stamps : List CopyStamp) → items_have_float (items_of (map stamp_data stamps)) ≡ false
+unfolding stamp_data
+stamps_whole [] = refl
+stamps_whole (stamp ∷ stamps) = stamps_whole stamps
 
 families_whole : (rows : List FamilyRow) → items_have_float (items_of (map family_data rows)) ≡ false
 unfolding family_data
@@ -58,10 +64,11 @@ entries_whole [] = refl
 entries_whole (entry ∷ entries) = rw (entry_whole entry.number entry.by entry.report) (entries_whole entries)
 
 pub reply_whole : (reply : Reply) → has_float (reply_data reply) ≡ false
-unfolding reply_data refused_data families_data board_data rows_data numbers_data holdings_data entries_data
+unfolding reply_data refused_data families_data stamps_data board_data rows_data numbers_data holdings_data entries_data
 reply_whole (Done entry) = refl
 reply_whole (Families rows) = rw (families_whole rows) refl
 reply_whole (Board board) = rw (rows_whole board.rows, numbers_whole board.newest) refl
+reply_whole (Stamps stamps) = rw (stamps_whole stamps) refl
 reply_whole (Pair rel) = refl
 reply_whole (Holdings holdings) = rw (holdings_whole holdings) refl
 reply_whole (Journal entries) = rw (entries_whole entries) refl

@@ -122,6 +122,9 @@ call_from words.Families [] d = Ok (calls.Query queries.Families)
 call_from words.Board (family ∷ []) d = do
   family ← number_in family d
   Ok (calls.Query (queries.Board family))
+call_from words.Stamps (family ∷ []) d = do
+  family ← number_in family d
+  Ok (calls.Query (queries.Stamps family))
 call_from words.Pair (a ∷ b ∷ []) d = do
   a ← number_in a d
   b ← number_in b d

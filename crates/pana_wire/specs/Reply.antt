@@ -1,5 +1,5 @@
 -- The object that each reply stands for, and its text.
-use Rattle.std.specs.Prelude.{ℕ, List, map, codes, Option, Some, None}
+use Rattle.std.specs.Prelude.{ℕ, List, map, codes, Option, Some, None, string_bytes}
 use Rattle.serde_json.specs.Data.{Data, boolean, string, array, object, member, no_members}
 use Rattle.serde_json.specs.View.{items_of}
 use Rattle.serde_json.specs.Written.{compact_text}
@@ -10,8 +10,9 @@ use Rattle.pana_hall.specs.declared.holding.Holding.{Holding}
 use Rattle.pana_hall.specs.declared.board.BoardRow.{BoardRow}
 use Rattle.pana_hall.specs.declared.board.BoardView.{BoardView}
 use Rattle.pana_hall.specs.declared.cause.Cause.{Cause}
+use Rattle.pana_family.specs.declared.stamps.CopyStamp.{CopyStamp}
 use Rattle.pana_hall.specs.declared.reply.Reply.{Reply}
-use Rattle.pana_hall.specs.declared.reply.Reply.TheVariants.{Done, Families, Board, Pair, Holdings, Journal, Refused}
+use Rattle.pana_hall.specs.declared.reply.Reply.TheVariants.{Done, Families, Board, Stamps, Pair, Holdings, Journal, Refused}
 use Rattle.pana_hall.specs.Cause.{code_of, cause_name, cause_copy}
 use Rattle.pana_wire.specs.Report.{number_data, entry_data}
 
@@ -56,6 +57,16 @@ family_data row = object (
 unfoldable pub families_data : List FamilyRow → Data
 families_data rows = array (items_of (map family_data rows))
 
+-- a copy's stamp
+unfoldable pub stamp_data : CopyStamp → Data
+stamp_data stamp = object (
+    member (codes "copy") (number_data stamp.copy) (
+    member (codes "stamp") (string (string_bytes stamp.text))
+    no_members))
+
+unfoldable pub stamps_data : List CopyStamp → Data
+stamps_data stamps = array (items_of (map stamp_data stamps))
+
 -- a living copy on a device
 unfoldable pub holding_data : Holding → Data
 holding_data holding = object (
@@ -93,6 +104,7 @@ unfoldable pub reply_data : Reply → Data
 reply_data (Done entry) = object (member (codes "done") (number_data entry) no_members)
 reply_data (Families rows) = object (member (codes "families") (families_data rows) no_members)
 reply_data (Board board) = object (member (codes "board") (board_data board) no_members)
+reply_data (Stamps stamps) = object (member (codes "stamps") (stamps_data stamps) no_members)
 reply_data (Pair rel) = object (member (codes "pair") (string (rel_name rel)) no_members)
 reply_data (Holdings holdings) = object (member (codes "holdings") (holdings_data holdings) no_members)
 reply_data (Journal entries) = object (member (codes "entries") (entries_data entries) no_members)

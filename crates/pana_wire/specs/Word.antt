@@ -4,7 +4,7 @@ use Rattle.std.specs.Str.{bytes_eq}
 use Rattle.pana_wire.specs.declared.field.Field.{Field}
 use Rattle.pana_wire.specs.declared.field.Field.TheVariants as fields
 use Rattle.pana_wire.specs.declared.word.Word.{Word}
-use Rattle.pana_wire.specs.declared.word.Word.TheVariants.{Register, Duplicate, Edit, Reconcile, Merge, Relocate, Remove, Confirm, Withdraw, Families, Board, Pair, Holdings, Journal}
+use Rattle.pana_wire.specs.declared.word.Word.TheVariants.{Register, Duplicate, Edit, Reconcile, Merge, Relocate, Remove, Confirm, Withdraw, Families, Board, Stamps, Pair, Holdings, Journal}
 
 -- the word as it is spelled
 abbrev pub word_name : Word → List ℕ
@@ -19,6 +19,7 @@ word_name Confirm = codes "confirm"
 word_name Withdraw = codes "withdraw"
 word_name Families = codes "families"
 word_name Board = codes "board"
+word_name Stamps = codes "stamps"
 word_name Pair = codes "pair"
 word_name Holdings = codes "holdings"
 word_name Journal = codes "journal"
@@ -36,13 +37,14 @@ fields_of Confirm = fields.Entry ∷ []
 fields_of Withdraw = fields.Entry ∷ []
 fields_of Families = []
 fields_of Board = fields.Family ∷ []
+fields_of Stamps = fields.Family ∷ []
 fields_of Pair = fields.A ∷ fields.B ∷ []
 fields_of Holdings = fields.Device ∷ []
 fields_of Journal = fields.From ∷ []
 
 -- all words
 abbrev pub words : List Word
-words = Register ∷ Duplicate ∷ Edit ∷ Reconcile ∷ Merge ∷ Relocate ∷ Remove ∷ Confirm ∷ Withdraw ∷ Families ∷ Board ∷ Pair ∷ Holdings ∷ Journal ∷ []
+words = Register ∷ Duplicate ∷ Edit ∷ Reconcile ∷ Merge ∷ Relocate ∷ Remove ∷ Confirm ∷ Withdraw ∷ Families ∷ Board ∷ Stamps ∷ Pair ∷ Holdings ∷ Journal ∷ []
 
 -- the word that a text is
 unfoldable pub word_of : List ℕ → Option Word

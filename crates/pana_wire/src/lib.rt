@@ -19,6 +19,8 @@ mod tap;
 mod tests;
 mod word;
 mod writing;
+#[cfg(test)]
+mod writing_tests;
 
 pub use crate::cutting::split_lines;
 pub use crate::dump::decode_dump;

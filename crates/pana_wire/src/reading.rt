@@ -100,6 +100,9 @@ fn call_in(alloc: Global, word: Word, value: &Value) -> Result<Call, WireFault>
         Word::Board => Query::Board {
             family: number_in(fields[0], value)?,
         },
+        Word::Stamps => Query::Stamps {
+            family: number_in(fields[0], value)?,
+        },
         Word::Pair => Query::Pair {
             a: number_in(fields[0], value)?,
             b: number_in(fields[1], value)?,

@@ -17,13 +17,14 @@ pub enum Word {
     Withdraw,
     Families,
     Board,
+    Stamps,
     Pair,
     Holdings,
     Journal,
 }
 
 /// All words.
-const WORDS: [Word; 14] = [
+const WORDS: [Word; 15] = [
     Word::Register,
     Word::Duplicate,
     Word::Edit,
@@ -35,6 +36,7 @@ const WORDS: [Word; 14] = [
     Word::Withdraw,
     Word::Families,
     Word::Board,
+    Word::Stamps,
     Word::Pair,
     Word::Holdings,
     Word::Journal,
@@ -57,6 +59,7 @@ impl Word {
             Word::Withdraw => "withdraw",
             Word::Families => "families",
             Word::Board => "board",
+            Word::Stamps => "stamps",
             Word::Pair => "pair",
             Word::Holdings => "holdings",
             Word::Journal => "journal",
@@ -79,6 +82,7 @@ impl Word {
             Word::Withdraw => &[Field::Entry],
             Word::Families => &[],
             Word::Board => &[Field::Family],
+            Word::Stamps => &[Field::Family],
             Word::Pair => &[Field::A, Field::B],
             Word::Holdings => &[Field::Device],
             Word::Journal => &[Field::From],

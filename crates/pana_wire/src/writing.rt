@@ -2,10 +2,10 @@ ghost use Rattle.std.specs.Prelude.{◌≡◌, IfOk, OnOk, string_bytes};
 ghost use Rattle.serde_json.specs.View.{view};
 ghost use Rattle.pana_wire.specs.inner.Names.{HasReplyNames};
 ghost use Rattle.pana_wire.specs.Dump.{IsReadBack};
-ghost use Rattle.pana_wire.specs.Reply.{row_data, rows_data, numbers_data, board_data, family_data, families_data, holding_data, holdings_data, refused_data, reply_data, reply_text};
+ghost use Rattle.pana_wire.specs.Reply.{row_data, rows_data, numbers_data, board_data, stamp_data, stamps_data, family_data, families_data, holding_data, holdings_data, refused_data, reply_data, reply_text};
 
 use crate::report_writing::entries_value;
-use pana_hall::{BoardRow, BoardView, Cause, FamilyRow, Holding, Reply};
+use pana_hall::{BoardRow, BoardView, Cause, CopyStamp, FamilyRow, Holding, Reply};
 use serde_json::{Value, json};
 use std::alloc::{AllocError, Global};
 
@@ -36,6 +36,10 @@ fn reply_value(alloc: Global, reply: &Reply) -> Result<Value, AllocError>
         Reply::Board(board) => {
             let board = board_value(alloc, board)?;
             json!(in alloc; { "board": board })
+        }
+        Reply::Stamps(list) => {
+            let stamps = stamps_value(alloc, list.as_slice())?;
+            json!(in alloc; { "stamps": stamps })
         }
         Reply::Pair(rel) => json!(in alloc; { "pair": rel.name() }),
         Reply::Holdings(rows) => {
@@ -99,6 +103,24 @@ fn numbers_value(alloc: Global, numbers: &[u64]) -> Result<Value, AllocError>
         values.push(Value::from(*number))?;
     }
     Ok(Value::Array(values))
+}
+
+#[tactic(auto, unfolding(crate::specs::Reply::stamps_data))]
+fn stamps_value(alloc: Global, stamps: &[CopyStamp]) -> Result<Value, AllocError>
+    ensures { IfOk result (λ value. view value ≡ stamps_data stamps.now) }
+{
+    let mut values = Vec::new(alloc);
+    for stamp in stamps {
+        values.push(stamp_value(alloc, stamp)?)?;
+    }
+    Ok(Value::Array(values))
+}
+
+#[tactic(auto, unfolding(crate::specs::Reply::stamp_data))]
+fn stamp_value(alloc: Global, stamp: &CopyStamp) -> Result<Value, AllocError>
+    ensures { IfOk result (λ value. view value ≡ stamp_data stamp.now) }
+{
+    json!(in alloc; { "copy": stamp.copy, "stamp": stamp.text.as_str() })
 }
 
 #[tactic(auto, unfolding(crate::specs::Reply::families_data))]

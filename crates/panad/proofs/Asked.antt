@@ -22,6 +22,7 @@ unfolding journal_after
 asked journal by query (replies.Done entry) = refl
 asked journal by query (replies.Families rows) = refl
 asked journal by query (replies.Board board) = refl
+asked journal by query (replies.Stamps stamps) = refl
 asked journal by query (replies.Pair rel) = refl
 asked journal by query (replies.Holdings holdings) = refl
 asked journal by query (replies.Journal entries) = refl

@@ -28,7 +28,7 @@ Each line of input to `panad run` is what a device reports, or asks:
     {\"by\":\"desk\",\"do\":\"board\",\"family\":1}
 
 Reports: register, duplicate, edit, reconcile, merge, relocate, remove, confirm,
-withdraw. Questions: families, board, pair, holdings, journal.
+withdraw. Questions: families, board, stamps, pair, holdings, journal.
 
 `panad show` takes such lines and prints tables in place of the answers.
 `panad COMMAND --help` shows an example. README.md has all answers, what is

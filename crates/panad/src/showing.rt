@@ -1,7 +1,7 @@
 //! Lines made as calls on a new hall, and its tables in place of the answers.
 ghost use Rattle.std.specs.Prelude.{◌≡◌, ◌++◌, [], IfOk, OnOk, option_map, string_bytes};
 ghost use Rattle.panad.specs.inner.{texts};
-ghost use Rattle.panad.specs.Show.{AnswersLines, TakesLine, TakesLines, report_of, shown_reason};
+ghost use Rattle.panad.specs.Show.{AnswersLines, status_of, TakesLine, TakesLines, report_of, shown_reason};
 
 use crate::answer::Answer;
 use crate::tables::tables_of;
@@ -78,6 +78,13 @@ fn take_lines(alloc: Global, hall: &mut Hall, lines: &[&[u8]]) -> Result<String,
     Ok(reports)
 }
 
+/// The exit status, where this is reported.
+fn status_of(err: &str) -> u8
+    ensures { result ≡ status_of err.now }
+{
+    if err.is_empty() { 0 } else { 1 }
+}
+
 /// Takes lines as a session does, and returns the tables of the families that they leave, for standard output, and for
 /// standard error a report about each line that was faulty or refused, with its number from 1; the status is 1 where
 /// there is one.
@@ -93,6 +100,6 @@ pub fn show_on(alloc: Global, bytes: &[u8]) -> Result<Answer, AllocError>
     let lines = split_lines(alloc, bytes)?;
     let err = take_lines(alloc, &mut hall, lines.as_slice())?;
     let out = tables_of(alloc, &mut hall)?;
-    let status = if err.is_empty() { 0 } else { 1 };
+    let status = status_of(err.as_str());
     Ok(Answer { out, err, status })
 }

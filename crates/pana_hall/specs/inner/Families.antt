@@ -1,13 +1,16 @@
--- The families of entries as a hall keeps them: a list of numbers, the nth that of entry n's family.
-use Rattle.std.specs.Prelude.{◌≡◌, ℕ, ◌-◌, ◌==◌, List, length, slice_get, unwrap_or, if◌then◌else◌}
-use Rattle.pana_journal.specs.declared.entry.Entry.{Entry}
-use Rattle.pana_hall.specs.Family.{families}
+-- The families as the hall keeps them: a list of those that have begun, and for each entry the position of its family.
+use Rattle.std.specs.Prelude.{ℕ, ◌-◌, ◌==◌, List, Option, None, slice_get, option_and_then, if◌then◌else◌}
+use Rattle.pana_copies.specs.declared.place.Place.{Place}
+use Rattle.pana_hall.specs.declared.kept_family.KeptFamily.{KeptFamily}
 
--- the family of entry n; a number of no entry is its own
-abbrev pub family_at : List ℕ → ℕ → ℕ
-family_at kept n = if n == 0 then 0 else unwrap_or (slice_get kept (n - 1)) n
+-- the position of entry n's family
+abbrev pub position_at : List ℕ → ℕ → Option ℕ
+position_at positions n = if n == 0 then None else slice_get positions (n - 1)
 
--- the list has the families of the journal's entries
-pub record AreFamilies (kept : List ℕ) (journal : List Entry) : Type 0 where
-  pub count : length kept ≡ length journal
-  pub families : (n : ℕ) → family_at kept n ≡ families journal n
+-- the family of entry n
+abbrev pub family_at : List KeptFamily → List ℕ → ℕ → Option KeptFamily
+family_at list positions n = option_and_then (slice_get list) (position_at positions n)
+
+-- where the copy was that the last pending entry of entry n's family moved or removed
+abbrev pub old_place : List KeptFamily → List ℕ → ℕ → Option Place
+old_place list positions n = option_and_then (λ it. option_and_then (λ o. o.place) (slice_get it.old_places.items 0)) (family_at list positions n)

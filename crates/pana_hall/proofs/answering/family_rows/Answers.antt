@@ -1,32 +1,49 @@
-use Rattle.std.proofs.Common.{append-nil, ◌≡◌, ◌∙◌, ◌+◌, ◌++◌, ◌∷◌, [], sym, ap, take, true, false}
+use Rattle.std.specs.Prelude.{◌≡◌, ◌+◌, ◌<◌, List, [], ◌∷◌, ◌++◌, map, take, true, false, cond, nat_lt, length, slice_index_or}
 use Rattle.std.specs.List.{list_any}
-use Rattle.std.proofs.lemmas.List.{take_more}
-use Rattle.pana_hall.specs.Family.{is_register}
+use Rattle.std.proofs.Common.{sym, ap, ◌∙◌, subst, append-nil}
+use Rattle.std.proofs.lemmas.Bool.{lt-ltb, le-ltb}
+use Rattle.std.proofs.lemmas.List.{take_more, map-append}
+use Rattle.pana_family.specs.View.{Kept, Means}
+use Rattle.pana_hall.specs.declared.kept_family.KeptFamily.{KeptFamily}
 use Rattle.pana_hall.specs.Board.{is_of}
-use Rattle.pana_hall.specs.Queries.{family_rows}
-use Rattle.pana_hall.proofs.FamilyRows.{family_rows-push}
+use Rattle.pana_hall.specs.Living.{living}
+use Rattle.pana_hall.specs.Queries.{family_row}
+use Rattle.pana_hall.specs.Sets.{sets_of}
+use Rattle.pana_hall.specs.inner.Kept.{IsFamilyKept}
+use Rattle.pana_hall.proofs.Answered.{rows_of, rows_push, lives_is, each_get}
+use Rattle.pana_hall.proofs.SeenSets.{row_is}
 use Rattle.pana_hall.proofs.answering.family_rows.Goals as goal
-use Rattle.pana_hall.proofs.answering.family_rows.Goals.{then-is_register+then-lives+in_ok-family_row+in_ok-push, then-is_register+else-lives, else-is_register}
+use Rattle.pana_hall.proofs.answering.family_rows.Goals.{then-count-gt0+in_ok-family_row+in_ok-push, else-count-gt0}
 
-pub loop-entry-preserved : goal.loop-entry-preserved
-loop-entry-preserved c =
-    let entries = c.args.entries.now in
-    let copies = c.args.copies.now in
-    let i = c.loop-entry.entry-index in
-    let entry = c.entry-item.result in
-    let more : take (i + 1) entries ≡ take i entries ++ entry ∷ [] = take_more entries i entry c.loop-entry-test.true ∙ ap (λ e. take i entries ++ e ∷ []) (sym c.entry-item.is) in
-    let step = ap (λ l. family_rows l copies) more ∙ family_rows-push (take i entries) copies entry in
-    elim c.if-is_register.branch [
-      | then-is_register+then-lives+in_ok-family_row+in_ok-push w ↦
-          let register : is_register entry.report ≡ true = sym c.is_register.ensures ∙ w.if-is_register.true in
-          let lives : list_any (is_of entry.number) copies ≡ true = sym w.lives.ensures ∙ w.if-lives.true in
-          rw (w.rows-is, step, register, lives) (w.in_ok-push.ensures.items ∙ ap (λ l. l ++ w.in_ok-family_row.field-0 ∷ []) c.loop-entry.invariant
-          ∙ ap (λ r. family_rows (take i entries) copies ++ r ∷ []) w.in_ok-family_row.ensures)
-      | then-is_register+else-lives w ↦
-          let register : is_register entry.report ≡ true = sym c.is_register.ensures ∙ w.if-is_register.true in
-          let lives : list_any (is_of entry.number) copies ≡ false = sym w.lives.ensures ∙ w.if-lives.false in
-          rw (w.rows-is, step, register, lives) (c.loop-entry.invariant ∙ sym (append-nil (family_rows (take i entries) copies)))
-      | else-is_register w ↦
-          let register : is_register entry.report ≡ false = sym c.is_register.ensures ∙ w.if-is_register.false in
-          rw (w.rows-is, step, register) (c.loop-entry.invariant ∙ sym (append-nil (family_rows (take i entries) copies)))
+pub loop-it-preserved : goal.loop-it-preserved
+loop-it-preserved c =
+    let journal = c.args.journal.now.entries in
+    let list = c.args.families.now.list.items in
+    let i = c.loop-it.it-index in
+    let it = c.it-item.result in
+    let items : c.as_slice-it-items.result.now ≡ list = c.as_slice-it-items.ensures in
+    let same : it ≡ slice_index_or list i it = c.it-item.is ∙ ap (λ (l : List KeptFamily). slice_index_or l i it) items in
+    let within : i < length list = subst (λ (l : List KeptFamily). i < length l) items c.loop-it-test.true in
+    let kept_it : IsFamilyKept journal it = subst (IsFamilyKept journal) (sym same) (each_get (IsFamilyKept journal) list i it c.requires.kept.listed.each within) in
+    let more : take (i + 1) list ≡ take i list ++ it ∷ [] = take_more list i it within ∙ ap (λ e. take i list ++ e ∷ []) (sym same) in
+    let copies = living journal in
+    let step : rows_of copies (map (λ k. k.number) (take (i + 1) list)) ≡ rows_of copies (map (λ k. k.number) (take i list)) ++ cond (list_any (is_of it.number) copies) (family_row copies it.number ∷ []) [] =
+    ap (λ (l : List KeptFamily). rows_of copies (map (λ k. k.number) l)) more
+    ∙ ap (rows_of copies) (map-append (λ (k : KeptFamily). k.number) (take i list) (it ∷ []))
+    ∙ rows_push copies (map (λ k. k.number) (take i list)) it.number in
+    let means : Means c.family.result.now (sets_of it.number journal) = subst (λ (f : Kept). Means f (sets_of it.number journal)) (sym c.family.ensures) kept_it.means in
+    let lives : nat_lt 0 c.count.result ≡ list_any (is_of it.number) copies = lives_is journal it c.count.result c.requires.kept.accepted (c.count.ensures.sets _ means) in
+    let numbers = map (λ (k : KeptFamily). k.number) (take i list) in
+    elim c.if-count-gt0.branch [
+      | then-count-gt0+in_ok-family_row+in_ok-push w ↦
+          let some : list_any (is_of it.number) copies ≡ true = sym lives ∙ lt-ltb 0 c.count.result w.if-count-gt0.true in
+          let row : w.in_ok-family_row.field-0 ≡ family_row copies it.number = w.in_ok-family_row.ensures _ kept_it.means ∙ row_is journal it.number c.requires.kept.accepted in
+          ap (λ r. r.items) w.rows-is ∙ w.in_ok-push.ensures.items
+          ∙ ap (λ l. l ++ w.in_ok-family_row.field-0 ∷ []) c.loop-it.invariant
+          ∙ ap (λ r. rows_of copies numbers ++ r ∷ []) row
+          ∙ sym (step ∙ ap (λ b. rows_of copies numbers ++ cond b (family_row copies it.number ∷ []) []) some)
+      | else-count-gt0 w ↦
+          let none : list_any (is_of it.number) copies ≡ false = sym lives ∙ le-ltb 0 c.count.result w.if-count-gt0.false in
+          ap (λ r. r.items) w.rows-is ∙ c.loop-it.invariant
+          ∙ sym (step ∙ ap (λ b. rows_of copies numbers ++ cond b (family_row copies it.number ∷ []) []) none ∙ append-nil (rows_of copies numbers))
     ]

@@ -1,7 +1,7 @@
-use Rattle.std.proofs.Common.{◌≡◌, map, filter, take}
-use Rattle.std.specs.Str.{bytes_eq}
-use Rattle.pana_hall.specs.Queries.{holding}
+use Rattle.std.proofs.Common.{◌≡◌}
+use Rattle.pana_hall.specs.Living.{living}
+use Rattle.pana_hall.proofs.Held.{holdings_to}
 use Rattle.pana_hall.proofs.answering.holdings.Given as goal
 
-abbrev pub invariant-loop-copy : goal.invariant-loop-copy
-invariant-loop-copy l = l.made.items ≡ map holding (filter (λ copy. bytes_eq copy.place.device l.device) (take l.copy-index l.copies))
+abbrev pub invariant-loop-earlier : goal.invariant-loop-earlier
+invariant-loop-earlier l = l.made.items ≡ holdings_to (living l.journal.entries) l.device l.earlier

@@ -1,27 +1,47 @@
-use Rattle.std.proofs.Common.{◌≡◌, ◌∙◌, ◌+◌, ◌++◌, [], ◌∷◌, sym, ap, length, arith}
-use Rattle.std.proofs.lemmas.Grind.{common_steps}
-use Rattle.pana_hall.specs.Family.{begun_or_joined, subject}
-use Rattle.pana_hall.specs.Living.{living}
-use Rattle.pana_hall.specs.inner.Families.{family_at}
-use Rattle.pana_hall.proofs.Recorded.{kept_recorded}
+use Rattle.std.specs.Prelude.{◌≡◌, ℕ, ◌+◌, List, [], ◌∷◌, ◌++◌, length, Some, IsSome}
+use Rattle.std.proofs.Common.{refl, sym, ap, ◌∙◌, subst}
+use Rattle.pana_journal.specs.declared.entry.Entry.{Entry}
+use Rattle.pana_hall.specs.declared.kept_family.KeptFamily.{KeptFamily}
+use Rattle.pana_hall.specs.inner.Kept.{next_entry, AreListed, AreSpots, IsReadyAt, IsKept, position_for}
+use Rattle.pana_hall.proofs.Records.{has_position, ready_for, kept_next}
 use Rattle.pana_hall.proofs.recording.record.Goals as goal
+
+pub unwrap-position-requires : goal.unwrap-position-requires
+unwrap-position-requires c =
+    let families = c.args.families.now in
+    let has = has_position c.args.journal.now.entries c.args.by.now c.args.report families.list.items families.positions.items c.args.copies.now c.requires.kept c.requires.free in
+    subst IsSome (sym (c.position_for.ensures ∙ has.1)) refl
+
+pub change_at-changed-requires : goal.change_at-changed-requires
+change_at-changed-requires c =
+    let families = c.args.families.now in
+    let at : position_for families.list.items families.positions.items c.args.report ≡ Some c.unwrap-position.result = sym c.position_for.ensures ∙ c.unwrap-position.ensures in
+    let ready = ready_for c.args.journal.now.entries c.args.by.now c.args.report families.list.items families.positions.items c.args.copies.now c.requires.kept c.requires.free c.requires.splits c.unwrap-position.result at in
+    record {
+      ready = subst (λ (j : List Entry). IsReadyAt j c.in_ok-by.by c.args.report c.push_position.new.self.list.items c.unwrap-position.result c.args.copies.now) (sym c.reserve.ensures.entries)
+          (subst (λ by. IsReadyAt c.args.journal.now.entries by c.args.report c.push_position.new.self.list.items c.unwrap-position.result c.args.copies.now) (sym c.in_ok-by.ensures)
+          (subst (λ (l : List KeptFamily). IsReadyAt c.args.journal.now.entries c.args.by.now c.args.report l c.unwrap-position.result c.args.copies.now) (sym (ap (λ l. l.items) c.push_position.ensures.list)) ready));
+    }
 
 pub returns : goal.returns
 returns c =
-    let old = c.args.journal.now.entries in
-    let kept = c.args.families.now in
-    let same = c.reserve.ensures.entries in
-    let number : c.append.result ≡ length old + 1 = c.append.ensures.number ∙ ap (λ j. length j + 1) same in
-    let recorded : c.append.new.self.entries ≡ old ++ record { number = c.append.result; by = c.args.by.now; report = c.args.report } ∷ [] = grind (arith, common_steps) in
-    let length_is : c.length.result + 1 ≡ c.append.result = ap (λ n. n + 1) (c.length.ensures.length ∙ ap length same) ∙ sym number in
-    let family : c.of_next-family.result ≡ begun_or_joined (family_at kept) c.append.result (subject c.args.report)
-    = c.of_next-family.ensures ∙ ap (λ n. begun_or_joined (family_at kept) n (subject c.args.report)) length_is in
-    let changed : c.change.new.copies ≡ living (old ++ record { number = c.append.result; by = c.args.by.now; report = c.args.report } ∷ [])
-    = c.in_default.ensures.ok c.args.by.now
-    ∙ ap (λ j. living (j ++ record { number = length j + 1; by = c.args.by.now; report = c.args.report } ∷ [])) (c.as_slice.ensures.entries ∙ same)
-    ∙ ap (λ n. living (old ++ record { number = n; by = c.args.by.now; report = c.args.report } ∷ [])) (sym number) in (
+    let families = c.args.families.now in
+    let journal = c.args.journal.now.entries in
+    let report = c.args.report in
+    let at : position_for families.list.items families.positions.items report ≡ Some c.unwrap-position.result = sym c.position_for.ensures ∙ c.unwrap-position.ensures in
+    let list' = c.change_at-changed.new.list.items in
+    let copies' = c.change_at-changed.new.copies in
+    let same : c.reserve.new.journal.entries ++ next_entry c.reserve.new.journal.entries c.in_ok-by.by report ∷ [] ≡ journal ++ next_entry journal c.args.by.now report ∷ [] =
+    ap (λ (j : List Entry). j ++ next_entry j c.in_ok-by.by report ∷ []) c.reserve.ensures.entries ∙ ap (λ by. journal ++ next_entry journal by report ∷ []) c.in_ok-by.ensures in
+    let listed : AreListed (journal ++ next_entry journal c.args.by.now report ∷ []) list' = subst (λ (j : List Entry). AreListed j list') same c.in_default.ensures.list in
+    let spots : AreSpots (journal ++ next_entry journal c.args.by.now report ∷ []) copies' = subst (λ (j : List Entry). AreSpots j copies') same c.in_default.ensures.spots in
+    let next = kept_next journal c.args.by.now report families.list.items families.positions.items c.args.copies.now c.requires.kept c.requires.free c.unwrap-position.result at list' copies' listed spots in
+    let number : c.append.result ≡ length journal + 1 = c.append.ensures.number ∙ ap (λ (j : List Entry). length j + 1) c.reserve.ensures.entries in
+    let entries : c.append.new.self.entries ≡ journal ++ next_entry journal c.args.by.now report ∷ [] =
+    c.append.ensures.entries ∙ ap (λ (j : List Entry). j ++ record { number = c.append.result; by = c.in_ok-by.by; report = report } ∷ []) c.reserve.ensures.entries
+    ∙ ap (λ n. journal ++ record { number = n; by = c.in_ok-by.by; report = report } ∷ []) number ∙ ap (λ by. journal ++ next_entry journal by report ∷ []) c.in_ok-by.ensures in (
       number,
-      recorded,
-      kept_recorded old c.append.new.self.entries kept c.push.new.self c.args.copies.now c.change.new.copies c.args.by.now c.append.result c.of_next-family.result c.args.report
-          c.requires.kept c.requires.free number recorded c.in_ok-push.ensures.ok family changed,
+      entries,
+      subst (λ (j : List Entry). IsKept j list' c.push_position.new.self.positions.items copies') (sym entries)
+          (subst (λ (ps : List ℕ). IsKept (journal ++ next_entry journal c.args.by.now report ∷ []) list' ps copies') (sym c.in_ok-push_position.ensures.ok) next),
     )

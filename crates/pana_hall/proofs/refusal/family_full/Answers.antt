@@ -1,12 +1,28 @@
-use Rattle.std.proofs.Common.{◌≡◌, ◌∙◌, ap, rules, Some}
-use Rattle.std.specs.Prelude.{nat_le, count_by}
-use Rattle.std.specs.Bool.{then_some}
-use Rattle.pana_hall.specs.declared.cause.Cause.TheVariants.{FamilyFull}
-use Rattle.pana_hall.specs.Living.{copy_in}
-use Rattle.pana_hall.specs.Board.{is_of}
+use Rattle.std.specs.Prelude.{◌≡◌, Some, None, option_map, option_copied}
+use Rattle.std.proofs.Common.{sym, ap, ◌∙◌, subst}
+use Rattle.pana_family.specs.View.{Kept, Means}
+use Rattle.pana_hall.specs.Sets.{sets_of}
+use Rattle.pana_hall.specs.inner.Families.{family_at}
+use Rattle.pana_hall.proofs.Refusals.{found_spot, full_is, copy_has_family, has_family}
 use Rattle.pana_hall.proofs.refusal.family_full.Goals as goal
+
+pub returns-in_err-it : goal.returns-in_err-it
+returns-in_err-it c =
+    let journal = c.args.journal.now.entries in
+    let families = c.args.families.now in
+    let copy = found_spot journal c.args.copies.now c.args.number _ c.requires.spots (sym c.get.ensures ∙ ap (option_map _) c.in_ok-get.was) in
+    let it = copy_has_family journal families.list.items families.positions.items c.args.copies.now c.args.number copy.0 c.requires copy.1 in
+    let none : family_at families.list.items families.positions.items c.args.number ≡ None = sym c.of_entry.ensures ∙ ap option_copied c.in_err-it.was in
+    let odd : None ≡ Some it.0 = sym none ∙ it.1 in
+    absurd (cc)
 
 pub returns : goal.returns
 returns c =
-    let found : copy_in c.args.copies.now c.args.number ≡ Some c.in_ok-copy.copy.now = search rules in
-    rw found (c.then_some.ensures ∙ ap (λ b. then_some b FamilyFull) (c.is_full.ensures ∙ ap (λ family. nat_le 256 (count_by (is_of family) c.args.copies.now)) c.family.ensures))
+    let journal = c.args.journal.now.entries in
+    let families = c.args.families.now in
+    let copy = found_spot journal c.args.copies.now c.args.number _ c.requires.spots (sym c.get.ensures ∙ ap (option_map _) c.in_ok-get.was) in
+    let at : family_at families.list.items families.positions.items c.args.number ≡ Some c.in_ok-it.it.now = sym c.of_entry.ensures ∙ ap option_copied c.in_ok-it.was in
+    let kept_it = has_family journal families.list.items families.positions.items c.args.copies.now c.args.number c.requires c.in_ok-it.it.now at in
+    c.then_some.ensures
+    ∙ full_is journal families.list.items families.positions.items c.args.copies.now c.args.number copy.0 c.in_ok-it.it.now c.count.result c.requires copy.1 at
+    (c.count.ensures.sets _ (subst (λ (f : Kept). Means f (sets_of c.in_ok-it.it.now.number journal)) (sym c.family.ensures) kept_it.0.means))

@@ -1,27 +1,33 @@
-use Rattle.std.proofs.Common.{◌≡◌, ◌∙◌, [], ◌∷◌, sym, ap, rules, Some, None}
-use Rattle.std.specs.Option.{option_copied}
+use Rattle.std.specs.Prelude.{◌≡◌, Some, None, option_copied}
+use Rattle.std.proofs.Common.{sym, ap, ◌∙◌, subst}
+use Rattle.pana_copies.specs.declared.place.Place.{Place}
 use Rattle.pana_journal.specs.Entries.{entry_at}
-use Rattle.pana_hall.specs.Effective.{effective, left_out}
-use Rattle.pana_hall.specs.Refusal.{displaced}
-use Rattle.pana_hall.specs.inner.Places.{place_of}
-use Rattle.pana_hall.proofs.Brought.{has_place, taken_at}
+use Rattle.pana_hall.specs.inner.Families.{old_place}
+use Rattle.pana_hall.specs.inner.Spots.{IsThere, other_there}
+use Rattle.pana_hall.proofs.Refusals.{back_place, taken_from_is}
 use Rattle.pana_hall.proofs.refusal.taken_since.Goals as goal
 
-pub returns-in_err-place : goal.returns-in_err-place
-returns-in_err-place c =
+pub returns-in_err-old_place : goal.returns-in_err-old_place
+returns-in_err-old_place c =
     let journal = c.args.journal.now.entries in
-    let at : entry_at journal c.args.number ≡ Some c.in_ok-entry.entry.now = search rules in
-    let is : displaced c.in_ok-entry.entry.now.report ≡ Some c.in_ok-copy.copy = search rules in
-    let none : place_of c.in_ok-copy.copy (left_out (c.args.number ∷ []) (effective journal)) ≡ None
-    = ap (λ l. place_of c.in_ok-copy.copy (left_out (c.args.number ∷ []) (effective l))) (sym c.as_slice.ensures.entries) ∙ sym c.place_without.ensures ∙ ap option_copied c.in_err-place.was in
-    absurd (has_place c.args.number c.in_ok-copy.copy journal c.in_ok-entry.entry.now c.requires.accepted c.requires.last at is none)
+    let families = c.args.families.now in
+    let at : entry_at journal c.args.number ≡ Some c.in_ok-entry.field-0.now = sym c.entry.ensures.entry ∙ ap option_copied c.in_ok-entry.was in
+    let back = back_place journal families.list.items families.positions.items c.args.copies.now c.args.number c.in_ok-copy.copy c.in_ok-entry.field-0.now c.requires.kept c.requires.last at (sym c.displaced.ensures ∙ c.in_ok-copy.was) in
+    let none : old_place families.list.items families.positions.items c.args.number ≡ None = sym c.old_place.ensures ∙ ap option_copied c.in_err-old_place.was in
+    let odd : None ≡ Some back.0.place = sym none ∙ back.1 in
+    absurd (cc)
 
 pub returns : goal.returns
 returns c =
     let journal = c.args.journal.now.entries in
-    let at : entry_at journal c.args.number ≡ Some c.in_ok-entry.entry.now = search rules in
-    let is : displaced c.in_ok-entry.entry.now.report ≡ Some c.in_ok-copy.copy = search rules in
-    let found : place_of c.in_ok-copy.copy (left_out (c.args.number ∷ []) (effective journal)) ≡ Some c.in_ok-place.place.now
-    = ap (λ l. place_of c.in_ok-copy.copy (left_out (c.args.number ∷ []) (effective l))) (sym c.as_slice.ensures.entries) ∙ sym c.place_without.ensures ∙ ap option_copied c.in_ok-place.was in
-    rw (taken_at c.args.number c.in_ok-copy.copy journal c.in_ok-entry.entry.now c.in_ok-place.place.now c.requires.accepted c.requires.last at is found)
-    (rw (← c.requires.copies) c.taken_from.ensures)
+    let families = c.args.families.now in
+    let at : entry_at journal c.args.number ≡ Some c.in_ok-entry.field-0.now = sym c.entry.ensures.entry ∙ ap option_copied c.in_ok-entry.was in
+    let back = back_place journal families.list.items families.positions.items c.args.copies.now c.args.number c.in_ok-copy.copy c.in_ok-entry.field-0.now c.requires.kept c.requires.last at (sym c.displaced.ensures ∙ c.in_ok-copy.was) in
+    let there : old_place families.list.items families.positions.items c.args.number ≡ Some c.in_ok-old_place.field-0.now = sym c.old_place.ensures ∙ ap option_copied c.in_ok-old_place.was in
+    let both : Some c.in_ok-old_place.field-0.now ≡ Some back.0.place = sym there ∙ back.1 in
+    let same : c.in_ok-old_place.field-0.now ≡ back.0.place = cc in
+    let found = c.taken_from.ensures in
+    found.2
+    ∙ ap (λ n. other_there n found.0) (sym back.3)
+    ∙ taken_from_is journal c.args.copies.now back.0 found.0 c.requires.kept.accepted c.requires.kept.spots (subst (λ (p : Place). IsThere c.args.copies.now p found.0) same found.1)
+    ∙ sym back.2

@@ -5,4 +5,4 @@ use Rattle.pana_event.proofs.tree.EventTree.compare.Goals as goal
 
 pub returns-in-true-true-clause-same : goal.returns-in-true-true-clause-same
 returns-in-true-true-clause-same c =
-    (λ _. same_below _ _ c.node.ensures.normal c.node-2.ensures.normal c.node.ensures.shallow c.node-2.ensures.shallow (c.in-true-true.ensures.0 refl) (c.in-true-true.ensures'.0 refl), λ _. refl)
+    (λ _. same_below _ _ c.node.ensures.normal c.node-2.ensures.normal c.node.ensures.shallow c.node-2.ensures.shallow (c.in-true-true.ensures.levels.0 refl) (c.in-true-true.ensures'.levels.0 refl), λ _. refl)

@@ -1,0 +1,26 @@
+-- Where copies are kept.
+use Rattle.std.specs.Prelude.{ℕ, ◌==◌, List, Option, option_map}
+use Rattle.std.specs.Map.{lookup}
+use Rattle.pana_copies.specs.declared.place.Place.{Place}
+
+-- the family of a copy, and the place where it is kept
+pub record Spot : Type 0 where
+  pub family : ℕ
+  pub place : Place
+
+-- a table of copies: the spot of each by its number, in no order that counts, and how many more copies need no memory
+pub record Table : Type 0 where
+  pub spots : List (ℕ × Spot)
+  pub room : ℕ
+
+-- the spot of the copy with this number, if it is kept
+unfoldable pub kept : Table → ℕ → Option Spot
+kept table copy = lookup (λ number. copy == number) table.spots
+
+-- the place where the copy with this number is kept
+abbrev pub place_of : Table → ℕ → Option Place
+place_of table copy = option_map (λ spot. spot.place) (kept table copy)
+
+-- the same spot at another place
+abbrev pub placed : Place → Option Spot → Option Spot
+placed place spot = option_map (λ s. record { family = s.family; place = place }) spot

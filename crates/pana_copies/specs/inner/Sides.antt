@@ -1,0 +1,19 @@
+-- Two lists side by side as one list of spots.
+use Rattle.std.specs.Prelude.{◌≡◌, ℕ, nat_eq, List, [], ◌∷◌, length}
+use Rattle.std.specs.List.{IsDistinct}
+use Rattle.std.specs.Map.{keys_of}
+use Rattle.pana_copies.specs.declared.place.Place.{Place}
+use Rattle.pana_copies.specs.Places.{same_place}
+use Rattle.pana_copies.specs.Spots.{Spot}
+
+-- the spots of copies with their families, the place of each at the same index
+abbrev pub spots_of : List (ℕ × ℕ) → List Place → List (ℕ × Spot)
+spots_of [] places = []
+spots_of (e ∷ families) [] = []
+spots_of (e ∷ families) (place ∷ places) = (e.0, record { family = e.1; place = place }) ∷ spots_of families places
+
+-- as many places as copies, and neither a copy nor a place twice
+pub record IsEven (families : List (ℕ × ℕ)) (places : List Place) : Type 0 where
+  pub long : length places ≡ length families
+  pub copies_apart : IsDistinct nat_eq (keys_of families)
+  pub places_apart : IsDistinct same_place places

@@ -1,0 +1,137 @@
+//! Where the living copies are kept.
+#![tactic(auto, unfolding(crate::specs::Spots::kept))]
+
+ghost use Rattle.std.specs.Prelude.{◌≡◌, ℕ, ◌+◌, ◌<◌, ◌≤◌, ◌==◌, ◌↔◌, None, Some, IsSome, OnOk, if◌then◌else◌, length, nat_eq, option_map};
+ghost use Rattle.std.specs.List.{IsDistinct};
+ghost use Rattle.std.specs.Map.{keys_of};
+ghost use Rattle.pana_copies.specs.Spots.{kept, place_of, placed};
+
+use crate::place::Place;
+use indexmap::{IndexMap, IndexSet};
+use std::alloc::{AllocError, Global};
+use std::marker::Model;
+
+/// The places of living copies, each copy with its family: no copy twice, and no place twice.
+///
+/// A look-up, by a copy or by a place, takes O(1) time on average, and so does each change.
+#[derive(Drop)]
+pub struct CopyTable {
+    // The place of the copy at an index is at the same index of the other list, so it is kept once.
+    families: IndexMap<u64, u64>,
+    places: IndexSet<Place>,
+}
+
+impl Model for CopyTable {
+    ghost use Rattle.std.specs.Prelude.{min};
+    ghost use Rattle.indexmap.specs.IndexMap.{spare};
+    ghost use Rattle.indexmap.specs.IndexSet.{spare as spare_places};
+    ghost use Rattle.pana_copies.specs.Spots.{Table};
+    ghost use Rattle.pana_copies.specs.inner.Sides.{spots_of, IsEven};
+
+    ghost Value = { Table };
+
+    ghost view = { λ a. record { spots = spots_of a.families.entries a.places.keys; room = min (spare a.families) (spare_places a.places) } };
+
+    ghost invariant = { λ a. IsEven a.families.entries a.places.keys };
+}
+
+/// The family of a copy, and the place where it is kept.
+#[derive(Clone, Copy)]
+pub struct KeptCopy<'a> {
+    pub family: u64,
+    pub place: &'a Place,
+}
+
+impl CopyTable {
+    /// A table of no copies. Takes no memory.
+    pub fn new(alloc: Global) -> CopyTable
+        ensures { (number : ℕ) → kept result number ≡ None }
+    {
+        CopyTable {
+            families: IndexMap::new(alloc),
+            places: IndexSet::new(alloc),
+        }
+    }
+
+    /// How many copies are kept. Takes no memory; O(1).
+    pub fn len(&self) -> usize
+        ensures len { result ≡ length self.now.spots }
+        ensures once { IsDistinct nat_eq (keys_of self.now.spots) }
+    {
+        self.families.len()
+    }
+
+    /// The family and the place of a copy, if it is kept. Takes no memory; O(1) on average.
+    pub fn get(&self, copy: u64) -> Option<KeptCopy<'_>>
+        ensures { option_map (λ found. record { family = found.family; place = found.place.now }) result ≡ kept self.now copy }
+    {
+        let (index, _, family) = self.families.get_full(&copy)?;
+        let place = self.places.get_index(index)?;
+        Some(KeptCopy {
+            family: *family,
+            place,
+        })
+    }
+
+    /// The copy that is kept at a place. Takes no memory; O(1) on average.
+    pub fn at(&self, place: &Place) -> Option<u64>
+        ensures { (copy : ℕ) → (result ≡ Some copy) ↔ (place_of self.now copy ≡ Some place.now) }
+    {
+        let (index, _) = self.places.get_full(place)?;
+        let (copy, _) = self.families.get_index(index)?;
+        Some(*copy)
+    }
+
+    /// Makes room for one more copy, so that the next `insert` or `relocate` needs no memory.
+    ///
+    /// # Errors
+    ///
+    /// `AllocError` where an allocation failed.
+    pub fn reserve(&mut self) -> Result<(), AllocError>
+        ensures room { OnOk result (0 < self.new.room) }
+        ensures same { (number : ℕ) → kept self.new number ≡ kept self.old number }
+    {
+        self.families.reserve(1)?;
+        self.places.reserve(1)
+    }
+
+    /// Keeps one more copy, in room that was made by `reserve`. Takes no memory; O(1) on average.
+    pub fn insert(&mut self, copy: u64, family: u64, place: Place)
+        requires room { 0 < self.old.room }
+        requires new { kept self.old copy ≡ None }
+        requires free { (number : ℕ) → ¬ (place_of self.old number ≡ Some place) }
+        ensures spots { (number : ℕ) → kept self.new number ≡ (if number == copy then Some (record { family = family; place = place }) else kept self.old number) }
+        ensures room { self.old.room ≤ self.new.room + 1 }
+    {
+        self.families.insert(copy, family).unwrap();
+        self.places.insert(place).unwrap();
+    }
+
+    /// Keeps a copy at another place, in room that was made by `reserve`, and returns the place where it was.
+    /// Takes no memory; O(1) on average.
+    pub fn relocate(&mut self, copy: u64, place: Place) -> Place
+        requires room { 0 < self.old.room }
+        requires lives { IsSome (kept self.old copy) }
+        requires free { (number : ℕ) → place_of self.old number ≡ Some place → number ≡ copy }
+        ensures spots { (number : ℕ) → kept self.new number ≡ (if number == copy then placed place (kept self.old copy) else kept self.old number) }
+        ensures old { Some result ≡ place_of self.old copy }
+        ensures room { self.old.room ≤ self.new.room + 1 }
+    {
+        let family = self.get(copy).unwrap().family;
+        let old = self.remove(copy);
+        self.insert(copy, family, place);
+        old
+    }
+
+    /// Keeps a copy no longer, and returns the place where it was. Takes no memory; O(1) on average.
+    pub fn remove(&mut self, copy: u64) -> Place
+        requires lives { IsSome (kept self.old copy) }
+        ensures spots { (number : ℕ) → kept self.new number ≡ (if number == copy then None else kept self.old number) }
+        ensures old { Some result ≡ place_of self.old copy }
+        ensures room { self.old.room ≤ self.new.room }
+    {
+        let index = self.families.get_index_of(&copy).unwrap();
+        self.families.swap_remove_index(index).unwrap();
+        self.places.swap_remove_index(index).unwrap()
+    }
+}

@@ -1,0 +1,142 @@
+-- What follows for a family from the sets that it stands for. A crate above needs these and the words of the table alone.
+use Rattle.std.specs.Prelude.{◌↔◌, ◌+◌, fold, cond, None, Some, ◌≡◌, ℕ, Bool, true, ◌==◌, ◌||◌, ◌&&◌, List, [], ◌∷◌, Option, length, map, slice_get, false}
+use Rattle.std.proofs.Common.{refl, subst, sym, ap, ◌∙◌, inl, inr, arith}
+use Rattle.pana_family.specs.declared.row.StampRow.{StampRow}
+use Rattle.pana_family.specs.declared.family.Family.{Family}
+use Rattle.pana_family.specs.declared.undo.Undo.{Undo}
+use Rattle.pana_family.specs.Family.{history}
+use Rattle.pana_family.specs.Laws.{IsSubset}
+use Rattle.pana_family.specs.Holders.{is_copy, is_held}
+use Rattle.pana_family.specs.Table.{Known, In, is_in, copies_of, set_in, held_by, AreHeld}
+use Rattle.pana_family.specs.Stands.{AreSame, StandsFor}
+use Rattle.pana_family.specs.Rows.{lives, copy_rows}
+use Rattle.pana_family.specs.inner.Making.{held_rows}
+use Rattle.pana_family.specs.Kept.{IsKept}
+use Rattle.pana_family.specs.Sets.{Sets, Before, IsAbove, Pends, PendsLast}
+use Rattle.pana_family.specs.View.{Means, Undone, StandBefore, Undoes, UndoesFirst, is_living, IsNew, IsPending, IsLast, copy_count}
+use Rattle.pana_family.proofs.Members.{of_row, of_known, same_length}
+use Rattle.pana_family.proofs.Changes.{below_is_subset}
+use Rattle.pana_family.proofs.Held.{one_known, set_of}
+
+same_living : (rows : List StampRow) (table : List Known) (copy : ℕ) → AreSame rows table → lives rows copy ≡ is_in table copy
+same_living [] [] copy same = refl
+same_living [] (t ∷ table) copy same = absurd same
+same_living (r ∷ rows) [] copy same = absurd same
+same_living (r ∷ rows) (t ∷ table) copy same =
+    ap (λ (k : ℕ). (k == copy && is_copy r.holder) || lives rows copy) same.0
+    ∙ ap (λ (o : Option ℕ). (t.copy == copy && is_copy o) || lives rows copy) same.2
+    ∙ ap (λ (b : Bool). (t.copy == copy && is_copy t.holder) || b) (same_living rows table copy same.3)
+
+same_pending : (n : ℕ) (undo : List Undone) (before : List Before) → StandBefore undo before → Pends n before → Undoes n undo
+same_pending n [] [] stands pends = absurd pends
+same_pending n [] (b ∷ before) stands pends = absurd stands
+same_pending n (u ∷ undo) [] stands pends = absurd pends
+same_pending n (u ∷ undo) (b ∷ before) stands pends = elim pends [ inl e ↦ inl (stands.0 ∙ e) | inr p ↦ inr (same_pending n undo before stands.2 p) ]
+
+same_last : (n : ℕ) (undo : List Undone) (before : List Before) → StandBefore undo before → PendsLast n before → UndoesFirst n undo
+same_last n [] [] stands pends = absurd pends
+same_last n [] (b ∷ before) stands pends = absurd stands
+same_last n (u ∷ undo) [] stands pends = absurd pends
+same_last n (u ∷ undo) (b ∷ before) stands pends = stands.0 ∙ pends
+
+pub living_by_sets : (f : Family) (sets : Sets) (copy : ℕ) → Means f sets → is_living f copy ≡ is_in sets.table copy
+unfolding Means is_living
+living_by_sets f sets copy means = same_living f.rows sets.table copy means.rows.same
+
+pub new_by_sets : (f : Family) (sets : Sets) (n : ℕ) → Means f sets → IsAbove n sets.table → IsNew n f
+unfolding Means IsNew
+new_by_sets f sets n means above = λ r i. let t = of_row f.rows sets.table means.rows.same r i in let h = above t.0 t.1 in (omega (arith, t.2, h.0), omega (arith, t.3, h.1))
+
+pub pending_by_sets : (f : Family) (sets : Sets) (n : ℕ) → Means f sets → Pends n sets.before → IsPending n f
+unfolding Means IsPending
+pending_by_sets f sets n means pends = same_pending n f.undo sets.before means.undo pends
+
+pub last_by_sets : (f : Family) (sets : Sets) (n : ℕ) → Means f sets → PendsLast n sets.before → IsLast n f
+unfolding Means IsLast
+last_by_sets f sets n means pends = same_last n f.undo sets.before means.undo pends
+
+held_from : (copy : ℕ) (s : ℕ) (rows : List StampRow) (table : List Known) → AreSame rows table
+    → fold (λ a r. a + cond (is_held copy r.holder) 1 0) s rows ≡ fold (λ a t. a + cond (is_held copy t.holder) 1 0) s table
+held_from copy s [] [] same = refl
+held_from copy s [] (t ∷ table) same = absurd same
+held_from copy s (r ∷ rows) [] same = absurd same
+held_from copy s (r ∷ rows) (t ∷ table) same =
+    held_from copy (s + cond (is_held copy r.holder) 1 0) rows table same.3
+    ∙ ap (λ (o : Option ℕ). fold (λ a k. a + cond (is_held copy k.holder) 1 0) (s + cond (is_held copy o) 1 0) table) same.2
+
+pub same_held : (copy : ℕ) (rows : List StampRow) (table : List Known) → AreSame rows table → held_rows copy rows ≡ held_by copy table
+same_held copy rows table same = held_from copy 0 rows table same
+
+-- what holds of the table that is kept holds of each that the rows stand for
+pub all_held : (rows : List StampRow) (table : List Known) → IsKept rows → StandsFor rows table → AreHeld table
+all_held rows table k st t h i e =
+    let r = of_known rows table st.same t i in
+    let s = of_row rows k.table k.stands.same r.0 r.1 in
+    let by = k.held s.0 h s.1 (sym s.4 ∙ r.4 ∙ e) in
+    let q = of_known rows k.table k.stands.same by.by by.living in
+    let u = of_row rows table st.same q.0 q.1 in
+    let up = k.rising in
+    let below = below_is_subset rows table r.0 q.0 st r.1 q.1 in
+    let within = below_is_subset rows k.table r.0 q.0 k.stands r.1 q.1 in
+    let own : (l : List Known) (same : AreSame rows l) (w : StampRow) (x : Known) → In w rows → In x l → w.copy ≡ x.copy → set_in l w.copy ≡ x.set =
+    λ l same w x a b f. ap (set_in l) f ∙ set_of l x (one_known 0 rows l same up) b in
+    record {
+      by = u.0;
+      living = u.1;
+      named = sym u.2 ∙ q.2 ∙ by.named;
+      free = sym u.4 ∙ q.4 ∙ by.free;
+      lacks = λ w. by.lacks (subst (λ (xs : List ℕ). IsSubset xs by.by.set) (own k.table k.stands.same r.0 s.0 r.1 s.1 s.2)
+          (subst (λ (xs : List ℕ). IsSubset (set_in k.table r.0.copy) xs) (own k.table k.stands.same q.0 by.by q.1 by.living q.2)
+          (within.0 (below.1 (subst (λ (xs : List ℕ). IsSubset xs (set_in table q.0.copy)) (sym (own table st.same r.0 t r.1 i r.2))
+          (subst (λ (xs : List ℕ). IsSubset t.set xs) (sym (own table st.same q.0 u.0 q.1 u.1 u.2)) w))))));
+    }
+
+pub same_pends : (n : ℕ) (undo : List Undone) (before : List Before) → StandBefore undo before → Undoes n undo ↔ Pends n before
+same_pends n [] [] stands = ((λ p. p), λ p. p)
+same_pends n [] (b ∷ before) stands = absurd stands
+same_pends n (u ∷ undo) [] stands = absurd stands
+same_pends n (u ∷ undo) (b ∷ before) stands =
+    let rest = same_pends n undo before stands.2 in
+    ((λ p. elim p [ inl e ↦ inl (sym stands.0 ∙ e) | inr q ↦ inr (rest.0 q) ]), λ p. elim p [ inl e ↦ inl (stands.0 ∙ e) | inr q ↦ inr (rest.1 q) ])
+
+-- The copies of rows and of a table are the same.
+
+pub same_copies : (rows : List StampRow) (table : List Known) → AreSame rows table → AreSame (copy_rows rows) (copies_of table)
+same_copies [] [] same = tt
+same_copies [] (t ∷ table) same = absurd same
+same_copies (r ∷ rows) [] same = absurd same
+same_copies (r ∷ rows) (t ∷ table) same =
+    let rest : AreSame (copy_rows rows) (copies_of table) = same_copies rows table same.3 in
+    subst (λ (b : Bool). AreSame (copy_rows (r ∷ rows)) (cond b (t ∷ copies_of table) (copies_of table))) (ap is_copy same.2)
+    (elim (is_copy r.holder) as (λ b. AreSame (cond b (r ∷ copy_rows rows) (copy_rows rows)) (cond b (t ∷ copies_of table) (copies_of table))) [
+      | true ↦ (same.0, same.1, same.2, rest)
+      | false ↦ rest
+    ])
+
+same_numbers : (rows : List StampRow) (table : List Known) → AreSame rows table → map (λ r. r.copy) rows ≡ map (λ t. t.copy) table
+same_numbers [] [] same = refl
+same_numbers [] (t ∷ table) same = absurd same
+same_numbers (r ∷ rows) [] same = absurd same
+same_numbers (r ∷ rows) (t ∷ table) same = ap (λ (k : ℕ). k ∷ map (λ q. q.copy) rows) same.0 ∙ ap (λ l. t.copy ∷ l) (same_numbers rows table same.3)
+
+pub copy_numbers : (rows : List StampRow) (table : List Known) → AreSame rows table → map (λ r. r.copy) (copy_rows rows) ≡ map (λ t. t.copy) (copies_of table)
+copy_numbers rows table same = same_numbers (copy_rows rows) (copies_of table) (same_copies rows table same)
+
+pub count_by_sets : (f : Family) (sets : Sets) → Means f sets → copy_count f ≡ length (copies_of sets.table)
+unfolding Means copy_count
+count_by_sets f sets means = sym (same_length (copy_rows f.rows) (copies_of sets.table) (same_copies f.rows sets.table means.rows.same))
+
+-- The last pending entry.
+
+pub first_pends : (rows : List StampRow) (us : List Undo) (u : Undo) (before : List Before) (e : ℕ) → slice_get us 0 ≡ Some u → StandBefore (history rows us) before → (Some u.entry ≡ Some e) ↔ PendsLast e before
+first_pends rows [] u before e is st = absurd (cc is)
+first_pends rows (v ∷ us) u [] e is st = absurd st
+first_pends rows (v ∷ us) u (b ∷ before) e is st =
+    let same : v ≡ u = cc is in
+    let entry : u.entry ≡ b.entry = ap (λ (w : Undo). w.entry) (sym same) ∙ st.0 in
+    ((λ x. let found : u.entry ≡ e = cc x in sym entry ∙ found), λ p. ap Some (entry ∙ p))
+
+pub none_pends : (rows : List StampRow) (us : List Undo) (before : List Before) (e : ℕ) → slice_get us 0 ≡ None → StandBefore (history rows us) before → ◌≡◌ {A = Option ℕ} None (Some e) ↔ PendsLast e before
+none_pends rows (v ∷ us) before e is st = absurd (cc is)
+none_pends rows [] (b ∷ before) e is st = absurd st
+none_pends rows [] [] e is st = ((λ x. absurd (cc x)), λ p. absurd p)

@@ -1,0 +1,401 @@
+-- Rows by their places, and rising rows after a change.
+use Rattle.std.specs.Prelude.{◌≡◌, ◌≢◌, ℕ, ◌≤◌, ◌<◌, ◌+◌, Bool, true, false, ◌||◌, ◌==◌, cond, not, List, [], ◌∷◌, ◌++◌, length, Option, Some, None, position, nat_lt, nat_le, max}
+use Rattle.std.specs.List.{remove, insert, position_or_len, list_any}
+use Rattle.std.proofs.Common.{refl, sym, ap, subst, ◌∙◌, inl, inr, arith, get_or, set, zero, suc}
+use Rattle.std.proofs.lemmas.Bool.{cases_Bool, eq-eqb, ne_eqb, eqb-true, lt-ltb, le-ltb, leb-true, leb-false, ltb-false}
+use Rattle.pana_id.specs.Id.{depth}
+use Rattle.pana_family.specs.declared.row.StampRow.{StampRow}
+use Rattle.pana_family.specs.Table.{In}
+use Rattle.pana_family.specs.Holders.{is_copy}
+use Rattle.pana_family.specs.Rows.{IsRising, dropped, there, put_back, id_in, row_in, renewed, deepest}
+use Rattle.pana_family.specs.Rows.{replaced}
+use Rattle.pana_family.proofs.Members.{above_low}
+
+-- where a copy's row stands
+abbrev pub place_in : ℕ → List StampRow → ℕ
+place_in copy rows = position_or_len (λ row. row.copy == copy) rows
+
+pub place_within : (copy : ℕ) (rows : List StampRow) → there rows copy ≡ true → place_in copy rows < length rows
+place_within copy [] here = absurd (cc)
+place_within copy (r ∷ rows) here =
+    elim (r.copy == copy) as (λ b. (b || there rows copy) ≡ true → cond (not b) (1 + place_in copy rows) 0 < suc (length rows)) [
+      | true ↦ λ h. omega arith
+      | false ↦ λ h. let rest : place_in copy rows < length rows = place_within copy rows h in omega arith
+    ] here
+
+pub place_found : (copy : ℕ) (rows : List StampRow) → there rows copy ≡ true → position (λ row. row.copy == copy) rows ≡ Some (place_in copy rows)
+place_found copy rows here = ap (λ b. cond b (Some (place_in copy rows)) None) (lt-ltb (place_in copy rows) (length rows) (place_within copy rows here))
+
+pub place_holds : (copy : ℕ) (rows : List StampRow) (d : StampRow) → there rows copy ≡ true → (get_or rows (place_in copy rows) d).copy ≡ copy
+place_holds copy [] d here = absurd (cc)
+place_holds copy (r ∷ rows) d here =
+    let next : 1 + place_in copy rows ≡ suc (place_in copy rows) = omega arith in
+    elim (r.copy == copy) as (λ b. (r.copy == copy) ≡ b → (b || there rows copy) ≡ true → (get_or (r ∷ rows) (cond (not b) (1 + place_in copy rows) 0) d).copy ≡ copy) [
+      | true ↦ λ w h. eqb-true r.copy copy w
+      | false ↦ λ w h. rw next (place_holds copy rows d h)
+    ] refl here
+
+pub in_at : (rows : List StampRow) (i : ℕ) (d : StampRow) → i < length rows → In (get_or rows i d) rows
+in_at [] i d within = absurd (omega arith)
+in_at (r ∷ rows) zero d within = inl refl
+in_at (r ∷ rows) (suc i) d within = inr (in_at rows i d (omega arith))
+
+pub in_read : (rows : List StampRow) (i : ℕ) (r : StampRow) → i < length rows → r ≡ get_or rows i r → In r rows
+in_read rows i r within e = subst (λ (q : StampRow). In q rows) (sym e) (in_at rows i r within)
+
+-- a copy that there has a row, and a row's copy there
+pub living_row : (copy : ℕ) (rows : List StampRow) → there rows copy ≡ true → (r : StampRow) × In r rows × (r.copy ≡ copy)
+living_row copy [] here = absurd (cc)
+living_row copy (r ∷ rows) here =
+    elim (r.copy == copy) as (λ b. (r.copy == copy) ≡ b → (b || there rows copy) ≡ true → (q : StampRow) × In q (r ∷ rows) × (q.copy ≡ copy)) [
+      | true ↦ λ w h. (r, inl refl, eqb-true r.copy copy w)
+      | false ↦ λ w h. let m = living_row copy rows h in (m.0, inr m.1, m.2)
+    ] refl here
+
+pub replaced_none : (low c : ℕ) (x : StampRow) (rows : List StampRow) → IsRising low rows → c < low → replaced c x rows ≡ rows
+replaced_none low c x [] up less = refl
+replaced_none low c x (r ∷ rows) up less =
+    let other : (r.copy == c) ≡ false = ne_eqb r.copy c (λ e. omega (arith, up.0, e)) in
+    ap (λ (b : Bool). cond b x r ∷ replaced c x rows) other ∙ ap (λ (l : List StampRow). r ∷ l) (replaced_none (r.copy + 1) c x rows up.1 (omega (arith, up.0)))
+
+pub dropped_none : (low c : ℕ) (rows : List StampRow) → IsRising low rows → c < low → dropped c rows ≡ rows
+dropped_none low c [] up less = refl
+dropped_none low c (r ∷ rows) up less =
+    let other : (r.copy == c) ≡ false = ne_eqb r.copy c (λ e. omega (arith, up.0, e)) in
+    ap (λ (b : Bool). cond b (dropped c rows) (r ∷ dropped c rows)) other ∙ ap (λ (l : List StampRow). r ∷ l) (dropped_none (r.copy + 1) c rows up.1 (omega (arith, up.0)))
+
+pub set_is : (low c i : ℕ) (x d : StampRow) (rows : List StampRow) → IsRising low rows → i < length rows → (get_or rows i d).copy ≡ c → set rows i x ≡ replaced c x rows
+set_is low c i x d [] up within at = absurd (omega arith)
+set_is low c zero x d (r ∷ rows) up within at =
+    ap (λ (l : List StampRow). x ∷ l) (sym (replaced_none (r.copy + 1) c x rows up.1 (omega (arith, at))))
+    ∙ ap (λ (b : Bool). cond b x r ∷ replaced c x rows) (sym (eq-eqb r.copy c at))
+set_is low c (suc i) x d (r ∷ rows) up within at =
+    let later : r.copy + 1 ≤ c = omega (arith, at, above_low (r.copy + 1) rows (get_or rows i d) up.1 (in_at rows i d (omega arith))) in
+    ap (λ (l : List StampRow). r ∷ l) (set_is (r.copy + 1) c i x d rows up.1 (omega arith) at)
+    ∙ ap (λ (b : Bool). cond b x r ∷ replaced c x rows) (sym (ne_eqb r.copy c (λ e. omega (arith, later, e))))
+
+pub remove_is : (low c i : ℕ) (d : StampRow) (rows : List StampRow) → IsRising low rows → i < length rows → (get_or rows i d).copy ≡ c → remove rows i ≡ dropped c rows
+remove_is low c i d [] up within at = absurd (omega arith)
+remove_is low c zero d (r ∷ rows) up within at =
+    sym (dropped_none (r.copy + 1) c rows up.1 (omega (arith, at)))
+    ∙ ap (λ (b : Bool). cond b (dropped c rows) (r ∷ dropped c rows)) (sym (eq-eqb r.copy c at))
+remove_is low c (suc i) d (r ∷ rows) up within at =
+    let later : r.copy + 1 ≤ c = omega (arith, at, above_low (r.copy + 1) rows (get_or rows i d) up.1 (in_at rows i d (omega arith))) in
+    ap (λ (l : List StampRow). r ∷ l) (remove_is (r.copy + 1) c i d rows up.1 (omega arith) at)
+    ∙ ap (λ (b : Bool). cond b (dropped c rows) (r ∷ dropped c rows)) (sym (ne_eqb r.copy c (λ e. omega (arith, later, e))))
+
+pub rising_lower : (low m : ℕ) (rows : List StampRow) → m ≤ low → IsRising low rows → IsRising m rows
+rising_lower low m [] less up = tt
+rising_lower low m (r ∷ rows) less up = (omega (arith, up.0), up.1)
+
+pub rising_replaced : (low c : ℕ) (x : StampRow) (rows : List StampRow) → IsRising low rows → x.copy ≡ c → IsRising low (replaced c x rows)
+rising_replaced low c x [] up named = tt
+rising_replaced low c x (r ∷ rows) up named =
+    let rest : IsRising (r.copy + 1) (replaced c x rows) = rising_replaced (r.copy + 1) c x rows up.1 named in
+    elim (r.copy == c) as (λ b. (r.copy == c) ≡ b → IsRising low (cond b x r ∷ replaced c x rows)) [
+      | true ↦ λ w. let same : r.copy ≡ x.copy = eqb-true r.copy c w ∙ sym named in (omega (arith, up.0, same), subst (λ (k : ℕ). IsRising (k + 1) (replaced c x rows)) same rest)
+      | false ↦ λ w. (up.0, rest)
+    ] refl
+
+pub rising_dropped : (low c : ℕ) (rows : List StampRow) → IsRising low rows → IsRising low (dropped c rows)
+rising_dropped low c [] up = tt
+rising_dropped low c (r ∷ rows) up =
+    let rest : IsRising (r.copy + 1) (dropped c rows) = rising_dropped (r.copy + 1) c rows up.1 in
+    elim (r.copy == c) as (λ b. IsRising low (cond b (dropped c rows) (r ∷ dropped c rows))) [
+      | true ↦ rising_lower (r.copy + 1) low (dropped c rows) (omega (arith, up.0)) rest
+      | false ↦ (up.0, rest)
+    ]
+
+pub rising_pushed : (low : ℕ) (y : StampRow) (rows : List StampRow) → IsRising low rows → low ≤ y.copy → ((r : StampRow) → In r rows → r.copy < y.copy) → IsRising low (rows ++ y ∷ [])
+rising_pushed low y [] up least less = (least, tt)
+rising_pushed low y (r ∷ rows) up least less =
+    (up.0, rising_pushed (r.copy + 1) y rows up.1 (omega (arith, less r (inl refl))) (λ q i. less q (inr i)))
+
+pub length_replaced : (c : ℕ) (x : StampRow) (rows : List StampRow) → length (replaced c x rows) ≡ length rows
+length_replaced c x [] = refl
+length_replaced c x (r ∷ rows) = ap suc (length_replaced c x rows)
+
+pub length_dropped : (c : ℕ) (rows : List StampRow) → length (dropped c rows) ≤ length rows
+length_dropped c [] = omega arith
+length_dropped c (r ∷ rows) =
+    let rest : length (dropped c rows) ≤ length rows = length_dropped c rows in
+    elim (r.copy == c) as (λ b. length (cond b (dropped c rows) (r ∷ dropped c rows)) ≤ suc (length rows)) [
+      | true ↦ omega arith
+      | false ↦ omega arith
+    ]
+
+-- a row put back
+pub replaced_back : (c : ℕ) (r x : StampRow) (rows : List StampRow) → x.copy ≡ c → ((q : StampRow) → In q rows → q.copy ≡ c → q ≡ r) → replaced c r (replaced c x rows) ≡ rows
+replaced_back c r x [] named one = refl
+replaced_back c r x (q ∷ rows) named one =
+    let rest : replaced c r (replaced c x rows) ≡ rows = replaced_back c r x rows named (λ k i. one k (inr i)) in
+    elim (q.copy == c) as (λ b. (q.copy == c) ≡ b → replaced c r (cond b x q ∷ replaced c x rows) ≡ q ∷ rows) [
+      | true ↦ λ w. ap (λ (b : Bool). cond b r x ∷ replaced c r (replaced c x rows)) (eq-eqb x.copy c named)
+          ∙ ap (λ (l : List StampRow). r ∷ l) rest ∙ ap (λ (k : StampRow). k ∷ rows) (sym (one q (inl refl) (eqb-true q.copy c w)))
+      | false ↦ λ w. ap (λ (b : Bool). cond b r q ∷ replaced c r (replaced c x rows)) w ∙ ap (λ (l : List StampRow). q ∷ l) rest
+    ] refl
+
+-- the last row taken off again
+pub dropped_last : (y : StampRow) (rows : List StampRow) → ((r : StampRow) → In r rows → r.copy ≢ y.copy) → dropped y.copy (rows ++ y ∷ []) ≡ rows
+dropped_last y [] other = ap (λ (b : Bool). cond b [] (y ∷ [])) (eq-eqb y.copy y.copy refl)
+dropped_last y (r ∷ rows) other =
+    ap (λ (b : Bool). cond b (dropped y.copy (rows ++ y ∷ [])) (r ∷ dropped y.copy (rows ++ y ∷ []))) (ne_eqb r.copy y.copy (other r (inl refl)))
+    ∙ ap (λ (l : List StampRow). r ∷ l) (dropped_last y rows (λ q i. other q (inr i)))
+
+-- replacing one row and dropping another
+pub dropped_replaced : (c h : ℕ) (x : StampRow) (rows : List StampRow) → x.copy ≡ h → h ≢ c → dropped c (replaced h x rows) ≡ replaced h x (dropped c rows)
+dropped_replaced c h x [] named differ = refl
+dropped_replaced c h x (r ∷ rows) named differ =
+    let rest : dropped c (replaced h x rows) ≡ replaced h x (dropped c rows) = dropped_replaced c h x rows named differ in
+    elim (r.copy == h) as (λ b. (r.copy == h) ≡ b → dropped c (cond b x r ∷ replaced h x rows) ≡ replaced h x (dropped c (r ∷ rows))) [
+      | true ↦ λ w.
+          let not_x : (x.copy == c) ≡ false = ne_eqb x.copy c (λ e. differ (sym named ∙ e)) in
+          let not_r : (r.copy == c) ≡ false = ne_eqb r.copy c (λ e. differ (sym (eqb-true r.copy h w) ∙ e)) in
+          ap (λ (b : Bool). cond b (dropped c (replaced h x rows)) (x ∷ dropped c (replaced h x rows))) not_x
+          ∙ ap (λ (l : List StampRow). x ∷ l) rest
+          ∙ ap (λ (b : Bool). cond b x r ∷ replaced h x (dropped c rows)) (sym w)
+          ∙ ap (λ (b : Bool). replaced h x (cond b (dropped c rows) (r ∷ dropped c rows))) (sym not_r)
+      | false ↦ λ w. elim (r.copy == c) as (λ v. cond v (dropped c (replaced h x rows)) (r ∷ dropped c (replaced h x rows)) ≡ replaced h x (cond v (dropped c rows) (r ∷ dropped c rows))) [
+        | true ↦ rest
+        | false ↦ ap (λ (l : List StampRow). r ∷ l) rest ∙ ap (λ (b : Bool). cond b x r ∷ replaced h x (dropped c rows)) (sym w)
+      ]
+    ] refl
+
+pub put_back_first : (low : ℕ) (x : StampRow) (rows : List StampRow) → IsRising low rows → x.copy < low → put_back x rows ≡ x ∷ rows
+put_back_first low x [] up less = refl
+put_back_first low x (r ∷ rows) up less =
+    ap (λ (b : Bool). cond b (x ∷ rows) (cond (nat_lt x.copy r.copy) (x ∷ (r ∷ rows)) (r ∷ put_back x rows))) (ne_eqb r.copy x.copy (λ e. omega (arith, up.0, e)))
+    ∙ ap (λ (b : Bool). cond b (x ∷ (r ∷ rows)) (r ∷ put_back x rows)) (lt-ltb x.copy r.copy (omega (arith, up.0)))
+
+pub put_back_later : (x r : StampRow) (rows : List StampRow) → r.copy < x.copy → put_back x (r ∷ rows) ≡ r ∷ put_back x rows
+put_back_later x r rows less =
+    ap (λ (b : Bool). cond b (x ∷ rows) (cond (nat_lt x.copy r.copy) (x ∷ (r ∷ rows)) (r ∷ put_back x rows))) (ne_eqb r.copy x.copy (λ e. omega (arith, e)))
+    ∙ ap (λ (b : Bool). cond b (x ∷ (r ∷ rows)) (r ∷ put_back x rows)) (le-ltb x.copy r.copy (omega arith))
+
+pub put_back_here : (low : ℕ) (r x : StampRow) (rows : List StampRow) → IsRising low rows → In r rows → x.copy ≡ r.copy → put_back r (replaced r.copy x rows) ≡ rows
+put_back_here low r x [] up i named = absurd i
+put_back_here low r x (q ∷ rows) up i named = elim i [
+  | inl e ↦
+      let same : q.copy ≡ r.copy = ap (λ (k : StampRow). k.copy) (sym e) in
+      ap (λ (b : Bool). put_back r (cond b x q ∷ replaced r.copy x rows)) (eq-eqb q.copy r.copy same)
+      ∙ ap (λ (b : Bool). cond b (r ∷ replaced r.copy x rows) (cond (nat_lt r.copy x.copy) (r ∷ (x ∷ replaced r.copy x rows)) (x ∷ put_back r (replaced r.copy x rows)))) (eq-eqb x.copy r.copy named)
+      ∙ ap (λ (l : List StampRow). r ∷ l) (replaced_none (q.copy + 1) r.copy x rows up.1 (omega (arith, same)))
+      ∙ ap (λ (k : StampRow). k ∷ rows) e
+  | inr j ↦
+      let later : q.copy + 1 ≤ r.copy = above_low (q.copy + 1) rows r up.1 j in
+      ap (λ (b : Bool). put_back r (cond b x q ∷ replaced r.copy x rows)) (ne_eqb q.copy r.copy (λ e. omega (arith, later, e)))
+      ∙ put_back_later r q (replaced r.copy x rows) (omega (arith, later))
+      ∙ ap (λ (l : List StampRow). q ∷ l) (put_back_here (q.copy + 1) r x rows up.1 j named)
+]
+
+pub put_back_dropped : (low : ℕ) (r : StampRow) (rows : List StampRow) → IsRising low rows → In r rows → put_back r (dropped r.copy rows) ≡ rows
+put_back_dropped low r [] up i = absurd i
+put_back_dropped low r (q ∷ rows) up i = elim i [
+  | inl e ↦
+      let same : q.copy ≡ r.copy = ap (λ (k : StampRow). k.copy) (sym e) in
+      ap (λ (b : Bool). put_back r (cond b (dropped r.copy rows) (q ∷ dropped r.copy rows))) (eq-eqb q.copy r.copy same)
+      ∙ ap (put_back r) (dropped_none (q.copy + 1) r.copy rows up.1 (omega (arith, same)))
+      ∙ put_back_first (q.copy + 1) r rows up.1 (omega (arith, same))
+      ∙ ap (λ (k : StampRow). k ∷ rows) e
+  | inr j ↦
+      let later : q.copy + 1 ≤ r.copy = above_low (q.copy + 1) rows r up.1 j in
+      ap (λ (b : Bool). put_back r (cond b (dropped r.copy rows) (q ∷ dropped r.copy rows))) (ne_eqb q.copy r.copy (λ e. omega (arith, later, e)))
+      ∙ put_back_later r q (dropped r.copy rows) (omega (arith, later))
+      ∙ ap (λ (l : List StampRow). q ∷ l) (put_back_dropped (q.copy + 1) r rows up.1 j)
+]
+
+pub id_found : (low : ℕ) (r : StampRow) (rows : List StampRow) → IsRising low rows → In r rows → id_in rows r.copy ≡ r.stamp.id
+id_found low r [] up i = absurd i
+id_found low r (q ∷ rows) up i = elim i [
+  | inl e ↦ ap (λ (b : Bool). cond b q.stamp.id (id_in rows r.copy)) (eq-eqb q.copy r.copy (ap (λ (k : StampRow). k.copy) (sym e))) ∙ ap (λ (k : StampRow). k.stamp.id) (sym e)
+  | inr j ↦ ap (λ (b : Bool). cond b q.stamp.id (id_in rows r.copy)) (ne_eqb q.copy r.copy (λ e. omega (arith, above_low (q.copy + 1) rows r up.1 j, e))) ∙ id_found (q.copy + 1) r rows up.1 j
+]
+
+pub in_replaced_other : (c : ℕ) (x : StampRow) (rows : List StampRow) (r : StampRow) → In r rows → r.copy ≢ c → In r (replaced c x rows)
+in_replaced_other c x [] r i ne = absurd i
+in_replaced_other c x (q ∷ rows) r i ne = elim i [
+  | inl e ↦ inl (e ∙ ap (λ (b : Bool). cond b x q) (sym (ne_eqb q.copy c (λ k. ne (ap (λ (w : StampRow). w.copy) e ∙ k)))))
+  | inr j ↦ inr (in_replaced_other c x rows r j ne)
+]
+
+pub in_dropped_other : (c : ℕ) (rows : List StampRow) (r : StampRow) → In r rows → r.copy ≢ c → In r (dropped c rows)
+in_dropped_other c [] r i ne = absurd i
+in_dropped_other c (q ∷ rows) r i ne =
+    elim (q.copy == c) as (λ b. (q.copy == c) ≡ b → In r (cond b (dropped c rows) (q ∷ dropped c rows))) [
+      | true ↦ λ w. elim i [
+        | inl e ↦ absurd (ne (ap (λ (k : StampRow). k.copy) e ∙ eqb-true q.copy c w))
+        | inr j ↦ in_dropped_other c rows r j ne
+      ]
+      | false ↦ λ w. elim i [ inl e ↦ inl e | inr j ↦ inr (in_dropped_other c rows r j ne) ]
+    ] refl
+
+pub renewed_back : (c : ℕ) (f : StampRow → StampRow) (x : StampRow) (rows : List StampRow) → x.copy ≡ c → ((q : StampRow) → In q rows → q.copy ≡ c → f x ≡ q) → renewed c f (replaced c x rows) ≡ rows
+renewed_back c f x [] named one = refl
+renewed_back c f x (q ∷ rows) named one =
+    let rest : renewed c f (replaced c x rows) ≡ rows = renewed_back c f x rows named (λ k i. one k (inr i)) in
+    elim (q.copy == c) as (λ b. (q.copy == c) ≡ b → renewed c f (cond b x q ∷ replaced c x rows) ≡ q ∷ rows) [
+      | true ↦ λ w. ap (λ (b : Bool). cond b (f x) x ∷ renewed c f (replaced c x rows)) (eq-eqb x.copy c named)
+          ∙ ap (λ (l : List StampRow). f x ∷ l) rest ∙ ap (λ (k : StampRow). k ∷ rows) (one q (inl refl) (eqb-true q.copy c w))
+      | false ↦ λ w. ap (λ (b : Bool). cond b (f q) q ∷ renewed c f (replaced c x rows)) w ∙ ap (λ (l : List StampRow). q ∷ l) rest
+    ] refl
+
+-- where a row is or would be
+abbrev pub index_from : ℕ → List StampRow → ℕ
+index_from copy rows = position_or_len (λ row. nat_le copy row.copy) rows
+
+pub put_back_set : (x d : StampRow) (rows : List StampRow) → index_from x.copy rows < length rows → (get_or rows (index_from x.copy rows) d).copy ≡ x.copy
+    → set rows (index_from x.copy rows) x ≡ put_back x rows
+put_back_set x d [] within at = absurd (omega arith)
+put_back_set x d (r ∷ rows) within at =
+    let next : 1 + index_from x.copy rows ≡ suc (index_from x.copy rows) = omega arith in
+    elim (nat_le x.copy r.copy) as (λ b. nat_le x.copy r.copy ≡ b → cond (not b) (1 + index_from x.copy rows) 0 < suc (length rows)
+    → (get_or (r ∷ rows) (cond (not b) (1 + index_from x.copy rows) 0) d).copy ≡ x.copy
+    → set (r ∷ rows) (cond (not b) (1 + index_from x.copy rows) 0) x ≡ put_back x (r ∷ rows)) [
+      | true ↦ λ w h e. sym (ap (λ (b : Bool). cond b (x ∷ rows) (cond (nat_lt x.copy r.copy) (x ∷ (r ∷ rows)) (r ∷ put_back x rows))) (eq-eqb r.copy x.copy e))
+      | false ↦ λ w h. rw next (λ e. ap (λ (l : List StampRow). r ∷ l) (put_back_set x d rows (omega arith) e) ∙ sym (put_back_later x r rows (leb-false x.copy r.copy w)))
+    ] refl within at
+
+pub put_back_insert : (x d : StampRow) (rows : List StampRow) → (index_from x.copy rows < length rows → (get_or rows (index_from x.copy rows) d).copy ≢ x.copy)
+    → insert rows (index_from x.copy rows) x ≡ put_back x rows
+put_back_insert x d [] other = refl
+put_back_insert x d (r ∷ rows) other =
+    let next : 1 + index_from x.copy rows ≡ suc (index_from x.copy rows) = omega arith in
+    elim (nat_le x.copy r.copy) as (λ b. nat_le x.copy r.copy ≡ b
+    → (cond (not b) (1 + index_from x.copy rows) 0 < suc (length rows) → (get_or (r ∷ rows) (cond (not b) (1 + index_from x.copy rows) 0) d).copy ≢ x.copy)
+    → insert (r ∷ rows) (cond (not b) (1 + index_from x.copy rows) 0) x ≡ put_back x (r ∷ rows)) [
+      | true ↦ λ w o.
+          let ne : r.copy ≢ x.copy = o (omega arith) in
+          sym (ap (λ (b : Bool). cond b (x ∷ rows) (cond (nat_lt x.copy r.copy) (x ∷ (r ∷ rows)) (r ∷ put_back x rows))) (ne_eqb r.copy x.copy ne)
+          ∙ ap (λ (b : Bool). cond b (x ∷ (r ∷ rows)) (r ∷ put_back x rows)) (lt-ltb x.copy r.copy (omega (arith, leb-true x.copy r.copy w, ne))))
+      | false ↦ λ w. rw next (λ o. ap (λ (l : List StampRow). r ∷ l) (put_back_insert x d rows (λ h. o (omega arith))) ∙ sym (put_back_later x r rows (leb-false x.copy r.copy w)))
+    ] refl other
+
+pub place_from_within : (copy : ℕ) (rows : List StampRow) → index_from copy rows ≤ length rows
+place_from_within copy [] = omega arith
+place_from_within copy (r ∷ rows) =
+    let rest : index_from copy rows ≤ length rows = place_from_within copy rows in
+    elim (nat_le copy r.copy) as (λ b. cond (not b) (1 + index_from copy rows) 0 ≤ suc (length rows)) [ true ↦ omega arith | false ↦ omega arith ]
+
+-- a copy that isn't there
+pub absent_same : (copy : ℕ) (f : StampRow → StampRow) (rows : List StampRow) → there rows copy ≡ false → (dropped copy rows ≡ rows) × (renewed copy f rows ≡ rows)
+absent_same copy f [] none = (refl, refl)
+absent_same copy f (r ∷ rows) none =
+    elim (r.copy == copy) as (λ b. (b || there rows copy) ≡ false → (cond b (dropped copy rows) (r ∷ dropped copy rows) ≡ r ∷ rows) × (cond b (f r) r ∷ renewed copy f rows ≡ r ∷ rows)) [
+      | true ↦ λ h. absurd (cc)
+      | false ↦ λ h. let rest = absent_same copy f rows h in (ap (λ (l : List StampRow). r ∷ l) rest.0, ap (λ (l : List StampRow). r ∷ l) rest.1)
+    ] none
+
+pub renewed_none : (low copy : ℕ) (f : StampRow → StampRow) (rows : List StampRow) → IsRising low rows → copy < low → renewed copy f rows ≡ rows
+renewed_none low copy f [] up less = refl
+renewed_none low copy f (r ∷ rows) up less =
+    ap (λ (b : Bool). cond b (f r) r ∷ renewed copy f rows) (ne_eqb r.copy copy (λ e. omega (arith, up.0, e)))
+    ∙ ap (λ (l : List StampRow). r ∷ l) (renewed_none (r.copy + 1) copy f rows up.1 (omega (arith, up.0)))
+
+pub renew_is : (low copy : ℕ) (f : StampRow → StampRow) (i : ℕ) (d : StampRow) (rows : List StampRow) → IsRising low rows → i < length rows → (get_or rows i d).copy ≡ copy
+    → set rows i (f (get_or rows i d)) ≡ renewed copy f rows
+renew_is low copy f i d [] up within at = absurd (omega arith)
+renew_is low copy f zero d (r ∷ rows) up within at =
+    ap (λ (l : List StampRow). f r ∷ l) (sym (renewed_none (r.copy + 1) copy f rows up.1 (omega (arith, at))))
+    ∙ ap (λ (b : Bool). cond b (f r) r ∷ renewed copy f rows) (sym (eq-eqb r.copy copy at))
+renew_is low copy f (suc i) d (r ∷ rows) up within at =
+    let later : r.copy + 1 ≤ copy = omega (arith, at, above_low (r.copy + 1) rows (get_or rows i d) up.1 (in_at rows i d (omega arith))) in
+    ap (λ (l : List StampRow). r ∷ l) (renew_is (r.copy + 1) copy f i d rows up.1 (omega arith) at)
+    ∙ ap (λ (b : Bool). cond b (f r) r ∷ renewed copy f rows) (sym (ne_eqb r.copy copy (λ e. omega (arith, later, e))))
+
+-- what a search finds
+at_end : (copy : ℕ) (rows : List StampRow) → there rows copy ≡ false → length rows ≤ place_in copy rows
+at_end copy [] none = omega arith
+at_end copy (r ∷ rows) none =
+    elim (r.copy == copy) as (λ b. (b || there rows copy) ≡ false → suc (length rows) ≤ cond (not b) (1 + place_in copy rows) 0) [
+      | true ↦ λ h. absurd (cc)
+      | false ↦ λ h. let rest : length rows ≤ place_in copy rows = at_end copy rows h in omega arith
+    ] none
+
+nothing : (copy : ℕ) (rows : List StampRow) → there rows copy ≡ false → position (λ row. row.copy == copy) rows ≡ None
+nothing copy rows none = ap (λ b. cond b (Some (place_in copy rows)) None) (le-ltb (place_in copy rows) (length rows) (at_end copy rows none))
+
+pub not_found : (copy : ℕ) (rows : List StampRow) → position (λ row. row.copy == copy) rows ≡ None → there rows copy ≡ false
+not_found copy rows none = elim (cases_Bool (there rows copy)) [ inl h ↦ absurd (cc (place_found copy rows h, none)) | inr h ↦ h ]
+
+pub is_found : (copy at : ℕ) (rows : List StampRow) → position (λ row. row.copy == copy) rows ≡ Some at → (at < length rows) × ((d : StampRow) → (get_or rows at d).copy ≡ copy)
+is_found copy at rows some = elim (cases_Bool (there rows copy)) [
+  | inl h ↦
+      let here : at ≡ place_in copy rows = cc (place_found copy rows h, some) in
+      (omega (arith, here, place_within copy rows h), λ d. ap (λ (k : ℕ). (get_or rows k d).copy) here ∙ place_holds copy rows d h)
+  | inr h ↦ absurd (cc (nothing copy rows h, some))
+]
+
+pub from_some : (copy at : ℕ) (rows : List StampRow) → position (λ row. nat_le copy row.copy) rows ≡ Some at → at ≡ index_from copy rows
+from_some copy at rows some = elim (cases_Bool (nat_lt (index_from copy rows) (length rows))) [
+  | inl h ↦ cc (ap (λ b. cond b (Some (index_from copy rows)) None) h, some)
+  | inr h ↦ let none : position (λ row. nat_le copy row.copy) rows ≡ None = ap (λ b. cond b (Some (index_from copy rows)) None) h in absurd (cc (none, some))
+]
+
+pub from_none : (copy : ℕ) (rows : List StampRow) → position (λ row. nat_le copy row.copy) rows ≡ None → length rows ≡ index_from copy rows
+from_none copy rows none = elim (cases_Bool (nat_lt (index_from copy rows) (length rows))) [
+  | inl h ↦ let some : position (λ row. nat_le copy row.copy) rows ≡ Some (index_from copy rows) = ap (λ b. cond b (Some (index_from copy rows)) None) h in absurd (cc (none, some))
+  | inr h ↦ omega (arith, ltb-false (index_from copy rows) (length rows) h, place_from_within copy rows)
+]
+
+-- Depths.
+
+pub deepest_in : (rows : List StampRow) (r : StampRow) → In r rows → depth r.stamp.id ≤ deepest rows
+deepest_in [] r i = absurd i
+deepest_in (q ∷ rows) r i = elim i [ inl e ↦ omega (arith, ap (λ (w : StampRow). depth w.stamp.id) e) | inr j ↦ omega (arith, deepest_in rows r j) ]
+
+pub deepest_replaced : (c : ℕ) (x : StampRow) (rows : List StampRow) → deepest (replaced c x rows) ≤ max (depth x.stamp.id) (deepest rows)
+deepest_replaced c x [] = omega arith
+deepest_replaced c x (r ∷ rows) =
+    let rest = deepest_replaced c x rows in
+    elim (r.copy == c) as (λ b. max (depth (cond b x r).stamp.id) (deepest (replaced c x rows)) ≤ max (depth x.stamp.id) (max (depth r.stamp.id) (deepest rows))) [ true ↦ omega (arith, rest) | false ↦ omega (arith, rest) ]
+
+pub deepest_dropped : (c : ℕ) (rows : List StampRow) → deepest (dropped c rows) ≤ deepest rows
+deepest_dropped c [] = omega arith
+deepest_dropped c (r ∷ rows) =
+    let rest = deepest_dropped c rows in
+    elim (r.copy == c) as (λ b. deepest (cond b (dropped c rows) (r ∷ dropped c rows)) ≤ max (depth r.stamp.id) (deepest rows)) [ true ↦ omega (arith, rest) | false ↦ omega (arith, rest) ]
+
+pub deepest_pushed : (y : StampRow) (rows : List StampRow) → deepest (rows ++ y ∷ []) ≤ max (depth y.stamp.id) (deepest rows)
+deepest_pushed y [] = omega arith
+deepest_pushed y (r ∷ rows) = omega (arith, deepest_pushed y rows)
+
+-- the first that passes the test
+abbrev pub first_in : (StampRow → Bool) → List StampRow → ℕ
+first_in test rows = position_or_len test rows
+
+pub first_within : (test : StampRow → Bool) (rows : List StampRow) → list_any test rows ≡ true → first_in test rows < length rows
+first_within test [] here = absurd (cc)
+first_within test (r ∷ rows) here =
+    elim (test r) as (λ b. (b || list_any test rows) ≡ true → cond (not b) (1 + first_in test rows) 0 < suc (length rows)) [
+      | true ↦ λ h. omega arith
+      | false ↦ λ h. let rest : first_in test rows < length rows = first_within test rows h in omega arith
+    ] here
+
+pub first_found : (test : StampRow → Bool) (rows : List StampRow) → list_any test rows ≡ true → position test rows ≡ Some (first_in test rows)
+first_found test rows here = ap (λ b. cond b (Some (first_in test rows)) None) (lt-ltb (first_in test rows) (length rows) (first_within test rows here))
+
+pub first_holds : (test : StampRow → Bool) (rows : List StampRow) (d : StampRow) → list_any test rows ≡ true → test (get_or rows (first_in test rows) d) ≡ true
+first_holds test [] d here = absurd (cc)
+first_holds test (r ∷ rows) d here =
+    let next : 1 + first_in test rows ≡ suc (first_in test rows) = omega arith in
+    elim (test r) as (λ b. test r ≡ b → (b || list_any test rows) ≡ true → test (get_or (r ∷ rows) (cond (not b) (1 + first_in test rows) 0) d) ≡ true) [
+      | true ↦ λ w h. w
+      | false ↦ λ w h. rw next (first_holds test rows d h)
+    ] refl here
+
+pub free_from : (o : Option ℕ) → is_copy o ≡ true → o ≡ None
+free_from None e = refl
+free_from (Some h) e = absurd (cc)
+
+-- a number that isn't there
+pub dropped_away : (n : ℕ) (rows : List StampRow) → ((r : StampRow) → In r rows → r.copy ≢ n) → dropped n rows ≡ rows
+dropped_away n [] other = refl
+dropped_away n (r ∷ rows) other =
+    ap (λ (b : Bool). cond b (dropped n rows) (r ∷ dropped n rows)) (ne_eqb r.copy n (other r (inl refl))) ∙ ap (λ (l : List StampRow). r ∷ l) (dropped_away n rows (λ q i. other q (inr i)))
+
+pub row_found : (low : ℕ) (r : StampRow) (rows : List StampRow) → IsRising low rows → In r rows → row_in rows r.copy ≡ r
+row_found low r [] up i = absurd i
+row_found low r (q ∷ rows) up i = elim i [
+  | inl e ↦ ap (λ (b : Bool). cond b q (row_in rows r.copy)) (eq-eqb q.copy r.copy (ap (λ (k : StampRow). k.copy) (sym e))) ∙ sym e
+  | inr j ↦ ap (λ (b : Bool). cond b q (row_in rows r.copy)) (ne_eqb q.copy r.copy (λ e. omega (arith, above_low (q.copy + 1) rows r up.1 j, e))) ∙ row_found (q.copy + 1) r rows up.1 j
+]

@@ -1,0 +1,91 @@
+-- The texts of rows' stamps, for the table that the rows stand for.
+use Rattle.std.specs.Prelude.{◌≡◌, ◌↔◌, ℕ, ◌+◌, Bool, true, false, cond, ◌==◌, List, [], ◌∷◌, map, filter}
+use Rattle.std.specs.List.{AllZip}
+use Rattle.std.proofs.Common.{refl, sym, ap, subst, ◌∙◌, inl, inr, arith}
+use Rattle.std.proofs.lemmas.Bool.{eq-eqb, ne_eqb}
+use Rattle.pana_id.specs.Id.{Id, IsValid, SharesNoPoint, is_zero}
+use Rattle.pana_event.specs.Event.{Event, IsSound, leaf}
+use Rattle.pana_event.specs.Order.{IsBelow}
+use Rattle.pana_event.specs.Relation.{IsRelation}
+use Rattle.pana_event.specs.declared.rel.Rel.{Rel}
+use Rattle.pana_event.specs.declared.rel.Rel.TheVariants.{Equal, Older, Newer, Conflict}
+use Rattle.pana_text.specs.Text.{stamp_text}
+use Rattle.pana_family.specs.declared.row.StampRow.{StampRow}
+use Rattle.pana_family.specs.Holders.{is_copy}
+use Rattle.pana_family.specs.Relation.{relation}
+use Rattle.pana_family.specs.Laws.{IsSubset}
+use Rattle.pana_family.specs.Table.{Known, In, copies_of}
+use Rattle.pana_family.specs.Stands.{StandsFor}
+use Rattle.pana_family.specs.Stamps.{AreStamps}
+use Rattle.pana_family.specs.inner.RowStamps.{row_text}
+use Rattle.pana_family.specs.Rows.{IsRising, id_in}
+use Rattle.pana_family.proofs.Sound.{below_subset, subset_below}
+use Rattle.pana_family.proofs.Members.{Holds, held, to_sound, of_known, above_low}
+use Rattle.pana_family.proofs.Places.{id_found}
+use Rattle.pana_family.proofs.Relations.{relates}
+use Rattle.pana_family.proofs.Boards.{OfOne, all_of_one, map_same, filter_same}
+
+-- the event of a copy
+abbrev event_in : List StampRow → ℕ → Event
+event_in [] copy = leaf 0
+event_in (r ∷ rows) copy = cond (r.copy == copy) r.stamp.event (event_in rows copy)
+
+event_found : (low : ℕ) (r : StampRow) (rows : List StampRow) → IsRising low rows → In r rows → event_in rows r.copy ≡ r.stamp.event
+event_found low r [] up i = absurd i
+event_found low r (q ∷ rows) up i = elim i [
+  | inl e ↦ ap (λ (b : Bool). cond b q.stamp.event (event_in rows r.copy)) (eq-eqb q.copy r.copy (ap (λ (k : StampRow). k.copy) (sym e))) ∙ ap (λ (k : StampRow). k.stamp.event) (sym e)
+  | inr j ↦ ap (λ (b : Bool). cond b q.stamp.event (event_in rows r.copy)) (ne_eqb q.copy r.copy (λ e. omega (arith, above_low (q.copy + 1) rows r up.1 j, e))) ∙ event_found (q.copy + 1) r rows up.1 j
+]
+
+in_filter : (p : Known → Bool) (table : List Known) (t : Known) → In t (filter p table) → In t table
+in_filter p [] t i = absurd i
+in_filter p (k ∷ table) t i =
+    elim (p k) as (λ b. In t (cond b (k ∷ filter p table) (filter p table)) → In t (k ∷ table)) [
+      | true ↦ λ j. elim j [ inl e ↦ inl e | inr l ↦ inr (in_filter p table t l) ]
+      | false ↦ λ j. inr (in_filter p table t j)
+    ] i
+
+-- the relation of two sets is that of the events that stand for them
+by_sets : (e f : Event) (xs ys : List ℕ) → IsBelow e f ↔ IsSubset xs ys → IsBelow f e ↔ IsSubset ys xs → (rel : Rel) → rel ≡ relation xs ys → IsRelation e f rel
+by_sets e f xs ys up down Equal is = let w = (relates xs ys).equal.0 (sym is) in (up.1 w.0, down.1 w.1)
+by_sets e f xs ys up down Older is = let w = (relates xs ys).older.0 (sym is) in (up.1 w.0, λ b. w.1 (down.0 b))
+by_sets e f xs ys up down Newer is = let w = (relates xs ys).newer.0 (sym is) in (down.1 w.0, λ b. w.1 (up.0 b))
+by_sets e f xs ys up down Conflict is = let w = (relates xs ys).conflict.0 (sym is) in ((λ b. w.0 (up.0 b)), λ b. w.1 (down.0 b))
+
+pub stamps_answer : (rows : List StampRow) (table : List Known) → IsRising 0 rows → StandsFor rows table → ((r : StampRow) → In r rows → IsValid r.stamp.id × IsSound r.stamp.event)
+    → (stamps : List (ℕ × List ℕ)) → stamps ≡ map row_text (filter (λ r. is_copy r.holder) rows) → AreStamps stamps (copies_of table)
+stamps_answer rows table up st valid stamps is =
+    let copies : List Known = copies_of table in
+    let R : StampRow → Known → Type 0 = OfOne rows table in
+    let z : AllZip R rows table = all_of_one rows table rows table (λ r i. i) (λ t i. i) st.same in
+    let id_of : ℕ → Id = id_in rows in
+    let event_of : ℕ → Event = event_in rows in
+    let row_of : (t : Known) → In t copies → (r : StampRow) × In r rows × In t table × (r.copy ≡ t.copy) × (id_of t.copy ≡ r.stamp.id) × (event_of t.copy ≡ r.stamp.event) =
+    λ t i.
+    let j : In t table = in_filter (λ k. is_copy k.holder) table t i in
+    let m = of_known rows table st.same t j in
+    (m.0, m.1, j, m.2, ap id_of (sym m.2) ∙ id_found 0 m.0 rows up m.1, ap event_of (sym m.2) ∙ event_found 0 m.0 rows up m.1) in
+    record {
+      id_of = id_of;
+      event_of = event_of;
+      texts = is ∙ map_same R row_text (λ t. (t.copy, stamp_text (id_of t.copy) (event_of t.copy)))
+          (λ r t a. let named : r.copy ≡ t.copy = a.2 in
+          ap (λ (i : Id). (r.copy, stamp_text i r.stamp.event)) (sym (id_found 0 r rows up a.0))
+          ∙ ap (λ (e : Event). (r.copy, stamp_text (id_of r.copy) e)) (sym (event_found 0 r rows up a.0))
+          ∙ ap (λ (k : ℕ). (k, stamp_text (id_of k) (event_of k))) named)
+          (filter (λ r. is_copy r.holder) rows) copies (filter_same R (λ r. is_copy r.holder) (λ t. is_copy t.holder) (λ r t a. ap is_copy a.3) rows table z);
+      valid = λ t i. let m = row_of t i in let v = valid m.0 m.1 in (subst IsValid (sym m.4) v.0, subst IsSound (sym m.5) v.1);
+      owning = λ t i. let m = row_of t i in ap is_zero m.4 ∙ st.owning m.0 m.1;
+      apart = λ t s i j ne. let m = row_of t i in let n = row_of s j in
+          subst (λ (k : Id). SharesNoPoint k (id_of s.copy)) (sym m.4) (subst (SharesNoPoint m.0.stamp.id) (sym n.4) (st.apart m.0 n.0 m.1 n.1 (λ e. ne (sym m.3 ∙ e ∙ n.3))));
+      compared = λ t s i j. let m = row_of t i in let n = row_of s j in
+          let P = Holds rows table in
+          let whole = to_sound rows table st in
+          let first = held rows table m.0 t m.1 m.2 m.3 in
+          let second = held rows table n.0 s n.1 n.2 n.3 in
+          subst (λ (e : Event). IsRelation e (event_of s.copy) (relation t.set s.set)) (sym m.5) (subst (λ (e : Event). IsRelation m.0.stamp.event e (relation t.set s.set)) (sym n.5)
+          (by_sets m.0.stamp.event n.0.stamp.event t.set s.set
+          (below_subset P m.0.copy n.0.copy m.0.stamp n.0.stamp t.set s.set whole first second, subset_below P m.0.copy n.0.copy m.0.stamp n.0.stamp t.set s.set whole first second)
+          (below_subset P n.0.copy m.0.copy n.0.stamp m.0.stamp s.set t.set whole second first, subset_below P n.0.copy m.0.copy n.0.stamp m.0.stamp s.set t.set whole second first)
+          (relation t.set s.set) refl));
+    }

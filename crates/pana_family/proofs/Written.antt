@@ -1,0 +1,178 @@
+-- What a report leaves that writes at a position.
+use Rattle.std.specs.Prelude.{◌≡◌, ℕ, ◌≤◌, ◌<◌, ◌+◌, false, List, [], ◌∷◌, ◌++◌, length, Option, None}
+use Rattle.std.proofs.Common.{refl, sym, ap, subst, ◌∙◌, inl, inr, arith, get_or, set}
+use Rattle.std.proofs.lemmas.List.{get_or_default}
+use Rattle.pana_id.specs.Id.{Id, is_zero, depth, parts}
+use Rattle.pana_event.specs.Event.{Event, greatest}
+use Rattle.pana_stamp.specs.Raised.{IsRaised}
+use Rattle.pana_stamp.specs.declared.stamp.Stamp.{Stamp}
+use Rattle.pana_family.specs.declared.row.StampRow.{StampRow}
+use Rattle.pana_family.specs.Table.{Known, In, duplicated, edited, touched, AreBelow}
+use Rattle.pana_family.specs.Stands.{StandsFor}
+use Rattle.pana_family.specs.Rows.{row, row_in, duplicated_rows, IsUpdate, AreEdited, dropped, AreBefore, put_back, id_in, retouched, reverted, stamp, deepest, copy_rows, OwnSame}
+use Rattle.pana_family.specs.inner.Making.{IsShared}
+use Rattle.pana_family.specs.Rows.{replaced}
+use Rattle.pana_family.specs.Kept.{IsKept}
+use Rattle.pana_family.proofs.Members.{in_replaced, one_row}
+use Rattle.pana_family.proofs.Places.{row_found, in_read, put_back_here, dropped_last, id_found, renewed_back, deepest_in, deepest_replaced, deepest_pushed}
+use Rattle.pana_family.proofs.Keeps.{set_here, edit_kept, duplicate_kept, touch_kept}
+use Rattle.pana_family.proofs.Owners.{own_replaced, own_shared}
+use Rattle.pana_family.proofs.Changes.{edit_stands, duplicate_stands, touch_stands}
+
+-- the row of a copy at its place
+pub record IsRowAt (rows : List StampRow) (at copy : ℕ) (r : StampRow) : Type 0 where
+  pub within : at < length rows
+  pub read : r ≡ get_or rows at r
+  pub row : In r rows
+  pub named : r.copy ≡ copy
+  pub free : r.holder ≡ None
+
+-- rows is what the list was read as
+pub row_at : (rows seen : List StampRow) (at copy : ℕ) (r : StampRow) → seen ≡ rows → at < length seen → ((d : StampRow) → (get_or seen at d).copy ≡ copy) → ((d : StampRow) → (get_or seen at d).holder ≡ None) → r ≡ get_or rows at r → IsRowAt rows at copy r
+row_at rows seen at copy r same within here free read =
+    let inside : at < length rows = subst (λ (l : List StampRow). at < length l) same within in
+    record {
+      within = inside;
+      read = read;
+      row = in_read rows at r inside read;
+      named = ap (λ (q : StampRow). q.copy) read ∙ subst (λ (l : List StampRow). (get_or l at r).copy ≡ copy) same (here r);
+      free = ap (λ (q : StampRow). q.holder) read ∙ subst (λ (l : List StampRow). (get_or l at r).holder ≡ None) same (free r);
+    }
+
+pub owns_some : (rows : List StampRow) (at copy : ℕ) (r : StampRow) → IsKept rows → IsRowAt rows at copy r → is_zero r.stamp.id ≡ false
+owns_some rows at copy r k here = k.stands.owning r here.row
+
+pub has_room : (rows : List StampRow) (at copy n : ℕ) (r : StampRow) → IsKept rows → AreBefore n rows → IsRowAt rows at copy r → greatest r.stamp.event + 1 ≤ n
+has_room rows at copy n r k before here = omega (arith, k.levels r here.row, (before r here.row).1)
+
+abbrev pub full : ℕ → Option ℕ → Stamp → ℕ → StampRow
+full copy holder stamp touch = record { copy = copy; holder = holder; stamp = stamp; touch = touch }
+
+same_row : (x : StampRow) (copy touch : ℕ) (i : Id) (e : Event) → x.copy ≡ copy → x.holder ≡ None → x.stamp.id ≡ i → x.stamp.event ≡ e → x.touch ≡ touch → x ≡ row copy (stamp i e) touch
+same_row x copy touch i e named free owner event touched =
+    ap (λ (c : ℕ). full c x.holder x.stamp x.touch) named ∙ ap (λ (o : Option ℕ). full copy o x.stamp x.touch) free
+    ∙ ap (λ (j : Id). full copy None (stamp j x.stamp.event) x.touch) owner ∙ ap (λ (f : Event). full copy None (stamp i f) x.touch) event
+    ∙ ap (λ (t : ℕ). full copy None (stamp i e) t) touched
+
+pub record Edits (rows new : List StampRow) (n copy : ℕ) (event : Event) (touch : ℕ) : Type 0 where
+  pub kept : IsKept new
+  pub deep : deepest new ≤ deepest rows
+  pub owned : OwnSame rows new
+  pub stands : (table : List Known) → StandsFor rows table → AreBelow n table → StandsFor new (edited n copy table)
+  pub exact : AreEdited n copy rows new
+  pub back : reverted copy event touch new ≡ rows
+
+pub edits : (rows value : List StampRow) (at copy n : ℕ) (r x : StampRow) (event : Event) (touch : ℕ) → rows ≡ value → IsKept rows → AreBefore n rows → IsRowAt rows at copy r
+    → x.copy ≡ r.copy → x.holder ≡ r.holder → x.touch ≡ n → x.stamp.id ≡ r.stamp.id → IsRaised r.stamp.id r.stamp.event x.stamp.event → IsUpdate r.stamp.id r.stamp.event x.stamp.event → event ≡ r.stamp.event → touch ≡ r.touch
+    → Edits value (set rows at x) n copy event touch
+edits rows value at copy n r x event touch same k before here named also touched owner raised update event_is touch_is =
+    let written : set rows at x ≡ replaced r.copy x rows = set_here rows at r x k.rising here.within here.read in
+    subst (λ (l : List StampRow). Edits l (set rows at x) n copy event touch) same
+    record {
+      kept = subst IsKept (sym written) (edit_kept rows r x n k before here.row here.free named also touched owner raised);
+      deep = omega (arith, ap deepest written, deepest_replaced r.copy x rows, deepest_in rows r here.row, ap depth owner);
+      stands = λ table st below. subst (λ (l : List StampRow). StandsFor l (edited n copy table)) (sym written)
+          (subst (λ (c : ℕ). StandsFor (replaced r.copy x rows) (edited n c table)) here.named (edit_stands rows table r x n st k.rising here.row named also touched owner raised below));
+      owned = subst (OwnSame rows) (sym written) (own_replaced rows r x k.rising here.row owner);
+      exact =
+          let found : row_in rows copy ≡ r = ap (row_in rows) (sym here.named) ∙ row_found 0 r rows k.rising here.row in
+          record {
+            event = x.stamp.event;
+            update = subst (λ (q : StampRow). IsUpdate q.stamp.id q.stamp.event x.stamp.event) (sym found) update;
+            rows_are = written ∙ ap (λ (c : ℕ). replaced c x rows) here.named
+                ∙ ap (λ (q : StampRow). replaced copy q rows) (same_row x copy n r.stamp.id x.stamp.event (named ∙ here.named) (also ∙ here.free) owner refl touched)
+                ∙ ap (λ (q : StampRow). replaced copy (row copy (stamp q.stamp.id x.stamp.event) n) rows) (sym found);
+          };
+      back = ap (reverted copy event touch) written ∙ ap (λ (c : ℕ). reverted c event touch (replaced r.copy x rows)) (sym here.named)
+          ∙ renewed_back r.copy (λ q. record { copy = q.copy; holder = q.holder; stamp = record { id = q.stamp.id; event = event }; touch = touch }) x rows named
+          (λ q i e. event_back x r event touch named also owner event_is touch_is ∙ one_row 0 rows r q k.rising here.row i (sym e));
+    }
+  where
+    event_back : (x r : StampRow) (event : Event) (touch : ℕ) → x.copy ≡ r.copy → x.holder ≡ r.holder → x.stamp.id ≡ r.stamp.id → event ≡ r.stamp.event → touch ≡ r.touch
+        → ◌≡◌ {A = StampRow} (record { copy = x.copy; holder = x.holder; stamp = record { id = x.stamp.id; event = event }; touch = touch }) r
+    event_back x r event touch named also owner event_is touch_is =
+        ap (λ (c : ℕ). full c x.holder (stamp x.stamp.id event) touch) named ∙ ap (λ (o : Option ℕ). full r.copy o (stamp x.stamp.id event) touch) also
+        ∙ ap (λ (i : Id). full r.copy r.holder (stamp i event) touch) owner ∙ ap (λ (e : Event). full r.copy r.holder (stamp r.stamp.id e) touch) event_is
+        ∙ ap (λ (t : ℕ). full r.copy r.holder r.stamp t) touch_is
+
+-- two reads of one place
+pub same_read : (rows : List StampRow) (at : ℕ) (r q : StampRow) → at < length rows → r ≡ get_or rows at r → q ≡ get_or rows at q → r ≡ q
+same_read rows at r q within a b = a ∙ get_or_default rows at r q within ∙ sym b
+
+pub record Duplicates (rows new : List StampRow) (n copy : ℕ) (old : StampRow) : Type 0 where
+  pub kept : IsKept new
+  pub deep : deepest new ≤ deepest rows + 1
+  pub owned : OwnSame rows new
+  pub stands : (table : List Known) → StandsFor rows table → StandsFor new (duplicated n copy table)
+  pub exact : new ≡ duplicated_rows n copy rows
+  pub back : put_back old (dropped n new) ≡ rows
+
+pub duplicates : (rows : List StampRow) (at copy n : ℕ) (r x y : StampRow) → IsKept rows → AreBefore n rows → length (copy_rows rows) < 256 → IsRowAt rows at copy r
+    → x.holder ≡ r.holder → y.holder ≡ None → IsShared r x y n → Duplicates rows (set rows at x ++ y ∷ []) n copy r
+duplicates rows at copy n r x y k before room here also free shared =
+    let written : set rows at x ≡ replaced r.copy x rows = set_here rows at r x k.rising here.within here.read in
+    record {
+      kept = subst (λ (l : List StampRow). IsKept (l ++ y ∷ [])) (sym written)
+          (duplicate_kept rows r x y n k before room here.row shared.copy also shared.touch shared.event shared.new_copy free shared.new_touch shared.new_event shared.parted);
+      deep = omega (arith, ap (λ (l : List StampRow). deepest (l ++ y ∷ [])) written, deepest_pushed y (replaced r.copy x rows), deepest_replaced r.copy x rows, deepest_in rows r here.row, shared.shallow, shared.new_shallow);
+      stands = λ table st. subst (λ (l : List StampRow). StandsFor (l ++ y ∷ []) (duplicated n copy table)) (sym written)
+          (subst (λ (c : ℕ). StandsFor (replaced r.copy x rows ++ y ∷ []) (duplicated n c table)) here.named
+          (duplicate_stands rows table r x y n st k.rising before here.row shared.copy also shared.touch shared.event shared.new_copy free shared.new_touch shared.new_event shared.parted));
+      owned = subst (λ (l : List StampRow). OwnSame rows (l ++ y ∷ [])) (sym written) (own_shared rows r x y k.rising here.row shared.parted);
+      exact =
+          let found : row_in rows copy ≡ r = ap (row_in rows) (sym here.named) ∙ row_found 0 r rows k.rising here.row in
+          ap (λ (l : List StampRow). l ++ y ∷ []) written ∙ ap (λ (c : ℕ). replaced c x rows ++ y ∷ []) here.named
+          ∙ ap (λ (q : StampRow). replaced copy q rows ++ y ∷ []) (same_row x copy r.touch (parts r.stamp.id).0 r.stamp.event (shared.copy ∙ here.named) (also ∙ here.free) shared.first shared.event shared.touch)
+          ∙ ap (λ (q : StampRow). replaced copy (row copy (stamp (parts r.stamp.id).0 r.stamp.event) r.touch) rows ++ q ∷ []) (same_row y n n (parts r.stamp.id).1 r.stamp.event shared.new_copy free shared.second shared.new_event shared.new_touch)
+          ∙ ap (λ (q : StampRow). replaced copy (row copy (stamp (parts q.stamp.id).0 q.stamp.event) q.touch) rows ++ row n (stamp (parts q.stamp.id).1 q.stamp.event) n ∷ []) (sym found);
+      back = ap (λ (l : List StampRow). put_back r (dropped n (l ++ y ∷ []))) written
+          ∙ ap (λ (m : ℕ). put_back r (dropped m (replaced r.copy x rows ++ y ∷ []))) (sym shared.new_copy)
+          ∙ ap (put_back r) (dropped_last y (replaced r.copy x rows) (λ q i e. elim (in_replaced r.copy x rows q i) [
+            | inl is ↦ omega (arith, (before r here.row).0, ap (λ (w : StampRow). w.copy) is, shared.copy, shared.new_copy, e)
+            | inr o ↦ omega (arith, (before q o.0).0, shared.new_copy, e)
+          ]))
+          ∙ put_back_here 0 r x rows k.rising here.row shared.copy;
+    }
+
+pub id_at : (rows value : List StampRow) (at copy : ℕ) (r : StampRow) → rows ≡ value → IsKept rows → IsRowAt rows at copy r → id_in value copy ≡ r.stamp.id
+id_at rows value at copy r same k here =
+    ap (λ (l : List StampRow). id_in l copy) (sym same) ∙ ap (id_in rows) (sym here.named) ∙ id_found 0 r rows k.rising here.row
+
+pub duplicates_from : (rows value new : List StampRow) (n copy : ℕ) (r old : StampRow) → rows ≡ value → old ≡ r → Duplicates rows new n copy r → Duplicates value new n copy old
+duplicates_from rows value new n copy r old same is e = record {
+  kept = e.kept;
+  deep = omega (arith, e.deep, ap deepest same);
+  stands = subst (λ (l : List StampRow). (table : List Known) → StandsFor l table → StandsFor new (duplicated n copy table)) same e.stands;
+  owned = subst (λ (l : List StampRow). OwnSame l new) same e.owned;
+  exact = e.exact ∙ ap (duplicated_rows n copy) same;
+  back = ap (λ (q : StampRow). put_back q (dropped n new)) is ∙ e.back ∙ same;
+}
+
+-- A touch.
+
+whole_row : (x r : StampRow) (former : ℕ) → x.copy ≡ r.copy → x.holder ≡ r.holder → x.stamp ≡ r.stamp → former ≡ r.touch → record x { touch = former } ≡ r
+whole_row x r former named also same is =
+    ap (λ (c : ℕ). full c x.holder x.stamp former) named ∙ ap (λ (o : Option ℕ). full r.copy o x.stamp former) also
+    ∙ ap (λ (s : Stamp). full r.copy r.holder s former) same ∙ ap (λ (t : ℕ). full r.copy r.holder r.stamp t) is
+
+pub record Touches (rows new : List StampRow) (n copy former : ℕ) : Type 0 where
+  pub kept : IsKept new
+  pub deep : deepest new ≤ deepest rows
+  pub stands : (table : List Known) → StandsFor rows table → StandsFor new (touched n copy table)
+  pub owned : OwnSame rows new
+  pub back : retouched copy former new ≡ rows
+
+pub touches : (rows value : List StampRow) (at copy n former : ℕ) (r x : StampRow) → rows ≡ value → IsKept rows → AreBefore n rows → IsRowAt rows at copy r
+    → x.copy ≡ r.copy → x.holder ≡ r.holder → x.touch ≡ n → x.stamp ≡ r.stamp → former ≡ r.touch → Touches value (set rows at x) n copy former
+touches rows value at copy n former r x same k before here named also touched_at stamp is =
+    let written : set rows at x ≡ replaced r.copy x rows = set_here rows at r x k.rising here.within here.read in
+    subst (λ (l : List StampRow). Touches l (set rows at x) n copy former) same
+    record {
+      kept = subst IsKept (sym written) (touch_kept rows r x n k before here.row here.free named also touched_at stamp);
+      deep = omega (arith, ap deepest written, deepest_replaced r.copy x rows, deepest_in rows r here.row, ap (λ (s : Stamp). depth s.id) stamp);
+      stands = λ table st. subst (λ (l : List StampRow). StandsFor l (touched n copy table)) (sym written)
+          (subst (λ (c : ℕ). StandsFor (replaced r.copy x rows) (touched n c table)) here.named (touch_stands rows table r x n st k.rising here.row named also touched_at stamp));
+      owned = subst (OwnSame rows) (sym written) (own_replaced rows r x k.rising here.row (ap (λ (s : Stamp). s.id) stamp));
+      back = ap (retouched copy former) written ∙ ap (λ (c : ℕ). retouched c former (replaced r.copy x rows)) (sym here.named)
+          ∙ renewed_back r.copy (λ q. record q { touch = former }) x rows named (λ q i e. whole_row x r former named also stamp is ∙ one_row 0 rows r q k.rising here.row i (sym e));
+    }

@@ -1,0 +1,16 @@
+use Rattle.std.proofs.Common.{sym, subst, ◌∙◌, List, ap, map, filter}
+use Rattle.pana_family.specs.declared.row.StampRow.{StampRow}
+use Rattle.pana_family.specs.Holders.{is_copy}
+use Rattle.pana_family.specs.Table.{In}
+use Rattle.pana_family.specs.Stands.{StandsFor}
+use Rattle.pana_family.specs.Stamps.{text_of}
+use Rattle.pana_family.specs.inner.RowStamps.{row_text}
+use Rattle.pana_family.proofs.Texts.{stamps_answer}
+use Rattle.pana_family.proofs.rows.Rows.stamps.Goals as goal
+
+pub returns : goal.returns
+returns c = λ table st.
+    let rows : List StampRow = c.self.inside.items.items in
+    stamps_answer rows table c.self.invariant.rising (subst (λ (l : List StampRow). StandsFor l table) (sym c.self.view_is) st)
+    (λ r i. c.all_valid.ensures r (subst (In r) (sym c.deref.ensures.value) i)) (map text_of c.from_vec.result)
+    (ap (map text_of) c.from_vec.ensures ∙ c.in_ok-stamps.ensures ∙ ap (λ (l : List StampRow). map row_text (filter (λ row. is_copy row.holder) l)) c.deref-2.ensures.value)

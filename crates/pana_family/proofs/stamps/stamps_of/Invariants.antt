@@ -1,0 +1,8 @@
+use Rattle.std.proofs.Common.{◌≡◌, map, filter, take}
+use Rattle.pana_family.specs.Holders.{is_copy}
+use Rattle.pana_family.specs.Stamps.{text_of}
+use Rattle.pana_family.specs.inner.RowStamps.{row_text}
+use Rattle.pana_family.proofs.stamps.stamps_of.Given as goal
+
+abbrev pub invariant-loop-row : goal.invariant-loop-row
+invariant-loop-row l = map text_of l.stamps.items ≡ map row_text (filter (λ row. is_copy row.holder) (take l.row-index l.rows))

@@ -1,0 +1,15 @@
+pub mod Updates
+pub mod Relation
+pub mod Laws
+pub mod Holders
+pub mod Table
+pub mod Stands
+pub mod Rows
+pub mod Kept
+pub mod Sets
+pub mod Fault
+pub mod View
+pub mod Family
+pub mod Board
+pub mod Stamps
+pub mod inner

@@ -1,0 +1,416 @@
+//! A family: the living copies of one file, and what undoes its last reports.
+#![tactic(auto, unfolding(crate::specs::View::Means, crate::specs::View::is_living, crate::specs::View::IsNew, crate::specs::View::IsPending, crate::specs::View::IsLast, crate::specs::View::copy_count, crate::specs::View::can_split, crate::specs::View::OwnsSame, crate::specs::View::depth_at))]
+
+ghost use Rattle.std.specs.Prelude.{ℕ, ◌≡◌, ◌≢◌, ◌↔◌, ◌<◌, ◌≤◌, ◌+◌, true, false, length, List, ◌∷◌, IfOk, OnOk, OnErr, IfErr, IfSome, IsErrOf, IsTrue, ◌⊎◌, Some, None, position, ◌==◌, map, take, drop, IsOk, Bool};
+ghost use Rattle.std.specs.List.{list_any};
+ghost use Rattle.pana_family.specs.Relation.{relation};
+ghost use Rattle.pana_family.specs.Table.{Known, In, is_in, copies_of, set_in, touch_in, duplicated, edited, reconciled, merged, removed, touched, AreBelow, AreHeld, held_by};
+ghost use Rattle.pana_family.specs.Board.{board_rows, board_newest, board_split};
+ghost use Rattle.pana_family.specs.Stamps.{AreStamps, text_of};
+ghost use Rattle.pana_family.specs.Rows.{AreEdited, duplicated_rows};
+ghost use Rattle.pana_family.specs.declared.row.StampRow.{StampRow as RowValue};
+ghost use Rattle.pana_event.specs.Event.{greatest};
+ghost use Rattle.pana_family.specs.Sets.{Sets, began, after, confirmed, withdrawn, Pends, PendsLast};
+ghost use Rattle.pana_family.specs.View.{Means, is_living, IsNew, IsPending, IsLast, copy_count, can_split, OwnsSame, depth_at, Deepens, undone, more_undo};
+
+use crate::board::FamilyBoard;
+use crate::fault::FamilyFault;
+use crate::rows::Rows;
+use crate::stamps::CopyStamp;
+use crate::undo::{Back, Undo};
+use circular_buffer::HeapCircularBuffer;
+use pana_event::Rel;
+use pana_list::PlainList;
+use std::alloc::{AllocError, Global};
+use std::marker::Model;
+
+/// The living copies of one file and the parcels that they hold, each with a stamp, and what undoes the last 8 reports.
+///
+/// It keeps no set of updates. What it stands for is a table of sets: a clause `stands` says, for every table that the
+/// family stands for, what it stands for after the call.
+#[derive(Drop)]
+pub struct Family {
+    alloc: Global,
+    rows: Rows,
+    undo: HeapCircularBuffer<Undo>,
+}
+
+impl Model for Family {
+    ghost use Rattle.std.specs.Prelude.{◌≡◌};
+    ghost use Rattle.pana_family.specs.View.{Kept, kept_code, AreUndoKept};
+
+    ghost Value = { Kept };
+
+    ghost coded = { kept_code };
+
+    ghost use Rattle.pana_family.specs.Family.{view_of};
+
+    ghost view = { λ f. view_of f.rows f.undo.items };
+
+    ghost invariant = { λ f. (f.undo.capacity ≡ 8) × AreUndoKept (view_of f.rows f.undo.items).undo };
+}
+
+impl Family {
+    /// The family of a file's first copy, which this entry registered. The entry is pending.
+    ///
+    /// # Errors
+    ///
+    /// `AllocError` where an allocation failed.
+    pub fn new(alloc: Global, entry: u64) -> Result<Family, AllocError>
+        ensures stands { IfOk result (λ f. Means f (began entry)) }
+        ensures deep { IfOk result (λ f. (k : ℕ) → depth_at k f ≡ 0) }
+    {
+        let rows = Rows::new(alloc, entry)?;
+        let mut undo = HeapCircularBuffer::with_capacity(alloc, 8)?;
+        undo.push_front(Undo {
+            entry,
+            back: Back::Rows(Vec::new(alloc)),
+        });
+        Ok(Family { alloc, rows, undo })
+    }
+
+    /// Puts a new copy beside its source: it is numbered like the entry, knows what the source knows, and has the second
+    /// part of the source's id.
+    ///
+    /// # Errors
+    ///
+    /// `FamilyFull` exactly where 256 copies live; `TooDeep` exactly where the source's id can't be divided; both before
+    /// an allocation. `OutOfMemory` where one failed. The family is then as it was.
+    pub fn duplicate(&mut self, entry: u64, source: u64) -> Result<(), FamilyFault>
+        requires living { is_living self.old source ≡ true }
+        requires new { IsNew entry self.old }
+        ensures stands { OnOk result ((sets : Sets) → Means self.old sets → Means self.new (after entry (duplicated entry source) sets)) }
+        ensures full { IsErrOf result FamilyFault.FamilyFull ↔ (256 ≤ copy_count self.old) }
+        ensures too_deep { IsErrOf result FamilyFault.TooDeep ↔ ((copy_count self.old < 256) × (can_split self.old source ≡ false)) }
+        ensures never { IfErr result (λ fault. fault ≢ FamilyFault.SameCopy) }
+        ensures exact { OnOk result (self.new.rows ≡ duplicated_rows entry source self.old.rows) }
+        ensures back { OnOk result (self.new.undo ≡ more_undo entry self.old) }
+        ensures owned { OnOk result (OwnsSame self.old self.new) }
+        ensures deep { OnOk result (Deepens 1 self.old self.new) }
+        ensures err { OnErr result (self.new ≡ self.old) }
+    {
+        if self.rows.copies() >= 256 {
+            return Err(FamilyFault::FamilyFull);
+        }
+        if !self.rows.splits(source) {
+            return Err(FamilyFault::TooDeep);
+        }
+        let mut rows = Vec::with_capacity(self.alloc, 1)?;
+        let old = self.rows.duplicate(self.alloc, entry, source)?;
+        rows.push_reserved(old);
+        self.undo.push_front(Undo {
+            entry,
+            back: Back::Rows(rows),
+        });
+        Ok(())
+    }
+
+    /// Records an update of the copy, numbered like the entry.
+    ///
+    /// # Errors
+    ///
+    /// `AllocError` where an allocation failed. The family is then as it was.
+    pub fn edit(&mut self, entry: u64, copy: u64) -> Result<(), AllocError>
+        requires living { is_living self.old copy ≡ true }
+        requires new { IsNew entry self.old }
+        ensures stands { OnOk result ((sets : Sets) → Means self.old sets → AreBelow entry sets.table → Means self.new (after entry (edited entry copy) sets)) }
+        ensures exact { OnOk result (AreEdited entry copy self.old.rows self.new.rows) }
+        ensures back { OnOk result (self.new.undo ≡ more_undo entry self.old) }
+        ensures free { OnOk result (self.new.free ≡ take 8 (true ∷ self.old.free)) }
+        ensures owned { OnOk result (OwnsSame self.old self.new) }
+        ensures deep { OnOk result (Deepens 0 self.old self.new) }
+        ensures err { OnErr result (self.new ≡ self.old) }
+    {
+        let (event, touch) = self.rows.edit(self.alloc, entry, copy)?;
+        self.undo.push_front(Undo {
+            entry,
+            back: Back::Event(copy, event, touch),
+        });
+        Ok(())
+    }
+
+    /// Two copies learn all that either knows, and are settled: the parcels that they hold end whose sets they know now,
+    /// the first copy's before the second's. The first gets the first part of the two ids' sum.
+    ///
+    /// # Errors
+    ///
+    /// `SameCopy` exactly where the two are one; `OutOfMemory` where an allocation failed. The family is then as it was.
+    pub fn reconcile(&mut self, entry: u64, a: u64, b: u64) -> Result<(), FamilyFault>
+        requires first { is_living self.old a ≡ true }
+        requires second { is_living self.old b ≡ true }
+        requires new { IsNew entry self.old }
+        ensures stands { OnOk result ((sets : Sets) → Means self.old sets → Means self.new (after entry (reconciled entry a b) sets)) }
+        ensures same { IsErrOf result FamilyFault.SameCopy ↔ (a ≡ b) }
+        ensures never { IfErr result (λ fault. (fault ≡ FamilyFault.SameCopy) ⊎ (fault ≡ FamilyFault.OutOfMemory)) }
+        ensures back { OnOk result (self.new.undo ≡ more_undo entry self.old) }
+        ensures owned { OnOk result (OwnsSame self.old self.new) }
+        ensures deep { OnOk result (Deepens 0 self.old self.new) }
+        ensures err { OnErr result (self.new ≡ self.old) }
+    {
+        if a == b {
+            return Err(FamilyFault::SameCopy);
+        }
+        let rows = self.rows.reconcile(self.alloc, entry, a, b)?;
+        self.undo.push_front(Undo {
+            entry,
+            back: Back::Rows(rows),
+        });
+        Ok(())
+    }
+
+    /// Two copies learn all that either knows and the update, numbered like the entry, and are settled as by `reconcile`.
+    ///
+    /// # Errors
+    ///
+    /// `SameCopy` exactly where the two are one; `OutOfMemory` where an allocation failed. The family is then as it was.
+    pub fn merge(&mut self, entry: u64, a: u64, b: u64) -> Result<(), FamilyFault>
+        requires first { is_living self.old a ≡ true }
+        requires second { is_living self.old b ≡ true }
+        requires new { IsNew entry self.old }
+        ensures stands { OnOk result ((sets : Sets) → Means self.old sets → AreBelow entry sets.table → Means self.new (after entry (merged entry a b) sets)) }
+        ensures same { IsErrOf result FamilyFault.SameCopy ↔ (a ≡ b) }
+        ensures never { IfErr result (λ fault. (fault ≡ FamilyFault.SameCopy) ⊎ (fault ≡ FamilyFault.OutOfMemory)) }
+        ensures back { OnOk result (self.new.undo ≡ more_undo entry self.old) }
+        ensures owned { OnOk result (OwnsSame self.old self.new) }
+        ensures deep { OnOk result (Deepens 0 self.old self.new) }
+        ensures err { OnErr result (self.new ≡ self.old) }
+    {
+        if a == b {
+            return Err(FamilyFault::SameCopy);
+        }
+        let rows = self.rows.merge(self.alloc, entry, a, b)?;
+        self.undo.push_front(Undo {
+            entry,
+            back: Back::Rows(rows),
+        });
+        Ok(())
+    }
+
+    /// Removes the copy. With an heir its stamp becomes a parcel, numbered like the entry, which the heir holds like those
+    /// that the copy held; and the heir is settled: it gets the ids of the parcels whose sets it knows, and they end. Without
+    /// an heir the copy's id is lost, and the parcels that it held.
+    ///
+    /// # Errors
+    ///
+    /// `SameCopy` exactly where the heir is the copy; `OutOfMemory` where an allocation failed. The family is then as it
+    /// was.
+    pub fn remove(&mut self, entry: u64, copy: u64, heir: Option<u64>) -> Result<(), FamilyFault>
+        requires living { is_living self.old copy ≡ true }
+        requires heir { IfSome heir (λ h. is_living self.old h ≡ true) }
+        requires new { IsNew entry self.old }
+        ensures stands { OnOk result ((sets : Sets) → Means self.old sets → Means self.new (after entry (removed entry copy heir) sets)) }
+        ensures same { IsErrOf result FamilyFault.SameCopy ↔ (heir ≡ Some copy) }
+        ensures never { IfErr result (λ fault. (fault ≡ FamilyFault.SameCopy) ⊎ (fault ≡ FamilyFault.OutOfMemory)) }
+        ensures back { OnOk result (self.new.undo ≡ more_undo entry self.old) }
+        ensures owned { OnOk result (heir ≢ None → OwnsSame self.old self.new) }
+        ensures deep { OnOk result (Deepens 0 self.old self.new) }
+        ensures err { OnErr result (self.new ≡ self.old) }
+    {
+        if heir == Some(copy) {
+            return Err(FamilyFault::SameCopy);
+        }
+        let rows = self.rows.remove(self.alloc, entry, copy, heir)?;
+        self.undo.push_front(Undo {
+            entry,
+            back: Back::Rows(rows),
+        });
+        Ok(())
+    }
+
+    /// Records that the entry touched the copy, as a Relocate does. Takes no memory.
+    pub fn touch_place(&mut self, entry: u64, copy: u64)
+        requires living { is_living self.old copy ≡ true }
+        requires new { IsNew entry self.old }
+        ensures stands { (sets : Sets) → Means self.old sets → Means self.new (after entry (touched entry copy) sets) }
+        ensures back { self.new.undo ≡ more_undo entry self.old }
+        ensures free { self.new.free ≡ take 8 (true ∷ self.old.free) }
+        ensures owned { OwnsSame self.old self.new }
+        ensures deep { Deepens 0 self.old self.new }
+    {
+        let former = self.rows.touch_place(entry, copy);
+        self.undo.push_front(Undo {
+            entry,
+            back: Back::Touch(copy, former),
+        });
+    }
+
+    /// Settles the pending entry and all that are pending before it: they can't be withdrawn any more. An entry that isn't
+    /// pending changes nothing. Takes no memory.
+    pub fn confirm(&mut self, entry: u64)
+        ensures stands { (sets : Sets) → Means self.old sets → Means self.new (confirmed entry sets) }
+        ensures rows { self.new.rows ≡ self.old.rows }
+        ensures owned { OwnsSame self.old self.new }
+        ensures deep { (k : ℕ) → depth_at k self.new ≤ depth_at k self.old }
+    {
+        match position_of(&self.undo, entry) {
+            Some(at) => self.undo.truncate_back(at),
+            None => {}
+        }
+    }
+
+    /// Undoes the last pending entry: the copies and parcels have the stamps, holders and touches from before it, tree for
+    /// tree. An entry that `edit` or `touch_place` recorded is undone without memory.
+    ///
+    /// # Errors
+    ///
+    /// `AllocError` where an allocation failed. The family is then as it was.
+    pub fn withdraw(&mut self, entry: u64) -> Result<(), AllocError>
+        requires { IsLast entry self.old }
+        ensures stands { OnOk result ((sets : Sets) → Means self.old sets → Means self.new (withdrawn sets)) }
+        ensures free { (rest : List Bool) → self.old.free ≡ true ∷ rest → IsOk result }
+        ensures left { OnOk result (self.new.free ≡ drop 1 self.old.free) }
+        ensures exact { OnOk result (self.old.undo ≡ undone entry self.new.rows ∷ self.new.undo) }
+        ensures deep { OnOk result ((k : ℕ) → depth_at k self.new ≡ depth_at (k + 1) self.old) }
+        ensures err { OnErr result (self.new ≡ self.old) }
+    {
+        let _len = self.undo.len();
+        match self.undo.pop_front() {
+            None => unreachable!(),
+            Some(Undo { entry, back }) => match back {
+                Back::Touch(copy, touch) => {
+                    self.rows.set_touch(copy, touch);
+                    Ok(())
+                }
+                Back::Event(copy, event, touch) => {
+                    self.rows.revert(copy, event, touch);
+                    Ok(())
+                }
+                Back::Rows(rows) => match self.rows.put_all(entry, rows) {
+                    Ok(()) => Ok(()),
+                    Err(rows) => {
+                        self.undo.push_front(Undo {
+                            entry,
+                            back: Back::Rows(rows),
+                        });
+                        Err(AllocError)
+                    }
+                },
+            },
+        }
+    }
+
+    /// Whether the copy lives in the family. Takes no memory.
+    pub fn has(&self, copy: u64) -> bool
+        ensures test { result ≡ is_living self.now copy }
+        ensures sets { (sets : Sets) → Means self.now sets → result ≡ is_in sets.table copy }
+    {
+        self.rows.has(copy)
+    }
+
+    /// Whether the entry is greater than each number and touch of copies and parcels, as a report asks. Takes no memory.
+    pub fn is_new(&self, entry: u64) -> bool
+        ensures { IsTrue result ↔ IsNew entry self.now }
+    {
+        self.rows.is_before(entry)
+    }
+
+    /// How many copies live. Takes no memory.
+    pub fn count(&self) -> usize
+        ensures test { result ≡ copy_count self.now }
+        ensures sets { (sets : Sets) → Means self.now sets → result ≡ length (copies_of sets.table) }
+        ensures few { result ≤ 256 }
+    {
+        self.rows.copies()
+    }
+
+    /// The numbers of the living copies, by rising number.
+    ///
+    /// # Errors
+    ///
+    /// `AllocError` where an allocation failed.
+    pub fn living(&self) -> Result<PlainList<u64>, AllocError>
+        ensures sets { IfOk result (λ numbers. (sets : Sets) → Means self.now sets → numbers ≡ map (λ t. t.copy) (copies_of sets.table)) }
+    {
+        self.rows.living(self.alloc)
+    }
+
+    /// Whether the copy's id can be divided, so that `duplicate` doesn't find it too deep. Takes no memory.
+    pub fn splits(&self, copy: u64) -> bool
+        requires { is_living self.now copy ≡ true }
+        ensures test { result ≡ can_split self.now copy }
+        ensures deep { result ≡ false → 256 ≤ depth_at 0 self.now }
+    {
+        self.rows.splits(copy)
+    }
+
+    /// How the first copy relates to the second. Takes no memory; compares two stamps.
+    pub fn rel(&self, a: u64, b: u64) -> Rel
+        requires first { is_living self.now a ≡ true }
+        requires second { is_living self.now b ≡ true }
+        ensures { (sets : Sets) → Means self.now sets → result ≡ relation (set_in sets.table a) (set_in sets.table b) }
+    {
+        self.rows.rel(a, b)
+    }
+
+    /// The entry that last touched a copy. Takes no memory.
+    pub fn touch(&self, copy: u64) -> u64
+        requires { is_living self.now copy ≡ true }
+        ensures levels { (row : RowValue) → In row self.now.rows → row.copy ≡ copy → greatest row.stamp.event ≤ result }
+        ensures sets { (sets : Sets) → Means self.now sets → result ≡ touch_in sets.table copy }
+    {
+        self.rows.touch(copy)
+    }
+
+    /// How many parcels the copy holds. Takes no memory.
+    pub fn held(&self, copy: u64) -> usize
+        ensures sets { (sets : Sets) → Means self.now sets → result ≡ held_by copy sets.table }
+        ensures held { (sets : Sets) → Means self.now sets → AreHeld sets.table }
+    {
+        self.rows.held(copy)
+    }
+
+    /// The last pending entry, which can be withdrawn. Takes no memory.
+    pub fn pending(&self) -> Option<u64>
+        ensures last { (entry : ℕ) → result ≡ Some entry → IsLast entry self.now }
+        ensures sets { (sets : Sets) (entry : ℕ) → Means self.now sets → (result ≡ Some entry) ↔ PendsLast entry sets.before }
+    {
+        match self.undo.front() {
+            Some(undo) => Some(undo.entry),
+            None => None,
+        }
+    }
+
+    /// Whether the entry is pending, so that it can be confirmed. Takes no memory.
+    pub fn is_pending(&self, entry: u64) -> bool
+        ensures sets { (sets : Sets) → Means self.now sets → IsTrue result ↔ Pends entry sets.before }
+    {
+        has_entry(&self.undo, entry)
+    }
+
+    /// How the copies relate to each other: O(n * n) comparisons of stamps for n copies.
+    ///
+    /// # Errors
+    ///
+    /// `AllocError` where an allocation failed.
+    pub fn board(&self) -> Result<FamilyBoard, AllocError>
+        ensures rows { IfOk result (λ board. (sets : Sets) → Means self.now sets → board.rows ≡ board_rows sets.table) }
+        ensures newest { IfOk result (λ board. (sets : Sets) → Means self.now sets → board.newest ≡ board_newest sets.table) }
+        ensures split { IfOk result (λ board. (sets : Sets) → Means self.now sets → board.split ≡ board_split sets.table) }
+    {
+        self.rows.board(self.alloc)
+    }
+
+    /// The text of each living copy's stamp, by rising number.
+    ///
+    /// # Errors
+    ///
+    /// `AllocError` where an allocation failed.
+    pub fn stamps(&self) -> Result<PlainList<CopyStamp>, AllocError>
+        ensures sets { IfOk result (λ stamps. (sets : Sets) → Means self.now sets → AreStamps (map text_of stamps) (copies_of sets.table)) }
+    {
+        self.rows.stamps(self.alloc)
+    }
+}
+
+/// The position of an entry's record, if there is one.
+fn position_of(undo: &HeapCircularBuffer<Undo>, entry: u64) -> Option<usize>
+    ensures { result ≡ position (λ u. u.entry == entry) undo.now.items }
+{
+    undo.iter().position(|u| u.entry == entry)
+}
+
+fn has_entry(undo: &HeapCircularBuffer<Undo>, entry: u64) -> bool
+    ensures { result ≡ list_any (λ u. u.entry == entry) undo.now.items }
+{
+    undo.iter().any(|u| u.entry == entry)
+}

@@ -1,0 +1,186 @@
+//! Settling a copy: what it owns once the parcels end that it holds and knows.
+ghost use Rattle.std.specs.Prelude.{◌≡◌, ◌≤◌, ◌&&◌, ◌||◌, ◌==◌, true, false, map, filter, IfOk, OnErr, not};
+ghost use Rattle.pana_id.specs.Id.{is_zero, sum_of, IsSum, SharesNoPoint};
+ghost use Rattle.pana_event.specs.Event.{IsNormal, depth};
+ghost use Rattle.pana_event.specs.Order.{is_leq};
+ghost use Rattle.pana_family.specs.declared.row.StampRow.{StampRow as RowValue};
+ghost use Rattle.pana_family.specs.Table.{In};
+ghost use Rattle.pana_family.specs.Rows.{IsRising};
+ghost use Rattle.pana_family.specs.inner.Making.{AreApart, IsOwn, AreSettled, Gathered, IsGathered, is_bound, ends_from, settles, stays_parcel, parcel_row};
+
+use crate::exchanging::settle_in;
+use crate::making::copy_of;
+use crate::row::StampRow;
+use crate::searching::is_held;
+use pana_id::IdTree;
+use pana_stamp::Stamp;
+use std::alloc::{AllocError, Global};
+
+/// The events of rows are within the limits, which their types say.
+pub fn all_sound(rows: &[StampRow])
+    ensures { (r : RowValue) → In r rows.now → IsNormal r.stamp.event × (depth r.stamp.event ≤ 256) }
+{
+    for row in rows {
+        let _ = row.stamp.event_tree().node();
+    }
+}
+
+/// Whether the row is that of the copy that is removed, or of a parcel that it holds.
+pub fn is_bound(row: &StampRow, from: Option<u64>) -> bool
+    ensures { result ≡ is_bound from row.now }
+{
+    match from {
+        None => false,
+        Some(copy) => row.copy == copy || is_held(row, copy),
+    }
+}
+
+/// Whether the copy of the first row knows all that the other row's stamp does.
+fn is_known(row: &StampRow, other: &StampRow) -> bool
+    ensures { result ≡ is_leq other.now.stamp.event row.now.stamp.event }
+{
+    other.stamp.event_tree().leq(row.stamp.event_tree())
+}
+
+/// Whether the other row's id becomes the copy's when that is settled: it holds it, or the removed copy did, and knows it.
+fn ends(row: &StampRow, from: Option<u64>, other: &StampRow) -> bool
+    ensures { result ≡ ends_from from row.now other.now }
+{
+    (is_bound(other, from) || is_held(other, row.copy)) && is_known(row, other)
+}
+
+/// Whether the other row is the copy's, or ends when the copy is settled.
+pub fn settles(row: &StampRow, from: Option<u64>, other: &StampRow) -> bool
+    ensures { result ≡ settles from row.now other.now }
+{
+    other.copy == row.copy || ends(row, from, other)
+}
+
+fn sum(alloc: Global, first: &IdTree, second: &IdTree) -> Result<IdTree, AllocError>
+    requires { SharesNoPoint first.now second.now }
+    ensures tree { IfOk result (λ whole. whole ≡ sum_of first.now second.now) }
+    ensures summed { IfOk result (λ whole. IsSum whole first.now second.now) }
+{
+    match IdTree::sum(alloc, first, second) {
+        Ok(id) => Ok(id),
+        Err(_) => Err(AllocError),
+    }
+}
+
+/// The id of a copy with those of the rows that end.
+fn gathered(
+    alloc: Global,
+    rows: &[StampRow],
+    row: &StampRow,
+    from: Option<u64>,
+) -> Result<IdTree, AllocError>
+    requires rising { IsRising 0 rows.now }
+    requires apart { AreApart rows.now }
+    requires other { (r : RowValue) → In r rows.now → ends_from from row.now r ≡ true → SharesNoPoint row.now.stamp.id r.stamp.id }
+    requires some { is_zero row.now.stamp.id ≡ false }
+    ensures { IfOk result (λ id. Gathered (ends_from from row.now) row.now.stamp.id rows.now id) }
+{
+    let mut id = copy_of(alloc, row.stamp.id())?;
+    for other in rows {
+        if ends(row, from, other) {
+            id = sum(alloc, &id, other.stamp.id())?;
+        }
+    }
+    Ok(id)
+}
+
+/// The row of a copy once it is settled among these rows.
+pub fn settled_row(
+    alloc: Global,
+    rows: &[StampRow],
+    row: &StampRow,
+    from: Option<u64>,
+) -> Result<StampRow, AllocError>
+    requires rising { IsRising 0 rows.now }
+    requires apart { AreApart rows.now }
+    requires other { (r : RowValue) → In r rows.now → ends_from from row.now r ≡ true → SharesNoPoint row.now.stamp.id r.stamp.id }
+    requires some { is_zero row.now.stamp.id ≡ false }
+    ensures { IfOk result (λ new. IsGathered from rows.now row.now new) }
+{
+    all_sound(rows);
+    let _ = row.stamp.event_tree().node();
+    let id = gathered(alloc, rows, row, from)?;
+    let event = row.stamp.event_tree().copy_of(alloc)?;
+    Ok(StampRow {
+        copy: row.copy,
+        holder: row.holder,
+        stamp: Stamp::new(id, event),
+        touch: row.touch,
+    })
+}
+
+/// The row as a parcel that the heir holds: the removed copy's gets the number of the entry, which is its touch too.
+fn parcel_row(
+    alloc: Global,
+    row: &StampRow,
+    entry: u64,
+    copy: u64,
+    heir: u64,
+) -> Result<StampRow, AllocError>
+    ensures { IfOk result (λ parcel. parcel ≡ parcel_row entry copy heir row.now) }
+{
+    let is_copy = row.copy == copy;
+    let id = copy_of(alloc, row.stamp.id())?;
+    let event = row.stamp.event_tree().copy_of(alloc)?;
+    Ok(StampRow {
+        copy: if is_copy { entry } else { row.copy },
+        holder: Some(heir),
+        stamp: Stamp::new(id, event),
+        touch: if is_copy { entry } else { row.touch },
+    })
+}
+
+/// Whether the row is the removed copy's, or a parcel's that it holds, and the heir doesn't know it.
+fn stays(heir: &StampRow, copy: u64, row: &StampRow) -> bool
+    ensures { result ≡ stays_parcel heir.now copy row.now }
+{
+    is_bound(row, Some(copy)) && !is_known(heir, row)
+}
+
+/// The parcels that the heir holds once the copy is removed and the heir settled, but for those that it held before.
+pub fn parcels_left(
+    alloc: Global,
+    rows: &[StampRow],
+    heir: &StampRow,
+    entry: u64,
+    copy: u64,
+) -> Result<Vec<StampRow>, AllocError>
+    ensures { IfOk result (λ parcels. parcels.items ≡ map (parcel_row entry copy heir.now.copy) (filter (stays_parcel heir.now copy) rows.now)) }
+{
+    let mut parcels = Vec::new(alloc);
+    for row in rows {
+        if stays(heir, copy, row) {
+            parcels.push(parcel_row(alloc, row, entry, copy, heir.copy)?)?;
+        }
+    }
+    Ok(parcels)
+}
+
+/// Puts two rows that share a stamp in the place of their copies', and settles both copies, the first before the second.
+/// Returns the rows that went.
+pub fn settle_both(
+    alloc: Global,
+    items: &mut Vec<StampRow>,
+    left: &StampRow,
+    right: &StampRow,
+) -> Result<Vec<StampRow>, AllocError>
+    requires rising { IsRising 0 items.old.items }
+    requires apart { AreApart items.old.items }
+    requires left { IsOwn items.old.items left.now }
+    requires right { IsOwn items.old.items right.now }
+    ensures settled { IfOk result (λ gone. AreSettled items.old.items left.now right.now items.new.items gone.items) }
+    ensures err { OnErr result (items.new.items ≡ items.old.items) }
+{
+    let first = settled_row(alloc, items, left, None)?;
+    let second = settled_row(alloc, items, right, None)?;
+    let mut settled = Vec::with_capacity(alloc, 2)?;
+    settled.push_reserved(first);
+    settled.push_reserved(second);
+    let gone = settle_in(alloc, items, None, settled, Vec::new(alloc))?;
+    Ok(gone)
+}

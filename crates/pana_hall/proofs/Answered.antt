@@ -1,0 +1,157 @@
+-- Answers read off the families.
+use Rattle.std.specs.Prelude.{◌≡◌, ℕ, zero, suc, Bool, ◌-◌, ◌||◌, nat_lt, slice_index_or, ◌+◌, ◌<◌, ◌≤◌, true, false, cond, List, [], ◌∷◌, ◌++◌, length, map, filter, Some, None, is_some, option_and_then, slice_get}
+use Rattle.std.specs.List.{AllByRecursion, list_any}
+use Rattle.std.proofs.Common.{refl, sym, ap, ◌∙◌, subst, arith}
+use Rattle.std.proofs.lemmas.Bool.{not-false, lt-ltb}
+use Rattle.std.proofs.lemmas.List.{length-map, map-append}
+use Rattle.std.proofs.lemmas.List.Elements.{filter-append}
+use Rattle.pana_copies.specs.Spots.{Table}
+use Rattle.pana_family.specs.Table.{Known, is_in, set_in, touch_in}
+use Rattle.pana_family.specs.Table as table
+use Rattle.pana_family.specs.View.{Means}
+use Rattle.pana_family.specs.declared.stamps.CopyStamp.{CopyStamp}
+use Rattle.pana_family.specs.Stamps.{AreStamps, text_of}
+use Rattle.pana_hall.specs.declared.kept_family.KeptFamily.{KeptFamily}
+use Rattle.pana_hall.specs.Family.{families, is_family, has_report, is_register}
+use Rattle.pana_hall.specs.Living.{Copy, copy_in, known_to, living}
+use Rattle.pana_hall.specs.declared.cause.Cause.TheVariants.{UnknownFamily}
+use Rattle.pana_hall.specs.declared.family_row.FamilyRow.{FamilyRow}
+use Rattle.pana_hall.specs.Board.{is_of}
+use Rattle.pana_hall.specs.Queries.{family_row}
+use Rattle.pana_hall.specs.Refusal.{unknown_family, unknown, other_family, first}
+use Rattle.pana_hall.specs.Accepted.{IsAccepted}
+use Rattle.pana_hall.specs.Tables as tables
+use Rattle.pana_hall.specs.Sets.{sets_of}
+use Rattle.pana_hall.specs.inner.Families.{family_at}
+use Rattle.pana_hall.specs.inner.Kept.{IsFamilyKept, IsKept}
+use Rattle.pana_journal.specs.declared.report.Report.{Report}
+use Rattle.pana_journal.specs.declared.report.Report.TheVariants.{Register, Duplicate, Edit, Reconcile, Merge, Relocate, Remove, Confirm, Withdraw}
+use Rattle.pana_journal.specs.declared.entry.Entry.{Entry}
+use Rattle.pana_journal.specs.Entries.{entry_at}
+use Rattle.pana_hall.proofs.Locality.{Belongs, IsWell}
+use Rattle.pana_hall.proofs.Rising.{entry_at_place, slice_get-each}
+use Rattle.pana_hall.proofs.Records.{found_at, entry_within}
+use Rattle.pana_hall.proofs.Allowed.{first_none, known, none_false, one_family}
+use Rattle.pana_hall.proofs.Sound.{accepted_is_sound}
+use Rattle.pana_hall.proofs.Tables.{merged, table_living}
+use Rattle.pana_hall.specs.Stamps.{AreStampsOf, as_known}
+use Rattle.pana_hall.proofs.Knowns.{set_in-known, set_in-copies}
+use Rattle.pana_hall.proofs.Mirrors.{layers_mirrored}
+use Rattle.pana_hall.proofs.KeptFamilies.{copies_sets, lives_in_sets}
+use Rattle.pana_hall.proofs.Ready.{family_of}
+use Rattle.pana_hall.proofs.Refusals.{has_family}
+
+known_same : (number : ℕ) (xs ys : List Copy) → copy_in xs number ≡ copy_in ys number → known_to xs number ≡ known_to ys number
+known_same number xs ys e = rw (e) refl
+
+-- what a living copy knows is read off its family's table
+pub set_of_copy : (journal : List Entry) (family n : ℕ) (copy : Copy) → IsAccepted 8 journal → copy_in (living journal) n ≡ Some copy → families journal n ≡ family
+    → set_in (sets_of family journal).table n ≡ known_to (living journal) n
+set_of_copy journal family n copy accepted found of =
+    let lives : is_in (sets_of family journal).table n ≡ true = ap (λ f. is_in (sets_of f journal).table n) (sym of) ∙ lives_in_sets journal n accepted ∙ ap is_some found in
+    set_in-copies 0 n (sets_of family journal).table (layers_mirrored journal accepted 0 family).rising lives
+    ∙ ap (λ l. set_in l n) (copies_sets journal family accepted)
+    ∙ set_in-known (tables.table 8 0 family journal) n
+    ∙ ap (λ f. known_to (tables.table 8 0 f journal) n) (sym of)
+    ∙ sym (known_same n (living journal) (tables.table 8 0 (families journal n) journal) ((merged 8 journal (accepted_is_sound 8 journal accepted)).found n))
+
+-- two copies that may be compared live in one family
+pub record Pair (journal : List Entry) (a b : ℕ) : Type 0 where
+  pub first : Copy
+  pub second : Copy
+  pub found_first : copy_in (living journal) a ≡ Some first
+  pub found_second : copy_in (living journal) b ≡ Some second
+  pub of : families journal b ≡ families journal a
+
+pub pair_at : (journal : List Entry) (a b : ℕ) → IsAccepted 8 journal → first (unknown a (living journal) ∷ unknown b (living journal) ∷ other_family a b (living journal) ∷ []) ≡ None → Pair journal a b
+pair_at journal a b accepted free =
+    let sound = accepted_is_sound 8 journal accepted in
+    let known_a = first_none (unknown a (living journal)) _ free in
+    let known_b = first_none (unknown b (living journal)) _ known_a.1 in
+    let alike = first_none (other_family a b (living journal)) [] known_b.1 in
+    let x = known a (living journal) known_a.0 in
+    let y = known b (living journal) known_b.0 in
+    record {
+      first = x.0;
+      second = y.0;
+      found_first = x.1;
+      found_second = y.1;
+      of = sym (family_of journal b y.0 sound y.1) ∙ one_family a b (living journal) x.0 y.0 alike.0 x.1 y.1 ∙ family_of journal a x.0 sound x.1;
+    }
+
+-- a family that has begun is its own
+pub begun_at : (journal : List Entry) (family : ℕ) → IsAccepted 8 journal → first (unknown_family family journal ∷ []) ≡ None → (0 < family) × (family ≤ length journal) × (families journal family ≡ family)
+begun_at journal family accepted free =
+    let sound = accepted_is_sound 8 journal accepted in
+    let begun : is_family journal family ≡ true = not-false (is_family journal family) (none_false _ UnknownFamily (first_none (unknown_family family journal) [] free).0) in
+    elim (entry_at journal family) as (λ o. entry_at journal family ≡ o → has_report is_register o ≡ true → (0 < family) × (family ≤ length journal) × (families journal family ≡ family)) [
+      | None ↦ λ e f. absurd (cc)
+      | Some entry ↦ λ e f.
+          let within = entry_within journal family entry e in
+          let place = entry_at_place journal family entry e in
+          let some = within.0 in
+          let here = slice_get-each (IsWell (families journal) (length journal)) journal (family - 1) entry sound.well place.1 in
+          let numbered : entry.number ≡ family - 1 + 1 = sound.numbered (family - 1) entry place.1 in
+          let is_it : entry.number ≡ family = omega arith in
+          (within.0, within.1, ap (families journal) (sym is_it) ∙ its_own (families journal) entry.number entry.report here.belongs f ∙ is_it)
+    ] refl begun
+  where
+    its_own : (of : ℕ → ℕ) (n : ℕ) (report : Report) → Belongs of n report → is_register report ≡ true → of n ≡ n
+    its_own of n (Register place) belongs is = belongs
+    its_own of n (Duplicate c place) belongs is = absurd (cc)
+    its_own of n (Edit c) belongs is = absurd (cc)
+    its_own of n (Reconcile a b) belongs is = absurd (cc)
+    its_own of n (Merge a b) belongs is = absurd (cc)
+    its_own of n (Relocate c place) belongs is = absurd (cc)
+    its_own of n (Remove c heir) belongs is = absurd (cc)
+    its_own of n (Confirm m) belongs is = absurd (cc)
+    its_own of n (Withdraw m) belongs is = absurd (cc)
+
+pub family_there : (journal : List Entry) (list : List KeptFamily) (positions : List ℕ) (copies : Table) (family : ℕ) → IsKept journal list positions copies → first (unknown_family family journal ∷ []) ≡ None
+    → (it : KeptFamily) × (family_at list positions family ≡ Some it) × (it.number ≡ family) × IsFamilyKept journal it
+family_there journal list positions copies family all free =
+    let begun = begun_at journal family all.accepted free in
+    let there = found_at journal list positions family all.listed all.placed begun.0 begun.1 in
+    let at : family_at list positions family ≡ Some there.2.it = ap (option_and_then (slice_get list)) there.1 ∙ there.2.found in
+    (there.2.it, at, there.2.number ∙ begun.2, (has_family journal list positions copies family all there.2.it at).0)
+
+-- the families of a list, one after another
+abbrev pub rows_of : List Copy → List ℕ → List FamilyRow
+rows_of copies numbers = map (family_row copies) (filter (λ family. list_any (is_of family) copies) numbers)
+
+pub rows_push : (copies : List Copy) (numbers : List ℕ) (n : ℕ) → rows_of copies (numbers ++ n ∷ []) ≡ rows_of copies numbers ++ cond (list_any (is_of n) copies) (family_row copies n ∷ []) []
+rows_push copies numbers n =
+    ap (map (family_row copies)) (filter-append _ numbers (n ∷ []))
+    ∙ map-append (family_row copies) (filter (λ family. list_any (is_of family) copies) numbers) (cond (list_any (is_of n) copies) (n ∷ []) [])
+    ∙ ap (λ l. rows_of copies numbers ++ l) (elim (list_any (is_of n) copies) as (λ b. map (family_row copies) (cond b (n ∷ []) []) ≡ cond b (family_row copies n ∷ []) []) [ true ↦ refl | false ↦ refl ])
+
+any_count : {X : Type 0} (p : X → Bool) (xs : List X) → list_any p xs ≡ nat_lt 0 (length (filter p xs))
+any_count p [] = refl
+any_count p (x ∷ xs) = elim (p x) as (λ b. (b || list_any p xs) ≡ nat_lt 0 (length (cond b (x ∷ filter p xs) (filter p xs)))) [ true ↦ sym (lt-ltb 0 (suc (length (filter p xs))) (omega arith)) | false ↦ any_count p xs ]
+
+-- a family has a living copy where it counts one
+pub lives_is : (journal : List Entry) (it : KeptFamily) (count : ℕ) → IsAccepted 8 journal → count ≡ length (table.copies_of (sets_of it.number journal).table) → nat_lt 0 count ≡ list_any (is_of it.number) (living journal)
+lives_is journal it count accepted is =
+    ap (nat_lt 0) (is ∙ ap length (copies_sets journal it.number accepted) ∙ length-map (tables.table 8 0 it.number journal) as_known ∙ ap length (sym (table_living 8 it.number journal)))
+    ∙ sym (any_count (is_of it.number) (living journal))
+
+pub each_get : {X : Type 0} (P : X → Type 0) (xs : List X) (i : ℕ) (d : X) → AllByRecursion P xs → i < length xs → P (slice_index_or xs i d)
+each_get P [] i d each within = absurd (omega arith)
+each_get P (x ∷ xs) zero d each within = each.0
+each_get P (x ∷ xs) (suc i) d each within = each_get P xs i d each.1 (omega arith)
+
+pub known_family : (journal : List Entry) (list : List KeptFamily) (positions : List ℕ) (copies : Table) (family : ℕ) (it : KeptFamily) → IsKept journal list positions copies → first (unknown_family family journal ∷ []) ≡ None
+    → family_at list positions family ≡ Some it → Means it.family (sets_of family journal)
+known_family journal list positions copies family it all free at =
+    let there = family_there journal list positions copies family all free in
+    let both : Some there.0 ≡ Some it = sym there.1 ∙ at in
+    let same : there.0 ≡ it = cc in
+    subst (λ (k : KeptFamily). Means k.family (sets_of family journal)) same (subst (λ f. Means there.0.family (sets_of f journal)) there.2 there.3.means)
+
+-- the stamps of a family's copies are those of the copies that live
+pub stamps_are : (journal : List Entry) (family : ℕ) (stamps : List CopyStamp) → IsAccepted 8 journal
+    → AreStamps (map text_of stamps) (table.copies_of (sets_of family journal).table) → AreStampsOf family (living journal) stamps
+unfolding AreStampsOf
+stamps_are journal family stamps accepted are =
+    subst (λ (copies : List Known). AreStamps (map text_of stamps) copies)
+    (copies_sets journal family accepted ∙ ap (map as_known) (sym ((merged 8 journal (accepted_is_sound 8 journal accepted)).tables family))) are

@@ -1,0 +1,211 @@
+-- What a hall keeps of its journal, as entries come.
+use Rattle.std.specs.Prelude.{◌≡◌, ◌⊎◌, ℕ, zero, suc, ◌+◌, ◌-◌, ◌<◌, ◌≤◌, true, false, cond, ◌==◌, List, [], ◌∷◌, ◌++◌, length, map, Some, None, slice_get, option_and_then}
+use Rattle.std.specs.List.{AllByRecursion}
+use Rattle.std.proofs.Common.{refl, sym, ap, ◌∙◌, subst, inl, inr, arith}
+use Rattle.std.proofs.lemmas.Bool.{eqb-true, ne_eqb, cases_lt}
+use Rattle.std.proofs.lemmas.List.{length-append, length-map}
+use Rattle.pana_copies.specs.Spots.{Table}
+use Rattle.pana_journal.specs.declared.report.Report.{Report}
+use Rattle.pana_journal.specs.declared.report.Report.TheVariants.{Register, Duplicate, Edit, Reconcile, Merge, Relocate, Remove, Confirm, Withdraw}
+use Rattle.pana_journal.specs.declared.entry.Entry.{Entry}
+use Rattle.pana_journal.specs.Entries.{entry_at}
+use Rattle.pana_hall.specs.declared.kept_family.KeptFamily.{KeptFamily}
+use Rattle.pana_hall.specs.Family.{families, begun_or_joined, subject, is_register}
+use Rattle.pana_hall.specs.Living.{Copy, copy_in, living}
+use Rattle.pana_hall.specs.Queries.{begun}
+use Rattle.pana_hall.specs.Refusal.{report_refusal}
+use Rattle.pana_hall.specs.Accepted.{IsAccepted}
+use Rattle.pana_hall.specs.Laws.{AreRising}
+use Rattle.pana_hall.specs.inner.Families.{position_at}
+use Rattle.pana_hall.specs.inner.Spots.{SameSpots}
+use Rattle.pana_hall.specs.inner.Kept.{next_entry, ArePlaced, AreListed, AreSpots, IsAt, IsKept, IsReadyAt, Splits, position_for, position_of_subject}
+use Rattle.pana_hall.proofs.Rising.{entry_at_place, slice_get-append, slice_get-push}
+use Rattle.pana_hall.proofs.Grown.{family_new, family_old}
+use Rattle.pana_hall.proofs.Sound.{accepted_is_sound, named_by}
+use Rattle.pana_hall.proofs.Sorted.{begun-next}
+use Rattle.pana_hall.proofs.Steps.{next_accepted, rising}
+use Rattle.pana_hall.proofs.Listed.{within_length}
+use Rattle.pana_hall.proofs.Ready.{Names, LivesIn, named_report, accepts_next}
+
+slice_get-map : {X : Type 0} (f : X → ℕ) (xs : List X) (p y : ℕ) → slice_get (map f xs) p ≡ Some y → (x : X) × (slice_get xs p ≡ Some x) × (f x ≡ y)
+slice_get-map f [] p y at = absurd (cc)
+slice_get-map f (x ∷ xs) zero y at = (x, refl, cc)
+slice_get-map f (x ∷ xs) (suc p) y at = slice_get-map f xs p y at
+
+-- a living copy's number is that of an entry
+found_within : (low last n : ℕ) (copies : List Copy) (copy : Copy) → AreRising (λ c. c.number) low copies → AllByRecursion (λ c. c.number ≤ last) copies → copy_in copies n ≡ Some copy → (low < n) × (n ≤ last)
+found_within low last n [] copy rises within found = absurd (cc)
+found_within low last n (c ∷ copies) copy rises within found =
+    let first = rises.0 in
+    let below = within.0 in
+    elim (c.number == n) as (λ b. (c.number == n) ≡ b → cond b (Some c) (copy_in copies n) ≡ Some copy → (low < n) × (n ≤ last)) [
+      | true ↦ λ e f. let same : c.number ≡ n = eqb-true c.number n e in (omega arith, omega arith)
+      | false ↦ λ e f. let rest = found_within c.number last n copies copy rises.1 within.1 f in let above = rest.0 in (omega arith, rest.1)
+    ] refl found
+
+abbrev IsWithin : List Entry → ℕ → Type 0
+IsWithin journal n = (0 < n) × (n ≤ length journal)
+
+pub lives_within : (journal : List Entry) (family n : ℕ) → IsAccepted 8 journal → LivesIn journal family n → IsWithin journal n
+lives_within journal family n accepted lives = let up = rising 8 journal accepted in found_within 0 (length journal) n (living journal) lives.copy up.0 up.1 lives.found
+
+pub entry_within : (journal : List Entry) (m : ℕ) (entry : Entry) → entry_at journal m ≡ Some entry → IsWithin journal m
+entry_within journal m entry at =
+    let place = entry_at_place journal m entry at in
+    let not_zero = place.0 in
+    let within = within_length journal (m - 1) entry place.1 in
+    (omega arith, omega arith)
+
+-- what a report names as its subject is a copy or an entry of the journal
+pub subject_within : (journal : List Entry) (by : List ℕ) (report : Report) (n : ℕ) → IsAccepted 8 journal → report_refusal 8 journal (living journal) by report ≡ None → subject report ≡ Some n → IsWithin journal n
+subject_within journal by report n accepted free about =
+    let sound = accepted_is_sound 8 journal accepted in
+    let copy : (c : ℕ) → Names report c → c ≡ n → IsWithin journal n = λ c names same. subst (IsWithin journal) same (lives_within journal _ c accepted (named_report journal 0 by report c sound free names)) in
+    let entry : (m : ℕ) → (report ≡ Confirm m) ⊎ (report ≡ Withdraw m) → m ≡ n → IsWithin journal n = λ m is same. let there = named_by 8 journal by report m is free in subst (IsWithin journal) same (entry_within journal m there.0 there.1) in
+    elim report as (λ r. report ≡ r → subject r ≡ Some n → IsWithin journal n) [
+      | Register place ↦ λ e a. absurd (cc)
+      | Duplicate c place ↦ λ e a. copy c (subst (λ r. Names r c) (sym e) refl) (cc)
+      | Edit c ↦ λ e a. copy c (subst (λ r. Names r c) (sym e) refl) (cc)
+      | Reconcile a b ↦ λ e s. copy a (subst (λ r. Names r a) (sym e) (inl refl)) (cc)
+      | Merge a b ↦ λ e s. copy a (subst (λ r. Names r a) (sym e) (inl refl)) (cc)
+      | Relocate c place ↦ λ e a. copy c (subst (λ r. Names r c) (sym e) refl) (cc)
+      | Remove c None ↦ λ e a. copy c (subst (λ r. Names r c) (sym e) refl) (cc)
+      | Remove c (Some heir) ↦ λ e a. copy c (subst (λ r. Names r c) (sym e) (inl refl)) (cc)
+      | Confirm m ↦ λ e a. entry m (inl e) (cc)
+      | Withdraw m ↦ λ e a. entry m (inr e) (cc)
+    ] refl about
+
+-- the family of an entry is found at its position
+pub found_at : (journal : List Entry) (list : List KeptFamily) (positions : List ℕ) (n : ℕ) → AreListed journal list → ArePlaced journal positions → 0 < n → n ≤ length journal
+    → (p : ℕ) × (position_at positions n ≡ Some p) × IsAt list p (families journal n)
+found_at journal list positions n listed placed some within =
+    let at = placed.at n some within in
+    let there = slice_get-map (λ it. it.number) list at.0 (families journal n) (ap (λ l. slice_get l at.0) listed.begun ∙ at.2) in
+    (at.0, at.1, record { it = there.0; found = there.1; number = there.2 })
+
+-- a report without a subject is a Register
+registers : (report : Report) → subject report ≡ None → is_register report ≡ true
+registers (Register place) e = refl
+registers (Duplicate c place) e = absurd (cc)
+registers (Edit c) e = absurd (cc)
+registers (Reconcile a b) e = absurd (cc)
+registers (Merge a b) e = absurd (cc)
+registers (Relocate c place) e = absurd (cc)
+registers (Remove c heir) e = absurd (cc)
+registers (Confirm m) e = absurd (cc)
+registers (Withdraw m) e = absurd (cc)
+
+none_registers : (report : Report) → subject report ≡ None → is_register report ≡ false → ⊥
+none_registers report e f = let yes = registers report e in absurd (cc)
+
+position_append : (positions more : List ℕ) (n p : ℕ) → position_at positions n ≡ Some p → position_at (positions ++ more) n ≡ Some p
+position_append positions more n p at =
+    elim (n == 0) as (λ b. cond b None (slice_get positions (n - 1)) ≡ Some p → cond b None (slice_get (positions ++ more) (n - 1)) ≡ Some p) [
+      | true ↦ λ h. absurd (cc)
+      | false ↦ λ h. slice_get-append positions more (n - 1) p h
+    ] at
+
+position_push : (positions : List ℕ) (p : ℕ) → position_at (positions ++ p ∷ []) (length positions + 1) ≡ Some p
+position_push positions p =
+    let place : length positions + 1 - 1 ≡ length positions = omega arith in
+    ap (λ b. cond b None (slice_get (positions ++ p ∷ []) (length positions + 1 - 1))) (ne_eqb (length positions + 1) 0 (λ h. omega arith))
+    ∙ ap (slice_get (positions ++ p ∷ [])) place ∙ slice_get-push positions p
+
+module _ (journal : List Entry) (by : List ℕ) (report : Report) (list : List KeptFamily) (positions : List ℕ) (copies : Table) where
+  -- a report has a position for its family
+  pub has_position : IsKept journal list positions copies → report_refusal 8 journal (living journal) by report ≡ None → (p : ℕ) × (position_for list positions report ≡ Some p)
+  has_position all free =
+      elim (subject report) as (λ s. subject report ≡ s → (p : ℕ) × (position_of_subject list positions s ≡ Some p)) [
+        | None ↦ λ e. (length list, refl)
+        | Some n ↦ λ e.
+            let within = subject_within journal by report n all.accepted free e in
+            let at = found_at journal list positions n all.listed all.placed within.0 within.1 in
+            (at.0, at.1)
+      ] refl
+
+  -- and its family is there
+  pub ready_for : IsKept journal list positions copies → report_refusal 8 journal (living journal) by report ≡ None → Splits list positions report → (p : ℕ) → position_for list positions report ≡ Some p
+      → IsReadyAt journal by report list p copies
+  ready_for all free splits p at = record {
+    accepted = all.accepted;
+    free = free;
+    listed = all.listed;
+    spots = all.spots;
+    at = λ later.
+        let named : families (journal ++ next_entry journal by report ∷ []) (length journal + 1) ≡ begun_or_joined (families journal) (length journal + 1) (subject report) = family_new journal (next_entry journal by report) in
+        elim (subject report) as (λ s. subject report ≡ s → position_of_subject list positions s ≡ Some p → families (journal ++ next_entry journal by report ∷ []) (length journal + 1) ≡ begun_or_joined (families journal) (length journal + 1) s
+        → IsAt list p (families (journal ++ next_entry journal by report ∷ []) (length journal + 1))) [
+          | None ↦ λ e f g. absurd (none_registers report e later)
+          | Some n ↦ λ e f g.
+              let within = subject_within journal by report n all.accepted free e in
+              let there = found_at journal list positions n all.listed all.placed within.0 within.1 in
+              let both : Some there.0 ≡ Some p = sym there.1 ∙ f in
+              let same : there.0 ≡ p = cc in
+              subst (λ k. IsAt list k (families (journal ++ next_entry journal by report ∷ []) (length journal + 1))) same (subst (IsAt list there.0) (sym g) there.2)
+        ] refl at named;
+    splits = λ copy place it about found. splits copy place it about
+        (let e : position_at positions copy ≡ Some p = ap (λ r. position_for list positions r) (sym about) ∙ at in ap (option_and_then (slice_get list)) e ∙ found);
+  }
+
+  -- what is kept then
+  pub kept_next : IsKept journal list positions copies → report_refusal 8 journal (living journal) by report ≡ None → (p : ℕ) → position_for list positions report ≡ Some p
+      → (list' : List KeptFamily) (copies' : Table) → AreListed (journal ++ next_entry journal by report ∷ []) list' → AreSpots (journal ++ next_entry journal by report ∷ []) copies'
+      → IsKept (journal ++ next_entry journal by report ∷ []) list' (positions ++ p ∷ []) copies'
+  kept_next all free p at list' copies' listed spots =
+      let entry = next_entry journal by report in
+      let journal' = journal ++ entry ∷ [] in
+      let long : length list ≡ length (begun journal) = sym (length-map list (λ it. it.number)) ∙ ap length all.listed.begun in
+      record {
+        accepted = next_accepted 8 journal entry all.accepted (accepts_next journal by report free);
+        listed = listed;
+        spots = spots;
+        placed = record {
+          count = length-append positions (p ∷ []) ∙ ap (λ n. n + 1) all.placed.count ∙ sym (length-append journal (entry ∷ []));
+          at = λ n some within.
+              let longer = length-append journal (entry ∷ []) in
+              elim (cases_lt n (length journal + 1)) [
+                | inl before ↦
+                    let old = all.placed.at n some (omega arith) in (
+                      old.0,
+                      position_append positions (p ∷ []) n old.0 old.1,
+                      ap (λ l. slice_get l old.0) (begun-next journal entry)
+                          ∙ slice_get-append (begun journal) (cond (is_register report) ((length journal + 1) ∷ []) []) old.0 (families journal n) old.2
+                          ∙ ap (λ f. Some f) (sym (family_old journal entry n before)),
+                    )
+                | inr beyond ↦
+                    let last : n ≡ length journal + 1 = omega arith in (
+                      p,
+                      ap (position_at (positions ++ p ∷ [])) (last ∙ ap (λ k. k + 1) (sym all.placed.count)) ∙ position_push positions p,
+                      ap (λ l. slice_get l p) (begun-next journal entry)
+                          ∙ elim (subject report) as (λ s. subject report ≡ s → position_of_subject list positions s ≡ Some p → families journal' (length journal + 1) ≡ begun_or_joined (families journal) (length journal + 1) s
+                          → slice_get (begun journal ++ cond (is_register report) ((length journal + 1) ∷ []) []) p ≡ Some (families journal' (length journal + 1))) [
+                            | None ↦ λ e f g.
+                                let here : Some (length list) ≡ Some p = f in
+                                let same : length (begun journal) ≡ p = sym long ∙ (cc) in
+                                ap (λ b. slice_get (begun journal ++ cond b ((length journal + 1) ∷ []) []) p) (registers report e)
+                                ∙ ap (slice_get (begun journal ++ (length journal + 1) ∷ [])) (sym same)
+                                ∙ slice_get-push (begun journal) (length journal + 1)
+                                ∙ ap (λ k. Some k) (sym g)
+                            | Some m ↦ λ e f g.
+                                let inside = subject_within journal by report m all.accepted free e in
+                                let old = all.placed.at m inside.0 inside.1 in
+                                let both : Some old.0 ≡ Some p = sym old.1 ∙ f in
+                                let same : old.0 ≡ p = cc in
+                                slice_get-append (begun journal) (cond (is_register report) ((length journal + 1) ∷ []) []) p (families journal m) (ap (slice_get (begun journal)) (sym same) ∙ old.2)
+                                ∙ ap (λ k. Some k) (sym g)
+                          ] refl at (family_new journal entry)
+                          ∙ ap (λ k. Some (families journal' k)) (sym last),
+                    )
+              ];
+        };
+      }
+
+  -- and what is kept where memory ran out
+  pub kept_still : IsKept journal list positions copies → (list' : List KeptFamily) (positions' : List ℕ) (copies' : Table) → list' ≡ list → positions' ≡ positions → SameSpots copies copies'
+      → IsKept journal list' positions' copies'
+  kept_still all list' positions' copies' same_list same_positions same_spots = record {
+    accepted = all.accepted;
+    listed = subst (AreListed journal) (sym same_list) all.listed;
+    placed = subst (ArePlaced journal) (sym same_positions) all.placed;
+    spots = λ n. same_spots n ∙ all.spots n;
+  }

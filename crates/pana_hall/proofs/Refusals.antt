@@ -1,0 +1,319 @@
+-- Causes read off what a hall keeps.
+use Rattle.std.specs.Prelude.{◌≡◌, ◌↔◌, ◌⊎◌, ℕ, ◌-◌, ◌<◌, ◌≤◌, Bool, true, false, cond, not, ◌&&◌, ◌||◌, ◌==◌, nat_le, List, [], ◌∷◌, ◌++◌, length, filter, reverse, find, count_by, Option, Some, None, option_map, option_and_then, slice_get, IsTrue}
+use Rattle.std.specs.Bool.{then_some}
+use Rattle.std.specs.Str.{bytes_eq}
+use Rattle.std.proofs.lemmas.Slice.Eq.{bytes_eq-Decides}
+use Rattle.std.specs.List.{AllByRecursion}
+use Rattle.std.proofs.Common.{refl, sym, ap, ◌∙◌, subst, inl, inr, arith}
+use Rattle.std.proofs.lemmas.Bool.{eq-eqb, ne_eqb, cases_lt, cases_Bool}
+use Rattle.std.proofs.lemmas.Option.{slice_get_past}
+use Rattle.std.proofs.lemmas.List.{reverse-append, length-map}
+use Rattle.std.proofs.lemmas.List.Sums.{length-filter}
+use Rattle.pana_copies.specs.declared.place.Place.{Place}
+use Rattle.pana_copies.specs.Places.{same_place}
+use Rattle.pana_copies.specs.Spots.{Spot, Table, kept, place_of}
+use Rattle.pana_journal.specs.declared.entry.Entry.{Entry}
+use Rattle.pana_journal.specs.Entries.{entry_at}
+use Rattle.pana_family.specs.Updates.{has}
+use Rattle.pana_family.specs.Sets.{Pends, PendsLast}
+use Rattle.pana_family.specs.Table as table
+use Rattle.pana_hall.specs.declared.cause.Cause.TheVariants.{PlaceTaken, FamilyFull}
+use Rattle.pana_hall.specs.declared.kept_family.KeptFamily.{KeptFamily}
+use Rattle.pana_hall.specs.Family.{families, is_duplicate}
+use Rattle.pana_hall.specs.Living.{Copy, copy_in, copies_of, living}
+use Rattle.pana_hall.specs.Pending.{pending, is_last}
+use Rattle.pana_hall.specs.Refusal.{displaced, report_refusal, full, unknown, taken, taken_from, taken_since, family_full, pending_with}
+use Rattle.pana_hall.specs.Board.{is_of}
+use Rattle.pana_hall.specs.Permit.{duplicates_in}
+use Rattle.pana_family.specs.View.{is_living, depth_at}
+use Rattle.pana_journal.specs.declared.report.Report.TheVariants.{Duplicate}
+use Rattle.pana_hall.proofs.Allowed.{first_none, known}
+use Rattle.pana_hall.specs.Accepted.{IsAccepted}
+use Rattle.pana_hall.specs.Laws.{AreRising}
+use Rattle.pana_hall.specs.Tables.{layer}
+use Rattle.pana_hall.specs.Tables as tables
+use Rattle.pana_hall.specs.Sets.{of_each, before_entry, sets_of}
+use Rattle.pana_hall.specs.inner.Families.{family_at, old_place}
+use Rattle.circular_buffer.specs.Buffer.{Buffer, buffer}
+use Rattle.pana_hall.specs.inner.OldPlaces.{Old, old_of, old_places, place_before}
+use Rattle.pana_hall.specs.inner.Spots.{spot_of, IsThere, other_there}
+use Rattle.pana_hall.specs.inner.Kept.{duplicates, AreSpots, IsFamilyKept, IsKept}
+use Rattle.pana_hall.proofs.Lists.{is_last_push, each_weaker}
+use Rattle.pana_hall.proofs.Sound.{accepted_is_sound}
+use Rattle.pana_hall.proofs.Tables.{ends_at, layer_now, pending_rises, table_living}
+use Rattle.pana_hall.proofs.Places.{same_place-itself, none_passes, found_number}
+use Rattle.pana_hall.proofs.Rising.{slice_get-each}
+use Rattle.pana_hall.proofs.Steps.{rising}
+use Rattle.pana_hall.proofs.FamilySets.{pends_in, in_pends}
+use Rattle.pana_hall.proofs.More.{each_has}
+use Rattle.pana_hall.proofs.OldPlaces.{pending_within}
+use Rattle.pana_hall.specs.Stamps.{as_known}
+use Rattle.pana_hall.proofs.KeptFamilies.{copies_sets, is_living_kept}
+use Rattle.pana_hall.proofs.Ready.{place_spots, at_spots, family_of}
+use Rattle.pana_hall.proofs.Undoing.{back_at}
+use Rattle.pana_hall.proofs.Records.{found_at, lives_within, entry_within}
+
+-- what is found by a test is found by its number, too
+found_itself : (p : Copy → Bool) (low : ℕ) (copies : List Copy) (x : Copy) → AreRising (λ c. c.number) low copies → find p copies ≡ Some x → (low < x.number) × (p x ≡ true) × (copy_in copies x.number ≡ Some x)
+found_itself p low [] x rises found = absurd (cc)
+found_itself p low (c ∷ copies) x rises found =
+    let first = rises.0 in
+    elim (p c) as (λ b. p c ≡ b → cond b (Some c) (find p copies) ≡ Some x → (low < x.number) × (p x ≡ true) × (copy_in (c ∷ copies) x.number ≡ Some x)) [
+      | true ↦ λ e f.
+          let same : c ≡ x = cc in
+          subst (λ y. (low < y.number) × (p y ≡ true) × (copy_in (c ∷ copies) y.number ≡ Some y)) same
+          (first, e, ap (λ b. cond b (Some c) (copy_in copies c.number)) (eq-eqb c.number c.number refl))
+      | false ↦ λ e f.
+          let rest = found_itself p c.number copies x rises.1 f in
+          let above = rest.0 in
+          (omega arith, rest.1, ap (λ b. cond b (Some c) (copy_in copies x.number)) (ne_eqb c.number x.number (λ h. omega arith)) ∙ rest.2)
+    ] refl found
+
+-- a place that tests the same is the same
+same_is : (a b : Place) → same_place a b ≡ true → a ≡ b
+same_is a b e =
+    let tests = both_true (bytes_eq a.device b.device) (bytes_eq a.path b.path) e in
+    let device : a.device ≡ b.device = (bytes_eq-Decides a.device b.device).0 tests.0 in
+    let path : a.path ≡ b.path = (bytes_eq-Decides a.path b.path).0 tests.1 in
+    ap (λ d. record { device = d; path = a.path }) device ∙ ap (λ q. record { device = b.device; path = q }) path
+  where
+    both_true : (x y : Bool) → (x && y) ≡ true → (x ≡ true) × (y ≡ true)
+    both_true true true e = (refl, refl)
+    both_true true false e = absurd (cc)
+    both_true false y e = absurd (cc)
+
+pub taken_is : (journal : List Entry) (copies : Table) (place : Place) (found : Option ℕ) → IsAccepted 8 journal → AreSpots journal copies → IsThere copies place found
+    → option_map PlaceTaken found ≡ taken place (living journal)
+taken_is journal copies place found accepted spots there =
+    let up = (rising 8 journal accepted).0 in
+    elim (find (λ copy. same_place copy.place place) (living journal)) as (λ o. find (λ copy. same_place copy.place place) (living journal) ≡ o → option_map PlaceTaken found ≡ option_map (λ copy. PlaceTaken copy.number) o) [
+      | Some x ↦ λ e.
+          let here = found_itself (λ copy. same_place copy.place place) 0 (living journal) x up e in
+          let at : place_of copies x.number ≡ Some place = place_spots journal copies spots x.number ∙ ap (option_map (λ copy. copy.place)) here.2 ∙ ap (λ p. Some p) (same_is x.place place here.1) in
+          ap (option_map PlaceTaken) ((there x.number).1 at)
+      | None ↦ λ e. elim found as (λ o. found ≡ o → option_map PlaceTaken o ≡ None) [
+        | None ↦ λ f. refl
+        | Some n ↦ λ f.
+            let y = at_spots journal copies spots n place ((there n).0 f) in
+            let fails : same_place y.0.place place ≡ false = none_passes (λ copy. same_place copy.place place) (living journal) n y.0 e y.1 in
+            let passes : same_place y.0.place place ≡ true = ap (λ p. same_place p place) y.2 ∙ same_place-itself place in
+            absurd (cc)
+      ] refl
+    ] refl
+
+pub taken_from_is : (journal : List Entry) (copies : Table) (back : Copy) (found : Option ℕ) → IsAccepted 8 journal → AreSpots journal copies → IsThere copies back.place found
+    → other_there back.number found ≡ taken_from back (living journal)
+taken_from_is journal copies back found accepted spots there =
+    let up = (rising 8 journal accepted).0 in
+    let test : Copy → Bool = λ other. not (other.number == back.number) && same_place other.place back.place in
+    elim (find test (living journal)) as (λ o. find test (living journal) ≡ o → other_there back.number found ≡ option_map (λ other. PlaceTaken other.number) o) [
+      | Some x ↦ λ e.
+          let here = found_itself test 0 (living journal) x up e in
+          let both = parts (x.number == back.number) (same_place x.place back.place) here.1 in
+          let at : place_of copies x.number ≡ Some back.place = place_spots journal copies spots x.number ∙ ap (option_map (λ copy. copy.place)) here.2 ∙ ap (λ p. Some p) (same_is x.place back.place both.1) in
+          ap (other_there back.number) ((there x.number).1 at) ∙ ap (λ b. cond b None (Some (PlaceTaken x.number))) both.0
+      | None ↦ λ e. elim found as (λ o. found ≡ o → other_there back.number o ≡ None) [
+        | None ↦ λ f. refl
+        | Some n ↦ λ f.
+            let y = at_spots journal copies spots n back.place ((there n).0 f) in
+            let fails : test y.0 ≡ false = none_passes test (living journal) n y.0 e y.1 in
+            let passes : same_place y.0.place back.place ≡ true = ap (λ p. same_place p back.place) y.2 ∙ same_place-itself back.place in
+            let number : y.0.number ≡ n = found_number (living journal) n y.0 y.1 in
+            ap (λ k. cond (k == back.number) None (Some (PlaceTaken n))) (sym number)
+            ∙ ap (λ b. cond b None (Some (PlaceTaken n))) (must (y.0.number == back.number) (same_place y.0.place back.place) passes fails)
+      ] refl
+    ] refl
+  where
+    parts : (a b : Bool) → (not a && b) ≡ true → (a ≡ false) × (b ≡ true)
+    parts true b e = absurd (cc)
+    parts false b e = (refl, e)
+
+    must : (a b : Bool) → b ≡ true → (not a && b) ≡ false → a ≡ true
+    must true b e f = refl
+    must false b e f = absurd (cc)
+
+-- an entry is pending, or is the last
+has-append : (xs ys : List ℕ) (n : ℕ) → has (xs ++ ys) n ≡ (has xs n || has ys n)
+has-append [] ys n = refl
+has-append (x ∷ xs) ys n = elim (x == n) as (λ b. (b || has (xs ++ ys) n) ≡ ((b || has xs n) || has ys n)) [ true ↦ refl | false ↦ has-append xs ys n ]
+
+or_swap : (a b : Bool) → (a || (b || false)) ≡ (b || a)
+or_swap true true = refl
+or_swap true false = refl
+or_swap false true = refl
+or_swap false false = refl
+
+has-reverse : (xs : List ℕ) (n : ℕ) → has (reverse xs) n ≡ has xs n
+has-reverse [] n = refl
+has-reverse (x ∷ xs) n = ap (λ l. has l n) (reverse-append (x ∷ []) xs) ∙ has-append (reverse xs) (x ∷ []) n ∙ or_swap (has (reverse xs) n) (x == n) ∙ ap (λ b. (x == n) || b) (has-reverse xs n)
+
+pub pends_is : (journal : List Entry) (family n : ℕ) (b : Bool) → (IsTrue b ↔ Pends n (sets_of family journal).before) → b ≡ has (pending 8 family journal) n
+pends_is journal family n b both_ways =
+    elim (cases_Bool b) [
+      | inl holds ↦ holds ∙ sym (sym (has-reverse (pending 8 family journal) n) ∙ in_pends family journal 1 n (reverse (pending 8 family journal)) (both_ways.0 holds))
+      | inr never ↦ never ∙ sym (elim (cases_Bool (has (pending 8 family journal) n)) [
+        | inl in_it ↦ let holds = both_ways.1 (pends_in family journal 1 n (reverse (pending 8 family journal)) (has-reverse (pending 8 family journal) n ∙ in_it)) in absurd (cc)
+        | inr out ↦ out
+      ])
+    ]
+
+is_last-push : (numbers : List ℕ) (x n : ℕ) → is_last n (numbers ++ x ∷ []) ≡ (x == n)
+is_last-push [] x n = refl
+is_last-push (a ∷ []) x n = refl
+is_last-push (a ∷ b ∷ numbers) x n = is_last-push (b ∷ numbers) x n
+
+-- the last of a list that is written the other way round is its first
+reversed : (numbers : List ℕ) → (numbers ≡ []) ⊎ ((prefix : List ℕ) × (x : ℕ) × (numbers ≡ prefix ++ x ∷ []))
+reversed [] = inl refl
+reversed (a ∷ numbers) = elim (reversed numbers) [
+  | inl none ↦ inr ([], a, ap (λ l. a ∷ l) none)
+  | inr some ↦ inr (a ∷ some.0, some.1, ap (λ l. a ∷ l) some.2)
+]
+
+pub lasts_is : (journal : List Entry) (family n : ℕ) (b : Bool) → (IsTrue b ↔ PendsLast n (sets_of family journal).before) → b ≡ is_last n (pending 8 family journal)
+lasts_is journal family n b both_ways =
+    elim (reversed (pending 8 family journal)) [
+      | inl none ↦
+          let no_last : (sets_of family journal).before ≡ [] = ap (λ l. of_each before_entry family journal 1 (reverse l)) none in
+          elim (cases_Bool b) [
+            | inl holds ↦ absurd (subst (PendsLast n) no_last (both_ways.0 holds))
+            | inr never ↦ never ∙ ap (is_last n) (sym none)
+          ]
+      | inr some ↦
+          let first : (sets_of family journal).before ≡ of_each before_entry family journal 1 (some.1 ∷ reverse some.0) =
+          ap (of_each before_entry family journal 1) (ap reverse some.2 ∙ reverse-append some.0 (some.1 ∷ [])) in
+          let value : is_last n (pending 8 family journal) ≡ (some.1 == n) = ap (is_last n) some.2 ∙ is_last-push some.0 some.1 n in
+          elim (cases_Bool b) [
+            | inl holds ↦ let same : some.1 ≡ n = subst (PendsLast n) first (both_ways.0 holds) in holds ∙ sym (value ∙ eq-eqb some.1 n same)
+            | inr never ↦ never ∙ sym (value ∙ ne_eqb some.1 n (λ h. let holds = both_ways.1 (subst (PendsLast n) (sym first) h) in absurd (cc)))
+          ]
+    ]
+
+-- the family of an entry, as a hall keeps it, or no entry has the number
+pub has_family : (journal : List Entry) (list : List KeptFamily) (positions : List ℕ) (copies : Table) (n : ℕ) → IsKept journal list positions copies → (it : KeptFamily) → family_at list positions n ≡ Some it
+    → IsFamilyKept journal it × (it.number ≡ families journal n)
+has_family journal list positions copies n all it found =
+    elim (cases_lt n 1) [
+      | inl none ↦
+          let zero_is : n ≡ 0 = omega arith in
+          let nothing : family_at list positions n ≡ None = ap (λ b. option_and_then (slice_get list) (cond b None (slice_get positions (n - 1)))) (eq-eqb n 0 zero_is) in
+          let odd : None ≡ Some it = sym nothing ∙ found in absurd (cc)
+      | inr some ↦ elim (cases_lt (length journal) n) [
+        | inl past ↦
+            let count = all.placed.count in
+            let beyond : slice_get positions (n - 1) ≡ None = slice_get_past positions (n - 1) (omega arith) in
+            let nothing : family_at list positions n ≡ None =
+            ap (λ b. option_and_then (slice_get list) (cond b None (slice_get positions (n - 1)))) (ne_eqb n 0 (λ h. omega arith)) ∙ ap (option_and_then (slice_get list)) beyond in
+            let odd : None ≡ Some it = sym nothing ∙ found in absurd (cc)
+        | inr within ↦
+            let there = found_at journal list positions n all.listed all.placed (omega arith) (omega arith) in
+            let at : family_at list positions n ≡ Some there.2.it = ap (option_and_then (slice_get list)) there.1 ∙ there.2.found in
+            let both : Some there.2.it ≡ Some it = sym at ∙ found in
+            let same : there.2.it ≡ it = cc in
+            (subst (IsFamilyKept journal) same (slice_get-each (IsFamilyKept journal) list there.0 there.2.it all.listed.each there.2.found), ap (λ k. k.number) (sym same) ∙ there.2.number)
+      ]
+    ]
+
+-- nothing is pending under a number without a family
+pub none_pending : (journal : List Entry) (list : List KeptFamily) (positions : List ℕ) (copies : Table) (n : ℕ) → IsKept journal list positions copies → family_at list positions n ≡ None
+    → has (pending_with 8 n journal) n ≡ false
+none_pending journal list positions copies n all none =
+    let sound = accepted_is_sound 8 journal all.accepted in
+    elim (cases_Bool (has (pending_with 8 n journal) n)) [
+      | inr out ↦ out
+      | inl in_it ↦
+          let within : n ≤ length journal = each_has (λ k. k ≤ length journal) (pending_with 8 n journal) n (pending_within journal (families journal n) sound) in_it in
+          let some : 0 < n = each_has (λ k. 0 < k) (pending_with 8 n journal) n (all_rise 0 (pending_with 8 n journal) (pending_rises 8 (families journal n) journal sound)) in_it in
+          let there = found_at journal list positions n all.listed all.placed some within in
+          let at : family_at list positions n ≡ Some there.2.it = ap (option_and_then (slice_get list)) there.1 ∙ there.2.found in
+          let odd : None ≡ Some there.2.it = sym none ∙ at in absurd (cc)
+    ]
+  where
+    all_rise : (low : ℕ) (numbers : List ℕ) → AreRising (λ k. k) low numbers → AllByRecursion (λ k. low < k) numbers
+    all_rise low [] rises = tt
+    all_rise low (k ∷ numbers) rises = let first = rises.0 in (rises.0, each_weaker (λ i. k < i) (λ i. low < i) numbers (λ i h. omega arith) (all_rise k numbers rises.1))
+
+-- and none is the last
+pub none_last : (numbers : List ℕ) (n : ℕ) → has numbers n ≡ false → is_last n numbers ≡ false
+none_last numbers n out =
+    elim (cases_Bool (is_last n numbers)) [
+      | inr never ↦ never
+      | inl ends ↦
+          let cut = is_last_push n numbers ends in
+          let in_it : has numbers n ≡ true = ap (λ l. has l n) cut.1 ∙ has-append cut.0 (n ∷ []) n ∙ ap (λ b. has cut.0 n || (b || false)) (eq-eqb n n refl) ∙ or_true (has cut.0 n) in
+          absurd (cc)
+    ]
+  where
+    or_true : (b : Bool) → (b || true) ≡ true
+    or_true true = refl
+    or_true false = refl
+
+-- the family of a living copy has all the copies that it takes
+pub full_is : (journal : List Entry) (list : List KeptFamily) (positions : List ℕ) (copies : Table) (n : ℕ) (copy : Copy) (it : KeptFamily) (count : ℕ) → IsKept journal list positions copies
+    → copy_in (living journal) n ≡ Some copy → family_at list positions n ≡ Some it → count ≡ length (table.copies_of (sets_of it.number journal).table)
+    → then_some (nat_le 256 count) FamilyFull ≡ family_full n (living journal)
+full_is journal list positions copies n copy it count all found at is =
+    let sound = accepted_is_sound 8 journal all.accepted in
+    let family : it.number ≡ copy.family = (has_family journal list positions copies n all it at).1 ∙ sym (family_of journal n copy sound found) in
+    let long : count ≡ count_by (is_of copy.family) (living journal) =
+    is ∙ ap length (copies_sets journal it.number all.accepted) ∙ length-map (tables.table 8 0 it.number journal) as_known
+    ∙ ap length (sym (table_living 8 it.number journal)) ∙ ap (λ f. length (filter (is_of f) (living journal))) family ∙ length-filter (is_of copy.family) (living journal) in
+    ap (λ k. then_some (nat_le 256 k) FamilyFull) long
+    ∙ ap (option_and_then (λ x. then_some (nat_le 256 (count_by (is_of x.family) (living journal))) FamilyFull)) (sym found)
+
+-- a living copy has a family
+pub copy_has_family : (journal : List Entry) (list : List KeptFamily) (positions : List ℕ) (copies : Table) (n : ℕ) (copy : Copy) → IsKept journal list positions copies → copy_in (living journal) n ≡ Some copy
+    → (it : KeptFamily) × (family_at list positions n ≡ Some it)
+copy_has_family journal list positions copies n copy all found =
+    let within = lives_within journal (families journal n) n all.accepted (record { copy = copy; found = found; of = refl }) in
+    let there = found_at journal list positions n all.listed all.placed within.0 within.1 in
+    (there.2.it, ap (option_and_then (slice_get list)) there.1 ∙ there.2.found)
+
+-- what the last pending entry's copy gets back, and what stands against that
+pub back_place : (journal : List Entry) (list : List KeptFamily) (positions : List ℕ) (copies : Table) (m c : ℕ) (undone : Entry) → IsKept journal list positions copies → is_last m (pending_with 8 m journal) ≡ true
+    → entry_at journal m ≡ Some undone → displaced undone.report ≡ Some c
+    → (back : Copy) × (old_place list positions m ≡ Some back.place) × (taken_since m journal ≡ taken_from back (living journal)) × (back.number ≡ c)
+back_place journal list positions copies m c undone all at_end at moves =
+    let sound = accepted_is_sound 8 journal all.accepted in
+    let family = families journal m in
+    let back = back_at journal m c undone all.accepted at_end at moves in
+    let within = entry_within journal m undone at in
+    let there = found_at journal list positions m all.listed all.placed within.0 within.1 in
+    let found : family_at list positions m ≡ Some there.2.it = ap (option_and_then (slice_get list)) there.1 ∙ there.2.found in
+    let kept_it = has_family journal list positions copies m all there.2.it found in
+    let ends = ends_at 8 m journal sound at_end in
+    let turned : reverse (pending 8 family journal) ≡ m ∷ reverse ends.before = ap reverse ends.pending ∙ reverse-append ends.before (m ∷ []) in (
+      back.copy,
+      ap (option_and_then (λ it. option_and_then (λ (o : Old). o.place) (slice_get it.old_places.items 0))) found
+          ∙ ap (λ (b : Buffer Old). option_and_then (λ (o : Old). o.place) (slice_get b.items 0)) (kept_it.0.places ∙ ap (λ f. buffer (old_places f journal) 8) kept_it.1)
+          ∙ ap (λ l. option_and_then (λ (o : Old). o.place) (slice_get (of_each (old_of journal) family journal 1 l) 0)) turned
+          ∙ ap (λ e. place_before e (copies_of (layer 8 1 family journal))) at
+          ∙ ap (λ d. option_and_then (λ k. option_map (λ copy. copy.place) (copy_in (copies_of (layer 8 1 family journal)) k)) d) moves
+          ∙ ap (option_map (λ copy. copy.place)) back.found,
+      ap (option_and_then (λ copy. taken_from copy (living journal))) back.is,
+      back.number,
+    )
+
+-- a copy that is kept lives
+pub found_spot : (journal : List Entry) (copies : Table) (n : ℕ) (spot : Spot) → AreSpots journal copies → kept copies n ≡ Some spot → (copy : Copy) × (copy_in (living journal) n ≡ Some copy) × (spot_of copy ≡ spot)
+found_spot journal copies n spot spots at =
+    elim (copy_in (living journal) n) as (λ o. option_map spot_of o ≡ Some spot → (copy : Copy) × (o ≡ Some copy) × (spot_of copy ≡ spot)) [
+      | None ↦ λ e. absurd (cc)
+      | Some copy ↦ λ e. (copy, refl, cc)
+    ] (sym (spots n) ∙ at)
+
+-- the source of a Duplicate lives in its family
+pub source_lives : (journal : List Entry) (by : List ℕ) (source : ℕ) (place : Place) (it : KeptFamily) → IsAccepted 8 journal → report_refusal 8 journal (living journal) by (Duplicate source place) ≡ None
+    → IsFamilyKept journal it → it.number ≡ families journal source → is_living it.family source ≡ true
+source_lives journal by source place it accepted free kept_it of =
+    let there = known source (living journal) (first_none (unknown source (living journal)) _ (first_none (full journal) _ free).1).0 in
+    is_living_kept journal it source there.0 accepted kept_it of there.1
+
+-- a family whose ids are as deep as they may be counts as many Duplicates
+pub deep_enough : (journal : List Entry) (source : ℕ) (it : KeptFamily) → IsFamilyKept journal it → it.number ≡ families journal source → 256 ≤ depth_at 0 it.family
+    → 256 ≤ duplicates_in (families journal source) journal
+deep_enough journal source it kept_it of whole =
+    let most = kept_it.depths 0 (omega arith) in
+    let counted : duplicates 0 it.number journal ≡ duplicates_in (families journal source) journal =
+    ap (count_by (λ e. is_duplicate e.report)) (layer_now 8 it.number journal) ∙ ap (λ f. duplicates_in f journal) of in
+    omega arith

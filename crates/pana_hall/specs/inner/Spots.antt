@@ -1,0 +1,84 @@
+-- Where the living copies are kept, and how reports change it.
+use Rattle.std.specs.Prelude.{◌≡◌, ◌↔◌, ℕ, ◌==◌, List, Option, Some, None, IsSome, option_map, if◌then◌else◌}
+use Rattle.pana_copies.specs.declared.place.Place.{Place}
+use Rattle.pana_copies.specs.Spots.{Spot, Table, kept, place_of, placed}
+use Rattle.pana_journal.specs.declared.report.Report.{Report}
+use Rattle.pana_journal.specs.declared.report.Report.TheVariants.{Register, Duplicate, Relocate, Remove}
+use Rattle.pana_hall.specs.declared.cause.Cause.{Cause}
+use Rattle.pana_hall.specs.declared.cause.Cause.TheVariants.{PlaceTaken}
+use Rattle.pana_hall.specs.Living.{Copy, copy_in}
+
+abbrev pub spot_of : Copy → Spot
+spot_of copy = record { family = copy.family; place = copy.place }
+
+-- where the copy with this number is kept, if it lives
+abbrev pub spot_in : List Copy → ℕ → Option Spot
+spot_in copies number = option_map spot_of (copy_in copies number)
+
+-- where each copy is kept once entry n's report is accepted
+abbrev pub spot_after : ℕ → Report → List Copy → ℕ → Option Spot
+spot_after n (Register place) copies number = if number == n then Some (record { family = n; place = place }) else spot_in copies number
+spot_after n (Duplicate source place) copies number = if number == n then placed place (spot_in copies source) else spot_in copies number
+spot_after n (Relocate copy place) copies number = if number == copy then placed place (spot_in copies copy) else spot_in copies number
+spot_after n (Remove copy heir) copies number = if number == copy then None else spot_in copies number
+spot_after n _ copies number = spot_in copies number
+
+-- where each copy is kept once entry n's report is undone, which brings this copy back
+abbrev pub spot_undone : ℕ → Report → Option Copy → List Copy → ℕ → Option Spot
+spot_undone n (Register place) back copies number = if number == n then None else spot_in copies number
+spot_undone n (Duplicate source place) back copies number = if number == n then None else spot_in copies number
+spot_undone n (Relocate copy place) back copies number = if number == copy then option_map spot_of back else spot_in copies number
+spot_undone n (Remove copy heir) back copies number = if number == copy then option_map spot_of back else spot_in copies number
+spot_undone n _ back copies number = spot_in copies number
+
+-- nothing moved
+abbrev pub SameSpots : Table → Table → Type 0
+SameSpots old new = (number : ℕ) → kept new number ≡ kept old number
+
+-- no copy is kept at the place
+abbrev pub IsFree : Place → Table → Type 0
+IsFree place table = (number : ℕ) → ¬ (place_of table number ≡ Some place)
+
+-- no other copy is kept at the place
+abbrev pub IsFreeFor : ℕ → Place → Table → Type 0
+IsFreeFor copy place table = (number : ℕ) → place_of table number ≡ Some place → number ≡ copy
+
+-- where each copy is kept once entry n's report is undone: its copy goes back to the old place, in its family
+abbrev pub undone_spot : ℕ → Report → ℕ → Option Place → Table → ℕ → Option Spot
+undone_spot n (Register place) family back table number = if number == n then None else kept table number
+undone_spot n (Duplicate source place) family back table number = if number == n then None else kept table number
+undone_spot n (Relocate copy place) family back table number = if number == copy then option_map (λ p. record { family = family; place = p }) back else kept table number
+undone_spot n (Remove copy heir) family back table number = if number == copy then option_map (λ p. record { family = family; place = p }) back else kept table number
+undone_spot n _ family back table number = kept table number
+
+-- a copy that is moved back: it is kept in the family, and no other copy has the old place
+pub record CanMove (family : ℕ) (copy : ℕ) (back : Option Place) (table : Table) : Type 0 where
+  pub place : Place
+  pub back_is : back ≡ Some place
+  pub from : Place
+  pub lives : kept table copy ≡ Some (record { family = family; place = from })
+  pub free : IsFreeFor copy place table
+
+-- a copy that is put back: it isn't kept, and no copy has the old place
+pub record CanReturn (copy : ℕ) (back : Option Place) (table : Table) : Type 0 where
+  pub place : Place
+  pub back_is : back ≡ Some place
+  pub gone : kept table copy ≡ None
+  pub free : IsFree place table
+
+-- entry n's report can be undone
+abbrev pub CanUndo : ℕ → Report → ℕ → Option Place → Table → Type 0
+CanUndo n (Register place) family back table = IsSome (kept table n)
+CanUndo n (Duplicate source place) family back table = IsSome (kept table n)
+CanUndo n (Relocate copy place) family back table = CanMove family copy back table
+CanUndo n (Remove copy heir) family back table = CanReturn copy back table
+CanUndo n _ family back table = Unit {0}
+
+-- the copy that is kept at a place
+abbrev pub IsThere : Table → Place → Option ℕ → Type 0
+IsThere table place found = (copy : ℕ) → (found ≡ Some copy) ↔ (place_of table copy ≡ Some place)
+
+-- another copy than this one is there
+abbrev pub other_there : ℕ → Option ℕ → Option Cause
+other_there copy None = None
+other_there copy (Some number) = if number == copy then None else Some (PlaceTaken number)

@@ -1,0 +1,5 @@
+pub mod Changed
+pub mod PendingNumbers
+pub mod Replayed
+pub mod Recorded
+pub mod Brought

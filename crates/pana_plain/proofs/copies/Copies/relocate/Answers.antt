@@ -1,0 +1,23 @@
+use Rattle.std.proofs.Common.{◌≡◌, ◌∙◌, sym, ap, get_or, set, Some}
+use Rattle.std.specs.Prelude.{◌==◌, position}
+use Rattle.pana_hall.specs.Living.{moved}
+use Rattle.pana_plain.proofs.Changed.{index_of, index_some, index_none, change_at, change_absent}
+use Rattle.pana_plain.proofs.copies.Copies.relocate.Goals as goal
+
+pub returns-in-Some : goal.returns-in-Some
+returns-in-Some c =
+    let copies = c.args.self.now in
+    let f = moved c.args.entry c.args.place in
+    let found : position (λ copy. copy.number == c.args.number) copies ≡ Some c.in-Some.index = sym c.index_of.ensures ∙ c.in-Some.is in
+    let (here, within) = index_some c.args.number c.in-Some.index copies found in
+    let value : c.relocate.new.self ≡ f (get_or copies (index_of c.args.number copies) c.index_mut.result.now)
+    = c.relocate.ensures ∙ ap f (c.index_mut.ensures.value ∙ ap (λ l. get_or l c.in-Some.index c.index_mut.result.now) c.self.view_is ∙ ap (λ i. get_or copies i c.index_mut.result.now) here) in
+    ap (λ l. set l c.in-Some.index c.relocate.new.self) c.self.view_is
+    ∙ ap (λ i. set copies i c.relocate.new.self) here
+    ∙ ap (set copies (index_of c.args.number copies)) value
+    ∙ change_at c.args.number 0 f c.index_mut.result.now copies c.requires within
+
+pub returns-in_default : goal.returns-in_default
+returns-in_default c =
+    let copies = c.args.self.now in
+    sym (change_absent c.args.number (moved c.args.entry c.args.place) copies (index_none c.args.number copies (sym c.index_of.ensures ∙ c.in_default.is)))

@@ -1,0 +1,124 @@
+ghost use Rattle.std.specs.Prelude.{◌≡◌, ◌≤◌, [], length, IfOk, OnErr};
+ghost use Rattle.pana_hall.specs.Accepted.{IsAccepted};
+ghost use Rattle.pana_hall.specs.Permit.{Permits, journal_after};
+ghost use Rattle.pana_hall.specs.Run.{RunsTo};
+
+use crate::answering::answer;
+use crate::copies::Copies;
+use crate::families::Families;
+use crate::recording::record;
+use crate::refusal::{query_refusal, report_refusal};
+use pana_copies::DeviceName;
+use pana_hall::{Call, Cause, Query, Reply};
+use pana_journal::{Journal, Report};
+use std::alloc::{AllocError, Global};
+use std::collections::VecDeque;
+use std::marker::Model;
+
+/// All the copies of all the files, and the journal that they come from. To contracts it is its journal.
+///
+/// It keeps each living copy with the set of the updates that it knows, compares every pair anew for a board, and finds
+/// all copies anew for a Withdraw.
+#[derive(Debug, Drop)]
+pub struct PlainHall {
+    alloc: Global,
+    journal: Journal,
+    families: Families,
+    copies: Copies,
+}
+
+impl Model for PlainHall {
+    ghost use Rattle.std.specs.Prelude.{List};
+    ghost use Rattle.pana_journal.specs.declared.entry.Entry.{Entry};
+    ghost use Rattle.pana_plain.specs.inner.Recording.{IsKept};
+
+    ghost Value = { List Entry };
+
+    ghost view = { λ hall. hall.journal.entries };
+
+    ghost invariant = { λ hall. IsKept hall.journal.entries hall.families hall.copies };
+}
+
+impl PlainHall {
+    ghost use Rattle.pana_hall.specs.declared.call.Call.TheVariants as calls;
+
+    /// A hall with no copy and the empty journal. Fails only where memory runs out.
+    #[tactic(auto, unfolding(pana_hall::specs::Living::copies_of))]
+    pub fn new(alloc: Global) -> Result<PlainHall, AllocError>
+        ensures { IfOk result (λ hall. hall ≡ []) }
+    {
+        Ok(PlainHall {
+            alloc,
+            journal: Journal::new(alloc),
+            families: Families::new(alloc),
+            copies: Copies::new(alloc),
+        })
+    }
+
+    /// Takes one call of a device and returns its reply: a report is refused, or is the next entry of the journal; a
+    /// query is refused or answered, and changes nothing. A refused call changes nothing.
+    pub fn apply(&mut self, by: &DeviceName, call: Call) -> Reply
+        ensures permitted { Permits self.old by.now call result }
+        ensures journal { self.new ≡ journal_after self.old by.now call result }
+    {
+        match call {
+            Call::Report(report) => self.report(by, report),
+            Call::Query(query) => self.query(by, query),
+        }
+    }
+
+    /// How many entries the journal has, at most 1,000,000. Takes no memory.
+    pub fn length(&self) -> u64
+        ensures length { result ≡ length self.now }
+        ensures within { length self.now ≤ 1000000 }
+        ensures accepted { IsAccepted 8 self.now }
+    {
+        self.journal.length()
+    }
+
+    /// Takes calls of devices in order, and returns their replies: a run, where the hall was new. Fails only where
+    /// memory runs out for the list of replies, before the first call, and then changes nothing.
+    pub fn apply_all(
+        &mut self,
+        mut calls: VecDeque<(DeviceName, Call)>,
+    ) -> Result<Vec<Reply>, AllocError>
+        ensures ok { IfOk result (λ replies. RunsTo self.old calls.items replies.items self.new) }
+        ensures err { OnErr result (self.new ≡ self.old) }
+    {
+        let mut replies = Vec::with_capacity(self.alloc, calls.len())?;
+        while let Some((by, call)) = calls.pop_front() {
+            replies.push_reserved(self.apply(&by, call));
+        }
+        Ok(replies)
+    }
+
+    #[tactic(auto, unfolding(pana_hall::specs::Permit::Permits, pana_hall::specs::Permit::journal_after, pana_hall::specs::Refusal::refusal))]
+    fn report(&mut self, by: &DeviceName, report: Report) -> Reply
+        ensures permitted { Permits self.old by.now (calls.Report report) result }
+        ensures journal { self.new ≡ journal_after self.old by.now (calls.Report report) result }
+    {
+        let alloc = self.alloc;
+        let (journal, families, copies) = (&mut self.journal, &mut self.families, &mut self.copies);
+        if let Some(cause) = report_refusal(alloc, journal, families, copies, by, &report) {
+            return Reply::Refused(cause);
+        }
+        match record(alloc, journal, families, copies, by, report) {
+            Ok(entry) => Reply::Done { entry },
+            Err(_) => Reply::Refused(Cause::OutOfMemory),
+        }
+    }
+
+    #[tactic(auto, unfolding(pana_hall::specs::Permit::Permits, pana_hall::specs::Permit::journal_after, pana_hall::specs::Refusal::refusal))]
+    fn query(&self, by: &DeviceName, query: Query) -> Reply
+        ensures permitted { Permits self.now by.now (calls.Query query) result }
+        ensures journal { self.now ≡ journal_after self.now by.now (calls.Query query) result }
+    {
+        if let Some(cause) = query_refusal(&self.journal, &self.copies, &query) {
+            return Reply::Refused(cause);
+        }
+        match answer(self.alloc, &self.journal, &self.copies, query) {
+            Ok(reply) => reply,
+            Err(_) => Reply::Refused(Cause::OutOfMemory),
+        }
+    }
+}

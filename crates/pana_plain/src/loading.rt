@@ -1,0 +1,58 @@
+//! A journal's entries, taken one after another into a new hall.
+ghost use Rattle.std.specs.Prelude.{◌≡◌, ◌+◌, [], ◌∷◌, ◌++◌, length, IfOk, IfErr, OnOk};
+
+use crate::hall::PlainHall;
+use pana_hall::{Call, Cause, LoadCause, LoadFault, Reply};
+use pana_journal::{Entry, EntryList};
+use std::alloc::Global;
+
+impl PlainHall {
+    ghost use Rattle.pana_hall.specs.Accepted.{IsAccepted};
+    ghost use Rattle.pana_hall.specs.Load.{IsLoadFault, Stops};
+
+    /// A new hall that has taken these entries in order, each by the device that reported it.
+    ///
+    /// # Errors
+    ///
+    /// The first entry that isn't the next one: `OutOfOrder` where its number isn't its position, or else the cause
+    /// with which its report is refused. The entries of a hall's own journal have none but `OutOfMemory`.
+    pub fn load(alloc: Global, entries: EntryList) -> Result<PlainHall, LoadFault>
+        ensures ok { IfOk result (λ hall. hall ≡ entries) }
+        ensures fault { IfErr result (IsLoadFault entries) }
+    {
+        let Ok(mut hall) = PlainHall::new(alloc) else {
+            return Err(LoadFault {
+                at: 0,
+                cause: LoadCause::Refused(Cause::OutOfMemory),
+            });
+        };
+        let mut rest = entries.into_vec().into_iter();
+        while let Some(entry) = rest.next() {
+            hall.take(entry)?;
+        }
+        Ok(hall)
+    }
+
+    /// Takes the next entry of a journal. An entry that isn't the next one changes nothing.
+    fn take(&mut self, entry: Entry) -> Result<(), LoadFault>
+        ensures ok { OnOk result (self.new ≡ self.old ++ entry ∷ []) }
+        ensures accepted { IsAccepted 8 self.old }
+        ensures fault { IfErr result (λ fault. (fault.at ≡ length self.old + 1) × Stops self.old entry fault.cause) }
+    {
+        let at = self.length() + 1;
+        if entry.number != at {
+            return Err(LoadFault {
+                at,
+                cause: LoadCause::OutOfOrder,
+            });
+        }
+        let Entry { by, report, .. } = entry;
+        match self.apply(&by, Call::Report(report)) {
+            Reply::Refused(cause) => Err(LoadFault {
+                at,
+                cause: LoadCause::Refused(cause),
+            }),
+            _ => Ok(()),
+        }
+    }
+}

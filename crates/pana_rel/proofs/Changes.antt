@@ -1,0 +1,216 @@
+-- What the calls that change a table leave.
+use Rattle.std.proofs.Common.{◌≡◌, ℕ, Bool, true, ◌+◌, ◌<◌, ◌≤◌, List, [], length, get_or, refl, ap, sym, subst, ◌∙◌, inl, inr, arith}
+use Rattle.std.specs.Prelude.{◌↔◌, slice_set, Contains}
+use Rattle.std.specs.List.{insert, remove}
+use Rattle.std.proofs.lemmas.Bool.{cases_eq, eq-eqb, ne_eqb}
+use Rattle.std.proofs.lemmas.List.{get_or_read, get_or-set_same, get_or-set_other, length-set}
+use Rattle.std.proofs.lemmas.List.Edits.{length-insert, length-remove, get_or-insert_at}
+use Rattle.pana_event.specs.declared.rel.Rel.{Rel}
+use Rattle.pana_event.specs.declared.rel.Rel.TheVariants.{Equal}
+use Rattle.pana_event.specs.Relation.{reverse_of}
+use Rattle.pana_rel.specs.Pairs.{Table, Holds, edited_rel, edited_row, is_split, place_of, rel_at, rel_of, with_row, without}
+use Rattle.pana_rel.specs.inner.Packed.{Packed}
+use Rattle.pana_rel.specs.inner.Square.{row_in, table_of, IsKept, IsTorn, IsWide}
+use Rattle.pana_rel.proofs.Boards.{split_is}
+use Rattle.pana_rel.proofs.Orders.{contains_remove, others_at, rising_remove, without_is}
+use Rattle.pana_rel.proofs.Places.{place_reads, place_within, same_place, up, up_remove, up_within}
+use Rattle.pana_rel.proofs.Tables.{rel_is, with_row_own, with_row_to, with_row_else, with_row_mirrored, with_row_itself, kept_from, AreMirrored, holds_mirrored, AreDropped, holds_dropped}
+
+-- what a table keeps beside its rows
+abbrev pub IsSound : List ℕ → List Packed → Bool → Type 0
+IsSound cs rows split = IsKept cs rows × (split ≡ is_split cs (rel_of (table_of cs rows)))
+
+-- the split was found anew
+pub sound_from : (cs : List ℕ) (rows slice : List Packed) (test : Bool) → IsKept cs rows → slice ≡ rows → (test ≡ true) ↔ IsTorn slice → IsSound cs rows test
+sound_from cs rows slice test kept same says = (kept, split_is cs rows test kept (subst (λ r. (test ≡ true) ↔ IsTorn r) same says))
+
+-- one row was written, and then it was mirrored
+pub mirrored_from : (rows slice new : List Packed) (at : ℕ) (row : Packed) → at < length rows → slice ≡ slice_set rows at row → length new ≡ length slice
+    → (row_in new at).items ≡ (row_in slice at).items
+    → ((i : ℕ) → i < length slice → ¬ (i ≡ at) → (row_in new i).items ≡ slice_set (row_in slice i).items at (reverse_of (get_or (row_in slice at).items i Equal)))
+    → AreMirrored rows new at row.items
+mirrored_from rows slice new at row within same tall own others =
+    let long : length slice ≡ length rows = ap length same ∙ length-set rows at row in
+    let here : row_in slice at ≡ row = ap (λ r. row_in r at) same ∙ get_or-set_same rows at row (record { items = []; room = 0 }) within in
+    record {
+      tall = tall ∙ long;
+      own = own ∙ ap (λ r. r.items) here;
+      others = λ i h apart.
+          let there : row_in slice i ≡ row_in rows i = ap (λ r. row_in r i) same ∙ get_or-set_other rows at i row (record { items = []; room = 0 }) apart in
+          others i (omega (arith, h, long)) apart ∙ ap (λ r. slice_set r.items at (reverse_of (get_or (row_in slice at).items i Equal))) there
+          ∙ ap (λ r. slice_set (row_in rows i).items at (reverse_of (get_or r.items i Equal))) here;
+    }
+
+wide_mirrored : (rows new : List Packed) (at : ℕ) (given : List Rel) → IsWide rows → length given ≡ length rows → AreMirrored rows new at given → IsWide new
+wide_mirrored rows new at given wide long m i h =
+    let inside : i < length rows = omega (arith, h, m.tall) in
+    elim (cases_eq i at) [
+      | inl same ↦ ap (λ k. length (row_in new k).items) same ∙ ap length m.own ∙ long ∙ sym m.tall
+      | inr other ↦
+          ap length (m.others i inside other) ∙ length-set (row_in rows i).items at (reverse_of (get_or given i Equal)) ∙ wide i inside ∙ sym m.tall
+    ]
+
+-- a table whose copy got another row is kept, and holds it
+pub record IsReplaced (cs : List ℕ) (rows new : List Packed) (copy : ℕ) (given : List Rel) : Type 0 where
+  pub kept : IsKept cs new
+  pub holds : Holds (table_of cs new) (with_row copy (rel_at cs given) (rel_of (table_of cs rows)))
+
+pub replaced : (cs : List ℕ) (rows new : List Packed) (copy : ℕ) (given : List Rel) → IsKept cs rows → Contains cs copy → length given ≡ length cs
+    → get_or given (place_of copy cs) Equal ≡ Equal → AreMirrored rows new (place_of copy cs) given → IsReplaced cs rows new copy given
+replaced cs rows new copy given kept here long itself m =
+    let rel = rel_of (table_of cs rows) in
+    let row = rel_at cs given in
+    let holds = holds_mirrored cs rows new copy given kept.tall kept.wide here m in
+    let wide = wide_mirrored rows new (place_of copy cs) given kept.wide (long ∙ sym kept.tall) m in
+    record {
+      kept = kept_from cs new (with_row copy row rel) kept.rising (m.tall ∙ kept.tall) wide holds
+          (λ a b ina inb. with_row_mirrored copy row rel cs itself kept.mirrored a b (λ other. ina) (λ other. inb))
+          (λ a ina. with_row_itself copy row rel cs itself kept.itself a (λ other. ina));
+      holds = holds;
+    }
+
+-- a row that says the same of all copies is as good
+pub holds_row : (t : Table) (copy : ℕ) (row other : ℕ → Rel) (rel : ℕ → ℕ → Rel) → Holds t (with_row copy row rel)
+    → ((b : ℕ) → Contains t.copies b → row b ≡ other b) → Holds t (with_row copy other rel)
+holds_row t copy row other rel holds same a b ina inb =
+    holds a b ina inb ∙ (elim (cases_eq a copy) [
+      | inl own ↦ with_row_own copy row rel a b own ∙ same b inb ∙ sym (with_row_own copy other rel a b own)
+      | inr apart ↦ elim (cases_eq b copy) [
+        | inl to ↦ with_row_to copy row rel a b apart to ∙ ap reverse_of (same a ina) ∙ sym (with_row_to copy other rel a b apart to)
+        | inr none ↦ with_row_else copy row rel a b apart none ∙ sym (with_row_else copy other rel a b apart none)
+      ]
+    ])
+
+-- what an edit leaves
+abbrev pub Edits : List ℕ → List Packed → Bool → ℕ → ℕ → Table → Type 0
+Edits cs final test copy at t =
+    Contains t.copies copy → at ≡ place_of copy t.copies
+    → IsSound cs final test × Holds (table_of cs final) (with_row copy (edited_row copy (rel_of t copy)) (rel_of t))
+
+pub edited_call : (cs : List ℕ) (rows slice new final slice' : List Packed) (now : Table) (copy at : ℕ) (old row : Packed) (test : Bool) → IsKept cs rows → table_of cs rows ≡ now
+    → old ≡ get_or rows at old
+    → length row.items ≡ length old.items → get_or row.items at Equal ≡ get_or old.items at Equal
+    → ((k : ℕ) → k < length old.items → ¬ (k ≡ at) → get_or row.items k Equal ≡ edited_rel (get_or old.items k Equal))
+    → slice ≡ slice_set rows at row → length new ≡ length slice → (row_in new at).items ≡ (row_in slice at).items
+    → ((i : ℕ) → i < length slice → ¬ (i ≡ at) → (row_in new i).items ≡ slice_set (row_in slice i).items at (reverse_of (get_or (row_in slice at).items i Equal)))
+    → final ≡ new → slice' ≡ final → (test ≡ true) ↔ IsTorn slice' → Edits cs final test copy at now
+edited_call cs rows slice new final slice' now copy at old row test kept view read long itself others same tall own rest end same' says =
+    subst (Edits cs final test copy at) view (λ here place.
+    let rel = rel_of (table_of cs rows) in
+    let within : at < length rows = omega (arith, place, kept.tall, place_within cs copy here) in
+    let old_is : old ≡ row_in rows (place_of copy cs) = get_or_read rows at old within read _ ∙ ap (λ k. row_in rows k) place in
+    let wide : length old.items ≡ length cs = ap (λ r. length r.items) old_is ∙ kept.wide (place_of copy cs) (omega (arith, within, place)) ∙ kept.tall in
+    let m : AreMirrored rows final (place_of copy cs) row.items =
+    subst (λ k. AreMirrored rows final k row.items) place (subst (λ r. AreMirrored rows r at row.items) (sym end) (mirrored_from rows slice new at row within same tall own rest)) in
+    let old_rel : (b : ℕ) → get_or old.items (place_of b cs) Equal ≡ rel copy b =
+    λ b. ap (λ r. get_or r.items (place_of b cs) Equal) old_is ∙ sym (rel_is cs rows copy b kept.tall here) in
+    let equal : get_or row.items (place_of copy cs) Equal ≡ Equal =
+    ap (λ k. get_or row.items k Equal) (sym place) ∙ itself ∙ ap (λ k. get_or old.items k Equal) place ∙ old_rel copy ∙ kept.itself copy here in
+    let done = replaced cs rows final copy row.items kept here (long ∙ wide) equal m in
+    let alike : (b : ℕ) → Contains cs b → rel_at cs row.items b ≡ edited_row copy (rel copy) b =
+    λ b there. (elim (cases_eq b copy) [
+      | inl one ↦ ap (λ c. get_or row.items (place_of c cs) Equal) one ∙ equal ∙ sym (rw (eq-eqb b copy one) refl)
+      | inr two ↦
+          others (place_of b cs) (omega (arith, wide, place_within cs b there)) (λ p. two (same_place cs b copy there here (p ∙ place)))
+          ∙ ap edited_rel (old_rel b) ∙ sym (rw (ne_eqb b copy two) refl)
+    ]) in
+    (sound_from cs final slice' test done.kept same' says, holds_row (table_of cs final) copy (rel_at cs row.items) (edited_row copy (rel copy)) rel done.holds alike))
+
+-- what other relations of a copy leave
+abbrev pub Fills : List ℕ → List Packed → Bool → ℕ → ℕ → List Rel → Table → Type 0
+Fills cs final test copy at rels t =
+    Contains t.copies copy → length rels + 1 ≡ length t.copies → at ≡ place_of copy t.copies
+    → IsSound cs final test × Holds (table_of cs final) (with_row copy (rel_at (without copy t.copies) rels) (rel_of t))
+
+pub filled_call : (cs : List ℕ) (rows slice new final slice' : List Packed) (now : Table) (copy at : ℕ) (rels : List Rel) (row : Packed) (test : Bool) → IsKept cs rows → table_of cs rows ≡ now
+    → row.items ≡ insert rels at Equal
+    → slice ≡ slice_set rows at row → length new ≡ length slice → (row_in new at).items ≡ (row_in slice at).items
+    → ((i : ℕ) → i < length slice → ¬ (i ≡ at) → (row_in new i).items ≡ slice_set (row_in slice i).items at (reverse_of (get_or (row_in slice at).items i Equal)))
+    → final ≡ new → slice' ≡ final → (test ≡ true) ↔ IsTorn slice' → Fills cs final test copy at rels now
+filled_call cs rows slice new final slice' now copy at rels row test kept view filled same tall own rest end same' says =
+    subst (Fills cs final test copy at rels) view (λ here long place.
+    let rel = rel_of (table_of cs rows) in
+    let within : at < length rows = omega (arith, place, kept.tall, place_within cs copy here) in
+    let fits : at ≤ length rels = omega (arith, within, kept.tall, long) in
+    let m : AreMirrored rows final (place_of copy cs) row.items =
+    subst (λ k. AreMirrored rows final k row.items) place (subst (λ r. AreMirrored rows r at row.items) (sym end) (mirrored_from rows slice new at row within same tall own rest)) in
+    let row_long : length row.items ≡ length cs = ap length filled ∙ length-insert rels at Equal fits ∙ long in
+    let equal : get_or row.items (place_of copy cs) Equal ≡ Equal =
+    ap (λ k. get_or row.items k Equal) (sym place) ∙ ap (λ r. get_or r at Equal) filled ∙ get_or-insert_at rels at Equal Equal fits in
+    let done = replaced cs rows final copy row.items kept here row_long equal m in
+    let alike : (b : ℕ) → Contains cs b → rel_at cs row.items b ≡ rel_at (without copy cs) rels b =
+    λ b there. ap (λ r. get_or r (place_of b cs) Equal) filled ∙ ap (λ k. get_or (insert rels k Equal) (place_of b cs) Equal) place
+    ∙ sym (others_at cs rels copy b kept.rising here long there) in
+    (sound_from cs final slice' test done.kept same' says, holds_row (table_of cs final) copy (rel_at cs row.items) (rel_at (without copy cs) rels) rel done.holds alike))
+
+-- a copy's row has Equal in its own place
+abbrev pub Owns : ℕ → ℕ → Packed → Table → Type 0
+Owns copy at old t = Contains t.copies copy → at ≡ place_of copy t.copies → get_or old.items at Equal ≡ Equal
+
+pub own_equal : (cs : List ℕ) (rows : List Packed) (now : Table) (copy at : ℕ) (old : Packed) → IsKept cs rows → table_of cs rows ≡ now → old ≡ get_or rows at old → Owns copy at old now
+own_equal cs rows now copy at old kept view read =
+    subst (Owns copy at old) view (λ here place.
+    let within : at < length rows = omega (arith, place, kept.tall, place_within cs copy here) in
+    let old_is : old ≡ row_in rows (place_of copy cs) = get_or_read rows at old within read _ ∙ ap (λ k. row_in rows k) place in
+    ap (λ k. get_or old.items k Equal) place ∙ ap (λ r. get_or r.items (place_of copy cs) Equal) old_is ∙ sym (rel_is cs rows copy copy kept.tall here) ∙ kept.itself copy here)
+
+-- rows stay as wide as they are many
+abbrev pub Wide : ℕ → ℕ → List Rel → List Packed → Table → Type 0
+Wide copy at rels slice' t = Contains t.copies copy → length rels + 1 ≡ length t.copies → at ≡ place_of copy t.copies → IsWide slice'
+
+pub filled_wide : (cs : List ℕ) (rows slice new final slice' : List Packed) (now : Table) (copy at : ℕ) (rels : List Rel) (row : Packed) → IsKept cs rows → table_of cs rows ≡ now
+    → row.items ≡ insert rels at Equal
+    → slice ≡ slice_set rows at row → length new ≡ length slice → (row_in new at).items ≡ (row_in slice at).items
+    → ((i : ℕ) → i < length slice → ¬ (i ≡ at) → (row_in new i).items ≡ slice_set (row_in slice i).items at (reverse_of (get_or (row_in slice at).items i Equal)))
+    → final ≡ new → slice' ≡ final → Wide copy at rels slice' now
+filled_wide cs rows slice new final slice' now copy at rels row kept view filled same tall own rest end same' =
+    subst (Wide copy at rels slice') view (λ here long place.
+    let within : at < length rows = omega (arith, place, kept.tall, place_within cs copy here) in
+    let row_long : length row.items ≡ length rows = ap length filled ∙ length-insert rels at Equal (omega (arith, within, kept.tall, long)) ∙ long ∙ sym kept.tall in
+    subst IsWide (sym (same' ∙ end)) (wide_mirrored rows new at row.items kept.wide row_long (mirrored_from rows slice new at row within same tall own rest)))
+
+-- a copy's column and row are gone
+abbrev pub Drops : List ℕ → List Packed → Bool → ℕ → ℕ → Table → Type 0
+Drops cs' final test copy at t =
+    Contains t.copies copy → at ≡ place_of copy t.copies → IsSound cs' final test × (cs' ≡ without copy t.copies) × Holds (table_of cs' final) (rel_of t)
+
+pub dropped_wide : (rows slice new final slice' : List Packed) (at : ℕ) → IsWide rows → at < length rows → slice ≡ remove rows at → length new ≡ length slice
+    → ((i : ℕ) → i < length slice → (row_in new i).items ≡ remove (row_in slice i).items at) → final ≡ new → slice' ≡ final → IsWide slice'
+dropped_wide rows slice new final slice' at wide within same tall others end same' =
+    let long : length slice + 1 ≡ length rows = ap (λ r. length r + 1) same ∙ length-remove rows at within in
+    subst IsWide (sym (same' ∙ end)) (λ i h.
+    let inside : i < length slice = omega (arith, h, tall) in
+    let place : up at i < length rows = (let bound = up_within at i (length slice) inside in omega (arith, bound, long)) in
+    let row : row_in slice i ≡ row_in rows (up at i) = ap (λ r. row_in r i) same ∙ up_remove rows at i (record { items = []; room = 0 }) in
+    let old : length (row_in slice i).items ≡ length rows = ap (λ r. length r.items) row ∙ wide (up at i) place in
+    let less = length-remove (row_in slice i).items at (omega (arith, old, within)) in
+    ap length (others i inside) ∙ omega (arith, less, old, long, tall))
+
+pub dropped_call : (cs cs' : List ℕ) (rows slice new final slice' : List Packed) (now : Table) (copy at : ℕ) (test : Bool) → IsKept cs rows → table_of cs rows ≡ now
+    → cs' ≡ remove cs at → slice ≡ remove rows at → length new ≡ length slice
+    → ((i : ℕ) → i < length slice → (row_in new i).items ≡ remove (row_in slice i).items at)
+    → final ≡ new → slice' ≡ final → (test ≡ true) ↔ IsTorn slice' → Drops cs' final test copy at now
+dropped_call cs cs' rows slice new final slice' now copy at test kept view gone same tall others end same' says =
+    subst (Drops cs' final test copy at) view (λ here place.
+    let rel = rel_of (table_of cs rows) in
+    let within : at < length cs = omega (arith, place, place_within cs copy here) in
+    let inside : at < length rows = omega (arith, within, kept.tall) in
+    let long : length slice + 1 ≡ length rows = ap (λ r. length r + 1) same ∙ length-remove rows at inside in
+    let final_long : length final ≡ length slice = ap length end ∙ tall in
+    let m : AreDropped rows final at = record {
+      tall = ap (λ n. n + 1) final_long ∙ long;
+      others = λ i h. ap (λ r. (row_in r i).items) end ∙ others i (omega (arith, h, final_long))
+          ∙ ap (λ r. remove (row_in r i).items at) same ∙ ap (λ r. remove r.items at) (up_remove rows at i (record { items = []; room = 0 }));
+    } in
+    let holds = holds_dropped cs rows final at kept.rising kept.tall within m in
+    let rising = rising_remove cs at kept.rising within in
+    let wide = subst IsWide same' (dropped_wide rows slice new final slice' at kept.wide inside same tall others end same') in
+    let all : length final ≡ length (remove cs at) = omega (arith, m.tall, kept.tall, length-remove cs at within) in
+    let kept' = kept_from (remove cs at) final rel rising all wide holds
+    (λ a b ina inb. kept.mirrored a b (contains_remove cs at a kept.rising within ina).0 (contains_remove cs at b kept.rising within inb).0)
+    (λ a ina. kept.itself a (contains_remove cs at a kept.rising within ina).0) in
+    let copy_is : get_or cs at 0 ≡ copy = ap (λ k. get_or cs k 0) place ∙ place_reads copy cs 0 (place_within cs copy here) in (
+      subst (λ c. IsSound c final test) (sym gone) (sound_from (remove cs at) final slice' test kept' same' says),
+      gone ∙ sym (without_is cs at kept.rising within) ∙ ap (λ c. without c cs) copy_is,
+      subst (λ c. Holds (table_of c final) rel) (sym gone) holds,
+    ))

@@ -1,0 +1,228 @@
+//! How each of some copies relates to each.
+ghost use Rattle.std.specs.Prelude.{◌≡◌, ℕ, ◌+◌, ◌<◌, [], ◌∷◌, Contains, IfOk, OnErr, OnOk, length};
+ghost use Rattle.pana_event.specs.declared.rel.Rel.TheVariants.{Equal};
+ghost use Rattle.pana_event.specs.Relation.{reverse_of};
+ghost use Rattle.pana_rel.specs.Pairs.{counts_of, edited_row, is_split, newest_of, place_of, rel_at, rel_of, with_copy, with_row, without, Holds};
+ghost use Rattle.pana_rel.specs.inner.Square.{IsGap};
+
+use crate::counts::Counts;
+use crate::row::Row;
+use crate::rows;
+use pana_event::Rel;
+use std::alloc::{AllocError, Global};
+use std::marker::Model;
+
+/// The relation of each ordered pair of some copies, with counts.
+///
+/// A copy is Equal to itself, and the relations of a pair in its two directions are each other's reverse. The
+/// copies are kept by rising number. A relation takes two bits, so 256 copies take 16 KB.
+#[derive(Drop)]
+pub struct PairTable {
+    alloc: Global,
+    copies: Vec<u64>,
+    rows: Vec<Row>,
+    split: bool,
+}
+
+impl Model for PairTable {
+    ghost use Rattle.std.specs.Prelude.{◌≡◌};
+    ghost use Rattle.pana_rel.specs.Pairs.{Table, is_split, rel_of};
+    ghost use Rattle.pana_rel.specs.inner.Square.{IsKept, items_of, table_of};
+
+    ghost Value = { Table };
+
+    ghost view = { λ a. table_of a.copies.items a.rows.items };
+
+    ghost invariant = { λ a. IsKept a.copies.items a.rows.items × (a.split ≡ is_split a.copies.items (rel_of (table_of a.copies.items a.rows.items))) };
+}
+
+impl PairTable {
+    /// The table of one copy.
+    ///
+    /// # Errors
+    ///
+    /// `AllocError` where an allocation failed.
+    pub fn new(alloc: Global, first: u64) -> Result<PairTable, AllocError>
+        ensures { IfOk result (λ table. table.copies ≡ first ∷ []) }
+    {
+        let mut copies = Vec::new(alloc);
+        copies.push(first)?;
+        let mut rows = Vec::new(alloc);
+        rows.push(rows::row_of(alloc, &[Rel::Equal])?)?;
+        Ok(PairTable {
+            alloc,
+            copies,
+            rows,
+            split: false,
+        })
+    }
+
+    /// The copies by rising number. Takes no memory; O(1).
+    pub fn copies(&self) -> &[u64]
+        ensures { result.now ≡ self.now.copies }
+    {
+        self.copies.as_slice()
+    }
+
+    /// Puts in a copy that is Equal to another, and relates to the others as that one does. O(copies) where it has
+    /// the greatest number, else it moves what comes behind it.
+    ///
+    /// # Errors
+    ///
+    /// `AllocError` where an allocation failed; the table is then as it was.
+    pub fn insert_like(&mut self, source: u64, new: u64) -> Result<(), AllocError>
+        requires source { Contains self.old.copies source }
+        requires new { ¬ Contains self.old.copies new }
+        ensures copies { OnOk result (self.new.copies ≡ with_copy new self.old.copies) }
+        ensures pairs { OnOk result (Holds self.new (with_row new (rel_of self.old source) (rel_of self.old))) }
+        ensures err { OnErr result (self.new ≡ self.old) }
+    {
+        let row = self.rows[self.place(source)].copy_of(self.alloc)?;
+        self.insert(new, row)
+    }
+
+    /// Puts in a copy that has these relations to the others, one for each in order. O(copies) where it has the
+    /// greatest number, else it moves what comes behind it.
+    ///
+    /// # Errors
+    ///
+    /// `AllocError` where an allocation failed; the table is then as it was.
+    pub fn insert_row(&mut self, new: u64, rels: &[Rel]) -> Result<(), AllocError>
+        requires new { ¬ Contains self.old.copies new }
+        requires long { length rels.now ≡ length self.old.copies }
+        ensures copies { OnOk result (self.new.copies ≡ with_copy new self.old.copies) }
+        ensures pairs { OnOk result (Holds self.new (with_row new (rel_at self.old.copies rels.now) (rel_of self.old))) }
+        ensures err { OnErr result (self.new ≡ self.old) }
+    {
+        let row = rows::row_of(self.alloc, rels)?;
+        self.insert(new, row)
+    }
+
+    /// Records an edit of a copy: it is Newer than what it was Equal to or Newer than, and in Conflict with the rest.
+    /// Takes no memory; O(copies).
+    pub fn edited(&mut self, copy: u64)
+        requires { Contains self.old.copies copy }
+        ensures copies { self.new.copies ≡ self.old.copies }
+        ensures pairs { Holds self.new (with_row copy (edited_row copy (rel_of self.old copy)) (rel_of self.old)) }
+    {
+        let at = self.place(copy);
+        rows::edit_row(&mut self.rows[at], at);
+        rows::mirror(&mut self.rows, at);
+        self.split = rows::is_split(&self.rows);
+    }
+
+    /// Puts other relations of a copy to the others, one for each other copy in order. Takes no memory; O(copies).
+    pub fn set_row(&mut self, copy: u64, rels: &[Rel])
+        requires lives { Contains self.old.copies copy }
+        requires long { length rels.now + 1 ≡ length self.old.copies }
+        ensures copies { self.new.copies ≡ self.old.copies }
+        ensures pairs { Holds self.new (with_row copy (rel_at (without copy self.old.copies) rels.now) (rel_of self.old)) }
+    {
+        let at = self.place(copy);
+        rows::fill_row(&mut self.rows[at], at, rels);
+        rows::mirror(&mut self.rows, at);
+        self.split = rows::is_split(&self.rows);
+    }
+
+    /// Takes a copy out. Takes no memory; O(copies) where it has the greatest number, else it moves what comes
+    /// behind it.
+    pub fn drop_copy(&mut self, copy: u64)
+        requires { Contains self.old.copies copy }
+        ensures copies { self.new.copies ≡ without copy self.old.copies }
+        ensures pairs { Holds self.new (rel_of self.old) }
+    {
+        let at = self.place(copy);
+        self.copies.remove(at);
+        self.rows.remove(at);
+        rows::close_column(&mut self.rows, at);
+        self.split = rows::is_split(&self.rows);
+    }
+
+    /// The relation of a copy to another. Takes no memory; O(log copies).
+    pub fn rel(&self, a: u64, b: u64) -> Rel
+        requires first { Contains self.now.copies a }
+        requires second { Contains self.now.copies b }
+        ensures value { result ≡ rel_of self.now a b }
+        ensures reversed { rel_of self.now b a ≡ reverse_of result }
+        ensures itself { a ≡ b → result ≡ Equal }
+    {
+        self.rows[self.place(a)].get(self.place(b))
+    }
+
+    /// How many other copies are newer than a copy, older, equal and in conflict. Takes no memory; they are kept, so
+    /// it only looks for the copy, O(log copies).
+    pub fn counts(&self, copy: u64) -> Counts
+        requires { Contains self.now.copies copy }
+        ensures { result ≡ counts_of copy self.now.copies (rel_of self.now) }
+    {
+        let counts = self.rows[self.place(copy)].counts();
+        Counts {
+            equal: counts.equal - 1,
+            ..counts
+        }
+    }
+
+    /// Whether two of the newest copies are in conflict. Takes no memory; O(1).
+    pub fn split(&self) -> bool
+        ensures { result ≡ is_split self.now.copies (rel_of self.now) }
+    {
+        self.split
+    }
+
+    /// The copies to which none is newer, by rising number. O(copies).
+    ///
+    /// # Errors
+    ///
+    /// `AllocError` where an allocation failed.
+    pub fn newest(&self) -> Result<Vec<u64>, AllocError>
+        ensures { IfOk result (λ newest. newest.items ≡ newest_of self.now.copies (rel_of self.now)) }
+    {
+        let mut newest = Vec::new(self.alloc);
+        for at in 0..self.rows.len() {
+            if rows::is_newest(&self.rows, at) {
+                newest.push(self.copies[at])?;
+            }
+        }
+        Ok(newest)
+    }
+
+    /// Puts in a copy with its relations to the others.
+    fn insert(&mut self, new: u64, row: Row) -> Result<(), AllocError>
+        requires new { ¬ Contains self.old.copies new }
+        requires long { length row.items ≡ length self.old.copies }
+        ensures copies { OnOk result (self.new.copies ≡ with_copy new self.old.copies) }
+        ensures pairs { OnOk result (Holds self.new (with_row new (rel_at self.old.copies row.items) (rel_of self.old))) }
+        ensures err { OnErr result (self.new ≡ self.old) }
+    {
+        let at = self.gap(new);
+        let mut row = row;
+        row.reserve()?;
+        self.copies.reserve(1)?;
+        self.rows.reserve(1)?;
+        rows::reserve(&mut self.rows)?;
+        // From here on nothing takes memory.
+        row.insert(at, Rel::Equal);
+        self.copies.insert(at, new).unwrap();
+        self.rows.insert(at, row).unwrap();
+        rows::open_column(&mut self.rows, at);
+        self.split = rows::is_split(&self.rows);
+        Ok(())
+    }
+
+    /// The place of a copy. Takes no memory; O(log copies).
+    fn place(&self, copy: u64) -> usize
+        requires { Contains self.now.copies copy }
+        ensures place { result ≡ place_of copy self.now.copies }
+        ensures within { result < length self.now.copies }
+    {
+        self.copies.as_slice().binary_search(&copy).unwrap()
+    }
+
+    /// The place where a copy goes that isn't there. Takes no memory; O(log copies).
+    fn gap(&self, copy: u64) -> usize
+        requires { ¬ Contains self.now.copies copy }
+        ensures { IsGap self.now.copies copy result }
+    {
+        self.copies.as_slice().binary_search(&copy).unwrap_err()
+    }
+}

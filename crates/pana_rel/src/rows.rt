@@ -1,0 +1,175 @@
+//! The rows of all copies, by their places.
+ghost use Rattle.std.specs.Prelude.{◌≡◌, ℕ, ◌+◌, ◌<◌, ◌↔◌, false, OnOk, IfOk, IsTrue, length, slice_index_or, slice_set};
+ghost use Rattle.std.specs.List.{insert, remove};
+ghost use Rattle.pana_event.specs.declared.rel.Rel.TheVariants.{Equal};
+ghost use Rattle.pana_event.specs.Relation.{reverse_of};
+ghost use Rattle.pana_rel.specs.Pairs.{edited_rel};
+ghost use Rattle.pana_rel.specs.inner.Square.{row_in, IsTop, IsTorn, IsWide, Meets};
+
+use crate::row::Row;
+use pana_event::Rel;
+use std::alloc::{AllocError, Global};
+
+/// How a copy that was edited relates to another, from how it did before.
+fn edited(rel: Rel) -> Rel
+    ensures { result ≡ edited_rel rel }
+{
+    match rel {
+        Rel::Equal | Rel::Newer => Rel::Newer,
+        Rel::Older | Rel::Conflict => Rel::Conflict,
+    }
+}
+
+/// A row of these relations.
+pub(crate) fn row_of(alloc: Global, rels: &[Rel]) -> Result<Row, AllocError>
+    ensures { IfOk result (λ row. row.items ≡ rels.now) }
+{
+    let mut row = Row::new(alloc);
+    for rel in rels {
+        row.reserve()?;
+        row.push(*rel);
+    }
+    Ok(row)
+}
+
+/// Makes a copy's row that of the copy after an edit; the copy is at this place.
+pub(crate) fn edit_row(row: &mut Row, at: usize)
+    ensures long { length row.new.items ≡ length row.old.items }
+    ensures itself { slice_index_or row.new.items at Equal ≡ slice_index_or row.old.items at Equal }
+    ensures others { (k : ℕ) → k < length row.old.items → ¬ (k ≡ at) → slice_index_or row.new.items k Equal ≡ edited_rel (slice_index_or row.old.items k Equal) }
+{
+    for k in 0..row.len() {
+        if k != at {
+            let rel = row.get(k);
+            row.set(k, edited(rel));
+        }
+    }
+}
+
+/// Puts these relations to the others in a copy's row; the copy is at this place.
+pub(crate) fn fill_row(row: &mut Row, at: usize, rels: &[Rel])
+    requires long { length row.old.items ≡ length rels.now + 1 }
+    requires itself { slice_index_or row.old.items at Equal ≡ Equal }
+    requires within { at < length row.old.items }
+    ensures { row.new.items ≡ insert rels.now at Equal }
+{
+    for k in 0..row.len() {
+        if k < at {
+            row.set(k, rels[k]);
+        } else if at < k {
+            row.set(k, rels[k - 1]);
+        }
+    }
+}
+
+/// Makes each copy's relation to the one at this place the reverse of that one's to it.
+pub(crate) fn mirror(rows: &mut [Row], at: usize)
+    requires within { at < length rows.old }
+    requires wide { IsWide rows.old }
+    ensures tall { length rows.new ≡ length rows.old }
+    ensures own { (row_in rows.new at).items ≡ (row_in rows.old at).items }
+    ensures others { (i : ℕ) → i < length rows.old → ¬ (i ≡ at) → (row_in rows.new i).items ≡ slice_set (row_in rows.old i).items at (reverse_of (slice_index_or (row_in rows.old at).items i Equal)) }
+{
+    for i in 0..rows.len() {
+        if i != at {
+            let rel = rows[at].get(i);
+            rows[i].set(at, rel.reversed());
+        }
+    }
+}
+
+/// Makes room in each row for one more relation. What fails changes nothing.
+pub(crate) fn reserve(rows: &mut [Row]) -> Result<(), AllocError>
+    ensures tall { length rows.new ≡ length rows.old }
+    ensures same { (i : ℕ) → (row_in rows.new i).items ≡ (row_in rows.old i).items }
+    ensures room { OnOk result ((i : ℕ) → i < length rows.new → 0 < (row_in rows.new i).room) }
+{
+    for i in 0..rows.len() {
+        rows[i].reserve()?;
+    }
+    Ok(())
+}
+
+/// Puts into each row but that at this place the relation to its copy, the reverse of that copy's to the row's.
+pub(crate) fn open_column(rows: &mut [Row], at: usize)
+    requires within { at < length rows.old }
+    requires room { (i : ℕ) → i < length rows.old → ¬ (i ≡ at) → 0 < (row_in rows.old i).room }
+    requires long { length (row_in rows.old at).items ≡ length rows.old }
+    requires wide { (i : ℕ) → i < length rows.old → ¬ (i ≡ at) → length (row_in rows.old i).items + 1 ≡ length rows.old }
+    ensures tall { length rows.new ≡ length rows.old }
+    ensures own { (row_in rows.new at).items ≡ (row_in rows.old at).items }
+    ensures others { (i : ℕ) → i < length rows.old → ¬ (i ≡ at) → (row_in rows.new i).items ≡ insert (row_in rows.old i).items at (reverse_of (slice_index_or (row_in rows.old at).items i Equal)) }
+{
+    for i in 0..rows.len() {
+        if i != at {
+            let rel = rows[at].get(i);
+            rows[i].insert(at, rel.reversed());
+        }
+    }
+}
+
+/// Takes the relation to the copy at this place out of each row.
+pub(crate) fn close_column(rows: &mut [Row], at: usize)
+    requires { (i : ℕ) → i < length rows.old → at < length (row_in rows.old i).items }
+    ensures tall { length rows.new ≡ length rows.old }
+    ensures rows { (i : ℕ) → i < length rows.old → (row_in rows.new i).items ≡ remove (row_in rows.old i).items at }
+{
+    for i in 0..rows.len() {
+        rows[i].remove(at);
+    }
+}
+
+/// Whether no copy is newer than the one at this place. Takes no memory; O(1).
+pub(crate) fn is_newest(rows: &[Row], at: usize) -> bool
+    requires { at < length rows.now }
+    ensures { IsTrue result ↔ IsTop (row_in rows.now at).items }
+{
+    rows[at].counts().above == 0
+}
+
+/// Whether the copy at this place is in conflict with one to which none is newer.
+fn meets_newest(rows: &[Row], at: usize) -> bool
+    requires within { at < length rows.now }
+    requires wide { IsWide rows.now }
+    ensures { IsTrue result ↔ Meets rows.now at }
+{
+    for other in 0..rows.len() {
+        if rows[at].get(other) == Rel::Conflict && is_newest(rows, other) {
+            return true;
+        }
+    }
+    false
+}
+
+/// Whether the copy at this place is in conflict with any. Takes no memory; O(1).
+fn has_conflict(rows: &[Row], at: usize) -> bool
+    requires within { at < length rows.now }
+    requires wide { IsWide rows.now }
+    ensures { result ≡ false → ¬ Meets rows.now at }
+{
+    rows[at].counts().conflict > 0
+}
+
+/// Whether to the copy at this place none is newer, and it is in conflict with another such copy.
+fn is_torn_at(rows: &[Row], at: usize) -> bool
+    requires within { at < length rows.now }
+    requires wide { IsWide rows.now }
+    ensures yes { IsTrue result → IsTop (row_in rows.now at).items × Meets rows.now at }
+    ensures no { result ≡ false → IsTop (row_in rows.now at).items → ¬ Meets rows.now at }
+{
+    is_newest(rows, at) && has_conflict(rows, at) && meets_newest(rows, at)
+}
+
+/// Whether two copies are in conflict to which none is newer. Takes no memory; visits the rows, and the relations
+/// of newest copies that are in conflict with others, up to the first two such copies.
+pub(crate) fn is_split(rows: &[Row]) -> bool
+    requires { IsWide rows.now }
+    ensures { IsTrue result ↔ IsTorn rows.now }
+{
+    for at in 0..rows.len() {
+        if is_torn_at(rows, at) {
+            return true;
+        }
+    }
+    false
+}
