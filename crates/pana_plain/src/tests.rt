@@ -75,7 +75,7 @@ fn call(alloc: Global, random: u64, length: u64) -> Result<Call, Fail> {
     let second = next(random);
     let third = next(second);
     let recent = length.saturating_sub(below(second, 12));
-    let any = below(third, length + 2);
+    let any = below(third, length.saturating_add(2));
     let (a, b) = if second % 3 == 0 {
         (any, recent)
     } else {
