@@ -62,7 +62,7 @@ pub lives_from : (rows : List StampRow) (r : StampRow) → In r rows → r.holde
 lives_from rows r i free =
     any_from (λ q. q.copy == r.copy && is_copy q.holder) rows r i (and_from (r.copy == r.copy) (is_copy r.holder) (eq-eqb r.copy r.copy refl) (ap is_copy free))
 
-has_rows : (rows : List StampRow) (c : ℕ) → has (map (λ r. r.copy) (copy_rows rows)) c ≡ lives rows c
+pub has_rows : (rows : List StampRow) (c : ℕ) → has (map (λ r. r.copy) (copy_rows rows)) c ≡ lives rows c
 has_rows [] c = refl
 has_rows (r ∷ rows) c =
     elim (is_copy r.holder) as (λ b. has (map (λ q. q.copy) (cond b (r ∷ copy_rows rows) (copy_rows rows))) c ≡ ((r.copy == c && b) || lives rows c)) [

@@ -11,14 +11,14 @@ use Rattle.pana_family.specs.declared.row.StampRow.{StampRow}
 use Rattle.pana_family.specs.Updates.{has}
 use Rattle.pana_family.specs.Holders.{is_copy}
 use Rattle.pana_family.specs.Table.{In}
-use Rattle.pana_family.specs.Rows.{AreBefore, IsRising, dropped, lives, put_all, renewed}
+use Rattle.pana_family.specs.Rows.{AreBefore, IsRising, copy_rows, dropped, lives, put_all, renewed}
 use Rattle.pana_family.specs.Paired.{ArePaired}
 use Rattle.pana_family.specs.inner.Comparing.{AgreeOn, AreCompared, HasCopies, IsGrown, IsGrownBy, IsShrunk}
 use Rattle.pana_family.proofs.Members.{in_dropped}
 use Rattle.pana_family.proofs.Places.{in_dropped_other, rising_dropped}
 use Rattle.pana_family.proofs.Backs.{all_other, in_all}
 use Rattle.pana_family.proofs.Heirs.{living_at}
-use Rattle.pana_family.proofs.Copies.{contains_has, has_contains, in_with_copy, in_without_copy, lives_from, with_copy_new, with_copy_old, without_other}
+use Rattle.pana_family.proofs.Copies.{has_rows, in_with_copy, in_without_copy, lives_from, with_copy_new, with_copy_old, without_other}
 
 -- Numbers of rows.
 
@@ -269,3 +269,8 @@ put_back_out rows n row p0 p1 p2 p before are holds less same =
       copies = copies;
       rels = λ r q i j free free' ne. agreeing rows p0 p1 p2 r q p g.more g.same (λ a b here there. same a b here there) i j free free' ne ((copies r.copy).1 (lives_from rows r i free)) ((copies q.copy).1 (lives_from rows q j free'));
     }
+
+-- where all copies are to be compared, nothing is asked of the table
+pub none_compared : (rows : List StampRow) (pairs : Table) (numbers : List ℕ) → numbers ≡ map (λ r. r.copy) (copy_rows rows) → AreCompared numbers rows pairs
+none_compared rows pairs numbers are r q i j free free' ne out out' =
+    absurd (both_ways (has numbers r.copy) out (ap (λ (l : List ℕ). has l r.copy) are ∙ has_rows rows r.copy ∙ lives_from rows r i free))

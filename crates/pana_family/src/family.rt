@@ -1,7 +1,7 @@
 //! A family: the living copies of one file, and what undoes its last reports.
 #![tactic(auto, unfolding(crate::specs::View::Means, crate::specs::View::is_living, crate::specs::View::IsNew, crate::specs::View::IsPending, crate::specs::View::IsLast, crate::specs::View::copy_count, crate::specs::View::can_split, crate::specs::View::OwnsSame, crate::specs::View::depth_at))]
 
-ghost use Rattle.std.specs.Prelude.{ℕ, ◌≡◌, ◌≢◌, ◌↔◌, ◌<◌, ◌≤◌, ◌+◌, true, false, length, List, ◌∷◌, IfOk, OnOk, OnErr, IfErr, IfSome, IsErrOf, IsTrue, ◌⊎◌, Some, None, position, ◌==◌, map, take, drop, IsOk, Bool};
+ghost use Rattle.std.specs.Prelude.{ℕ, ◌≡◌, ◌≢◌, ◌↔◌, ◌<◌, ◌≤◌, ◌+◌, true, false, length, List, [], ◌∷◌, IfOk, OnOk, OnErr, IfErr, IfSome, IsErrOf, IsTrue, ◌⊎◌, Some, None, position, ◌==◌, map, take, drop, IsOk, Bool};
 ghost use Rattle.std.specs.List.{list_any};
 ghost use Rattle.pana_family.specs.Relation.{relation};
 ghost use Rattle.pana_family.specs.Table.{Known, In, is_in, copies_of, set_in, touch_in, duplicated, edited, reconciled, merged, removed, touched, AreBelow, AreHeld, held_by};
@@ -10,12 +10,16 @@ ghost use Rattle.pana_family.specs.Stamps.{AreStamps, text_of};
 ghost use Rattle.pana_family.specs.Rows.{AreEdited, duplicated_rows};
 ghost use Rattle.pana_family.specs.declared.row.StampRow.{StampRow as RowValue};
 ghost use Rattle.pana_event.specs.Event.{greatest};
-ghost use Rattle.pana_family.specs.Sets.{Sets, began, after, confirmed, withdrawn, Pends, PendsLast};
+ghost use Rattle.pana_family.specs.Kept.{IsKept};
+ghost use Rattle.pana_family.specs.Stands.{StandsFor};
+ghost use Rattle.pana_family.specs.Sets.{Sets, began, settled, after, confirmed, withdrawn, Pends, PendsLast};
 ghost use Rattle.pana_family.specs.View.{Means, is_living, IsNew, IsPending, IsLast, copy_count, can_split, OwnsSame, depth_at, Deepens, undone, more_undo};
 
 use crate::board::FamilyBoard;
 use crate::fault::FamilyFault;
 use crate::paired::PairedRows;
+use crate::row::StampRow;
+use crate::rows::Rows;
 use crate::stamps::CopyStamp;
 use crate::undo::{Back, Undo};
 use circular_buffer::HeapCircularBuffer;
@@ -67,6 +71,34 @@ impl Family {
             back: Back::Rows(Vec::new(alloc)),
         });
         Ok(Family { alloc, rows, undo })
+    }
+
+    /// A family of these rows, with nothing pending. Compares the stamps of each two copies.
+    ///
+    /// # Errors
+    ///
+    /// `AllocError` where an allocation failed; the rows are then lost.
+    pub fn of_rows(alloc: Global, rows: PlainList<StampRow>) -> Result<Family, AllocError>
+        requires { IsKept rows }
+        ensures stands { IfOk result (λ f. (table : List Known) → StandsFor rows table → Means f (settled table)) }
+        ensures rows { IfOk result (λ f. f.rows ≡ rows) }
+        ensures undo { IfOk result (λ f. f.undo ≡ []) }
+        ensures free { IfOk result (λ f. f.free ≡ []) }
+    {
+        let rows = Rows::of_vec(rows.into_vec());
+        let rows = PairedRows::of_rows(alloc, rows)?;
+        let undo = HeapCircularBuffer::with_capacity(alloc, 8)?;
+        Ok(Family { alloc, rows, undo })
+    }
+
+    /// The rows of the copies and parcels, by rising number, as `of_rows` asks for them. What undoes the pending entries is
+    /// lost. Takes no memory.
+    pub fn into_rows(self) -> PlainList<StampRow>
+        ensures rows { result ≡ self.rows }
+        ensures kept { IsKept result }
+    {
+        let Family { rows, .. } = self;
+        PlainList::from_vec(rows.into_rows().into_vec())
     }
 
     /// Puts a new copy beside its source: it is numbered like the entry, knows what the source knows, and has the second

@@ -29,4 +29,5 @@ mod undo;
 pub use crate::board::{CopyCounts, FamilyBoard};
 pub use crate::family::Family;
 pub use crate::fault::FamilyFault;
+pub use crate::row::StampRow;
 pub use crate::stamps::CopyStamp;

@@ -12,7 +12,7 @@ use crate::board::{FamilyBoard, board_of};
 use crate::comparing::{compare_copies, drop_missing, put_missing};
 use crate::row::StampRow;
 use crate::rows::Rows;
-use crate::searching::changed_numbers;
+use crate::searching::{changed_numbers, copy_numbers};
 use pana_event::{EventTree, Rel};
 use pana_rel::PairTable;
 use std::alloc::{AllocError, Global};
@@ -52,6 +52,26 @@ impl PairedRows {
         let rows = Rows::new(alloc, entry)?;
         let pairs = PairTable::new(alloc, entry)?;
         Ok(PairedRows { rows, pairs })
+    }
+
+    /// These rows. Compares the stamps of each two copies.
+    pub fn of_rows(alloc: Global, rows: Rows) -> Result<PairedRows, AllocError>
+        ensures { IfOk result (λ paired. paired ≡ rows) }
+    {
+        let copies = copy_numbers(alloc, rows.as_slice())?;
+        let mut pairs = PairTable::new(alloc, 0)?;
+        pairs.drop_copy(0);
+        put_missing(alloc, &mut pairs, rows.as_slice())?;
+        compare_copies(rows.as_slice(), &mut pairs, &copies);
+        Ok(PairedRows { rows, pairs })
+    }
+
+    /// The rows alone, without the relations. Takes no memory.
+    pub fn into_rows(self) -> Rows
+        ensures { result ≡ self }
+    {
+        let PairedRows { rows, .. } = self;
+        rows
     }
 
     /// The rows alone. Takes no memory.

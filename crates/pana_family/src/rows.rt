@@ -64,6 +64,23 @@ impl Rows {
         Ok(Rows { items })
     }
 
+    /// These rows. Takes no memory.
+    pub fn of_vec(items: Vec<StampRow>) -> Rows
+        requires { IsKept items.items }
+        ensures { result ≡ items.items }
+    {
+        Rows { items }
+    }
+
+    /// The rows in a `Vec`. Takes no memory.
+    pub fn into_vec(self) -> Vec<StampRow>
+        ensures rows { result.items ≡ self }
+        ensures kept { IsKept result.items }
+    {
+        let Rows { items } = self;
+        items
+    }
+
     /// The rows. Takes no memory.
     pub fn as_slice(&self) -> &[StampRow]
         ensures rows { result.now ≡ self.now }
