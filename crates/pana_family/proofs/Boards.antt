@@ -1,22 +1,22 @@
 -- Boards of a table of relations and of the table of sets that its rows stand for.
-use Rattle.std.specs.Prelude.{◌≡◌, ◌≢◌, ◌↔◌, ℕ, ◌+◌, Bool, true, false, cond, ◌==◌, ◌&&◌, ◌||◌, not, List, [], ◌∷◌, map, filter, count_by, Contains}
+use Rattle.std.specs.Prelude.{◌≡◌, ◌≢◌, ℕ, ◌+◌, Bool, true, false, cond, ◌==◌, ◌&&◌, ◌||◌, not, List, [], ◌∷◌, map, filter, count_by, Contains}
 use Rattle.std.specs.List.{list_any, AllZip}
 use Rattle.std.proofs.Common.{refl, sym, ap, ap₂, subst, ◌∙◌, inl, inr, arith, zero}
-use Rattle.std.proofs.lemmas.Bool.{cases_Bool, cases_eq, eqb-true, ne_eqb, eq-eqb}
+use Rattle.std.proofs.lemmas.Bool.{cases_Bool, cases_eq, eqb-true}
 use Rattle.std.proofs.lemmas.List.Sums.{sum_by-cons}
 use Rattle.pana_event.specs.declared.rel.Rel.{Rel}
 use Rattle.pana_event.specs.declared.rel.Rel.TheVariants.{Equal, Older, Newer, Conflict}
-use Rattle.pana_rel.specs.Pairs.{Table, Holds as HoldsAll, rel_of, newest_of, is_split, count_of, is_rel as is_one, counts_of as all_counts}
+use Rattle.pana_rel.specs.Pairs.{Table, Holds as HoldsAll, rel_of, newest_of, is_split, count_of, is_rel as is_one}
 use Rattle.pana_rel.proofs.Boards.{contains_more}
 use Rattle.pana_rel.proofs.Agreeing.{counts_same, newest_same, split_same}
 use Rattle.pana_family.specs.declared.row.StampRow.{StampRow}
 use Rattle.pana_family.specs.declared.board.CopyCounts.{CopyCounts}
 use Rattle.pana_family.specs.Relation.{relation, is_rel}
-use Rattle.pana_family.specs.Rows.{IsRising, copy_rows, lives}
+use Rattle.pana_family.specs.Rows.{IsRising, lives}
 use Rattle.pana_family.specs.Table.{Known, In, copies_of, set_in}
 use Rattle.pana_family.specs.Stands.{AreSame, StandsFor}
 use Rattle.pana_family.specs.Paired.{ArePaired}
-use Rattle.pana_family.specs.Board.{relates, counts_of, newest, has_conflict, board_rows, board_newest, board_split}
+use Rattle.pana_family.specs.Board.{relates, counts_of, newest, board_rows, board_newest, board_split}
 use Rattle.pana_family.specs.inner.PairBoard.{copy_counts}
 use Rattle.pana_family.proofs.Changes.{relation_is}
 use Rattle.pana_family.proofs.BySets.{copy_numbers}
@@ -143,14 +143,14 @@ five : {a a' b b' c c' d d' e e' : ℕ} → a ≡ a' → b ≡ b' → c ≡ c' �
     → ◌≡◌ {A = CopyCounts} (record { copy = a; newer = b; older = c; equal = d; conflict = e }) (record { copy = a'; newer = b'; older = c'; equal = d'; conflict = e' })
 five p q r s t = cc
 
--- how a copy stands to another by the sets that are found, and by their own
+-- how a copy relates to another by the sets that are found, and by their own
 stands : (table : List Known) → One table → (wanted : Rel) (t s : Known) → In t table → In s table
     → (not (s.copy == t.copy) && is_one (by_sets table s.copy t.copy) wanted) ≡ relates wanted t s
 stands table one wanted t s i j =
     ap (λ (rel : Rel). not (s.copy == t.copy) && is_one rel wanted) (ap₂ relation (set_of table s one j) (set_of table t one i))
     ∙ ap (λ (b : Bool). not (s.copy == t.copy) && b) (same_test (relation s.set t.set) wanted)
 
--- and where no copy stands so to itself
+-- the same for a relation that no copy has to itself
 stands_so : (table : List Known) → One table → (wanted : Rel) → is_rel Equal wanted ≡ false → (t s : Known) → In t table → In s table
     → is_one (by_sets table s.copy t.copy) wanted ≡ relates wanted t s
 stands_so table one wanted not_equal t s i j = elim (cases_Bool (s.copy == t.copy)) [

@@ -1,7 +1,7 @@
 -- A copy's relations, set by comparing stamps.
-use Rattle.std.specs.Prelude.{◌≡◌, ◌≢◌, ◌↔◌, ℕ, ◌+◌, ◌<◌, ◌≤◌, Bool, true, false, cond, ◌==◌, ◌&&◌, ◌||◌, not, ◌⊎◌, List, [], ◌∷◌, ◌++◌, length, map, filter, take, None, Option, Contains, slice_index_or}
+use Rattle.std.specs.Prelude.{◌≡◌, ◌≢◌, ℕ, ◌+◌, ◌<◌, ◌≤◌, Bool, true, false, cond, ◌==◌, ◌&&◌, ◌||◌, not, List, [], ◌∷◌, ◌++◌, length, map, filter, take, None, Contains, slice_index_or}
 use Rattle.std.proofs.Common.{refl, sym, ap, subst, ◌∙◌, inl, inr, arith, suc, zero}
-use Rattle.std.proofs.lemmas.Bool.{cases_Bool, both_ways, and_from, eq-eqb, eqb-true, eqb-false, ne_eqb, not_from_false, or_from}
+use Rattle.std.proofs.lemmas.Bool.{cases_Bool, both_ways, and_from, eqb-true, eqb-false, ne_eqb, not_from_false, or_from}
 use Rattle.std.proofs.lemmas.List.{append-nil, length-append}
 use Rattle.std.proofs.lemmas.List.Elements.{filter_more}
 use Rattle.pana_event.specs.Event.{Event, IsNormal, depth}
@@ -10,14 +10,14 @@ use Rattle.pana_event.specs.Relation.{IsRelation, reverse_of, tested_relation}
 use Rattle.pana_event.specs.declared.rel.Rel.{Rel}
 use Rattle.pana_event.specs.declared.rel.Rel.TheVariants.{Equal, Older, Newer, Conflict}
 use Rattle.pana_event.proofs.Orders.{leq-is-below, below-is-leq}
-use Rattle.pana_rel.specs.Pairs.{Table, Holds, place_of, rel_at, rel_of, with_row, without}
+use Rattle.pana_rel.specs.Pairs.{Table, Holds, rel_at, rel_of, with_row, without}
 use Rattle.pana_family.specs.declared.row.StampRow.{StampRow}
 use Rattle.pana_family.specs.Updates.{has}
 use Rattle.pana_family.specs.Holders.{is_copy}
 use Rattle.pana_family.specs.Table.{In}
 use Rattle.pana_family.specs.Rows.{IsRising, lives, copy_rows}
 use Rattle.pana_family.specs.inner.Comparing.{AreCompared, HasCopies, is_other, relations, row_relation}
-use Rattle.pana_family.proofs.Members.{above_low, one_row}
+use Rattle.pana_family.proofs.Members.{one_row}
 use Rattle.pana_family.proofs.Copies.{copies_are, lives_from, ByPlaces}
 
 -- what the test of two sound events says

@@ -1,17 +1,16 @@
 -- The copies of a table of relations, and those of rows.
-use Rattle.std.specs.Prelude.{◌≡◌, ◌≢◌, ◌↔◌, ℕ, ◌+◌, ◌<◌, ◌≤◌, Bool, true, false, cond, ◌==◌, ◌&&◌, ◌||◌, not, ◌⊎◌, List, [], ◌∷◌, ◌++◌, length, map, filter, None, Option, nat_lt, Contains, slice_index_or}
+use Rattle.std.specs.Prelude.{◌≡◌, ◌≢◌, ◌↔◌, ℕ, ◌+◌, ◌<◌, ◌≤◌, Bool, true, false, cond, ◌==◌, ◌&&◌, ◌||◌, not, ◌⊎◌, List, [], ◌∷◌, length, map, filter, None, nat_lt, Contains, slice_index_or}
 use Rattle.std.proofs.Common.{refl, sym, ap, subst, ◌∙◌, inl, inr, arith, suc, zero}
-use Rattle.std.proofs.lemmas.Bool.{cases_Bool, cases_eq, cases_order, and_from, and_parts, both_ways, eq-eqb, eqb-true, eqb-false, ne_eqb, lt-ltb, ltb-true, not-true, not_from_false}
+use Rattle.std.proofs.lemmas.Bool.{cases_order, and_from, eq-eqb, eqb-true, eqb-false, ne_eqb, lt-ltb, not-true, not_from_false}
 use Rattle.std.proofs.lemmas.List.{get_or_default}
 use Rattle.std.proofs.lemmas.List.Elements.{Contains-append_cases, Contains-append_left, Contains-append_right}
-use Rattle.pana_rel.specs.Pairs.{Table, with_copy, without}
+use Rattle.pana_rel.specs.Pairs.{with_copy, without}
 use Rattle.pana_rel.proofs.Boards.{any_at, contains_filter, contains_more, filter_contains, found}
 use Rattle.pana_family.specs.declared.row.StampRow.{StampRow}
 use Rattle.pana_family.specs.Updates.{has}
 use Rattle.pana_family.specs.Holders.{is_copy}
 use Rattle.pana_family.specs.Table.{In}
 use Rattle.pana_family.specs.Rows.{IsRising, lives, copy_rows}
-use Rattle.pana_family.proofs.Members.{above_low}
 use Rattle.pana_family.proofs.Parcels.{any_from}
 
 -- Numbers.

@@ -1,8 +1,7 @@
 -- The table of relations after each report, by the table of sets that the rows stand for.
-use Rattle.std.specs.Prelude.{◌≡◌, ◌≢◌, ◌↔◌, ℕ, ◌<◌, Bool, true, false, cond, ◌==◌, ◌&&◌, ◌||◌, not, ◌⊎◌, List, [], ◌∷◌, ◌++◌, Option, Some, None, Contains}
-use Rattle.std.specs.List.{list_all}
+use Rattle.std.specs.Prelude.{◌≡◌, ◌≢◌, ◌↔◌, ℕ, ◌<◌, Bool, true, false, cond, ◌==◌, ◌&&◌, ◌||◌, List, [], ◌∷◌, ◌++◌, Option, Some, None, Contains}
 use Rattle.std.proofs.Common.{refl, sym, ap, ap₂, subst, ◌∙◌, inl, inr, arith}
-use Rattle.std.proofs.lemmas.Bool.{cases_Bool, both_ways, eq-eqb, eqb-true, eqb-false, false_from_ne_true, ne_eqb, or_from, or_parts}
+use Rattle.std.proofs.lemmas.Bool.{cases_Bool, eq-eqb, eqb-true, eqb-false, false_from_ne_true, ne_eqb, or_from, or_parts}
 use Rattle.pana_event.specs.Order.{IsBelow}
 use Rattle.pana_event.specs.Relation.{IsRelation, reverse_of}
 use Rattle.pana_event.specs.declared.rel.Rel.{Rel}
@@ -11,7 +10,7 @@ use Rattle.pana_rel.specs.Pairs.{Table, Holds, edited_rel, edited_row, rel_of, w
 use Rattle.pana_family.specs.declared.row.StampRow.{StampRow}
 use Rattle.pana_family.specs.Updates.{has, is_within}
 use Rattle.pana_family.specs.Relation.{relation}
-use Rattle.pana_family.specs.Holders.{is_copy, is_held, leave, passed}
+use Rattle.pana_family.specs.Holders.{is_held, passed}
 use Rattle.pana_family.specs.Table.{Known, In, known, knowing, parcel, change, without, set_in, duplicated, edited, touched, united, settled, reconciled, merged, lost, passed_on, wrapped, bequeathed, removed, ends, AreBelow}
 use Rattle.pana_family.specs.Stands.{AreSame, StandsFor}
 use Rattle.pana_family.specs.Rows.{lives}

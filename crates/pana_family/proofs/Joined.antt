@@ -1,7 +1,7 @@
 -- Copies put into a table of relations and taken out of it, and rows that are put back.
 use Rattle.std.specs.Prelude.{◌≡◌, ◌≢◌, ◌↔◌, ℕ, Bool, true, false, cond, ◌==◌, ◌&&◌, ◌||◌, ◌⊎◌, List, [], ◌∷◌, map, None, Option, take, Contains, slice_index_or, length, ◌<◌, ◌+◌, ◌++◌}
 use Rattle.std.proofs.Common.{refl, sym, ap, subst, ◌∙◌, inl, inr, arith}
-use Rattle.std.proofs.lemmas.Bool.{cases_Bool, both_ways, eq-eqb, eqb-true, eqb-false, ne_eqb, or_cases, or_from, or_left, or_parts, or_right}
+use Rattle.std.proofs.lemmas.Bool.{cases_Bool, both_ways, eq-eqb, eqb-true, eqb-false, ne_eqb, or_cases, or_left, or_parts, or_right}
 use Rattle.std.proofs.lemmas.List.{take_more}
 use Rattle.pana_event.specs.Event.{Event}
 use Rattle.pana_event.specs.Relation.{IsRelation}
@@ -18,7 +18,7 @@ use Rattle.pana_family.proofs.Members.{in_dropped}
 use Rattle.pana_family.proofs.Places.{in_dropped_other, rising_dropped}
 use Rattle.pana_family.proofs.Backs.{all_other, in_all}
 use Rattle.pana_family.proofs.Heirs.{living_at}
-use Rattle.pana_family.proofs.Copies.{has_rows, in_with_copy, in_without_copy, lives_from, with_copy_new, with_copy_old, without_other}
+use Rattle.pana_family.proofs.Copies.{has_rows, in_with_copy, in_without_copy, lives_from, with_copy_old, without_other}
 
 -- Numbers of rows.
 

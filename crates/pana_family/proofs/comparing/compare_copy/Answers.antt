@@ -1,10 +1,10 @@
-use Rattle.std.proofs.Common.{ap, sym, subst, refl, ◌∙◌, ◌≡◌, ◌∷◌, ◌+◌, true, List, ℕ, map, filter, length, take, arith}
+use Rattle.std.proofs.Common.{ap, sym, subst, refl, ◌∙◌, ◌∷◌, List, ℕ, filter, length, take, arith}
 use Rattle.std.proofs.lemmas.List.{length-map}
 use Rattle.pana_event.specs.declared.rel.Rel.{Rel}
 use Rattle.pana_rel.specs.Pairs.{Holds, rel_at, rel_of, with_row, without}
 use Rattle.pana_family.specs.declared.row.StampRow.{StampRow}
 use Rattle.pana_family.specs.Rows.{copy_rows, lives}
-use Rattle.pana_family.specs.inner.Comparing.{AreCompared, is_other, relations, row_relation}
+use Rattle.pana_family.specs.inner.Comparing.{AreCompared, is_other, row_relation}
 use Rattle.pana_family.proofs.Compared.{copy_compared, others_length}
 use Rattle.pana_family.proofs.Copies.{copies_are}
 use Rattle.pana_family.proofs.Written.{IsRowAt, row_at}

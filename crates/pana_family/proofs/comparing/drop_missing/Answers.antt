@@ -1,4 +1,4 @@
-use Rattle.std.proofs.Common.{ap, sym, subst, ◌∙◌, ◌≡◌, ◌∷◌, [], ◌++◌, ◌+◌, List, ℕ, take, arith}
+use Rattle.std.proofs.Common.{sym, subst, List, ℕ, take}
 use Rattle.std.proofs.lemmas.List.{take_more}
 use Rattle.std.specs.Prelude.{slice_index_or}
 use Rattle.pana_family.specs.inner.Comparing.{IsShrunk}

@@ -1,11 +1,10 @@
-use Rattle.std.proofs.Common.{List, ℕ, ap, sym, subst, ◌≡◌, ◌∙◌, ◌<◌, true, arith, refl, []}
+use Rattle.std.proofs.Common.{List, ℕ, ap, sym, subst, ◌≡◌, ◌∙◌, true, arith}
 use Rattle.std.specs.Prelude.{Contains}
-use Rattle.pana_rel.specs.Pairs.{Table, Holds, rel_of, with_copy, with_row, without}
+use Rattle.pana_rel.specs.Pairs.{Table}
 use Rattle.pana_family.specs.declared.row.StampRow.{StampRow}
 use Rattle.pana_family.specs.Kept.{IsKept}
 use Rattle.pana_family.specs.Rows.{AreBefore, lives}
 use Rattle.pana_family.specs.Paired.{ArePaired}
-use Rattle.pana_family.specs.Table.{In, Known}
 use Rattle.pana_family.proofs.Copies.{with_copy_new}
 use Rattle.pana_family.proofs.Heirs.{living_at}
 use Rattle.pana_family.proofs.Held.{one_known}

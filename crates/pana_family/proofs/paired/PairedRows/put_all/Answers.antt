@@ -1,7 +1,6 @@
 use Rattle.std.proofs.Common.{List, ap, sym, subst, ◌≡◌, ◌∙◌, ◌∷◌, ℕ, true, map}
 use Rattle.std.specs.Prelude.{Contains}
 use Rattle.pana_family.specs.declared.row.StampRow.{StampRow}
-use Rattle.pana_family.specs.Kept.{IsKept}
 use Rattle.pana_family.specs.Rows.{IsRising, dropped, lives, put_all}
 use Rattle.pana_family.specs.Paired.{ArePaired}
 use Rattle.pana_family.specs.inner.Comparing.{AreCompared, HasCopies, IsGrown, IsShrunk}

@@ -1,4 +1,4 @@
-use Rattle.std.proofs.Common.{List, ◌≡◌, false, ◌∷◌, [], sym, subst, refl, ◌∙◌}
+use Rattle.std.proofs.Common.{List, false, ◌∷◌, [], sym, subst, refl, ◌∙◌}
 use Rattle.std.proofs.lemmas.Bool.{eqb-false, or_parts}
 use Rattle.std.specs.Prelude.{◌==◌}
 use Rattle.pana_family.specs.declared.row.StampRow.{StampRow}
