@@ -20,6 +20,10 @@ pub mod Exchanged
 pub mod Pairs
 pub mod Heirs
 pub mod Searches
+pub mod Copies
+pub mod Compared
 pub mod Boards
+pub mod Followed
+pub mod Joined
 pub mod Texts
 pub mod Depths

@@ -6,6 +6,7 @@ pub mod Table
 pub mod Stands
 pub mod Rows
 pub mod Kept
+pub mod Paired
 pub mod Sets
 pub mod Fault
 pub mod View

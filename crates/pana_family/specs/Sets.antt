@@ -16,6 +16,10 @@ pub record Sets : Type 0 where
 abbrev pub began : ℕ → Sets
 began n = record { table = registered n; before = record { entry = n; table = [] } ∷ [] }
 
+-- a table of sets with nothing pending
+abbrev pub settled : List Known → Sets
+settled table = record { table = table; before = [] }
+
 -- the sets after a report, of which the entry is pending; only the last eight are
 abbrev pub after : ℕ → (List Known → List Known) → Sets → Sets
 after n change sets = record { table = change sets.table; before = take 8 (record { entry = n; table = sets.table } ∷ sets.before) }

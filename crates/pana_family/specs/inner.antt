@@ -1,4 +1,5 @@
 -- Words that only inner functions and proofs need: nobody has to believe them.
+pub mod Comparing
 pub mod Making
-pub mod RowBoard
+pub mod PairBoard
 pub mod RowStamps

@@ -1,20 +1,10 @@
-//! Boards: how the copies of a family relate, every pair of stamps compared.
-ghost use Rattle.std.specs.Prelude.{◌≡◌, ◌&&◌, IfOk, List, map, filter, count_by};
-ghost use Rattle.std.specs.List.{list_any};
-ghost use Rattle.pana_event.specs.declared.rel.Rel.TheVariants.{Conflict, Newer, Older, Equal};
-ghost use Rattle.pana_family.specs.Relation.{is_rel};
-ghost use Rattle.pana_family.specs.Board.{board_rows, board_newest, board_split};
-ghost use Rattle.pana_family.specs.inner.RowBoard.{row_relation, row_relates, row_counts, is_newest_row, newest_rows, meets_newest, has_row_conflict};
-ghost use Rattle.pana_family.specs.Holders.{is_copy};
-ghost use Rattle.pana_family.specs.Table.{Known};
-ghost use Rattle.pana_family.specs.Stands.{StandsFor};
+//! Boards: how the copies of a family relate.
+ghost use Rattle.std.specs.Prelude.{◌≡◌, ◌≢◌, ℕ, List, map, IfOk, Contains};
+ghost use Rattle.pana_rel.specs.Pairs.{counts_of, is_split, newest_of, rel_of};
+ghost use Rattle.pana_family.specs.inner.PairBoard.{copy_counts};
 
-use crate::row::StampRow;
-use crate::searching::is_copy;
-use crate::settling::all_sound;
-use pana_event::Rel;
 use pana_list::PlainList;
-use pana_stamp::Stamp;
+use pana_rel::PairTable;
 use std::alloc::{AllocError, Global};
 
 /// A copy on a board: how many other copies of its family are newer than it, older, equal and in conflict with it.
@@ -38,115 +28,40 @@ pub struct FamilyBoard {
     pub split: bool,
 }
 
-fn is_rel(found: Rel, wanted: Rel) -> bool
-    ensures { result ≡ is_rel found wanted }
+fn counts_of(pairs: &PairTable, copy: u64) -> CopyCounts
+    requires { Contains pairs.now.copies copy }
+    ensures { result ≡ copy_counts pairs.now copy }
 {
-    found == wanted
-}
-
-/// How the first row's copy relates to the second's.
-fn row_relation(first: &StampRow, second: &StampRow) -> Rel
-    ensures { result ≡ row_relation first.now second.now }
-{
-    Stamp::compare(&first.stamp, &second.stamp)
-}
-
-/// Whether the other row is another copy's, and relates to this one so.
-fn relates(rel: Rel, row: &StampRow, other: &StampRow) -> bool
-    ensures { result ≡ row_relates rel row.now other.now }
-{
-    is_copy(other) && other.copy != row.copy && is_rel(row_relation(other, row), rel)
-}
-
-fn count(rel: Rel, row: &StampRow, rows: &[StampRow]) -> u64
-    ensures { result ≡ count_by (row_relates rel row.now) rows.now }
-{
-    let found = rows.iter().filter(|other| relates(rel, row, other)).count();
-    found as u64
-}
-
-#[tactic(auto, unfolding(crate::specs::inner::RowBoard::row_counts))]
-fn counts_of(rows: &[StampRow], row: &StampRow) -> CopyCounts
-    ensures { result ≡ row_counts rows.now row.now }
-{
+    let counts = pairs.counts(copy);
     CopyCounts {
-        copy: row.copy,
-        newer: count(Rel::Newer, row, rows),
-        older: count(Rel::Older, row, rows),
-        equal: count(Rel::Equal, row, rows),
-        conflict: count(Rel::Conflict, row, rows),
+        copy,
+        newer: counts.above,
+        older: counts.below,
+        equal: counts.equal,
+        conflict: counts.conflict,
     }
 }
 
-fn rows_of(alloc: Global, rows: &[StampRow]) -> Result<Vec<CopyCounts>, AllocError>
-    ensures { IfOk result (λ counts. counts.items ≡ map (row_counts rows.now) (filter (λ row. is_copy row.holder) rows.now)) }
+fn rows_of(alloc: Global, pairs: &PairTable) -> Result<Vec<CopyCounts>, AllocError>
+    ensures { IfOk result (λ rows. rows.items ≡ map (copy_counts pairs.now) pairs.now.copies) }
 {
-    let mut counts = Vec::new(alloc);
-    for row in rows {
-        if is_copy(row) {
-            counts.push(counts_of(rows, row))?;
-        }
+    let copies = pairs.copies();
+    let mut rows = Vec::with_capacity(alloc, copies.len())?;
+    for copy in copies {
+        rows.push(counts_of(pairs, *copy))?;
     }
-    Ok(counts)
+    Ok(rows)
 }
 
-fn has_newer(rows: &[StampRow], row: &StampRow) -> bool
-    ensures { result ≡ list_any (row_relates Newer row.now) rows.now }
+/// The board of a table of relations.
+pub fn board_of(alloc: Global, pairs: &PairTable) -> Result<FamilyBoard, AllocError>
+    ensures rows { IfOk result (λ board. board.rows ≡ map (copy_counts pairs.now) pairs.now.copies) }
+    ensures newest { IfOk result (λ board. board.newest ≡ newest_of pairs.now.copies (rel_of pairs.now)) }
+    ensures split { IfOk result (λ board. board.split ≡ is_split pairs.now.copies (rel_of pairs.now)) }
 {
-    rows.iter().any(|other| relates(Rel::Newer, row, other))
-}
-
-/// Whether the row is a copy's, and none is newer.
-fn is_newest(rows: &[StampRow], row: &StampRow) -> bool
-    ensures { result ≡ is_newest_row rows.now row.now }
-{
-    is_copy(row) && !has_newer(rows, row)
-}
-
-fn newest_of(alloc: Global, rows: &[StampRow]) -> Result<Vec<u64>, AllocError>
-    ensures { IfOk result (λ numbers. numbers.items ≡ map (λ row. row.copy) (newest_rows rows.now)) }
-{
-    let mut numbers = Vec::new(alloc);
-    for row in rows {
-        if is_newest(rows, row) {
-            numbers.push(row.copy)?;
-        }
-    }
-    Ok(numbers)
-}
-
-/// Whether a newest copy is in conflict with this one.
-fn meets_conflict(rows: &[StampRow], row: &StampRow) -> bool
-    ensures { result ≡ meets_newest rows.now row.now }
-{
-    rows.iter().any(|other| relates(Rel::Conflict, row, other) && is_newest(rows, other))
-}
-
-fn is_torn(rows: &[StampRow], row: &StampRow) -> bool
-    ensures { result ≡ (is_newest_row rows.now row.now && meets_newest rows.now row.now) }
-{
-    is_newest(rows, row) && meets_conflict(rows, row)
-}
-
-/// Whether two newest copies are in conflict.
-fn is_split(rows: &[StampRow]) -> bool
-    ensures { result ≡ has_row_conflict rows.now }
-{
-    rows.iter().any(|row| is_torn(rows, row))
-}
-
-/// The board of rows: that of each table that they stand for.
-pub fn board_of(alloc: Global, rows: &[StampRow]) -> Result<FamilyBoard, AllocError>
-    ensures rows { IfOk result (λ board. (table : List Known) → StandsFor rows.now table → board.rows ≡ board_rows table) }
-    ensures newest { IfOk result (λ board. (table : List Known) → StandsFor rows.now table → board.newest ≡ board_newest table) }
-    ensures split { IfOk result (λ board. (table : List Known) → StandsFor rows.now table → board.split ≡ board_split table) }
-{
-    all_sound(rows);
-    let counts = rows_of(alloc, rows)?;
-    let newest = newest_of(alloc, rows)?;
     Ok(FamilyBoard {
-        rows: PlainList::from_vec(counts),
-        newest: PlainList::from_vec(newest),
-        split: is_split(rows),
+        rows: PlainList::from_vec(rows_of(alloc, pairs)?),
+        newest: PlainList::from_vec(pairs.newest()?),
+        split: pairs.split(),
     })
 }

@@ -1,7 +1,7 @@
 //! A family: the living copies of one file, and what undoes its last reports.
 #![tactic(auto, unfolding(crate::specs::View::Means, crate::specs::View::is_living, crate::specs::View::IsNew, crate::specs::View::IsPending, crate::specs::View::IsLast, crate::specs::View::copy_count, crate::specs::View::can_split, crate::specs::View::OwnsSame, crate::specs::View::depth_at))]
 
-ghost use Rattle.std.specs.Prelude.{ℕ, ◌≡◌, ◌≢◌, ◌↔◌, ◌<◌, ◌≤◌, ◌+◌, true, false, length, List, ◌∷◌, IfOk, OnOk, OnErr, IfErr, IfSome, IsErrOf, IsTrue, ◌⊎◌, Some, None, position, ◌==◌, map, take, drop, IsOk, Bool};
+ghost use Rattle.std.specs.Prelude.{ℕ, ◌≡◌, ◌≢◌, ◌↔◌, ◌<◌, ◌≤◌, ◌+◌, true, false, length, List, [], ◌∷◌, IfOk, OnOk, OnErr, IfErr, IfSome, IsErrOf, IsTrue, ◌⊎◌, Some, None, position, ◌==◌, map, take, drop, IsOk, Bool};
 ghost use Rattle.std.specs.List.{list_any};
 ghost use Rattle.pana_family.specs.Relation.{relation};
 ghost use Rattle.pana_family.specs.Table.{Known, In, is_in, copies_of, set_in, touch_in, duplicated, edited, reconciled, merged, removed, touched, AreBelow, AreHeld, held_by};
@@ -10,11 +10,15 @@ ghost use Rattle.pana_family.specs.Stamps.{AreStamps, text_of};
 ghost use Rattle.pana_family.specs.Rows.{AreEdited, duplicated_rows};
 ghost use Rattle.pana_family.specs.declared.row.StampRow.{StampRow as RowValue};
 ghost use Rattle.pana_event.specs.Event.{greatest};
-ghost use Rattle.pana_family.specs.Sets.{Sets, began, after, confirmed, withdrawn, Pends, PendsLast};
+ghost use Rattle.pana_family.specs.Kept.{IsKept};
+ghost use Rattle.pana_family.specs.Stands.{StandsFor};
+ghost use Rattle.pana_family.specs.Sets.{Sets, began, settled, after, confirmed, withdrawn, Pends, PendsLast};
 ghost use Rattle.pana_family.specs.View.{Means, is_living, IsNew, IsPending, IsLast, copy_count, can_split, OwnsSame, depth_at, Deepens, undone, more_undo};
 
 use crate::board::FamilyBoard;
 use crate::fault::FamilyFault;
+use crate::paired::PairedRows;
+use crate::row::StampRow;
 use crate::rows::Rows;
 use crate::stamps::CopyStamp;
 use crate::undo::{Back, Undo};
@@ -31,7 +35,7 @@ use std::marker::Model;
 #[derive(Drop)]
 pub struct Family {
     alloc: Global,
-    rows: Rows,
+    rows: PairedRows,
     undo: HeapCircularBuffer<Undo>,
 }
 
@@ -60,13 +64,41 @@ impl Family {
         ensures stands { IfOk result (λ f. Means f (began entry)) }
         ensures deep { IfOk result (λ f. (k : ℕ) → depth_at k f ≡ 0) }
     {
-        let rows = Rows::new(alloc, entry)?;
+        let rows = PairedRows::new(alloc, entry)?;
         let mut undo = HeapCircularBuffer::with_capacity(alloc, 8)?;
         undo.push_front(Undo {
             entry,
             back: Back::Rows(Vec::new(alloc)),
         });
         Ok(Family { alloc, rows, undo })
+    }
+
+    /// A family of these rows, with nothing pending. Compares the stamps of each two copies.
+    ///
+    /// # Errors
+    ///
+    /// `AllocError` where an allocation failed; the rows are then lost.
+    pub fn of_rows(alloc: Global, rows: PlainList<StampRow>) -> Result<Family, AllocError>
+        requires { IsKept rows }
+        ensures stands { IfOk result (λ f. (table : List Known) → StandsFor rows table → Means f (settled table)) }
+        ensures rows { IfOk result (λ f. f.rows ≡ rows) }
+        ensures undo { IfOk result (λ f. f.undo ≡ []) }
+        ensures free { IfOk result (λ f. f.free ≡ []) }
+    {
+        let rows = Rows::of_vec(rows.into_vec());
+        let rows = PairedRows::of_rows(alloc, rows)?;
+        let undo = HeapCircularBuffer::with_capacity(alloc, 8)?;
+        Ok(Family { alloc, rows, undo })
+    }
+
+    /// The rows of the copies and parcels, by rising number, as `of_rows` asks for them. What undoes the pending entries is
+    /// lost. Takes no memory.
+    pub fn into_rows(self) -> PlainList<StampRow>
+        ensures rows { result ≡ self.rows }
+        ensures kept { IsKept result }
+    {
+        let Family { rows, .. } = self;
+        PlainList::from_vec(rows.into_rows().into_vec())
     }
 
     /// Puts a new copy beside its source: it is numbered like the entry, knows what the source knows, and has the second
@@ -89,10 +121,10 @@ impl Family {
         ensures deep { OnOk result (Deepens 1 self.old self.new) }
         ensures err { OnErr result (self.new ≡ self.old) }
     {
-        if self.rows.copies() >= 256 {
+        if self.rows.list().copies() >= 256 {
             return Err(FamilyFault::FamilyFull);
         }
-        if !self.rows.splits(source) {
+        if !self.rows.list().splits(source) {
             return Err(FamilyFault::TooDeep);
         }
         let mut rows = Vec::with_capacity(self.alloc, 1)?;
@@ -275,7 +307,7 @@ impl Family {
                     self.rows.revert(copy, event, touch);
                     Ok(())
                 }
-                Back::Rows(rows) => match self.rows.put_all(entry, rows) {
+                Back::Rows(rows) => match self.rows.put_all(self.alloc, entry, rows) {
                     Ok(()) => Ok(()),
                     Err(rows) => {
                         self.undo.push_front(Undo {
@@ -294,14 +326,14 @@ impl Family {
         ensures test { result ≡ is_living self.now copy }
         ensures sets { (sets : Sets) → Means self.now sets → result ≡ is_in sets.table copy }
     {
-        self.rows.has(copy)
+        self.rows.list().has(copy)
     }
 
     /// Whether the entry is greater than each number and touch of copies and parcels, as a report asks. Takes no memory.
     pub fn is_new(&self, entry: u64) -> bool
         ensures { IsTrue result ↔ IsNew entry self.now }
     {
-        self.rows.is_before(entry)
+        self.rows.list().is_before(entry)
     }
 
     /// How many copies live. Takes no memory.
@@ -310,7 +342,7 @@ impl Family {
         ensures sets { (sets : Sets) → Means self.now sets → result ≡ length (copies_of sets.table) }
         ensures few { result ≤ 256 }
     {
-        self.rows.copies()
+        self.rows.list().copies()
     }
 
     /// The numbers of the living copies, by rising number.
@@ -321,7 +353,7 @@ impl Family {
     pub fn living(&self) -> Result<PlainList<u64>, AllocError>
         ensures sets { IfOk result (λ numbers. (sets : Sets) → Means self.now sets → numbers ≡ map (λ t. t.copy) (copies_of sets.table)) }
     {
-        self.rows.living(self.alloc)
+        self.rows.list().living(self.alloc)
     }
 
     /// Whether the copy's id can be divided, so that `duplicate` doesn't find it too deep. Takes no memory.
@@ -330,10 +362,10 @@ impl Family {
         ensures test { result ≡ can_split self.now copy }
         ensures deep { result ≡ false → 256 ≤ depth_at 0 self.now }
     {
-        self.rows.splits(copy)
+        self.rows.list().splits(copy)
     }
 
-    /// How the first copy relates to the second. Takes no memory; compares two stamps.
+    /// How the first copy relates to the second. Takes no memory; compares no stamps, O(log n) for n copies.
     pub fn rel(&self, a: u64, b: u64) -> Rel
         requires first { is_living self.now a ≡ true }
         requires second { is_living self.now b ≡ true }
@@ -348,7 +380,7 @@ impl Family {
         ensures levels { (row : RowValue) → In row self.now.rows → row.copy ≡ copy → greatest row.stamp.event ≤ result }
         ensures sets { (sets : Sets) → Means self.now sets → result ≡ touch_in sets.table copy }
     {
-        self.rows.touch(copy)
+        self.rows.list().touch(copy)
     }
 
     /// How many parcels the copy holds. Takes no memory.
@@ -356,7 +388,7 @@ impl Family {
         ensures sets { (sets : Sets) → Means self.now sets → result ≡ held_by copy sets.table }
         ensures held { (sets : Sets) → Means self.now sets → AreHeld sets.table }
     {
-        self.rows.held(copy)
+        self.rows.list().held(copy)
     }
 
     /// The last pending entry, which can be withdrawn. Takes no memory.
@@ -377,7 +409,7 @@ impl Family {
         has_entry(&self.undo, entry)
     }
 
-    /// How the copies relate to each other: O(n * n) comparisons of stamps for n copies.
+    /// How the copies relate to each other. Compares no stamps: O(n log n) for n copies.
     ///
     /// # Errors
     ///
@@ -398,7 +430,7 @@ impl Family {
     pub fn stamps(&self) -> Result<PlainList<CopyStamp>, AllocError>
         ensures sets { IfOk result (λ stamps. (sets : Sets) → Means self.now sets → AreStamps (map text_of stamps) (copies_of sets.table)) }
     {
-        self.rows.stamps(self.alloc)
+        self.rows.list().stamps(self.alloc)
     }
 }
 

@@ -1,7 +1,7 @@
 //! Families: the living copies of one file, each with a stamp of Interval Tree Clocks.
 //!
 //! A `Family` records the reports of one file's copies and keeps no set of updates: how two copies relate comes from comparing
-//! their stamps. What it stands for is a table of sets, and each call's contract says what it does to that table. `laws` is
+//! their stamps, and is kept beside them. What it stands for is a table of sets, and each call's contract says what it does to that table. `laws` is
 //! for the proofs of those who keep families.
 //!
 //! Proved: each call does to the table what its report says, for every table that the family stands for; relations, boards and
@@ -10,11 +10,13 @@
 #![tactic(auto)]
 
 mod board;
+mod comparing;
 mod exchanging;
 mod family;
 mod fault;
 pub mod laws;
 mod making;
+mod paired;
 mod row;
 mod rows;
 mod searching;
@@ -27,4 +29,5 @@ mod undo;
 pub use crate::board::{CopyCounts, FamilyBoard};
 pub use crate::family::Family;
 pub use crate::fault::FamilyFault;
+pub use crate::row::StampRow;
 pub use crate::stamps::CopyStamp;

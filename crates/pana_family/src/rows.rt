@@ -3,25 +3,22 @@ ghost use Rattle.std.specs.Prelude.{◌≡◌, ◌≢◌, ◌↔◌, ◌<◌, �
 ghost use Rattle.pana_id.specs.Id.{is_single};
 ghost use Rattle.pana_event.specs.Event.{greatest};
 ghost use Rattle.pana_family.specs.declared.row.StampRow.{StampRow as RowValue};
-ghost use Rattle.pana_family.specs.Relation.{relation};
-ghost use Rattle.pana_family.specs.Table.{Known, set_in, touch_in, registered, In, touched, duplicated, edited, reconciled, merged, lost, bequeathed, removed, copies_of, AreBelow};
-ghost use Rattle.pana_family.specs.Board.{board_rows, board_newest, board_split};
+ghost use Rattle.pana_family.specs.Table.{Known, touch_in, registered, In, touched, duplicated, edited, reconciled, merged, lost, bequeathed, removed, copies_of, AreBelow};
 ghost use Rattle.pana_family.specs.Stamps.{AreStamps, text_of};
 ghost use Rattle.pana_family.specs.Stands.{StandsFor};
 ghost use Rattle.pana_family.specs.Rows.{AreEdited, duplicated_rows, lives, copy_rows, OwnSame, dropped, AreBefore, put_back, put_all, id_in, seed_row, retouched, reverted, deepest};
 ghost use Rattle.pana_family.specs.inner.Making.{held_rows};
 ghost use Rattle.pana_family.specs.Kept.{IsKept};
 
-use crate::board::{FamilyBoard, board_of};
 use crate::exchanging::{put_rows, settle_in, take_row};
 use crate::making::{merged_rows, reconciled_rows, renew, restore, shared_rows, updated_event};
 use crate::row::StampRow;
 use crate::searching::{
-    are_before, copy_numbers, count_copies, held_count, index_of, is_copy, position_of,
+    are_before, copy_numbers, count_copies, held_count, index_of, lives, position_of,
 };
 use crate::settling::{parcels_left, settle_both, settled_row};
 use crate::stamps::{CopyStamp, all_valid, stamps_of};
-use pana_event::{EventTree, Rel};
+use pana_event::EventTree;
 use pana_list::PlainList;
 use pana_stamp::Stamp;
 use std::alloc::{AllocError, Global};
@@ -67,13 +64,36 @@ impl Rows {
         Ok(Rows { items })
     }
 
+    /// These rows. Takes no memory.
+    pub fn of_vec(items: Vec<StampRow>) -> Rows
+        requires { IsKept items.items }
+        ensures { result ≡ items.items }
+    {
+        Rows { items }
+    }
+
+    /// The rows in a `Vec`. Takes no memory.
+    pub fn into_vec(self) -> Vec<StampRow>
+        ensures rows { result.items ≡ self }
+        ensures kept { IsKept result.items }
+    {
+        let Rows { items } = self;
+        items
+    }
+
+    /// The rows. Takes no memory.
+    pub fn as_slice(&self) -> &[StampRow]
+        ensures rows { result.now ≡ self.now }
+        ensures kept { IsKept self.now }
+    {
+        self.items.as_slice()
+    }
+
     /// Whether the copy lives. Takes no memory.
     pub fn has(&self, copy: u64) -> bool
         ensures { result ≡ lives self.now copy }
     {
-        self.items
-            .iter()
-            .any(|row| row.copy == copy && is_copy(row))
+        lives(&self.items, copy)
     }
 
     /// Whether the entry is greater than each number and touch. Takes no memory.
@@ -117,17 +137,6 @@ impl Rows {
         row.stamp.id().splits()
     }
 
-    /// How the first copy relates to the second. Takes no memory.
-    pub fn rel(&self, a: u64, b: u64) -> Rel
-        requires first { lives self.now a ≡ true }
-        requires second { lives self.now b ≡ true }
-        ensures { (table : List Known) → StandsFor self.now table → result ≡ relation (set_in table a) (set_in table b) }
-    {
-        let first = &self.items[index_of(&self.items, a)];
-        let second = &self.items[index_of(&self.items, b)];
-        Stamp::compare(&first.stamp, &second.stamp)
-    }
-
     /// The entry that last touched a copy. Takes no memory.
     pub fn touch(&self, copy: u64) -> u64
         requires { lives self.now copy ≡ true }
@@ -135,15 +144,6 @@ impl Rows {
         ensures touch { (table : List Known) → StandsFor self.now table → result ≡ touch_in table copy }
     {
         self.items[index_of(&self.items, copy)].touch
-    }
-
-    /// The board: that of each table that the rows stand for.
-    pub fn board(&self, alloc: Global) -> Result<FamilyBoard, AllocError>
-        ensures rows { IfOk result (λ board. (table : List Known) → StandsFor self.now table → board.rows ≡ board_rows table) }
-        ensures newest { IfOk result (λ board. (table : List Known) → StandsFor self.now table → board.newest ≡ board_newest table) }
-        ensures split { IfOk result (λ board. (table : List Known) → StandsFor self.now table → board.split ≡ board_split table) }
-    {
-        board_of(alloc, &self.items)
     }
 
     /// The texts of the copies' stamps, by rising number.

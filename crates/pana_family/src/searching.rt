@@ -1,5 +1,5 @@
 //! Finding rows.
-ghost use Rattle.std.specs.Prelude.{◌≡◌, ◌<◌, ◌==◌, ◌&&◌, true, None, length, nat_le, position, slice_index_or, count_by, IsTrue, ◌↔◌, IfOk, map};
+ghost use Rattle.std.specs.Prelude.{◌≡◌, ◌<◌, ◌==◌, ◌&&◌, true, None, length, nat_le, position, slice_index_or, count_by, IsTrue, ◌↔◌, ◌∷◌, IfOk, map};
 ghost use Rattle.std.specs.List.{position_or_len, list_all};
 ghost use Rattle.pana_family.specs.declared.row.StampRow.{StampRow as RowValue};
 ghost use Rattle.pana_family.specs.Rows.{lives, copy_rows, AreBefore, is_below};
@@ -27,6 +27,13 @@ pub fn is_held(row: &StampRow, copy: u64) -> bool
         None => false,
         Some(holder) => holder == copy,
     }
+}
+
+/// Whether the copy lives.
+pub fn lives(rows: &[StampRow], copy: u64) -> bool
+    ensures { result ≡ lives rows.now copy }
+{
+    rows.iter().any(|row| row.copy == copy && is_copy(row))
 }
 
 /// The position of the row with this number, if there is one.
@@ -117,6 +124,17 @@ pub fn copy_numbers(alloc: Global, rows: &[StampRow]) -> Result<Vec<u64>, AllocE
         if is_copy(row) {
             numbers.push(row.copy)?;
         }
+    }
+    Ok(numbers)
+}
+
+/// The entry, and the numbers of these rows.
+pub fn changed_numbers(alloc: Global, entry: u64, rows: &[StampRow]) -> Result<Vec<u64>, AllocError>
+    ensures { IfOk result (λ numbers. numbers.items ≡ entry ∷ map (λ row. row.copy) rows.now) }
+{
+    let mut numbers = vec![in alloc; entry]?;
+    for row in rows {
+        numbers.push(row.copy)?;
     }
     Ok(numbers)
 }

@@ -78,6 +78,68 @@ fn rel(family: &Family, a: u64, b: u64) -> Option<Rel> {
     None
 }
 
+/// The family of this one's rows, with nothing pending.
+fn again(alloc: Global, family: Family) -> Result<Family, AllocError> {
+    Family::of_rows(alloc, family.into_rows())
+}
+
+#[test]
+fn conflict_from_rows(rt: HostRuntime) -> Result<(), Fail> {
+    let alloc = rt.alloc();
+    let mut family = again(alloc, Family::new(alloc, 1)?)?;
+    duplicate(&mut family, 2, 1)?;
+    family = again(alloc, family)?;
+    edit(&mut family, 3, 1)?;
+    family = again(alloc, family)?;
+    assert!(rt; rel(&family, 1, 2) == Some(Rel::Newer));
+    edit(&mut family, 4, 2)?;
+    assert!(rt; family.pending() == Some(4));
+    family = again(alloc, family)?;
+    assert!(rt; family.pending() == None);
+    let board = family.board()?;
+    assert!(rt; board.split);
+    assert!(rt; board.newest.as_slice() == [1, 2].as_slice());
+    Ok(())
+}
+
+#[test]
+fn heir_from_rows(rt: HostRuntime) -> Result<(), Fail> {
+    let alloc = rt.alloc();
+    let mut family = again(alloc, Family::new(alloc, 1)?)?;
+    duplicate(&mut family, 2, 1)?;
+    family = again(alloc, family)?;
+    edit(&mut family, 3, 2)?;
+    family = again(alloc, family)?;
+    give(&mut family, 4, 1, 2)?;
+    family = again(alloc, family)?;
+    let board = family.board()?;
+    assert!(rt; board.newest.as_slice() == [2].as_slice());
+    edit(&mut family, 5, 2)?;
+    family = again(alloc, family)?;
+    assert_eq!(rt; texts(alloc, &family)?.as_str(), "2:(1,1) ");
+    Ok(())
+}
+
+#[test]
+fn growth_from_rows(rt: HostRuntime) -> Result<(), Fail> {
+    let alloc = rt.alloc();
+    let mut family = again(alloc, Family::new(alloc, 1)?)?;
+    duplicate(&mut family, 2, 1)?;
+    family = again(alloc, family)?;
+    duplicate(&mut family, 3, 1)?;
+    family = again(alloc, family)?;
+    give(&mut family, 4, 1, 2)?;
+    family = again(alloc, family)?;
+    edit(&mut family, 5, 2)?;
+    family = again(alloc, family)?;
+    assert!(rt; rel(&family, 2, 3) == Some(Rel::Newer));
+    edit(&mut family, 6, 2)?;
+    family = again(alloc, family)?;
+    let text = texts(alloc, &family)?;
+    assert_eq!(rt; text.as_str(), "2:(((1,0),1),(0,0,2)) 3:(((0,1),0),0) ");
+    Ok(())
+}
+
 #[test]
 fn reconcile_and_merge(rt: HostRuntime) -> Result<(), Fail> {
     let alloc = rt.alloc();
@@ -112,6 +174,7 @@ fn remove_with_heir(rt: HostRuntime) -> Result<(), Fail> {
         texts(alloc, &family)?.as_str(),
         "1:((1,0),0) 2:((0,1),(0,0,1)) "
     );
+    assert!(rt; rel(&family, 1, 2) == Some(Rel::Older));
     give(&mut family, 5, 1, 2)?;
     edit(&mut family, 6, 2)?;
     assert_eq!(rt; texts(alloc, &family)?.as_str(), "2:(1,1) ");

@@ -1,5 +1,5 @@
 //! How each of some copies relates to each.
-ghost use Rattle.std.specs.Prelude.{◌≡◌, ℕ, ◌+◌, ◌<◌, [], ◌∷◌, Contains, IfOk, OnErr, OnOk, length};
+ghost use Rattle.std.specs.Prelude.{◌≡◌, ℕ, ◌+◌, ◌<◌, [], ◌∷◌, Contains, IfOk, OnErr, OnOk, length, slice_index_or};
 ghost use Rattle.pana_event.specs.declared.rel.Rel.TheVariants.{Equal};
 ghost use Rattle.pana_event.specs.Relation.{reverse_of};
 ghost use Rattle.pana_rel.specs.Pairs.{counts_of, edited_row, is_split, newest_of, place_of, rel_at, rel_of, with_copy, with_row, without, Holds};
@@ -57,9 +57,11 @@ impl PairTable {
         })
     }
 
-    /// The copies by rising number. Takes no memory; O(1).
+    /// The copies by rising number. Each is Equal to itself. Takes no memory; O(1).
     pub fn copies(&self) -> &[u64]
-        ensures { result.now ≡ self.now.copies }
+        ensures copies { result.now ≡ self.now.copies }
+        ensures rising { (i j : ℕ) → i < j → j < length self.now.copies → slice_index_or self.now.copies i 0 < slice_index_or self.now.copies j 0 }
+        ensures itself { (copy : ℕ) → Contains self.now.copies copy → rel_of self.now copy copy ≡ Equal }
     {
         self.copies.as_slice()
     }

@@ -1,7 +1,6 @@
-use Rattle.std.proofs.Common.{◌≡◌, map, filter, take}
-use Rattle.pana_family.specs.Holders.{is_copy}
-use Rattle.pana_family.specs.inner.RowBoard.{row_counts}
+use Rattle.std.proofs.Common.{◌≡◌, map, take}
+use Rattle.pana_family.specs.inner.PairBoard.{copy_counts}
 use Rattle.pana_family.proofs.board.rows_of.Given as goal
 
-abbrev pub invariant-loop-row : goal.invariant-loop-row
-invariant-loop-row l = l.counts.items ≡ map (row_counts l.rows) (filter (λ row. is_copy row.holder) (take l.row-index l.rows))
+abbrev pub invariant-loop-copy : goal.invariant-loop-copy
+invariant-loop-copy l = l.rows.items ≡ map (copy_counts l.pairs) (take l.copy-index l.copies)

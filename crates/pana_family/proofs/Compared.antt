@@ -1,0 +1,196 @@
+-- A copy's relations, set by comparing stamps.
+use Rattle.std.specs.Prelude.{◌≡◌, ◌≢◌, ℕ, ◌+◌, ◌<◌, ◌≤◌, Bool, true, false, cond, ◌==◌, ◌&&◌, ◌||◌, not, List, [], ◌∷◌, ◌++◌, length, map, filter, take, None, Contains, slice_index_or}
+use Rattle.std.proofs.Common.{refl, sym, ap, subst, ◌∙◌, inl, inr, arith, suc, zero}
+use Rattle.std.proofs.lemmas.Bool.{cases_Bool, both_ways, and_from, eqb-true, eqb-false, ne_eqb, not_from_false, or_from}
+use Rattle.std.proofs.lemmas.List.{append-nil, length-append}
+use Rattle.std.proofs.lemmas.List.Elements.{filter_more}
+use Rattle.pana_event.specs.Event.{Event, IsNormal, depth}
+use Rattle.pana_event.specs.Order.{is_leq}
+use Rattle.pana_event.specs.Relation.{IsRelation, reverse_of, tested_relation}
+use Rattle.pana_event.specs.declared.rel.Rel.{Rel}
+use Rattle.pana_event.specs.declared.rel.Rel.TheVariants.{Equal, Older, Newer, Conflict}
+use Rattle.pana_event.proofs.Orders.{leq-is-below, below-is-leq}
+use Rattle.pana_rel.specs.Pairs.{Table, Holds, rel_at, rel_of, with_row, without}
+use Rattle.pana_family.specs.declared.row.StampRow.{StampRow}
+use Rattle.pana_family.specs.Updates.{has}
+use Rattle.pana_family.specs.Holders.{is_copy}
+use Rattle.pana_family.specs.Table.{In}
+use Rattle.pana_family.specs.Rows.{IsRising, lives, copy_rows}
+use Rattle.pana_family.specs.inner.Comparing.{AreCompared, HasCopies, is_other, relations, row_relation}
+use Rattle.pana_family.proofs.Members.{one_row}
+use Rattle.pana_family.proofs.Copies.{copies_are, lives_from, ByPlaces}
+
+-- what the test of two sound events says
+pub tested : (e f : Event) → IsNormal e × (depth e ≤ 256) → IsNormal f × (depth f ≤ 256) → IsRelation e f (tested_relation e f)
+tested e f m n = elim (cases_Bool (is_leq e f)) [
+  | inl x ↦ elim (cases_Bool (is_leq f e)) [
+    | inl y ↦ by_two x y (leq-is-below e f m.1 n.1 x, leq-is-below f e n.1 m.1 y)
+    | inr y ↦ by_two x y (leq-is-below e f m.1 n.1 x, λ b. both_ways (is_leq f e) y (below-is-leq f e n.1 m.1 m.0 b))
+  ]
+  | inr x ↦ elim (cases_Bool (is_leq f e)) [
+    | inl y ↦ by_two x y (leq-is-below f e n.1 m.1 y, λ b. both_ways (is_leq e f) x (below-is-leq e f m.1 n.1 n.0 b))
+    | inr y ↦ by_two x y ((λ b. both_ways (is_leq e f) x (below-is-leq e f m.1 n.1 n.0 b)), λ b. both_ways (is_leq f e) y (below-is-leq f e n.1 m.1 m.0 b))
+  ]
+]
+  where
+    by_two : {a b : Bool} → is_leq e f ≡ a → is_leq f e ≡ b → IsRelation e f (cond a (cond b Equal Older) (cond b Newer Conflict)) → IsRelation e f (tested_relation e f)
+    by_two {a} {b} x y is =
+        subst (λ (u : Bool). IsRelation e f (cond u (cond (is_leq f e) Equal Older) (cond (is_leq f e) Newer Conflict))) (sym x)
+        (subst (λ (v : Bool). IsRelation e f (cond a (cond v Equal Older) (cond v Newer Conflict))) (sym y) is)
+
+pub turned : (e f : Event) (rel : Rel) → IsRelation e f rel → IsRelation f e (reverse_of rel)
+turned e f Equal is = (is.1, is.0)
+turned e f Older is = is
+turned e f Newer is = is
+turned e f Conflict is = (is.1, is.0)
+
+-- The other copies' rows.
+
+all_others : (c low : ℕ) (rows : List StampRow) → IsRising low rows → c < low → filter (is_other c) rows ≡ copy_rows rows
+all_others c low [] up below = refl
+all_others c low (r ∷ rows) up below =
+    let rest : filter (is_other c) rows ≡ copy_rows rows = all_others c (r.copy + 1) rows up.1 (omega (arith, up.0)) in
+    elim (is_copy r.holder) as (λ b. cond (b && not (r.copy == c)) (r ∷ filter (is_other c) rows) (filter (is_other c) rows) ≡ cond b (r ∷ copy_rows rows) (copy_rows rows)) [
+      | true ↦ rw (ne_eqb r.copy c (λ e. omega (arith, e, up.0))) (ap (λ l. r ∷ l) rest)
+      | false ↦ rest
+    ]
+
+pub others_length : (c low : ℕ) (rows : List StampRow) → IsRising low rows → lives rows c ≡ true → length (filter (is_other c) rows) + 1 ≡ length (copy_rows rows)
+others_length c low [] up living = absurd (cc)
+others_length c low (r ∷ rows) up living =
+    elim (cases_Bool (r.copy == c)) [
+      | inl e ↦
+          let same : r.copy ≡ c = eqb-true r.copy c e in
+          let rest : filter (is_other c) rows ≡ copy_rows rows = all_others c (r.copy + 1) rows up.1 (omega (arith, same)) in
+          elim (cases_Bool (is_copy r.holder)) [
+            | inl copy ↦ rw (copy, e) (omega (arith, ap length rest))
+            | inr parcel ↦ absurd (gone rest parcel e)
+          ]
+      | inr ne ↦
+          let there : lives rows c ≡ true = sym (ap (λ (b : Bool). (b && is_copy r.holder) || lives rows c) ne) ∙ living in
+          let more = others_length c (r.copy + 1) rows up.1 there in
+          elim (cases_Bool (is_copy r.holder)) [
+            | inl copy ↦ rw (copy, ne) (omega (arith, more))
+            | inr parcel ↦ rw parcel more
+          ]
+    ]
+  where
+    none : (low : ℕ) (rows : List StampRow) → IsRising low rows → c < low → lives rows c ≡ false
+    none low [] up below = refl
+    none low (q ∷ rows) up below = or_from (q.copy == c && is_copy q.holder) (lives rows c) (ap (λ (b : Bool). b && is_copy q.holder) (ne_eqb q.copy c (λ e. omega (arith, e, up.0)))) (none (q.copy + 1) rows up.1 (omega (arith, up.0)))
+
+    gone : filter (is_other c) rows ≡ copy_rows rows → is_copy r.holder ≡ false → (r.copy == c) ≡ true → ⊥
+    gone rest parcel e =
+        both_ways (lives (r ∷ rows) c)
+        (or_from (r.copy == c && is_copy r.holder) (lives rows c) (ap (λ (b : Bool). b && is_copy r.holder) e ∙ parcel) (none (r.copy + 1) rows up.1 (omega (arith, eqb-true r.copy c e)))) living
+
+without_rows : (c : ℕ) (rows : List StampRow) → without c (map (λ r. r.copy) (copy_rows rows)) ≡ map (λ r. r.copy) (filter (is_other c) rows)
+without_rows c [] = refl
+without_rows c (r ∷ rows) =
+    elim (is_copy r.holder) as (λ b. without c (map (λ q. q.copy) (cond b (r ∷ copy_rows rows) (copy_rows rows))) ≡ map (λ q. q.copy) (cond (b && not (r.copy == c)) (r ∷ filter (is_other c) rows) (filter (is_other c) rows))) [
+      | true ↦ elim (not (r.copy == c)) as (λ b. cond b (r.copy ∷ without c (map (λ q. q.copy) (copy_rows rows))) (without c (map (λ q. q.copy) (copy_rows rows))) ≡ map (λ q. q.copy) (cond b (r ∷ filter (is_other c) rows) (filter (is_other c) rows))) [
+        | true ↦ ap (λ (l : List ℕ). r.copy ∷ l) (without_rows c rows)
+        | false ↦ without_rows c rows
+      ]
+      | false ↦ without_rows c rows
+    ]
+
+-- what is read of a list beside that of its numbers
+read_beside : (f : StampRow → Rel) (others : List StampRow) (q : StampRow) → In q others → ((r : StampRow) → In r others → r.copy ≡ q.copy → r ≡ q) → rel_at (map (λ r. r.copy) others) (map f others) q.copy ≡ f q
+read_beside f [] q i one = absurd i
+read_beside f (r ∷ others) q i one = elim (cases_Bool (r.copy == q.copy)) [
+  | inl e ↦ rw e (ap f (one r (inl refl) (eqb-true r.copy q.copy e)))
+  | inr ne ↦ elim i [
+    | inl is ↦ absurd (eqb-false r.copy q.copy ne (ap (λ (w : StampRow). w.copy) (sym is)))
+    | inr later ↦ rw ne (read_beside f others q later (λ s j. one s (inr j)))
+  ]
+]
+
+in_filter : (test : StampRow → Bool) (rows : List StampRow) (q : StampRow) → In q (filter test rows) → In q rows
+in_filter test [] q i = absurd i
+in_filter test (r ∷ rows) q i =
+    elim (test r) as (λ b. In q (cond b (r ∷ filter test rows) (filter test rows)) → In q (r ∷ rows)) [
+      | true ↦ λ h. elim h [ inl e ↦ inl e | inr j ↦ inr (in_filter test rows q j) ]
+      | false ↦ λ h. inr (in_filter test rows q h)
+    ] i
+
+to_filter : (test : StampRow → Bool) (rows : List StampRow) (q : StampRow) → In q rows → test q ≡ true → In q (filter test rows)
+to_filter test [] q i passes = absurd i
+to_filter test (r ∷ rows) q i passes = elim i [
+  | inl e ↦ rw (ap test (sym e) ∙ passes) (inl e)
+  | inr j ↦ let later = to_filter test rows q j passes in elim (test r) as (λ b. In q (cond b (r ∷ filter test rows) (filter test rows))) [ true ↦ inr later | false ↦ later ]
+]
+
+pub read_relation : (rows : List StampRow) (cs : List ℕ) (row q : StampRow) → IsRising 0 rows → cs ≡ map (λ r. r.copy) (copy_rows rows) → In q rows → q.holder ≡ None → q.copy ≢ row.copy
+    → rel_at (without row.copy cs) (relations row rows) q.copy ≡ row_relation row q
+read_relation rows cs row q up are i free ne =
+    ap (λ (l : List ℕ). rel_at l (relations row rows) q.copy) (ap (without row.copy) are ∙ without_rows row.copy rows)
+    ∙ read_beside (row_relation row) (filter (is_other row.copy) rows) q
+    (to_filter (is_other row.copy) rows q i (and_from (is_copy q.holder) (not (q.copy == row.copy)) (ap is_copy free) (not_from_false (q.copy == row.copy) (ne_eqb q.copy row.copy ne))))
+    (λ r j e. one_row 0 rows r q up (in_filter (is_other row.copy) rows r j) i e)
+
+-- The row of a copy is set.
+
+pub copy_compared : (rows : List StampRow) (old new : Table) (row : StampRow) → IsRising 0 rows → ((r : StampRow) → In r rows → IsNormal r.stamp.event × (depth r.stamp.event ≤ 256))
+    → ByPlaces old.copies → HasCopies rows old → In row rows → row.holder ≡ None → new.copies ≡ old.copies
+    → Holds new (with_row row.copy (rel_at (without row.copy old.copies) (relations row rows)) (rel_of old)) → (but : List ℕ) → AreCompared (row.copy ∷ but) rows old → AreCompared but rows new
+copy_compared rows old new row up sound places has_copies there free kept holds but was r q i j free' free'' ne out out' =
+    let are : old.copies ≡ map (λ r. r.copy) (copy_rows rows) = copies_are rows old.copies up places has_copies in
+    let inside : (x : StampRow) → In x rows → x.holder ≡ None → Contains new.copies x.copy = λ x l f. subst (λ (cs : List ℕ). Contains cs x.copy) (sym kept) ((has_copies x.copy).1 (lives_from rows x l f)) in
+    let given : ℕ → Rel = rel_at (without row.copy old.copies) (relations row rows) in
+    let value : rel_of new r.copy q.copy ≡ with_row row.copy given (rel_of old) r.copy q.copy = holds r.copy q.copy (inside r i free') (inside q j free'') in
+    elim (cases_Bool (r.copy == row.copy)) [
+      | inl e ↦
+          let is : r ≡ row = one_row 0 rows r row up i there (eqb-true r.copy row.copy e) in
+          let other : q.copy ≢ row.copy = λ f. ne (eqb-true r.copy row.copy e ∙ sym f) in
+          subst (λ (w : StampRow). IsRelation w.stamp.event q.stamp.event (rel_of new r.copy q.copy)) (sym is)
+          (subst (IsRelation row.stamp.event q.stamp.event) (sym (value ∙ ap (λ (b : Bool). cond b (given q.copy) (cond (q.copy == row.copy) (reverse_of (given r.copy)) (rel_of old r.copy q.copy))) e ∙ read_relation rows old.copies row q up are j free'' other))
+          (tested row.stamp.event q.stamp.event (sound row there) (sound q j)))
+      | inr n ↦ elim (cases_Bool (q.copy == row.copy)) [
+        | inl e ↦
+            let is : q ≡ row = one_row 0 rows q row up j there (eqb-true q.copy row.copy e) in
+            let other : r.copy ≢ row.copy = eqb-false r.copy row.copy n in
+            subst (λ (w : StampRow). IsRelation r.stamp.event w.stamp.event (rel_of new r.copy q.copy)) (sym is)
+            (subst (IsRelation r.stamp.event row.stamp.event) (sym (value ∙ ap (λ (b : Bool). cond b (given q.copy) (cond (q.copy == row.copy) (reverse_of (given r.copy)) (rel_of old r.copy q.copy))) n
+            ∙ ap (λ (b : Bool). cond b (reverse_of (given r.copy)) (rel_of old r.copy q.copy)) e ∙ ap reverse_of (read_relation rows old.copies row r up are i free' other)))
+            (turned row.stamp.event r.stamp.event (row_relation row r) (tested row.stamp.event r.stamp.event (sound row there) (sound r i))))
+        | inr m ↦
+            subst (IsRelation r.stamp.event q.stamp.event) (sym (value ∙ ap (λ (b : Bool). cond b (given q.copy) (cond (q.copy == row.copy) (reverse_of (given r.copy)) (rel_of old r.copy q.copy))) n
+            ∙ ap (λ (b : Bool). cond b (reverse_of (given r.copy)) (rel_of old r.copy q.copy)) m))
+            (was r q i j free' free'' ne (or_from (row.copy == r.copy) (has but r.copy) (ne_eqb row.copy r.copy (λ e. eqb-false r.copy row.copy n (sym e))) out)
+            (or_from (row.copy == q.copy) (has but q.copy) (ne_eqb row.copy q.copy (λ e. eqb-false q.copy row.copy m (sym e))) out'))
+      ]
+    ]
+
+-- Over the rows.
+
+fewer_taken : (test : StampRow → Bool) (rows : List StampRow) (i : ℕ) → length (filter test (take i rows)) ≤ length (filter test rows)
+fewer_taken test rows zero = omega arith
+fewer_taken test [] (suc i) = omega arith
+fewer_taken test (r ∷ rows) (suc i) =
+    let rest = fewer_taken test rows i in
+    elim (test r) as (λ b. length (cond b (r ∷ filter test (take i rows)) (filter test (take i rows))) ≤ length (cond b (r ∷ filter test rows) (filter test rows))) [
+      | true ↦ omega (arith, rest)
+      | false ↦ rest
+    ]
+
+-- one row more that passes, or not
+pub one_more : (test : StampRow → Bool) (rows : List StampRow) (i : ℕ) (r : StampRow) → i < length rows → r ≡ slice_index_or rows i r → test r ≡ true → filter test (take (i + 1) rows) ≡ filter test (take i rows) ++ r ∷ []
+one_more test rows i r within is passes =
+    filter_more test rows i r within ∙ ap (λ (x : StampRow). filter test (take i rows) ++ cond (test x) (x ∷ []) []) (sym is)
+    ∙ ap (λ (b : Bool). filter test (take i rows) ++ cond b (r ∷ []) []) passes
+
+pub none_more : (test : StampRow → Bool) (rows : List StampRow) (i : ℕ) (r : StampRow) → i < length rows → r ≡ slice_index_or rows i r → test r ≡ false → filter test (take (i + 1) rows) ≡ filter test (take i rows)
+none_more test rows i r within is fails =
+    filter_more test rows i r within ∙ ap (λ (x : StampRow). filter test (take i rows) ++ cond (test x) (x ∷ []) []) (sym is)
+    ∙ ap (λ (b : Bool). filter test (take i rows) ++ cond b (r ∷ []) []) fails ∙ append-nil (filter test (take i rows))
+
+pub room_for_one : (test : StampRow → Bool) (rows : List StampRow) (i : ℕ) (r : StampRow) → i < length rows → r ≡ slice_index_or rows i r → test r ≡ true → length (filter test (take i rows)) < length (filter test rows)
+room_for_one test rows i r within is passes =
+    omega (arith, fewer_taken test rows (i + 1), ap length (one_more test rows i r within is passes), length-append (filter test (take i rows)) (r ∷ []))
+
+-- a copy that doesn't live needn't be compared
+pub gone_compared : (rows : List StampRow) (pairs : Table) (copy : ℕ) (but : List ℕ) → lives rows copy ≡ false → AreCompared (copy ∷ but) rows pairs → AreCompared but rows pairs
+gone_compared rows pairs copy but gone was r q i j free free' ne out out' =
+    let other : (x : StampRow) → In x rows → x.holder ≡ None → copy ≢ x.copy = λ x l f e. both_ways (lives rows copy) gone (subst (λ (k : ℕ). lives rows k ≡ true) (sym e) (lives_from rows x l f)) in
+    was r q i j free free' ne (or_from (copy == r.copy) (has but r.copy) (ne_eqb copy r.copy (other r i free)) out) (or_from (copy == q.copy) (has but q.copy) (ne_eqb copy q.copy (other q j free')) out')

@@ -1,0 +1,44 @@
+use Rattle.std.proofs.Common.{ap, sym, subst, refl, ◌∙◌, ◌∷◌, List, ℕ, filter, length, take, arith}
+use Rattle.std.proofs.lemmas.List.{length-map}
+use Rattle.pana_event.specs.declared.rel.Rel.{Rel}
+use Rattle.pana_rel.specs.Pairs.{Holds, rel_at, rel_of, with_row, without}
+use Rattle.pana_family.specs.declared.row.StampRow.{StampRow}
+use Rattle.pana_family.specs.Rows.{copy_rows, lives}
+use Rattle.pana_family.specs.inner.Comparing.{AreCompared, is_other, row_relation}
+use Rattle.pana_family.proofs.Compared.{copy_compared, others_length}
+use Rattle.pana_family.proofs.Copies.{copies_are}
+use Rattle.pana_family.proofs.Written.{IsRowAt, row_at}
+use Rattle.pana_family.proofs.comparing.compare_copy.Goals as goal
+
+pub write_relations-count-requires : goal.write_relations-count-requires
+write_relations-count-requires c =
+    let rows : List StampRow = c.args.rows.now in
+    let row : StampRow = c.index-rows-index_of.result in
+    let here : IsRowAt rows c.index_of.result c.args.copy row = row_at rows rows _ _ row refl c.index_of.ensures.within c.index_of.ensures.here c.index_of.ensures.free c.index-rows-index_of.is in
+    omega (arith, others_length row.copy 0 rows c.requires.rising (ap (lives rows) here.named ∙ c.requires.lives), c.requires.few)
+
+pub set_row-requires-clause-long : goal.set_row-requires-clause-long
+set_row-requires-clause-long c =
+    let rows : List StampRow = c.args.rows.now in
+    let row : StampRow = c.index-rows-index_of.result in
+    let here : IsRowAt rows c.index_of.result c.args.copy row = row_at rows rows _ _ row refl c.index_of.ensures.within c.index_of.ensures.here c.index_of.ensures.free c.index-rows-index_of.is in
+    omega (
+      arith,
+      others_length row.copy 0 rows c.requires.rising (ap (lives rows) here.named ∙ c.requires.lives),
+      ap length c.write_relations-count.ensures.rels,
+      length-map (filter (is_other row.copy) rows) (row_relation row),
+      ap length (copies_are rows c.args.pairs.now.copies c.requires.rising c.copies.ensures.rising c.requires.copies),
+      length-map (copy_rows rows) (λ (r : StampRow). r.copy),
+    )
+
+pub returns-clause-rels : goal.returns-clause-rels
+returns-clause-rels c = λ but was.
+    let rows : List StampRow = c.args.rows.now in
+    let row : StampRow = c.index-rows-index_of.result in
+    let old = c.args.pairs.now in
+    let new = c.set_row.new.self in
+    let here : IsRowAt rows c.index_of.result c.args.copy row = row_at rows rows _ _ row refl c.index_of.ensures.within c.index_of.ensures.here c.index_of.ensures.free c.index-rows-index_of.is in
+    copy_compared rows old new row c.requires.rising c.all_sound.ensures c.copies.ensures.rising c.requires.copies here.row here.free c.set_row.ensures.copies
+    (subst (λ (l : List Rel). Holds new (with_row row.copy (rel_at (without row.copy old.copies) l) (rel_of old))) c.write_relations-count.ensures.rels
+    (subst (λ (k : ℕ). Holds new (with_row k (rel_at (without k old.copies) (take c.write_relations-count.result c.write_relations-count.new.rels)) (rel_of old))) (sym here.named) c.set_row.ensures.pairs))
+    but (subst (λ (k : ℕ). AreCompared (k ∷ but) rows old) (sym here.named) was)

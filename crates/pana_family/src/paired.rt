@@ -1,0 +1,292 @@
+//! The rows of a family, and how its copies relate.
+ghost use Rattle.std.specs.Prelude.{◌≡◌, ◌≢◌, ◌<◌, ◌≤◌, ◌+◌, false, true, length, List, [], ◌∷◌, IfOk, OnOk, OnErr, IfErr, IfSome, Some, None};
+ghost use Rattle.pana_id.specs.Id.{is_single};
+ghost use Rattle.pana_family.specs.Relation.{relation};
+ghost use Rattle.pana_family.specs.Table.{Known, set_in, registered, touched, duplicated, edited, reconciled, merged, removed, AreBelow};
+ghost use Rattle.pana_family.specs.Board.{board_rows, board_newest, board_split};
+ghost use Rattle.pana_family.specs.Stands.{StandsFor};
+ghost use Rattle.pana_family.specs.Rows.{AreEdited, duplicated_rows, lives, copy_rows, OwnSame, dropped, AreBefore, put_back, put_all, id_in, seed_row, retouched, reverted, deepest};
+ghost use Rattle.pana_family.specs.Kept.{IsKept};
+
+use crate::board::{FamilyBoard, board_of};
+use crate::comparing::{compare_copies, drop_missing, put_missing};
+use crate::row::StampRow;
+use crate::rows::Rows;
+use crate::searching::{changed_numbers, copy_numbers};
+use pana_event::{EventTree, Rel};
+use pana_rel::PairTable;
+use std::alloc::{AllocError, Global};
+use std::marker::Model;
+
+/// The rows of a family's copies and parcels, and beside them the relation of each copy to each, which follows every change of
+/// the rows.
+#[derive(Drop)]
+pub struct PairedRows {
+    rows: Rows,
+    pairs: PairTable,
+}
+
+impl Model for PairedRows {
+    ghost use Rattle.std.specs.Prelude.{List};
+    ghost use Rattle.std.specs.Coded.{coded_list};
+    ghost use Rattle.pana_family.specs.declared.row.StampRow.{StampRow as RowValue};
+    ghost use Rattle.pana_family.specs.contracts.row.StampRow as stamp_row;
+
+    ghost Value = { List RowValue };
+
+    ghost coded = { coded_list stamp_row.the_row.coded };
+
+    ghost use Rattle.pana_family.specs.Paired.{ArePaired};
+
+    ghost view = { λ r. r.rows };
+
+    ghost invariant = { λ r. ArePaired r.rows r.pairs };
+}
+
+impl PairedRows {
+    /// The first row of a family, which owns all points and knows no update.
+    pub fn new(alloc: Global, entry: u64) -> Result<PairedRows, AllocError>
+        ensures seed { IfOk result (λ rows. rows ≡ seed_row entry ∷ []) }
+        ensures stands { IfOk result (λ rows. StandsFor rows (registered entry)) }
+    {
+        let rows = Rows::new(alloc, entry)?;
+        let pairs = PairTable::new(alloc, entry)?;
+        Ok(PairedRows { rows, pairs })
+    }
+
+    /// These rows. Compares the stamps of each two copies.
+    pub fn of_rows(alloc: Global, rows: Rows) -> Result<PairedRows, AllocError>
+        ensures { IfOk result (λ paired. paired ≡ rows) }
+    {
+        let copies = copy_numbers(alloc, rows.as_slice())?;
+        let mut pairs = PairTable::new(alloc, 0)?;
+        pairs.drop_copy(0);
+        put_missing(alloc, &mut pairs, rows.as_slice())?;
+        compare_copies(rows.as_slice(), &mut pairs, &copies);
+        Ok(PairedRows { rows, pairs })
+    }
+
+    /// The rows alone, without the relations. Takes no memory.
+    pub fn into_rows(self) -> Rows
+        ensures { result ≡ self }
+    {
+        let PairedRows { rows, .. } = self;
+        rows
+    }
+
+    /// The rows alone. Takes no memory.
+    pub fn list(&self) -> &Rows
+        ensures { result.now ≡ self.now }
+    {
+        &self.rows
+    }
+
+    /// How the first copy relates to the second. Takes no memory; compares no stamps.
+    pub fn rel(&self, a: u64, b: u64) -> Rel
+        requires first { lives self.now a ≡ true }
+        requires second { lives self.now b ≡ true }
+        ensures { (table : List Known) → StandsFor self.now table → result ≡ relation (set_in table a) (set_in table b) }
+    {
+        self.pairs.rel(a, b)
+    }
+
+    /// The board: that of each table that the rows stand for.
+    pub fn board(&self, alloc: Global) -> Result<FamilyBoard, AllocError>
+        ensures rows { IfOk result (λ board. (table : List Known) → StandsFor self.now table → board.rows ≡ board_rows table) }
+        ensures newest { IfOk result (λ board. (table : List Known) → StandsFor self.now table → board.newest ≡ board_newest table) }
+        ensures split { IfOk result (λ board. (table : List Known) → StandsFor self.now table → board.split ≡ board_split table) }
+    {
+        let _ = self.rows.as_slice();
+        let _ = self.pairs.copies();
+        board_of(alloc, &self.pairs)
+    }
+
+    /// An update of a copy, with the entry as its number. Returns the event and the touch from before.
+    pub fn edit(
+        &mut self,
+        alloc: Global,
+        entry: u64,
+        copy: u64,
+    ) -> Result<(EventTree, u64), AllocError>
+        requires living { lives self.old copy ≡ true }
+        requires new { AreBefore entry self.old }
+        ensures stands { OnOk result ((table : List Known) → StandsFor self.old table → AreBelow entry table → StandsFor self.new (edited entry copy table)) }
+        ensures exact { OnOk result (AreEdited entry copy self.old self.new) }
+        ensures back { IfOk result (λ old. reverted copy old.0 old.1 self.new ≡ self.old) }
+        ensures deep { OnOk result (deepest self.new ≤ deepest self.old) }
+        ensures owned { OnOk result (OwnSame self.old self.new) }
+        ensures was { IsKept self.old }
+        ensures err { OnErr result (self.new ≡ self.old) }
+    {
+        let former = self.rows.edit(alloc, entry, copy)?;
+        self.pairs.edited(copy);
+        Ok(former)
+    }
+
+    /// A new copy beside its source, with the entry as its number. Returns the source's row from before.
+    pub fn duplicate(
+        &mut self,
+        alloc: Global,
+        entry: u64,
+        source: u64,
+    ) -> Result<StampRow, AllocError>
+        requires living { lives self.old source ≡ true }
+        requires new { AreBefore entry self.old }
+        requires room { length (copy_rows self.old) < 256 }
+        requires splits { is_single (id_in self.old source) 256 ≡ false }
+        ensures stands { OnOk result ((table : List Known) → StandsFor self.old table → StandsFor self.new (duplicated entry source table)) }
+        ensures exact { OnOk result (self.new ≡ duplicated_rows entry source self.old) }
+        ensures back { IfOk result (λ old. put_back old (dropped entry self.new) ≡ self.old) }
+        ensures deep { OnOk result (deepest self.new ≤ deepest self.old + 1) }
+        ensures owned { OnOk result (OwnSame self.old self.new) }
+        ensures was { IsKept self.old }
+        ensures err { OnErr result (self.new ≡ self.old) }
+    {
+        let _ = self.rows.as_slice();
+        let _ = self.pairs.copies();
+        self.pairs.insert_like(source, entry)?;
+        match self.rows.duplicate(alloc, entry, source) {
+            Ok(former) => Ok(former),
+            Err(fault) => {
+                self.pairs.drop_copy(entry);
+                Err(fault)
+            }
+        }
+    }
+
+    /// Two copies learn what either knows, and are settled. Returns the rows from before that went.
+    pub fn reconcile(
+        &mut self,
+        alloc: Global,
+        entry: u64,
+        a: u64,
+        b: u64,
+    ) -> Result<Vec<StampRow>, AllocError>
+        requires first { lives self.old a ≡ true }
+        requires second { lives self.old b ≡ true }
+        requires differ { a ≢ b }
+        requires new { AreBefore entry self.old }
+        ensures stands { OnOk result ((table : List Known) → StandsFor self.old table → StandsFor self.new (reconciled entry a b table)) }
+        ensures back { IfOk result (λ old. put_all old.items (dropped entry self.new) ≡ self.old) }
+        ensures deep { OnOk result (deepest self.new ≤ deepest self.old) }
+        ensures owned { OnOk result (OwnSame self.old self.new) }
+        ensures was { IsKept self.old }
+        ensures err { OnErr result (self.new ≡ self.old) }
+    {
+        let gone = self.rows.reconcile(alloc, entry, a, b)?;
+        compare_copies(self.rows.as_slice(), &mut self.pairs, &[a, b]);
+        Ok(gone)
+    }
+
+    /// Two copies learn what either knows and an update, with the entry as its number, and are settled. Returns the rows
+    /// from before that went.
+    pub fn merge(
+        &mut self,
+        alloc: Global,
+        entry: u64,
+        a: u64,
+        b: u64,
+    ) -> Result<Vec<StampRow>, AllocError>
+        requires first { lives self.old a ≡ true }
+        requires second { lives self.old b ≡ true }
+        requires differ { a ≢ b }
+        requires new { AreBefore entry self.old }
+        ensures stands { OnOk result ((table : List Known) → StandsFor self.old table → AreBelow entry table → StandsFor self.new (merged entry a b table)) }
+        ensures back { IfOk result (λ old. put_all old.items (dropped entry self.new) ≡ self.old) }
+        ensures deep { OnOk result (deepest self.new ≤ deepest self.old) }
+        ensures owned { OnOk result (OwnSame self.old self.new) }
+        ensures was { IsKept self.old }
+        ensures err { OnErr result (self.new ≡ self.old) }
+    {
+        let gone = self.rows.merge(alloc, entry, a, b)?;
+        compare_copies(self.rows.as_slice(), &mut self.pairs, &[a, b]);
+        Ok(gone)
+    }
+
+    /// Removes a copy, with an heir or without. Returns the rows from before that went.
+    pub fn remove(
+        &mut self,
+        alloc: Global,
+        entry: u64,
+        copy: u64,
+        heir: Option<u64>,
+    ) -> Result<Vec<StampRow>, AllocError>
+        requires living { lives self.old copy ≡ true }
+        requires second { IfSome heir (λ h. lives self.old h ≡ true) }
+        requires differ { heir ≢ Some copy }
+        requires new { AreBefore entry self.old }
+        ensures stands { OnOk result ((table : List Known) → StandsFor self.old table → StandsFor self.new (removed entry copy heir table)) }
+        ensures back { IfOk result (λ old. put_all old.items (dropped entry self.new) ≡ self.old) }
+        ensures deep { OnOk result (deepest self.new ≤ deepest self.old) }
+        ensures owned { OnOk result (heir ≢ None → OwnSame self.old self.new) }
+        ensures was { IsKept self.old }
+        ensures err { OnErr result (self.new ≡ self.old) }
+    {
+        let gone = self.rows.remove(alloc, entry, copy, heir)?;
+        self.pairs.drop_copy(copy);
+        Ok(gone)
+    }
+
+    /// Sets the touch of a copy, and returns the former one. Takes no memory.
+    pub fn touch_place(&mut self, entry: u64, copy: u64) -> u64
+        requires living { lives self.old copy ≡ true }
+        requires new { AreBefore entry self.old }
+        ensures stands { (table : List Known) → StandsFor self.old table → StandsFor self.new (touched entry copy table) }
+        ensures back { retouched copy result self.new ≡ self.old }
+        ensures deep { deepest self.new ≤ deepest self.old }
+        ensures owned { OwnSame self.old self.new }
+        ensures was { IsKept self.old }
+    {
+        self.rows.touch_place(entry, copy)
+    }
+
+    /// Sets a copy's touch, if it has a row. Takes no memory.
+    pub fn set_touch(&mut self, copy: u64, touch: u64)
+        requires { IsKept (retouched copy touch self.old) }
+        ensures { self.new ≡ retouched copy touch self.old }
+    {
+        self.rows.set_touch(copy, touch);
+    }
+
+    /// Sets a copy's event and touch, if it has a row. Takes no memory.
+    pub fn revert(&mut self, copy: u64, event: EventTree, touch: u64)
+        requires { IsKept (reverted copy event touch self.old) }
+        ensures { self.new ≡ reverted copy event touch self.old }
+    {
+        self.rows.revert(copy, event, touch);
+        compare_copies(self.rows.as_slice(), &mut self.pairs, &[copy]);
+    }
+
+    /// Takes the entry's own row out, if it has one, and puts rows back, or returns them where memory runs out.
+    pub fn put_all(
+        &mut self,
+        alloc: Global,
+        entry: u64,
+        old: Vec<StampRow>,
+    ) -> Result<(), Vec<StampRow>>
+        requires { IsKept (put_all old.items (dropped entry self.old)) }
+        ensures ok { OnOk result (self.new ≡ put_all old.items (dropped entry self.old)) }
+        ensures given_back { IfErr result (λ rows. rows ≡ old) }
+        ensures err { OnErr result (self.new ≡ self.old) }
+    {
+        let _ = self.rows.as_slice();
+        let Ok(changed) = changed_numbers(alloc, entry, &old) else {
+            return Err(old);
+        };
+        let Ok(()) = put_missing(alloc, &mut self.pairs, &old) else {
+            drop_missing(self.rows.as_slice(), &mut self.pairs, &changed);
+            return Err(old);
+        };
+        match self.rows.put_all(entry, old) {
+            Ok(()) => {
+                drop_missing(self.rows.as_slice(), &mut self.pairs, &changed);
+                compare_copies(self.rows.as_slice(), &mut self.pairs, &changed);
+                Ok(())
+            }
+            Err(old) => {
+                drop_missing(self.rows.as_slice(), &mut self.pairs, &changed);
+                Err(old)
+            }
+        }
+    }
+}
