@@ -1,0 +1,123 @@
+//! What no clause says: that calls succeed where memory is there, that others' calls are seen, and that two threads
+//! get on.
+
+ghost use Rattle.std.specs.Prelude.{◌≡◌};
+
+use crate::{Desk, Pass};
+use pana_copies::{CopyPath, DeviceName, Place};
+use pana_hall::{Call, Query, Reply};
+use pana_journal::Report;
+use std::alloc::Global;
+use std::sync::Wait;
+use std::test::Fail;
+use std::thread;
+
+/// A report of a new file at the path `a`.
+fn register(alloc: Global, device: &str) -> Result<Call, Fail> {
+    let place = Place {
+        device: DeviceName::new(alloc, device)?,
+        path: CopyPath::new(alloc, "a")?,
+    };
+    Ok(Call::Report(Report::Register { place }))
+}
+
+#[test]
+fn shared_desk(rt: HostRuntime) -> Result<(), Fail> {
+    let alloc = rt.alloc();
+    let (desk, mut passes) = Desk::open(alloc, 2)?;
+    let laptop = DeviceName::new(alloc, "laptop")?;
+    let Some(mut second) = passes.pop() else {
+        return Ok(());
+    };
+    let Some(mut first) = passes.pop() else {
+        return Ok(());
+    };
+
+    let done = desk.call(&rt, &mut first, &laptop, register(alloc, "laptop")?)?;
+    assert!(rt; matches!(done, Reply::Done { entry: 1 }));
+    assert_eq!(rt; desk.glance(&mut second), 1);
+    let board = desk.call(
+        &rt,
+        &mut second,
+        &laptop,
+        Call::Query(Query::Board { family: 1 }),
+    )?;
+    let Reply::Board(board) = board else {
+        assert!(rt; false);
+        return Ok(());
+    };
+    assert_eq!(rt; board.rows.as_slice().len(), 1);
+    let note = desk.note(&mut first);
+    desk.meet(&mut second, note);
+    assert_eq!(rt; desk.glance(&mut first), 2);
+
+    passes.push(first)?;
+    let Err(refused) = desk.close(passes) else {
+        assert!(rt; false);
+        return Ok(());
+    };
+    let (desk, mut passes) = (refused.desk, refused.passes);
+    passes.push(second)?;
+    let Ok(closed) = desk.close(passes) else {
+        assert!(rt; false);
+        return Ok(());
+    };
+    assert_eq!(rt; (closed.hall.length(), closed.calls), (1, 2));
+    Ok(())
+}
+
+/// Registers a file and edits its copy 99 times, and says whether each call was the pass's next.
+fn edits<R: Wait>(rt: &R, desk: &Desk, mut pass: Pass, by: &DeviceName, first: Call) -> (Pass, u64)
+    requires { pass.desk ≡ desk.now.id }
+    ensures { result.0.desk ≡ pass.desk }
+{
+    let Ok(Reply::Done { entry: copy }) = desk.call(rt, &mut pass, by, first) else {
+        return (pass, 0);
+    };
+    let mut last = copy;
+    for _ in 0..99 {
+        let edit = Call::Report(Report::Edit { copy });
+        let Ok(Reply::Done { entry }) = desk.call(rt, &mut pass, by, edit) else {
+            return (pass, 0);
+        };
+        if entry <= last {
+            return (pass, 0);
+        }
+        last = entry;
+    }
+    (pass, last)
+}
+
+#[test]
+fn two_threads(rt: HostRuntime) -> Result<(), Fail> {
+    let alloc = rt.alloc();
+    let (desk, mut passes) = Desk::open(alloc, 2)?;
+    let laptop = DeviceName::new(alloc, "laptop")?;
+    let usb = DeviceName::new(alloc, "usb")?;
+    let (Some(second), Some(first)) = (passes.pop(), passes.pop()) else {
+        return Ok(());
+    };
+    let one = register(alloc, "laptop")?;
+    let other = register(alloc, "usb")?;
+    let shared = &desk;
+    let ((first, mine), (second, yours)) = thread::join(
+        &rt,
+        || -> (Pass, u64)
+            requires { first.desk ≡ shared.now.id }
+            ensures { result.0.desk ≡ shared.entry.now.id }
+        { edits(&rt, shared, first, &laptop, one) },
+        || -> (Pass, u64)
+            requires { second.desk ≡ shared.now.id }
+            ensures { result.0.desk ≡ shared.entry.now.id }
+        { edits(&rt, shared, second, &usb, other) },
+    );
+    assert!(rt; mine != 0 && yours != 0 && (mine == 200 || yours == 200));
+    passes.push(first)?;
+    passes.push(second)?;
+    let Ok(closed) = desk.close(passes) else {
+        assert!(rt; false);
+        return Ok(());
+    };
+    assert_eq!(rt; (closed.hall.length(), closed.calls), (200, 200));
+    Ok(())
+}
