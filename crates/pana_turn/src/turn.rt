@@ -1,10 +1,10 @@
 //! A turn: to wait for it, and to end it.
 
-ghost use Rattle.std.specs.Prelude.{◌≡◌, ◌++◌, [], ◌∷◌, None};
-ghost use mathlib.Core.List.{IsPrefix};
+ghost use Rattle.std.specs.Prelude.{◌≡◌, ◌++◌, [], ◌∷◌, IsFalse, IsTrue, None, Some};
 ghost use Rattle.pana_hall.specs.Permit.{Permits, journal_after};
-ghost use Rattle.pana_turn.specs.declared.view.Stage.TheVariants.{Idle, Tested, Turn};
+ghost use Rattle.pana_turn.specs.declared.view.Stage.TheVariants.{Drawn, Idle, Tested, Turn};
 ghost use Rattle.pana_turn.specs.History.{IsHistory, calls_of, journal_of};
+ghost use Rattle.pana_turn.specs.inner.Steps.{SeesMore};
 ghost use Rattle.pana_turn.specs.inner.Views.{pass};
 
 use crate::plays::{Await, Draw, Finish, Naming};
@@ -15,27 +15,49 @@ use std::snapshot::Snapshot;
 use std::sync::Wait;
 use std::thread;
 
+/// A look whether the ticket's turn has come. Where it has, the hall's slot is the seat's.
+fn has_come(floor: &Floor, seat: &mut Place, number: u32, ticket: u64) -> bool
+    requires floor { (floor.now.table_id.words ≡ 2) × (floor.now.table_id.slots ≡ 1) }
+    requires seat { (seat.old.table_id ≡ floor.now.table_id) × (seat.old.me ≡ (pass number (calls_of number seat.old.me.0.seen) seat.old.me.0.seen (Drawn ticket), [])) }
+    ensures table { seat.new.table_id ≡ seat.old.table_id }
+    ensures come { IsTrue result → seat.new.me ≡ (pass number (calls_of number seat.old.me.0.seen) seat.new.me.0.seen Turn, (0, Some (journal_of seat.new.me.0.seen)) ∷ []) }
+    ensures early { IsFalse result → seat.new.me ≡ (pass number (calls_of number seat.old.me.0.seen) seat.new.me.0.seen (Drawn ticket), []) }
+    ensures looked { SeesMore number seat.old.me.0.seen seat.new.me.0.seen }
+{
+    floor.load::<Await>(seat, 1) == ticket
+}
+
+/// Waits until the ticket's turn has come.
+fn await_turn<R: Wait>(rt: &R, floor: &Floor, seat: &mut Place, number: u32, ticket: u64)
+    requires floor { (floor.now.table_id.words ≡ 2) × (floor.now.table_id.slots ≡ 1) }
+    requires seat { (seat.old.table_id ≡ floor.now.table_id) × (seat.old.me ≡ (pass number (calls_of number seat.old.me.0.seen) seat.old.me.0.seen (Drawn ticket), [])) }
+    ensures table { seat.new.table_id ≡ seat.old.table_id }
+    ensures turn { seat.new.me ≡ (pass number (calls_of number seat.old.me.0.seen) seat.new.me.0.seen Turn, (0, Some (journal_of seat.new.me.0.seen)) ∷ []) }
+    ensures looked { SeesMore number seat.old.me.0.seen seat.new.me.0.seen }
+{
+    for _ in rt.forever() {
+        if has_come(floor, seat, number, ticket) {
+            return;
+        }
+        thread::yield_now();
+    }
+    unreachable!()
+}
+
 /// Draws a ticket, waits until that number of calls is finished, and takes the hall.
 pub(crate) fn take_turn<R: Wait>(rt: &R, floor: &Floor, seat: &mut Place, number: u32) -> Hall
     requires floor { (floor.now.table_id.words ≡ 2) × (floor.now.table_id.slots ≡ 1) }
     requires seat { (seat.old.table_id ≡ floor.now.table_id) × (seat.old.me ≡ (pass number (calls_of number seat.old.me.0.seen) seat.old.me.0.seen Tested, [])) }
     ensures seat { (seat.new.table_id ≡ seat.old.table_id) × (seat.new.me ≡ (pass number (calls_of number seat.old.me.0.seen) seat.new.me.0.seen Turn, (0, None) ∷ [])) }
-    ensures seen { IsPrefix seat.old.me.0.seen seat.new.me.0.seen }
-    ensures own { calls_of number seat.new.me.0.seen ≡ calls_of number seat.old.me.0.seen }
-    ensures run { IsHistory seat.new.me.0.seen }
+    ensures looked { SeesMore number seat.old.me.0.seen seat.new.me.0.seen }
     ensures hall { result ≡ journal_of seat.new.me.0.seen }
 {
     let ticket = floor.fetch_add::<Draw>(seat, 0, 1);
-    for _ in rt.forever() {
-        if floor.load::<Await>(seat, 1) == ticket {
-            let Some(hall) = floor.exchange(seat, 0, None) else {
-                unreachable!()
-            };
-            return hall;
-        }
-        thread::yield_now();
-    }
-    unreachable!()
+    await_turn(rt, floor, seat, number, ticket);
+    let Some(hall) = floor.exchange(seat, 0, None) else {
+        unreachable!()
+    };
+    hall
 }
 
 /// Puts the hall back after a call, and ends the turn: the call is finished.

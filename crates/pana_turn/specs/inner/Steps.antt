@@ -28,6 +28,12 @@ pub record Looked (v : View) (found : ℕ) (w : View) (stage : Stage) : Type 0 w
   pub own : (number : ℕ) (mine past : List FinishedCall) → v.accounts ≡ account number mine past ∷ [] → calls_of number w.seen ≡ mine
   pub is : w ≡ view v.accounts w.seen [] stage
 
+-- a pass has looked again, and made no call meanwhile: what it has seen is a history that begins with what it had seen
+pub record SeesMore (number : ℕ) (old new : List FinishedCall) : Type 0 where
+  pub seen : IsPrefix old new
+  pub own : calls_of number new ≡ calls_of number old
+  pub run : IsHistory new
+
 abbrev pub Glances : Holds → ℕ → Holds → Type 0
 Glances old found new = Looked old.0 found new.0 Idle × (new.1 ≡ old.1)
 
