@@ -1,4 +1,4 @@
-use Rattle.std.proofs.Common.{◌≡◌, [], length, arith, ap, sym, ◌∙◌}
+use Rattle.std.proofs.Common.{◌≡◌, length, arith, ap, sym, ◌∙◌}
 use Rattle.pana_turn.specs.declared.view.Stage.TheVariants.{Drawn}
 use Rattle.pana_turn.specs.inner.Steps.{ticket_of}
 use Rattle.pana_turn.proofs.Looking.{awaits}
