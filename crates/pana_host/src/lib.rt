@@ -1,0 +1,10 @@
+//! Sessions at a desk: each is served in a thread of its own, by the pass that it brings.
+#![tactic(auto)]
+
+mod desk_session;
+mod gate;
+mod lane;
+
+pub use crate::desk_session::DeskSession;
+pub use crate::gate::{Gate, OpenGate};
+pub use crate::lane::{Lane, LaneEnd};
