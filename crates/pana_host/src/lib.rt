@@ -3,8 +3,10 @@
 
 mod desk_session;
 mod gate;
+mod hosting;
 mod lane;
 
 pub use crate::desk_session::DeskSession;
 pub use crate::gate::{Gate, OpenGate};
+pub use crate::hosting::host;
 pub use crate::lane::{Lane, LaneEnd};
