@@ -5,6 +5,7 @@ use denote.Struct.Declared.{shape}
 use denote.Struct.Tuple.{TupleAt, type_at}
 use denote.Param.Send.{IsSend, arg_send, param_send, recorded_send, sendable, shr_send, struct_send}
 use Rattle.std.proofs.rt.LibcRuntime.TheSendSync as runtimes
+use Rattle.std.proofs.option.Option.TheSendSync as options
 use Rattle.pana_copies.proofs.device_name.DeviceName.TheSendSync as device_names
 use Rattle.pana_hall.proofs.call.Call.TheSendSync as calls
 use Rattle.pana_turn.proofs.Sending.{desk_sync, pass_send}
@@ -21,4 +22,4 @@ join-first-requires-send-F g c κs within = search (tt, param_send, arg_send, ca
 
 -- what it returns
 pub join-first-requires-send-A : goal.join-first-requires-send-A
-join-first-requires-send-A g c κs within = search (sendable, pass_send) depth 9
+join-first-requires-send-A g c κs within = search (sendable, pass_send, options.the_send) depth 9
