@@ -11,3 +11,4 @@ pub mod Calling
 pub mod Opening
 pub mod Ending
 pub mod Resting
+pub mod Sending
