@@ -1,8 +1,8 @@
 //! Lanes in threads.
-ghost use Rattle.std.specs.Prelude.{◌≡◌, ◌≤◌, ◌+◌, ◌<◌, Some, IfOk, IfErr, length, map, vec_capacity};
+ghost use Rattle.std.specs.Prelude.{◌≡◌, ◌≤◌, ◌+◌, ◌<◌, ◌++◌, [], Some, IfOk, IfErr, length, map, vec_capacity};
 ghost use denote.Param.Send.{IsSync, IsSend};
 ghost use Rattle.pana_host.specs.Lane.{AreReady, AreServed};
-ghost use Rattle.pana_host.specs.inner.Booth.{BringsTo, Waits, ends_of, waiting};
+ghost use Rattle.pana_host.specs.inner.Booth.{BringsTo, Waits, ends_of, put_end, waiting};
 
 use crate::gate::Gate;
 use crate::lane::{Lane, LaneEnd};
@@ -48,6 +48,18 @@ fn fill<R: Drop, W: Drop>(booths: &mut Vec<Booth<R, W>>, lanes: Vec<Lane<R, W>>)
     }
 }
 
+/// Puts an end behind others, where there is one. Takes no memory where there is room for it.
+fn put<R, W>(ends: &mut Vec<LaneEnd<R, W>>, end: Option<LaneEnd<R, W>>)
+    requires { length ends.old.items < vec_capacity ends.old }
+    ensures items { ends.new.items ≡ ends.old.items ++ put_end end [] }
+    ensures room { vec_capacity ends.new ≡ vec_capacity ends.old }
+{
+    match end {
+        Some(end) => ends.push_reserved(end),
+        None => {}
+    }
+}
+
 /// The ends in the booths, in order. Takes no memory where there is room for them.
 fn empty<R: Drop, W: Drop>(booths: Vec<Booth<R, W>>, ends: &mut Vec<LaneEnd<R, W>>)
     requires empty { length ends.old.items ≡ 0 }
@@ -56,10 +68,7 @@ fn empty<R: Drop, W: Drop>(booths: Vec<Booth<R, W>>, ends: &mut Vec<LaneEnd<R, W
 {
     for booth in booths {
         let Booth { lane: _, end } = booth;
-        match end {
-            Some(end) => ends.push_reserved(end),
-            None => {}
-        }
+        put(ends, end);
     }
 }
 
