@@ -1,1 +1,2 @@
 pub mod Booths
+pub mod Sending

@@ -1,25 +1,23 @@
-use Rattle.std.proofs.Common.{rules, ◌≡◌, ◌≤◌, ◌+◌, ◌<◌, Some, IfOk, IfErr, length, map, vec_capacity, ℕ, ◌-◌, ◌*◌, ◌/◌, ◌%◌, Bool, true, false, nat_eq, nat_lt, List, [], ◌∷◌, ◌++◌, slice_index_or, slice_set, bit_and, bit_or, Fits, w8, w32, w64, Bor, MutBor}
-use denote.Param.Send.{IsSync, IsSend}
-use Rattle.pana_host.specs.Lane.{AreReady, AreServed}
-use Rattle.pana_host.specs.inner.Booth.{BringsTo, Waits, ends_of, waiting}
+use mathlib.Core.List.{[], ◌∷◌}
+use mir.Syntax.{Sym}
+use denote.RattleType.{RattleType}
+use denote.Struct.Declared.{shape}
+use denote.Struct.Tuple.{TupleAt, type_at}
+use denote.Exit.{no}
+use denote.Param.{param}
+use denote.Param.Send.{IsSync, param_send, arg_send, param_sync, arg_sync, given_sync, shr_sync, recorded_sync, struct_sync}
+use Rattle.std.proofs.alloc.Global.TheSendSync as global
+use Rattle.pana_turn.proofs.Sending.{desk_sync}
+use Rattle.pana_host.proofs.Sending.{booth_send}
 use Rattle.pana_host.proofs.hosting.host.Goals as goal
 
--- src/hosting.rt:101:5
 pub for_each_mut-requires-send-T : goal.for_each_mut-requires-send-T
-for_each_mut-requires-send-T g c κs within = ?
+for_each_mut-requires-send-T g c κs within = param_send 1 _ (arg_send _ no _ (booth_send (param 1 g.row.R) (param 2 g.row.W) c.type_bounds.send-R c.type_bounds.send-W))
 
--- src/hosting.rt:101:5
+-- threads may share a closure that captures four values where they may share these
+captures : (name : Sym) (A B C D : RattleType) → IsSync A → IsSync B → IsSync C → IsSync D → IsSync (TupleAt name (A ∷ B ∷ C ∷ D ∷ []))
+captures name A B C D a b c d =
+    let made = type_at name (A ∷ B ∷ C ∷ D ∷ []) in recorded_sync _ _ _ made.to_one (struct_sync (shape made) (a, (b, (c, (d, tt)))))
+
 pub for_each_mut-requires-sync-F : goal.for_each_mut-requires-sync-F
-for_each_mut-requires-sync-F g c κs within = ?
-
--- src/hosting.rt:101:5
-pub for_each_mut-requires-clause-accepts : goal.for_each_mut-requires-clause-accepts
-for_each_mut-requires-clause-accepts g c κs within = ?
-
--- src/hosting.rt:102:5
-pub empty-requires-clause-room : goal.empty-requires-clause-room
-empty-requires-clause-room g c = ?
-
--- src/hosting.rt:72:1
-pub returns-clause-ends : goal.returns-clause-ends
-returns-clause-ends g c = ?
+for_each_mut-requires-sync-F g c κs within = param_sync 2 _ (arg_sync _ no _ (captures _ _ _ _ _ (shr_sync _ _ (param 0 g.row.T) c.type_bounds.sync-T) global.the_sync (shr_sync _ _ _ desk_sync) (shr_sync _ _ (param 3 g.row.G) c.type_bounds.sync-G)))
