@@ -1,7 +1,7 @@
 -- A lane may go to another thread, with its booth.
 use denote.RattleType.{RattleType}
-use denote.Param.SendFields.{declared_send, variants_send}
-use denote.Param.Send.{IsSend, sendable}
+use denote.Param.SendFields.{declared_send}
+use denote.Param.Send.{IsSend}
 use Rattle.std.proofs.option.Option.TheSendSync as options
 use Rattle.std.proofs.result.Result.TheSendSync as results
 use Rattle.pana_wire.proofs.tap.Tap.TheSendSync as taps

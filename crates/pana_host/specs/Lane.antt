@@ -1,7 +1,6 @@
 -- Lanes before and after their sessions.
-use Rattle.std.specs.Prelude.{◌≡◌, ◌^◌, ◌⊎◌, ℕ, List, [], ◌∷◌, Bool, false, Option, Result, Ok, Err}
+use Rattle.std.specs.Prelude.{◌≡◌, ◌^◌, ◌⊎◌, ℕ, List, [], ◌∷◌, false, Option, Result, Ok, Err}
 use Rattle.atomic_table.specs.Seated.{TableId}
-use Rattle.pana_turn.specs.Passes.{PassView}
 use Rattle.pana_wire.specs.Tap.{has_failed}
 use Rattle.pana_wire.specs.Session.{Serves, Stops, NeverBegins}
 use Rattle.pana_wire.specs.declared.serving.Served.{Served}

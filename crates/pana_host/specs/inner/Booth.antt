@@ -1,5 +1,5 @@
 -- Booths: where a lane waits for its thread, and its end is put.
-use Rattle.std.specs.Prelude.{◌≡◌, ℕ, List, [], ◌∷◌, Option, Some, None, map}
+use Rattle.std.specs.Prelude.{◌≡◌, ℕ, List, [], ◌∷◌, Option, Some, None}
 use Rattle.atomic_table.specs.Seated.{TableId}
 use Rattle.pana_host.specs.Lane.{IsReady, IsServed}
 use Rattle.pana_host.specs.declared.lane.Lane.{Lane}

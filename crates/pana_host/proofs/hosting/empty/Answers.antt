@@ -1,4 +1,4 @@
-use Rattle.std.proofs.Common.{◌++◌, arith, vec_capacity}
+use Rattle.std.proofs.Common.{arith, vec_capacity}
 use Rattle.pana_host.specs.inner.Booth.{ends_of}
 use Rattle.pana_host.proofs.Booths.{all_put, put_next, put_room}
 use Rattle.pana_host.proofs.hosting.empty.Goals as goal
