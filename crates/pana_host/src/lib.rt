@@ -10,3 +10,6 @@ pub use crate::desk_session::DeskSession;
 pub use crate::gate::{Gate, OpenGate};
 pub use crate::hosting::host;
 pub use crate::lane::{Lane, LaneEnd};
+
+#[cfg(test)]
+mod tests;
