@@ -5,7 +5,7 @@ use Rattle.pana_wire.specs.Tap.{has_failed}
 use Rattle.pana_wire.specs.Session.{Serves, Stops, NeverBegins}
 use Rattle.pana_wire.specs.declared.serving.Served.{Served}
 use Rattle.pana_wire.specs.declared.serving.ServeFault.{ServeFault}
-use Rattle.pana_host.specs.Session.{MakesCall, MakesNone}
+use Rattle.pana_host.specs.Session.{MakesCall, MakesNone, GrowsTo}
 use Rattle.pana_host.specs.declared.lane.Lane.{Lane}
 use Rattle.pana_host.specs.declared.lane.LaneEnd.{LaneEnd}
 
@@ -22,8 +22,9 @@ EndsWith remaining contents lane end (Err fault) = NeverBegins lane.reader end.r
     ⊎ Stops remaining contents MakesCall MakesNone (2 ^ 40) lane.reader end.reader lane.writer end.writer lane.pass end.pass fault
 
 -- the lane's session was served, and this is its end
-abbrev pub IsServed : {R W : Type 0} → (R → Option (List ℕ)) → (W → Option (List ℕ)) → Lane R W → LaneEnd R W → Type 0
-IsServed remaining contents lane end = EndsWith remaining contents lane end end.result
+pub record IsServed {R W : Type 0} (remaining : R → Option (List ℕ)) (contents : W → Option (List ℕ)) (lane : Lane R W) (end : LaneEnd R W) : Type 0 where
+  pub pass : GrowsTo lane.pass end.pass
+  pub text : EndsWith remaining contents lane end end.result
 
 -- each lane is ready
 abbrev pub AreReady : {R W : Type 0} → TableId → List (Lane R W) → Type 0

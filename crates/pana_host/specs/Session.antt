@@ -1,5 +1,5 @@
 -- What a session at a desk does to its pass.
-use Rattle.std.specs.Prelude.{◌≡◌, ℕ, List}
+use Rattle.std.specs.Prelude.{◌≡◌, ◌^◌, ◌≤◌, ℕ, List, length}
 use mathlib.Core.List.{IsPrefix}
 use Rattle.pana_hall.specs.declared.call.Call.{Call}
 use Rattle.pana_hall.specs.declared.reply.Reply.{Reply}
@@ -13,9 +13,15 @@ pub record MakesCall (old : PassView) (by : List ℕ) (call : Call) (reply : Rep
   pub run : IsHistory new.seen
   pub adds : AddsCall old new by call reply
 
--- the pass made no call: it may have seen more calls, of other passes
+-- the pass made no call, since 2^62 or more are finished: it may have seen more calls, of other passes
 pub record MakesNone (old new : PassView) : Type 0 where
   pub same : IsSamePass old new
   pub run : IsHistory new.seen
   pub seen : IsPrefix old.seen new.seen
   pub own : own_calls new ≡ own_calls old
+  pub spent : 2 ^ 62 ≤ length new.seen
+
+-- the pass before and after a session: the same, and it has seen what it had seen, and maybe more
+pub record GrowsTo (old new : PassView) : Type 0 where
+  pub same : IsSamePass old new
+  pub seen : IsPrefix old.seen new.seen

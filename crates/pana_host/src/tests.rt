@@ -1,5 +1,7 @@
 //! What no clause says: that sessions are served where memory is there, and lanes at the same time.
 
+ghost use Rattle.pana_host.specs.Lane.{IsReady};
+
 use crate::{Gate, Lane, OpenGate, host};
 use pana_turn::{Desk, Pass};
 use pana_wire::{Served, Tap};
@@ -46,7 +48,9 @@ impl<T: Clock> Gate for Holding<'_, T> {
     }
 }
 
-fn lane<'a>(alloc: Global, pass: Pass, input: &'a str) -> Lane<&'a [u8], Vec<u8>> {
+fn lane<'a>(alloc: Global, pass: Pass, input: &'a str) -> Lane<&'a [u8], Vec<u8>>
+    ensures { IsReady pass.desk result }
+{
     Lane {
         pass,
         reader: Tap::new(input.as_bytes()),
