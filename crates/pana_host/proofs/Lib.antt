@@ -1,0 +1,3 @@
+pub mod Booths
+pub mod Sending
+pub mod Sessions

@@ -1,0 +1,22 @@
+-- A lane may go to another thread, with its booth.
+use denote.RattleType.{RattleType}
+use denote.Param.SendFields.{declared_send}
+use denote.Param.Send.{IsSend}
+use Rattle.std.proofs.option.Option.TheSendSync as options
+use Rattle.std.proofs.result.Result.TheSendSync as results
+use Rattle.pana_wire.proofs.tap.Tap.TheSendSync as taps
+use Rattle.pana_wire.proofs.serving.Served.TheSendSync as served
+use Rattle.pana_wire.proofs.serving.ServeFault.TheSendSync as faults
+use Rattle.pana_turn.proofs.Sending.{pass_send}
+use Rattle.pana_host.specs.contracts.lane.Lane as lane
+use Rattle.pana_host.specs.contracts.lane.LaneEnd as lane_end
+use Rattle.pana_host.specs.contracts.hosting.Booth as booth
+
+lane_send : (R W : RattleType) → IsSend R → IsSend W → IsSend (lane.the_row R W)
+lane_send R W r w = declared_send (lane.the_type R W) (pass_send, (taps.the_send R r, (taps.the_send W w, tt)))
+
+end_send : (R W : RattleType) → IsSend R → IsSend W → IsSend (lane_end.the_row R W)
+end_send R W r w = declared_send (lane_end.the_type R W) (pass_send, (taps.the_send R r, (taps.the_send W w, (results.the_send _ _ served.the_send faults.the_send, tt))))
+
+pub booth_send : (R W : RattleType) → IsSend R → IsSend W → IsSend (booth.the_row R W)
+booth_send R W r w = declared_send (booth.the_type R W) (options.the_send _ (lane_send R W r w), (options.the_send _ (end_send R W r w), tt))

@@ -1,0 +1,27 @@
+-- What a session at a desk does to its pass.
+use Rattle.std.specs.Prelude.{◌≡◌, ◌^◌, ◌≤◌, ℕ, List, length}
+use mathlib.Core.List.{IsPrefix}
+use Rattle.pana_hall.specs.declared.call.Call.{Call}
+use Rattle.pana_hall.specs.declared.reply.Reply.{Reply}
+use Rattle.pana_turn.specs.History.{IsHistory}
+use Rattle.pana_turn.specs.Passes.{PassView, AddsCall, IsSamePass, own_calls}
+
+-- the pass made one call: what it has seen is a history that ends with the call and its reply, and between what it had
+-- seen and this call there are only calls of other passes
+pub record MakesCall (old : PassView) (by : List ℕ) (call : Call) (reply : Reply) (new : PassView) : Type 0 where
+  pub same : IsSamePass old new
+  pub run : IsHistory new.seen
+  pub adds : AddsCall old new by call reply
+
+-- the pass made no call, since 2^62 or more are finished: it may have seen more calls, of other passes
+pub record MakesNone (old new : PassView) : Type 0 where
+  pub same : IsSamePass old new
+  pub run : IsHistory new.seen
+  pub seen : IsPrefix old.seen new.seen
+  pub own : own_calls new ≡ own_calls old
+  pub spent : 2 ^ 62 ≤ length new.seen
+
+-- the pass before and after a session: the same, and it has seen what it had seen, and maybe more
+pub record GrowsTo (old new : PassView) : Type 0 where
+  pub same : IsSamePass old new
+  pub seen : IsPrefix old.seen new.seen

@@ -1,0 +1,90 @@
+//! A session whose calls are made at a desk.
+ghost use Rattle.std.specs.Prelude.{◌≡◌, IfOk, OnErr};
+ghost use Rattle.pana_host.specs.Session.{MakesCall, MakesNone};
+
+use crate::gate::Gate;
+use pana_copies::DeviceName;
+use pana_hall::{Call, Reply, Spent};
+use pana_turn::{Desk, Pass};
+use pana_wire::Session;
+use std::marker::Model;
+use std::sync::Wait;
+
+/// A session by a pass of a desk. To contracts it is the pass.
+pub struct DeskSession<'a, T, G> {
+    rt: &'a T,
+    desk: &'a Desk,
+    gate: &'a G,
+    lane: u32,
+    calls: u64,
+    pass: Pass,
+}
+
+impl<'a, T, G> Model for DeskSession<'a, T, G> {
+    ghost use Rattle.std.specs.Prelude.{◌≡◌};
+    ghost use Rattle.pana_turn.specs.Passes.{PassView};
+
+    ghost Value = { PassView };
+
+    ghost view = { λ session. session.pass };
+
+    ghost invariant = { λ session. session.pass.desk ≡ session.desk.now.id };
+}
+
+impl<'a, T, G> DeskSession<'a, T, G> {
+    /// A session of this lane by a pass of the desk. Takes no memory.
+    pub fn new(
+        rt: &'a T,
+        desk: &'a Desk,
+        gate: &'a G,
+        lane: u32,
+        pass: Pass,
+    ) -> DeskSession<'a, T, G>
+        requires { pass.desk ≡ desk.now.id }
+        ensures { result ≡ pass }
+    {
+        DeskSession {
+            rt,
+            desk,
+            gate,
+            lane,
+            calls: 0,
+            pass,
+        }
+    }
+
+    /// The pass. Takes no memory.
+    pub fn into_pass(self) -> Pass
+        ensures { result ≡ self.entry }
+    {
+        let DeskSession {
+            rt: _,
+            desk: _,
+            gate: _,
+            lane: _,
+            calls: _,
+            pass,
+        } = self;
+        pass
+    }
+}
+
+impl<T: Wait, G: Gate> Session for DeskSession<'_, T, G> {
+    ghost use Rattle.pana_host.specs.Session.{MakesCall, MakesNone};
+
+    ghost step = { MakesCall };
+
+    ghost spends = { MakesNone };
+
+    /// Makes the call at the desk, between the gate's questions.
+    fn call(&mut self, by: &DeviceName, call: Call) -> Result<Reply, Spent>
+        ensures step { IfOk result (λ reply. MakesCall self.old by.now call reply self.new) }
+        ensures spent { OnErr result (MakesNone self.old self.new) }
+    {
+        self.calls = self.calls.saturating_add(1);
+        self.gate.before(self.lane, self.calls);
+        let reply = self.desk.call(self.rt, &mut self.pass, by, call)?;
+        self.gate.after(self.lane, self.calls);
+        Ok(reply)
+    }
+}

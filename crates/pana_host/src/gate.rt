@@ -1,0 +1,22 @@
+//! What is asked before and after each call.
+
+/// What each caller asks before a call is handed to the desk, and after its reply has come, outside the caller's turn.
+///
+/// It can hold callers back, and has no part in what they call.
+pub trait Gate {
+    /// Before the caller's nth call, counted from 1. Lanes are numbered from 1; a scanner is 0.
+    fn before(&self, lane: u32, nth: u64);
+
+    /// After the reply to the caller's nth call.
+    fn after(&self, lane: u32, nth: u64);
+}
+
+/// A gate that lets all pass.
+#[derive(Clone, Copy, Debug, PartialEq, Eq)]
+pub struct OpenGate;
+
+impl Gate for OpenGate {
+    fn before(&self, _lane: u32, _nth: u64) {}
+
+    fn after(&self, _lane: u32, _nth: u64) {}
+}

@@ -1,0 +1,14 @@
+pub mod Histories
+pub mod Seats
+pub mod Tables
+pub mod Accounts
+pub mod Looking
+pub mod Taking
+pub mod Finishing
+pub mod Dividing
+pub mod Joining
+pub mod Calling
+pub mod Opening
+pub mod Ending
+pub mod Resting
+pub mod Sending

@@ -1,0 +1,83 @@
+-- A new desk: its table, and how passes are dealt.
+use Rattle.std.specs.Prelude.{◌≡◌, ℕ, zero, suc, ◌+◌, ◌-◌, ◌<◌, ◌≤◌, List, [], ◌∷◌, ◌++◌, map, Some}
+use Rattle.std.specs.List.{AllByRecursion, range_with_len}
+use Rattle.std.proofs.Common.{◌≢◌, refl, sym, ap, ◌∙◌, subst, inl, arith}
+use Rattle.std.proofs.lemmas.List.{map-append}
+use Rattle.std.proofs.lemmas.List.FromFn.{length-map-range_with_len}
+use mathlib.Core.Option.{some, some-injective, some-ne-none}
+use lib.ListN.{get_elem?}
+use Rattle.atomic_table.specs.Seated.{TableId}
+use Rattle.atomic_table.specs.Table.{opening, Splits}
+use Rattle.pana_turn.specs.declared.view.Account.{Account}
+use Rattle.pana_turn.specs.declared.view.Stage.TheVariants.{Idle, Turn}
+use Rattle.pana_turn.specs.declared.view.View.{View}
+use Rattle.pana_turn.specs.Rule.{Course, IsAccountOf, Fits, Keeps}
+use Rattle.pana_turn.specs.inner.Views.{view, first, new_account, accounts_from, kept, dealt}
+use Rattle.pana_turn.specs.Passes.{new_pass, new_passes}
+use Rattle.pana_turn.proofs.Dividing.{deals}
+
+-- what holds of each number from a on holds of each new account
+numbered : (P : ℕ → Type 0) (a n : ℕ) → ((k : ℕ) → a ≤ k → k < a + n → P k) → AllByRecursion (λ b. P b.number) (map new_account (range_with_len a n))
+numbered P a zero each = tt
+numbered P a (suc n) each = (each a (omega arith) (omega arith), numbered P (a + 1) n (λ k low high. each k (omega arith) (omega arith)))
+
+accounts_ok : (seats a n : ℕ) → a + n ≤ seats
+    → AllByRecursion (IsAccountOf seats (record { history = []; tickets = 0; speaker = λ _. 0; holder = λ _. 0 }) 0) (map new_account (range_with_len a n))
+accounts_ok seats a zero few = tt
+accounts_ok seats a (suc n) few = (record { within = omega arith; speaker = refl; mine = refl; seen = ([], refl) }, accounts_ok seats (a + 1) n (omega arith))
+
+only : (seats : ℕ) → Fits seats (record { history = []; tickets = 0; speaker = λ _. 0; holder = λ _. 0 }) 0 (first seats) → (j : ℕ) (u : View) → get_elem? (first seats ∷ []) j ≡ some u
+    → Fits seats (record { history = []; tickets = 0; speaker = λ _. 0; holder = λ _. 0 }) j u
+only seats fits zero u there = subst (Fits seats (record { history = []; tickets = 0; speaker = λ _. 0; holder = λ _. 0 }) 0) (some-injective (first seats) u there) fits
+only seats fits (suc j) u there = absurd (some-ne-none u (sym there))
+
+idle : (seats : ℕ) → (j : ℕ) (u : View) → get_elem? (first seats ∷ []) j ≡ some u → u.stage ≡ Turn → ⊥
+idle seats zero u there turn = let odd : Idle ≡ Turn = ap (λ y. y.stage) (some-injective (first seats) u there) ∙ turn in absurd (cc)
+idle seats (suc j) u there turn = absurd (some-ne-none u (sym there))
+
+-- the table of a new desk keeps the rule
+pub opens : (seats : ℕ) → seats ≤ 64 → Keeps seats (opening (0 ∷ 0 ∷ []) (Some [] ∷ []) (first seats))
+opens seats few =
+    let x : Course = record { history = []; tickets = 0; speaker = λ _. 0; holder = λ _. 0 } in
+    let fits : Fits seats x 0 (first seats) = record { seen = ([], refl); met = ([], refl); accounts = accounts_ok seats 0 (seats - 0) (omega arith); stage = tt; busy = omega arith } in (
+      x,
+      record {
+        words = refl;
+        run = tt;
+        known = (λ k d within. absurd (omega arith));
+        few = few;
+        given = (let long = length-map-range_with_len new_account 0 (seats - 0) in omega arith);
+        drawn = refl;
+        room = omega arith;
+        fits = only seats fits;
+        home = inl (refl, idle seats);
+      },
+    )
+
+range_more : (a n : ℕ) → a < n → range_with_len a (n - a) ≡ a ∷ range_with_len (a + 1) (n - (a + 1))
+range_more a n less = let step : n - a ≡ suc (n - (a + 1)) = omega arith in ap (range_with_len a) step
+
+-- the accounts that are left, with the next before the others
+pub accounts_more : (number seats : ℕ) → number < seats → accounts_from number seats ≡ new_account number ∷ accounts_from (number + 1) seats
+accounts_more number seats less = ap (map new_account) (range_more number seats less)
+
+-- the seat with the accounts that are left deals the next
+pub deals_next : (seats key id number : ℕ) → number < seats
+    → Splits (Keeps key) id (view (accounts_from number seats) [] [] Idle) (kept (view (accounts_from number seats) [] [] Idle)) (dealt (view (accounts_from number seats) [] [] Idle))
+deals_next seats key id number less =
+    let asks : List Account → Type 0 = λ accounts. Splits (Keeps key) id (view accounts [] [] Idle) (kept (view accounts [] [] Idle)) (dealt (view accounts [] [] Idle)) in
+    subst asks (sym (accounts_more number seats less))
+    (deals key id (new_account number) (accounts_from (number + 1) seats) [] [] (numbered (λ k. k ≢ number) (number + 1) (seats - (number + 1)) (λ k low high same. absurd (omega (arith, same)))))
+
+-- one number more
+pub range_push : (a n : ℕ) → range_with_len a (suc n) ≡ range_with_len a n ++ (a + n) ∷ []
+range_push a zero = ap (λ k. k ∷ []) (let e : a ≡ a + 0 = omega arith in e)
+range_push a (suc n) = ap (λ ks. a ∷ ks) (range_push (a + 1) n ∙ ap (λ k. range_with_len (a + 1) n ++ k ∷ []) (let e : a + 1 + n ≡ a + suc n = omega arith in e))
+
+-- one pass more
+pub passes_push : (desk : TableId) (n : ℕ) → new_passes desk (n + 1) ≡ new_passes desk n ++ new_pass desk n ∷ []
+passes_push desk n =
+    let step : n + 1 ≡ suc n = omega arith in
+    let plain : 0 + n ≡ n = omega arith in
+    ap (λ k. map (new_pass desk) (range_with_len 0 k)) step ∙ ap (map (new_pass desk)) (range_push 0 n) ∙ map-append (new_pass desk) (range_with_len 0 n) ((0 + n) ∷ [])
+    ∙ ap (λ k. new_passes desk n ++ new_pass desk k ∷ []) plain

@@ -1,0 +1,5 @@
+use Rattle.pana_turn.proofs.Resting.{away}
+use Rattle.pana_turn.proofs.laws.turn_has_seen_all.Goals as goal
+
+pub returns : goal.returns
+returns c = away

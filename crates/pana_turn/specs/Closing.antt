@@ -1,0 +1,33 @@
+-- The end of a desk.
+use Rattle.std.specs.Prelude.{◌≡◌, ◌==◌, ℕ, ◌<◌, Bool, true, false, List, length, All}
+use Rattle.std.specs.List.{list_any}
+use mathlib.Core.List.{IsPrefix}
+use Rattle.pana_journal.specs.declared.entry.Entry.{Entry}
+use Rattle.pana_turn.specs.declared.finished_call.FinishedCall.{FinishedCall}
+use Rattle.pana_turn.specs.History.{IsHistory, calls_of, journal_of}
+use Rattle.pana_turn.specs.Passes.{PassView, own_calls}
+
+-- the journal and the number of calls are those of one history of these passes' calls
+pub record Closes (seats : ℕ) (passes : List PassView) (journal : List Entry) (calls : ℕ) : Type 0 where
+  pub history : List FinishedCall
+  pub run : IsHistory history
+  pub left : journal ≡ journal_of history
+  pub counted : calls ≡ length history
+  -- it begins with what each pass has seen
+  pub seen : All (λ pass. IsPrefix pass.seen history) passes
+  -- its calls with a pass's number are that pass's own
+  pub own : All (λ pass. calls_of pass.number history ≡ own_calls pass) passes
+  -- and it has no others
+  pub others : All (λ finished. finished.pass < seats) history
+
+-- whether the list has the pass with this number
+abbrev pub has_pass : List PassView → ℕ → Bool
+has_pass passes number = list_any (λ pass. pass.number == number) passes
+
+-- the list has every pass of the desk
+abbrev pub HasAll : ℕ → List PassView → Type 0
+HasAll seats passes = (number : ℕ) → number < seats → has_pass passes number ≡ true
+
+-- a pass of the desk is missing
+abbrev pub LacksOne : ℕ → List PassView → Type 0
+LacksOne seats passes = (number : ℕ) × (number < seats) × (has_pass passes number ≡ false)

@@ -1,0 +1,5 @@
+pub mod History
+pub mod Passes
+pub mod Closing
+pub mod Rule
+pub mod inner

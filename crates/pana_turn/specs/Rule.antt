@@ -1,0 +1,114 @@
+-- What the table keeps true at every moment: its two words, its slot, and what each seat knows.
+use Rattle.std.specs.Prelude.{◌≡◌, ℕ, ◌+◌, ◌<◌, ◌≤◌, ◌⊎◌, List, [], ◌∷◌, length, slice_index, sum_by, All, Some}
+use Rattle.std.specs.Prelude.{Option as Maybe}
+use Rattle.std.specs.List.{AllByRecursion}
+use mathlib.Core.List.{IsPrefix}
+use mathlib.Core.Option.{Option, none, some}
+use lib.ListN.{get_elem?}
+use Rattle.atomic_table.specs.Table.{State}
+use Rattle.pana_journal.specs.declared.entry.Entry.{Entry}
+use Rattle.pana_turn.specs.declared.finished_call.FinishedCall.{FinishedCall}
+use Rattle.pana_turn.specs.declared.view.Account.{Account}
+use Rattle.pana_turn.specs.declared.view.Stage.{Stage}
+use Rattle.pana_turn.specs.declared.view.Stage.TheVariants.{Idle, Tested, Drawn, Turn}
+use Rattle.pana_turn.specs.declared.view.View.{View}
+use Rattle.pana_turn.specs.History.{IsHistory, calls_of, journal_of}
+
+-- what stands behind the words: the history, how many tickets were drawn, the seat that speaks for each pass, and the seat that drew each ticket
+pub record Course : Type 0 where
+  pub history : List FinishedCall
+  pub tickets : ℕ
+  pub speaker : ℕ → ℕ
+  pub holder : ℕ → ℕ
+
+-- the seat speaks for a pass of the desk, and the account has that pass's calls
+pub record IsAccountOf (seats : ℕ) (course : Course) (seat : ℕ) (account : Account) : Type 0 where
+  pub within : account.number < seats
+  pub speaker : course.speaker account.number ≡ seat
+  pub mine : calls_of account.number course.history ≡ account.mine
+  pub seen : IsPrefix account.seen course.history
+
+-- a ticket that was drawn is the seat's and isn't past; the turn is the seat's whose ticket is the number of finished calls, and it has seen them all
+abbrev pub FitsStage : Course → ℕ → List FinishedCall → Stage → Type 0
+FitsStage course seat seen Idle = Unit {0}
+FitsStage course seat seen Tested = Unit {0}
+FitsStage course seat seen (Drawn ticket) = (course.holder ticket ≡ seat) × (length course.history ≤ ticket) × (ticket < course.tickets)
+FitsStage course seat seen Turn = (course.holder (length course.history) ≡ seat) × (length course.history < course.tickets) × (seen ≡ course.history)
+
+-- 1 where a ticket was drawn whose call isn't finished
+abbrev pub drawn_at : Stage → ℕ
+drawn_at Idle = 0
+drawn_at Tested = 0
+drawn_at (Drawn ticket) = 1
+drawn_at Turn = 1
+
+abbrev pub drawn_by : View → ℕ
+drawn_by view = drawn_at view.stage
+
+-- 1 where a call is on its way
+abbrev pub busy_at : Stage → ℕ
+busy_at Idle = 0
+busy_at Tested = 1
+busy_at (Drawn ticket) = 1
+busy_at Turn = 1
+
+abbrev pub busy_by : View → ℕ
+busy_by view = busy_at view.stage
+
+-- how many passes a seat speaks for
+abbrev pub passes_of : View → ℕ
+passes_of view = length view.accounts
+
+-- what a seat has seen begins the history, its accounts are of its passes, and it is busy only with a pass
+pub record Fits (seats : ℕ) (course : Course) (seat : ℕ) (view : View) : Type 0 where
+  pub seen : IsPrefix view.seen course.history
+  pub met : IsPrefix view.met course.history
+  pub accounts : AllByRecursion (IsAccountOf seats course seat) view.accounts
+  pub stage : FitsStage course seat view.seen view.stage
+  pub busy : busy_by view ≤ passes_of view
+
+-- the hall is in its slot and no seat has the turn, or it is out and some seat has it
+abbrev pub IsHome : Course → List (Option (Maybe (List Entry))) → List View → Type 0
+IsHome course homes views =
+    ((homes ≡ some (Some (journal_of course.history)) ∷ []) × ((seat : ℕ) (view : View) → get_elem? views seat ≡ some view → view.stage ≡ Turn → ⊥))
+    ⊎ ((homes ≡ none ∷ []) × ((seat : ℕ) × (view : View) × (get_elem? views seat ≡ some view) × (view.stage ≡ Turn)))
+
+-- the table of a desk with this many passes, on this course
+pub record KeepsTo (seats : ℕ) (table : State (Maybe (List Entry)) View) (course : Course) : Type 0 where
+  -- word 0 is the number of tickets, word 1 that of finished calls
+  pub words : table.words ≡ course.tickets ∷ length course.history ∷ []
+  pub run : IsHistory course.history
+  pub known : All (λ finished. finished.pass < seats) course.history
+  pub few : seats ≤ 64
+  -- each pass has one seat that speaks for it
+  pub given : sum_by passes_of table.views ≡ seats
+  -- a ticket is drawn for each call, and the words never wrap
+  pub drawn : length course.history + sum_by drawn_by table.views ≡ course.tickets
+  pub room : length course.history + sum_by busy_by table.views ≤ 4611686018427387904 + seats
+  pub fits : (seat : ℕ) (view : View) → get_elem? table.views seat ≡ some view → Fits seats course seat view
+  pub home : IsHome course table.homes table.views
+
+-- there is such a course
+abbrev pub Keeps : ℕ → State (Maybe (List Entry)) View → Type 0
+Keeps seats table = (course : Course) × KeepsTo seats table course
+
+-- no call is on its way
+abbrev pub AllIdle : List View → Type 0
+AllIdle views = (seat : ℕ) (view : View) → get_elem? views seat ≡ some view → view.stage ≡ Idle
+
+-- the seat has the turn, with this view
+abbrev pub HasTurn : List View → ℕ → View → Type 0
+HasTurn views seat view = (get_elem? views seat ≡ some view) × (view.stage ≡ Turn)
+
+-- the hall is in its slot, its journal is that of a history, and both words are that history's length
+pub record IsAtRest (table : State (Maybe (List Entry)) View) : Type 0 where
+  pub history : List FinishedCall
+  pub run : IsHistory history
+  pub words : table.words ≡ length history ∷ length history ∷ []
+  pub home : table.homes ≡ some (Some (journal_of history)) ∷ []
+
+-- the hall is out, and what the seat has seen is a history, of the length in word 1
+pub record IsAway (table : State (Maybe (List Entry)) View) (view : View) : Type 0 where
+  pub run : IsHistory view.seen
+  pub finished : slice_index table.words 1 ≡ length view.seen
+  pub away : table.homes ≡ none ∷ []

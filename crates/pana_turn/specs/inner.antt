@@ -1,0 +1,4 @@
+-- Words that only inner functions and proofs need: nobody has to believe them.
+pub mod Views
+pub mod Steps
+pub mod Tables

@@ -1,0 +1,75 @@
+-- What seats know, and how that is divided and put together.
+use Rattle.std.specs.Prelude.{ℕ, ◌-◌, List, [], ◌∷◌, ◌++◌, map}
+use Rattle.std.specs.List.{range_with_len}
+use Rattle.pana_turn.specs.declared.finished_call.FinishedCall.{FinishedCall}
+use Rattle.pana_turn.specs.declared.view.Account.{Account}
+use Rattle.pana_turn.specs.declared.view.Stage.{Stage}
+use Rattle.pana_turn.specs.declared.view.Stage.TheVariants.{Idle}
+use Rattle.pana_turn.specs.declared.view.View.{View}
+use Rattle.pana_turn.specs.Passes.{PassView, own_calls}
+
+abbrev pub view : List Account → List FinishedCall → List FinishedCall → Stage → View
+view accounts seen met stage = record { accounts = accounts; seen = seen; met = met; stage = stage }
+
+abbrev pub account : ℕ → List FinishedCall → List FinishedCall → Account
+account number mine seen = record { number = number; mine = mine; seen = seen }
+
+-- the seat of a pass
+abbrev pub pass : ℕ → List FinishedCall → List FinishedCall → Stage → View
+pass number mine seen stage = view (account number mine [] ∷ []) seen [] stage
+
+-- a pass that made no call
+abbrev pub new_account : ℕ → Account
+new_account number = account number [] []
+
+-- the passes from this number on
+abbrev pub accounts_from : ℕ → ℕ → List Account
+accounts_from number seats = map new_account (range_with_len number (seats - number))
+
+-- the first seat speaks for every pass
+abbrev pub first : ℕ → View
+first seats = view (accounts_from 0 seats) [] [] Idle
+
+-- the first account alone, and the others
+abbrev pub one : List Account → List Account
+one [] = []
+one (a ∷ accounts) = a ∷ []
+
+abbrev pub others : List Account → List Account
+others [] = []
+others (a ∷ accounts) = accounts
+
+-- a seat deals its first account to a new one, and keeps the others
+abbrev pub dealt : View → View
+dealt v = view (one v.accounts) v.seen [] Idle
+
+abbrev pub kept : View → View
+kept v = view (others v.accounts) v.seen v.met v.stage
+
+-- the seat of a note has seen this and speaks for no pass
+abbrev pub note : List FinishedCall → View
+note seen = view [] seen [] Idle
+
+-- a note of what the seat has seen
+abbrev pub noted : View → View
+noted v = note v.seen
+
+-- a seat that was taken in
+abbrev pub spent : View
+spent = note []
+
+-- the seat has met what another had seen
+abbrev pub informed : View → View → View
+informed v w = view v.accounts v.seen w.seen v.stage
+
+-- the accounts remember what was seen
+abbrev pub sealed : List FinishedCall → List Account → List Account
+sealed seen accounts = map (λ a. account a.number a.mine seen) accounts
+
+-- the seat takes in another's accounts, with what that one had seen
+abbrev pub gathered : View → View → View
+gathered v w = view (v.accounts ++ sealed w.seen w.accounts) v.seen v.met v.stage
+
+-- a pass that was handed back: its number, its own calls, and what it had seen
+abbrev pub account_of : PassView → Account
+account_of p = account p.number (own_calls p) p.seen

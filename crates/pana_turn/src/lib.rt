@@ -1,0 +1,20 @@
+//! The desk: one hall for many threads. Calls take turns at it, one at a time, each once, in each caller's order.
+#![tactic(auto)]
+
+mod closing;
+mod dealing;
+mod desk;
+mod finished_call;
+pub mod laws;
+mod pass;
+mod plays;
+mod turn;
+mod turns;
+mod view;
+
+pub use crate::desk::{CloseRefused, Closed, Desk};
+pub use crate::finished_call::FinishedCall;
+pub use crate::pass::{Note, Pass};
+
+#[cfg(test)]
+mod tests;

@@ -1,0 +1,85 @@
+//! A turn: to wait for it, and to end it.
+
+ghost use Rattle.std.specs.Prelude.{◌≡◌, ◌++◌, [], ◌∷◌, IsFalse, IsTrue, None, Some};
+ghost use Rattle.pana_hall.specs.Permit.{Permits, journal_after};
+ghost use Rattle.pana_turn.specs.declared.view.Stage.TheVariants.{Drawn, Idle, Tested, Turn};
+ghost use Rattle.pana_turn.specs.History.{IsHistory, calls_of, journal_of};
+ghost use Rattle.pana_turn.specs.inner.Steps.{SeesMore};
+ghost use Rattle.pana_turn.specs.inner.Views.{pass};
+
+use crate::plays::{Await, Draw, Finish, Naming};
+use crate::turns::{Floor, Place};
+use pana_copies::DeviceName;
+use pana_hall::{Call, Hall, Reply};
+use std::snapshot::Snapshot;
+use std::sync::Wait;
+use std::thread;
+
+/// A look whether the ticket's turn has come. Where it has, the hall's slot is the seat's.
+fn has_come(floor: &Floor, seat: &mut Place, number: u32, ticket: u64) -> bool
+    requires floor { (floor.now.table_id.words ≡ 2) × (floor.now.table_id.slots ≡ 1) }
+    requires seat { (seat.old.table_id ≡ floor.now.table_id) × (seat.old.me ≡ (pass number (calls_of number seat.old.me.0.seen) seat.old.me.0.seen (Drawn ticket), [])) }
+    ensures table { seat.new.table_id ≡ seat.old.table_id }
+    ensures come { IsTrue result → seat.new.me ≡ (pass number (calls_of number seat.old.me.0.seen) seat.new.me.0.seen Turn, (0, Some (journal_of seat.new.me.0.seen)) ∷ []) }
+    ensures early { IsFalse result → seat.new.me ≡ (pass number (calls_of number seat.old.me.0.seen) seat.new.me.0.seen (Drawn ticket), []) }
+    ensures looked { SeesMore number seat.old.me.0.seen seat.new.me.0.seen }
+{
+    floor.load::<Await>(seat, 1) == ticket
+}
+
+/// Waits until the ticket's turn has come.
+fn await_turn<R: Wait>(rt: &R, floor: &Floor, seat: &mut Place, number: u32, ticket: u64)
+    requires floor { (floor.now.table_id.words ≡ 2) × (floor.now.table_id.slots ≡ 1) }
+    requires seat { (seat.old.table_id ≡ floor.now.table_id) × (seat.old.me ≡ (pass number (calls_of number seat.old.me.0.seen) seat.old.me.0.seen (Drawn ticket), [])) }
+    ensures table { seat.new.table_id ≡ seat.old.table_id }
+    ensures turn { seat.new.me ≡ (pass number (calls_of number seat.old.me.0.seen) seat.new.me.0.seen Turn, (0, Some (journal_of seat.new.me.0.seen)) ∷ []) }
+    ensures looked { SeesMore number seat.old.me.0.seen seat.new.me.0.seen }
+{
+    for _ in rt.forever() {
+        if has_come(floor, seat, number, ticket) {
+            return;
+        }
+        thread::yield_now();
+    }
+    unreachable!()
+}
+
+/// Draws a ticket, waits until that number of calls is finished, and takes the hall.
+pub(crate) fn take_turn<R: Wait>(rt: &R, floor: &Floor, seat: &mut Place, number: u32) -> Hall
+    requires floor { (floor.now.table_id.words ≡ 2) × (floor.now.table_id.slots ≡ 1) }
+    requires seat { (seat.old.table_id ≡ floor.now.table_id) × (seat.old.me ≡ (pass number (calls_of number seat.old.me.0.seen) seat.old.me.0.seen Tested, [])) }
+    ensures seat { (seat.new.table_id ≡ seat.old.table_id) × (seat.new.me ≡ (pass number (calls_of number seat.old.me.0.seen) seat.new.me.0.seen Turn, (0, None) ∷ [])) }
+    ensures looked { SeesMore number seat.old.me.0.seen seat.new.me.0.seen }
+    ensures hall { result ≡ journal_of seat.new.me.0.seen }
+{
+    let ticket = floor.fetch_add::<Draw>(seat, 0, 1);
+    await_turn(rt, floor, seat, number, ticket);
+    let Some(hall) = floor.exchange(seat, 0, None) else {
+        unreachable!()
+    };
+    hall
+}
+
+/// Puts the hall back after a call, and ends the turn: the call is finished.
+pub(crate) fn give_turn<C: Naming>(
+    floor: &Floor,
+    seat: &mut Place,
+    hall: Hall,
+    number: u32,
+    by: &DeviceName,
+    call: Snapshot<Call>,
+    reply: &Reply,
+)
+    requires floor { (floor.now.table_id.words ≡ 2) × (floor.now.table_id.slots ≡ 1) }
+    requires seat { (seat.old.table_id ≡ floor.now.table_id) × (seat.old.me ≡ (pass number (calls_of number seat.old.me.0.seen) seat.old.me.0.seen Turn, (0, None) ∷ [])) }
+    requires named { C.finished ≡ record { pass = number; by = by.now; call = call.value; reply = reply.now } }
+    requires permitted { Permits (journal_of seat.old.me.0.seen) by.now call.value reply.now }
+    requires hall { hall ≡ journal_after (journal_of seat.old.me.0.seen) by.now call.value reply.now }
+    ensures table { seat.new.table_id ≡ seat.old.table_id }
+    ensures finished { seat.new.me ≡ (pass number (calls_of number seat.old.me.0.seen ++ C.finished ∷ []) (seat.old.me.0.seen ++ C.finished ∷ []) Idle, []) }
+    ensures own { calls_of number (seat.old.me.0.seen ++ C.finished ∷ []) ≡ calls_of number seat.old.me.0.seen ++ C.finished ∷ [] }
+    ensures run { IsHistory (seat.old.me.0.seen ++ C.finished ∷ []) }
+{
+    floor.exchange(seat, 0, Some(hall));
+    floor.fetch_add::<Finish<C>>(seat, 1, 1);
+}

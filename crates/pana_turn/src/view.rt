@@ -1,0 +1,28 @@
+use crate::finished_call::FinishedCall;
+use std::collections::LinkedList;
+
+/// A pass that a seat speaks for: its number, the calls that it made, and what it had seen when it was handed back.
+/// No value of it is made.
+pub struct Account {
+    pub number: u32,
+    pub mine: LinkedList<FinishedCall>,
+    pub seen: LinkedList<FinishedCall>,
+}
+
+/// How far a seat is with a call: none is on its way; the test found that calls are left; it has drawn this ticket; the
+/// turn is its own. No value of it is made.
+pub enum Stage {
+    Idle,
+    Tested,
+    Drawn(u64),
+    Turn,
+}
+
+/// What a seat knows: the passes that it speaks for, the history that it has seen, what the note that it met last had
+/// seen, and how far it is with a call. No value of it is made.
+pub struct View {
+    pub accounts: LinkedList<Account>,
+    pub seen: LinkedList<FinishedCall>,
+    pub met: LinkedList<FinishedCall>,
+    pub stage: Stage,
+}
