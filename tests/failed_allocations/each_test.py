@@ -4,9 +4,10 @@
 usage: each_test.py CRATE..
 
 A test passes with no failed allocation. With one it ends with an error that says so, AllocError, AllocFailed
-or OutOfMemory: not with another answer, a failed assertion or a crash. A test of STARTS_THREADS may also pass: a thread that
-can't be made, as memory runs out, is done without. What it leaves in the folder for temporary files is taken away. Of a test with more than MOST
-allocations, MOST fail in turn, evenly spread. The tests are those that `rt ci` or `rt test` has built.
+or OutOfMemory: not with another answer, a failed assertion or a crash. A test of STARTS_THREADS may also pass: a
+thread that can't be made, as memory runs out, is done without. What a test leaves in the folder for temporary files
+is taken away. Of a test with more than MOST allocations, MOST fail in turn, evenly spread. The tests are those that
+`rt ci` or `rt test` has built.
 The last line is 'N passed, M failed', one for each crate.
 """
 from __future__ import annotations
