@@ -30,6 +30,15 @@ fn entry_of(reply: Result<Reply, Spent>) -> Option<u64> {
     }
 }
 
+/// How many rows the board has, or 0 where the reply is none. `None` where memory ran out.
+fn rows_of(reply: Reply) -> Option<usize> {
+    match reply {
+        Reply::Board(board) => Some(board.rows.as_slice().len()),
+        Reply::Refused(Cause::OutOfMemory) => None,
+        _ => Some(0),
+    }
+}
+
 #[test]
 fn shared_desk(rt: HostRuntime) -> Result<(), Fail> {
     let alloc = rt.alloc();
@@ -43,19 +52,12 @@ fn shared_desk(rt: HostRuntime) -> Result<(), Fail> {
     };
 
     let done = desk.call(&rt, &mut first, &laptop, register(alloc, "laptop")?);
-    assert_eq!(rt; entry_of(done).ok_or(AllocError)?, 1);
+    let entry = entry_of(done).ok_or(AllocError)?;
+    assert_eq!(rt; entry, 1);
     assert_eq!(rt; desk.glance(&mut second), 1);
-    let board = desk.call(
-        &rt,
-        &mut second,
-        &laptop,
-        Call::Query(Query::Board { family: 1 }),
-    )?;
-    match board {
-        Reply::Board(board) => assert_eq!(rt; board.rows.as_slice().len(), 1),
-        Reply::Refused(Cause::OutOfMemory) => return Err(AllocError)?,
-        _ => assert!(rt; false),
-    }
+    let query = Call::Query(Query::Board { family: 1 });
+    let rows = rows_of(desk.call(&rt, &mut second, &laptop, query)?).ok_or(AllocError)?;
+    assert_eq!(rt; rows, 1);
     let note = desk.note(&mut first);
     desk.meet(&mut second, note);
     assert_eq!(rt; desk.glance(&mut first), 2);

@@ -13,7 +13,42 @@ use pana_copies::DeviceName;
 use pana_hall::{Call, Hall, Reply};
 use std::snapshot::Snapshot;
 use std::sync::Wait;
-use std::thread;
+use std::sync::atomic::AtomicU64;
+use std::time::Duration;
+use std::{hint, thread};
+
+/// How often a caller looks whether the desk is free before it sleeps.
+const LOOKS: u32 = 8;
+
+/// How long it sleeps then, in microseconds.
+const NAP: u64 = 50;
+
+/// Whether no call is on its way. Another caller may draw a ticket at once.
+fn is_free(floor: &Floor) -> bool
+    requires { floor.now.table_id.words ≡ 2 }
+{
+    let finished = floor.peek(1);
+    floor.peek(0) == finished
+}
+
+/// Waits until no call is on its way, or nearly so. It sleeps on a word of its own, which nobody changes.
+///
+/// Tickets are taken in order, so a caller that holds one and has no processor keeps all behind it waiting. Callers that
+/// wait here hold none.
+fn await_rest<R: Wait>(rt: &R, floor: &Floor)
+    requires { floor.now.table_id.words ≡ 2 }
+{
+    let nap = AtomicU64::new(0);
+    for _ in rt.forever() {
+        for _ in 0..LOOKS {
+            if is_free(floor) {
+                return;
+            }
+            hint::spin_loop();
+        }
+        nap.park_timeout(rt, 0, Duration::from_micros(NAP));
+    }
+}
 
 /// A look whether the ticket's turn has come. Where it has, the hall's slot is the seat's.
 fn has_come(floor: &Floor, seat: &mut Place, number: u32, ticket: u64) -> bool
@@ -52,6 +87,7 @@ pub(crate) fn take_turn<R: Wait>(rt: &R, floor: &Floor, seat: &mut Place, number
     ensures looked { SeesMore number seat.old.me.0.seen seat.new.me.0.seen }
     ensures hall { result ≡ journal_of seat.new.me.0.seen }
 {
+    await_rest(rt, floor);
     let ticket = floor.fetch_add::<Draw>(seat, 0, 1);
     await_turn(rt, floor, seat, number, ticket);
     let Some(hall) = floor.exchange(seat, 0, None) else {
