@@ -1,0 +1,222 @@
+ghost use Rattle.std.specs.Prelude.{◌≡◌, ◌⊎◌, ℕ, List, [], ◌∷◌, ◌++◌, true, false, IsTrue, length, take, drop, IfOk, OnOk, OnErr, IfErr, IsErrOf};
+ghost use Rattle.pana_keep.specs.Calls.{file_after, file_of, MayLeave, LeftSince, left_now, left_last};
+
+use crate::call::Call;
+use crate::device::Device;
+use crate::device_fault::DeviceFault;
+use std::alloc::{AllocError, Global};
+
+/// A device in memory, for tests. It keeps its first content and each call since, so that a crash at any moment can be
+/// tried; and it can be made to fail.
+#[derive(Drop)]
+pub struct MemoryDevice {
+    alloc: Global,
+    first: Vec<u8>,
+    calls: Vec<Call>,
+    /// How many calls are still done before one fails.
+    calls_left: usize,
+    is_usable: bool,
+    has_failed: bool,
+}
+
+/// A crash of a device in memory: when it came, and what of the writes since the last sync had reached the disk by then.
+#[derive(Clone, Copy, Debug, PartialEq, Eq)]
+pub struct Crash {
+    /// After so many calls, the last of which may be torn.
+    pub calls: usize,
+    /// How many bytes of the writes had reached the disk, and whether they are the last ones.
+    pub written: usize,
+    pub is_from_end: bool,
+    /// What stands where a byte of a write hadn't.
+    pub other: u8,
+}
+
+impl MemoryDevice {
+    ghost use Rattle.pana_keep.specs.Memory.{IsFresh};
+
+    /// A device with these bytes, all of them on the disk. Takes no memory.
+    pub fn new(alloc: Global, bytes: Vec<u8>) -> MemoryDevice
+        ensures { IsFresh bytes.items result }
+    {
+        MemoryDevice {
+            alloc,
+            first: bytes,
+            calls: Vec::new(alloc),
+            calls_left: usize::MAX,
+            is_usable: true,
+            has_failed: false,
+        }
+    }
+
+    /// The same device, whose writes, cuts and syncs fail after so many more.
+    pub fn failing_after(self, calls: usize) -> MemoryDevice
+        ensures { (result.first ≡ self.first) × (result.calls ≡ self.calls) × (result.is_usable ≡ self.is_usable) × (result.has_failed ≡ self.has_failed) }
+    {
+        let MemoryDevice {
+            alloc,
+            first,
+            calls: done,
+            calls_left: _,
+            is_usable,
+            has_failed,
+        } = self;
+        MemoryDevice {
+            alloc,
+            first,
+            calls: done,
+            calls_left: calls,
+            is_usable,
+            has_failed,
+        }
+    }
+
+    /// How many writes, cuts and syncs it has done.
+    pub fn calls(&self) -> usize
+        ensures { result ≡ length self.now.calls.items }
+    {
+        self.calls.len()
+    }
+
+    /// What a crash leaves. Fails only where memory runs out.
+    pub fn after_crash(&self, crash: Crash) -> Result<Vec<u8>, AllocError> {
+        let mut file = self.first.to_vec(self.alloc)?;
+        let mut durable = self.first.to_vec(self.alloc)?;
+        let mut left = crash.written;
+        for call in self.calls.iter().take(crash.calls) {
+            file = apply(self.alloc, &file, call)?;
+            match call {
+                Call::Write { at, bytes } => {
+                    tear(&mut durable, *at, bytes, &mut left, crash)?;
+                }
+                Call::Cut { len } => {
+                    if left > 0 {
+                        durable.truncate(*len);
+                    }
+                }
+                Call::Sync => {
+                    durable = file.to_vec(self.alloc)?;
+                    left = crash.written;
+                }
+            }
+        }
+        Ok(durable)
+    }
+
+    /// Does one call, or fails.
+    fn record(&mut self, call: Call) -> Result<(), DeviceFault>
+        ensures ok { OnOk result (self.new.calls.items ≡ self.old.calls.items ++ call ∷ []) }
+        ensures err { OnErr result (self.new.calls.items ≡ self.old.calls.items) }
+        ensures cause { OnErr result (self.new.has_failed ≡ true) }
+        ensures first { self.new.first.items ≡ self.old.first.items }
+        ensures usable { self.new.is_usable ≡ self.old.is_usable }
+    {
+        if self.calls_left == 0 {
+            self.has_failed = true;
+            return Err(DeviceFault::Failed);
+        }
+        self.calls_left -= 1;
+        if self.calls.push(call).is_err() {
+            self.has_failed = true;
+            return Err(DeviceFault::OutOfMemory);
+        }
+        Ok(())
+    }
+}
+
+/// Puts bytes of a write over those of a file, and another byte where one hadn't reached the disk.
+fn tear(
+    file: &mut Vec<u8>,
+    at: usize,
+    bytes: &[u8],
+    left: &mut usize,
+    crash: Crash,
+) -> Result<(), AllocError> {
+    for (i, byte) in bytes.iter().enumerate() {
+        let is_written = if crash.is_from_end {
+            bytes.len() - i <= *left
+        } else {
+            i < *left
+        };
+        let torn = if is_written { *byte } else { crash.other };
+        match at.checked_add(i) {
+            Some(position) if position < file.len() => file[position] = torn,
+            _ => file.push(torn)?,
+        }
+    }
+    *left = left.saturating_sub(bytes.len());
+    Ok(())
+}
+
+/// The file as it is read after a call.
+fn apply(alloc: Global, file: &[u8], call: &Call) -> Result<Vec<u8>, AllocError>
+    ensures { IfOk result (λ after. after.items ≡ file_after call.now file.now) }
+{
+    match call {
+        Call::Write { at, bytes } => {
+            let mut after = file[..(*at).min(file.len())].to_vec(alloc)?;
+            after.extend_from_slice(bytes)?;
+            let end = at.saturating_add(bytes.len()).min(file.len());
+            after.extend_from_slice(&file[end..])?;
+            Ok(after)
+        }
+        Call::Cut { len } => Ok(file[..(*len).min(file.len())].to_vec(alloc)?),
+        Call::Sync => Ok(file.to_vec(alloc)?),
+    }
+}
+
+/// The file as it is read after these calls.
+fn replay(alloc: Global, first: &[u8], calls: &[Call]) -> Result<Vec<u8>, AllocError>
+    ensures { IfOk result (λ file. file.items ≡ file_of first.now calls.now) }
+{
+    let mut file = first.to_vec(alloc)?;
+    for call in calls {
+        file = apply(alloc, &file, call)?;
+    }
+    Ok(file)
+}
+
+impl Device for MemoryDevice {
+    ghost is_known = { true };
+
+    ghost seen = { λ m. file_of m.first.items m.calls.items };
+
+    ghost may_leave = { λ m c. MayLeave m.first.items m.calls.items c };
+
+    ghost moment = { λ m. length m.calls.items };
+
+    ghost left_since = { λ m t c. LeftSince m.first.items m.calls.items t c };
+
+    ghost is_usable = { λ m. m.is_usable };
+
+    ghost has_failed = { λ m. m.has_failed };
+
+    ghost counts_now = { λ m t c within left. left_now m.first.items m.calls.items t c within left };
+
+    ghost only_now = { λ m c left. left_last m.first.items m.calls.items c left };
+
+    fn read(&mut self, alloc: Global) -> Result<Vec<u8>, DeviceFault> {
+        Ok(replay(alloc, &self.first, &self.calls)?)
+    }
+
+    fn write_at(&mut self, at: usize, bytes: &[u8]) -> Result<(), DeviceFault> {
+        let Ok(bytes) = bytes.to_vec(self.alloc) else {
+            self.has_failed = true;
+            return Err(DeviceFault::OutOfMemory);
+        };
+        self.record(Call::Write { at, bytes })?;
+        Ok(())
+    }
+
+    fn cut(&mut self, len: usize) -> Result<(), DeviceFault> {
+        self.record(Call::Cut { len })?;
+        Ok(())
+    }
+
+    fn sync(&mut self) -> Result<(), DeviceFault> {
+        if let Err(fault) = self.record(Call::Sync) {
+            self.is_usable = false;
+            return Err(fault);
+        }
+        Ok(())
+    }
+}
