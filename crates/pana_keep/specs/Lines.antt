@@ -1,5 +1,6 @@
 -- The lines that a file stands for.
-use Rattle.std.specs.Prelude.{◌≡◌, ◌⊎◌, ◌<◌, ◌≤◌, ◌+◌, ◌^◌, ℕ, Bool, true, false, List, [], ◌∷◌, ◌++◌, length, take, drop, if◌then◌else◌, ◌==◌}
+use Rattle.std.specs.Prelude.{◌≡◌, ◌⊎◌, ◌<◌, ◌≤◌, ◌+◌, ◌^◌, ℕ, Bool, true, false, List, [], ◌∷◌, ◌++◌, length, take, drop, if◌then◌else◌, ◌==◌, not}
+use Rattle.std.specs.List.{list_any}
 
 -- a line counts only if it begins with `{`: its gate
 abbrev pub opens : List ℕ → Bool
@@ -36,6 +37,15 @@ ungated (b ∷ bs) = if b == 0 then length bs else length bs + 1
 -- how many bytes stand behind the lines of a file, a closed gate not counted
 abbrev pub torn_length : List ℕ → ℕ
 torn_length file = ungated (drop (length (text_of (recovered file))) file)
+
+-- whether this may stand behind the lines of a journal: nothing, a closed gate and anything, or a line cut short
+abbrev pub ends_journal : List ℕ → Bool
+ends_journal [] = true
+ends_journal (b ∷ bs) = if b == 0 then true else (if b == 123 then not (list_any (λ x. x == 10) bs) else false)
+
+-- whether the file is one that a journal may have left
+abbrev pub is_journal : List ℕ → Bool
+is_journal file = ends_journal (drop (length (text_of (recovered file))) file)
 
 -- no newline in it
 abbrev pub HasNoBreak : List ℕ → Type 0

@@ -1,9 +1,16 @@
 -- Devices in memory.
-use Rattle.std.specs.Prelude.{◌≡◌, true, List, ℕ, []}
+use Rattle.std.specs.Prelude.{Bool, List, ℕ}
 use Rattle.pana_keep.specs.declared.memory.MemoryDevice.{MemoryDevice}
+use Rattle.pana_keep.specs.Calls.{file_of, MayLeave}
 
--- these bytes are on the disk, and no call was made
-pub record IsFresh (bytes : List ℕ) (device : MemoryDevice) : Type 0 where
-  pub first : device.first.items ≡ bytes
-  pub calls : device.calls.items ≡ []
-  pub usable : device.is_usable ≡ true
+-- the bytes that a read returns
+abbrev pub bytes_of : MemoryDevice → List ℕ
+bytes_of device = file_of device.first.items device.calls.items
+
+-- a crash may leave these bytes
+abbrev pub LeavesAfterCrash : MemoryDevice → List ℕ → Type 0
+LeavesAfterCrash device bytes = MayLeave device.first.items device.calls.items bytes
+
+-- no sync has failed
+abbrev pub is_usable_of : MemoryDevice → Bool
+is_usable_of device = device.is_usable

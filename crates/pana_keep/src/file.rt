@@ -63,11 +63,15 @@ impl Device for FileDevice {
     }
 
     fn write_at(&mut self, at: usize, bytes: &[u8]) -> Result<(), DeviceFault> {
-        self.file.write_all_at(bytes, at as u64).map_err(|error| fault_of(&error))
+        self.file
+            .write_all_at(bytes, at as u64)
+            .map_err(|error| fault_of(&error))
     }
 
     fn cut(&mut self, len: usize) -> Result<(), DeviceFault> {
-        self.file.set_len(len as u64).map_err(|error| fault_of(&error))
+        self.file
+            .set_len(len as u64)
+            .map_err(|error| fault_of(&error))
     }
 
     fn sync(&mut self) -> Result<(), DeviceFault> {

@@ -84,6 +84,7 @@ impl<D: Device> Keeper<D> {
         requires kept { IsTrue D.is_known → IsKept D.seen D.may_leave D.is_usable self.old }
         ensures kept { IsTrue D.is_known → IsKept D.seen D.may_leave D.is_usable self.new }
         ensures ok { OnOk result (self.new.texts.items ≡ self.old.texts.items ++ texts.items) }
+        ensures works { OnOk result (self.new.is_broken ≡ false) }
         ensures err { OnErr result ((n : ℕ) × (self.new.texts.items ≡ self.old.texts.items ++ take n texts.items)) }
 
         // A crash at any moment of the run leaves the first n of the texts of now, all that were kept before it among

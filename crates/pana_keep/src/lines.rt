@@ -1,5 +1,5 @@
 ghost use Rattle.std.specs.Prelude.{◌≡◌, ◌≤◌, ◌↔◌, IsTrue, length};
-ghost use Rattle.pana_keep.specs.Lines.{recovered, text_of, ungated, IsWhole};
+ghost use Rattle.pana_keep.specs.Lines.{recovered, text_of, ungated, ends_journal, IsWhole};
 
 /// Whether a text is of whole lines, one at least: each begins with `{` and ends with a newline. O(n), takes no memory.
 pub fn is_whole(text: &[u8]) -> bool
@@ -32,5 +32,17 @@ pub(crate) fn ungated_length(rest: &[u8]) -> usize
     match rest {
         [0, behind @ ..] => behind.len(),
         _ => rest.len(),
+    }
+}
+
+/// Whether this may stand behind the lines of a journal: nothing, a closed gate and anything, or a line cut short.
+pub(crate) fn can_end_journal(rest: &[u8]) -> bool
+    ensures { result ≡ ends_journal rest.now }
+{
+    match rest {
+        [] => true,
+        [0, ..] => true,
+        [b'{', behind @ ..] => !behind.contains(&b'\n'),
+        _ => false,
     }
 }

@@ -1,5 +1,5 @@
 ghost use Rattle.std.specs.Prelude.{◌≡◌, ◌⊎◌, ℕ, List, [], ◌∷◌, ◌++◌, true, false, IsTrue, length, take, drop, IfOk, OnOk, OnErr, IfErr, IsErrOf};
-ghost use Rattle.pana_keep.specs.Calls.{file_after, file_of, MayLeave, LeftSince, left_now, left_last};
+ghost use Rattle.pana_keep.specs.Calls.{file_after, file_of, LeftSince, left_now, left_last};
 
 use crate::call::Call;
 use crate::device::Device;
@@ -13,7 +13,7 @@ pub struct MemoryDevice {
     alloc: Global,
     first: Vec<u8>,
     calls: Vec<Call>,
-    /// How many calls are still done before one fails.
+    /// How many writes, cuts and syncs are still done before one fails.
     calls_left: usize,
     is_usable: bool,
     has_failed: bool,
@@ -32,41 +32,29 @@ pub struct Crash {
 }
 
 impl MemoryDevice {
-    ghost use Rattle.pana_keep.specs.Memory.{IsFresh};
+    ghost use Rattle.pana_keep.specs.Journal.{IsDurable};
+    ghost use Rattle.pana_keep.specs.Memory.{bytes_of, LeavesAfterCrash, is_usable_of};
 
     /// A device with these bytes, all of them on the disk. Takes no memory.
     pub fn new(alloc: Global, bytes: Vec<u8>) -> MemoryDevice
-        ensures { IsFresh bytes.items result }
+        ensures bytes { bytes_of result ≡ bytes.items }
+        ensures durable { IsDurable bytes_of LeavesAfterCrash is_usable_of result }
+    {
+        MemoryDevice::failing_after(alloc, bytes, usize::MAX)
+    }
+
+    /// The same, where one write, cut or sync fails after so many were done.
+    pub fn failing_after(alloc: Global, bytes: Vec<u8>, calls: usize) -> MemoryDevice
+        ensures bytes { bytes_of result ≡ bytes.items }
+        ensures durable { IsDurable bytes_of LeavesAfterCrash is_usable_of result }
     {
         MemoryDevice {
             alloc,
             first: bytes,
             calls: Vec::new(alloc),
-            calls_left: usize::MAX,
+            calls_left: calls,
             is_usable: true,
             has_failed: false,
-        }
-    }
-
-    /// The same device, whose writes, cuts and syncs fail after so many more.
-    pub fn failing_after(self, calls: usize) -> MemoryDevice
-        ensures { (result.first ≡ self.first) × (result.calls ≡ self.calls) × (result.is_usable ≡ self.is_usable) × (result.has_failed ≡ self.has_failed) }
-    {
-        let MemoryDevice {
-            alloc,
-            first,
-            calls: done,
-            calls_left: _,
-            is_usable,
-            has_failed,
-        } = self;
-        MemoryDevice {
-            alloc,
-            first,
-            calls: done,
-            calls_left: calls,
-            is_usable,
-            has_failed,
         }
     }
 
@@ -111,6 +99,7 @@ impl MemoryDevice {
         ensures usable { self.new.is_usable ≡ self.old.is_usable }
     {
         if self.calls_left == 0 {
+            self.calls_left = usize::MAX;
             self.has_failed = true;
             return Err(DeviceFault::Failed);
         }
@@ -176,17 +165,19 @@ fn replay(alloc: Global, first: &[u8], calls: &[Call]) -> Result<Vec<u8>, AllocE
 }
 
 impl Device for MemoryDevice {
+    ghost use Rattle.pana_keep.specs.Memory.{bytes_of, LeavesAfterCrash, is_usable_of};
+
     ghost is_known = { true };
 
-    ghost seen = { λ m. file_of m.first.items m.calls.items };
+    ghost seen = { bytes_of };
 
-    ghost may_leave = { λ m c. MayLeave m.first.items m.calls.items c };
+    ghost may_leave = { LeavesAfterCrash };
 
     ghost moment = { λ m. length m.calls.items };
 
     ghost left_since = { λ m t c. LeftSince m.first.items m.calls.items t c };
 
-    ghost is_usable = { λ m. m.is_usable };
+    ghost is_usable = { is_usable_of };
 
     ghost has_failed = { λ m. m.has_failed };
 

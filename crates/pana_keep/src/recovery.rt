@@ -1,12 +1,12 @@
-ghost use Rattle.std.specs.Prelude.{◌≡◌, IsTrue, length, IfOk, OnOk, OnErr};
+ghost use Rattle.std.specs.Prelude.{◌≡◌, true, false, IsTrue, length, IfOk, OnOk, OnErr};
 ghost use Rattle.pana_keep.specs.Device.{LeavesOnly, HasCause};
-ghost use Rattle.pana_keep.specs.Lines.{recovered, text_of, torn_length};
+ghost use Rattle.pana_keep.specs.Lines.{recovered, text_of, torn_length, is_journal};
 ghost use Rattle.pana_keep.specs.Journal.{IsDurable, IsSettled};
 
 use crate::device::Device;
 use crate::device_fault::DeviceFault;
 use crate::journal::Journal;
-use crate::lines::{ungated_length, whole_length};
+use crate::lines::{can_end_journal, ungated_length, whole_length};
 use std::alloc::Global;
 
 /// What a file stood for when it was opened.
@@ -16,16 +16,22 @@ pub struct Recovery {
     pub text: Vec<u8>,
     /// How many bytes stood behind them, a closed gate not counted: what a crash left of other lines.
     pub torn: usize,
+    /// Whether they are what a crash leaves of a journal: nothing, a closed gate and anything, or a line cut short. If
+    /// not, the file is something else.
+    pub is_journal: bool,
 }
 
 impl<D: Device> Journal<D> {
-    /// Reads the lines of a file that a crash may have left, and cuts off what stands behind them. It may crash too.
+    /// Reads the lines of a file that a crash may have left, and cuts off what stands behind them. It may crash too. A
+    /// file that is no journal stays as it is.
     pub fn recover(&mut self, alloc: Global) -> Result<Recovery, DeviceFault>
         requires { IsTrue D.is_known → IsDurable D.seen D.may_leave D.is_usable self.old.device }
 
         ensures text { IfOk result (λ found. IsTrue D.is_known → found.text.items ≡ text_of (recovered (D.seen self.old.device))) }
         ensures torn { IfOk result (λ found. IsTrue D.is_known → found.torn ≡ torn_length (D.seen self.old.device)) }
-        ensures settled { OnOk result (IsTrue D.is_known → IsSettled D.seen D.may_leave D.is_usable self.new) }
+        ensures is_journal { IfOk result (λ found. IsTrue D.is_known → found.is_journal ≡ is_journal (D.seen self.old.device)) }
+        ensures settled { IfOk result (λ found. found.is_journal ≡ true → IsTrue D.is_known → IsSettled D.seen D.may_leave D.is_usable self.new) }
+        ensures foreign { IfOk result (λ found. found.is_journal ≡ false → IsTrue D.is_known → D.seen self.new.device ≡ D.seen self.old.device) }
         ensures same { OnOk result (IsTrue D.is_known → recovered (D.seen self.new.device) ≡ recovered (D.seen self.old.device)) }
         ensures cause { IsTrue D.is_known → HasCause (D.has_failed self.new.device) result }
 
@@ -34,7 +40,9 @@ impl<D: Device> Journal<D> {
             (λ c. recovered c ≡ recovered (D.seen self.old.device)) }
     {
         let found = self.read(alloc)?;
-        self.repair()?;
+        if found.is_journal {
+            self.repair()?;
+        }
         Ok(found)
     }
 
@@ -44,6 +52,7 @@ impl<D: Device> Journal<D> {
 
         ensures text { IfOk result (λ found. IsTrue D.is_known → found.text.items ≡ text_of (recovered (D.seen self.old.device))) }
         ensures torn { IfOk result (λ found. IsTrue D.is_known → found.torn ≡ torn_length (D.seen self.old.device)) }
+        ensures is_journal { IfOk result (λ found. IsTrue D.is_known → found.is_journal ≡ is_journal (D.seen self.old.device)) }
         ensures end { IfOk result (λ found. self.new.end ≡ length found.text.items) }
         ensures same { IsTrue D.is_known → D.seen self.new.device ≡ D.seen self.old.device }
         ensures durable { IsTrue D.is_known → IsDurable D.seen D.may_leave D.is_usable self.new.device }
@@ -53,10 +62,16 @@ impl<D: Device> Journal<D> {
     {
         let mut text = self.device.read(alloc)?;
         let end = whole_length(&text);
-        let torn = ungated_length(&text[end..]);
+        let rest = &text[end..];
+        let torn = ungated_length(rest);
+        let is_journal = can_end_journal(rest);
         text.truncate(end);
         self.end = end;
-        Ok(Recovery { text, torn })
+        Ok(Recovery {
+            text,
+            torn,
+            is_journal,
+        })
     }
 
     /// Cuts off what stands behind the lines that were read, and closes the gate.
@@ -70,7 +85,6 @@ impl<D: Device> Journal<D> {
         ensures any_moment { IsTrue D.is_known → LeavesOnly D.moment D.left_since self.old.device self.new.device
             (λ c. recovered c ≡ recovered (D.seen self.old.device)) }
     {
-        // The cut has to be on the disk first: behind a gate that is torn open, what was there would count.
         self.cut()?;
         self.close()
     }
@@ -87,7 +101,7 @@ impl<D: Device> Journal<D> {
             (λ c. recovered c ≡ recovered (D.seen self.old.device)) }
     {
         self.device.cut(self.end)?;
-        self.device.sync()?;
+        self.device.sync()?; // before the gate: behind one that is torn open, what was there would count
         Ok(())
     }
 

@@ -15,8 +15,8 @@ returns-in_err-write_at-clause-any_moment g c known =
     let start = started g.D.Device.moment g.D.Device.left_since c.args.self.now.device P (λ f left. ap recovered (d.only f (g.met.D.Device.only_now c.args.self.now.device f left))) in
     let is_end : c.args.self.now.end ≡ length (text_of (recovered file)) = c.requires.end known ∙ ap length (c.requires.bare known) in
     let after : (f : List ℕ) → g.D.Device.may_leave c.write_at.new.self f → P f = λ f left.
-        let from = c.write_at.ensures.crash known f left in
-        torn_end file c.args.self.now.end is_end f (subst (λ (old : List ℕ). Torn c.args.self.now.end 1 old f) (d.only from.0 from.1 ∙ c.requires.bare known) from.2) in
+    let from = c.write_at.ensures.crash known f left in
+    torn_end file c.args.self.now.end is_end f (subst (λ (old : List ℕ). Torn c.args.self.now.end 1 old f) (d.only from.0 from.1 ∙ c.requires.bare known) from.2) in
     let first = goes_on g.D.Device.moment g.D.Device.left_since _ _ c.write_at.new.self P (g.D.Device.may_leave c.write_at.new.self) start (c.write_at.ensures.time known) after in
     first
 
@@ -28,8 +28,8 @@ returns-in_err-sync-clause-any_moment g c known =
     let start = started g.D.Device.moment g.D.Device.left_since c.args.self.now.device P (λ f left. ap recovered (d.only f (g.met.D.Device.only_now c.args.self.now.device f left))) in
     let is_end : c.args.self.now.end ≡ length (text_of (recovered file)) = c.requires.end known ∙ ap length (c.requires.bare known) in
     let after : (f : List ℕ) → g.D.Device.may_leave c.write_at.new.self f → P f = λ f left.
-        let from = c.write_at.ensures.crash known f left in
-        torn_end file c.args.self.now.end is_end f (subst (λ (old : List ℕ). Torn c.args.self.now.end 1 old f) (d.only from.0 from.1 ∙ c.requires.bare known) from.2) in
+    let from = c.write_at.ensures.crash known f left in
+    torn_end file c.args.self.now.end is_end f (subst (λ (old : List ℕ). Torn c.args.self.now.end 1 old f) (d.only from.0 from.1 ∙ c.requires.bare known) from.2) in
     let first = goes_on g.D.Device.moment g.D.Device.left_since _ _ c.write_at.new.self P (g.D.Device.may_leave c.write_at.new.self) start (c.write_at.ensures.time known) after in
     goes_on g.D.Device.moment g.D.Device.left_since _ _ c.sync.new.self P (g.D.Device.may_leave c.sync.new.self) first (c.sync.ensures.time known) (λ f left. after f (c.sync.ensures.crash known f left))
 
@@ -41,8 +41,8 @@ returns-clause-any_moment g c known =
     let start = started g.D.Device.moment g.D.Device.left_since c.args.self.now.device P (λ f left. ap recovered (d.only f (g.met.D.Device.only_now c.args.self.now.device f left))) in
     let is_end : c.args.self.now.end ≡ length (text_of (recovered file)) = c.requires.end known ∙ ap length (c.requires.bare known) in
     let after : (f : List ℕ) → g.D.Device.may_leave c.write_at.new.self f → P f = λ f left.
-        let from = c.write_at.ensures.crash known f left in
-        torn_end file c.args.self.now.end is_end f (subst (λ (old : List ℕ). Torn c.args.self.now.end 1 old f) (d.only from.0 from.1 ∙ c.requires.bare known) from.2) in
+    let from = c.write_at.ensures.crash known f left in
+    torn_end file c.args.self.now.end is_end f (subst (λ (old : List ℕ). Torn c.args.self.now.end 1 old f) (d.only from.0 from.1 ∙ c.requires.bare known) from.2) in
     let first = goes_on g.D.Device.moment g.D.Device.left_since _ _ c.write_at.new.self P (g.D.Device.may_leave c.write_at.new.self) start (c.write_at.ensures.time known) after in
     goes_on g.D.Device.moment g.D.Device.left_since _ _ c.sync.new.self P (g.D.Device.may_leave c.sync.new.self) first (c.sync.ensures.time known) (λ f left. after f (c.sync.ensures.crash known f left))
 

@@ -17,8 +17,8 @@ returns-in_err-cut-clause-any_moment g c known =
     let P : List ℕ → Type 0 = λ f. recovered f ≡ recovered file in
     let start = started g.D.Device.moment g.D.Device.left_since c.args.self.now.device P (λ f left. ap recovered (d.only f (g.met.D.Device.only_now c.args.self.now.device f left))) in
     let after : (f : List ℕ) → g.D.Device.may_leave c.cut.new.self f → P f = λ f left.
-        let from = c.cut.ensures.crash known f left in
-        cut_keeps file c.args.self.now.end (c.requires.end known) f (subst (λ (old : List ℕ). IsCut c.args.self.now.end old f) (d.only from.0 from.1) from.2) in
+    let from = c.cut.ensures.crash known f left in
+    cut_keeps file c.args.self.now.end (c.requires.end known) f (subst (λ (old : List ℕ). IsCut c.args.self.now.end old f) (d.only from.0 from.1) from.2) in
     let first = goes_on g.D.Device.moment g.D.Device.left_since _ _ c.cut.new.self P (g.D.Device.may_leave c.cut.new.self) start (c.cut.ensures.time known) after in
     first
 
@@ -29,8 +29,8 @@ returns-in_err-sync-clause-any_moment g c known =
     let P : List ℕ → Type 0 = λ f. recovered f ≡ recovered file in
     let start = started g.D.Device.moment g.D.Device.left_since c.args.self.now.device P (λ f left. ap recovered (d.only f (g.met.D.Device.only_now c.args.self.now.device f left))) in
     let after : (f : List ℕ) → g.D.Device.may_leave c.cut.new.self f → P f = λ f left.
-        let from = c.cut.ensures.crash known f left in
-        cut_keeps file c.args.self.now.end (c.requires.end known) f (subst (λ (old : List ℕ). IsCut c.args.self.now.end old f) (d.only from.0 from.1) from.2) in
+    let from = c.cut.ensures.crash known f left in
+    cut_keeps file c.args.self.now.end (c.requires.end known) f (subst (λ (old : List ℕ). IsCut c.args.self.now.end old f) (d.only from.0 from.1) from.2) in
     let first = goes_on g.D.Device.moment g.D.Device.left_since _ _ c.cut.new.self P (g.D.Device.may_leave c.cut.new.self) start (c.cut.ensures.time known) after in
     goes_on g.D.Device.moment g.D.Device.left_since _ _ c.sync.new.self P (g.D.Device.may_leave c.sync.new.self) first (c.sync.ensures.time known) (λ f left. after f (c.sync.ensures.crash known f left))
 
@@ -41,8 +41,8 @@ returns-clause-any_moment g c known =
     let P : List ℕ → Type 0 = λ f. recovered f ≡ recovered file in
     let start = started g.D.Device.moment g.D.Device.left_since c.args.self.now.device P (λ f left. ap recovered (d.only f (g.met.D.Device.only_now c.args.self.now.device f left))) in
     let after : (f : List ℕ) → g.D.Device.may_leave c.cut.new.self f → P f = λ f left.
-        let from = c.cut.ensures.crash known f left in
-        cut_keeps file c.args.self.now.end (c.requires.end known) f (subst (λ (old : List ℕ). IsCut c.args.self.now.end old f) (d.only from.0 from.1) from.2) in
+    let from = c.cut.ensures.crash known f left in
+    cut_keeps file c.args.self.now.end (c.requires.end known) f (subst (λ (old : List ℕ). IsCut c.args.self.now.end old f) (d.only from.0 from.1) from.2) in
     let first = goes_on g.D.Device.moment g.D.Device.left_since _ _ c.cut.new.self P (g.D.Device.may_leave c.cut.new.self) start (c.cut.ensures.time known) after in
     goes_on g.D.Device.moment g.D.Device.left_since _ _ c.sync.new.self P (g.D.Device.may_leave c.sync.new.self) first (c.sync.ensures.time known) (λ f left. after f (c.sync.ensures.crash known f left))
 

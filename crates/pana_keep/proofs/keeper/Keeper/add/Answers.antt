@@ -31,7 +31,8 @@ returns-clause-kept g c known works =
     let old = c.args.self.now.texts.items in
     let all : c.push_reserved.new.self.items ≡ old ++ c.args.text ∷ [] = c.push_reserved.ensures.items ∙ ap (λ (ts : List _). ts ++ c.args.text ∷ []) c.reserve.ensures.items in
     let grown : texts_of c.push_reserved.new.self.items ≡ texts_of old ++ c.args.text.items ∷ [] = ap texts_of all ∙ texts_of-append old (c.args.text ∷ []) in
-    let added : recovered (g.D.Device.seen c.commit.new.self.device) ≡ recovered (g.D.Device.seen c.stage.new.self.device) ++ recovered c.deref-2.result.now = search (rules, c.commit.ensures.added, known) in
-    (search (rules, c.commit.ensures.acknowledged, known),
+    let added : recovered (g.D.Device.seen c.commit.new.self.device) ≡ recovered (g.D.Device.seen c.stage.new.self.device) ++ recovered c.deref-2.result.now = search (rules, c.commit.ensures.added, known) in (
+      search (rules, c.commit.ensures.acknowledged, known),
       added ∙ ap (λ (ls : List (List ℕ)). ls ++ recovered c.deref-2.result.now) (c.stage.ensures.same known ∙ was.1) ∙ ap (λ (t : List ℕ). lines_of (texts_of old) ++ recovered t) c.deref-2.ensures.value
-      ∙ sym (lines_of-push (texts_of old) c.args.text.items) ∙ ap lines_of (sym grown))
+          ∙ sym (lines_of-push (texts_of old) c.args.text.items) ∙ ap lines_of (sym grown),
+    )
