@@ -26,9 +26,6 @@ possible : (file : List ℕ) (left : List ℕ → Type 0) (calls : List Call) �
 possible file left [] here = here
 possible file left (call ∷ calls) here = possible (file_after call file) (LeftAfter call file left) calls (done call file left)
 
-pub torn_same : (at n : ℕ) (file : List ℕ) → Torn at n file file
-torn_same at n file = record { before = refl; after = refl; no_shorter = omega arith; no_longer = omega arith }
-
 pub torn_written : (at : ℕ) (bytes old new : List ℕ) → at ≤ length old → Holds old at bytes new → Torn at (length bytes) old new
 torn_written at bytes old new within holds =
     let head : length (take at old) ≡ at = omega (arith, length-take at old, within) in
@@ -79,5 +76,5 @@ module _ (first : List ℕ) (calls : List Call) where
 
 -- the same where the device has changed as `record` says
 module _ (first first' : List ℕ) (calls calls' : List Call) (same : first' ≡ first) where
-  pub moved : (P : List ℕ → List Call → Type 0) (now : List Call) → calls' ≡ now → P first now → P first' calls'
-  moved P now is p = subst (λ (f : List ℕ). P f calls') (sym same) (subst (λ (l : List Call). P first l) (sym is) p)
+  pub moved : (P : List ℕ → List Call → Type 0) (later : List Call) → calls' ≡ later → P first later → P first' calls'
+  moved P later is p = subst (λ (f : List ℕ). P f calls') (sym same) (subst (λ (l : List Call). P first l) (sym is) p)

@@ -1,6 +1,6 @@
 /// A call that a device in memory has done.
 #[derive(Debug, Drop)]
-pub enum Call {
+pub(crate) enum Call {
     Write { at: usize, bytes: Vec<u8> },
     Cut { len: usize },
     Sync,

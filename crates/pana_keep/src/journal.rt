@@ -22,7 +22,8 @@ pub struct Journal<D: Device> {
 impl<D: Device> Journal<D> {
     /// A journal over a device. Recover it before its first line.
     pub fn new(device: D) -> Journal<D>
-        ensures { result.device ≡ device }
+        ensures device { result.device ≡ device }
+        ensures end { result.end ≡ 0 }
     {
         Journal { device, end: 0 }
     }

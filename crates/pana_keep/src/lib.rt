@@ -12,7 +12,6 @@ mod lines;
 mod memory;
 mod recovery;
 
-pub use crate::call::Call;
 pub use crate::device::Device;
 pub use crate::device_fault::DeviceFault;
 pub use crate::file::FileDevice;

@@ -27,8 +27,8 @@ pub struct Crash {
     /// How many bytes of the writes had reached the disk, and whether they are the last ones.
     pub written: usize,
     pub is_from_end: bool,
-    /// What stands where a byte of a write hadn't.
-    pub other: u8,
+    /// What stands where a byte of a write hadn't: this, or what stood there before, if anything.
+    pub other: Option<u8>,
 }
 
 impl MemoryDevice {
@@ -126,10 +126,13 @@ fn tear(
         } else {
             i < *left
         };
-        let torn = if is_written { *byte } else { crash.other };
-        match at.checked_add(i) {
-            Some(position) if position < file.len() => file[position] = torn,
-            _ => file.push(torn)?,
+        let torn = if is_written { Some(*byte) } else { crash.other };
+        if let (Some(torn), Some(position)) = (torn, at.checked_add(i)) {
+            if position < file.len() {
+                file[position] = torn;
+            } else if position == file.len() {
+                file.push(torn)?;
+            }
         }
     }
     *left = left.saturating_sub(bytes.len());

@@ -28,7 +28,7 @@ fn leaves_either(
     after: &[u8],
 ) -> Result<bool, DeviceFault> {
     for written in 0..14 {
-        for other in [0, b'{', b'\n', b'x'] {
+        for other in [None, Some(0), Some(b'{'), Some(b'\n'), Some(b'x')] {
             for is_from_end in [false, true] {
                 let crash = Crash {
                     calls,
@@ -160,7 +160,7 @@ fn keep_two(alloc: Global, calls: usize) -> Result<Outcome, Fail> {
         calls: keeper.journal.device.calls(),
         written: 0,
         is_from_end: false,
-        other: 0,
+        other: None,
     };
     let lines = lines_after(&keeper.journal.device, alloc, crash)?;
     Ok(Outcome {
