@@ -1,5 +1,5 @@
 -- Runs of calls that keep the lines of a file.
-use Rattle.std.proofs.Common.{◌≡◌, ℕ, ◌≤◌, Bool, IsTrue, List, length, sym, ap, subst}
+use Rattle.std.proofs.Common.{◌≡◌, ℕ, ◌≤◌, Bool, IsTrue, List, length, sym, subst}
 use Rattle.pana_keep.specs.declared.journal.Journal.{Journal}
 use Rattle.pana_keep.specs.Device.{Torn, Follows, Elapses, LeavesOnly}
 use Rattle.pana_keep.specs.Lines.{recovered, text_of, closed, Begins}

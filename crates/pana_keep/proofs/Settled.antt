@@ -1,11 +1,11 @@
 -- A journal between its calls.
-use Rattle.std.proofs.Common.{◌≡◌, ℕ, ◌+◌, ◌<◌, Bool, true, IsTrue, List, [], ◌∷◌, ◌++◌, length, get_or, drop, refl, sym, ◌∙◌, ap, subst, arith, append_assoc, length-append}
+use Rattle.std.proofs.Common.{◌≡◌, ℕ, ◌+◌, ◌<◌, Bool, IsTrue, List, [], ◌∷◌, ◌++◌, length, get_or, drop, refl, sym, ◌∙◌, ap, subst, arith, append_assoc, length-append}
 use Rattle.std.proofs.lemmas.Bool.Decides.{nat_tests}
 use Rattle.pana_keep.specs.declared.journal.Journal.{Journal}
-use Rattle.pana_keep.specs.Device.{Holds, Torn, Follows}
-use Rattle.pana_keep.specs.Lines.{opens, recovered, text_of, closed, staged, AreLines, Begins, IsWhole, IsBeforeOrAfter}
+use Rattle.pana_keep.specs.Device.{Holds, Torn}
+use Rattle.pana_keep.specs.Lines.{recovered, text_of, closed, staged, AreLines, Begins, IsWhole, IsBeforeOrAfter}
 use Rattle.pana_keep.specs.Journal.{IsSettled, IsStaged, IsWritten}
-use Rattle.pana_keep.proofs.Prefixes.{begins_split, begins_less, begins_torn, begins_gate, begins_holds, begins_set}
+use Rattle.pana_keep.proofs.Prefixes.{begins_split, begins_less, begins_gate, begins_holds, begins_set}
 use Rattle.pana_keep.proofs.Recovered.{recovered-closed, recovered_gate, are_recovered}
 
 pub length-closed : (ls : List (List ℕ)) → length (closed ls) ≡ length (text_of ls) + 1

@@ -1,6 +1,6 @@
-use Rattle.std.proofs.Common.{◌≡◌, ◌<◌, ℕ, length, sym, ◌∙◌, ap, arith}
+use Rattle.std.proofs.Common.{◌≡◌, ◌<◌, length, ◌∙◌, ap, arith}
 use Rattle.std.proofs.lemmas.Bool.Decides.{nat_tests}
-use Rattle.pana_keep.specs.Lines.{recovered, text_of, IsWhole}
+use Rattle.pana_keep.specs.Lines.{recovered, text_of}
 use Rattle.pana_keep.proofs.Ends.{whole_text}
 use Rattle.pana_keep.proofs.lines.is_whole.Goals as goal
 

@@ -1,4 +1,4 @@
-use Rattle.std.proofs.Common.{inl, ◌+◌, ◌++◌, List, ℕ, length, sym, ap, subst, arith, length-append}
+use Rattle.std.proofs.Common.{inl, ◌++◌, List, ℕ, length, sym, ap, subst, arith, length-append}
 use Rattle.pana_keep.specs.Lines.{recovered, text_of, closed, Begins, IsBeforeOrAfter}
 use Rattle.pana_keep.proofs.Moments.{started, goes_on}
 use Rattle.pana_keep.proofs.Recovered.{recovered-closed, are_recovered}

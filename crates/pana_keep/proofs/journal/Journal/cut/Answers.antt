@@ -1,4 +1,4 @@
-use Rattle.std.proofs.Common.{◌≡◌, ◌≤◌, List, ℕ, length, ◌∙◌, ap, subst, arith}
+use Rattle.std.proofs.Common.{◌≡◌, List, ℕ, ◌∙◌, ap, subst, arith}
 use Rattle.pana_keep.specs.Device.{IsCut}
 use Rattle.pana_keep.specs.Lines.{recovered}
 use Rattle.pana_keep.proofs.Ends.{cut_keeps, cut_done, lines_within}

@@ -1,4 +1,4 @@
-use Rattle.std.proofs.Common.{◌≡◌, List, [], ◌∷◌, ◌++◌, ℕ, length, take}
+use Rattle.std.proofs.Common.{◌≡◌, List, ℕ, length, take}
 use Rattle.pana_keep.specs.declared.call.Call.{Call}
 use Rattle.pana_keep.specs.declared.call.Call.TheVariants.{Cut}
 use Rattle.pana_keep.specs.Device.{IsCut, Follows, Elapses}

@@ -1,4 +1,4 @@
-use Rattle.std.proofs.Common.{◌≡◌, List, [], ◌∷◌, ◌++◌, ℕ, length}
+use Rattle.std.proofs.Common.{◌≡◌, List, ℕ, length}
 use Rattle.pana_keep.specs.declared.call.Call.{Call}
 use Rattle.pana_keep.specs.declared.call.Call.TheVariants.{Sync}
 use Rattle.pana_keep.specs.Device.{Only, Elapses}

@@ -1,4 +1,4 @@
-use Rattle.std.proofs.Common.{◌≡◌, List, [], ◌∷◌, ◌++◌, ℕ, length, subst, rules}
+use Rattle.std.proofs.Common.{◌≡◌, List, ℕ, length, subst, rules}
 use Rattle.pana_keep.specs.declared.call.Call.{Call}
 use Rattle.pana_keep.specs.declared.call.Call.TheVariants.{Write}
 use Rattle.pana_keep.specs.Device.{Holds, Torn, Follows, Elapses}
