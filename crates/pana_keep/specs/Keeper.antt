@@ -1,6 +1,7 @@
 -- Texts that a file stands for, over a whole run.
-use Rattle.std.specs.Prelude.{◌≡◌, ◌≤◌, ℕ, Bool, false, List, [], ◌∷◌, ◌++◌, length, take, map, Vec}
+use Rattle.std.specs.Prelude.{◌≡◌, ◌≤◌, ℕ, Bool, List, [], ◌∷◌, ◌++◌, length, take, map, Vec}
 use Rattle.std.specs.declared.alloc.Global.{Global}
+use Rattle.pana_keep.specs.declared.journal_state.JournalState.TheVariants.{Open}
 use Rattle.pana_keep.specs.declared.keeper.Keeper.{Keeper}
 use Rattle.pana_keep.specs.Device.{LeavesOnly}
 use Rattle.pana_keep.specs.Lines.{recovered, IsWhole}
@@ -24,9 +25,9 @@ IsPrefix least texts file = (n : ℕ) × (least ≤ n) × (n ≤ length texts) �
 abbrev pub KeepsAll : {D : Type 0} → (D → ℕ) → (D → ℕ → List ℕ → Type 0) → D → D → List (List ℕ) → List (List ℕ) → Type 0
 KeepsAll moment left_since old new kept texts = LeavesOnly moment left_since old new (IsPrefix (length kept) texts)
 
--- The file stands for the texts, and takes more, unless the keeper is broken.
+-- The file stands for the texts, and takes more, while the journal is open.
 abbrev pub IsKept : {D : Type 0} → (D → List ℕ) → (D → List ℕ → Type 0) → (D → Bool) → Keeper D → Type 0
-IsKept seen may_leave is_usable keeper = keeper.is_broken ≡ false
+IsKept seen may_leave is_usable keeper = keeper.journal.state ≡ Open
     → IsSettled seen may_leave is_usable keeper.journal × (recovered (seen keeper.journal.device) ≡ lines_of (texts_of keeper.texts.items))
 
 -- each is of whole lines

@@ -6,6 +6,7 @@ ghost use Rattle.pana_keep.specs.Keeper.{AreWhole, IsKept, KeepsAll, texts_of};
 use crate::device::Device;
 use crate::device_fault::DeviceFault;
 use crate::journal::Journal;
+use crate::journal_state::JournalState;
 use crate::keep_fault::KeepFault;
 use std::alloc::{AllocError, Global};
 use std::collections::VecDeque;
@@ -15,25 +16,21 @@ use std::collections::VecDeque;
 pub struct Keeper<D: Device> {
     pub journal: Journal<D>,
     pub texts: Vec<Vec<u8>>,
-    pub is_broken: bool,
 }
 
 impl<D: Device + Drop> Keeper<D> {
     /// The keeper of a journal that was recovered, with the text that was found.
     pub fn new(alloc: Global, journal: Journal<D>, text: Vec<u8>) -> Result<Keeper<D>, AllocError>
+        requires open { journal.state ≡ JournalState.Open }
         requires settled { IsTrue D.is_known → IsSettled D.seen D.may_leave D.is_usable journal }
         requires text { IsTrue D.is_known → text.items ≡ text_of (recovered (D.seen journal.device)) }
         ensures kept { IfOk result (λ keeper. IsTrue D.is_known → IsKept D.seen D.may_leave D.is_usable keeper) }
         ensures texts { IfOk result (λ keeper. keeper.texts.items ≡ text ∷ []) }
-        ensures works { IfOk result (λ keeper. keeper.is_broken ≡ false) }
+        ensures open { IfOk result (λ keeper. keeper.journal.state ≡ JournalState.Open) }
     {
         let mut texts = Vec::new(alloc);
         texts.push(text)?;
-        Ok(Keeper {
-            journal,
-            texts,
-            is_broken: false,
-        })
+        Ok(Keeper { journal, texts })
     }
 }
 
@@ -48,21 +45,20 @@ impl<D: Device> Keeper<D> {
         ensures ok { OnOk result (self.new.texts.items ≡ self.old.texts.items ++ text ∷ []) }
         ensures refused { IsErrAnd result (λ fault. fault ≢ KeepFault.Broken) → self.new.texts.items ≡ self.old.texts.items }
         ensures err { OnErr result ((self.new.texts.items ≡ self.old.texts.items) ⊎ (self.new.texts.items ≡ self.old.texts.items ++ text ∷ [])) }
-        ensures is_broken { (IsErrOf result KeepFault.Broken × (self.new.is_broken ≡ true)) ⊎ (self.new.is_broken ≡ false) }
-        ensures stays_broken { self.old.is_broken ≡ true → IsErrOf result KeepFault.Broken × (self.new ≡ self.old) }
-        ensures cause { IsTrue D.is_known → self.old.is_broken ≡ false → HasRoom self.old.journal.end text.items
+        ensures open { (IsErrOf result KeepFault.Broken × (self.new.journal.state ≢ JournalState.Open)) ⊎ (self.new.journal.state ≡ JournalState.Open) }
+        ensures stays_broken { self.old.journal.state ≢ JournalState.Open → IsErrOf result KeepFault.Broken × (self.new ≡ self.old) }
+        ensures cause { IsTrue D.is_known → self.old.journal.state ≡ JournalState.Open → HasRoom self.old.journal.end text.items
             → IsErrAnd result (λ fault. fault ≢ KeepFault.Refused DeviceFault.OutOfMemory) → IsTrue (D.has_failed self.new.journal.device) }
 
         // A crash at any moment of the call leaves the first n of the texts of now, all that were kept before it among
         // them.
-        ensures keeps_all { IsTrue D.is_known → self.old.is_broken ≡ false
+        ensures keeps_all { IsTrue D.is_known → self.old.journal.state ≡ JournalState.Open
             → KeepsAll D.moment D.left_since self.old.journal.device self.new.journal.device (texts_of self.old.texts.items) (texts_of self.new.texts.items) }
     {
-        if self.is_broken {
+        if self.journal.state != JournalState::Open {
             return Err(KeepFault::Broken);
         }
         if let Err(fault) = self.journal.stage(&text) {
-            self.is_broken = fault == KeepFault::Broken;
             return Err(fault);
         }
         if self.texts.reserve(1).is_err() {
@@ -71,7 +67,6 @@ impl<D: Device> Keeper<D> {
         let is_kept = self.journal.commit(&text).is_ok();
         self.texts.push_reserved(text);
         if !is_kept {
-            self.is_broken = true;
             return Err(KeepFault::Broken);
         }
         Ok(())
@@ -80,11 +75,11 @@ impl<D: Device> Keeper<D> {
     /// Keeps texts in order, up to the first that isn't kept.
     pub fn add_all(&mut self, mut texts: VecDeque<Vec<u8>>) -> Result<(), KeepFault>
         requires whole { AreWhole texts.items }
-        requires works { self.old.is_broken ≡ false }
+        requires open { self.old.journal.state ≡ JournalState.Open }
         requires kept { IsTrue D.is_known → IsKept D.seen D.may_leave D.is_usable self.old }
         ensures kept { IsTrue D.is_known → IsKept D.seen D.may_leave D.is_usable self.new }
         ensures ok { OnOk result (self.new.texts.items ≡ self.old.texts.items ++ texts.items) }
-        ensures works { OnOk result (self.new.is_broken ≡ false) }
+        ensures open { OnOk result (self.new.journal.state ≡ JournalState.Open) }
         ensures err { OnErr result ((n : ℕ) × (self.new.texts.items ≡ self.old.texts.items ++ take n texts.items)) }
 
         // A crash at any moment of the run leaves the first n of the texts of now, all that were kept before it among

@@ -1,8 +1,8 @@
 //! What no clause says: that calls succeed where memory is there and a device works, what is returned where one
 //! fails, and that the definitions say what is meant, by crashes that are run.
 use crate::{
-    Crash, Device, DeviceFault, FileDevice, Journal, KeepFault, Keeper, MemoryDevice, Recovery,
-    is_whole,
+    Crash, Device, DeviceFault, FileDevice, Journal, JournalState, KeepFault, Keeper, MemoryDevice,
+    Recovery, is_whole,
 };
 use std::alloc::Global;
 use std::collections::VecDeque;
@@ -225,7 +225,11 @@ fn files_of_the_system(rt: HostRuntime) -> Result<(), Fail> {
     assert_eq!(rt; null.write_at(0, b"{"), Err(DeviceFault::Failed));
     assert_eq!(rt; null.sync(), Err(DeviceFault::Failed));
     let full = OpenOptions::new().write(true).open(&rt, "/dev/full")?;
-    let mut journal = Journal::new(FileDevice::new(full));
+    let mut journal = Journal {
+        device: FileDevice::new(full),
+        end: 0,
+        state: JournalState::Open,
+    };
     assert!(rt; is_whole(b"{1}\n"));
     assert_eq!(rt;
         journal.stage(b"{1}\n"),

@@ -50,7 +50,7 @@ returns-in_err-write_at-2-clause-any_moment g c known =
 
 pub returns-in_err-write_at-clause-refused : goal.returns-in_err-write_at-clause-refused
 returns-in_err-write_at-clause-refused g c =
-    let P : Type 0 = IsTrue g.D.Device.is_known → IsSettled g.D.Device.seen g.D.Device.may_leave g.D.Device.is_usable (record { device = c.write_at.new.self; end = c.args.self.now.end }) in
+    let P : Type 0 = IsTrue g.D.Device.is_known → IsSettled g.D.Device.seen g.D.Device.may_leave g.D.Device.is_usable (record { device = c.write_at.new.self; end = c.args.self.now.end; state = c.args.self.now.state }) in
     let settled : P = λ known.
     let s = c.requires.settled known in
     let k0 = keeps_start g.D.Device.seen g.D.Device.may_leave g.D.Device.is_usable g.D.Device.moment g.D.Device.left_since c.args.self.now s (g.met.D.Device.only_now c.args.self.now.device) in
@@ -60,7 +60,7 @@ returns-in_err-write_at-clause-refused g c =
 
 pub returns-in_err-write_at-2-clause-refused : goal.returns-in_err-write_at-2-clause-refused
 returns-in_err-write_at-2-clause-refused g c =
-    let P : Type 0 = IsTrue g.D.Device.is_known → IsSettled g.D.Device.seen g.D.Device.may_leave g.D.Device.is_usable (record { device = c.write_at-2.new.self; end = c.args.self.now.end }) in
+    let P : Type 0 = IsTrue g.D.Device.is_known → IsSettled g.D.Device.seen g.D.Device.may_leave g.D.Device.is_usable (record { device = c.write_at-2.new.self; end = c.args.self.now.end; state = c.args.self.now.state }) in
     let settled : P = λ known.
     let s = c.requires.settled known in
     let k0 = keeps_start g.D.Device.seen g.D.Device.may_leave g.D.Device.is_usable g.D.Device.moment g.D.Device.left_since c.args.self.now s (g.met.D.Device.only_now c.args.self.now.device) in

@@ -1,4 +1,5 @@
 use Rattle.std.proofs.Common.{◌≡◌, List, [], ◌∷◌, ◌++◌, ℕ, sym, ◌∙◌, ap, subst, rules}
+use Rattle.pana_keep.specs.declared.journal_state.JournalState.TheVariants.{Open}
 use Rattle.pana_keep.specs.Device.{LeavesOnly}
 use Rattle.pana_keep.specs.Lines.{recovered, IsBeforeOrAfter}
 use Rattle.pana_keep.specs.Keeper.{lines_of, texts_of, KeepsAll}
@@ -27,7 +28,8 @@ returns-clause-keeps_all g c known works =
 
 pub returns-clause-kept : goal.returns-clause-kept
 returns-clause-kept g c known works =
-    let was = c.requires.kept known works in
+    let before : c.args.self.now.journal.state ≡ Open = search rules in
+    let was = c.requires.kept known before in
     let old = c.args.self.now.texts.items in
     let all : c.push_reserved.new.self.items ≡ old ++ c.args.text ∷ [] = c.push_reserved.ensures.items ∙ ap (λ (ts : List _). ts ++ c.args.text ∷ []) c.reserve.ensures.items in
     let grown : texts_of c.push_reserved.new.self.items ≡ texts_of old ++ c.args.text.items ∷ [] = ap texts_of all ∙ texts_of-append old (c.args.text ∷ []) in

@@ -36,10 +36,10 @@ module _ {D : Type 0} (moment : D → ℕ) (left_since : D → ℕ → List ℕ 
 pub loop-text-init : goal.loop-text-init
 loop-text-init g c = record {
   whole = c.requires.whole;
-  works = c.requires.works;
+  works = c.requires.open;
   kept = c.requires.kept;
   grown = ([], refl, sym (append-nil c.args.self.now.texts.items));
-  keeps_all = λ known. let was = c.requires.kept known c.requires.works in
+  keeps_all = λ known. let was = c.requires.kept known c.requires.open in
       keeps_all_start g.D.Device.moment g.D.Device.left_since g.D.Device.seen g.D.Device.may_leave g.D.Device.is_usable c.args.self.now.journal (texts_of c.args.self.now.texts.items) was.0 was.1 (g.met.D.Device.only_now c.args.self.now.journal.device);
 }
 
