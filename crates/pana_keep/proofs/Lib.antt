@@ -5,4 +5,5 @@ pub mod Moments
 pub mod Prefixes
 pub mod Recovered
 pub mod Settled
+pub mod Tears
 pub mod Texts

@@ -1,5 +1,6 @@
-ghost use Rattle.std.specs.Prelude.{◌≡◌, ◌⊎◌, ℕ, List, [], ◌∷◌, ◌++◌, true, false, IsTrue, length, take, drop, IfOk, OnOk, OnErr, IfErr, IsErrOf};
-ghost use Rattle.pana_keep.specs.Calls.{file_after, file_of, LeftSince, left_now, left_last};
+ghost use Rattle.std.specs.Prelude.{◌≡◌, ◌⊎◌, ◌<◌, ℕ, List, [], ◌∷◌, ◌++◌, true, false, IsTrue, length, take, drop, IfOk, OnOk, OnErr, IfErr, IsErrOf};
+ghost use Rattle.pana_keep.specs.Calls.{file_after, file_of, LeftAfter, MayLeave, LeftSince, left_now, left_last};
+ghost use Rattle.pana_keep.specs.Device.{Torn};
 
 use crate::call::Call;
 use crate::device::Device;
@@ -66,26 +67,21 @@ impl MemoryDevice {
     }
 
     /// What a crash leaves. Fails only where memory runs out.
-    pub fn after_crash(&self, crash: Crash) -> Result<Vec<u8>, AllocError> {
+    pub fn after_crash(&self, crash: Crash) -> Result<Vec<u8>, AllocError>
+        ensures { IfOk result (λ file. MayLeave self.now.first.items (take crash.calls self.now.calls.items) file.items) }
+    {
+        let calls = &self.calls[..crash.calls.min(self.calls.len())];
         let mut file = self.first.to_vec(self.alloc)?;
         let mut durable = self.first.to_vec(self.alloc)?;
         let mut left = crash.written;
-        for call in self.calls.iter().take(crash.calls) {
+        for call in calls {
+            tear(self.alloc, &mut durable, &file, call, left, crash)?;
+            left = match call {
+                Call::Write { at: _, bytes } => left.saturating_sub(bytes.len()),
+                Call::Cut { len: _ } => left,
+                Call::Sync => crash.written,
+            };
             file = apply(self.alloc, &file, call)?;
-            match call {
-                Call::Write { at, bytes } => {
-                    tear(&mut durable, *at, bytes, &mut left, crash)?;
-                }
-                Call::Cut { len } => {
-                    if left > 0 {
-                        durable.truncate(*len);
-                    }
-                }
-                Call::Sync => {
-                    durable = file.to_vec(self.alloc)?;
-                    left = crash.written;
-                }
-            }
         }
         Ok(durable)
     }
@@ -112,30 +108,74 @@ impl MemoryDevice {
     }
 }
 
-/// Puts bytes of a write over those of a file, and another byte where one hadn't reached the disk.
+/// Does to a file on the disk what of a call reaches it. What is read before the call is `seen`.
 fn tear(
+    alloc: Global,
+    file: &mut Vec<u8>,
+    seen: &[u8],
+    call: &Call,
+    left: usize,
+    crash: Crash,
+) -> Result<(), AllocError>
+    ensures { OnOk result (LeftAfter call.now seen.now (λ d. d ≡ file.old.items) file.new.items) }
+{
+    match call {
+        Call::Write { at, bytes } => {
+            tear_write(file, *at, bytes, left, crash)?;
+        }
+        Call::Cut { len } => {
+            if left > 0 {
+                file.truncate(*len);
+            }
+        }
+        Call::Sync => {
+            *file = seen.to_vec(alloc)?;
+        }
+    }
+    Ok(())
+}
+
+/// Puts bytes of a write over those of a file, and another byte, or none, where one hadn't reached the disk.
+fn tear_write(
     file: &mut Vec<u8>,
     at: usize,
     bytes: &[u8],
-    left: &mut usize,
+    left: usize,
     crash: Crash,
-) -> Result<(), AllocError> {
-    for (i, byte) in bytes.iter().enumerate() {
+) -> Result<(), AllocError>
+    ensures { OnOk result (Torn at (length bytes.now) file.old.items file.new.items) }
+{
+    for i in 0..bytes.len() {
         let is_written = if crash.is_from_end {
-            bytes.len() - i <= *left
+            bytes.len() - i <= left
         } else {
-            i < *left
+            i < left
         };
-        let torn = if is_written { Some(*byte) } else { crash.other };
-        if let (Some(torn), Some(position)) = (torn, at.checked_add(i)) {
-            if position < file.len() {
-                file[position] = torn;
-            } else if position == file.len() {
-                file.push(torn)?;
-            }
-        }
+        let byte = if is_written {
+            Some(bytes[i])
+        } else {
+            crash.other
+        };
+        put(file, at, i, byte)?;
     }
-    *left = left.saturating_sub(bytes.len());
+    Ok(())
+}
+
+/// Puts a byte over one of a file, or at its end. With none, or behind the end, it does nothing.
+fn put(file: &mut Vec<u8>, at: usize, i: usize, byte: Option<u8>) -> Result<(), AllocError>
+    ensures { OnOk result ((n : ℕ) → i < n → Torn at n file.old.items file.new.items) }
+{
+    let Some(byte) = byte else {
+        return Ok(());
+    };
+    let Some(position) = at.checked_add(i) else {
+        return Ok(());
+    };
+    if position < file.len() {
+        file[position] = byte;
+    } else if position == file.len() {
+        file.push(byte)?;
+    }
     Ok(())
 }
 

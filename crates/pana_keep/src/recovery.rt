@@ -48,7 +48,9 @@ impl<D: Device> Journal<D> {
         Ok(found)
     }
 
-    /// Reads the lines of a file that a crash may have left, and changes nothing. Repair it before its first new line.
+    /// Reads the lines of a file that a crash may have left, and changes nothing. Repair it before its first new line,
+    /// if it is a journal. Sync a file of the system before: what another process has written reads back, and a power
+    /// cut may still lose it.
     pub fn read(&mut self, alloc: Global) -> Result<Recovery, DeviceFault>
         requires { IsTrue D.is_known → IsDurable D.seen D.may_leave D.is_usable self.old.device }
 
