@@ -58,9 +58,7 @@ impl<D: Device> Keeper<D> {
         if self.journal.state != JournalState::Open {
             return Err(KeepFault::Broken);
         }
-        if let Err(fault) = self.journal.stage(&text) {
-            return Err(fault);
-        }
+        self.journal.stage(&text)?;
         if self.texts.reserve(1).is_err() {
             return Err(KeepFault::Refused(DeviceFault::OutOfMemory));
         }

@@ -194,6 +194,14 @@ fn failing_calls(rt: HostRuntime) -> Result<(), Fail> {
 }
 
 #[test]
+fn messages_of_faults(rt: HostRuntime) -> Result<(), Fail> {
+    let alloc = rt.alloc();
+    let message = format!(in alloc; "{}", KeepFault::Refused(DeviceFault::StorageFull))?;
+    assert_eq!(rt; message.as_str(), "not kept: no space left on the device");
+    Ok(())
+}
+
+#[test]
 fn texts_in_a_run(rt: HostRuntime) -> Result<(), Fail> {
     let alloc = rt.alloc();
     let mut journal = Journal::new(MemoryDevice::new(alloc, b"{1}\n\0".to_vec(alloc)?));
