@@ -1,0 +1,137 @@
+ghost use Rattle.std.specs.Prelude.{◌≡◌, true, false, is_ok, if◌then◌else◌, IsTrue, length, IfOk, OnOk, OnErr};
+ghost use Rattle.pana_keep.specs.Device.{LeavesOnly, HasCause};
+ghost use Rattle.pana_keep.specs.Lines.{recovered, text_of, torn_length, is_journal};
+ghost use Rattle.pana_keep.specs.Journal.{IsDurable, IsSettled};
+
+use crate::device::Device;
+use crate::device_fault::DeviceFault;
+use crate::journal::Journal;
+use crate::journal_state::JournalState;
+use crate::lines::{can_end_journal, ungated_length, whole_length};
+use std::alloc::Global;
+
+/// What a file stood for when it was opened.
+#[derive(Debug, Drop)]
+pub struct Recovery {
+    /// Its lines, each with its newline.
+    pub text: Vec<u8>,
+    /// How many bytes stood behind them, a closed gate not counted: what a crash left of other lines.
+    pub torn: usize,
+    /// Whether they are what a crash leaves of a journal: nothing, a closed gate and anything, or a line cut short. If
+    /// not, the file is something else.
+    pub is_journal: bool,
+}
+
+impl<D: Device> Journal<D> {
+    /// Reads the lines of a file that a crash may have left, and cuts off what stands behind them. It may crash too. A
+    /// file that is no journal stays as it is.
+    pub fn recover(&mut self, alloc: Global) -> Result<Recovery, DeviceFault>
+        requires { IsTrue D.is_known → IsDurable D.seen D.may_leave D.is_usable self.old.device }
+
+        ensures text { IfOk result (λ found. IsTrue D.is_known → found.text.items ≡ text_of (recovered (D.seen self.old.device))) }
+        ensures torn { IfOk result (λ found. IsTrue D.is_known → found.torn ≡ torn_length (D.seen self.old.device)) }
+        ensures is_journal { IfOk result (λ found. IsTrue D.is_known → found.is_journal ≡ is_journal (D.seen self.old.device)) }
+        ensures settled { IfOk result (λ found. found.is_journal ≡ true → IsTrue D.is_known → IsSettled D.seen D.may_leave D.is_usable self.new) }
+        ensures open { IfOk result (λ found. found.is_journal ≡ true → self.new.state ≡ JournalState.Open) }
+        ensures foreign { IfOk result (λ found. found.is_journal ≡ false → IsTrue D.is_known → D.seen self.new.device ≡ D.seen self.old.device) }
+        ensures same { OnOk result (IsTrue D.is_known → recovered (D.seen self.new.device) ≡ recovered (D.seen self.old.device)) }
+        ensures cause { IsTrue D.is_known → HasCause (D.has_failed self.new.device) result }
+
+        // A crash at any moment leaves the same lines.
+        ensures any_moment { IsTrue D.is_known → LeavesOnly D.moment D.left_since self.old.device self.new.device
+            (λ c. recovered c ≡ recovered (D.seen self.old.device)) }
+    {
+        let found = self.read(alloc)?;
+        if found.is_journal {
+            self.repair()?;
+        }
+        Ok(found)
+    }
+
+    /// Reads the lines of a file that a crash may have left, and changes nothing. Repair it before its first new line,
+    /// if it is a journal. Sync a file of the system before: what another process has written reads back, and a power
+    /// cut may still lose it.
+    pub fn read(&mut self, alloc: Global) -> Result<Recovery, DeviceFault>
+        requires { IsTrue D.is_known → IsDurable D.seen D.may_leave D.is_usable self.old.device }
+
+        ensures text { IfOk result (λ found. IsTrue D.is_known → found.text.items ≡ text_of (recovered (D.seen self.old.device))) }
+        ensures torn { IfOk result (λ found. IsTrue D.is_known → found.torn ≡ torn_length (D.seen self.old.device)) }
+        ensures is_journal { IfOk result (λ found. IsTrue D.is_known → found.is_journal ≡ is_journal (D.seen self.old.device)) }
+        ensures state { self.new.state ≡ (if is_ok result then JournalState.Read else JournalState.Unread) }
+        ensures end { IfOk result (λ found. self.new.end ≡ length found.text.items) }
+        ensures same { IsTrue D.is_known → D.seen self.new.device ≡ D.seen self.old.device }
+        ensures durable { IsTrue D.is_known → IsDurable D.seen D.may_leave D.is_usable self.new.device }
+        ensures cause { IsTrue D.is_known → HasCause (D.has_failed self.new.device) result }
+        ensures any_moment { IsTrue D.is_known → LeavesOnly D.moment D.left_since self.old.device self.new.device
+            (λ c. recovered c ≡ recovered (D.seen self.old.device)) }
+    {
+        self.state = JournalState::Unread;
+        let mut text = self.device.read(alloc)?;
+        let end = whole_length(&text);
+        let rest = &text[end..];
+        let torn = ungated_length(rest);
+        let is_journal = can_end_journal(rest);
+        text.truncate(end);
+        self.end = end;
+        self.state = JournalState::Read;
+        Ok(Recovery {
+            text,
+            torn,
+            is_journal,
+        })
+    }
+
+    /// Cuts off what stands behind the lines that were read, and closes the gate.
+    pub fn repair(&mut self) -> Result<(), DeviceFault>
+        requires read { self.old.state ≡ JournalState.Read }
+        requires durable { IsTrue D.is_known → IsDurable D.seen D.may_leave D.is_usable self.old.device }
+        requires end { IsTrue D.is_known → self.old.end ≡ length (text_of (recovered (D.seen self.old.device))) }
+
+        ensures state { self.new.state ≡ (if is_ok result then JournalState.Open else JournalState.Broken) }
+        ensures settled { OnOk result (IsTrue D.is_known → IsSettled D.seen D.may_leave D.is_usable self.new) }
+        ensures same { OnOk result (IsTrue D.is_known → recovered (D.seen self.new.device) ≡ recovered (D.seen self.old.device)) }
+        ensures cause { OnErr result (IsTrue D.is_known → IsTrue (D.has_failed self.new.device)) }
+        ensures any_moment { IsTrue D.is_known → LeavesOnly D.moment D.left_since self.old.device self.new.device
+            (λ c. recovered c ≡ recovered (D.seen self.old.device)) }
+    {
+        self.state = JournalState::Broken;
+        self.cut()?;
+        self.close()?;
+        self.state = JournalState::Open;
+        Ok(())
+    }
+
+    /// Cuts the file to its lines, and syncs.
+    fn cut(&mut self) -> Result<(), DeviceFault>
+        requires durable { IsTrue D.is_known → IsDurable D.seen D.may_leave D.is_usable self.old.device }
+        requires end { IsTrue D.is_known → self.old.end ≡ length (text_of (recovered (D.seen self.old.device))) }
+        ensures durable { OnOk result (IsTrue D.is_known → IsDurable D.seen D.may_leave D.is_usable self.new.device) }
+        ensures cut { OnOk result (IsTrue D.is_known → D.seen self.new.device ≡ text_of (recovered (D.seen self.old.device))) }
+        ensures end { self.new.end ≡ self.old.end }
+        ensures state { self.new.state ≡ self.old.state }
+        ensures cause { OnErr result (IsTrue D.is_known → IsTrue (D.has_failed self.new.device)) }
+        ensures any_moment { IsTrue D.is_known → LeavesOnly D.moment D.left_since self.old.device self.new.device
+            (λ c. recovered c ≡ recovered (D.seen self.old.device)) }
+    {
+        self.device.cut(self.end)?;
+        self.device.sync()?; // before the gate: behind one that is torn open, what was there would count
+        Ok(())
+    }
+
+    /// Writes a closed gate behind the lines, with nothing there, and syncs.
+    fn close(&mut self) -> Result<(), DeviceFault>
+        requires durable { IsTrue D.is_known → IsDurable D.seen D.may_leave D.is_usable self.old.device }
+        requires bare { IsTrue D.is_known → D.seen self.old.device ≡ text_of (recovered (D.seen self.old.device)) }
+        requires end { IsTrue D.is_known → self.old.end ≡ length (D.seen self.old.device) }
+        ensures state { self.new.state ≡ self.old.state }
+        ensures settled { OnOk result (IsTrue D.is_known → IsSettled D.seen D.may_leave D.is_usable self.new) }
+        ensures same { OnOk result (IsTrue D.is_known → recovered (D.seen self.new.device) ≡ recovered (D.seen self.old.device)) }
+        ensures cause { OnErr result (IsTrue D.is_known → IsTrue (D.has_failed self.new.device)) }
+        ensures any_moment { IsTrue D.is_known → LeavesOnly D.moment D.left_since self.old.device self.new.device
+            (λ c. recovered c ≡ recovered (D.seen self.old.device)) }
+    {
+        self.device.write_at(self.end, &[0])?;
+        self.device.sync()?;
+        Ok(())
+    }
+}
