@@ -22,6 +22,9 @@ use Rattle.pana_stamp.specs.contracts.stamp.Stamp as stamp
 use Rattle.pana_family.specs.contracts.row.StampRow as row
 use Rattle.pana_family.specs.contracts.rows.Rows as rows
 use Rattle.pana_family.specs.contracts.rows.Rows.TheInside as rows_inside
+use Rattle.pana_family.specs.contracts.paired.PairedRows as paired
+use Rattle.pana_family.specs.contracts.paired.PairedRows.TheInside as paired_inside
+use Rattle.pana_rel.proofs.pair_table.PairTable.TheSendSync as pair_tables
 use Rattle.pana_family.specs.contracts.undo.Back as back
 use Rattle.pana_family.specs.contracts.undo.Undo as undo
 use Rattle.pana_family.specs.contracts.family.Family as family
@@ -68,6 +71,9 @@ row_send = declared_send row.the_type (search sendable, (option_send, (stamp_sen
 rows_send : IsSend rows.the_row
 rows_send = view_send _ _ _ _ _ (declared_send rows_inside.the_type (vecs.the_send _ _ _ row_send global.the_send frees.the_frees, tt))
 
+paired_send : IsSend paired.the_row
+paired_send = view_send _ _ _ _ _ (declared_send paired_inside.the_type (rows_send, (pair_tables.the_send, tt)))
+
 back_send : IsSend back.the_row
 back_send = variants_send back.enum ((vecs.the_send _ _ _ row_send global.the_send frees.the_frees, tt), ((search sendable, (event_send, (search sendable, tt))), ((search sendable, (search sendable, tt)), tt)))
 
@@ -75,7 +81,7 @@ undo_send : IsSend undo.the_row
 undo_send = declared_send undo.the_type (search sendable, (back_send, tt))
 
 family_send : IsSend family.the_row
-family_send = view_send _ _ _ _ _ (declared_send family_inside.the_type (global.the_send, (rows_send, (rings.the_send _ _ _ undo_send global.the_send frees.the_frees, tt))))
+family_send = view_send _ _ _ _ _ (declared_send family_inside.the_type (global.the_send, (paired_send, (rings.the_send _ _ _ undo_send global.the_send frees.the_frees, tt))))
 
 kept_family_send : IsSend kept_family.the_row
 kept_family_send = declared_send kept_family.the_type (search sendable, (family_send, (rings.the_send _ _ _ old_places.the_send global.the_send frees.the_frees, tt)))
