@@ -161,48 +161,10 @@ dropped_replaced c h x (r ∷ rows) named differ =
       ]
     ] refl
 
-pub put_back_first : (low : ℕ) (x : StampRow) (rows : List StampRow) → IsRising low rows → x.copy < low → put_back x rows ≡ x ∷ rows
-put_back_first low x [] up less = refl
-put_back_first low x (r ∷ rows) up less =
-    ap (λ (b : Bool). cond b (x ∷ rows) (cond (nat_lt x.copy r.copy) (x ∷ (r ∷ rows)) (r ∷ put_back x rows))) (ne_eqb r.copy x.copy (λ e. omega (arith, up.0, e)))
-    ∙ ap (λ (b : Bool). cond b (x ∷ (r ∷ rows)) (r ∷ put_back x rows)) (lt-ltb x.copy r.copy (omega (arith, up.0)))
-
 pub put_back_later : (x r : StampRow) (rows : List StampRow) → r.copy < x.copy → put_back x (r ∷ rows) ≡ r ∷ put_back x rows
 put_back_later x r rows less =
     ap (λ (b : Bool). cond b (x ∷ rows) (cond (nat_lt x.copy r.copy) (x ∷ (r ∷ rows)) (r ∷ put_back x rows))) (ne_eqb r.copy x.copy (λ e. omega (arith, e)))
     ∙ ap (λ (b : Bool). cond b (x ∷ (r ∷ rows)) (r ∷ put_back x rows)) (le-ltb x.copy r.copy (omega arith))
-
-pub put_back_here : (low : ℕ) (r x : StampRow) (rows : List StampRow) → IsRising low rows → In r rows → x.copy ≡ r.copy → put_back r (replaced r.copy x rows) ≡ rows
-put_back_here low r x [] up i named = absurd i
-put_back_here low r x (q ∷ rows) up i named = elim i [
-  | inl e ↦
-      let same : q.copy ≡ r.copy = ap (λ (k : StampRow). k.copy) (sym e) in
-      ap (λ (b : Bool). put_back r (cond b x q ∷ replaced r.copy x rows)) (eq-eqb q.copy r.copy same)
-      ∙ ap (λ (b : Bool). cond b (r ∷ replaced r.copy x rows) (cond (nat_lt r.copy x.copy) (r ∷ (x ∷ replaced r.copy x rows)) (x ∷ put_back r (replaced r.copy x rows)))) (eq-eqb x.copy r.copy named)
-      ∙ ap (λ (l : List StampRow). r ∷ l) (replaced_none (q.copy + 1) r.copy x rows up.1 (omega (arith, same)))
-      ∙ ap (λ (k : StampRow). k ∷ rows) e
-  | inr j ↦
-      let later : q.copy + 1 ≤ r.copy = above_low (q.copy + 1) rows r up.1 j in
-      ap (λ (b : Bool). put_back r (cond b x q ∷ replaced r.copy x rows)) (ne_eqb q.copy r.copy (λ e. omega (arith, later, e)))
-      ∙ put_back_later r q (replaced r.copy x rows) (omega (arith, later))
-      ∙ ap (λ (l : List StampRow). q ∷ l) (put_back_here (q.copy + 1) r x rows up.1 j named)
-]
-
-pub put_back_dropped : (low : ℕ) (r : StampRow) (rows : List StampRow) → IsRising low rows → In r rows → put_back r (dropped r.copy rows) ≡ rows
-put_back_dropped low r [] up i = absurd i
-put_back_dropped low r (q ∷ rows) up i = elim i [
-  | inl e ↦
-      let same : q.copy ≡ r.copy = ap (λ (k : StampRow). k.copy) (sym e) in
-      ap (λ (b : Bool). put_back r (cond b (dropped r.copy rows) (q ∷ dropped r.copy rows))) (eq-eqb q.copy r.copy same)
-      ∙ ap (put_back r) (dropped_none (q.copy + 1) r.copy rows up.1 (omega (arith, same)))
-      ∙ put_back_first (q.copy + 1) r rows up.1 (omega (arith, same))
-      ∙ ap (λ (k : StampRow). k ∷ rows) e
-  | inr j ↦
-      let later : q.copy + 1 ≤ r.copy = above_low (q.copy + 1) rows r up.1 j in
-      ap (λ (b : Bool). put_back r (cond b (dropped r.copy rows) (q ∷ dropped r.copy rows))) (ne_eqb q.copy r.copy (λ e. omega (arith, later, e)))
-      ∙ put_back_later r q (dropped r.copy rows) (omega (arith, later))
-      ∙ ap (λ (l : List StampRow). q ∷ l) (put_back_dropped (q.copy + 1) r rows up.1 j)
-]
 
 pub id_found : (low : ℕ) (r : StampRow) (rows : List StampRow) → IsRising low rows → In r rows → id_in rows r.copy ≡ r.stamp.id
 id_found low r [] up i = absurd i

@@ -1,7 +1,7 @@
 -- The rows of a family, by rising copy.
 use Rattle.std.specs.Prelude.{◌++◌, filter, ◌≡◌, ◌&&◌, None, ℕ, ◌+◌, ◌<◌, ◌≤◌, Bool, ◌==◌, List, [], ◌∷◌, if◌then◌else◌, nat_lt, max}
 use Rattle.std.specs.List.{list_any}
-use Rattle.pana_id.specs.Id.{AtPoints, has as owns, Id, zero_id, one_id, depth, parts}
+use Rattle.pana_id.specs.Id.{AtPoints, has as owns, Id, zero_id, one_id, depth, parts, sum_of}
 use Rattle.pana_event.specs.Event.{Event, leaf}
 use Rattle.pana_stamp.specs.Fill.{fill}
 use Rattle.pana_stamp.specs.Grow.{grow}
@@ -68,6 +68,14 @@ retouched copy touch rows = renewed copy (λ r. record r { touch = touch }) rows
 -- the rows, with another event and touch for a copy
 abbrev pub reverted : ℕ → Event → ℕ → List StampRow → List StampRow
 reverted copy event touch rows = renewed copy (λ r. record { copy = r.copy; holder = r.holder; stamp = record { id = r.stamp.id; event = event }; touch = touch }) rows
+
+-- the row with another id added to its own
+abbrev pub summed : Id → StampRow → StampRow
+summed i r = record { copy = r.copy; holder = r.holder; stamp = record { id = sum_of r.stamp.id i; event = r.stamp.event }; touch = r.touch }
+
+-- the rows without that of entry n; its source's id becomes the sum of both
+abbrev pub rejoined : ℕ → ℕ → List StampRow → List StampRow
+rejoined n source rows = renewed source (summed (id_in rows n)) (dropped n rows)
 
 -- the stamp of an id and an event
 abbrev pub stamp : Id → Event → Stamp

@@ -4,12 +4,15 @@ ghost use Rattle.std.specs.List.{list_any};
 ghost use Rattle.pana_family.specs.Updates.{has};
 ghost use Rattle.pana_family.specs.Holders.{leave};
 ghost use Rattle.pana_family.specs.Table.{In};
-ghost use Rattle.pana_family.specs.Rows.{IsRising, dropped, put_back, put_all, there};
-ghost use Rattle.pana_family.specs.inner.Making.{settles, goes, AreTaken, AreGone};
+ghost use Rattle.pana_id.specs.Id.{SharesNoPoint};
+ghost use Rattle.pana_family.specs.declared.row.StampRow.{StampRow as RowValue};
+ghost use Rattle.pana_family.specs.Rows.{IsRising, dropped, put_back, put_all, rejoined, renewed, summed, there};
+ghost use Rattle.pana_family.specs.inner.Making.{settles, goes, AreApart, AreTaken, AreGone};
 
 use crate::row::StampRow;
 use crate::searching::{index_from, position_of};
 use crate::settling::{is_bound, settles};
+use pana_id::IdTree;
 use std::alloc::{AllocError, Global};
 
 /// Puts a row in the place of that with its number, or among the others.
@@ -52,6 +55,30 @@ pub fn take_row(items: &mut Vec<StampRow>, copy: u64) -> Option<StampRow>
     match position_of(items, copy) {
         Some(at) => Some(items.remove(at)),
         None => None,
+    }
+}
+
+/// Adds an id to that of a copy, if it has a row. Takes no memory.
+fn add_id(items: &mut Vec<StampRow>, copy: u64, id: IdTree)
+    requires rising { IsRising 0 items.old.items }
+    requires apart { (r : RowValue) → In r items.old.items → SharesNoPoint r.stamp.id id }
+    ensures { items.new.items ≡ renewed copy (summed id) items.old.items }
+{
+    match position_of(items, copy) {
+        Some(at) => items[at].stamp.absorb(id),
+        None => {}
+    }
+}
+
+/// Takes the entry's row out, if it has one, and adds its id to the source's. Takes no memory.
+pub fn rejoin_rows(items: &mut Vec<StampRow>, entry: u64, source: u64)
+    requires rising { IsRising 0 items.old.items }
+    requires apart { AreApart items.old.items }
+    ensures { items.new.items ≡ rejoined entry source items.old.items }
+{
+    match take_row(items, entry) {
+        Some(row) => add_id(items, source, row.stamp.into_id()),
+        None => {}
     }
 }
 

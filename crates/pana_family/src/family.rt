@@ -117,6 +117,7 @@ impl Family {
         ensures never { IfErr result (λ fault. fault ≢ FamilyFault.SameCopy) }
         ensures exact { OnOk result (self.new.rows ≡ duplicated_rows entry source self.old.rows) }
         ensures back { OnOk result (self.new.undo ≡ more_undo entry self.old) }
+        ensures free { OnOk result (self.new.free ≡ take 8 (true ∷ self.old.free)) }
         ensures owned { OnOk result (OwnsSame self.old self.new) }
         ensures deep { OnOk result (Deepens 1 self.old self.new) }
         ensures err { OnErr result (self.new ≡ self.old) }
@@ -127,12 +128,10 @@ impl Family {
         if !self.rows.list().splits(source) {
             return Err(FamilyFault::TooDeep);
         }
-        let mut rows = Vec::with_capacity(self.alloc, 1)?;
-        let old = self.rows.duplicate(self.alloc, entry, source)?;
-        rows.push_reserved(old);
+        self.rows.duplicate(self.alloc, entry, source)?;
         self.undo.push_front(Undo {
             entry,
-            back: Back::Rows(rows),
+            back: Back::Divided(source),
         });
         Ok(())
     }
@@ -281,7 +280,7 @@ impl Family {
     }
 
     /// Undoes the last pending entry: the copies and parcels have the stamps, holders and touches from before it, tree for
-    /// tree. An entry that `edit` or `touch_place` recorded is undone without memory.
+    /// tree. An entry that `duplicate`, `edit` or `touch_place` recorded is undone without memory.
     ///
     /// # Errors
     ///
@@ -305,6 +304,10 @@ impl Family {
                 }
                 Back::Event(copy, event, touch) => {
                     self.rows.revert(copy, event, touch);
+                    Ok(())
+                }
+                Back::Divided(source) => {
+                    self.rows.rejoin(entry, source);
                     Ok(())
                 }
                 Back::Rows(rows) => match self.rows.put_all(self.alloc, entry, rows) {

@@ -1,6 +1,6 @@
 //! The rows that reports make.
-ghost use Rattle.std.specs.Prelude.{◌≡◌, ◌+◌, ◌^◌, ◌<◌, false, max, None, IfOk};
-ghost use Rattle.pana_id.specs.Id.{is_zero, is_single, depth, SharesNoPoint};
+ghost use Rattle.std.specs.Prelude.{◌≡◌, ◌+◌, ◌^◌, ◌<◌, false, max, None, IfOk, OnErr};
+ghost use Rattle.pana_id.specs.Id.{is_zero, is_single, depth, sum_of, SharesNoPoint};
 ghost use Rattle.pana_event.specs.Event.{greatest};
 ghost use Rattle.pana_stamp.specs.Raised.{IsRaised};
 ghost use Rattle.pana_family.specs.Rows.{IsUpdate};
@@ -56,32 +56,26 @@ pub fn restore(row: &mut StampRow, event: EventTree, touch: u64)
     let _ = renew(row, event, touch);
 }
 
-/// The copy's row and that of a new copy, when the entry duplicates it.
-pub fn shared_rows(
-    alloc: Global,
-    row: &StampRow,
-    entry: u64,
-) -> Result<(StampRow, StampRow), AllocError>
-    requires { is_single row.now.stamp.id 256 ≡ false }
-    ensures shared { IfOk result (λ two. IsShared row.now two.0 two.1 entry) }
-    ensures holder { IfOk result (λ two. two.0.holder ≡ row.now.holder) }
-    ensures new_holder { IfOk result (λ two. two.1.holder ≡ None) }
+/// Divides the copy's id in place, and returns the row of a new copy that has the second part, when the entry duplicates
+/// the copy. The parts add up to the id again.
+pub fn share_row(alloc: Global, row: &mut StampRow, entry: u64) -> Result<StampRow, AllocError>
+    requires { is_single row.old.stamp.id 256 ≡ false }
+    ensures shared { IfOk result (λ given. IsShared row.old row.new given entry) }
+    ensures holder { row.new.holder ≡ row.old.holder }
+    ensures new_holder { IfOk result (λ given. given.holder ≡ None) }
+    ensures sum { IfOk result (λ given. sum_of row.new.stamp.id given.stamp.id ≡ row.old.stamp.id) }
+    ensures err { OnErr result (row.new ≡ row.old) }
 {
-    match row.stamp.fork(alloc) {
-        Ok((kept, given)) => Ok((
-            StampRow {
-                copy: row.copy,
-                holder: row.holder,
-                stamp: kept,
-                touch: row.touch,
-            },
-            StampRow {
-                copy: entry,
-                holder: None,
-                stamp: given,
-                touch: entry,
-            },
-        )),
+    // whose contract says that the id is valid
+    let _ = row.stamp.id().node();
+    let event = row.stamp.event_tree().copy_of(alloc)?;
+    match row.stamp.split_off(alloc) {
+        Ok(id) => Ok(StampRow {
+            copy: entry,
+            holder: None,
+            stamp: Stamp::new(id, event),
+            touch: entry,
+        }),
         Err(IdFault::TooDeep) => unreachable!(),
         Err(IdFault::OutOfMemory) => Err(AllocError),
     }

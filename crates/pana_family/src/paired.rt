@@ -5,7 +5,7 @@ ghost use Rattle.pana_family.specs.Relation.{relation};
 ghost use Rattle.pana_family.specs.Table.{Known, set_in, registered, touched, duplicated, edited, reconciled, merged, removed, AreBelow};
 ghost use Rattle.pana_family.specs.Board.{board_rows, board_newest, board_split};
 ghost use Rattle.pana_family.specs.Stands.{StandsFor};
-ghost use Rattle.pana_family.specs.Rows.{AreEdited, duplicated_rows, lives, copy_rows, OwnSame, dropped, AreBefore, put_back, put_all, id_in, seed_row, retouched, reverted, deepest};
+ghost use Rattle.pana_family.specs.Rows.{AreEdited, duplicated_rows, lives, copy_rows, OwnSame, dropped, AreBefore, put_all, id_in, seed_row, rejoined, retouched, reverted, deepest};
 ghost use Rattle.pana_family.specs.Kept.{IsKept};
 
 use crate::board::{FamilyBoard, board_of};
@@ -123,20 +123,15 @@ impl PairedRows {
         Ok(former)
     }
 
-    /// A new copy beside its source, with the entry as its number. Returns the source's row from before.
-    pub fn duplicate(
-        &mut self,
-        alloc: Global,
-        entry: u64,
-        source: u64,
-    ) -> Result<StampRow, AllocError>
+    /// A new copy beside its source, with the entry as its number. Its source's id is divided in place.
+    pub fn duplicate(&mut self, alloc: Global, entry: u64, source: u64) -> Result<(), AllocError>
         requires living { lives self.old source ≡ true }
         requires new { AreBefore entry self.old }
         requires room { length (copy_rows self.old) < 256 }
         requires splits { is_single (id_in self.old source) 256 ≡ false }
         ensures stands { OnOk result ((table : List Known) → StandsFor self.old table → StandsFor self.new (duplicated entry source table)) }
         ensures exact { OnOk result (self.new ≡ duplicated_rows entry source self.old) }
-        ensures back { IfOk result (λ old. put_back old (dropped entry self.new) ≡ self.old) }
+        ensures back { OnOk result (rejoined entry source self.new ≡ self.old) }
         ensures deep { OnOk result (deepest self.new ≤ deepest self.old + 1) }
         ensures owned { OnOk result (OwnSame self.old self.new) }
         ensures was { IsKept self.old }
@@ -146,7 +141,7 @@ impl PairedRows {
         let _ = self.pairs.copies();
         self.pairs.insert_like(source, entry)?;
         match self.rows.duplicate(alloc, entry, source) {
-            Ok(former) => Ok(former),
+            Ok(()) => Ok(()),
             Err(fault) => {
                 self.pairs.drop_copy(entry);
                 Err(fault)
@@ -255,6 +250,16 @@ impl PairedRows {
     {
         self.rows.revert(copy, event, touch);
         compare_copies(self.rows.as_slice(), &mut self.pairs, &[copy]);
+    }
+
+    /// Takes the entry's own row out, and the source's id becomes the sum of both. Takes no memory.
+    pub fn rejoin(&mut self, entry: u64, source: u64)
+        requires { IsKept (rejoined entry source self.old) }
+        ensures { self.new ≡ rejoined entry source self.old }
+    {
+        let _ = self.rows.as_slice();
+        self.rows.rejoin(entry, source);
+        drop_missing(self.rows.as_slice(), &mut self.pairs, &[entry]);
     }
 
     /// Takes the entry's own row out, if it has one, and puts rows back, or returns them where memory runs out.

@@ -6,12 +6,12 @@ ghost use Rattle.pana_family.specs.declared.row.StampRow.{StampRow as RowValue};
 ghost use Rattle.pana_family.specs.Table.{Known, touch_in, registered, In, touched, duplicated, edited, reconciled, merged, lost, bequeathed, removed, copies_of, AreBelow};
 ghost use Rattle.pana_family.specs.Stamps.{AreStamps, text_of};
 ghost use Rattle.pana_family.specs.Stands.{StandsFor};
-ghost use Rattle.pana_family.specs.Rows.{AreEdited, duplicated_rows, lives, copy_rows, OwnSame, dropped, AreBefore, put_back, put_all, id_in, seed_row, retouched, reverted, deepest};
+ghost use Rattle.pana_family.specs.Rows.{AreEdited, duplicated_rows, lives, copy_rows, OwnSame, dropped, AreBefore, put_all, id_in, seed_row, rejoined, retouched, reverted, deepest};
 ghost use Rattle.pana_family.specs.inner.Making.{held_rows};
 ghost use Rattle.pana_family.specs.Kept.{IsKept};
 
-use crate::exchanging::{put_rows, settle_in, take_row};
-use crate::making::{merged_rows, reconciled_rows, renew, restore, shared_rows, updated_event};
+use crate::exchanging::{put_rows, rejoin_rows, settle_in, take_row};
+use crate::making::{merged_rows, reconciled_rows, renew, restore, share_row, updated_event};
 use crate::row::StampRow;
 use crate::searching::{
     are_before, copy_numbers, count_copies, held_count, index_of, lives, position_of,
@@ -177,31 +177,25 @@ impl Rows {
         Ok(renew(&mut self.items[at], event, entry))
     }
 
-    /// A new copy beside its source, with the entry as its number. Returns the source's row from before.
-    pub fn duplicate(
-        &mut self,
-        alloc: Global,
-        entry: u64,
-        source: u64,
-    ) -> Result<StampRow, AllocError>
+    /// A new copy beside its source, with the entry as its number. Its source's id is divided in place.
+    pub fn duplicate(&mut self, alloc: Global, entry: u64, source: u64) -> Result<(), AllocError>
         requires living { lives self.old source ≡ true }
         requires new { AreBefore entry self.old }
         requires room { length (copy_rows self.old) < 256 }
         requires splits { is_single (id_in self.old source) 256 ≡ false }
         ensures stands { OnOk result ((table : List Known) → StandsFor self.old table → StandsFor self.new (duplicated entry source table)) }
         ensures exact { OnOk result (self.new ≡ duplicated_rows entry source self.old) }
-        ensures back { IfOk result (λ old. put_back old (dropped entry self.new) ≡ self.old) }
+        ensures back { OnOk result (rejoined entry source self.new ≡ self.old) }
         ensures deep { OnOk result (deepest self.new ≤ deepest self.old + 1) }
         ensures owned { OnOk result (OwnSame self.old self.new) }
         ensures was { IsKept self.old }
         ensures err { OnErr result (self.new ≡ self.old) }
     {
         let at = index_of(&self.items, source);
-        let (kept, given) = shared_rows(alloc, &self.items[at], entry)?;
         self.items.reserve(1)?;
-        let old = mem::replace(&mut self.items[at], kept);
+        let given = share_row(alloc, &mut self.items[at], entry)?;
         self.items.push_reserved(given);
-        Ok(old)
+        Ok(())
     }
 
     /// Two copies learn what either knows, and are settled. Returns the rows from before that went.
@@ -365,6 +359,14 @@ impl Rows {
             Some(at) => restore(&mut self.items[at], event, touch),
             None => {}
         }
+    }
+
+    /// Takes the entry's own row out, and the source's id becomes the sum of both. Takes no memory.
+    pub fn rejoin(&mut self, entry: u64, source: u64)
+        requires { IsKept (rejoined entry source self.old) }
+        ensures { self.new ≡ rejoined entry source self.old }
+    {
+        rejoin_rows(&mut self.items, entry, source);
     }
 
     /// Takes the entry's own row out, if it has one, and puts rows back, or returns them where memory runs out.

@@ -19,4 +19,6 @@ pub enum Back {
     Event(u64, EventTree, u64),
     /// The copy's row has this touch again.
     Touch(u64, u64),
+    /// The row with the entry's own number goes, and the copy named here, its source, has the id of both again.
+    Divided(u64),
 }

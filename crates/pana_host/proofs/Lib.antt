@@ -1,3 +1,5 @@
 pub mod Booths
 pub mod Sending
+pub mod Scanned
+pub mod Scans
 pub mod Sessions

@@ -16,10 +16,10 @@ use Rattle.pana_host.specs.Lane.{IsServed}
 use Rattle.pana_host.specs.declared.lane.Lane.{Lane}
 use Rattle.pana_host.specs.Session.{MakesCall, MakesNone, GrowsTo}
 
-grows_same : (old new : PassView) → new ≡ old → GrowsTo old new
+pub grows_same : (old new : PassView) → new ≡ old → GrowsTo old new
 grows_same old new is = subst (GrowsTo old) (sym is) (record { same = (refl, refl); seen = ([], append-nil old.seen) })
 
-grows_on : (old mid new : PassView) → GrowsTo old mid → GrowsTo mid new → GrowsTo old new
+pub grows_on : (old mid new : PassView) → GrowsTo old mid → GrowsTo mid new → GrowsTo old new
 grows_on old mid new a b = record {
   same = (b.same.0 ∙ a.same.0, b.same.1 ∙ a.same.1);
   seen = (a.seen.0 ++ b.seen.0, sym (append_assoc old.seen a.seen.0 b.seen.0) ∙ ap (λ (l : List FinishedCall). l ++ b.seen.0) a.seen.1 ∙ b.seen.1);
@@ -84,3 +84,11 @@ is_served {R = R} {W = W} remaining contents lane old new pass r w (Err fault) b
     let ends : PassView → PassView → Type 0 = λ p q. NeverBegins lane.reader r lane.writer w p q fault ⊎ Stops remaining contents MakesCall MakesNone (2 ^ 40) lane.reader r lane.writer w p q fault in
     let text : ends lane.pass pass = subst (ends lane.pass) (sym is) (subst (λ (p : PassView). ends p new) begins err) in
     record { pass = stopped_grows remaining contents lane.reader r lane.writer w lane.pass pass (2 ^ 40) fault text; text = text }
+
+-- however serving ends, it leaves the same pass, which has seen what it had seen
+pub any_grows : {R W : Type 0} → (remaining : R → Option (List ℕ)) (contents : W → Option (List ℕ)) (r r' : Tap R) (w w' : Tap W) (old new : PassView) (most : ℕ) (result : Result Served ServeFault)
+    → IfOk result (Serves remaining contents MakesCall r r' w w' old new)
+    → IfErr result (λ fault. NeverBegins r r' w w' old new fault ⊎ Stops remaining contents MakesCall MakesNone most r r' w w' old new fault)
+    → GrowsTo old new
+any_grows remaining contents r r' w w' old new most (Ok served) ok err = served_grows remaining contents r r' w w' old new served ok
+any_grows remaining contents r r' w w' old new most (Err fault) ok err = stopped_grows remaining contents r r' w w' old new most fault err

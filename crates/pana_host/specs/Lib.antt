@@ -1,3 +1,5 @@
 pub mod Session
 pub mod Lane
+pub mod Listen
+pub mod Scan
 pub mod inner

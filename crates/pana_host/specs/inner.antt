@@ -1,1 +1,2 @@
 pub mod Booth
+pub mod Scan

@@ -11,6 +11,7 @@ use std::marker::Model;
 use std::sync::Wait;
 
 /// A session by a pass of a desk. To contracts it is the pass.
+#[derive(Drop)]
 pub struct DeskSession<'a, T, G> {
     rt: &'a T,
     desk: &'a Desk,

@@ -1,15 +1,24 @@
-//! Sessions at a desk: each is served in a thread of its own, by the pass that it brings.
+//! Sessions and scanners at a desk: each is served in a thread of its own, by the pass that it brings.
 #![tactic(auto)]
 
 mod desk_session;
+mod folder;
 mod gate;
 mod hosting;
 mod lane;
+mod listening;
+mod requests;
+mod scanning;
 
 pub use crate::desk_session::DeskSession;
+pub use crate::folder::Folder;
 pub use crate::gate::{Gate, OpenGate};
 pub use crate::hosting::host;
 pub use crate::lane::{Lane, LaneEnd};
+pub use crate::listening::listen;
+pub use crate::scanning::{ScanTally, scanner};
 
+#[cfg(test)]
+mod scanning_tests;
 #[cfg(test)]
 mod tests;

@@ -37,7 +37,7 @@ impl Model for PairTable {
 }
 
 impl PairTable {
-    /// The table of one copy.
+    /// The table of one copy, with room for no more than that one until another is put in.
     ///
     /// # Errors
     ///
@@ -45,10 +45,11 @@ impl PairTable {
     pub fn new(alloc: Global, first: u64) -> Result<PairTable, AllocError>
         ensures { IfOk result (λ table. table.copies ≡ first ∷ []) }
     {
-        let mut copies = Vec::new(alloc);
-        copies.push(first)?;
-        let mut rows = Vec::new(alloc);
-        rows.push(rows::row_of(alloc, &[Rel::Equal])?)?;
+        let row = rows::row_of(alloc, &[Rel::Equal])?;
+        let mut copies = Vec::with_capacity(alloc, 1)?;
+        copies.push_reserved(first);
+        let mut rows = Vec::with_capacity(alloc, 1)?;
+        rows.push_reserved(row);
         Ok(PairTable {
             alloc,
             copies,

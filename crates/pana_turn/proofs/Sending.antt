@@ -75,7 +75,7 @@ paired_send : IsSend paired.the_row
 paired_send = view_send _ _ _ _ _ (declared_send paired_inside.the_type (rows_send, (pair_tables.the_send, tt)))
 
 back_send : IsSend back.the_row
-back_send = variants_send back.enum ((vecs.the_send _ _ _ row_send global.the_send frees.the_frees, tt), ((search sendable, (event_send, (search sendable, tt))), ((search sendable, (search sendable, tt)), tt)))
+back_send = variants_send back.enum ((vecs.the_send _ _ _ row_send global.the_send frees.the_frees, tt), ((search sendable, (event_send, (search sendable, tt))), ((search sendable, (search sendable, tt)), ((search sendable, tt), tt))))
 
 undo_send : IsSend undo.the_row
 undo_send = declared_send undo.the_type (search sendable, (back_send, tt))

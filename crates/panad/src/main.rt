@@ -4,21 +4,24 @@
 mod answer;
 mod command;
 mod comparing;
+mod daemon;
 mod fault;
 mod line_fault;
 mod loading;
 mod one_hall;
 mod progress;
+mod root;
 mod running;
 mod scanning;
 mod showing;
 mod tables;
 #[cfg(test)]
 mod tests;
+mod ticks;
 mod version;
 
 use std::process::ExitCode;
 
 fn main(rt: HostRuntime) -> ExitCode {
-    command::start(&rt)
+    command::start(&rt, &rt)
 }

@@ -2,31 +2,33 @@ use Rattle.std.proofs.Common.{ap, sym, ◌∙◌, subst, get_or, set, ◌≡◌,
 use Rattle.pana_id.specs.Id.{Id, is_single}
 use Rattle.pana_family.specs.declared.row.StampRow.{StampRow}
 use Rattle.pana_family.specs.Rows.{AreBefore, copy_rows}
-use Rattle.pana_family.proofs.Written.{IsRowAt, row_at, Duplicates, duplicates, duplicates_from, same_read, id_at}
+use Rattle.pana_family.proofs.Written.{IsRowAt, row_at, Duplicates, duplicates, duplicates_from, id_at}
 use Rattle.pana_family.proofs.rows.Rows.duplicate.Goals as goal
 
-pub shared_rows-requires : goal.shared_rows-requires
-shared_rows-requires c =
-    let here : IsRowAt c.self.inside.items.items c.index_of-at.result c.args.source c.index.result.now =
-    row_at _ _ _ _ _ c.deref.ensures.value c.index_of-at.ensures.within c.index_of-at.ensures.here c.index_of-at.ensures.free c.index.ensures in
-    ap (λ (i : Id). is_single i 256) (sym (id_at c.self.inside.items.items c.args.self.now c.index_of-at.result c.args.source c.index.result.now c.self.view_is c.self.invariant here)) ∙ c.requires.splits
+pub share_row-requires : goal.share_row-requires
+share_row-requires c =
+    let rows : List StampRow = c.self.inside.items.items in
+    let r : StampRow = c.index_mut.result.now in
+    let read : r ≡ get_or rows c.index_of-at.result r = c.index_mut.ensures.value ∙ ap (λ (l : List StampRow). get_or l c.index_of-at.result r) c.in_ok-reserve.ensures.items in
+    let here : IsRowAt rows c.index_of-at.result c.args.source r =
+    row_at _ _ _ _ _ c.deref.ensures.value c.index_of-at.ensures.within c.index_of-at.ensures.here c.index_of-at.ensures.free read in
+    ap (λ (i : Id). is_single i 256) (sym (id_at rows c.args.self.now c.index_of-at.result c.args.source r c.self.view_is c.self.invariant here)) ∙ c.requires.splits
 
-done : (c : goal.After-push_reserved) → Duplicates c.args.self.now c.push_reserved.new.self.items c.args.entry c.args.source c.replace-old.result
+done : (c : goal.After-push_reserved) → Duplicates c.args.self.now c.push_reserved.new.self.items c.args.entry c.args.source
 done c =
     let rows : List StampRow = c.self.inside.items.items in
-    let here : IsRowAt rows c.index_of-at.result c.args.source c.index.result.now =
-    row_at _ _ _ _ _ c.deref.ensures.value c.index_of-at.ensures.within c.index_of-at.ensures.here c.index_of-at.ensures.free c.index.ensures in
+    let r : StampRow = c.index_mut.result.now in
     let reserved : c.reserve.new.self.items ≡ rows = c.in_ok-reserve.ensures.items in
-    let is : c.replace-old.result ≡ c.index.result.now = c.replace-old.ensures.value
-    ∙ same_read rows c.index_of-at.result c.index_mut.result.now c.index.result.now here.within (c.index_mut.ensures.value ∙ ap (λ (l : List StampRow). get_or l c.index_of-at.result c.index_mut.result.now) reserved) c.index.ensures in
+    let read : r ≡ get_or rows c.index_of-at.result r = c.index_mut.ensures.value ∙ ap (λ (l : List StampRow). get_or l c.index_of-at.result r) reserved in
+    let here : IsRowAt rows c.index_of-at.result c.args.source r =
+    row_at _ _ _ _ _ c.deref.ensures.value c.index_of-at.ensures.within c.index_of-at.ensures.here c.index_of-at.ensures.free read in
     let small : length (copy_rows rows) < 256 = omega (arith, c.requires.room, ap (λ (l : List StampRow). length (copy_rows l)) c.self.view_is) in
-    let new : c.push_reserved.new.self.items ≡ set rows c.index_of-at.result c.in_ok-kept.kept ++ c.in_ok-kept.given ∷ [] =
-    c.push_reserved.ensures.items ∙ ap (λ (l : List StampRow). set l c.index_of-at.result c.replace-old.new.dest ++ c.in_ok-kept.given ∷ []) reserved
-    ∙ ap (λ (x : StampRow). set rows c.index_of-at.result x ++ c.in_ok-kept.given ∷ []) c.replace-old.ensures.after in
-    duplicates_from rows c.args.self.now c.push_reserved.new.self.items c.args.entry c.args.source c.index.result.now c.replace-old.result c.self.view_is is
-    (subst (λ (l : List StampRow). Duplicates rows l c.args.entry c.args.source c.index.result.now) (sym new)
-    (duplicates rows c.index_of-at.result c.args.source c.args.entry c.index.result.now c.in_ok-kept.kept c.in_ok-kept.given c.self.invariant
-    (subst (AreBefore c.args.entry) (sym c.self.view_is) c.requires.new) small here c.in_ok-kept.ensures.holder c.in_ok-kept.ensures.new_holder c.in_ok-kept.ensures.shared))
+    let new : c.push_reserved.new.self.items ≡ set rows c.index_of-at.result c.share_row.new.row ++ c.in_ok-given.given ∷ [] =
+    c.push_reserved.ensures.items ∙ ap (λ (l : List StampRow). set l c.index_of-at.result c.share_row.new.row ++ c.in_ok-given.given ∷ []) reserved in
+    duplicates_from rows c.args.self.now c.push_reserved.new.self.items c.args.entry c.args.source c.self.view_is
+    (subst (λ (l : List StampRow). Duplicates rows l c.args.entry c.args.source) (sym new)
+    (duplicates rows c.index_of-at.result c.args.source c.args.entry r c.share_row.new.row c.in_ok-given.given c.self.invariant
+    (subst (AreBefore c.args.entry) (sym c.self.view_is) c.requires.new) small here c.share_row.ensures.holder c.in_ok-given.ensures.new_holder c.in_ok-given.ensures.shared c.in_ok-given.ensures.sum))
 
 pub invariant_of-self-2 : goal.invariant_of-self-2
 invariant_of-self-2 c = (done c).kept

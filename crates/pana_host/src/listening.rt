@@ -1,0 +1,126 @@
+//! Connections, each served as a session.
+ghost use Rattle.std.specs.Prelude.{◌≡◌, ◌<◌, ◌≤◌, IfOk, IfErr, length};
+ghost use denote.Param.Send.{IsSync};
+ghost use Rattle.pana_host.specs.Listen.{AreOf, HaveGrown};
+ghost use Rattle.pana_host.specs.Session.{GrowsTo};
+
+use crate::desk_session::DeskSession;
+use crate::gate::Gate;
+use crate::requests::NoRequests;
+use pana_turn::{Desk, Pass};
+use pana_wire::{Tap, serve};
+use std::alloc::Global;
+use std::io::BufWriter;
+use std::marker::Sync;
+use std::net::{TcpListener, TcpStream};
+use std::sync::{Mutex, Wait};
+use std::thread;
+use std::thread::Threads;
+
+/// How many reads a session may make.
+const MOST_READS: u64 = 1 << 40;
+
+/// How many failed accepts in a row end a worker.
+const MOST_FAILURES: u32 = 1000;
+
+/// The next connection; none where as many were taken as are wanted, or accepting failed again and again.
+fn next_connection<T: Wait>(
+    rt: &T,
+    listener: &TcpListener,
+    taken: &Mutex<u64>,
+    wanted: Option<u64>,
+) -> Option<TcpStream> {
+    let mut taken = taken.lock(rt);
+    if wanted == Some(*taken) {
+        return None;
+    }
+    for _ in 0..MOST_FAILURES {
+        if let Ok((stream, _)) = listener.accept() {
+            *taken = taken.saturating_add(1);
+            return Some(stream);
+        }
+    }
+    None
+}
+
+/// Serves a connection to its end. What ends it early ends it alone.
+fn serve_connection<T: Wait, G: Gate>(
+    alloc: Global,
+    stream: &TcpStream,
+    session: &mut DeskSession<'_, T, G>,
+)
+    ensures { GrowsTo session.old session.new }
+{
+    // Without this, a client that sends several lines at once would wait for each answer.
+    if stream.set_nodelay(true).is_err() {
+        return;
+    }
+    let Ok(output) = BufWriter::new(alloc, stream) else {
+        return;
+    };
+    let mut reader = Tap::new(NoRequests::new(stream));
+    let mut writer = Tap::new(output);
+    let _ = serve(alloc, &mut reader, &mut writer, session, MOST_READS);
+}
+
+/// Serves connections, one after another, until no more is wanted.
+fn work<T: Wait, G: Gate>(
+    rt: &T,
+    alloc: Global,
+    listener: &TcpListener,
+    taken: &Mutex<u64>,
+    wanted: Option<u64>,
+    session: &mut DeskSession<'_, T, G>,
+)
+    ensures { GrowsTo session.old session.new }
+{
+    for _ in rt.forever() {
+        let Some(stream) = next_connection(rt, listener, taken, wanted) else {
+            return;
+        };
+        serve_connection(alloc, &stream, session);
+    }
+}
+
+/// Serves the listener's connections, as many at a time as there are passes, each in a thread of its own; where no thread
+/// can be made, one worker after another. It ends once as many connections were taken as are wanted, and never where no
+/// number is given, and returns the passes in order.
+///
+/// A connection whose first bytes are those of an HTTP request is closed, with no call made and nothing written.
+///
+/// # Errors
+///
+/// The passes as they came, where an allocation failed, before a connection is taken.
+pub fn listen<T: Threads + Wait + Sync, G: Gate + Sync>(
+    rt: &T,
+    alloc: Global,
+    desk: &Desk,
+    listener: &TcpListener,
+    mut passes: Vec<Pass>,
+    wanted: Option<u64>,
+    gate: &G,
+) -> Result<Vec<Pass>, Vec<Pass>>
+    requires few { length passes.items ≤ 64 }
+    requires of { AreOf desk.now.id passes.items }
+    ensures grown { IfOk result (λ back. HaveGrown passes.items back.items) }
+    ensures back { IfErr result (λ back. back.items ≡ passes.items) }
+{
+    let Ok(mut sessions) = Vec::with_capacity(alloc, passes.len()) else {
+        return Err(passes);
+    };
+    while let Some(pass) = passes.pop() {
+        let lane = passes.len() as u32 + 1;
+        sessions.push_reserved(DeskSession::new(rt, desk, gate, lane, pass));
+    }
+    let taken = Mutex::new(0);
+    let counted = &taken;
+    let serve = move |_place: usize, session: &mut DeskSession<'_, T, G>|
+        requires { IsSync T.row × IsSync G.row }
+        ensures { GrowsTo session.entry.now session.exit.now }
+    { work(rt, alloc, listener, counted, wanted, session) };
+    thread::for_each_mut(rt, sessions.as_mut_slice(), 64, &serve);
+    while let Some(session) = sessions.pop() {
+        passes.push_reserved(session.into_pass());
+    }
+    Ok(passes)
+}

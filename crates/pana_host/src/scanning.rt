@@ -1,0 +1,177 @@
+//! Scans, one after another, by a session.
+ghost use Rattle.std.specs.Prelude.{◌≡◌, ◌≢◌, ◌+◌, ◌-◌, ◌^◌, min, Ok, IfOk, IfErr};
+ghost use Rattle.pana_host.specs.Scan.{Scans};
+ghost use Rattle.pana_host.specs.inner.Scan.{Asks, ScansOnce, ReportsOne, ReportsSteps, StopsSpent, StopsReporting};
+
+use crate::folder::Folder;
+use pana_copies::DeviceName;
+use pana_hall::{Call, HoldingList, Query, Reply, Spent};
+use pana_scan::{Baseline, Listing, Plan, ScanFault, Step, plan};
+use pana_wire::Session;
+use std::alloc::Global;
+use std::sync::Wait;
+
+/// What a scanner has done: how often it looked, how many of its reports were done and how many refused, and how many
+/// scans it passed over, from somewhere on, for a fault. Each count stays at the greatest `u64`.
+#[derive(Clone, Copy, Debug, PartialEq, Eq)]
+pub struct ScanTally {
+    pub scans: u64,
+    pub reports: u64,
+    pub refused: u64,
+    pub faults: u64,
+}
+
+/// Makes the report of a step, and says whether the next one is to be made; it isn't where memory runs out.
+fn report<S: Session>(
+    session: &mut S,
+    device: &DeviceName,
+    step: &Step,
+    baseline: &mut Baseline,
+    tally: &mut ScanTally,
+) -> Result<bool, Spent>
+    ensures ok { IfOk result (λ more. ReportsOne S.step device.now step.now session.old session.new more) }
+    ensures spent { IfErr result (λ _. S.spends session.old session.new) }
+    ensures scans { tally.new.scans ≡ tally.old.scans }
+{
+    let Ok(report) = step.report.copy_of() else {
+        tally.faults = tally.faults.saturating_add(1);
+        return Ok(false);
+    };
+    match session.call(device, Call::Report(report))? {
+        Reply::Done { entry } => {
+            tally.reports = tally.reports.saturating_add(1);
+            if baseline.settle(step, entry).is_err() {
+                tally.faults = tally.faults.saturating_add(1);
+                return Ok(false);
+            }
+        }
+        _ => tally.refused = tally.refused.saturating_add(1),
+    }
+    Ok(true)
+}
+
+/// Makes the reports of the steps in order. The rest is passed over where memory runs out.
+fn report_all<S: Session>(
+    session: &mut S,
+    device: &DeviceName,
+    steps: &[Step],
+    baseline: &mut Baseline,
+    tally: &mut ScanTally,
+) -> Result<(), Spent>
+    ensures ok { IfOk result (λ _. ReportsSteps S.step device.now steps.now session.old session.new) }
+    ensures spent { IfErr result (λ _. StopsReporting S.step S.spends device.now steps.now session.old session.new) }
+    ensures scans { tally.new.scans ≡ tally.old.scans }
+{
+    for step in steps {
+        if !report(session, device, step, baseline, tally)? {
+            return Ok(());
+        }
+    }
+    Ok(())
+}
+
+/// Asks for the holdings of the device; none where they aren't answered, or memory runs out before they are asked for.
+fn holdings_of<S: Session>(
+    session: &mut S,
+    device: &DeviceName,
+) -> Result<Option<HoldingList>, Spent>
+    ensures ok { IfOk result (Asks S.step device.now session.old session.new) }
+    ensures spent { IfErr result (λ _. S.spends session.old session.new) }
+{
+    let Ok(name) = device.copy_of() else {
+        return Ok(None);
+    };
+    match session.call(device, Call::Query(Query::Holdings { device: name }))? {
+        Reply::Holdings(holdings) => Ok(Some(holdings)),
+        _ => Ok(None),
+    }
+}
+
+/// Makes the calls of one scan, of a listing of the device.
+fn scan<S: Session>(
+    alloc: Global,
+    session: &mut S,
+    device: &DeviceName,
+    listing: &Listing,
+    baseline: &mut Baseline,
+    tally: &mut ScanTally,
+) -> Result<(), Spent>
+    requires { listing.now.device ≡ device.now }
+    ensures ok { IfOk result (λ _. ScansOnce S.step device.now (Ok listing.now) session.old session.new) }
+    ensures spent { IfErr result (λ _. StopsSpent S.step S.spends device.now (Ok listing.now) session.old session.new) }
+    ensures scans { tally.new.scans ≡ tally.old.scans }
+{
+    let Some(holdings) = holdings_of(session, device)? else {
+        tally.faults = tally.faults.saturating_add(1);
+        return Ok(());
+    };
+    let Ok(
+        Plan {
+            steps,
+            baseline: planned,
+        },
+    ) = plan(alloc, baseline, &holdings, listing)
+    else {
+        tally.faults = tally.faults.saturating_add(1);
+        return Ok(());
+    };
+    *baseline = planned;
+    report_all(session, device, steps.as_slice(), baseline, tally)
+}
+
+/// Makes the calls for what the folder gave.
+fn take<S: Session>(
+    alloc: Global,
+    session: &mut S,
+    device: &DeviceName,
+    given: Result<Listing, ScanFault>,
+    baseline: &mut Baseline,
+    tally: &mut ScanTally,
+) -> Result<(), Spent>
+    ensures ok { IfOk result (λ _. ScansOnce S.step device.now given session.old session.new) }
+    ensures spent { IfErr result (λ _. StopsSpent S.step S.spends device.now given session.old session.new) }
+    ensures scans { tally.new.scans ≡ tally.old.scans }
+{
+    match given {
+        Ok(listing) if listing.device() == device => {
+            scan(alloc, session, device, &listing, baseline, tally)
+        }
+        _ => {
+            tally.faults = tally.faults.saturating_add(1);
+            Ok(())
+        }
+    }
+}
+
+/// Takes what the folder gives, one listing after another, asks for the device's holdings, plans, and makes the report
+/// of each step; a step that was done is settled in the baseline, and one that was refused isn't. A scan is passed over
+/// from where a fault comes: a listing that failed or is of another device, holdings that were refused, memory that ran
+/// out. It ends where the folder gives no more, or where no call is left.
+pub fn scanner<T: Wait, S: Session, F: Folder>(
+    rt: &T,
+    alloc: Global,
+    session: &mut S,
+    device: &DeviceName,
+    folder: &mut F,
+) -> ScanTally
+    ensures { Scans F.gives S.step S.spends device.now folder.old folder.new session.old session.new result.scans }
+{
+    let mut tally = ScanTally {
+        scans: 0,
+        reports: 0,
+        refused: 0,
+        faults: 0,
+    };
+    let mut baseline = Baseline::new(alloc);
+    for _ in rt.forever() {
+        let Some(given) = folder.next() else {
+            return tally;
+        };
+        tally.scans = tally.scans.saturating_add(1);
+        match take(alloc, session, device, given, &mut baseline, &mut tally) {
+            Ok(()) => {}
+            Err(Spent) => return tally,
+        }
+    }
+    unreachable!()
+}
