@@ -9,6 +9,7 @@
 //! nothing. Only tested: that a call which takes memory succeeds where there is enough.
 #![tactic(auto)]
 
+mod asking;
 mod board;
 mod comparing;
 mod exchanging;

@@ -1,6 +1,9 @@
 //! What takes a report back.
+ghost use Rattle.std.specs.Prelude.{◌≡◌, ◌==◌, position};
+ghost use Rattle.std.specs.List.{list_any};
 
 use crate::row::StampRow;
+use circular_buffer::HeapCircularBuffer;
 use pana_event::EventTree;
 
 /// What withdrawing an entry does.
@@ -21,4 +24,18 @@ pub enum Back {
     Touch(u64, u64),
     /// The row with the entry's own number goes, and the copy named here, its source, has the id of both again.
     Divided(u64),
+}
+
+/// The position of an entry's record, if there is one.
+pub fn position_of(undo: &HeapCircularBuffer<Undo>, entry: u64) -> Option<usize>
+    ensures { result ≡ position (λ u. u.entry == entry) undo.now.items }
+{
+    undo.iter().position(|u| u.entry == entry)
+}
+
+/// Whether the entry has a record.
+pub fn has_entry(undo: &HeapCircularBuffer<Undo>, entry: u64) -> bool
+    ensures { result ≡ list_any (λ u. u.entry == entry) undo.now.items }
+{
+    undo.iter().any(|u| u.entry == entry)
 }
