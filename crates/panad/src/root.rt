@@ -1,10 +1,10 @@
-//! Roots: folders that the daemon scans.
+//! Roots: the words of the command line that name a device and its folder.
 
-use crate::ticks::Ticks;
-use pana_copies::DeviceName;
-use pana_host::Folder;
-use pana_scan::{Disk, Listing, ScanFault, Unwatched, read_root};
-use std::sync::Wait;
+use pana_copies::{DeviceName, NameFault};
+use std::alloc::{AllocError, Global};
+
+/// How many roots there are at most.
+pub const MOST_ROOTS: usize = 8;
 
 /// A device, and the folder with its copies.
 #[derive(Drop)]
@@ -13,49 +13,54 @@ pub struct Root<'a> {
     pub folder: &'a str,
 }
 
-/// A root's folder, which is scanned at the start and once for each newline of standard input.
-#[derive(Drop)]
-pub struct RootFolder<'a, T> {
-    rt: &'a HostRuntime,
-    threads: &'a T,
-    root: &'a Root<'a>,
-    ticks: &'a Ticks,
-    scans: u64,
+/// Why there are no roots.
+#[derive(Clone, Copy, Debug, PartialEq, Eq)]
+pub enum RootFault<'a> {
+    /// This word names none.
+    Bad(&'a str),
+    /// An allocation failed.
+    OutOfMemory,
 }
 
-impl<'a, T> RootFolder<'a, T> {
-    /// The folder before its first scan.
-    pub fn new(
-        rt: &'a HostRuntime,
-        threads: &'a T,
-        root: &'a Root<'a>,
-        ticks: &'a Ticks,
-    ) -> RootFolder<'a, T> {
-        RootFolder {
-            rt,
-            threads,
-            root,
-            ticks,
-            scans: 0,
-        }
+/// The root that a word names, beside those that earlier words named; or none where the word is bad.
+fn root_of<'a>(
+    alloc: Global,
+    word: &'a str,
+    earlier: &[Root<'a>],
+) -> Result<Option<Root<'a>>, AllocError> {
+    let Some((device, folder)) = word.split_once('=') else {
+        return Ok(None);
+    };
+    let device = match DeviceName::new(alloc, device) {
+        Ok(device) => device,
+        Err(NameFault::BadDevice) => return Ok(None),
+        Err(_) => return Err(AllocError),
+    };
+    let is_taken = earlier.iter().any(|root| root.device == device);
+    if folder.is_empty() || is_taken || earlier.len() >= MOST_ROOTS {
+        return Ok(None);
     }
+    Ok(Some(Root { device, folder }))
 }
 
-impl<T: Wait> Folder for RootFolder<'_, T> {
-    fn next(&mut self) -> Option<Result<Listing, ScanFault>> {
-        if let Some(before) = self.scans.checked_sub(1) {
-            if !self.ticks.wait_past(self.threads, before) {
-                return None;
-            }
+/// The roots that the words name, in order.
+///
+/// # Errors
+///
+/// `Bad` with the first word that names none: it has no `=`, the part before the first `=` is no device's name, the part
+/// behind it is empty, an earlier word has its device, or it is the ninth; `OutOfMemory`.
+pub fn roots_of<'a>(alloc: Global, words: &[&'a str]) -> Result<Vec<Root<'a>>, RootFault<'a>> {
+    let mut roots = Vec::new(alloc);
+    for word in words {
+        let Ok(named) = root_of(alloc, word, roots.as_slice()) else {
+            return Err(RootFault::OutOfMemory);
+        };
+        let Some(root) = named else {
+            return Err(RootFault::Bad(word));
+        };
+        if roots.push(root).is_err() {
+            return Err(RootFault::OutOfMemory);
         }
-        self.scans = self.scans.saturating_add(1);
-        let mut disk = Disk::new(self.rt);
-        Some(read_root(
-            self.rt.alloc(),
-            &mut disk,
-            &self.root.device,
-            self.root.folder,
-            &mut Unwatched,
-        ))
     }
+    Ok(roots)
 }
