@@ -22,6 +22,8 @@ from daemon import SECONDS, Broken, Daemon, line_of, pages
 
 CLIENTS = 16
 CALLS = 200
+# Few merges and reconciles: each divides ids anew, and ids that many share become large.
+KINDS = ("edit", "own", "pair", "board", "holdings", "taken", "same") * 4 + ("merge", "reconcile")
 FIRST = {"by": "tester", "do": "register", "device": "tester", "path": "shared"}
 
 
@@ -34,7 +36,7 @@ def calls_of(number):
     chance, by = random.Random(number), name_of(number)
     yield {"by": by, "do": "duplicate", "copy": 1, "device": by, "path": "shared"}
     for nth in range(CALLS - 1):
-        kind = chance.choice(("edit", "edit", "merge", "reconcile", "pair", "board", "holdings", "taken", "same", "own"))
+        kind = chance.choice(KINDS)
         if kind == "edit":
             yield {"by": by, "do": "edit", "copy": "mine"}
         elif kind in ("merge", "reconcile", "pair"):

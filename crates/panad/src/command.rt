@@ -34,7 +34,8 @@ Each line of input to `panad run` is what a device reports, or asks:
 Reports: register, duplicate, edit, reconcile, merge, relocate, remove, confirm,
 withdraw. Questions: families, board, stamps, pair, holdings, journal.
 
-`panad show` takes such lines and prints tables in place of the answers.
+`panad show` takes such lines and prints tables in place of the answers, and
+`panad serve` answers them over TCP, to several devices at a time.
 `panad COMMAND --help` shows an example. README.md has all answers, what is
 proved of them, and what isn't.";
 
@@ -82,6 +83,18 @@ DIR. Example:
 
 Symbolic links are passed over. Names that can't be reported are counted on
 standard error.";
+
+const SERVE_EXAMPLE: &str = "\
+It listens on 127.0.0.1 alone, and prints where. Each connection is a session as
+that of `panad run`, and all sessions share one journal. Nothing is kept after it
+ends. Example:
+
+    $ panad serve --port 7000 usb=/media/usb laptop=/home/me/papers
+    listening 127.0.0.1:7000
+
+At the start, and again at each newline on standard input, each folder is scanned,
+and what appeared, changed or went is reported by its device. Without --sessions it
+runs until it is killed.";
 
 const COMPARE_EXAMPLE: &str = "\
 A stamp is an id and an event of an Interval Tree Clock. Example:
@@ -187,12 +200,13 @@ fn serve_command<'a>(alloc: Global) -> Result<Command<'a>, AllocError> {
         .long(SESSIONS)
         .value_name("S")
         .value_parser(value_parser!(u64))
-        .help("End after this many sessions and the end of standard input");
-    let roots = Arg::new(alloc, ROOT).action(ArgAction::Append).help(
-        "A device and the folder with its copies, scanned at the start and at each newline on standard input",
-    );
+        .help("End after S sessions and the end of standard input");
+    let roots = Arg::new(alloc, ROOT)
+        .action(ArgAction::Append)
+        .help("A device and the folder with its copies, up to 8 of them");
     Command::new(alloc, SERVE)
         .about("Answers lines over TCP, up to 16 sessions at a time, and scans folders")
+        .after_help(SERVE_EXAMPLE)
         .arg(port)?
         .arg(sessions)?
         .arg(roots)

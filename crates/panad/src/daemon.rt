@@ -89,12 +89,12 @@ fn listener_on(rt: &HostRuntime, port: u16) -> io::Result<(TcpListener, SocketAd
 }
 
 /// Serves sessions and scans the roots, once it has printed where it listens.
-fn serve_at<T: Threads + Wait + Sync>(
-    rt: &HostRuntime,
-    threads: &T,
+fn serve_at<'a, T: Threads + Wait + Sync>(
+    rt: &'a HostRuntime,
+    threads: &'a T,
     (listener, address): (TcpListener, SocketAddr),
     wanted: Option<u64>,
-    roots: &[Root<'_>],
+    roots: &'a [Root<'a>],
 ) -> Result<(), ProgramFault> {
     let alloc = rt.alloc();
     let (desk, mut passes) = Desk::open(alloc, SESSIONS + roots.len() as u32)?;

@@ -1,5 +1,11 @@
 //! Roots: the words of the command line that name a device and its folder.
 
+ghost use Rattle.std.specs.Prelude.{◌≡◌, ◌⊎◌, [], true, false, None, Some, IfOk, IfErr, MatchOption, map, bytes_eq, ℕ, List};
+ghost use Rattle.std.specs.List.{list_any};
+ghost use Rattle.std.specs.Borrow.{Bor};
+ghost use Rattle.panad.specs.Root.{device_of, first_bad, folder_of, is_bad_root};
+ghost use Rattle.panad.specs.inner.{texts};
+
 use pana_copies::{DeviceName, NameFault};
 use std::alloc::{AllocError, Global};
 
@@ -22,12 +28,22 @@ pub enum RootFault<'a> {
     OutOfMemory,
 }
 
+/// Whether one of the roots is of the device.
+fn has_device(roots: &[Root<'_>], device: &DeviceName) -> bool
+    ensures { result ≡ list_any (λ root. bytes_eq root.device device.now) roots.now }
+{
+    roots.iter().any(|root| root.device == *device)
+}
+
 /// The root that a word names, beside those that earlier words named; or none where the word is bad.
 fn root_of<'a>(
     alloc: Global,
     word: &'a str,
     earlier: &[Root<'a>],
-) -> Result<Option<Root<'a>>, AllocError> {
+) -> Result<Option<Root<'a>>, AllocError>
+    ensures { IfOk result (λ found. MatchOption found (is_bad_root (map (λ root. root.device) earlier.now) word.now ≡ true)
+        (λ root. (is_bad_root (map (λ root. root.device) earlier.now) word.now ≡ false) × (root.device ≡ device_of word.now) × (root.folder.now ≡ folder_of word.now))) }
+{
     let Some((device, folder)) = word.split_once('=') else {
         return Ok(None);
     };
@@ -36,8 +52,7 @@ fn root_of<'a>(
         Err(NameFault::BadDevice) => return Ok(None),
         Err(_) => return Err(AllocError),
     };
-    let is_taken = earlier.iter().any(|root| root.device == device);
-    if folder.is_empty() || is_taken || earlier.len() >= MOST_ROOTS {
+    if folder.is_empty() || has_device(earlier, &device) || earlier.len() >= MOST_ROOTS {
         return Ok(None);
     }
     Ok(Some(Root { device, folder }))
@@ -49,7 +64,13 @@ fn root_of<'a>(
 ///
 /// `Bad` with the first word that names none: it has no `=`, the part before the first `=` is no device's name, the part
 /// behind it is empty, an earlier word has its device, or it is the ninth; `OutOfMemory`.
-pub fn roots_of<'a>(alloc: Global, words: &[&'a str]) -> Result<Vec<Root<'a>>, RootFault<'a>> {
+pub fn roots_of<'a>(alloc: Global, words: &[&'a str]) -> Result<Vec<Root<'a>>, RootFault<'a>>
+    ensures ok { IfOk result (λ roots. first_bad [] (texts words.now) ≡ None) }
+    ensures devices { IfOk result (λ roots. map (λ root. root.device) roots.items ≡ map device_of (texts words.now)) }
+    ensures folders { IfOk result (λ roots. map (λ root. root.folder.now) roots.items ≡ map folder_of (texts words.now)) }
+    ensures bad { IfErr result (λ fault. (fault ≡ RootFault.OutOfMemory)
+        ⊎ ((word : Bor (List ℕ)) × (fault ≡ RootFault.Bad word) × (first_bad [] (texts words.now) ≡ Some word.now))) }
+{
     let mut roots = Vec::new(alloc);
     for word in words {
         let Ok(named) = root_of(alloc, word, roots.as_slice()) else {
@@ -58,9 +79,9 @@ pub fn roots_of<'a>(alloc: Global, words: &[&'a str]) -> Result<Vec<Root<'a>>, R
         let Some(root) = named else {
             return Err(RootFault::Bad(word));
         };
-        if roots.push(root).is_err() {
+        let Ok(()) = roots.push(root) else {
             return Err(RootFault::OutOfMemory);
-        }
+        };
     }
     Ok(roots)
 }

@@ -1,5 +1,7 @@
 //! Newlines of standard input, as those count who wait for them.
 
+ghost use Rattle.std.specs.Prelude.{◌≡◌, ◌==◌, length, filter};
+
 use std::io::Read;
 use std::sync::Wait;
 use std::sync::atomic::{AtomicU64, Ordering};
@@ -12,7 +14,9 @@ pub struct Ticks {
 }
 
 /// How many newlines are among these bytes.
-fn newlines_in(bytes: &[u8]) -> usize {
+fn newlines_in(bytes: &[u8]) -> usize
+    ensures { result ≡ length (filter (λ byte. byte == 10) bytes.now) }
+{
     bytes.iter().filter(|byte| **byte == b'\n').count()
 }
 
@@ -56,7 +60,7 @@ impl Ticks {
             if word & 1 == 1 {
                 return false;
             }
-            self.word.park(threads, word as u32);
+            self.word.park(threads, (word % (1 << 32)) as u32);
         }
         unreachable!()
     }
