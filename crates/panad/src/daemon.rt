@@ -8,7 +8,8 @@ use crate::ticks::Ticks;
 use pana_copies::DeviceName;
 use pana_host::{DeskSession, OpenGate, listen, scanner};
 use pana_turn::{Desk, Pass};
-use std::alloc::AllocError;
+use std::alloc::{AllocError, Global};
+use std::fs::Files;
 use std::marker::Sync;
 use std::net::{Ipv4Addr, SocketAddr, TcpListener};
 use std::process::ExitCode;
@@ -29,31 +30,31 @@ struct Scanning<'a, T> {
 
 /// The scanners of the roots, by the last passes.
 fn scanners<'a, T>(
-    rt: &'a HostRuntime,
-    threads: &'a T,
+    rt: &'a T,
+    alloc: Global,
     desk: &'a Desk,
     ticks: &'a Ticks,
     roots: &'a [Root<'a>],
     passes: &mut Vec<Pass>,
 ) -> Result<Vec<Scanning<'a, T>>, AllocError> {
-    let mut scanners = Vec::with_capacity(rt.alloc(), roots.len())?;
+    let mut scanners = Vec::with_capacity(alloc, roots.len())?;
     for root in roots {
         let Some(pass) = passes.pop() else {
             break;
         };
         scanners.push_reserved(Scanning {
-            session: DeskSession::new(threads, desk, &OpenGate, 0, pass),
+            session: DeskSession::new(rt, desk, &OpenGate, 0, pass),
             device: &root.device,
-            folder: RootFolder::new(rt, threads, root, ticks),
+            folder: RootFolder::new(rt, root, ticks),
         });
     }
     Ok(scanners)
 }
 
 /// Scans all roots, each in a thread of its own, until standard input has ended.
-fn scan_all<T: Threads + Wait + Sync>(
-    rt: &HostRuntime,
-    threads: &T,
+fn scan_all<T: Threads + Wait + Sync + Files + AllocGlobal + Clone + Drop>(
+    rt: &T,
+    alloc: Global,
     scanners: &mut [Scanning<'_, T>],
 ) {
     let scan = move |_place: usize, scanning: &mut Scanning<'_, T>| {
@@ -62,21 +63,22 @@ fn scan_all<T: Threads + Wait + Sync>(
             device,
             folder,
         } = scanning;
-        let _ = scanner(threads, rt.alloc(), session, device, folder);
+        let _ = scanner(rt, alloc, session, device, folder);
     };
-    thread::for_each_mut(threads, scanners, MOST_ROOTS, &scan);
+    thread::for_each_mut(rt, scanners, MOST_ROOTS, &scan);
 }
 
 /// Counts the newlines of standard input, and scans all roots for each, until the input has ended.
-fn scan_by_newlines<T: Threads + Wait + Sync>(
+fn scan_by_newlines<T: Threads + Wait + Sync + Files + AllocGlobal + Clone + Drop>(
     rt: &HostRuntime,
     threads: &T,
     ticks: &Ticks,
     scanners: &mut [Scanning<'_, T>],
 ) {
+    let alloc = rt.alloc();
     thread::join(
         threads,
-        || scan_all(rt, threads, scanners),
+        || scan_all(threads, alloc, scanners),
         || ticks.count(threads, &mut rt.reader()),
     );
 }
@@ -89,7 +91,7 @@ fn listener_on(rt: &HostRuntime, port: u16) -> io::Result<(TcpListener, SocketAd
 }
 
 /// Serves sessions and scans the roots, once it has printed where it listens.
-fn serve_at<'a, T: Threads + Wait + Sync>(
+fn serve_at<'a, T: Threads + Wait + Sync + Files + AllocGlobal + Clone + Drop>(
     rt: &'a HostRuntime,
     threads: &'a T,
     (listener, address): (TcpListener, SocketAddr),
@@ -99,7 +101,7 @@ fn serve_at<'a, T: Threads + Wait + Sync>(
     let alloc = rt.alloc();
     let (desk, mut passes) = Desk::open(alloc, SESSIONS + roots.len() as u32)?;
     let (desk, listener, ticks) = (&desk, &listener, &Ticks::new());
-    let mut scanners = scanners(rt, threads, desk, ticks, roots, &mut passes)?;
+    let mut scanners = scanners(threads, alloc, desk, ticks, roots, &mut passes)?;
     println!(rt; "listening {address}").map_err(|_| ProgramFault::Write)?;
     let (listened, ()) = thread::join(
         threads,
@@ -114,7 +116,7 @@ fn serve_at<'a, T: Threads + Wait + Sync>(
 
 /// Listens on a port of 127.0.0.1, and serves sessions and scans the roots until as many sessions were served as are
 /// wanted and standard input has ended.
-pub fn serve<T: Threads + Wait + Sync>(
+pub fn serve<T: Threads + Wait + Sync + Files + AllocGlobal + Clone + Drop>(
     rt: &HostRuntime,
     threads: &T,
     port: u16,

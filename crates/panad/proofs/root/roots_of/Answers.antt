@@ -15,8 +15,12 @@ pub loop-word-init : goal.loop-word-init
 loop-word-init c = subst (λ (roots : List Root). NamesTo device folder c.args.words.now 0 roots) (sym c.new-roots.ensures.items) (none_named device folder c.args.words.now)
 
 pub returns-in_default-named-clause-bad : goal.returns-in_default-named-clause-bad
-returns-in_default-named-clause-bad c = inr (_, refl, bad_named device folder c.args.words.now c.loop-word.word-index _ c.loop-word.roots.items (omega arith) c.loop-word.invariant
-    (subst (λ (roots : List Root). is_bad_root (map device roots) (get_or c.args.words.now c.loop-word.word-index (record { ref_ptr = (0, 0); now = [] })).now ≡ true) c.as_slice.ensures.value (rw c.in_default-named.is at c.in-Ok.ensures)))
+returns-in_default-named-clause-bad c = inr (
+  _,
+  refl,
+  bad_named device folder c.args.words.now c.loop-word.word-index _ c.loop-word.roots.items (omega arith) c.loop-word.invariant
+      (subst (λ (roots : List Root). is_bad_root (map device roots) (get_or c.args.words.now c.loop-word.word-index (record { ref_ptr = (0, 0); now = [] })).now ≡ true) c.as_slice.ensures.value (rw c.in_default-named.is at c.in-Ok.ensures)),
+)
 
 pub loop-word-preserved : goal.loop-word-preserved
 loop-word-preserved c =
