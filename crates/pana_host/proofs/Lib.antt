@@ -1,5 +1,6 @@
 pub mod Booths
 pub mod Sending
 pub mod Scanned
+pub mod Tallies
 pub mod Scans
 pub mod Sessions

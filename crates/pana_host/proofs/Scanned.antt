@@ -5,51 +5,100 @@ use Rattle.pana_hall.specs.declared.call.Call.{Call}
 use Rattle.pana_hall.specs.declared.reply.Reply.{Reply}
 use Rattle.pana_scan.specs.declared.scan_fault.ScanFault.{ScanFault}
 use Rattle.pana_scan.specs.Listing.{Contents}
-use Rattle.pana_host.specs.Scan.{Makes, Gives, IsScan, AreScans, Scans}
-use Rattle.pana_host.specs.inner.Scan.{ScansOnce, StopsSpent}
+use Rattle.pana_host.specs.declared.scanning.ScanTally.{ScanTally}
+use Rattle.pana_host.specs.Scan.{Makes, Gives, IsScan, AreScans, Scans, counted, done_in, refused_in}
+use Rattle.pana_host.specs.inner.Scan.{ScansOnce, StopsSpent, Tallies, counted_on}
 use Rattle.pana_host.proofs.Scans.{makes_on}
+use Rattle.pana_host.proofs.Tallies.{counted_more, done_append, refused_append}
 
 gives_push : {F : Type 0} → (gives : F → Option (Result Contents ScanFault) → F → Type 0) (old mid new : F) (given : List (Result Contents ScanFault)) (next : Result Contents ScanFault) → Gives gives old given mid → gives mid (Some next) new → Gives gives old (given ++ next ∷ []) new
 gives_push gives old mid new [] next is one = (new, subst (λ f. gives f (Some next) new) is one, refl)
 gives_push gives old mid new (g ∷ given) next (f, first, is) one = (f, first, gives_push gives f mid new given next is one)
 
-scans_push : (device : List ℕ) (given : List (Result Contents ScanFault)) (next : Result Contents ScanFault) (made last : List Exchange) → AreScans device given made → IsScan device next last → AreScans device (given ++ next ∷ []) (made ++ last)
-scans_push device [] next made last are is = (last, [], is, refl, ap (λ (l : List Exchange). l ++ last) are ∙ sym (append-nil last))
-scans_push device (g ∷ given) next made last (first, others, one, are, all) is = (first, others ++ last, one, scans_push device given next others last are is, ap (λ (l : List Exchange). l ++ last) all ∙ append_assoc first others last)
+scans_push : (device : List ℕ) (given : List (Result Contents ScanFault)) (next : Result Contents ScanFault) (made last : List Exchange) (faults fault : ℕ) → AreScans device given made faults → IsScan device next last fault → AreScans device (given ++ next ∷ []) (made ++ last) (faults + fault)
+scans_push device [] next made last faults fault are is = (last, [], fault, 0, is, (refl, refl), ap (λ (l : List Exchange). l ++ last) are.0 ∙ sym (append-nil last), omega (arith, are.1))
+scans_push device (g ∷ given) next made last faults fault (first, others, one, rest, scan, are, all, sum) is =
+    (first, others ++ last, one, rest + fault, scan, scans_push device given next others last rest fault are is, ap (λ (l : List Exchange). l ++ last) all ∙ append_assoc first others last, omega (arith, sum))
 
 counted_push : (n m k : ℕ) → m ≡ min n (2 ^ 64 - 1) → k ≡ min (m + 1) (2 ^ 64 - 1) → k ≡ min (n + 1) (2 ^ 64 - 1)
 counted_push n m k is next = omega (arith, is, next)
 
--- the scans so far
-pub record ScannedSoFar {F S : Type 0} (gives : F → Option (Result Contents ScanFault) → F → Type 0) (step : S → List ℕ → Call → Reply → S → Type 0) (device : List ℕ) (folder_old folder_new : F) (old new : S) (scans : ℕ) : Type 0 where
+-- the scans so far, and what the tally says of them
+pub record ScannedSoFar {F S : Type 0} (gives : F → Option (Result Contents ScanFault) → F → Type 0) (step : S → List ℕ → Call → Reply → S → Type 0) (device : List ℕ) (folder_old folder_new : F) (old new : S) (tally : ScanTally) : Type 0 where
   pub given : List (Result Contents ScanFault)
   pub made : List Exchange
+  pub passed : ℕ
   pub folder : Gives gives folder_old given folder_new
   pub calls : Makes step old made new
-  pub are : AreScans device given made
-  pub counted : scans ≡ min (length given) (2 ^ 64 - 1)
+  pub are : AreScans device given made passed
+  pub scans : tally.scans ≡ counted (length given)
+  pub reports : tally.reports ≡ counted (done_in made)
+  pub refused : tally.refused ≡ counted (refused_in made)
+  pub faults : tally.faults ≡ counted passed
 
 module _ {F S : Type 0} (gives : F → Option (Result Contents ScanFault) → F → Type 0) (step : S → List ℕ → Call → Reply → S → Type 0) (spends : S → S → Type 0) (device : List ℕ) (folder_old : F) (old : S) where
-  pub no_scan : ScannedSoFar gives step device folder_old folder_old old old 0
-  no_scan = record { given = []; made = []; folder = refl; calls = refl; are = refl; counted = refl }
-
-  -- one scan more
-  pub one_scan : (folder_mid folder_new : F) (mid new : S) (before scans : ℕ) (next : Result Contents ScanFault) → ScannedSoFar gives step device folder_old folder_mid old mid before → gives folder_mid (Some next) folder_new → scans ≡ min (before + 1) (2 ^ 64 - 1) → ScansOnce step device next mid new → ScannedSoFar gives step device folder_old folder_new old new scans
-  one_scan folder_mid folder_new mid new before scans next far gave more scan = record {
-    given = far.given ++ next ∷ [];
-    made = far.made ++ scan.made;
-    folder = gives_push gives folder_old folder_mid folder_new far.given next far.folder gave;
-    calls = makes_on step old mid new far.made scan.made far.calls scan.calls;
-    are = scans_push device far.given next far.made scan.made far.are scan.is;
-    counted = counted_push (length far.given) before scans far.counted more ∙ ap (λ (n : ℕ). min n (2 ^ 64 - 1)) (sym (length-append far.given (next ∷ [])));
-  }
+  pub no_scan : ScannedSoFar gives step device folder_old folder_old old old (record { scans = 0; reports = 0; refused = 0; faults = 0 })
+  no_scan = record { given = []; made = []; passed = 0; folder = refl; calls = refl; are = (refl, refl); scans = refl; reports = refl; refused = refl; faults = refl }
 
   -- the folder gives no more
-  pub all_scanned : (folder_mid folder_new : F) (mid : S) (scans : ℕ) → ScannedSoFar gives step device folder_old folder_mid old mid scans → gives folder_mid None folder_new → Scans gives step spends device folder_old folder_new old mid scans
-  all_scanned folder_mid folder_new mid scans far none = record { given = far.given; made = far.made; folder_mid = folder_mid; mid = mid; folder = far.folder; calls = far.calls; are = far.are; ends = inl (none, refl); counted = far.counted }
+  pub all_scanned : (folder_mid folder_new : F) (mid : S) (tally : ScanTally) → ScannedSoFar gives step device folder_old folder_mid old mid tally → gives folder_mid None folder_new → Scans gives step spends device folder_old folder_new old mid tally
+  all_scanned folder_mid folder_new mid tally far none = record {
+    given = far.given;
+    made = far.made;
+    faults = far.passed;
+    folder_mid = folder_mid;
+    mid = mid;
+    folder = far.folder;
+    calls = far.calls;
+    are = far.are;
+    ends = inl (none, refl, far.faults);
+    scans = far.scans;
+    reports = far.reports;
+    refused = far.refused;
+  }
 
-  -- no call is left
-  pub none_left : (folder_mid folder_new : F) (mid new : S) (before scans : ℕ) (next : Result Contents ScanFault) → ScannedSoFar gives step device folder_old folder_mid old mid before → gives folder_mid (Some next) folder_new → scans ≡ min (before + 1) (2 ^ 64 - 1) → StopsSpent step spends device next mid new → Scans gives step spends device folder_old folder_new old new scans
-  none_left folder_mid folder_new mid new before scans next far gave more stops =
-      let all = one_scan folder_mid folder_new mid stops.mid before scans next far gave more stops.scan in
-      record { given = all.given; made = all.made; folder_mid = folder_new; mid = stops.mid; folder = all.folder; calls = all.calls; are = all.are; ends = inr (refl, stops.ends); counted = all.counted }
+  module _ (folder_mid folder_new : F) (mid : S) (before started after : ScanTally) (next : Result Contents ScanFault) (far : ScannedSoFar gives step device folder_old folder_mid old mid before) (gave : gives folder_mid (Some next) folder_new)
+      (scans : started.scans ≡ min (before.scans + 1) (2 ^ 64 - 1)) (reports : started.reports ≡ before.reports) (refused : started.refused ≡ before.refused) (faults : started.faults ≡ before.faults) where
+    now_scans : (made : List Exchange) (fault : ℕ) → Tallies started after made fault → after.scans ≡ counted (length (far.given ++ next ∷ []))
+    now_scans made fault t = t.scans ∙ counted_push (length far.given) before.scans started.scans far.scans scans ∙ ap counted (sym (length-append far.given (next ∷ [])))
+
+    now_reports : (made : List Exchange) (fault : ℕ) → Tallies started after made fault → after.reports ≡ counted (done_in (far.made ++ made))
+    now_reports made fault t = t.reports ∙ counted_more started.reports (done_in far.made) (done_in made) (reports ∙ far.reports) ∙ ap counted (sym (done_append far.made made))
+
+    now_refused : (made : List Exchange) (fault : ℕ) → Tallies started after made fault → after.refused ≡ counted (refused_in (far.made ++ made))
+    now_refused made fault t = t.refused ∙ counted_more started.refused (refused_in far.made) (refused_in made) (refused ∙ far.refused) ∙ ap counted (sym (refused_append far.made made))
+
+    now_faults : (made : List Exchange) (fault : ℕ) → Tallies started after made fault → after.faults ≡ counted (far.passed + fault)
+    now_faults made fault t = t.faults ∙ counted_more started.faults far.passed fault (faults ∙ far.faults)
+
+    -- one scan more
+    pub one_scan : (new : S) → ScansOnce step device next mid new started after → ScannedSoFar gives step device folder_old folder_new old new after
+    one_scan new scan = record {
+      given = far.given ++ next ∷ [];
+      made = far.made ++ scan.made;
+      passed = far.passed + scan.faults;
+      folder = gives_push gives folder_old folder_mid folder_new far.given next far.folder gave;
+      calls = makes_on step old mid new far.made scan.made far.calls scan.calls;
+      are = scans_push device far.given next far.made scan.made far.passed scan.faults far.are scan.is;
+      scans = now_scans scan.made scan.faults scan.tally;
+      reports = now_reports scan.made scan.faults scan.tally;
+      refused = now_refused scan.made scan.faults scan.tally;
+      faults = now_faults scan.made scan.faults scan.tally;
+    }
+
+    -- no call is left
+    pub none_left : (new : S) → StopsSpent step spends device next mid new started after → Scans gives step spends device folder_old folder_new old new after
+    none_left new stops = record {
+      given = far.given ++ next ∷ [];
+      made = far.made ++ stops.made;
+      faults = far.passed + 1;
+      folder_mid = folder_new;
+      mid = stops.mid;
+      folder = gives_push gives folder_old folder_mid folder_new far.given next far.folder gave;
+      calls = makes_on step old mid stops.mid far.made stops.made far.calls stops.calls;
+      are = scans_push device far.given next far.made stops.made far.passed 1 far.are stops.is;
+      ends = inr (refl, stops.ends, (far.passed, refl, now_faults stops.made 0 stops.tally ∙ ap counted (omega arith)));
+      scans = now_scans stops.made 0 stops.tally;
+      reports = now_reports stops.made 0 stops.tally;
+      refused = now_refused stops.made 0 stops.tally;
+    }

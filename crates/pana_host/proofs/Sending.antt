@@ -1,16 +1,19 @@
--- A lane may go to another thread, with its booth.
+-- A lane may go to another thread, with its booth, and so may a session; threads may share a listener.
+use denote.Ref.{NamedLft}
 use denote.RattleType.{RattleType}
 use denote.Param.SendFields.{declared_send}
-use denote.Param.Send.{IsSend}
+use denote.Param.Send.{IsSend, IsSync, sendable, view_send, shr_send}
 use Rattle.std.proofs.option.Option.TheSendSync as options
 use Rattle.std.proofs.result.Result.TheSendSync as results
 use Rattle.pana_wire.proofs.tap.Tap.TheSendSync as taps
 use Rattle.pana_wire.proofs.serving.Served.TheSendSync as served
 use Rattle.pana_wire.proofs.serving.ServeFault.TheSendSync as faults
-use Rattle.pana_turn.proofs.Sending.{pass_send}
+use Rattle.pana_turn.proofs.Sending.{desk_sync, pass_send}
 use Rattle.pana_host.specs.contracts.lane.Lane as lane
 use Rattle.pana_host.specs.contracts.lane.LaneEnd as lane_end
 use Rattle.pana_host.specs.contracts.hosting.Booth as booth
+use Rattle.pana_host.specs.contracts.desk_session.DeskSession as session
+use Rattle.pana_host.specs.contracts.desk_session.DeskSession.TheInside as session_inside
 
 lane_send : (R W : RattleType) → IsSend R → IsSend W → IsSend (lane.the_row R W)
 lane_send R W r w = declared_send (lane.the_type R W) (pass_send, (taps.the_send R r, (taps.the_send W w, tt)))
@@ -20,3 +23,6 @@ end_send R W r w = declared_send (lane_end.the_type R W) (pass_send, (taps.the_s
 
 pub booth_send : (R W : RattleType) → IsSend R → IsSend W → IsSend (booth.the_row R W)
 booth_send R W r w = declared_send (booth.the_type R W) (options.the_send _ (lane_send R W r w), (options.the_send _ (end_send R W r w), tt))
+
+pub session_send : (lft : NamedLft) (T G : RattleType) → IsSync T → IsSync G → IsSend (session.the_row lft T G)
+session_send lft T G t g = view_send _ _ _ _ _ (declared_send (session_inside.the_type lft T G) (shr_send _ _ T t, (shr_send _ _ _ desk_sync, (shr_send _ _ G g, (search sendable, (search sendable, (pass_send, tt)))))))

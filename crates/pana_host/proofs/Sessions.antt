@@ -1,5 +1,5 @@
 -- What a session leaves of its pass.
-use Rattle.std.proofs.Common.{◌≡◌, ℕ, List, [], ◌∷◌, ◌++◌, ◌⊎◌, inl, inr, Bool, true, false, Option, Result, Ok, Err, refl, sym, ap, subst, ◌∙◌, append_assoc, append-nil, ◌^◌, IfOk, IfErr}
+use Rattle.std.proofs.Common.{◌≡◌, ◌<◌, ℕ, zero, suc, arith, length, slice_index_or, List, [], ◌∷◌, ◌++◌, ◌⊎◌, inl, inr, Bool, true, false, Option, Result, Ok, Err, refl, sym, ap, subst, ◌∙◌, append_assoc, append-nil, ◌^◌, IfOk, IfErr}
 use mathlib.Core.List.{IsPrefix}
 use Rattle.pana_wire.specs.Fault.{fault_text}
 use Rattle.pana_wire.specs.declared.fault.WireFault.{WireFault}
@@ -13,6 +13,7 @@ use Rattle.pana_wire.specs.Lines.{ended, lines_of}
 use Rattle.pana_turn.specs.declared.finished_call.FinishedCall.{FinishedCall}
 use Rattle.pana_turn.specs.Passes.{PassView}
 use Rattle.pana_host.specs.Lane.{IsServed}
+use Rattle.pana_host.specs.Listen.{HaveGrown}
 use Rattle.pana_host.specs.declared.lane.Lane.{Lane}
 use Rattle.pana_host.specs.Session.{MakesCall, MakesNone, GrowsTo}
 
@@ -92,3 +93,11 @@ pub any_grows : {R W : Type 0} → (remaining : R → Option (List ℕ)) (conten
     → GrowsTo old new
 any_grows remaining contents r r' w w' old new most (Ok served) ok err = served_grows remaining contents r r' w w' old new served ok
 any_grows remaining contents r r' w w' old new most (Err fault) ok err = stopped_grows remaining contents r r' w w' old new most fault err
+
+-- passes that have grown one by one have grown
+pub all_grown : (olds news : List PassView) → length news ≡ length olds → ((i : ℕ) (d : PassView) → i < length olds → GrowsTo (slice_index_or olds i d) (slice_index_or news i d)) → HaveGrown olds news
+all_grown [] [] long grown = tt
+all_grown [] (new ∷ news) long grown = absurd (omega (arith, long))
+all_grown (old ∷ olds) [] long grown = absurd (omega (arith, long))
+all_grown (old ∷ olds) (new ∷ news) long grown =
+    (grown 0 old (omega arith), all_grown olds news (omega (arith, long)) (λ i d within. grown (suc i) d (omega (arith, within))))

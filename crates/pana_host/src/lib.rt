@@ -19,6 +19,8 @@ pub use crate::listening::listen;
 pub use crate::scanning::{ScanTally, scanner};
 
 #[cfg(test)]
+mod listening_tests;
+#[cfg(test)]
 mod scanning_tests;
 #[cfg(test)]
 mod tests;

@@ -1,6 +1,5 @@
 //! Connections, each served as a session.
-ghost use Rattle.std.specs.Prelude.{◌≡◌, ◌<◌, ◌≤◌, IfOk, IfErr, length};
-ghost use denote.Param.Send.{IsSync};
+ghost use Rattle.std.specs.Prelude.{◌≡◌, ◌≤◌, IfOk, IfErr, length, vec_capacity};
 ghost use Rattle.pana_host.specs.Listen.{AreOf, HaveGrown};
 ghost use Rattle.pana_host.specs.Session.{GrowsTo};
 
@@ -82,6 +81,37 @@ fn work<T: Wait, G: Gate>(
     }
 }
 
+/// A session for each pass, in order; lanes are numbered from 1. Takes no memory where there is room for them.
+fn open_sessions<'a, T, G>(
+    rt: &'a T,
+    desk: &'a Desk,
+    gate: &'a G,
+    passes: Vec<Pass>,
+    sessions: &mut Vec<DeskSession<'a, T, G>>,
+)
+    requires few { length passes.items ≤ 64 }
+    requires of { AreOf desk.now.id passes.items }
+    requires empty { length sessions.old.items ≡ 0 }
+    requires room { length passes.items ≤ vec_capacity sessions.old }
+    ensures { sessions.new.items ≡ passes.items }
+{
+    for pass in passes {
+        let lane = sessions.len() as u32 + 1;
+        sessions.push_reserved(DeskSession::new(rt, desk, gate, lane, pass));
+    }
+}
+
+/// The sessions' passes, in order. Takes no memory where there is room for them.
+fn take_passes<T, G>(sessions: Vec<DeskSession<'_, T, G>>, passes: &mut Vec<Pass>)
+    requires empty { length passes.old.items ≡ 0 }
+    requires room { length sessions.items ≤ vec_capacity passes.old }
+    ensures { passes.new.items ≡ sessions.entry.items }
+{
+    for session in sessions {
+        passes.push_reserved(session.into_pass());
+    }
+}
+
 /// Serves the listener's connections, as many at a time as there are passes, each in a thread of its own; where no thread
 /// can be made, one worker after another. It ends once as many connections were taken as are wanted, and never where no
 /// number is given, and returns the passes in order.
@@ -96,7 +126,7 @@ pub fn listen<T: Threads + Wait + Sync, G: Gate + Sync>(
     alloc: Global,
     desk: &Desk,
     listener: &TcpListener,
-    mut passes: Vec<Pass>,
+    passes: Vec<Pass>,
     wanted: Option<u64>,
     gate: &G,
 ) -> Result<Vec<Pass>, Vec<Pass>>
@@ -105,22 +135,20 @@ pub fn listen<T: Threads + Wait + Sync, G: Gate + Sync>(
     ensures grown { IfOk result (λ back. HaveGrown passes.items back.items) }
     ensures back { IfErr result (λ back. back.items ≡ passes.items) }
 {
-    let Ok(mut sessions) = Vec::with_capacity(alloc, passes.len()) else {
+    let count = passes.len();
+    let (Ok(mut sessions), Ok(mut back)) = (
+        Vec::with_capacity(alloc, count),
+        Vec::with_capacity(alloc, count),
+    ) else {
         return Err(passes);
     };
-    while let Some(pass) = passes.pop() {
-        let lane = passes.len() as u32 + 1;
-        sessions.push_reserved(DeskSession::new(rt, desk, gate, lane, pass));
-    }
+    open_sessions(rt, desk, gate, passes, &mut sessions);
     let taken = Mutex::new(0);
     let counted = &taken;
     let serve = move |_place: usize, session: &mut DeskSession<'_, T, G>|
-        requires { IsSync T.row × IsSync G.row }
         ensures { GrowsTo session.entry.now session.exit.now }
     { work(rt, alloc, listener, counted, wanted, session) };
     thread::for_each_mut(rt, sessions.as_mut_slice(), 64, &serve);
-    while let Some(session) = sessions.pop() {
-        passes.push_reserved(session.into_pass());
-    }
-    Ok(passes)
+    take_passes(sessions, &mut back);
+    Ok(back)
 }

@@ -1,5 +1,5 @@
 //! Scans, one after another, by a session.
-ghost use Rattle.std.specs.Prelude.{◌≡◌, ◌≢◌, ◌+◌, ◌-◌, ◌^◌, min, Ok, IfOk, IfErr};
+ghost use Rattle.std.specs.Prelude.{◌≡◌, Ok, IfOk, IfErr};
 ghost use Rattle.pana_host.specs.Scan.{Scans};
 ghost use Rattle.pana_host.specs.inner.Scan.{Asks, ScansOnce, ReportsOne, ReportsSteps, StopsSpent, StopsReporting};
 
@@ -11,13 +11,16 @@ use pana_wire::Session;
 use std::alloc::Global;
 use std::sync::Wait;
 
-/// What a scanner has done: how often it looked, how many of its reports were done and how many refused, and how many
-/// scans it passed over, from somewhere on, for a fault. Each count stays at the greatest `u64`.
+/// What a scanner has done. Each count stays at the greatest `u64`.
 #[derive(Clone, Copy, Debug, PartialEq, Eq)]
 pub struct ScanTally {
+    /// How often the folder gave a listing, or a fault.
     pub scans: u64,
+    /// How many reports were done.
     pub reports: u64,
+    /// How many reports weren't done.
     pub refused: u64,
+    /// How many scans were passed over from somewhere on for a fault.
     pub faults: u64,
 }
 
@@ -29,23 +32,22 @@ fn report<S: Session>(
     baseline: &mut Baseline,
     tally: &mut ScanTally,
 ) -> Result<bool, Spent>
-    ensures ok { IfOk result (λ more. ReportsOne S.step device.now step.now session.old session.new more) }
-    ensures spent { IfErr result (λ _. S.spends session.old session.new) }
-    ensures scans { tally.new.scans ≡ tally.old.scans }
+    ensures ok { IfOk result (λ more. ReportsOne S.step device.now step.now session.old session.new more tally.old tally.new) }
+    ensures spent { IfErr result (λ _. S.spends session.old session.new × (tally.new ≡ tally.old)) }
 {
     let Ok(report) = step.report.copy_of() else {
         tally.faults = tally.faults.saturating_add(1);
         return Ok(false);
     };
-    match session.call(device, Call::Report(report))? {
-        Reply::Done { entry } => {
-            tally.reports = tally.reports.saturating_add(1);
-            if baseline.settle(step, entry).is_err() {
-                tally.faults = tally.faults.saturating_add(1);
-                return Ok(false);
-            }
-        }
-        _ => tally.refused = tally.refused.saturating_add(1),
+    let reply = session.call(device, Call::Report(report))?;
+    let Reply::Done { entry } = reply else {
+        tally.refused = tally.refused.saturating_add(1);
+        return Ok(true);
+    };
+    tally.reports = tally.reports.saturating_add(1);
+    if baseline.settle(step, entry).is_err() {
+        tally.faults = tally.faults.saturating_add(1);
+        return Ok(false);
     }
     Ok(true)
 }
@@ -58,9 +60,8 @@ fn report_all<S: Session>(
     baseline: &mut Baseline,
     tally: &mut ScanTally,
 ) -> Result<(), Spent>
-    ensures ok { IfOk result (λ _. ReportsSteps S.step device.now steps.now session.old session.new) }
-    ensures spent { IfErr result (λ _. StopsReporting S.step S.spends device.now steps.now session.old session.new) }
-    ensures scans { tally.new.scans ≡ tally.old.scans }
+    ensures ok { IfOk result (λ _. ReportsSteps S.step device.now steps.now session.old session.new tally.old tally.new) }
+    ensures spent { IfErr result (λ _. StopsReporting S.step S.spends device.now steps.now session.old session.new tally.old tally.new) }
 {
     for step in steps {
         if !report(session, device, step, baseline, tally)? {
@@ -97,9 +98,8 @@ fn scan<S: Session>(
     tally: &mut ScanTally,
 ) -> Result<(), Spent>
     requires { listing.now.device ≡ device.now }
-    ensures ok { IfOk result (λ _. ScansOnce S.step device.now (Ok listing.now) session.old session.new) }
-    ensures spent { IfErr result (λ _. StopsSpent S.step S.spends device.now (Ok listing.now) session.old session.new) }
-    ensures scans { tally.new.scans ≡ tally.old.scans }
+    ensures ok { IfOk result (λ _. ScansOnce S.step device.now (Ok listing.now) session.old session.new tally.old tally.new) }
+    ensures spent { IfErr result (λ _. StopsSpent S.step S.spends device.now (Ok listing.now) session.old session.new tally.old tally.new) }
 {
     let Some(holdings) = holdings_of(session, device)? else {
         tally.faults = tally.faults.saturating_add(1);
@@ -128,9 +128,8 @@ fn take<S: Session>(
     baseline: &mut Baseline,
     tally: &mut ScanTally,
 ) -> Result<(), Spent>
-    ensures ok { IfOk result (λ _. ScansOnce S.step device.now given session.old session.new) }
-    ensures spent { IfErr result (λ _. StopsSpent S.step S.spends device.now given session.old session.new) }
-    ensures scans { tally.new.scans ≡ tally.old.scans }
+    ensures ok { IfOk result (λ _. ScansOnce S.step device.now given session.old session.new tally.old tally.new) }
+    ensures spent { IfErr result (λ _. StopsSpent S.step S.spends device.now given session.old session.new tally.old tally.new) }
 {
     match given {
         Ok(listing) if listing.device() == device => {
@@ -154,7 +153,7 @@ pub fn scanner<T: Wait, S: Session, F: Folder>(
     device: &DeviceName,
     folder: &mut F,
 ) -> ScanTally
-    ensures { Scans F.gives S.step S.spends device.now folder.old folder.new session.old session.new result.scans }
+    ensures { Scans F.gives S.step S.spends device.now folder.old folder.new session.old session.new result }
 {
     let mut tally = ScanTally {
         scans: 0,

@@ -8,7 +8,7 @@ use pana_wire::{Served, Tap};
 use std::alloc::{AllocError, Global};
 use std::marker::Sync;
 use std::sync::Wait;
-use std::sync::atomic::{AtomicBool, Ordering};
+use std::sync::atomic::{AtomicBool, AtomicU64, Ordering};
 use std::test::Fail;
 use std::thread;
 use std::thread::Threads;
@@ -17,6 +17,9 @@ use std::time::{Clock, Duration};
 const REGISTER: &str = "{\"by\":\"a\",\"do\":\"register\",\"device\":\"a\",\"path\":\"f\"}\n";
 
 const FAMILIES: &str = "{\"by\":\"a\",\"do\":\"families\"}\n";
+
+const FAMILIES_TWICE: &str =
+    "{\"by\":\"a\",\"do\":\"families\"}\n{\"by\":\"a\",\"do\":\"families\"}\n";
 
 /// A gate that holds the calls of one lane until another lane had a reply, for ten seconds at the most.
 #[derive(Drop)]
@@ -44,6 +47,41 @@ impl<T: Clock> Gate for Holding<'_, T> {
     fn after(&self, lane: u32, _nth: u64) {
         if lane != self.lane {
             self.released.store(true, Ordering::SeqCst);
+        }
+    }
+}
+
+/// A gate that counts the calls of lanes 1 and 2, and notes a question with another lane or number.
+#[derive(Drop)]
+struct Counting {
+    first: AtomicU64,
+    second: AtomicU64,
+    wrong: AtomicBool,
+}
+
+impl Counting {
+    /// The count of the lane's calls.
+    fn count(&self, lane: u32) -> Option<&AtomicU64> {
+        match lane {
+            1 => Some(&self.first),
+            2 => Some(&self.second),
+            _ => None,
+        }
+    }
+}
+
+impl Gate for Counting {
+    fn before(&self, lane: u32, nth: u64) {
+        match self.count(lane) {
+            Some(count) if count.fetch_add(1, Ordering::SeqCst) == nth.wrapping_sub(1) => {}
+            _ => self.wrong.store(true, Ordering::SeqCst),
+        }
+    }
+
+    fn after(&self, lane: u32, nth: u64) {
+        match self.count(lane) {
+            Some(count) if count.load(Ordering::SeqCst) == nth => {}
+            _ => self.wrong.store(true, Ordering::SeqCst),
         }
     }
 }
@@ -91,6 +129,28 @@ fn held_lane_is_answered<T: Threads + Wait + Clock + Sync>(
 fn two_lanes_at_once(rt: HostRuntime) -> Result<(), Fail> {
     assert!(rt; held_lane_is_answered(&rt, rt.alloc(), 1)?);
     assert!(rt; held_lane_is_answered(&rt, rt.alloc(), 2)?);
+    Ok(())
+}
+
+#[test]
+fn gate_is_asked_by_lane_and_number(rt: HostRuntime) -> Result<(), Fail> {
+    let alloc = rt.alloc();
+    let (desk, mut passes) = Desk::open(alloc, 2)?;
+    let (Some(second), Some(first)) = (passes.pop(), passes.pop()) else {
+        return Ok(());
+    };
+    let mut lanes = Vec::with_capacity(alloc, 2)?;
+    lanes.push_reserved(lane(alloc, first, REGISTER));
+    lanes.push_reserved(lane(alloc, second, FAMILIES_TWICE));
+    let gate = Counting {
+        first: AtomicU64::new(0),
+        second: AtomicU64::new(0),
+        wrong: AtomicBool::new(false),
+    };
+    assert!(rt; host(&rt, alloc, &desk, lanes, &gate).is_ok());
+    assert_eq!(rt; gate.first.load(Ordering::SeqCst), 1);
+    assert_eq!(rt; gate.second.load(Ordering::SeqCst), 2);
+    assert!(rt; !gate.wrong.load(Ordering::SeqCst));
     Ok(())
 }
 

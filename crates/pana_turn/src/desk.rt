@@ -25,8 +25,10 @@ const MOST_CALLS: u64 = 1 << 62;
 /// One hall for up to 64 callers at a time, each with a pass. To contracts it is which desk it is, and how many passes
 /// it has.
 ///
-/// A caller draws a ticket and waits until as many calls are finished as its ticket says; then the hall is its own for
-/// one call. So calls are taken one at a time, in the order of the tickets.
+/// A caller looks whether a call is on its way, and while one is it looks 8 times and then sleeps for 50 microseconds,
+/// again and again. Once it finds the desk free it draws a ticket, and yields until as many calls are finished as its
+/// ticket says; then the hall is its own for one call. So calls are taken one at a time, in the order of the tickets,
+/// which needn't be the order in which the callers came.
 #[derive(Drop)]
 pub struct Desk {
     table: Table<Option<Hall>, View, u32, Turns, Global>,

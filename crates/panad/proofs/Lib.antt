@@ -3,3 +3,4 @@ pub mod NeverSpent
 pub mod Asked
 pub mod Joined
 pub mod Reported
+pub mod Rooted

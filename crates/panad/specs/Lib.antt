@@ -6,4 +6,5 @@ pub mod Tables
 pub mod Load
 pub mod Show
 pub mod Scan
+pub mod Root
 pub mod inner

@@ -13,6 +13,7 @@ use clap::{Arg, ArgAction, ArgMatches, Command, value_parser};
 use pana_scan::Disk;
 use pana_wire::Tap;
 use std::alloc::{AllocError, Global};
+use std::fs::Files;
 use std::io::{BufWriter, Read};
 use std::marker::Sync;
 use std::process::ExitCode;
@@ -34,7 +35,8 @@ Each line of input to `panad run` is what a device reports, or asks:
 Reports: register, duplicate, edit, reconcile, merge, relocate, remove, confirm,
 withdraw. Questions: families, board, stamps, pair, holdings, journal.
 
-`panad show` takes such lines and prints tables in place of the answers.
+`panad show` takes such lines and prints tables in place of the answers, and
+`panad serve` answers them over TCP, to several devices at a time.
 `panad COMMAND --help` shows an example. README.md has all answers, what is
 proved of them, and what isn't.";
 
@@ -82,6 +84,18 @@ DIR. Example:
 
 Symbolic links are passed over. Names that can't be reported are counted on
 standard error.";
+
+const SERVE_EXAMPLE: &str = "\
+It listens on 127.0.0.1 alone, and prints where. Each connection is a session as
+that of `panad run`, and all sessions share one journal. Nothing is kept after it
+ends. Example:
+
+    $ panad serve --port 7000 usb=/media/usb laptop=/home/me/papers
+    listening 127.0.0.1:7000
+
+At the start, and again at each newline on standard input, each folder is scanned,
+and what appeared, changed or went is reported by its device. Without --sessions it
+runs until it is killed.";
 
 const COMPARE_EXAMPLE: &str = "\
 A stamp is an id and an event of an Interval Tree Clock. Example:
@@ -187,12 +201,13 @@ fn serve_command<'a>(alloc: Global) -> Result<Command<'a>, AllocError> {
         .long(SESSIONS)
         .value_name("S")
         .value_parser(value_parser!(u64))
-        .help("End after this many sessions and the end of standard input");
-    let roots = Arg::new(alloc, ROOT).action(ArgAction::Append).help(
-        "A device and the folder with its copies, scanned at the start and at each newline on standard input",
-    );
+        .help("End after S sessions and the end of standard input");
+    let roots = Arg::new(alloc, ROOT)
+        .action(ArgAction::Append)
+        .help("A device and the folder with its copies, up to 8 of them");
     Command::new(alloc, SERVE)
         .about("Answers lines over TCP, up to 16 sessions at a time, and scans folders")
+        .after_help(SERVE_EXAMPLE)
         .arg(port)?
         .arg(sessions)?
         .arg(roots)
@@ -248,7 +263,7 @@ fn compare(rt: &HostRuntime, words: &ArgMatches) -> Result<ExitCode, ProgramFaul
     compare_on(rt.alloc(), first, second)?.print(rt)
 }
 
-fn serve<T: Threads + Wait + Sync>(
+fn serve<T: Threads + Wait + Sync + Files + AllocGlobal + Clone + Drop>(
     rt: &HostRuntime,
     threads: &T,
     words: &ArgMatches,
@@ -334,7 +349,7 @@ fn words_of(rt: &HostRuntime) -> Result<Option<Vec<String>>, ProgramFault> {
     }
 }
 
-fn obey_words<T: Threads + Wait + Sync>(
+fn obey_words<T: Threads + Wait + Sync + Files + AllocGlobal + Clone + Drop>(
     rt: &HostRuntime,
     threads: &T,
     words: &[String],
@@ -355,7 +370,10 @@ fn obey_words<T: Threads + Wait + Sync>(
     }
 }
 
-fn obey<T: Threads + Wait + Sync>(rt: &HostRuntime, threads: &T) -> Result<ExitCode, ProgramFault> {
+fn obey<T: Threads + Wait + Sync + Files + AllocGlobal + Clone + Drop>(
+    rt: &HostRuntime,
+    threads: &T,
+) -> Result<ExitCode, ProgramFault> {
     match words_of(rt)? {
         Some(words) => obey_words(rt, threads, words.as_slice()),
         None => refuse(
@@ -368,7 +386,10 @@ fn obey<T: Threads + Wait + Sync>(rt: &HostRuntime, threads: &T) -> Result<ExitC
 
 /// Does what the command line asks. The status is 0, or 1 for a fault, which is printed in one line on standard error,
 /// or 2 for a command line that is refused.
-pub fn start<T: Threads + Wait + Sync>(rt: &HostRuntime, threads: &T) -> ExitCode {
+pub fn start<T: Threads + Wait + Sync + Files + AllocGlobal + Clone + Drop>(
+    rt: &HostRuntime,
+    threads: &T,
+) -> ExitCode {
     match obey(rt, threads) {
         Ok(status) => status,
         Err(fault) => {

@@ -11,6 +11,7 @@ mod loading;
 mod one_hall;
 mod progress;
 mod root;
+mod root_folder;
 mod running;
 mod scanning;
 mod showing;

@@ -1,5 +1,8 @@
 //! Newlines of standard input, as those count who wait for them.
 
+ghost use Rattle.std.specs.Prelude.{◌≡◌, ◌==◌, length, filter};
+
+use std::io::Read;
 use std::sync::Wait;
 use std::sync::atomic::{AtomicU64, Ordering};
 
@@ -10,29 +13,46 @@ pub struct Ticks {
     word: AtomicU64,
 }
 
+/// How many newlines are among these bytes.
+fn newlines_in(bytes: &[u8]) -> usize
+    ensures { result ≡ length (filter (λ byte. byte == 10) bytes.now) }
+{
+    bytes.iter().filter(|byte| **byte == b'\n').count()
+}
+
 impl Ticks {
+    /// No newline so far.
     pub fn new() -> Ticks {
         Ticks {
             word: AtomicU64::new(0),
         }
     }
 
-    /// Counts newlines, and wakes who waits for them.
-    pub fn add(&self, newlines: u32) {
-        self.word
-            .fetch_add(u64::from(newlines) << 1, Ordering::SeqCst);
+    /// Counts the newlines of an input until it ends, and wakes who waits for them. A read that fails ends it.
+    pub fn count<R: Read, T: Wait>(&self, threads: &T, input: &mut R) {
+        let mut piece = [0; 4096];
+        for _ in threads.forever() {
+            match input.read(&mut piece) {
+                Ok(given) if given > 0 => self.add(newlines_in(&piece[..given]) as u64),
+                _ => break,
+            }
+        }
+        self.end();
+    }
+
+    fn add(&self, newlines: u64) {
+        self.word.fetch_add(newlines << 1, Ordering::SeqCst);
         self.word.wake_all();
     }
 
-    /// The input has ended.
-    pub fn end(&self) {
+    fn end(&self) {
         self.word.fetch_add(1, Ordering::SeqCst);
         self.word.wake_all();
     }
 
     /// Waits until more than this many newlines have come, and says whether they have; or that they won't.
-    pub fn wait_past<R: Wait>(&self, rt: &R, seen: u64) -> bool {
-        for _ in rt.forever() {
+    pub fn wait_past<T: Wait>(&self, threads: &T, seen: u64) -> bool {
+        for _ in threads.forever() {
             let word = self.word.load(Ordering::SeqCst);
             if (word >> 1) > seen {
                 return true;
@@ -40,7 +60,7 @@ impl Ticks {
             if word & 1 == 1 {
                 return false;
             }
-            self.word.park(rt, word as u32);
+            self.word.park(threads, (word % (1 << 32)) as u32);
         }
         unreachable!()
     }

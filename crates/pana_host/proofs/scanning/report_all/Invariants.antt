@@ -1,7 +1,6 @@
-use Rattle.std.proofs.Common.{◌≡◌}
 use Rattle.pana_host.proofs.Scans.{SoFar}
 use Rattle.pana_host.proofs.scanning.report_all.Given as goal
 
 -- the reports of the steps so far were made
 abbrev pub invariant-loop-step : goal.invariant-loop-step
-invariant-loop-step g l = SoFar g.S.Session.step l.fn.device l.fn.steps l.step-index l.fn.session l.session × (l.tally.scans ≡ l.fn.tally.scans)
+invariant-loop-step g l = SoFar g.S.Session.step l.fn.device l.fn.steps l.step-index l.fn.session l.session l.fn.tally l.tally

@@ -1,0 +1,83 @@
+-- What a scanner counts.
+use Rattle.std.proofs.Common.{◌≡◌, ℕ, zero, suc, ◌+◌, ◌-◌, ◌^◌, ◌≤◌, min, List, [], ◌∷◌, ◌++◌, refl, sym, ap, subst, ◌∙◌, arith}
+use Rattle.pana_hall.specs.Run.{Exchange}
+use Rattle.pana_hall.specs.declared.call.Call.{Call}
+use Rattle.pana_hall.specs.declared.call.Call.TheVariants as calls
+use Rattle.pana_hall.specs.declared.call.Query.{Query}
+use Rattle.pana_hall.specs.declared.reply.Reply.{Reply}
+use Rattle.pana_hall.specs.declared.reply.Reply.TheVariants.{Done, Families, Board, Stamps, Pair, Holdings, Journal, Refused}
+use Rattle.pana_scan.specs.declared.step.Step.{Step}
+use Rattle.pana_host.specs.declared.scanning.ScanTally.{ScanTally}
+use Rattle.pana_host.specs.Scan.{counted, done_by, done_in, refused_by, refused_in}
+use Rattle.pana_host.specs.inner.Scan.{Tallies, counted_on, reporting}
+
+-- counts and more counts
+counted_twice : (count n m : ℕ) → counted_on (counted_on count n) m ≡ counted_on count (n + m)
+counted_twice count n zero = ap (counted_on count) (omega arith)
+counted_twice count n (suc m) = ap (λ (k : ℕ). counted (k + 1)) (counted_twice count n m) ∙ ap (counted_on count) (sum_next n m) where
+  sum_next : (n m : ℕ) → suc (n + m) ≡ n + suc m
+  sum_next n m = omega arith
+
+-- a count that was kept stays one
+pub counted_more : (count n m : ℕ) → count ≡ counted n → counted_on count m ≡ counted (n + m)
+counted_more count n zero is = is ∙ ap counted (omega arith)
+counted_more count n (suc m) is = omega (arith, counted_more count n m is)
+
+pub done_append : (made more : List Exchange) → done_in (made ++ more) ≡ done_in made + done_in more
+done_append [] more = omega arith
+done_append (m ∷ made) more = omega (arith, done_append made more)
+
+pub refused_append : (made more : List Exchange) → refused_in (made ++ more) ≡ refused_in made + refused_in more
+refused_append [] more = omega arith
+refused_append (m ∷ made) more = omega (arith, refused_append made more)
+
+pub tallies_none : (tally : ScanTally) → Tallies tally tally [] 0
+tallies_none tally = record { scans = refl; reports = refl; refused = refl; faults = refl }
+
+-- calls and faults, and more of them
+pub tallies_on : (first mid last : ScanTally) (made more : List Exchange) (faults others : ℕ) → Tallies first mid made faults → Tallies mid last more others → Tallies first last (made ++ more) (faults + others)
+tallies_on first mid last made more faults others a b = record {
+  scans = b.scans ∙ a.scans;
+  reports = b.reports ∙ ap (λ (n : ℕ). counted_on n (done_in more)) a.reports ∙ counted_twice first.reports (done_in made) (done_in more) ∙ ap (counted_on first.reports) (sym (done_append made more));
+  refused = b.refused ∙ ap (λ (n : ℕ). counted_on n (refused_in more)) a.refused ∙ counted_twice first.refused (refused_in made) (refused_in more) ∙ ap (counted_on first.refused) (sym (refused_append made more));
+  faults = b.faults ∙ ap (λ (n : ℕ). counted_on n others) a.faults ∙ counted_twice first.faults faults others;
+}
+
+plus_none : (n : ℕ) → 0 + n ≡ n
+plus_none n = omega arith
+
+-- calls with no fault, and more calls
+pub tallies_then : (first mid last : ScanTally) (made more : List Exchange) (faults : ℕ) → Tallies first mid made 0 → Tallies mid last more faults → Tallies first last (made ++ more) faults
+tallies_then first mid last made more faults a b = subst (λ (n : ℕ). Tallies first last (made ++ more) n) (plus_none faults) (tallies_on first mid last made more 0 faults a b)
+
+-- a query counts nothing
+pub tallies_after_query : (first last : ScanTally) (by : List ℕ) (query : Query) (reply : Reply) (made : List Exchange) (faults : ℕ) → Tallies first last made faults → Tallies first last (record { by = by; call = calls.Query query; reply = reply } ∷ made) faults
+tallies_after_query first last by query reply made faults t = record {
+  scans = t.scans;
+  reports = t.reports ∙ ap (counted_on first.reports) (omega arith);
+  refused = t.refused ∙ ap (counted_on first.refused) (omega arith);
+  faults = t.faults;
+}
+
+-- a report that was done is counted, and one that wasn't
+pub tallies_done : (tally : ScanTally) (by : List ℕ) (s : Step) (entry reports : ℕ) → reports ≡ counted (tally.reports + 1)
+    → Tallies tally (record { scans = tally.scans; reports = reports; refused = tally.refused; faults = tally.faults }) (reporting by s (Done entry) ∷ []) 0
+tallies_done tally by s entry reports is = record { scans = refl; reports = is; refused = refl; faults = refl }
+
+-- and then a fault
+pub tallies_fault : (tally : ScanTally) (made : List Exchange) (first : ScanTally) (faults : ℕ) → Tallies first tally made 0 → faults ≡ counted (tally.faults + 1) → Tallies first (record { scans = tally.scans; reports = tally.reports; refused = tally.refused; faults = faults }) made 1
+tallies_fault tally made first faults t is = record { scans = t.scans; reports = t.reports; refused = t.refused; faults = is ∙ ap (λ (n : ℕ). counted (n + 1)) t.faults }
+
+pub tallies_refused : (tally : ScanTally) (by : List ℕ) (s : Step) (reply : Reply) (refused : ℕ) → ((entry : ℕ) → reply ≡ Done entry → ⊥) → refused ≡ counted (tally.refused + 1)
+    → Tallies tally (record { scans = tally.scans; reports = tally.reports; refused = refused; faults = tally.faults }) (reporting by s reply ∷ []) 0
+tallies_refused tally by s (Done entry) refused odd is = absurd (odd entry refl)
+tallies_refused tally by s (Families rows) refused odd is = record { scans = refl; reports = refl; refused = is; faults = refl }
+tallies_refused tally by s (Board board) refused odd is = record { scans = refl; reports = refl; refused = is; faults = refl }
+tallies_refused tally by s (Stamps stamps) refused odd is = record { scans = refl; reports = refl; refused = is; faults = refl }
+tallies_refused tally by s (Pair rel) refused odd is = record { scans = refl; reports = refl; refused = is; faults = refl }
+tallies_refused tally by s (Holdings holdings) refused odd is = record { scans = refl; reports = refl; refused = is; faults = refl }
+tallies_refused tally by s (Journal entries) refused odd is = record { scans = refl; reports = refl; refused = is; faults = refl }
+tallies_refused tally by s (Refused cause) refused odd is = record { scans = refl; reports = refl; refused = is; faults = refl }
+
+pub tallies_one_fault : (tally : ScanTally) (faults : ℕ) → faults ≡ counted (tally.faults + 1) → Tallies tally (record { scans = tally.scans; reports = tally.reports; refused = tally.refused; faults = faults }) [] 1
+tallies_one_fault tally faults is = tallies_fault tally [] tally faults (tallies_none tally) is

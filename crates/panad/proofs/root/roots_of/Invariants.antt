@@ -1,0 +1,5 @@
+use Rattle.panad.proofs.Rooted.{NamesTo}
+use Rattle.panad.proofs.root.roots_of.Given as goal
+
+abbrev pub invariant-loop-word : goal.invariant-loop-word
+invariant-loop-word l = NamesTo (λ root. root.device) (λ root. root.folder.now) l.words l.word-index l.roots.items
