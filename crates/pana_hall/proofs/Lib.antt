@@ -12,6 +12,7 @@ pub mod More
 pub mod FamilySets
 pub mod Spots
 pub mod OldPlaces
+pub mod KeptPlaces
 pub mod KeptFamilies
 pub mod Ready
 pub mod Undoing

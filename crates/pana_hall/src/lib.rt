@@ -15,6 +15,7 @@ mod kept_family;
 pub mod laws;
 mod loading;
 mod old_place;
+mod old_places;
 mod recording;
 mod refusal;
 mod reply;
