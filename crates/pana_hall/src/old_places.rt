@@ -16,7 +16,7 @@ const MOST_PENDING: usize = 8;
 pub type Ring = Box<HeapCircularBuffer<OldPlace>>;
 
 /// The old places of pending entries, the latest first. None is kept of an entry that moved and removed no copy, where no
-/// later one did, so the most families take no memory for them.
+/// later one did, so most families take no memory for them.
 #[derive(Drop)]
 pub struct OldPlaces {
     ring: Option<Ring>,
