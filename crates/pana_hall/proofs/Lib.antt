@@ -39,3 +39,4 @@ pub mod Exchanges
 pub mod FamilyRows
 pub mod Taken
 pub mod Loaded
+pub mod NotKept
