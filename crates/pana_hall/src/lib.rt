@@ -18,6 +18,7 @@ mod old_place;
 mod old_places;
 mod recording;
 mod refusal;
+mod refusing;
 mod reply;
 mod taking;
 
