@@ -31,6 +31,8 @@ pub enum Cause {
     Settled,
     /// No Register entry has this number.
     UnknownFamily,
+    /// The entry could not be written to the journal's file.
+    NotKept,
 }
 
 impl Cause {
@@ -51,6 +53,7 @@ impl Cause {
             Cause::NotYours => 11,
             Cause::Settled => 12,
             Cause::UnknownFamily => 13,
+            Cause::NotKept => 14,
         }
     }
 
@@ -71,6 +74,7 @@ impl Cause {
             Cause::NotYours => "NotYours",
             Cause::Settled => "Settled",
             Cause::UnknownFamily => "UnknownFamily",
+            Cause::NotKept => "NotKept",
         }
     }
 

@@ -1,6 +1,7 @@
 ghost use Rattle.std.specs.Prelude.{◌≡◌, ◌≤◌, [], length, IfOk, OnErr};
 ghost use Rattle.pana_hall.specs.Accepted.{IsAccepted};
 ghost use Rattle.pana_hall.specs.Permit.{Permits, journal_after};
+ghost use Rattle.pana_hall.specs.Refusal.{refusal};
 ghost use Rattle.pana_hall.specs.Run.{RunsTo};
 
 use crate::answering::answer;
@@ -66,6 +67,14 @@ impl Hall {
             Call::Report(report) => self.report(by, report),
             Call::Query(query) => self.query(by, query),
         }
+    }
+
+    /// Why a device's report is refused, shortages aside. Takes no memory.
+    #[tactic(auto, unfolding(crate::specs::Refusal::refusal))]
+    pub fn refusal(&self, by: &DeviceName, report: &Report) -> Option<Cause>
+        ensures { result ≡ refusal self.now by.now (calls.Report report.now) }
+    {
+        report_refusal(&self.journal, &self.families, &self.copies, by, report)
     }
 
     /// How many entries the journal has, at most 1,000,000. Takes no memory.
