@@ -2,7 +2,7 @@
 use Rattle.std.specs.Prelude.{◌≡◌, ◌≤◌, ℕ, List, [], ◌∷◌, ◌++◌, length, take, Ok}
 use Rattle.pana_journal.specs.declared.entry.Entry.{Entry}
 use Rattle.pana_wire.specs.Dump.{dump_says}
-use Rattle.pana_keep.specs.Lines.{recovered}
+use Rattle.pana_keep.specs.Lines.{recovered, IsWhole}
 
 -- the lines say these entries, one line after another
 abbrev pub Say : List (List ℕ) → List Entry → Type 0
@@ -16,3 +16,8 @@ LoadsTo entries file = Say (recovered file) entries
 -- the file loads to the first n of the entries, for some n that is this at least
 abbrev pub LoadsFirst : ℕ → List Entry → List ℕ → Type 0
 LoadsFirst least entries file = (n : ℕ) × (least ≤ n) × (n ≤ length entries) × LoadsTo (take n entries) file
+
+-- a line that a journal can hold, with its newline, which says this entry and no other
+pub record IsLineOf (entry : Entry) (text : List ℕ) : Type 0 where
+  pub whole : IsWhole text
+  pub says : LoadsTo (entry ∷ []) text

@@ -1,2 +1,4 @@
+pub mod Ending
 pub mod Entries
-pub mod Keeping
+pub mod Kept
+pub mod Opening

@@ -1,3 +1,6 @@
+ghost use Rattle.std.specs.Prelude.{IfOk};
+ghost use Rattle.pana_kept.specs.Entries.{IsLineOf};
+
 use pana_copies::DeviceName;
 use pana_hall::Reply;
 use pana_journal::{Entry, EntryList, Report};
@@ -10,7 +13,9 @@ pub(crate) fn line_of(
     number: u64,
     by: &DeviceName,
     report: &Report,
-) -> Result<Vec<u8>, AllocError> {
+) -> Result<Vec<u8>, AllocError>
+    ensures { IfOk result (λ line. IsLineOf (record { number = number; by = by.now; report = report.now }) line.items) }
+{
     let mut entries = Vec::new(alloc);
     entries.push(Entry {
         number,

@@ -1,22 +1,44 @@
+ghost use Rattle.std.specs.Prelude.{◌≡◌, ◌↔◌, IsTrue, IfOk, OnErr};
+ghost use Rattle.pana_hall.specs.declared.call.Call.TheVariants as calls;
+ghost use Rattle.pana_kept.specs.Kept.{IsKept, Keeps, Breaks};
+
 use crate::entry_line::line_of;
+use crate::keeping::keep;
 use pana_copies::DeviceName;
 use pana_hall::{Call, Cause, Hall, Reply, Spent};
 use pana_journal::Report;
-use pana_keep::{Device, Journal, JournalState, KeepFault};
+use pana_keep::{Device, Journal, JournalState};
 use pana_wire::Session;
 use std::alloc::Global;
+use std::marker::Model;
 
-/// A hall, and a file that has each entry of its journal before the entry's `Done` is returned.
+/// A hall, and a file that has each entry of its journal before the entry's `Done` is returned. To contracts it is the
+/// entries, and the journal in the file.
 #[derive(Drop)]
 pub struct KeptHall<D: Device> {
     alloc: Global,
-    pub hall: Hall,
-    pub journal: Journal<D>,
+    hall: Hall,
+    journal: Journal<D>,
+}
+
+impl<D: Device> Model for KeptHall<D> {
+    ghost use Rattle.std.specs.Prelude.{IsTrue};
+    ghost use Rattle.pana_kept.specs.Kept.{KeptView, IsKept};
+
+    ghost Value = { KeptView D };
+
+    ghost view = { λ kept. record { entries = kept.hall; journal = kept.journal } };
+
+    ghost invariant = { λ kept. IsTrue D.is_known → IsKept D.seen D.may_leave D.is_usable (record { entries = kept.hall; journal = kept.journal }) };
 }
 
 impl<D: Device> KeptHall<D> {
-    /// The hall that was loaded from a journal's file, with that journal.
-    pub fn new(alloc: Global, hall: Hall, journal: Journal<D>) -> KeptHall<D> {
+    /// The hall that was loaded from a journal's file, with that journal. Takes no memory.
+    pub fn new(alloc: Global, hall: Hall, journal: Journal<D>) -> KeptHall<D>
+        requires { IsTrue D.is_known → IsKept D.seen D.may_leave D.is_usable (record { entries = hall; journal = journal }) }
+        ensures entries { result.entries ≡ hall }
+        ensures journal { result.journal ≡ journal }
+    {
         KeptHall {
             alloc,
             hall,
@@ -24,7 +46,18 @@ impl<D: Device> KeptHall<D> {
         }
     }
 
-    fn report(&mut self, by: &DeviceName, report: Report) -> Result<Reply, Spent> {
+    /// Whether the journal takes entries: no call that may have changed its file has failed. Takes no memory.
+    pub fn is_open(&self) -> bool
+        ensures open { IsTrue result ↔ (self.now.journal.state ≡ JournalState.Open) }
+        ensures kept { IsTrue D.is_known → IsKept D.seen D.may_leave D.is_usable self.now }
+    {
+        self.journal.state == JournalState::Open
+    }
+
+    fn report(&mut self, by: &DeviceName, report: Report) -> Result<Reply, Spent>
+        ensures step { IfOk result (λ reply. Keeps D.is_known D.seen D.may_leave D.is_usable D.moment D.left_since self.old by.now (calls.Report report) reply self.new) }
+        ensures spent { OnErr result (Breaks D.is_known D.moment D.left_since self.old self.new) }
+    {
         if self.journal.state != JournalState::Open {
             return Err(Spent);
         }
@@ -33,37 +66,19 @@ impl<D: Device> KeptHall<D> {
         }
         let number = self.hall.length() + 1;
         match line_of(self.alloc, number, by, &report) {
-            Ok(line) => self.keep(by, report, &line),
+            Ok(line) => keep(&mut self.hall, &mut self.journal, by, report, &line),
             Err(_) => Ok(Reply::Refused(Cause::OutOfMemory)),
         }
-    }
-
-    /// Makes a report that nothing stands against, whose entry has this line.
-    fn keep(&mut self, by: &DeviceName, report: Report, line: &[u8]) -> Result<Reply, Spent> {
-        match self.journal.stage(line) {
-            Ok(()) => self.apply(by, report, line),
-            Err(KeepFault::Refused(_)) => Ok(Reply::Refused(Cause::NotKept)),
-            Err(KeepFault::Broken) => Err(Spent),
-        }
-    }
-
-    /// Makes a report whose line is staged, and commits the line where the report is done.
-    fn apply(&mut self, by: &DeviceName, report: Report, line: &[u8]) -> Result<Reply, Spent> {
-        let reply = self.hall.apply(by, Call::Report(report));
-        if let Reply::Done { .. } = reply {
-            self.journal.commit(line).map_err(|_| Spent)?;
-        }
-        Ok(reply)
     }
 }
 
 impl<D: Device> Session for KeptHall<D> {
     ghost use Rattle.std.specs.Prelude.{IfOk, OnErr};
-    ghost use Rattle.pana_kept.specs.Keeping.{Keeps, Breaks};
+    ghost use Rattle.pana_kept.specs.Kept.{Keeps, Breaks};
 
     ghost step = { λ old by call reply new. Keeps D.is_known D.seen D.may_leave D.is_usable D.moment D.left_since old by call reply new };
 
-    ghost spends = { λ old new. Breaks D.is_known D.seen D.may_leave D.is_usable D.moment D.left_since old new };
+    ghost spends = { λ old new. Breaks D.is_known D.moment D.left_since old new };
 
     fn call(&mut self, by: &DeviceName, call: Call) -> Result<Reply, Spent> {
         match call {

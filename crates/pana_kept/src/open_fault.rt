@@ -8,7 +8,7 @@ use std::fmt;
 /// Why a file isn't opened as a journal.
 #[derive(Clone, Copy, Debug, PartialEq, Eq)]
 pub enum OpenFault {
-    /// It is the file of another program.
+    /// It is none of a journal.
     NoJournal,
     /// This line, from 1, isn't a line of entries.
     Line { line: u64, fault: WireFault },
@@ -21,18 +21,33 @@ pub enum OpenFault {
 }
 
 impl From<AllocError> for OpenFault {
+    ghost use Rattle.std.specs.Prelude.{◌≡◌};
+    ghost use Rattle.pana_kept.specs.declared.open_fault.OpenFault.TheVariants.{OutOfMemory};
+
+    ghost from_gives = { λ _ fault. fault ≡ OutOfMemory };
+
     fn from(_: AllocError) -> OpenFault {
         OpenFault::OutOfMemory
     }
 }
 
 impl From<DeviceFault> for OpenFault {
+    ghost use Rattle.std.specs.Prelude.{◌≡◌};
+    ghost use Rattle.pana_kept.specs.declared.open_fault.OpenFault.TheVariants.{Device};
+
+    ghost from_gives = { λ cause fault. fault ≡ Device cause };
+
     fn from(fault: DeviceFault) -> OpenFault {
         OpenFault::Device(fault)
     }
 }
 
 impl From<LoadFault> for OpenFault {
+    ghost use Rattle.std.specs.Prelude.{◌≡◌};
+    ghost use Rattle.pana_kept.specs.declared.open_fault.OpenFault.TheVariants.{Entry};
+
+    ghost from_gives = { λ cause fault. fault ≡ Entry cause };
+
     fn from(fault: LoadFault) -> OpenFault {
         OpenFault::Entry(fault)
     }

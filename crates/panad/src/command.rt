@@ -11,6 +11,7 @@ use crate::showing::show_on;
 use crate::version::VERSION;
 use clap::error::{Error, ErrorKind};
 use clap::{Arg, ArgAction, ArgMatches, Command, value_parser};
+use pana_kept::before_end;
 use pana_scan::Disk;
 use pana_wire::Tap;
 use std::alloc::{AllocError, Global};
@@ -66,7 +67,8 @@ A line that is faulty or refused is reported with its number, and the rest goes
 on; the status is 1 then.";
 
 const LOAD_EXAMPLE: &str = "\
-A dump is the answers to `journal` questions, a line each. Example:
+A dump is the answers to `journal` questions, a line each, or a journal's file.
+Example:
 
     $ panad load backup.dump
     family 1: copies 2, newest 1, split no
@@ -131,8 +133,9 @@ fn journal_option<'a>(alloc: Global) -> Arg<'a> {
 }
 
 fn run_command<'a>(alloc: Global) -> Result<Command<'a>, AllocError> {
-    let journal =
-        journal_option(alloc).help("The file that keeps the reports; it is made if it isn't there");
+    let journal = journal_option(alloc).help(
+        "The file that keeps the reports; it is made if it isn't there",
+    );
     Command::new(alloc, RUN)
         .about("Answers the lines on standard input, each a report or a question")
         .after_help(RUN_EXAMPLE)
@@ -323,7 +326,7 @@ fn load(rt: &HostRuntime, words: &ArgMatches) -> Result<ExitCode, ProgramFault> 
     // The word is required, so it is there.
     let name = words.get_str(FILE).unwrap_or("");
     match bytes_of(rt, name)? {
-        Some(bytes) => load_on(rt.alloc(), bytes.as_slice())?.print(rt),
+        Some(bytes) => load_on(rt.alloc(), before_end(&bytes))?.print(rt),
         None => cannot_read(rt, name),
     }
 }

@@ -5,8 +5,8 @@ use crate::fault::ProgramFault;
 use crate::journal_file::{FileFault, open_locked};
 use crate::tables::tables_of;
 use pana_keep::{FileDevice, Journal};
-use pana_kept::{KeptHall, OpenFault, Opened};
-use pana_wire::{ServeFault, Tap, serve};
+use pana_kept::{KeptHall, OpenFault, Opened, serve_kept};
+use pana_wire::{ServeFault, Tap};
 use std::fs::File;
 use std::io::{self, BufWriter};
 use std::process::ExitCode;
@@ -30,11 +30,13 @@ fn report_fault(rt: &HostRuntime, name: &str, fault: OpenFault) -> Result<ExitCo
 /// Says how many bytes a crash has left behind the last entry. That standard error can't be written is no fault.
 fn report_torn(rt: &HostRuntime, name: &str, torn: usize) {
     if torn > 0 {
-        let _ = eprintln!(rt; "panad: journal {name}: {torn} bytes behind the last entry were cut off");
+        let _ = eprintln!(rt;
+            "panad: journal {name}: {torn} bytes behind the last entry were cut off"
+        );
     }
 }
 
-fn serve_kept(
+fn serve_input(
     rt: &HostRuntime,
     mut session: KeptHall<FileDevice>,
 ) -> Result<ExitCode, ProgramFault> {
@@ -42,7 +44,7 @@ fn serve_kept(
     let output = BufWriter::new(alloc, io::writer(rt)).map_err(|_| ProgramFault::OutOfMemory)?;
     let mut reader = Tap::new(rt.reader());
     let mut writer = Tap::new(output);
-    match serve(alloc, &mut reader, &mut writer, &mut session, READS) {
+    match serve_kept(alloc, &mut reader, &mut writer, &mut session, READS) {
         Ok(_) => Ok(ExitCode::SUCCESS),
         Err(ServeFault::Spent) => Answer::reported(alloc, &"journal failed")?.print(rt),
         Err(ServeFault::Read) => Err(ProgramFault::Read),
@@ -63,7 +65,7 @@ pub fn run_kept(rt: &HostRuntime, name: &str) -> Result<ExitCode, ProgramFault> 
     match pana_kept::open(rt.alloc(), &mut journal) {
         Ok(Opened { hall, torn }) => {
             report_torn(rt, name, torn);
-            serve_kept(rt, KeptHall::new(rt.alloc(), hall, journal))
+            serve_input(rt, KeptHall::new(rt.alloc(), hall, journal))
         }
         Err(fault) => report_fault(rt, name, fault),
     }
