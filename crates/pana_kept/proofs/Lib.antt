@@ -1,3 +1,4 @@
 pub mod NoBreak
+pub mod Texts
 pub mod Runs
 pub mod Said

@@ -2,3 +2,4 @@ pub mod Ending
 pub mod Entries
 pub mod Kept
 pub mod Opening
+pub mod inner

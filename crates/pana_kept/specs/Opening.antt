@@ -2,10 +2,11 @@
 use Rattle.std.specs.Prelude.{◌≡◌, ◌≢◌, ℕ, ◌+◌, Bool, true, false, IsTrue, List, ◌∷◌, ◌++◌, length, codes, decimal}
 use Rattle.pana_journal.specs.declared.entry.Entry.{Entry}
 use Rattle.pana_hall.specs.Load.{IsLoadFault, shown_load_fault}
-use Rattle.pana_wire.specs.Dump.{dump_says}
+use Rattle.pana_wire.specs.Dump.{dump_says, IsDumpText}
 use Rattle.pana_wire.specs.Line.{Fails}
 use Rattle.pana_wire.specs.Shown.{shown_fault}
 use Rattle.pana_wire.specs.declared.fault.WireFault.{WireFault}
+use Rattle.pana_wire.specs.declared.fault.WireFault.TheVariants as wire
 use Rattle.pana_keep.specs.declared.device_fault.DeviceFault.{DeviceFault}
 use Rattle.pana_keep.specs.declared.device_fault.DeviceFault.TheVariants as devices
 use Rattle.pana_keep.specs.Lines.{recovered, is_journal}
@@ -23,6 +24,7 @@ pub record HasFault (lines : List (List ℕ)) (number : ℕ) (fault : WireFault)
   pub read : Say before entries
   pub at : number ≡ length before + 1
   pub says : Fails fault (dump_says line)
+  pub memory : fault ≡ wire.OutOfMemory → IsDumpText line
 
 -- why the lines have no hall: one of them has a fault, or one of their entries stops, or memory runs out
 abbrev pub HaveNoHall : List (List ℕ) → OpenFault → Type 0

@@ -1,11 +1,12 @@
 //! A file opened as a journal: its entries loaded into a hall.
-ghost use Rattle.std.specs.Prelude.{◌≡◌, true, false, IsTrue, length, map, IfOk, IfErr, OnOk};
+ghost use Rattle.std.specs.Prelude.{◌≡◌, true, false, IsTrue, length, IfOk, IfErr, OnOk};
 ghost use Rattle.pana_wire.specs.Lines.{lines_of};
 ghost use Rattle.pana_keep.specs.Device.{LeavesOnly};
 ghost use Rattle.pana_keep.specs.Lines.{recovered, text_of, torn_length, is_journal};
 ghost use Rattle.pana_keep.specs.Journal.{IsDurable};
 ghost use Rattle.pana_kept.specs.Entries.{Say, LoadsTo};
 ghost use Rattle.pana_kept.specs.Kept.{IsKept};
+ghost use Rattle.pana_kept.specs.inner.{texts};
 ghost use Rattle.pana_kept.specs.Opening.{HaveNoHall, IsOpenFault, is_of_device};
 
 use crate::open_fault::OpenFault;
@@ -90,8 +91,8 @@ fn hall_of(alloc: Global, text: &[u8]) -> Result<Hall, OpenFault>
 
 /// The entries in the lines, one line after another.
 fn entries_in(alloc: Global, lines: &[&[u8]]) -> Result<EntryList, OpenFault>
-    ensures ok { IfOk result (λ entries. Say (map (λ line. line.now) lines.now) entries) }
-    ensures fault { IfErr result (HaveNoHall (map (λ line. line.now) lines.now)) }
+    ensures ok { IfOk result (λ entries. Say (texts lines.now) entries) }
+    ensures fault { IfErr result (HaveNoHall (texts lines.now)) }
 {
     let mut entries = EntryList::new(alloc);
     for (index, line) in lines.iter().enumerate() {
