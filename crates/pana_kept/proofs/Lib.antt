@@ -1,3 +1,4 @@
+pub mod Calls
 pub mod NoBreak
 pub mod Texts
 pub mod Runs

@@ -45,11 +45,11 @@ letter_none x other =
 byte_none : (x : ℕ) → HasNoBreak (escape_byte x)
 unfolding escape_byte
 byte_none x = elim (which (x == 10)) [
-  | inl is ↦ let same : x ≡ 10 = grind (arith, nat_tests, is) in subst (λ (b : ℕ). HasNoBreak (escape_byte b)) (sym same) (refl, refl, tt)
+  | inl is ↦ let same : x ≡ 10 = grind (arith, nat_tests, is) in subst (λ (b : ℕ). HasNoBreak (escape_byte b)) (sym same) (refl, (refl, tt))
   | inr other ↦
       let code : List ℕ = 92 ∷ 117 ∷ 48 ∷ 48 ∷ digit_char (x / 16) ∷ digit_char (x % 16) ∷ [] in
-      either_none (nat_lt 0 (escape_letter x)) (92 ∷ escape_letter x ∷ []) (cond (nat_lt x 32) code (x ∷ [])) (refl, letter_none x other, tt)
-      (either_none (nat_lt x 32) code (x ∷ []) (refl, refl, refl, refl, digit_none (x / 16), digit_none (x % 16), tt) (other, tt))
+      either_none (nat_lt 0 (escape_letter x)) (92 ∷ escape_letter x ∷ []) (cond (nat_lt x 32) code (x ∷ [])) (refl, (letter_none x other, tt))
+      (either_none (nat_lt x 32) code (x ∷ []) (refl, (refl, (refl, (refl, (digit_none (x / 16), (digit_none (x % 16), tt)))))) (other, tt))
 ]
 
 escape_none : (s : List ℕ) → HasNoBreak (escape s)
@@ -76,9 +76,9 @@ comma_none false = tt
 
 mutual
   text_none : (d : Data) → HasNoBreak (compact_text d)
-  text_none null = (refl, refl, refl, refl, tt)
-  text_none (boolean true) = (refl, refl, refl, refl, tt)
-  text_none (boolean false) = (refl, refl, refl, refl, refl, tt)
+  text_none null = (refl, (refl, (refl, (refl, tt))))
+  text_none (boolean true) = (refl, (refl, (refl, (refl, tt))))
+  text_none (boolean false) = (refl, (refl, (refl, (refl, (refl, tt)))))
   text_none (number (unsigned n)) = decimal_none n
   text_none (number (negative (pos n))) = decimal_none n
   text_none (number (negative (negsuc n))) = (refl, decimal_none (suc n))

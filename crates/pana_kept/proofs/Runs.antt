@@ -66,7 +66,7 @@ module _ {D : Type 0} (is_known : Bool) (seen : D → List ℕ) (may_leave : D �
 
   ran_lines : (old mid new : KeptView D) (lines : List (List ℕ)) (output : List ℕ) (steps : ℕ) → Ran old mid → AnswersLines Step mid lines output new steps → Ran old new
   ran_lines old mid new [] output steps ran answers = subst (Ran old) (sym answers.1) ran
-  ran_lines old mid new (line ∷ lines) output steps ran (next, text, rest, first, others, answer, more, whole) =
+  ran_lines old mid new (line ∷ lines) output steps ran (next, text, rest, first, others, answer, more, whole, count) =
       ran_lines old next new lines rest others (ran_line old mid next line text first ran answer) more
 
   spent : (old mid new : KeptView D) → Ran old mid → Spends mid new → KeepsAll moment left_since old new

@@ -6,6 +6,7 @@ ghost use Rattle.pana_keep.specs.Lines.{HasRoom};
 ghost use Rattle.pana_keep.specs.Journal.{IsStaged};
 ghost use Rattle.pana_kept.specs.Entries.{IsLineOf, LoadsTo};
 ghost use Rattle.pana_kept.specs.Kept.{IsKept, Keeps, Breaks};
+ghost use Rattle.pana_kept.specs.inner.{is_done};
 
 use pana_copies::DeviceName;
 use pana_hall::{Call, Cause, Hall, Reply, Spent};
@@ -53,10 +54,17 @@ fn finish<D: Device>(
     ensures spent { OnErr result (Breaks D.is_known D.moment D.left_since (record { entries = hall.old; journal = journal.old }) (record { entries = hall.new; journal = journal.new })) }
 {
     let reply = hall.apply(by, Call::Report(report));
-    if let Reply::Done { .. } = reply {
-        if journal.commit(line).is_err() {
-            return Err(Spent);
-        }
+    if !is_done(&reply) {
+        return Ok(reply); // what is staged stays behind the gate
     }
-    Ok(reply)
+    match journal.commit(line) {
+        Ok(()) => Ok(reply),
+        Err(_) => Err(Spent),
+    }
+}
+
+fn is_done(reply: &Reply) -> bool
+    ensures { result ≡ is_done reply.now }
+{
+    matches!(reply, Reply::Done { .. })
 }
