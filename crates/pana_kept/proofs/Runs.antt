@@ -16,15 +16,15 @@ use Rattle.pana_wire.specs.Session.{AnswersSaid, AnswersLine, AnswersLines, Brea
 use Rattle.pana_wire.specs.Line.{line_says}
 use Rattle.pana_wire.specs.Lines.{ended, lines_of}
 use Rattle.pana_keep.specs.declared.journal_state.JournalState.TheVariants.{Open}
-use Rattle.pana_kept.specs.Kept.{KeptView, KeepsAll, Keeps, Breaks, IsNotKept}
-use Rattle.pana_kept.proofs.Said.{keeps_on}
+use Rattle.pana_kept.specs.Kept.{KeptView, IsKept, KeepsAll, Keeps, Breaks, IsNotKept}
+use Rattle.pana_kept.proofs.Said.{keeps_on, keeps_start}
 
 pub after_grows : (journal : List Entry) (by : List ℕ) (call : Call) (reply : Reply) → (some : List Entry) × (journal_after journal by call reply ≡ journal ++ some)
 unfolding journal_after
 after_grows journal by (calls.Report report) (replies.Done n) = (record { number = n; by = by; report = report } ∷ [], refl)
 after_grows journal by call reply = ([], sym (append-nil journal))
 
-not_kept_same : (old : List Entry) (by : List ℕ) (call : Call) (reply : Reply) (new : List Entry) → IsNotKept old by call reply new → new ≡ old
+pub not_kept_same : (old : List Entry) (by : List ℕ) (call : Call) (reply : Reply) (new : List Entry) → IsNotKept old by call reply new → new ≡ old
 not_kept_same old by (calls.Report report) reply new is = is.2
 not_kept_same old by (calls.Query query) reply new is = absurd is
 
@@ -41,6 +41,14 @@ module _ {D : Type 0} (is_known : Bool) (seen : D → List ℕ) (may_leave : D �
     pub more : List Entry
     pub grown : new.entries ≡ old.entries ++ more
     pub keeps_all : KeepsAll moment left_since old new
+
+  pub begun : (kept : KeptView D) → kept.journal.state ≡ Open → IsKept seen may_leave is_usable kept → ((c : List ℕ) → left_since kept.journal.device (moment kept.journal.device) c → may_leave kept.journal.device c) → Ran kept kept
+  begun kept works is only_now = record {
+    works = works;
+    more = [];
+    grown = sym (append-nil kept.entries);
+    keeps_all = keeps_start moment left_since seen may_leave is_usable kept.journal kept.entries (is works).0 (is works).1 only_now;
+  }
 
   grows : (old : KeptView D) (by : List ℕ) (call : Call) (reply : Reply) (new : KeptView D) → Step old by call reply new → (some : List Entry) × (new.entries ≡ old.entries ++ some)
   grows old by call reply new step =

@@ -1,5 +1,5 @@
 -- The lines of a text that a file stands for, and what they say.
-use Rattle.std.proofs.Common.{◌≡◌, ℕ, ◌+◌, ◌<◌, ◌==◌, true, false, cond, List, [], ◌∷◌, ◌++◌, length, map, take, drop, get_or, Ok, refl, sym, ◌∙◌, ap, subst, arith, append_assoc}
+use Rattle.std.proofs.Common.{◌≡◌, ℕ, ◌+◌, ◌<◌, ◌==◌, Bool, true, false, cond, List, [], ◌∷◌, ◌++◌, length, map, take, drop, get_or, Ok, refl, sym, ◌∙◌, ap, subst, arith, append_assoc}
 use Rattle.std.specs.Borrow.{Bor}
 use Rattle.std.proofs.lemmas.List.{append-nil, map-append, length-map, length-take-le, take-append-drop}
 use Rattle.std.proofs.lemmas.Grind.{take_at_read}
@@ -12,7 +12,9 @@ use Rattle.pana_wire.specs.declared.fault.WireFault.TheVariants.{OutOfMemory}
 use Rattle.pana_keep.specs.Lines.{recovered, text_of, HasNoBreak, AreLines}
 use Rattle.pana_keep.proofs.Recovered.{are_recovered}
 use Rattle.pana_kept.specs.Entries.{Say}
-use Rattle.pana_kept.specs.Opening.{HasFault}
+use Rattle.pana_kept.specs.declared.open_fault.OpenFault.{OpenFault}
+use Rattle.pana_kept.specs.declared.open_fault.OpenFault.TheVariants as faults
+use Rattle.pana_kept.specs.Opening.{HasFault, HaveNoHall, IsOpenFault}
 use Rattle.pana_kept.specs.inner.{texts}
 
 ended_line : (begun l rest : List ℕ) → HasNoBreak l → ended begun (l ++ 10 ∷ rest) ≡ (begun ++ l) ∷ ended [] rest
@@ -76,3 +78,11 @@ fault_at lines index d entries fault within before fails memory = record {
   says = fails;
   memory = memory;
 }
+
+-- a text that has no hall is the reason why its file isn't opened
+pub open_fault : (has_failed : Bool) (file : List ℕ) (fault : OpenFault) → HaveNoHall (recovered file) fault → IsOpenFault has_failed file fault
+open_fault has_failed file faults.NoJournal why = absurd why
+open_fault has_failed file (faults.Device fault) why = absurd why
+open_fault has_failed file (faults.Line number fault) why = why
+open_fault has_failed file (faults.Entry fault) why = why
+open_fault has_failed file faults.OutOfMemory why = why

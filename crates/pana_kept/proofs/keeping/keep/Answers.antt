@@ -1,4 +1,4 @@
-use Rattle.std.proofs.Common.{◌≡◌, IsTrue, ⊎_elim, refl, sym, ◌∙◌}
+use Rattle.std.proofs.Common.{◌≡◌, IsTrue, ⊎_elim, Err, sym, ap, ◌∙◌}
 use Rattle.std.proofs.lemmas.Result.{IfOk-weaker, on_err_weaker}
 use Rattle.pana_hall.specs.declared.call.Call.TheVariants as calls
 use Rattle.pana_keep.specs.declared.journal_state.JournalState.TheVariants.{Open}
@@ -31,4 +31,4 @@ returns-in-Err-Refused-clause-step g c =
 pub returns-clause-spent : goal.returns-clause-spent
 returns-clause-spent g c =
     not_staged g.D.Device.is_known g.D.Device.seen g.D.Device.may_leave g.D.Device.is_usable g.D.Device.moment g.D.Device.left_since c.args.hall.now c.args.journal.now c.stage.new.self
-    c.requires.open (c.in-Err-Broken.ensures.broken refl).0 (λ known. (c.requires.kept known c.requires.open).1) c.stage.ensures.any_moment
+    c.requires.open (c.in-Err-Broken.ensures.broken (ap Err c.in-Err-Broken.field-0-is)).0 (λ known. (c.requires.kept known c.requires.open).1) c.stage.ensures.any_moment

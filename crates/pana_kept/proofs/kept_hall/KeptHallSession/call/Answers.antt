@@ -1,5 +1,6 @@
-use Rattle.std.proofs.Common.{◌≡◌, List, refl, sym, ◌∙◌, subst, rules}
+use Rattle.std.proofs.Common.{◌≡◌, List, sym, ◌∙◌, subst}
 use Rattle.pana_journal.specs.declared.entry.Entry.{Entry}
+use Rattle.pana_hall.specs.declared.call.Call.{Call}
 use Rattle.pana_hall.specs.declared.call.Call.TheVariants as calls
 use Rattle.pana_kept.specs.Kept.{KeptView, IsKept, Keeps}
 use Rattle.pana_kept.proofs.Calls.{after_query, answered}
@@ -15,7 +16,11 @@ returns-in-Query-clause-step g c =
     let es = c.self.inside.hall in
     let journal = c.self.inside.journal in
     let by = c.args.by.now in
-    let call = calls.Query c.in-Query.query in
-    let new = c.apply.new.self in
-    let same : new ≡ es = c.apply.ensures.journal ∙ after_query es by c.in-Query.query c.apply.result in
-    ?
+    let reply = c.apply.result in
+    let new : KeptView g.row.D.Denot = record { entries = c.apply.new.self; journal = journal } in
+    let same : c.apply.new.self ≡ es = c.apply.ensures.journal ∙ after_query es by c.in-Query.query reply in
+    let P : KeptView g.row.D.Denot → Type 0 = λ v. Keeps g.D.Device.is_known g.D.Device.seen g.D.Device.may_leave g.D.Device.is_usable g.D.Device.moment g.D.Device.left_since v by c.args.call reply new in
+    let Q : Call → Type 0 = λ call. Keeps g.D.Device.is_known g.D.Device.seen g.D.Device.may_leave g.D.Device.is_usable g.D.Device.moment g.D.Device.left_since (record { entries = es; journal = journal }) by call reply new in
+    subst P c.self.view_is (subst Q (sym c.in-Query.is)
+    (answered g.D.Device.is_known g.D.Device.seen g.D.Device.may_leave g.D.Device.is_usable g.D.Device.moment g.D.Device.left_since es c.apply.new.self journal by (calls.Query c.in-Query.query) reply same c.self.invariant (g.met.D.Device.only_now journal.device)
+    (c.apply.ensures.permitted, c.apply.ensures.journal)))
