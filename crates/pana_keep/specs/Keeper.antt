@@ -17,13 +17,13 @@ lines_of [] = []
 lines_of (t ∷ ts) = recovered t ++ lines_of ts
 
 -- the file stands for the first n of the texts, for some n that is this at least
-abbrev pub IsPrefix : ℕ → List (List ℕ) → List ℕ → Type 0
-IsPrefix least texts file = (n : ℕ) × (least ≤ n) × (n ≤ length texts) × (recovered file ≡ lines_of (take n texts))
+abbrev pub HoldsFirst : ℕ → List (List ℕ) → List ℕ → Type 0
+HoldsFirst least texts file = (n : ℕ) × (least ≤ n) × (n ≤ length texts) × (recovered file ≡ lines_of (take n texts))
 
 -- A crash at any moment since the device was `old` and the texts were `kept` leaves a file that stands for the first n
 -- of the texts of now, all that were kept then among them.
 abbrev pub KeepsAll : {D : Type 0} → (D → ℕ) → (D → ℕ → List ℕ → Type 0) → D → D → List (List ℕ) → List (List ℕ) → Type 0
-KeepsAll moment left_since old new kept texts = LeavesOnly moment left_since old new (IsPrefix (length kept) texts)
+KeepsAll moment left_since old new kept texts = LeavesOnly moment left_since old new (HoldsFirst (length kept) texts)
 
 -- The file stands for the texts, and takes more, while the journal is open.
 abbrev pub IsKept : {D : Type 0} → (D → List ℕ) → (D → List ℕ → Type 0) → (D → Bool) → Keeper D → Type 0

@@ -2,6 +2,7 @@ use crate::answer::Answer;
 use crate::comparing::compare_on;
 use crate::daemon;
 use crate::fault::ProgramFault;
+use crate::keeping::{run_kept, show_kept};
 use crate::loading::load_on;
 use crate::progress::Progress;
 use crate::running::run_on;
@@ -10,6 +11,7 @@ use crate::showing::show_on;
 use crate::version::VERSION;
 use clap::error::{Error, ErrorKind};
 use clap::{Arg, ArgAction, ArgMatches, Command, value_parser};
+use pana_kept::before_end;
 use pana_scan::Disk;
 use pana_wire::Tap;
 use std::alloc::{AllocError, Global};
@@ -67,7 +69,8 @@ A line that is faulty or refused is reported with its number, and the rest goes
 on; the status is 1 then.";
 
 const LOAD_EXAMPLE: &str = "\
-A dump is the answers to `journal` questions, a line each. Example:
+A dump is the answers to `journal` questions, a line each, or a journal's file.
+Example:
 
     $ panad load backup.dump
     family 1: copies 2, newest 1, split no
@@ -126,6 +129,9 @@ const ROOT: &str = "DEVICE=DIR";
 /// The name of the file on the command line.
 const FILE: &str = "FILE";
 
+/// The name of the journal's file on the command line.
+const JOURNAL: &str = "journal";
+
 /// The names of the device and the folder on the command line.
 const DEVICE: &str = "DEVICE";
 
@@ -136,20 +142,32 @@ const FIRST: &str = "FIRST";
 
 const SECOND: &str = "SECOND";
 
-fn run_command<'a>(alloc: Global) -> Command<'a> {
+fn journal_option<'a>(alloc: Global) -> Arg<'a> {
+    Arg::new(alloc, JOURNAL).long(JOURNAL).value_name(FILE)
+}
+
+fn run_command<'a>(alloc: Global) -> Result<Command<'a>, AllocError> {
+    let journal = journal_option(alloc).help(
+        "The file that keeps the reports; it is made if it isn't there",
+    );
     Command::new(alloc, RUN)
         .about("Answers the lines on standard input, each a report or a question")
         .after_help(RUN_EXAMPLE)
+        .arg(journal)
 }
 
 fn show_command<'a>(alloc: Global) -> Result<Command<'a>, AllocError> {
     let file = Arg::new(alloc, FILE).help(
         "The file with the lines; standard input where there is none",
     );
+    let journal = journal_option(alloc)
+        .help("Print the tables of this journal's file, and take no lines")
+        .conflicts_with(FILE)?;
     Command::new(alloc, SHOW)
         .about("Takes lines as `run` does, and prints a table of each family's copies")
         .after_help(SHOW_EXAMPLE)
-        .arg(file)
+        .arg(file)?
+        .arg(journal)
 }
 
 fn load_command<'a>(alloc: Global) -> Result<Command<'a>, AllocError> {
@@ -221,7 +239,7 @@ fn command_line<'a>(alloc: Global) -> Result<Command<'a>, AllocError> {
         .after_help(LINES)
         .subcommand_required(true)
         .arg_required_else_help(true)
-        .subcommand(run_command(alloc))?
+        .subcommand(run_command(alloc)?)?
         .subcommand(show_command(alloc)?)?
         .subcommand(load_command(alloc)?)?
         .subcommand(scan_command(alloc)?)?
@@ -229,7 +247,10 @@ fn command_line<'a>(alloc: Global) -> Result<Command<'a>, AllocError> {
         .subcommand(serve_command(alloc)?)
 }
 
-fn run(rt: &HostRuntime) -> Result<ExitCode, ProgramFault> {
+fn run(rt: &HostRuntime, words: &ArgMatches) -> Result<ExitCode, ProgramFault> {
+    if let Some(name) = words.get_str(JOURNAL) {
+        return run_kept(rt, name);
+    }
     let alloc = rt.alloc();
     let output = BufWriter::new(alloc, io::writer(rt)).map_err(|_| ProgramFault::OutOfMemory)?;
     let mut reader = Tap::new(rt.reader());
@@ -303,6 +324,9 @@ fn cannot_read(rt: &HostRuntime, name: &str) -> Result<ExitCode, ProgramFault> {
 }
 
 fn show(rt: &HostRuntime, words: &ArgMatches) -> Result<ExitCode, ProgramFault> {
+    if let Some(name) = words.get_str(JOURNAL) {
+        return show_kept(rt, name);
+    }
     let bytes = match words.get_str(FILE) {
         Some(name) => match bytes_of(rt, name)? {
             Some(bytes) => bytes,
@@ -317,7 +341,7 @@ fn load(rt: &HostRuntime, words: &ArgMatches) -> Result<ExitCode, ProgramFault> 
     // The word is required, so it is there.
     let name = words.get_str(FILE).unwrap_or("");
     match bytes_of(rt, name)? {
-        Some(bytes) => load_on(rt.alloc(), bytes.as_slice())?.print(rt),
+        Some(bytes) => load_on(rt.alloc(), before_end(&bytes))?.print(rt),
         None => cannot_read(rt, name),
     }
 }
@@ -360,7 +384,7 @@ fn obey_words<T: Threads + Wait + Sync + Files + AllocGlobal + Clone + Drop>(
         Err(error) => return explain(rt, &error),
     };
     match asked.subcommand() {
-        Some((RUN, _)) => run(rt),
+        Some((RUN, words)) => run(rt, words),
         Some((SHOW, words)) => show(rt, words),
         Some((LOAD, words)) => load(rt, words),
         Some((SCAN, words)) => scan(rt, words),

@@ -6,6 +6,8 @@ mod command;
 mod comparing;
 mod daemon;
 mod fault;
+mod journal_file;
+mod keeping;
 mod line_fault;
 mod loading;
 mod one_hall;

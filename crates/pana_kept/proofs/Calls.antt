@@ -1,0 +1,173 @@
+-- Single calls: what each way that a report takes leaves.
+use Rattle.std.proofs.Common.{◌≡◌, ◌≢◌, ◌⊎◌, inl, inr, ⊎_elim, ℕ, ◌+◌, Bool, true, false, IsTrue, List, [], ◌∷◌, ◌++◌, length, Option, Some, None, refl, sym, ◌∙◌, ap, subst}
+use Rattle.std.proofs.lemmas.List.{append-nil}
+use Rattle.pana_journal.specs.declared.entry.Entry.{Entry}
+use Rattle.pana_journal.specs.declared.report.Report.{Report}
+use Rattle.pana_journal.specs.declared.report.Report.TheVariants as reports
+use Rattle.pana_hall.specs.declared.call.Call.{Call}
+use Rattle.pana_hall.specs.declared.call.Call.TheVariants as calls
+use Rattle.pana_hall.specs.declared.call.Query.{Query}
+use Rattle.pana_hall.specs.declared.cause.Cause.{Cause}
+use Rattle.pana_hall.specs.declared.cause.Cause.TheVariants as causes
+use Rattle.pana_hall.specs.declared.reply.Reply.{Reply}
+use Rattle.pana_hall.specs.declared.reply.Reply.TheVariants as replies
+use Rattle.pana_hall.specs.Permit.{Permits, PermitsBy, journal_after}
+use Rattle.pana_hall.specs.Refusal.{refusal}
+use Rattle.pana_hall.specs.Step.{Steps}
+use Rattle.pana_keep.specs.declared.journal.Journal.{Journal}
+use Rattle.pana_keep.specs.declared.journal_state.JournalState.TheVariants.{Open, Broken}
+use Rattle.pana_keep.specs.Device.{LeavesOnly}
+use Rattle.pana_keep.specs.Lines.{recovered, IsBeforeOrAfter}
+use Rattle.pana_keep.specs.Journal.{IsSettled, IsStaged}
+use Rattle.pana_keep.proofs.Settled.{staged_settles}
+use Rattle.pana_kept.specs.Entries.{Say, LoadsTo, LoadsFirst, IsLineOf}
+use Rattle.pana_kept.specs.Kept.{KeptView, IsKept, KeepsAll, IsNotKept, Keeps, Breaks}
+use Rattle.pana_kept.specs.inner.{is_done}
+use Rattle.pana_kept.proofs.Said.{say_append, loads_same, loads_either, keeps_on, keeps_start, keeps_same}
+use Rattle.pana_kept.proofs.Runs.{after_grows, not_kept_same}
+
+-- the entry that a report of the device is next
+abbrev pub next : List Entry → List ℕ → Report → Entry
+next journal by report = record { number = length journal + 1; by = by; report = report }
+
+permits_done : (journal : List Entry) (report : Report) (n : ℕ) (o : Option Cause) → PermitsBy o journal (calls.Report report) (replies.Done n) → n ≡ length journal + 1
+permits_done journal report n (Some cause) is = absurd (cc)
+permits_done journal report n None (inl is) = cc
+permits_done journal report n None (inr (cause, short, is)) = absurd (cc)
+
+-- a report that is Done is the next entry
+pub done_next : (journal : List Entry) (by : List ℕ) (report : Report) (reply : Reply) (new : List Entry) → is_done reply ≡ true → Permits journal by (calls.Report report) reply → new ≡ journal_after journal by (calls.Report report) reply → new ≡ journal ++ next journal by report ∷ []
+unfolding Permits journal_after
+done_next journal by report (replies.Done n) new done permits after =
+    after ∙ ap (λ (m : ℕ). journal ++ record { number = m; by = by; report = report } ∷ []) (permits_done journal report n (refusal journal by (calls.Report report)) permits)
+done_next journal by report reply new done permits after = absurd (cc)
+
+-- and one that isn't leaves the journal
+pub not_done_same : (journal : List Entry) (by : List ℕ) (report : Report) (reply : Reply) → is_done reply ≡ false → journal_after journal by (calls.Report report) reply ≡ journal
+unfolding journal_after
+not_done_same journal by report (replies.Done n) not = absurd (cc)
+not_done_same journal by report reply not = refl
+
+pub permits_refused : (journal : List Entry) (by : List ℕ) (report : Report) (cause : Cause) → refusal journal by (calls.Report report) ≡ Some cause → Permits journal by (calls.Report report) (replies.Refused cause)
+unfolding Permits
+permits_refused journal by report cause is = subst (λ o. PermitsBy o journal (calls.Report report) (replies.Refused cause)) (sym is) refl
+
+short_of : (journal : List Entry) (report : Report) → PermitsBy None journal (calls.Report report) (replies.Refused causes.OutOfMemory)
+short_of journal (reports.Duplicate copy place) = inr (causes.OutOfMemory, inl refl, refl)
+short_of journal report = inr (causes.OutOfMemory, refl, refl)
+
+pub permits_short : (journal : List Entry) (by : List ℕ) (report : Report) → refusal journal by (calls.Report report) ≡ None → Permits journal by (calls.Report report) (replies.Refused causes.OutOfMemory)
+unfolding Permits
+permits_short journal by report is = subst (λ o. PermitsBy o journal (calls.Report report) (replies.Refused causes.OutOfMemory)) (sym is) (short_of journal report)
+
+pub after_refused : (journal : List Entry) (by : List ℕ) (report : Report) (cause : Cause) → journal ≡ journal_after journal by (calls.Report report) (replies.Refused cause)
+unfolding journal_after
+after_refused journal by report cause = refl
+
+pub after_query : (journal : List Entry) (by : List ℕ) (query : Query) (reply : Reply) → journal_after journal by (calls.Query query) reply ≡ journal
+unfolding journal_after
+after_query journal by query reply = refl
+
+module _ {D : Type 0} (is_known : Bool) (seen : D → List ℕ) (may_leave : D → List ℕ → Type 0) (is_usable : D → Bool) (moment : D → ℕ) (left_since : D → ℕ → List ℕ → Type 0) where
+  abbrev view : List Entry → Journal D → KeptView D
+  view es journal = record { entries = es; journal = journal }
+
+  abbrev Step : KeptView D → List ℕ → Call → Reply → KeptView D → Type 0
+  Step old by call reply new = Keeps is_known seen may_leave is_usable moment left_since old by call reply new
+
+  abbrev Spends : KeptView D → KeptView D → Type 0
+  Spends old new = Breaks is_known moment left_since old new
+
+  -- the lines of the file were the same at any moment
+  abbrev Same : Journal D → Journal D → Type 0
+  Same a b = LeavesOnly moment left_since a.device b.device (λ f. recovered f ≡ recovered (seen a.device))
+
+  -- with the file left alone
+  pub answered : (es new : List Entry) (journal : Journal D) (by : List ℕ) (call : Call) (reply : Reply) → new ≡ es → (IsTrue is_known → IsKept seen may_leave is_usable (view es journal))
+      → ((c : List ℕ) → left_since journal.device (moment journal.device) c → may_leave journal.device c) → Steps es by call reply new → Step (view es journal) by call reply (view new journal)
+  answered es new journal by call reply same kept only_now steps = record {
+    answers = inl steps;
+    state = refl;
+    kept = λ known. subst (λ (xs : List Entry). IsKept seen may_leave is_usable (view xs journal)) (sym same) (kept known);
+    keeps_all = λ known works.
+        let was = kept known works in
+        subst (λ (xs : List Entry). KeepsAll moment left_since (view es journal) (view xs journal)) (sym same) (keeps_start moment left_since seen may_leave is_usable journal es was.0 was.1 only_now);
+  }
+
+  -- with the line only staged
+  pub not_written : (es : List Entry) (a b : Journal D) (by : List ℕ) (report : Report) → b.state ≡ a.state → refusal es by (calls.Report report) ≡ None → (IsTrue is_known → LoadsTo es (seen a.device))
+      → (IsTrue is_known → IsSettled seen may_leave is_usable b) → (IsTrue is_known → recovered (seen b.device) ≡ recovered (seen a.device)) → (IsTrue is_known → Same a b) → Step (view es a) by (calls.Report report) (replies.Refused causes.NotKept) (view es b)
+  not_written es a b by report state free loads settled same run = record {
+    answers = inr (free, refl, refl);
+    state = state;
+    kept = λ known works. (settled known, loads_same es (seen a.device) (seen b.device) (same known) (loads known));
+    keeps_all = λ known works. keeps_same moment left_since a.device b.device (seen a.device) es (loads known) (run known);
+  }
+
+  pub not_staged : (es : List Entry) (a b : Journal D) → a.state ≡ Open → b.state ≡ Broken → (IsTrue is_known → LoadsTo es (seen a.device)) → (IsTrue is_known → Same a b) → Spends (view es a) (view es b)
+  not_staged es a b opened broken loads run = record {
+    broken = λ works. absurd (cc);
+    once = λ shut. absurd (shut opened);
+    entries = inl refl;
+    keeps_all = λ known works. keeps_same moment left_since a.device b.device (seen a.device) es (loads known) (run known);
+  }
+
+  -- the line is staged, and then the rest is done
+  pub staged_keeps : (es new : List Entry) (a b c : Journal D) (by : List ℕ) (call : Call) (reply : Reply) → b.state ≡ a.state → (IsTrue is_known → LoadsTo es (seen a.device)) → (IsTrue is_known → Same a b) → Step (view es b) by call reply (view new c) → Step (view es a) by call reply (view new c)
+  staged_keeps es new a b c by call reply state loads run k =
+      let some : (some : List Entry) × (new ≡ es ++ some) = ⊎_elim (λ steps. let after = after_grows es by call reply in (after.0, steps.1 ∙ after.1)) (λ not. ([], not_kept_same es by call reply new not ∙ sym (append-nil es))) k.answers in
+      record {
+        answers = k.answers;
+        state = k.state ∙ state;
+        kept = k.kept;
+        keeps_all = λ known works. keeps_on moment left_since a.device b.device c.device es es new [] some.0 (sym (append-nil es)) some.1 (keeps_same moment left_since a.device b.device (seen a.device) es (loads known) (run known)) (k.keeps_all known (state ∙ works));
+      }
+
+  pub staged_breaks : (es new : List Entry) (a b c : Journal D) → a.state ≡ Open → b.state ≡ Open → (IsTrue is_known → LoadsTo es (seen a.device)) → (IsTrue is_known → Same a b) → Spends (view es b) (view new c) → Spends (view es a) (view new c)
+  staged_breaks es new a b c opened still loads run k = record {
+    broken = k.broken;
+    once = λ shut. absurd (shut opened);
+    entries = k.entries;
+    keeps_all = λ known works.
+        let first = keeps_same moment left_since a.device b.device (seen a.device) es (loads known) (run known) in
+        let second = k.keeps_all known still in
+        ⊎_elim (λ same. keeps_on moment left_since a.device b.device c.device es es new [] [] (sym (append-nil es)) (same ∙ sym (append-nil es)) first second)
+        (λ added. keeps_on moment left_since a.device b.device c.device es es new [] (added.0 ∷ []) (sym (append-nil es)) added.1 first second) k.entries;
+  }
+
+  -- what is staged is committed, or not
+  opened : (es : List Entry) (e : Entry) (line : List ℕ) (a b : Journal D) → LoadsTo es (seen a.device) → IsLineOf e line → LeavesOnly moment left_since a.device b.device (IsBeforeOrAfter (recovered (seen a.device)) (recovered line))
+      → LeavesOnly moment left_since a.device b.device (LoadsFirst (length es) (es ++ e ∷ []))
+  opened es e line a b loads is run = record {
+    later = run.later;
+    each = λ f left. loads_either es e (seen a.device) line f loads is.says (run.each f left);
+    before = λ t f le left. ⊎_elim (λ was. inl was) (λ p. inr (loads_either es e (seen a.device) line f loads is.says p)) (run.before t f le left);
+  }
+
+  pub committed : (es new : List Entry) (a b : Journal D) (by line : List ℕ) (report : Report) (reply : Reply) → new ≡ es ++ next es by report ∷ [] → b.state ≡ a.state → Steps es by (calls.Report report) reply new → IsLineOf (next es by report) line
+      → (IsTrue is_known → LoadsTo es (seen a.device)) → (IsTrue is_known → IsSettled seen may_leave is_usable b) → (IsTrue is_known → recovered (seen b.device) ≡ recovered (seen a.device) ++ recovered line)
+      → (IsTrue is_known → LeavesOnly moment left_since a.device b.device (IsBeforeOrAfter (recovered (seen a.device)) (recovered line))) → Step (view es a) by (calls.Report report) reply (view new b)
+  committed es new a b by line report reply grown state steps is loads settled added run = record {
+    answers = inl steps;
+    state = state;
+    kept = λ known works. (
+      settled known,
+      subst (λ (xs : List Entry). LoadsTo xs (seen b.device)) (sym grown) (subst (λ (ls : List (List ℕ)). Say ls (es ++ next es by report ∷ [])) (sym (added known)) (say_append (recovered (seen a.device)) (recovered line) es (next es by report ∷ []) (loads known) is.says)),
+    );
+    keeps_all = λ known works. subst (λ (xs : List Entry). KeepsAll moment left_since (view es a) (view xs b)) (sym grown) (opened es (next es by report) line a b (loads known) is (run known));
+  }
+
+  pub not_committed : (es new : List Entry) (a b : Journal D) (by line : List ℕ) (report : Report) → new ≡ es ++ next es by report ∷ [] → a.state ≡ Open → b.state ≡ Broken → IsLineOf (next es by report) line
+      → (IsTrue is_known → LoadsTo es (seen a.device)) → (IsTrue is_known → LeavesOnly moment left_since a.device b.device (IsBeforeOrAfter (recovered (seen a.device)) (recovered line))) → Spends (view es a) (view new b)
+  not_committed es new a b by line report grown works broken is loads run = record {
+    broken = λ still. absurd (cc);
+    once = λ shut. absurd (shut works);
+    entries = inr (next es by report, grown);
+    keeps_all = λ known was. subst (λ (xs : List Entry). KeepsAll moment left_since (view es a) (view xs b)) (sym grown) (opened es (next es by report) line a b (loads known) is (run known));
+  }
+
+  -- what is staged is left, since the hall refuses its report
+  pub left_staged : (es new : List Entry) (journal : Journal D) (by line : List ℕ) (report : Report) (reply : Reply) → new ≡ es → Steps es by (calls.Report report) reply new → (IsTrue is_known → IsStaged seen may_leave is_usable line journal) → (IsTrue is_known → LoadsTo es (seen journal.device))
+      → ((c : List ℕ) → left_since journal.device (moment journal.device) c → may_leave journal.device c) → Step (view es journal) by (calls.Report report) reply (view new journal)
+  left_staged es new journal by line report reply same steps staged loads only_now =
+      answered es new journal by (calls.Report report) reply same (λ known works. (staged_settles seen may_leave is_usable line journal (staged known), loads known)) only_now steps

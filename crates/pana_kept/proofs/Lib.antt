@@ -1,0 +1,5 @@
+pub mod Calls
+pub mod NoBreak
+pub mod Texts
+pub mod Runs
+pub mod Said

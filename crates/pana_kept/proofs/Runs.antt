@@ -1,0 +1,111 @@
+-- Sessions: what is kept over a run of calls.
+use Rattle.std.proofs.Common.{◌≡◌, ◌⊎◌, inl, inr, ⊎_elim, ℕ, Bool, true, false, IsTrue, List, [], ◌∷◌, ◌++◌, length, Option, Result, Ok, Err, refl, sym, ◌∙◌, ap, subst, append_assoc}
+use Rattle.std.specs.Prelude.{IfOk, IfErr}
+use Rattle.std.proofs.lemmas.List.{append-nil}
+use Rattle.pana_journal.specs.declared.entry.Entry.{Entry}
+use Rattle.pana_hall.specs.declared.call.Call.{Call}
+use Rattle.pana_hall.specs.declared.call.Call.TheVariants as calls
+use Rattle.pana_hall.specs.declared.reply.Reply.{Reply}
+use Rattle.pana_hall.specs.declared.reply.Reply.TheVariants as replies
+use Rattle.pana_hall.specs.Permit.{journal_after}
+use Rattle.pana_wire.specs.declared.fault.WireFault.{WireFault}
+use Rattle.pana_wire.specs.declared.message.Message.{Message}
+use Rattle.pana_wire.specs.declared.serving.ServeFault.{ServeFault}
+use Rattle.pana_wire.specs.declared.serving.ServeFault.TheVariants.{Read, Write, OutOfMemory, Spent, Turns}
+use Rattle.pana_wire.specs.Session.{AnswersSaid, AnswersLine, AnswersLines, BreaksAt, BreaksIn, EndsBy}
+use Rattle.pana_wire.specs.Line.{line_says}
+use Rattle.pana_wire.specs.Lines.{ended, lines_of}
+use Rattle.pana_keep.specs.declared.journal_state.JournalState.TheVariants.{Open}
+use Rattle.pana_kept.specs.Kept.{KeptView, IsKept, KeepsAll, Keeps, Breaks, IsNotKept}
+use Rattle.pana_kept.proofs.Said.{keeps_on, keeps_start}
+
+pub after_grows : (journal : List Entry) (by : List ℕ) (call : Call) (reply : Reply) → (some : List Entry) × (journal_after journal by call reply ≡ journal ++ some)
+unfolding journal_after
+after_grows journal by (calls.Report report) (replies.Done n) = (record { number = n; by = by; report = report } ∷ [], refl)
+after_grows journal by call reply = ([], sym (append-nil journal))
+
+pub not_kept_same : (old : List Entry) (by : List ℕ) (call : Call) (reply : Reply) (new : List Entry) → IsNotKept old by call reply new → new ≡ old
+not_kept_same old by (calls.Report report) reply new is = is.2
+not_kept_same old by (calls.Query query) reply new is = absurd is
+
+module _ {D : Type 0} (is_known : Bool) (seen : D → List ℕ) (may_leave : D → List ℕ → Type 0) (is_usable : D → Bool) (moment : D → ℕ) (left_since : D → ℕ → List ℕ → Type 0) (known : IsTrue is_known) where
+  abbrev Step : KeptView D → List ℕ → Call → Reply → KeptView D → Type 0
+  Step old by call reply new = Keeps is_known seen may_leave is_usable moment left_since old by call reply new
+
+  abbrev Spends : KeptView D → KeptView D → Type 0
+  Spends old new = Breaks is_known moment left_since old new
+
+  -- so far every call was answered
+  pub record Ran (old new : KeptView D) : Type 0 where
+    pub works : new.journal.state ≡ Open
+    pub more : List Entry
+    pub grown : new.entries ≡ old.entries ++ more
+    pub keeps_all : KeepsAll moment left_since old new
+
+  pub begun : (kept : KeptView D) → kept.journal.state ≡ Open → IsKept seen may_leave is_usable kept → ((c : List ℕ) → left_since kept.journal.device (moment kept.journal.device) c → may_leave kept.journal.device c) → Ran kept kept
+  begun kept works is only_now = record {
+    works = works;
+    more = [];
+    grown = sym (append-nil kept.entries);
+    keeps_all = keeps_start moment left_since seen may_leave is_usable kept.journal kept.entries (is works).0 (is works).1 only_now;
+  }
+
+  grows : (old : KeptView D) (by : List ℕ) (call : Call) (reply : Reply) (new : KeptView D) → Step old by call reply new → (some : List Entry) × (new.entries ≡ old.entries ++ some)
+  grows old by call reply new step =
+      ⊎_elim (λ steps. let after = after_grows old.entries by call reply in (after.0, steps.1 ∙ after.1))
+      (λ not. ([], not_kept_same old.entries by call reply new.entries not ∙ sym (append-nil old.entries))) step.answers
+
+  ran_step : (old mid new : KeptView D) (by : List ℕ) (call : Call) (reply : Reply) → Ran old mid → Step mid by call reply new → Ran old new
+  ran_step old mid new by call reply ran step =
+      let some = grows mid by call reply new step in
+      record {
+        works = step.state ∙ ran.works;
+        more = ran.more ++ some.0;
+        grown = some.1 ∙ ap (λ (es : List Entry). es ++ some.0) ran.grown ∙ append_assoc old.entries ran.more some.0;
+        keeps_all = keeps_on moment left_since old.journal.device mid.journal.device new.journal.device old.entries mid.entries new.entries ran.more some.0 ran.grown some.1 ran.keeps_all (step.keeps_all known ran.works);
+      }
+
+  ran_said : (old mid new : KeptView D) (said : Result Message WireFault) (text : List ℕ) (steps : ℕ) → Ran old mid → AnswersSaid Step mid said text new steps → Ran old new
+  ran_said old mid new (Err fault) text steps ran answers = subst (Ran old) (sym answers.1) ran
+  ran_said old mid new (Ok m) text steps ran answers = ran_step old mid new m.by m.call answers.0 ran answers.1
+
+  ran_line : (old mid new : KeptView D) (line text : List ℕ) (steps : ℕ) → Ran old mid → AnswersLine Step mid line text new steps → Ran old new
+  ran_line old mid new line text steps ran answers = ⊎_elim (ran_said old mid new (line_says line) text steps ran) (λ short. subst (Ran old) (sym short.1) ran) answers
+
+  ran_lines : (old mid new : KeptView D) (lines : List (List ℕ)) (output : List ℕ) (steps : ℕ) → Ran old mid → AnswersLines Step mid lines output new steps → Ran old new
+  ran_lines old mid new [] output steps ran answers = subst (Ran old) (sym answers.1) ran
+  ran_lines old mid new (line ∷ lines) output steps ran (next, text, rest, first, others, answer, more, whole, count) =
+      ran_lines old next new lines rest others (ran_line old mid next line text first ran answer) more
+
+  spent : (old mid new : KeptView D) → Ran old mid → Spends mid new → KeepsAll moment left_since old new
+  spent old mid new ran breaks =
+      let later = breaks.keeps_all known ran.works in
+      ⊎_elim
+      (λ same. keeps_on moment left_since old.journal.device mid.journal.device new.journal.device old.entries mid.entries new.entries ran.more [] ran.grown (same ∙ sym (append-nil mid.entries)) ran.keeps_all later)
+      (λ added. keeps_on moment left_since old.journal.device mid.journal.device new.journal.device old.entries mid.entries new.entries ran.more (added.0 ∷ []) ran.grown added.1 ran.keeps_all later) breaks.entries
+
+  breaks_at : (fault : ServeFault) (old mid new : KeptView D) (line output : List ℕ) → Ran old mid → BreaksAt Step Spends fault mid line output new → KeepsAll moment left_since old new
+  breaks_at Read old mid new line output ran breaks = absurd breaks
+  breaks_at Write old mid new line output ran (text, rest, steps, answers, whole) = (ran_line old mid new line text steps ran answers).keeps_all
+  breaks_at OutOfMemory old mid new line output ran (m, reply, says, step, none) = (ran_step old mid new m.by m.call reply ran step).keeps_all
+  breaks_at Spent old mid new line output ran (m, says, spends, none) = spent old mid new ran spends
+  breaks_at Turns old mid new line output ran breaks = absurd breaks
+
+  breaks_in : (fault : ServeFault) (old mid new : KeptView D) (lines : List (List ℕ)) (output : List ℕ) → Ran old mid → BreaksIn Step Spends fault mid lines output new → KeepsAll moment left_since old new
+  breaks_in fault old mid new [] output ran breaks = absurd breaks
+  breaks_in fault old mid new (line ∷ lines) output ran (inl here) = breaks_at fault old mid new line output ran here
+  breaks_in fault old mid new (line ∷ lines) output ran (inr (next, text, rest, steps, answers, more, whole)) = breaks_in fault old next new lines rest (ran_line old mid next line text steps ran answers) more
+
+  pub served : (old new : KeptView D) (input output : List ℕ) (steps : ℕ) → Ran old old → AnswersLines Step old (lines_of input) output new steps → KeepsAll moment left_since old new
+  served old new input output steps ran answers = (ran_lines old old new (lines_of input) output steps ran answers).keeps_all
+
+  pub stopped : (fault : ServeFault) (met : Bool) (old new : KeptView D) (input output : List ℕ) → Ran old old → EndsBy Step Spends fault met old input output new → KeepsAll moment left_since old new
+  stopped Read met old new input output ran (steps, answers) = (ran_lines old old new (ended [] input) output steps ran answers).keeps_all
+  stopped Write met old new input output ran ends = breaks_in Write old old new _ output ran ends
+  stopped OutOfMemory met old new input output ran ends = breaks_in OutOfMemory old old new _ output ran ends
+  stopped Spent met old new input output ran ends = breaks_in Spent old old new _ output ran ends
+  stopped Turns met old new input output ran (steps, answers) = (ran_lines old old new (ended [] input) output steps ran answers).keeps_all
+
+pub either_way : {X E : Type 0} (r : Result X E) (P : X → Type 0) (Q : E → Type 0) (R : Type 0) → IfOk r P → IfErr r Q → ((x : X) → P x → R) → ((e : E) → Q e → R) → R
+either_way (Ok x) P Q R p q on_ok on_err = on_ok x p
+either_way (Err e) P Q R p q on_ok on_err = on_err e q

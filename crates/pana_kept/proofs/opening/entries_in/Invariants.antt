@@ -1,0 +1,7 @@
+use Rattle.std.proofs.Common.{take}
+use Rattle.pana_kept.specs.Entries.{Say}
+use Rattle.pana_kept.specs.inner.{texts}
+use Rattle.pana_kept.proofs.opening.entries_in.Given as goal
+
+abbrev pub invariant-loop-index : goal.invariant-loop-index
+invariant-loop-index l = Say (texts (take l.index l.lines)) l.entries

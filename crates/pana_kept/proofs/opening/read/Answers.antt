@@ -1,0 +1,23 @@
+use Rattle.std.proofs.Common.{◌≡◌, List, ℕ, ◌∙◌, ap, subst, rules}
+use Rattle.std.proofs.lemmas.Result.{err_from_is_err_and}
+use Rattle.pana_wire.specs.Lines.{lines_of}
+use Rattle.pana_keep.specs.Lines.{recovered, text_of}
+use Rattle.pana_kept.specs.Entries.{Say}
+use Rattle.pana_kept.specs.Opening.{HaveNoHall}
+use Rattle.pana_kept.proofs.Texts.{lines_again, open_fault}
+use Rattle.pana_kept.proofs.opening.read.Goals as goal
+
+pub returns-in_err-hall-clause-fault : goal.returns-in_err-hall-clause-fault
+returns-in_err-hall-clause-fault g c =
+    let file = g.D.Device.seen c.args.journal.now.device in
+    let fault = c.in_err-hall.field-0.0 in
+    let p = err_from_is_err_and c.from_residual-in_err-hall.result c.from_residual-in_err-hall.ensures.1 in
+    rw (p.1, p.2)
+    (λ known. let text : c.deref.result.now ≡ text_of (recovered file) = search (rules, c.in_ok-text.ensures.text, known) in
+        open_fault (g.D.Device.has_failed c.read.new.self.device) file fault (subst (λ (ls : List (List ℕ)). HaveNoHall ls fault) (ap lines_of text ∙ lines_again file) c.in_err-hall.ensures.fault))
+
+pub returns-clause-hall : goal.returns-clause-hall
+returns-clause-hall g c known =
+    let file = g.D.Device.seen c.args.journal.now.device in
+    let text : c.deref.result.now ≡ text_of (recovered file) = search (rules, c.in_ok-text.ensures.text, known) in
+    subst (λ (ls : List (List ℕ)). Say ls c.in_ok-hall.hall) (ap lines_of text ∙ lines_again file) c.in_ok-hall.ensures.ok

@@ -1,0 +1,16 @@
+use Rattle.std.proofs.Common.{⊎_elim, sym, subst}
+use Rattle.pana_wire.specs.Tap.{has_ended}
+use Rattle.pana_kept.specs.Kept.{KeptView, KeepsAll}
+use Rattle.pana_kept.proofs.Runs.{begun, served, stopped, either_way}
+use Rattle.pana_kept.proofs.serving.serve_kept.Goals as goal
+
+pub returns-clause-keeps_all : goal.returns-clause-keeps_all
+returns-clause-keeps_all g c known works =
+    let old = c.args.session.now in
+    let new = c.serve.new.session in
+    let ran = begun g.D.Device.is_known g.D.Device.seen g.D.Device.may_leave g.D.Device.is_usable g.D.Device.moment g.D.Device.left_since known old works (c.is_open.ensures.kept known) (g.met.D.Device.only_now old.journal.device) in
+    let all : KeptView g.row.D.Denot → Type 0 = λ v. KeepsAll g.D.Device.moment g.D.Device.left_since old v in
+    either_way c.serve.result _ _ (all new) c.serve.ensures.ok c.serve.ensures.fault
+    (λ s k. served g.D.Device.is_known g.D.Device.seen g.D.Device.may_leave g.D.Device.is_usable g.D.Device.moment g.D.Device.left_since known old new k.input k.output s.calls ran k.text)
+    (λ fault why. ⊎_elim (λ never. subst all (sym never.session) ran.keeps_all)
+    (λ k. stopped g.D.Device.is_known g.D.Device.seen g.D.Device.may_leave g.D.Device.is_usable g.D.Device.moment g.D.Device.left_since known fault (has_ended c.serve.new.reader) old new k.input k.output ran k.ends) why)

@@ -1,0 +1,49 @@
+-- What a call does to a hall and to the file that keeps its journal.
+use Rattle.std.specs.Prelude.{◌≡◌, ◌≢◌, ◌⊎◌, ℕ, Bool, IsTrue, List, [], ◌∷◌, ◌++◌, length, None}
+use Rattle.pana_journal.specs.declared.entry.Entry.{Entry}
+use Rattle.pana_hall.specs.declared.call.Call.{Call}
+use Rattle.pana_hall.specs.declared.call.Call.TheVariants as calls
+use Rattle.pana_hall.specs.declared.cause.Cause.TheVariants.{NotKept}
+use Rattle.pana_hall.specs.declared.reply.Reply.{Reply}
+use Rattle.pana_hall.specs.declared.reply.Reply.TheVariants.{Refused}
+use Rattle.pana_hall.specs.Refusal.{refusal}
+use Rattle.pana_hall.specs.Step.{Steps}
+use Rattle.pana_keep.specs.declared.journal.Journal.{Journal}
+use Rattle.pana_keep.specs.declared.journal_state.JournalState.TheVariants.{Open}
+use Rattle.pana_keep.specs.Device.{LeavesOnly}
+use Rattle.pana_keep.specs.Journal.{IsSettled}
+use Rattle.pana_kept.specs.Entries.{LoadsTo, LoadsFirst}
+
+-- what contracts see of a kept hall: the entries of the hall's journal, and the journal in the file
+pub record KeptView (D : Type 0) : Type 0 where
+  pub entries : List Entry
+  pub journal : Journal D
+
+-- While the journal is open, the file stands for the entries, and so does each that a crash may leave.
+abbrev pub IsKept : {D : Type 0} → (D → List ℕ) → (D → List ℕ → Type 0) → (D → Bool) → KeptView D → Type 0
+IsKept seen may_leave is_usable kept = kept.journal.state ≡ Open → IsSettled seen may_leave is_usable kept.journal × LoadsTo kept.entries (seen kept.journal.device)
+
+-- A crash at any moment since `old` leaves a file that loads to the first n entries of now, all that there were then
+-- among them.
+abbrev pub KeepsAll : {D : Type 0} → (D → ℕ) → (D → ℕ → List ℕ → Type 0) → KeptView D → KeptView D → Type 0
+KeepsAll moment left_since old new = LeavesOnly moment left_since old.journal.device new.journal.device (LoadsFirst (length old.entries) new.entries)
+
+-- a report against which nothing else stands is refused, since it could not be written, and nothing has changed
+abbrev pub IsNotKept : List Entry → List ℕ → Call → Reply → List Entry → Type 0
+IsNotKept old by (calls.Report report) reply new = (refusal old by (calls.Report report) ≡ None) × (reply ≡ Refused NotKept) × (new ≡ old)
+IsNotKept old by (calls.Query query) reply new = ⊥
+
+-- A call that is answered: as by a hall alone, or a report is NotKept. The file follows.
+pub record Keeps {D : Type 0} (is_known : Bool) (seen : D → List ℕ) (may_leave : D → List ℕ → Type 0) (is_usable : D → Bool) (moment : D → ℕ) (left_since : D → ℕ → List ℕ → Type 0)
+    (old : KeptView D) (by : List ℕ) (call : Call) (reply : Reply) (new : KeptView D) : Type 0 where
+  pub answers : Steps old.entries by call reply new.entries ⊎ IsNotKept old.entries by call reply new.entries
+  pub state : new.journal.state ≡ old.journal.state
+  pub kept : IsTrue is_known → IsKept seen may_leave is_usable new
+  pub keeps_all : IsTrue is_known → old.journal.state ≡ Open → KeepsAll moment left_since old new
+
+-- A call that isn't answered: the journal is broken, and at most the entry of the call's report has come.
+pub record Breaks {D : Type 0} (is_known : Bool) (moment : D → ℕ) (left_since : D → ℕ → List ℕ → Type 0) (old new : KeptView D) : Type 0 where
+  pub broken : new.journal.state ≢ Open
+  pub once : old.journal.state ≢ Open → new ≡ old
+  pub entries : (new.entries ≡ old.entries) ⊎ ((entry : Entry) × (new.entries ≡ old.entries ++ entry ∷ []))
+  pub keeps_all : IsTrue is_known → old.journal.state ≡ Open → KeepsAll moment left_since old new

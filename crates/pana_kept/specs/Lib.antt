@@ -1,0 +1,5 @@
+pub mod Ending
+pub mod Entries
+pub mod Kept
+pub mod Opening
+pub mod inner

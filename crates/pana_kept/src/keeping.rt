@@ -1,0 +1,70 @@
+//! A report whose entry is kept: its line is staged, the hall changes, and the line is committed.
+ghost use Rattle.std.specs.Prelude.{◌≡◌, ◌+◌, IsTrue, length, None, IfOk, OnErr};
+ghost use Rattle.pana_hall.specs.declared.call.Call.TheVariants as calls;
+ghost use Rattle.pana_hall.specs.Refusal.{refusal};
+ghost use Rattle.pana_keep.specs.Lines.{HasRoom};
+ghost use Rattle.pana_keep.specs.Journal.{IsStaged};
+ghost use Rattle.pana_kept.specs.Entries.{IsLineOf, LoadsTo};
+ghost use Rattle.pana_kept.specs.Kept.{IsKept, Keeps, Breaks};
+ghost use Rattle.pana_kept.specs.inner.{is_done};
+
+use pana_copies::DeviceName;
+use pana_hall::{Call, Cause, Hall, Reply, Spent};
+use pana_journal::Report;
+use pana_keep::{Device, Journal, JournalState, KeepFault};
+
+/// Makes a report that nothing stands against, whose entry has this line.
+pub(crate) fn keep<D: Device>(
+    hall: &mut Hall,
+    journal: &mut Journal<D>,
+    by: &DeviceName,
+    report: Report,
+    line: &[u8],
+) -> Result<Reply, Spent>
+    requires open { journal.old.state ≡ JournalState.Open }
+    requires kept { IsTrue D.is_known → IsKept D.seen D.may_leave D.is_usable (record { entries = hall.old; journal = journal.old }) }
+    requires free { refusal hall.old by.now (calls.Report report) ≡ None }
+    requires line { IsLineOf (record { number = length hall.old + 1; by = by.now; report = report }) line.now }
+    ensures step { IfOk result (λ reply. Keeps D.is_known D.seen D.may_leave D.is_usable D.moment D.left_since
+        (record { entries = hall.old; journal = journal.old }) by.now (calls.Report report) reply (record { entries = hall.new; journal = journal.new })) }
+    ensures spent { OnErr result (Breaks D.is_known D.moment D.left_since (record { entries = hall.old; journal = journal.old }) (record { entries = hall.new; journal = journal.new })) }
+{
+    match journal.stage(line) {
+        Ok(()) => finish(hall, journal, by, report, line),
+        Err(KeepFault::Refused(_)) => Ok(Reply::Refused(Cause::NotKept)),
+        Err(KeepFault::Broken) => Err(Spent),
+    }
+}
+
+/// Makes a report whose line is staged, and commits the line where the report is done.
+fn finish<D: Device>(
+    hall: &mut Hall,
+    journal: &mut Journal<D>,
+    by: &DeviceName,
+    report: Report,
+    line: &[u8],
+) -> Result<Reply, Spent>
+    requires open { journal.old.state ≡ JournalState.Open }
+    requires staged { IsTrue D.is_known → IsStaged D.seen D.may_leave D.is_usable line.now journal.old }
+    requires loads { IsTrue D.is_known → LoadsTo hall.old (D.seen journal.old.device) }
+    requires room { HasRoom journal.old.end line.now }
+    requires line { IsLineOf (record { number = length hall.old + 1; by = by.now; report = report }) line.now }
+    ensures step { IfOk result (λ reply. Keeps D.is_known D.seen D.may_leave D.is_usable D.moment D.left_since
+        (record { entries = hall.old; journal = journal.old }) by.now (calls.Report report) reply (record { entries = hall.new; journal = journal.new })) }
+    ensures spent { OnErr result (Breaks D.is_known D.moment D.left_since (record { entries = hall.old; journal = journal.old }) (record { entries = hall.new; journal = journal.new })) }
+{
+    let reply = hall.apply(by, Call::Report(report));
+    if !is_done(&reply) {
+        return Ok(reply); // what is staged stays behind the gate
+    }
+    match journal.commit(line) {
+        Ok(()) => Ok(reply),
+        Err(_) => Err(Spent),
+    }
+}
+
+fn is_done(reply: &Reply) -> bool
+    ensures { result ≡ is_done reply.now }
+{
+    matches!(reply, Reply::Done { .. })
+}

@@ -1,0 +1,89 @@
+ghost use Rattle.std.specs.Prelude.{◌≡◌, ◌↔◌, IsTrue, IfOk, OnErr};
+ghost use Rattle.pana_hall.specs.declared.call.Call.TheVariants as calls;
+ghost use Rattle.pana_kept.specs.Kept.{IsKept, Keeps, Breaks};
+
+use crate::entry_line::line_of;
+use crate::keeping::keep;
+use pana_copies::DeviceName;
+use pana_hall::{Call, Cause, Hall, Reply, Spent};
+use pana_journal::Report;
+use pana_keep::{Device, Journal, JournalState};
+use pana_wire::Session;
+use std::alloc::Global;
+use std::marker::Model;
+
+/// A hall, and a file that has each entry of its journal before the entry's `Done` is returned. To contracts it is the
+/// entries, and the journal in the file.
+#[derive(Drop)]
+pub struct KeptHall<D: Device> {
+    alloc: Global,
+    hall: Hall,
+    journal: Journal<D>,
+}
+
+impl<D: Device> Model for KeptHall<D> {
+    ghost use Rattle.std.specs.Prelude.{IsTrue};
+    ghost use Rattle.pana_kept.specs.Kept.{KeptView, IsKept};
+
+    ghost Value = { KeptView D };
+
+    ghost view = { λ kept. record { entries = kept.hall; journal = kept.journal } };
+
+    ghost invariant = { λ kept. IsTrue D.is_known → IsKept D.seen D.may_leave D.is_usable (record { entries = kept.hall; journal = kept.journal }) };
+}
+
+impl<D: Device> KeptHall<D> {
+    /// The hall that was loaded from a journal's file, with that journal. Takes no memory.
+    pub fn new(alloc: Global, hall: Hall, journal: Journal<D>) -> KeptHall<D>
+        requires { IsTrue D.is_known → IsKept D.seen D.may_leave D.is_usable (record { entries = hall; journal = journal }) }
+        ensures entries { result.entries ≡ hall }
+        ensures journal { result.journal ≡ journal }
+    {
+        KeptHall {
+            alloc,
+            hall,
+            journal,
+        }
+    }
+
+    /// Whether the journal takes entries: no call that may have changed its file has failed. Takes no memory.
+    pub fn is_open(&self) -> bool
+        ensures open { IsTrue result ↔ (self.now.journal.state ≡ JournalState.Open) }
+        ensures kept { IsTrue D.is_known → IsKept D.seen D.may_leave D.is_usable self.now }
+    {
+        self.journal.state == JournalState::Open
+    }
+
+    fn report(&mut self, by: &DeviceName, report: Report) -> Result<Reply, Spent>
+        ensures step { IfOk result (λ reply. Keeps D.is_known D.seen D.may_leave D.is_usable D.moment D.left_since self.old by.now (calls.Report report) reply self.new) }
+        ensures spent { OnErr result (Breaks D.is_known D.moment D.left_since self.old self.new) }
+    {
+        if self.journal.state != JournalState::Open {
+            return Err(Spent);
+        }
+        if let Some(cause) = self.hall.refusal(by, &report) {
+            return Ok(Reply::Refused(cause));
+        }
+        let number = self.hall.length() + 1;
+        match line_of(self.alloc, number, by, &report) {
+            Ok(line) => keep(&mut self.hall, &mut self.journal, by, report, &line),
+            Err(_) => Ok(Reply::Refused(Cause::OutOfMemory)),
+        }
+    }
+}
+
+impl<D: Device> Session for KeptHall<D> {
+    ghost use Rattle.std.specs.Prelude.{IfOk, OnErr};
+    ghost use Rattle.pana_kept.specs.Kept.{Keeps, Breaks};
+
+    ghost step = { λ old by call reply new. Keeps D.is_known D.seen D.may_leave D.is_usable D.moment D.left_since old by call reply new };
+
+    ghost spends = { λ old new. Breaks D.is_known D.moment D.left_since old new };
+
+    fn call(&mut self, by: &DeviceName, call: Call) -> Result<Reply, Spent> {
+        match call {
+            Call::Query(query) => Ok(self.hall.apply(by, Call::Query(query))),
+            Call::Report(report) => self.report(by, report),
+        }
+    }
+}

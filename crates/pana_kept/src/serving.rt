@@ -1,0 +1,42 @@
+//! A session whose entries are kept.
+ghost use Rattle.std.specs.Prelude.{◌≡◌, ◌≤◌, ◌^◌, ◌⊎◌, false, IsTrue, IfOk, IfErr};
+ghost use Rattle.pana_wire.specs.Tap.{has_failed, MadeAtMost};
+ghost use Rattle.pana_wire.specs.Session.{Serves, Stops, NeverBegins};
+ghost use Rattle.pana_kept.specs.Kept.{Keeps, Breaks, KeepsAll};
+
+use crate::kept_hall::KeptHall;
+use pana_keep::{Device, JournalState};
+use pana_wire::{ServeFault, Served, Tap, serve};
+use std::alloc::Global;
+use std::io::{Read, Write};
+
+/// Serves the reader's lines to the writer, as `serve` does, on a kept hall.
+///
+/// # Errors
+///
+/// Those of `serve`. `Spent` says that the journal is broken: the line's report has no answer, and may be kept or not.
+pub fn serve_kept<R: Read, W: Write, D: Device>(
+    alloc: Global,
+    reader: &mut Tap<R>,
+    writer: &mut Tap<W>,
+    session: &mut KeptHall<D>,
+    reads: u64,
+) -> Result<Served, ServeFault>
+    requires reader { has_failed reader.old ≡ false }
+    requires writer { has_failed writer.old ≡ false }
+    requires reads { reads ≤ 2 ^ 40 }
+    ensures ok { IfOk result (Serves R.remaining W.contents (Keeps D.is_known D.seen D.may_leave D.is_usable D.moment D.left_since)
+        reader.old reader.new writer.old writer.new session.old session.new) }
+    ensures fault { IfErr result (λ fault.
+        NeverBegins reader.old reader.new writer.old writer.new session.old session.new fault
+        ⊎ Stops R.remaining W.contents (Keeps D.is_known D.seen D.may_leave D.is_usable D.moment D.left_since) (Breaks D.is_known D.moment D.left_since) reads
+        reader.old reader.new writer.old writer.new session.old session.new fault) }
+    ensures reads { MadeAtMost reads reader.old reader.new }
+
+    // A crash at any moment of the session leaves a file that loads to the first n entries of now, all that there were
+    // at the start among them.
+    ensures keeps_all { IsTrue D.is_known → session.old.journal.state ≡ JournalState.Open → KeepsAll D.moment D.left_since session.old session.new }
+{
+    let _ = session.is_open();
+    serve(alloc, reader, writer, session, reads)
+}

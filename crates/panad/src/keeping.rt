@@ -1,0 +1,87 @@
+//! Commands on a journal that is kept in a file.
+
+use crate::answer::Answer;
+use crate::fault::ProgramFault;
+use crate::journal_file::{FileFault, open_locked};
+use crate::tables::tables_of;
+use pana_keep::{FileDevice, Journal};
+use pana_kept::{KeptHall, OpenFault, Opened, serve_kept};
+use pana_wire::{ServeFault, Tap};
+use std::fs::File;
+use std::io::{self, BufWriter};
+use std::process::ExitCode;
+
+/// How many reads a session of the program makes at most.
+const READS: u64 = 4_294_967_296;
+
+fn report_file(rt: &HostRuntime, name: &str, fault: FileFault) -> Result<ExitCode, ProgramFault> {
+    let text = match fault {
+        FileFault::CannotOpen => format!(in rt.alloc(); "cannot open journal {name}")?,
+        FileFault::InUse => format!(in rt.alloc(); "journal {name} is in use")?,
+    };
+    Answer::reported(rt.alloc(), &text)?.print(rt)
+}
+
+fn report_fault(rt: &HostRuntime, name: &str, fault: OpenFault) -> Result<ExitCode, ProgramFault> {
+    let text = format!(in rt.alloc(); "journal {name}: {fault}")?;
+    Answer::reported(rt.alloc(), &text)?.print(rt)
+}
+
+/// Says how many bytes a crash has left behind the last entry. That standard error can't be written is no fault.
+fn report_torn(rt: &HostRuntime, name: &str, torn: usize) {
+    if torn > 0 {
+        let _ = eprintln!(rt;
+            "panad: journal {name}: {torn} bytes behind the last entry were cut off"
+        );
+    }
+}
+
+fn serve_input(
+    rt: &HostRuntime,
+    mut session: KeptHall<FileDevice>,
+) -> Result<ExitCode, ProgramFault> {
+    let alloc = rt.alloc();
+    let output = BufWriter::new(alloc, io::writer(rt)).map_err(|_| ProgramFault::OutOfMemory)?;
+    let mut reader = Tap::new(rt.reader());
+    let mut writer = Tap::new(output);
+    match serve_kept(alloc, &mut reader, &mut writer, &mut session, READS) {
+        Ok(_) => Ok(ExitCode::SUCCESS),
+        Err(ServeFault::Spent) => Answer::reported(alloc, &"journal failed")?.print(rt),
+        Err(ServeFault::Read) => Err(ProgramFault::Read),
+        Err(ServeFault::Write) => Err(ProgramFault::Write),
+        Err(ServeFault::OutOfMemory) => Err(ProgramFault::OutOfMemory),
+        Err(ServeFault::Turns) => Err(ProgramFault::TooManyReads),
+    }
+}
+
+/// Serves standard input as `run` does, on the hall of a journal's file, which keeps each entry before its `Done` is
+/// printed.
+pub fn run_kept(rt: &HostRuntime, name: &str) -> Result<ExitCode, ProgramFault> {
+    let file = match open_locked(rt, name) {
+        Ok(file) => file,
+        Err(fault) => return report_file(rt, name, fault),
+    };
+    let mut journal = Journal::new(FileDevice::new(file));
+    match pana_kept::open(rt.alloc(), &mut journal) {
+        Ok(Opened { hall, torn }) => {
+            report_torn(rt, name, torn);
+            serve_input(rt, KeptHall::new(rt.alloc(), hall, journal))
+        }
+        Err(fault) => report_fault(rt, name, fault),
+    }
+}
+
+/// Prints the tables of a journal's file, which isn't changed.
+pub fn show_kept(rt: &HostRuntime, name: &str) -> Result<ExitCode, ProgramFault> {
+    let Ok(file) = File::open(rt, name) else {
+        return report_file(rt, name, FileFault::CannotOpen);
+    };
+    let mut journal = Journal::new(FileDevice::new(file));
+    match pana_kept::read(rt.alloc(), &mut journal) {
+        Ok(Opened { mut hall, .. }) => {
+            let tables = tables_of(rt.alloc(), &mut hall)?;
+            Answer::printed(rt.alloc(), tables).print(rt)
+        }
+        Err(fault) => report_fault(rt, name, fault),
+    }
+}
