@@ -1,5 +1,5 @@
 -- Scans of a scanner, one after another.
-use Rattle.std.proofs.Common.{◌≡◌, ℕ, ◌+◌, ◌-◌, ◌^◌, List, [], ◌∷◌, ◌++◌, length, length-append, min, Option, Some, None, Result, Ok, Err, ◌⊎◌, inl, inr, refl, sym, ap, subst, ◌∙◌, append_assoc, append-nil, arith}
+use Rattle.std.proofs.Common.{◌≡◌, ℕ, ◌+◌, ◌-◌, ◌^◌, List, [], ◌∷◌, ◌++◌, length, length-append, min, Option, Some, None, Result, inl, inr, refl, sym, ap, subst, ◌∙◌, append_assoc, append-nil, arith}
 use Rattle.pana_hall.specs.Run.{Exchange}
 use Rattle.pana_hall.specs.declared.call.Call.{Call}
 use Rattle.pana_hall.specs.declared.reply.Reply.{Reply}
@@ -7,7 +7,7 @@ use Rattle.pana_scan.specs.declared.scan_fault.ScanFault.{ScanFault}
 use Rattle.pana_scan.specs.Listing.{Contents}
 use Rattle.pana_host.specs.declared.scanning.ScanTally.{ScanTally}
 use Rattle.pana_host.specs.Scan.{Makes, Gives, IsScan, AreScans, Scans, counted, done_in, refused_in}
-use Rattle.pana_host.specs.inner.Scan.{ScansOnce, StopsSpent, Tallies, counted_on}
+use Rattle.pana_host.specs.inner.Scan.{ScansOnce, StopsSpent, Tallies}
 use Rattle.pana_host.proofs.Scans.{makes_on}
 use Rattle.pana_host.proofs.Tallies.{counted_more, done_append, refused_append}
 

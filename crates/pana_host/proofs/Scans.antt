@@ -1,5 +1,5 @@
 -- Calls of a scanner, one after another.
-use Rattle.std.proofs.Common.{◌≡◌, ℕ, zero, suc, ◌+◌, ◌-◌, ◌^◌, min, ◌<◌, ◌≤◌, List, [], ◌∷◌, ◌++◌, length, length-append, Option, Some, None, Result, Ok, Err, ◌⊎◌, inl, inr, Bool, true, false, true≢false, refl, IfOk, IfErr, sym, ap, subst, ◌∙◌, slice_index_or, append_assoc, append-nil, arith}
+use Rattle.std.proofs.Common.{◌≡◌, ℕ, ◌+◌, ◌-◌, ◌^◌, min, ◌<◌, List, [], ◌∷◌, ◌++◌, length, length-append, None, Result, Ok, Err, ◌⊎◌, inl, inr, Bool, true, false, true≢false, refl, IfOk, IfErr, sym, ap, subst, ◌∙◌, slice_index_or, append-nil, arith}
 use Rattle.pana_hall.specs.Run.{Exchange}
 use Rattle.pana_hall.specs.declared.call.Call.{Call}
 use Rattle.pana_hall.specs.declared.call.Call.TheVariants as calls
@@ -14,7 +14,7 @@ use Rattle.pana_hall.specs.declared.reply.Spent.{Spent}
 use Rattle.pana_scan.specs.declared.baseline.BaselineRow.{BaselineRow}
 use Rattle.pana_scan.specs.Plan.{plan_of}
 use Rattle.pana_host.specs.declared.scanning.ScanTally.{ScanTally}
-use Rattle.pana_host.specs.Scan.{Makes, Gives, AreReports, ReportsWith, Follow, IsScan, AreScans}
+use Rattle.pana_host.specs.Scan.{Makes, AreReports, ReportsWith, Follow}
 use Rattle.pana_host.specs.inner.Scan.{Asks, MakesReport, ReportsOne, ReportsSteps, ScansOnce, StopsReporting, StopsSpent, Tallies, reporting}
 use Rattle.pana_host.proofs.Tallies.{tallies_none, tallies_then, tallies_after_query, tallies_done, tallies_fault, tallies_refused}
 

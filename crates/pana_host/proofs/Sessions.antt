@@ -1,7 +1,5 @@
 -- What a session leaves of its pass.
-use Rattle.std.proofs.Common.{◌≡◌, ◌<◌, ℕ, zero, suc, arith, length, slice_index_or, List, [], ◌∷◌, ◌++◌, ◌⊎◌, inl, inr, Bool, true, false, Option, Result, Ok, Err, refl, sym, ap, subst, ◌∙◌, append_assoc, append-nil, ◌^◌, IfOk, IfErr}
-use mathlib.Core.List.{IsPrefix}
-use Rattle.pana_wire.specs.Fault.{fault_text}
+use Rattle.std.proofs.Common.{◌≡◌, ◌<◌, ℕ, suc, arith, length, slice_index_or, List, [], ◌∷◌, ◌++◌, ◌⊎◌, inl, inr, Bool, Option, Result, Ok, Err, refl, sym, ap, subst, ◌∙◌, append_assoc, append-nil, ◌^◌, IfOk, IfErr}
 use Rattle.pana_wire.specs.declared.fault.WireFault.{WireFault}
 use Rattle.pana_wire.specs.declared.message.Message.{Message}
 use Rattle.pana_wire.specs.declared.tap.Tap.{Tap}
@@ -9,7 +7,7 @@ use Rattle.pana_wire.specs.declared.serving.Served.{Served}
 use Rattle.pana_wire.specs.declared.serving.ServeFault.{ServeFault}
 use Rattle.pana_wire.specs.declared.serving.ServeFault.TheVariants.{Read, Write, OutOfMemory, Spent, Turns}
 use Rattle.pana_wire.specs.Session.{AnswersSaid, AnswersLine, AnswersLines, BreaksAt, BreaksIn, EndsBy, Serves, Stops, NeverBegins, lines_come}
-use Rattle.pana_wire.specs.Lines.{ended, lines_of}
+use Rattle.pana_wire.specs.Lines.{lines_of}
 use Rattle.pana_turn.specs.declared.finished_call.FinishedCall.{FinishedCall}
 use Rattle.pana_turn.specs.Passes.{PassView}
 use Rattle.pana_host.specs.Lane.{IsServed}

@@ -1,14 +1,13 @@
 -- What a scanner counts.
-use Rattle.std.proofs.Common.{◌≡◌, ℕ, zero, suc, ◌+◌, ◌-◌, ◌^◌, ◌≤◌, min, List, [], ◌∷◌, ◌++◌, refl, sym, ap, subst, ◌∙◌, arith}
+use Rattle.std.proofs.Common.{◌≡◌, ℕ, zero, suc, ◌+◌, List, [], ◌∷◌, ◌++◌, refl, sym, ap, subst, ◌∙◌, arith}
 use Rattle.pana_hall.specs.Run.{Exchange}
-use Rattle.pana_hall.specs.declared.call.Call.{Call}
 use Rattle.pana_hall.specs.declared.call.Call.TheVariants as calls
 use Rattle.pana_hall.specs.declared.call.Query.{Query}
 use Rattle.pana_hall.specs.declared.reply.Reply.{Reply}
 use Rattle.pana_hall.specs.declared.reply.Reply.TheVariants.{Done, Families, Board, Stamps, Pair, Holdings, Journal, Refused}
 use Rattle.pana_scan.specs.declared.step.Step.{Step}
 use Rattle.pana_host.specs.declared.scanning.ScanTally.{ScanTally}
-use Rattle.pana_host.specs.Scan.{counted, done_by, done_in, refused_by, refused_in}
+use Rattle.pana_host.specs.Scan.{counted, done_in, refused_in}
 use Rattle.pana_host.specs.inner.Scan.{Tallies, counted_on, reporting}
 
 -- counts and more counts

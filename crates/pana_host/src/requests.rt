@@ -41,7 +41,7 @@ pub struct NoRequests<R> {
 }
 
 impl<R> NoRequests<R> {
-    /// The reader round this one, at the front of its bytes.
+    /// The reader round this one, before its first byte.
     pub fn new(inner: R) -> NoRequests<R> {
         NoRequests {
             inner,

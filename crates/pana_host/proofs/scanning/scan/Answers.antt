@@ -1,8 +1,7 @@
-use Rattle.std.proofs.Common.{◌≡◌, List, Option, ap, subst, ◌∙◌}
+use Rattle.std.proofs.Common.{List, Option, ap, subst, ◌∙◌}
 use Rattle.pana_hall.specs.declared.holding.Holding.{Holding}
 use Rattle.pana_hall.specs.declared.reply.Reply.TheVariants.{Holdings}
 use Rattle.pana_scan.specs.declared.step.Plan.{Plan}
-use Rattle.pana_scan.specs.declared.step.Step.{Step}
 use Rattle.pana_host.specs.inner.Scan.{Asks}
 use Rattle.pana_host.proofs.Scans.{asked, none_held, planned_all, planned_spent}
 use Rattle.pana_host.proofs.Tallies.{tallies_one_fault}
