@@ -34,6 +34,8 @@ use Rattle.pana_hall.specs.contracts.families.Families as families
 use Rattle.pana_hall.specs.contracts.hall.Hall as hall
 use Rattle.pana_hall.specs.contracts.hall.Hall.TheInside as hall_inside
 use Rattle.pana_hall.proofs.old_place.OldPlace.TheSendSync as old_places
+use Rattle.pana_hall.specs.contracts.old_places.OldPlaces as places
+use Rattle.pana_hall.specs.contracts.old_places.OldPlaces.TheInside as places_inside
 use Rattle.pana_journal.proofs.journal.Journal.TheSendSync as journals
 use Rattle.pana_copies.proofs.copy_table.CopyTable.TheSendSync as copy_tables
 use Rattle.pana_turn.specs.contracts.pass.Pass as pass
@@ -83,8 +85,11 @@ undo_send = declared_send undo.the_type (search sendable, (back_send, tt))
 family_send : IsSend family.the_row
 family_send = view_send _ _ _ _ _ (declared_send family_inside.the_type (global.the_send, (paired_send, (rings.the_send _ _ _ undo_send global.the_send frees.the_frees, tt))))
 
+places_send : IsSend places.the_row
+places_send = view_send _ _ _ _ _ (declared_send places_inside.the_type (options.the_send _ (boxes.the_send _ _ _ (rings.the_send _ _ _ old_places.the_send global.the_send frees.the_frees) global.the_send frees.the_frees), tt))
+
 kept_family_send : IsSend kept_family.the_row
-kept_family_send = declared_send kept_family.the_type (search sendable, (family_send, (rings.the_send _ _ _ old_places.the_send global.the_send frees.the_frees, tt)))
+kept_family_send = declared_send kept_family.the_type (search sendable, (family_send, (places_send, tt)))
 
 families_send : IsSend families.the_row
 families_send = declared_send families.the_type (vecs.the_send _ _ _ kept_family_send global.the_send frees.the_frees, (vecs.the_send _ _ _ (search sendable) global.the_send frees.the_frees, tt))
