@@ -10,7 +10,6 @@ use Rattle.pana_journal.specs.declared.entry.Entry.{Entry}
 use Rattle.pana_family.specs.Sets.{Sets, confirmed, withdrawn, PendsLast}
 use Rattle.pana_family.specs.Table as table
 use Rattle.pana_family.specs.View.{Means, IsLast, depth_at}
-use Rattle.circular_buffer.specs.Buffer.{buffer}
 use Rattle.pana_family.proofs.BySets.{last_by_sets}
 use Rattle.pana_hall.specs.declared.kept_family.KeptFamily.{KeptFamily}
 use Rattle.pana_hall.specs.Family.{is_duplicate}
@@ -21,7 +20,7 @@ use Rattle.pana_hall.specs.Board.{is_of}
 use Rattle.pana_hall.specs.Tables.{layer}
 use Rattle.pana_hall.specs.Tables as tables
 use Rattle.pana_hall.specs.Sets.{reported, of_pending, before_entry, sets_of}
-use Rattle.pana_hall.specs.inner.OldPlaces.{later}
+use Rattle.pana_hall.specs.inner.OldPlaces.{Old, later, Keeps}
 use Rattle.pana_hall.specs.inner.Steps.{Reports}
 use Rattle.pana_hall.specs.inner.Spots.{spot_of, spot_in, spot_after, IsFree, IsFreeFor}
 use Rattle.pana_hall.specs.inner.Kept.{next_entry, AreSpots, IsFamilyKept, IsReady}
@@ -121,14 +120,14 @@ family_report {journal} {by} {report} {it} ready is n more place after_it n_is r
 
 pub family_confirm : {journal : List Entry} {by : List ℕ} {m : ℕ} {it : KeptFamily} {copies : Table} → IsReady journal by (Confirm m) it copies → (after_it : KeptFamily) → after_it.number ≡ it.number
     → ((sets : Sets) → Means it.family sets → Means after_it.family (confirmed m sets))
-    → after_it.old_places ≡ buffer (later m it.old_places.items) it.old_places.capacity
+    → ((places : List Old) → Keeps it.old_places places → Keeps after_it.old_places (later m places))
     → ((k : ℕ) → depth_at k after_it.family ≤ depth_at k it.family) → IsFamilyKept (journal ++ next_entry journal by (Confirm m) ∷ []) after_it
 family_confirm {journal} {by} {m} {it} ready after_it number stands places deep =
     kept_confirm m journal (next_entry journal by (Confirm m)) it after_it ready.accepted (accepts_next journal by (Confirm m) ready.free) refl ready.own ready.kept number stands places deep
 
 pub family_withdraw : {journal : List Entry} {by : List ℕ} {m : ℕ} {it : KeptFamily} {copies : Table} → IsReady journal by (Withdraw m) it copies → (after_it : KeptFamily) → after_it.number ≡ it.number
     → ((sets : Sets) → Means it.family sets → Means after_it.family (withdrawn sets))
-    → after_it.old_places ≡ buffer (drop 1 it.old_places.items) it.old_places.capacity
+    → ((places : List Old) → Keeps it.old_places places → Keeps after_it.old_places (drop 1 places))
     → ((k : ℕ) → depth_at k after_it.family ≡ depth_at (k + 1) it.family) → IsFamilyKept (journal ++ next_entry journal by (Withdraw m) ∷ []) after_it
 family_withdraw {journal} {by} {m} {it} ready after_it number stands places deep =
     let o = open_withdraw ready in

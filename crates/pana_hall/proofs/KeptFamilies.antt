@@ -5,7 +5,6 @@ use Rattle.std.proofs.Common.{refl, sym, ap, ◌∙◌, subst, inl, inr, arith}
 use Rattle.std.proofs.lemmas.Bool.{eq-eqb}
 use Rattle.std.proofs.lemmas.List.{length-drop, length-append, length-reverse}
 use Rattle.std.proofs.lemmas.List.Sums.{fold-append}
-use Rattle.circular_buffer.specs.Buffer.{Buffer, buffer}
 use Rattle.pana_copies.specs.declared.place.Place.{Place}
 use Rattle.pana_journal.specs.declared.report.Report.TheVariants.{Confirm, Withdraw}
 use Rattle.pana_journal.specs.declared.entry.Entry.{Entry}
@@ -25,7 +24,7 @@ use Rattle.pana_hall.specs.Tables.{layer}
 use Rattle.pana_hall.specs.Tables as tables
 use Rattle.pana_hall.specs.Laws.{family_of_next}
 use Rattle.pana_hall.specs.Sets.{reported, of_each, of_pending, sets_of}
-use Rattle.pana_hall.specs.inner.OldPlaces.{Old, old, old_places, place_before, later}
+use Rattle.pana_hall.specs.inner.OldPlaces.{Old, old, old_places, place_before, later, Keeps}
 use Rattle.pana_hall.specs.inner.Steps.{Reports}
 use Rattle.pana_hall.specs.inner.Kept.{IsFamilyKept, duplicates}
 use Rattle.pana_hall.proofs.Lists.{behind_is_end}
@@ -126,11 +125,10 @@ kept_report journal entry more place before after_it accepted accepts is own kep
           (subst (Means after_it.family) (sym (sets_report journal entry sound accepts is))
           (subst (λ f. Means after_it.family (after entry.number (reported entry.number entry.report) (sets_of f journal))) own
           (reports.stands (sets_of before.number journal) kept.means (below_sets journal before.number entry.number sound accepts.next))));
-      places = reports.places
-          ∙ ap (λ (b : Buffer Old). buffer (take b.capacity (old entry.number place ∷ b.items)) b.capacity) (kept.places ∙ ap (λ f. buffer (old_places f journal) 8) own)
-          ∙ ap (λ p. buffer (take 8 (old entry.number p ∷ old_places (family_of_next journal entry) journal)) 8) placed
-          ∙ ap (λ l. buffer l 8) (sym (places_report journal entry sound accepts is))
-          ∙ ap (λ f. buffer (old_places f journal') 8) (sym same);
+      places = subst (λ f. Keeps after_it.old_places (old_places f journal')) (sym same)
+          (subst (Keeps after_it.old_places)
+          (ap (λ p. take 8 (old entry.number p ∷ old_places (family_of_next journal entry) journal)) placed ∙ sym (places_report journal entry sound accepts is))
+          (reports.places (old_places (family_of_next journal entry) journal) (subst (λ f. Keeps before.old_places (old_places f journal)) own kept.places)));
       depths = subst (λ f. (k : ℕ) → k ≤ length (pending 8 f journal') → depth_at k after_it.family ≤ duplicates k f journal') (sym same)
           (depths_report journal entry more before.family after_it.family sound accepts is
           (subst (λ f. (k : ℕ) → k ≤ length (pending 8 f journal) → depth_at k before.family ≤ duplicates k f journal) own kept.depths) reports.deep few);
@@ -143,7 +141,7 @@ kept_other journal entry it accepted accepts other kept =
     let sound = accepted_is_sound 8 journal accepted in
     record {
       means = subst (Means it.family) (sym (sets_other it.number journal entry sound accepts other)) kept.means;
-      places = kept.places ∙ ap (λ l. buffer l 8) (sym (places_other it.number journal entry sound accepts other));
+      places = subst (Keeps it.old_places) (sym (places_other it.number journal entry sound accepts other)) kept.places;
       depths = λ k within.
           subst (λ n. depth_at k it.family ≤ n) (sym (ap (count_by (λ e. is_duplicate e.report)) (layer_other 8 k it.number journal entry sound accepts other)))
           (kept.depths k (subst (λ l. k ≤ length l) (pending_other 8 it.number journal entry sound accepts other) within));
@@ -153,7 +151,7 @@ kept_other journal entry it accepted accepts other kept =
 pub kept_confirm : (m : ℕ) (journal : List Entry) (entry : Entry) (before after_it : KeptFamily) → IsAccepted 8 journal → Accepts 8 journal entry → entry.report ≡ Confirm m
     → before.number ≡ family_of_next journal entry → IsFamilyKept journal before → after_it.number ≡ before.number
     → ((sets : Sets) → Means before.family sets → Means after_it.family (confirmed m sets))
-    → after_it.old_places ≡ buffer (later m before.old_places.items) before.old_places.capacity
+    → ((places : List Old) → Keeps before.old_places places → Keeps after_it.old_places (later m places))
     → ((k : ℕ) → depth_at k after_it.family ≤ depth_at k before.family) → IsFamilyKept (journal ++ entry ∷ []) after_it
 kept_confirm m journal entry before after_it accepted accepts is own kept number stands places deep =
     let sound = accepted_is_sound 8 journal accepted in
@@ -172,10 +170,9 @@ kept_confirm m journal entry before after_it accepted accepts is own kept number
       means = subst (λ f. Means after_it.family (sets_of f journal')) (sym same)
           (subst (Means after_it.family) (sym (sets_confirm m journal entry sound accepts is))
           (subst (λ f. Means after_it.family (confirmed m (sets_of f journal))) own (stands (sets_of before.number journal) kept.means)));
-      places = places
-          ∙ ap (λ (b : Buffer Old). buffer (later m b.items) b.capacity) (kept.places ∙ ap (λ f. buffer (old_places f journal) 8) own)
-          ∙ ap (λ l. buffer l 8) (sym (places_confirm m journal entry sound accepts is))
-          ∙ ap (λ f. buffer (old_places f journal') 8) (sym same);
+      places = subst (λ f. Keeps after_it.old_places (old_places f journal')) (sym same)
+          (subst (Keeps after_it.old_places) (sym (places_confirm m journal entry sound accepts is))
+          (places (old_places family journal) (subst (λ f. Keeps before.old_places (old_places f journal)) own kept.places)));
       depths = subst (λ f. (k : ℕ) → k ≤ length (pending 8 f journal') → depth_at k after_it.family ≤ duplicates k f journal') (sym same)
           (λ k within.
           let less = deep k in
@@ -188,7 +185,7 @@ kept_confirm m journal entry before after_it accepted accepts is own kept number
 pub kept_withdraw : (m : ℕ) (journal : List Entry) (entry undone : Entry) (before after_it : KeptFamily) → IsAccepted 8 journal → Accepts 8 journal entry → entry.report ≡ Withdraw m → entry_at journal m ≡ Some undone
     → before.number ≡ family_of_next journal entry → IsFamilyKept journal before → after_it.number ≡ before.number
     → ((sets : Sets) → Means before.family sets → Means after_it.family (withdrawn sets))
-    → after_it.old_places ≡ buffer (drop 1 before.old_places.items) before.old_places.capacity
+    → ((places : List Old) → Keeps before.old_places places → Keeps after_it.old_places (drop 1 places))
     → ((k : ℕ) → depth_at k after_it.family ≡ depth_at (k + 1) before.family) → IsFamilyKept (journal ++ entry ∷ []) after_it
 kept_withdraw m journal entry undone before after_it accepted accepts is at own kept number stands places deep =
     let sound = accepted_is_sound 8 journal accepted in
@@ -204,10 +201,9 @@ kept_withdraw m journal entry undone before after_it accepted accepts is at own 
       means = subst (λ f. Means after_it.family (sets_of f journal')) (sym same)
           (subst (Means after_it.family) (sym (sets_withdraw m journal entry sound accepts is))
           (subst (λ f. Means after_it.family (withdrawn (sets_of f journal))) own (stands (sets_of before.number journal) kept.means)));
-      places = places
-          ∙ ap (λ (b : Buffer Old). buffer (drop 1 b.items) b.capacity) (kept.places ∙ ap (λ f. buffer (old_places f journal) 8) own)
-          ∙ ap (λ l. buffer (drop 1 l) 8) (places_withdraw m journal entry undone sound accepts is at)
-          ∙ ap (λ f. buffer (old_places f journal') 8) (sym same);
+      places = subst (λ f. Keeps after_it.old_places (old_places f journal')) (sym same)
+          (subst (Keeps after_it.old_places) (ap (drop 1) (places_withdraw m journal entry undone sound accepts is at))
+          (places (old_places family journal) (subst (λ f. Keeps before.old_places (old_places f journal)) own kept.places)));
       depths = subst (λ f. (k : ℕ) → k ≤ length (pending 8 f journal') → depth_at k after_it.family ≤ duplicates k f journal') (sym same)
           (λ k within.
           let less = deep k in

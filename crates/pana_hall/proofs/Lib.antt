@@ -12,6 +12,7 @@ pub mod More
 pub mod FamilySets
 pub mod Spots
 pub mod OldPlaces
+pub mod KeptPlaces
 pub mod KeptFamilies
 pub mod Ready
 pub mod Undoing
@@ -38,3 +39,4 @@ pub mod Exchanges
 pub mod FamilyRows
 pub mod Taken
 pub mod Loaded
+pub mod NotKept

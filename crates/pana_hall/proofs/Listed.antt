@@ -3,7 +3,6 @@ use Rattle.std.specs.Prelude.{◌≡◌, ◌≢◌, ℕ, zero, suc, ◌+◌, ◌
 use Rattle.std.specs.List.{AllByRecursion}
 use Rattle.std.proofs.Common.{refl, sym, ap, ◌∙◌, subst, arith, append-nil}
 use Rattle.std.proofs.lemmas.List.{map-append}
-use Rattle.circular_buffer.specs.Buffer.{buffer}
 use Rattle.pana_copies.specs.declared.place.Place.{Place}
 use Rattle.pana_copies.specs.Spots.{Table, kept}
 use Rattle.pana_journal.specs.declared.report.Report.{Report}
@@ -17,7 +16,7 @@ use Rattle.pana_hall.specs.Queries.{begun}
 use Rattle.pana_hall.specs.Refusal.{full, taken}
 use Rattle.pana_hall.specs.Accepted.{Accepts, IsAccepted}
 use Rattle.pana_hall.specs.Laws.{AreRising, family_of_next}
-use Rattle.pana_hall.specs.inner.OldPlaces.{old, old_places}
+use Rattle.pana_hall.specs.inner.OldPlaces.{old, old_places, Keeps}
 use Rattle.pana_hall.specs.inner.Spots.{IsFree}
 use Rattle.pana_hall.specs.inner.Steps.{Begins}
 use Rattle.pana_hall.specs.inner.Kept.{next_entry, AreListed, AreSpots, IsFamilyKept, IsReady, IsReadyAt}
@@ -155,11 +154,12 @@ kept_begun journal by place it accepted accepts begins =
     let own : family_of_next journal entry ≡ length journal + 1 = family_new journal entry in
     record {
       means = subst (Means it.family) (sym (sets_begun journal entry sound accepts it.number place refl begins.number)) begins.stands;
-      places = begins.places
-          ∙ ap (λ l. buffer (take 8 (old (length journal + 1) None ∷ l)) 8) (sym (places_begun journal sound))
-          ∙ ap (λ f. buffer (take 8 (old (length journal + 1) None ∷ old_places f journal)) 8) (sym own)
-          ∙ ap (λ l. buffer l 8) (sym (places_report journal entry sound accepts refl))
-          ∙ ap (λ f. buffer (old_places f journal') 8) (own ∙ sym begins.number);
+      places = subst (Keeps it.old_places)
+          (ap (λ l. take 8 (old (length journal + 1) None ∷ l)) (sym (places_begun journal sound))
+          ∙ ap (λ f. take 8 (old (length journal + 1) None ∷ old_places f journal)) (sym own)
+          ∙ sym (places_report journal entry sound accepts refl)
+          ∙ ap (λ f. old_places f journal') (own ∙ sym begins.number))
+          begins.places;
       depths = λ k within. let none = begins.deep k in omega arith;
     }
 

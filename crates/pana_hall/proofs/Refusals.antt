@@ -34,7 +34,6 @@ use Rattle.pana_hall.specs.Tables.{layer}
 use Rattle.pana_hall.specs.Tables as tables
 use Rattle.pana_hall.specs.Sets.{of_each, before_entry, sets_of}
 use Rattle.pana_hall.specs.inner.Families.{family_at, old_place}
-use Rattle.circular_buffer.specs.Buffer.{Buffer, buffer}
 use Rattle.pana_hall.specs.inner.OldPlaces.{Old, old_of, old_places, place_before}
 use Rattle.pana_hall.specs.inner.Spots.{spot_of, IsThere, other_there}
 use Rattle.pana_hall.specs.inner.Kept.{duplicates, AreSpots, IsFamilyKept, IsKept}
@@ -46,6 +45,7 @@ use Rattle.pana_hall.proofs.Rising.{slice_get-each}
 use Rattle.pana_hall.proofs.Steps.{rising}
 use Rattle.pana_hall.proofs.FamilySets.{pends_in, in_pends}
 use Rattle.pana_hall.proofs.More.{each_has}
+use Rattle.pana_hall.proofs.KeptPlaces.{front, first_front}
 use Rattle.pana_hall.proofs.OldPlaces.{pending_within}
 use Rattle.pana_hall.specs.Stamps.{as_known}
 use Rattle.pana_hall.proofs.KeptFamilies.{copies_sets, is_living_kept}
@@ -285,7 +285,8 @@ back_place journal list positions copies m c undone all at_end at moves =
     let turned : reverse (pending 8 family journal) ≡ m ∷ reverse ends.before = ap reverse ends.pending ∙ reverse-append ends.before (m ∷ []) in (
       back.copy,
       ap (option_and_then (λ it. option_and_then (λ (o : Old). o.place) (slice_get it.old_places.items 0))) found
-          ∙ ap (λ (b : Buffer Old). option_and_then (λ (o : Old). o.place) (slice_get b.items 0)) (kept_it.0.places ∙ ap (λ f. buffer (old_places f journal) 8) kept_it.1)
+          ∙ first_front there.2.it.old_places.items (old_places there.2.it.number journal) kept_it.0.places
+          ∙ ap (λ f. front (old_places f journal)) kept_it.1
           ∙ ap (λ l. option_and_then (λ (o : Old). o.place) (slice_get (of_each (old_of journal) family journal 1 l) 0)) turned
           ∙ ap (λ e. place_before e (copies_of (layer 8 1 family journal))) at
           ∙ ap (λ d. option_and_then (λ k. option_map (λ copy. copy.place) (copy_in (copies_of (layer 8 1 family journal)) k)) d) moves

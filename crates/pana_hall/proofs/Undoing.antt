@@ -2,7 +2,6 @@
 use Rattle.std.specs.Prelude.{◌≡◌, ℕ, ◌+◌, true, false, cond, not, ◌&&◌, ◌==◌, List, [], ◌∷◌, ◌++◌, ◌-◌, length, find, Option, Some, None, IsSome, is_some, option_map, option_and_then, slice_get}
 use Rattle.std.proofs.Common.{refl, sym, ap, ◌∙◌, subst, arith}
 use Rattle.std.proofs.lemmas.Bool.{eqb-true, eq-eqb, not-false}
-use Rattle.circular_buffer.specs.Buffer.{Buffer, buffer}
 use Rattle.pana_copies.specs.declared.place.Place.{Place}
 use Rattle.pana_copies.specs.Places.{same_place}
 use Rattle.pana_copies.specs.Spots.{Spot, Table, kept, place_of}
@@ -37,6 +36,7 @@ use Rattle.pana_hall.proofs.Spots.{copy_in-change, spots_withdrawn}
 use Rattle.pana_hall.proofs.Knowns.{Lives}
 use Rattle.pana_hall.proofs.Mirrors.{Grows, layers_hold, read_lives}
 use Rattle.pana_hall.proofs.OldPlaces.{places_withdraw}
+use Rattle.pana_hall.proofs.KeptPlaces.{front, first_front}
 use Rattle.pana_hall.proofs.Ready.{own_is, own_copy, kept_there, at_place, accepts_next}
 
 -- a report that makes a copy makes one that lives
@@ -191,7 +191,8 @@ module _ {journal : List Entry} {by : List ℕ} {m : ℕ} {it : KeptFamily} {cop
       let sound = accepted_is_sound 8 journal ready.accepted in
       let entry = next_entry journal by (Withdraw m) in
       let named : family_of_next journal entry ≡ families journal m = sym ready.own ∙ of_undone ready in
-      ap (λ (b : Buffer Old). option_and_then (λ kept. kept.place) (slice_get b.items 0)) (ready.kept.places ∙ ap (λ f. buffer (old_places f journal) 8) ready.own)
+      first_front it.old_places.items (old_places it.number journal) ready.kept.places
+      ∙ ap (λ f. front (old_places f journal)) ready.own
       ∙ ap (λ l. option_and_then (λ kept. kept.place) (slice_get l 0)) (places_withdraw m journal entry o.undone sound (accepts_next journal by (Withdraw m) ready.free) refl o.at)
       ∙ ap (λ f. place_before (Some o.undone) (copies_of (layer 8 1 f journal))) named
 

@@ -9,6 +9,7 @@ use Rattle.pana_hall.specs.declared.cause.Cause.{Cause}
 use Rattle.pana_hall.specs.declared.cause.Cause.TheVariants as causes
 use Rattle.pana_hall.specs.declared.reply.Reply.{Reply}
 use Rattle.pana_hall.specs.declared.reply.Reply.TheVariants as replies
+use Rattle.pana_journal.specs.declared.report.Report.{Report}
 use Rattle.pana_journal.specs.declared.report.Report.TheVariants as reports
 use Rattle.pana_hall.specs.Family.{families, entries_of, is_duplicate}
 use Rattle.pana_hall.specs.Effective.{effective}
@@ -58,3 +59,10 @@ Permits journal by call reply = PermitsBy (refusal journal by call) journal call
 unfoldable pub journal_after : List Entry → List ℕ → Call → Reply → List Entry
 journal_after journal by (calls.Report report) (replies.Done n) = journal ++ record { number = n; by = by; report = report } ∷ []
 journal_after journal by _ _ = journal
+
+-- the cause for which a device's report is refused whatever memory there is, if there is one: what stands against it, or
+-- that it is too deep
+abbrev pub IsCauseOf : List Entry → List ℕ → Report → Option Cause → Type 0
+IsCauseOf journal by report cause =
+    (cause ≡ refusal journal by (calls.Report report))
+    ⊎ ((refusal journal by (calls.Report report) ≡ None) × (cause ≡ Some causes.TooDeep) × IsShortage journal (calls.Report report) causes.TooDeep)

@@ -85,7 +85,7 @@ fn family_rows(
     let _ = copies;
     let mut rows = Vec::new(alloc);
     for it in families.as_slice() {
-        if it.family().count() > 0 {
+        if it.has_copies() {
             rows.push(family_row(it)?)?;
         }
     }

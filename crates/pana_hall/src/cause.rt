@@ -31,7 +31,7 @@ pub enum Cause {
     Settled,
     /// No Register entry has this number.
     UnknownFamily,
-    /// The entry could not be written to the journal's file.
+    /// The entry couldn't be written to the journal on disk. A hall by itself never refuses so; whoever keeps one does.
     NotKept,
 }
 

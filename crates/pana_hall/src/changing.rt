@@ -1,11 +1,11 @@
 //! What reports do to a family and to the table of copies. None of these changes anything where memory runs out.
-ghost use Rattle.std.specs.Prelude.{◌≡◌, ◌≢◌, ℕ, ◌+◌, ◌<◌, ◌==◌, true, Some, None, IsSome, IfSome, OnOk, OnErr, drop, length, slice_get, IfOk, option_map, option_and_then, if◌then◌else◌};
-ghost use Rattle.circular_buffer.specs.Buffer.{buffer};
+ghost use Rattle.std.specs.Prelude.{◌≡◌, ◌≢◌, ℕ, ◌+◌, ◌<◌, ◌==◌, true, Some, None, IsSome, IfSome, List, OnOk, OnErr, drop, length, slice_get, IfOk, option_map, option_and_then, if◌then◌else◌};
 ghost use Rattle.pana_copies.specs.Spots.{kept, place_of, placed};
 ghost use Rattle.pana_family.specs.Table.{copies_of, duplicated, removed, touched};
 ghost use Rattle.pana_family.specs.Sets.{Sets, began, withdrawn};
 ghost use Rattle.pana_family.specs.View.{Means, is_living, IsNew, IsLast, can_split, depth_at};
 ghost use Rattle.pana_hall.specs.inner.Spots.{SameSpots, IsFree, IsFreeFor, CanUndo, undone_spot};
+ghost use Rattle.pana_hall.specs.inner.OldPlaces.{Old, Keeps};
 ghost use Rattle.pana_hall.specs.inner.Steps.{Reports};
 
 use crate::kept_family::KeptFamily;
@@ -72,9 +72,10 @@ pub fn relocate(
 {
     let place = place.copy_of()?;
     let old = place_now(alloc, copies, copy)?;
+    let room = it.room(alloc)?;
     copies.reserve()?;
     let _ = copies.relocate(copy, place);
-    it.relocate(entry, copy, old);
+    it.relocate(entry, copy, old, room);
     Ok(())
 }
 
@@ -97,7 +98,8 @@ pub fn remove(
     ensures still { OnErr result (SameSpots copies.old copies.new) }
 {
     let old = place_now(alloc, copies, copy)?;
-    it.remove(entry, copy, heir, old)?;
+    let room = it.room(alloc)?;
+    it.remove(entry, copy, heir, old, room)?;
     let _ = copies.remove(copy);
     Ok(())
 }
@@ -113,7 +115,7 @@ pub fn withdraw(
     requires undo { CanUndo entry report.now it.old.number (option_and_then (λ kept. kept.place) (slice_get it.old.old_places.items 0)) copies.old }
     ensures number { it.new.number ≡ it.old.number }
     ensures stands { OnOk result ((sets : Sets) → Means it.old.family sets → Means it.new.family (withdrawn sets)) }
-    ensures places { OnOk result (it.new.old_places ≡ buffer (drop 1 it.old.old_places.items) it.old.old_places.capacity) }
+    ensures places { OnOk result ((places : List Old) → Keeps it.old.old_places places → Keeps it.new.old_places (drop 1 places)) }
     ensures deep { OnOk result ((k : ℕ) → depth_at k it.new.family ≡ depth_at (k + 1) it.old.family) }
     ensures spots { OnOk result ((number : ℕ) → kept copies.new number
         ≡ undone_spot entry report.now it.old.number (option_and_then (λ kept. kept.place) (slice_get it.old.old_places.items 0)) copies.old number) }

@@ -1,16 +1,15 @@
-ghost use Rattle.std.specs.Prelude.{◌≡◌, ◌≤◌, [], length, IfOk, OnErr};
+ghost use Rattle.std.specs.Prelude.{◌≡◌, ◌≤◌, [], length, IfOk, IfSome, OnErr};
 ghost use Rattle.pana_hall.specs.Accepted.{IsAccepted};
-ghost use Rattle.pana_hall.specs.Permit.{Permits, journal_after};
-ghost use Rattle.pana_hall.specs.Refusal.{refusal};
+ghost use Rattle.pana_hall.specs.Permit.{IsCauseOf, Permits, journal_after};
 ghost use Rattle.pana_hall.specs.Run.{RunsTo};
 
 use crate::answering::answer;
 use crate::call::{Call, Query};
 use crate::cause::Cause;
-use crate::depth::is_too_deep;
 use crate::families::Families;
 use crate::recording::record;
-use crate::refusal::{query_refusal, report_refusal};
+use crate::refusal::query_refusal;
+use crate::refusing::cause_of;
 use crate::reply::Reply;
 use pana_copies::{CopyTable, DeviceName};
 use pana_journal::{Journal, Report};
@@ -43,6 +42,7 @@ impl Model for Hall {
 
 impl Hall {
     ghost use Rattle.pana_hall.specs.declared.call.Call.TheVariants as calls;
+    ghost use Rattle.pana_hall.specs.declared.reply.Reply.TheVariants as replies;
 
     /// A hall with no copy and the empty journal. Fails only where memory runs out.
     #[tactic(auto, unfolding(crate::specs::Living::copies_of))]
@@ -69,12 +69,13 @@ impl Hall {
         }
     }
 
-    /// Why a device's report is refused, shortages aside. Takes no memory.
-    #[tactic(auto, unfolding(crate::specs::Refusal::refusal))]
+    /// Why a device's report is refused whatever memory there is: `apply` refuses it for this cause. Where there is none,
+    /// `apply` takes the report, unless memory runs out. Changes nothing, and takes no memory.
     pub fn refusal(&self, by: &DeviceName, report: &Report) -> Option<Cause>
-        ensures { result ≡ refusal self.now by.now (calls.Report report.now) }
+        ensures cause { IsCauseOf self.now by.now report.now result }
+        ensures permitted { IfSome result (λ cause. Permits self.now by.now (calls.Report report.now) (replies.Refused cause)) }
     {
-        report_refusal(&self.journal, &self.families, &self.copies, by, report)
+        cause_of(&self.journal, &self.families, &self.copies, by, report)
     }
 
     /// How many entries the journal has, at most 1,000,000. Takes no memory.
@@ -109,11 +110,8 @@ impl Hall {
     {
         let alloc = self.alloc;
         let (journal, families, copies) = (&mut self.journal, &mut self.families, &mut self.copies);
-        if let Some(cause) = report_refusal(journal, families, copies, by, &report) {
+        if let Some(cause) = cause_of(journal, families, copies, by, &report) {
             return Reply::Refused(cause);
-        }
-        if is_too_deep(journal, families, copies, by, &report) {
-            return Reply::Refused(Cause::TooDeep);
         }
         match record(alloc, journal, families, copies, by, report) {
             Ok(entry) => Reply::Done { entry },

@@ -1,27 +1,22 @@
 //! A family as the hall keeps it.
-ghost use Rattle.std.specs.Prelude.{◌≡◌, ℕ, ◌+◌, ◌≤◌, ◌==◌, ◌<◌, ◌↔◌, ◌∷◌, [], true, IsTrue, Some, None, IfOk, OnOk, OnErr, IfSome, option_map, option_and_then, option_copied, length, position, take, drop, slice_get};
-ghost use Rattle.circular_buffer.specs.Buffer.{buffer};
+ghost use Rattle.std.specs.Prelude.{◌≡◌, ℕ, ◌+◌, ◌≤◌, ◌==◌, ◌<◌, ◌↔◌, List, true, IsTrue, Some, None, IfOk, OnOk, OnErr, IfSome, option_map, option_and_then, option_copied, length, nat_lt, drop, slice_get};
 ghost use Rattle.pana_family.specs.Table.{copies_of, duplicated, edited, reconciled, merged, removed, touched};
 ghost use Rattle.pana_family.specs.Sets.{Sets, confirmed, withdrawn, Pends, PendsLast};
 ghost use Rattle.pana_family.specs.View.{Means, is_living, IsNew, IsLast, can_split, depth_at};
-ghost use Rattle.pana_hall.specs.inner.OldPlaces.{old, later};
+ghost use Rattle.pana_hall.specs.inner.OldPlaces.{Old, later, Keeps, IsRoom};
 ghost use Rattle.pana_hall.specs.inner.Steps.{Begins, Reports};
 
-use crate::old_place::OldPlace;
-use circular_buffer::HeapCircularBuffer;
+use crate::old_places::{OldPlaces, Ring};
 use pana_copies::Place;
 use pana_family::Family;
 use std::alloc::{AllocError, Global};
-
-/// How many entries of a family stay pending.
-const MOST_PENDING: usize = 8;
 
 /// A family, the entry that began it, and the old places of its pending entries, the latest first.
 #[derive(Drop)]
 pub struct KeptFamily {
     number: u64,
     family: Family,
-    old_places: HeapCircularBuffer<OldPlace>,
+    old_places: OldPlaces,
 }
 
 impl KeptFamily {
@@ -30,12 +25,10 @@ impl KeptFamily {
         ensures { IfOk result (λ kept. Begins entry kept) }
     {
         let family = Family::new(alloc, entry)?;
-        let mut old_places = HeapCircularBuffer::with_capacity(alloc, MOST_PENDING)?;
-        let _ = old_places.push_front(OldPlace::new(entry, None));
         Ok(KeptFamily {
             number: entry,
             family,
-            old_places,
+            old_places: OldPlaces::new(),
         })
     }
 
@@ -53,11 +46,18 @@ impl KeptFamily {
         &self.family
     }
 
+    /// Whether it has a living copy. Takes no memory.
+    pub fn has_copies(&self) -> bool
+        ensures { (sets : Sets) → Means self.now.family sets → result ≡ nat_lt 0 (length (copies_of sets.table)) }
+    {
+        self.family.count() > 0
+    }
+
     /// The place where the copy was that the last pending entry moved or removed, if it did. Takes no memory.
     pub fn last_place(&self) -> Option<&Place>
         ensures { option_copied result ≡ option_and_then (λ kept. kept.place) (slice_get self.now.old_places.items 0) }
     {
-        self.old_places.front()?.place()
+        self.old_places.first()
     }
 
     /// Whether the entry is pending. Takes no memory.
@@ -89,7 +89,7 @@ impl KeptFamily {
     {
         match self.family.duplicate(entry, source) {
             Ok(()) => {
-                self.keep(entry, None);
+                self.old_places.push(entry);
                 Ok(())
             }
             Err(_) => Err(AllocError),
@@ -104,7 +104,7 @@ impl KeptFamily {
         ensures err { OnErr result (self.new ≡ self.old) }
     {
         self.family.edit(entry, copy)?;
-        self.keep(entry, None);
+        self.old_places.push(entry);
         Ok(())
     }
 
@@ -118,7 +118,7 @@ impl KeptFamily {
     {
         match self.family.reconcile(entry, a, b) {
             Ok(()) => {
-                self.keep(entry, None);
+                self.old_places.push(entry);
                 Ok(())
             }
             Err(_) => Err(AllocError),
@@ -135,58 +135,65 @@ impl KeptFamily {
     {
         match self.family.merge(entry, a, b) {
             Ok(()) => {
-                self.keep(entry, None);
+                self.old_places.push(entry);
                 Ok(())
             }
             Err(_) => Err(AllocError),
         }
     }
 
-    /// The copy, which was at this place, is removed.
+    /// Room for one more old place: there is some, or it is this. Fails only where memory runs out.
+    pub fn room(&self, alloc: Global) -> Result<Option<Ring>, AllocError>
+        ensures { IfOk result (λ room. IsRoom self.now.old_places (option_map (λ ring. ring.value) room)) }
+    {
+        self.old_places.room(alloc)
+    }
+
+    /// The copy, which was at this place, is removed. The room was made by `room`.
     pub fn remove(
         &mut self,
         entry: u64,
         copy: u64,
         heir: Option<u64>,
         place: Box<Place>,
+        room: Option<Ring>,
     ) -> Result<(), AllocError>
         requires living { is_living self.old.family copy ≡ true }
         requires heir { IfSome heir (λ h. is_living self.old.family h ≡ true) }
         requires new { IsNew entry self.old.family }
+        requires room { IsRoom self.old.old_places (option_map (λ ring. ring.value) room) }
         ensures ok { OnOk result (Reports entry (removed entry copy heir) 0 (Some place.value) self.old self.new) }
         ensures err { OnErr result (self.new ≡ self.old) }
     {
         match self.family.remove(entry, copy, heir) {
             Ok(()) => {
-                self.keep(entry, Some(place));
+                self.old_places.push_place(entry, place, room);
                 Ok(())
             }
             Err(_) => Err(AllocError),
         }
     }
 
-    /// The copy, which was at this place, is moved. Takes no memory.
-    pub fn relocate(&mut self, entry: u64, copy: u64, place: Box<Place>)
+    /// The copy, which was at this place, is moved. The room was made by `room`. Takes no memory.
+    pub fn relocate(&mut self, entry: u64, copy: u64, place: Box<Place>, room: Option<Ring>)
         requires living { is_living self.old.family copy ≡ true }
         requires new { IsNew entry self.old.family }
+        requires room { IsRoom self.old.old_places (option_map (λ ring. ring.value) room) }
         ensures { Reports entry (touched entry copy) 0 (Some place.value) self.old self.new }
     {
         self.family.touch_place(entry, copy);
-        self.keep(entry, Some(place));
+        self.old_places.push_place(entry, place, room);
     }
 
     /// Settles a pending entry and all before it. Takes no memory.
     pub fn confirm(&mut self, entry: u64)
         ensures number { self.new.number ≡ self.old.number }
         ensures stands { (sets : Sets) → Means self.old.family sets → Means self.new.family (confirmed entry sets) }
-        ensures places { self.new.old_places ≡ buffer (later entry self.old.old_places.items) self.old.old_places.capacity }
+        ensures places { (places : List Old) → Keeps self.old.old_places places → Keeps self.new.old_places (later entry places) }
         ensures deep { (k : ℕ) → depth_at k self.new.family ≤ depth_at k self.old.family }
     {
         self.family.confirm(entry);
-        match position_of(&self.old_places, entry) {
-            Some(at) => self.old_places.truncate_back(at),
-            None => {}
-        }
+        self.old_places.settle(entry);
     }
 
     /// Undoes the last pending entry, and returns the place where the copy was that it moved or removed, if it did.
@@ -194,30 +201,12 @@ impl KeptFamily {
         requires { IsLast entry self.old.family }
         ensures number { OnOk result (self.new.number ≡ self.old.number) }
         ensures stands { OnOk result ((sets : Sets) → Means self.old.family sets → Means self.new.family (withdrawn sets)) }
-        ensures places { OnOk result (self.new.old_places ≡ buffer (drop 1 self.old.old_places.items) self.old.old_places.capacity) }
+        ensures places { OnOk result ((places : List Old) → Keeps self.old.old_places places → Keeps self.new.old_places (drop 1 places)) }
         ensures deep { OnOk result ((k : ℕ) → depth_at k self.new.family ≡ depth_at (k + 1) self.old.family) }
         ensures place { IfOk result (λ place. place ≡ option_and_then (λ kept. kept.place) (slice_get self.old.old_places.items 0)) }
         ensures err { OnErr result (self.new ≡ self.old) }
     {
         self.family.withdraw(entry)?;
-        match self.old_places.pop_front() {
-            Some(old) => Ok(old.into_place()),
-            None => Ok(None),
-        }
+        Ok(self.old_places.pop())
     }
-
-    fn keep(&mut self, entry: u64, place: Option<Box<Place>>)
-        ensures number { self.new.number ≡ self.old.number }
-        ensures family { self.new.family ≡ self.old.family }
-        ensures places { self.new.old_places ≡ buffer (take self.old.old_places.capacity (old entry (option_map (λ kept. kept.value) place) ∷ self.old.old_places.items)) self.old.old_places.capacity }
-    {
-        let _ = self.old_places.push_front(OldPlace::new(entry, place));
-    }
-}
-
-/// The position of an entry's old place, if there is one.
-fn position_of(old_places: &HeapCircularBuffer<OldPlace>, entry: u64) -> Option<usize>
-    ensures { result ≡ position (λ kept. kept.entry == entry) old_places.now.items }
-{
-    old_places.iter().position(|kept| kept.entry() == entry)
 }

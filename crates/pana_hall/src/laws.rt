@@ -25,9 +25,12 @@ ghost use Rattle.pana_hall.specs.Refusal.{brought_back, displaced};
 ghost use Rattle.pana_hall.specs.Run.{Exchange, IsRun, journal_from};
 ghost use Rattle.pana_hall.specs.Tables.{table, tables};
 ghost use Rattle.pana_hall.specs.Accepted.{Accepts, IsAccepted};
-ghost use Rattle.pana_hall.specs.declared.cause.Cause.TheVariants.{OutOfMemory, TooDeep};
+ghost use Rattle.pana_hall.specs.declared.call.Call.{Call};
+ghost use Rattle.pana_hall.specs.declared.cause.Cause.TheVariants.{OutOfMemory, TooDeep, NotKept};
+ghost use Rattle.pana_hall.specs.declared.reply.Reply.TheVariants as replies;
 ghost use Rattle.pana_hall.specs.declared.loading.LoadFault.{LoadFault};
 ghost use Rattle.pana_hall.specs.declared.loading.LoadCause.TheVariants.{Refused};
+ghost use Rattle.pana_hall.specs.Permit.{Permits};
 ghost use Rattle.pana_hall.specs.Load.{IsLoadFault};
 ghost use Rattle.pana_hall.specs.Laws.{AddsLayer, AreApart, AreMerged, AreRising, DropsLayer, IsOrderly, KeepsLayers, LeavesAlone, family_of_next};
 
@@ -57,6 +60,11 @@ pub fn accepted_are_those_of_runs()
 pub fn own_entries_load()
     ensures { (entries : List Entry) (fault : LoadFault) → IsAccepted 8 entries → IsLoadFault entries fault
         → (fault.cause ≡ Refused OutOfMemory) ⊎ (fault.cause ≡ Refused TooDeep) }
+{}
+
+/// A hall keeps nothing on a disk: it refuses no call as not kept.
+pub fn no_hall_refuses_as_not_kept()
+    ensures { (journal : List Entry) (by : List ℕ) (call : Call) → ¬ Permits journal by call (replies.Refused NotKept) }
 {}
 
 /// A family's tables are what its own entries make, the others left out.

@@ -15,8 +15,10 @@ mod kept_family;
 pub mod laws;
 mod loading;
 mod old_place;
+mod old_places;
 mod recording;
 mod refusal;
+mod refusing;
 mod reply;
 mod taking;
 

@@ -1,7 +1,6 @@
 -- What a hall keeps of its journal.
 use Rattle.std.specs.Prelude.{◌≡◌, ℕ, ◌+◌, ◌<◌, ◌≤◌, List, [], ◌∷◌, ◌++◌, length, map, count_by, slice_get, Option, Some, None, Result, Ok, Err, true, false}
 use Rattle.std.specs.List.{AllByRecursion}
-use Rattle.circular_buffer.specs.Buffer.{buffer}
 use Rattle.pana_copies.specs.Spots.{Table, kept}
 use Rattle.pana_copies.specs.declared.place.Place.{Place}
 use Rattle.pana_journal.specs.declared.report.Report.{Report}
@@ -18,7 +17,7 @@ use Rattle.pana_hall.specs.Queries.{begun}
 use Rattle.pana_hall.specs.Tables.{layer}
 use Rattle.pana_hall.specs.Sets.{sets_of}
 use Rattle.pana_hall.specs.inner.Families.{position_at, family_at}
-use Rattle.pana_hall.specs.inner.OldPlaces.{old_places}
+use Rattle.pana_hall.specs.inner.OldPlaces.{old_places, Keeps}
 use Rattle.pana_hall.specs.inner.Spots.{spot_in}
 
 -- the next entry of a journal, with this report
@@ -33,7 +32,7 @@ duplicates k family journal = count_by (λ entry. is_duplicate entry.report) (la
 -- than there are Duplicates
 pub record IsFamilyKept (journal : List Entry) (it : KeptFamily) : Type 0 where
   pub means : Means it.family (sets_of it.number journal)
-  pub places : it.old_places ≡ buffer (old_places it.number journal) 8
+  pub places : Keeps it.old_places (old_places it.number journal)
   pub depths : (k : ℕ) → k ≤ length (pending 8 it.number journal) → depth_at k it.family ≤ duplicates k it.number journal
 
 -- the table has the living copies, each where it is kept

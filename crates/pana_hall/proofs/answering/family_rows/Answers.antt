@@ -1,9 +1,7 @@
-use Rattle.std.specs.Prelude.{◌≡◌, ◌+◌, ◌<◌, List, [], ◌∷◌, ◌++◌, map, take, true, false, cond, nat_lt, length, slice_index_or}
+use Rattle.std.specs.Prelude.{◌≡◌, ◌+◌, ◌<◌, List, [], ◌∷◌, ◌++◌, map, take, true, false, cond, length, slice_index_or}
 use Rattle.std.specs.List.{list_any}
-use Rattle.std.proofs.Common.{sym, ap, ◌∙◌, subst, append-nil}
-use Rattle.std.proofs.lemmas.Bool.{lt-ltb, le-ltb}
+use Rattle.std.proofs.Common.{refl, sym, ap, ◌∙◌, subst, append-nil}
 use Rattle.std.proofs.lemmas.List.{take_more, map-append}
-use Rattle.pana_family.specs.View.{Kept, Means}
 use Rattle.pana_hall.specs.declared.kept_family.KeptFamily.{KeptFamily}
 use Rattle.pana_hall.specs.Board.{is_of}
 use Rattle.pana_hall.specs.Living.{living}
@@ -13,7 +11,7 @@ use Rattle.pana_hall.specs.inner.Kept.{IsFamilyKept}
 use Rattle.pana_hall.proofs.Answered.{rows_of, rows_push, lives_is, each_get}
 use Rattle.pana_hall.proofs.SeenSets.{row_is}
 use Rattle.pana_hall.proofs.answering.family_rows.Goals as goal
-use Rattle.pana_hall.proofs.answering.family_rows.Goals.{then-count-gt0+in_ok-family_row+in_ok-push, else-count-gt0}
+use Rattle.pana_hall.proofs.answering.family_rows.Goals.{then-has_copies+in_ok-family_row+in_ok-push, else-has_copies}
 
 pub loop-it-preserved : goal.loop-it-preserved
 loop-it-preserved c =
@@ -31,19 +29,18 @@ loop-it-preserved c =
     ap (λ (l : List KeptFamily). rows_of copies (map (λ k. k.number) l)) more
     ∙ ap (rows_of copies) (map-append (λ (k : KeptFamily). k.number) (take i list) (it ∷ []))
     ∙ rows_push copies (map (λ k. k.number) (take i list)) it.number in
-    let means : Means c.family.result.now (sets_of it.number journal) = subst (λ (f : Kept). Means f (sets_of it.number journal)) (sym c.family.ensures) kept_it.means in
-    let lives : nat_lt 0 c.count.result ≡ list_any (is_of it.number) copies = lives_is journal it c.count.result c.requires.kept.accepted (c.count.ensures.sets _ means) in
+    let lives : c.has_copies.result ≡ list_any (is_of it.number) copies = c.has_copies.ensures (sets_of it.number journal) kept_it.means ∙ lives_is journal it _ c.requires.kept.accepted refl in
     let numbers = map (λ (k : KeptFamily). k.number) (take i list) in
-    elim c.if-count-gt0.branch [
-      | then-count-gt0+in_ok-family_row+in_ok-push w ↦
-          let some : list_any (is_of it.number) copies ≡ true = sym lives ∙ lt-ltb 0 c.count.result w.if-count-gt0.true in
+    elim c.if-has_copies.branch [
+      | then-has_copies+in_ok-family_row+in_ok-push w ↦
+          let some : list_any (is_of it.number) copies ≡ true = sym lives ∙ w.if-has_copies.true in
           let row : w.in_ok-family_row.field-0 ≡ family_row copies it.number = w.in_ok-family_row.ensures _ kept_it.means ∙ row_is journal it.number c.requires.kept.accepted in
           ap (λ r. r.items) w.rows-is ∙ w.in_ok-push.ensures.items
           ∙ ap (λ l. l ++ w.in_ok-family_row.field-0 ∷ []) c.loop-it.invariant
           ∙ ap (λ r. rows_of copies numbers ++ r ∷ []) row
           ∙ sym (step ∙ ap (λ b. rows_of copies numbers ++ cond b (family_row copies it.number ∷ []) []) some)
-      | else-count-gt0 w ↦
-          let none : list_any (is_of it.number) copies ≡ false = sym lives ∙ le-ltb 0 c.count.result w.if-count-gt0.false in
+      | else-has_copies w ↦
+          let none : list_any (is_of it.number) copies ≡ false = sym lives ∙ w.if-has_copies.false in
           ap (λ r. r.items) w.rows-is ∙ c.loop-it.invariant
           ∙ sym (step ∙ ap (λ b. rows_of copies numbers ++ cond b (family_row copies it.number ∷ []) []) none ∙ append-nil (rows_of copies numbers))
     ]
