@@ -8,5 +8,6 @@ pub mod ReadBack
 pub mod Short
 pub mod DumpBack
 pub mod EntriesBack
+pub mod OneLine
 pub mod SessionRun
 pub mod FaultLine

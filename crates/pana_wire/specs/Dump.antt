@@ -1,5 +1,5 @@
 -- What a line of a dump says: its entries in order, or its first fault.
-use Rattle.std.specs.Prelude.{◌≡◌, ◌≤◌, ◌⊎◌, ℕ, List, length, [], ◌∷◌, Bool, is_some, option_map, option_and_then, Result, Ok}
+use Rattle.std.specs.Prelude.{◌≡◌, ◌≤◌, ◌⊎◌, ℕ, List, length, [], ◌∷◌, ◌++◌, slice_get, Bool, Some, is_some, option_map, option_and_then, Result, Ok}
 use Rattle.std.specs.List.{list_all}
 use Rattle.serde_json.specs.Data.{Data, Items, no_items, item}
 use Rattle.serde_json.specs.Find.{get, as_array, as_object}
@@ -9,6 +9,8 @@ use Rattle.pana_hall.specs.declared.reply.Reply.TheVariants.{Journal}
 use Rattle.pana_wire.specs.declared.field.Field.TheVariants as fields
 use Rattle.pana_wire.specs.declared.fault.WireFault.{WireFault}
 use Rattle.pana_wire.specs.Field.{field_name}
+use Rattle.pana_wire.specs.Lines.{lines_of}
+use Rattle.pana_wire.specs.Reply.{reply_text}
 use Rattle.pana_wire.specs.Line.{◌>>=◌, found, when, number_in, device_in, word_in, report_in, text_within, data_in, object_in}
 
 -- the values of an array in a list
@@ -58,3 +60,14 @@ dump_says line = do
 abbrev pub IsReadBack : Reply → List ℕ → Type 0
 IsReadBack (Journal entries) text = (length entries ≤ 100) ⊎ (length text ≤ 1048576) → dump_says text ≡ Ok entries
 IsReadBack _ text = Unit {0}
+
+-- the text of an entry: that of a Journal reply which has it alone
+abbrev pub entry_text : Entry → List ℕ
+entry_text entry = reply_text (Journal (entry ∷ []))
+
+-- the text is one line of a dump, which begins with a brace and ends with its newline, and is read back as the entry
+pub record IsEntryLine (entry : Entry) (line : List ℕ) : Type 0 where
+  pub text : line ≡ entry_text entry ++ 10 ∷ []
+  pub one : lines_of line ≡ entry_text entry ∷ []
+  pub opens : slice_get line 0 ≡ Some 123
+  pub back : dump_says (entry_text entry) ≡ Ok (entry ∷ [])

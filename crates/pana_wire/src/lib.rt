@@ -33,4 +33,4 @@ pub use crate::report_writing::encode_call;
 pub use crate::serving::{ServeFault, Served, serve};
 pub use crate::session::Session;
 pub use crate::tap::Tap;
-pub use crate::writing::encode;
+pub use crate::writing::{encode, encode_entry};

@@ -54,7 +54,7 @@ pub fn entries_value(alloc: Global, entries: &[Entry]) -> Result<Value, AllocErr
 }
 
 #[tactic(auto, unfolding(crate::specs::Report::entry_data))]
-fn entry_value(alloc: Global, entry: &Entry) -> Result<Value, AllocError>
+pub fn entry_value(alloc: Global, entry: &Entry) -> Result<Value, AllocError>
     ensures value { IfOk result (λ value. view value ≡ entry_data entry.now) }
     ensures names { OnOk result (HasEntryNames entry.now) }
 {

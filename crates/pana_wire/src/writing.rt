@@ -1,11 +1,13 @@
-ghost use Rattle.std.specs.Prelude.{◌≡◌, IfOk, OnOk, string_bytes};
+ghost use Rattle.std.specs.Prelude.{◌≡◌, [], ◌∷◌, IfOk, OnOk, string_bytes};
 ghost use Rattle.serde_json.specs.View.{view};
-ghost use Rattle.pana_wire.specs.inner.Names.{HasReplyNames};
-ghost use Rattle.pana_wire.specs.Dump.{IsReadBack};
+ghost use Rattle.pana_hall.specs.declared.reply.Reply.TheVariants.{Journal};
+ghost use Rattle.pana_wire.specs.inner.Names.{HasEntryNames, HasReplyNames};
+ghost use Rattle.pana_wire.specs.Dump.{IsReadBack, IsEntryLine, dump_says, entry_text};
 ghost use Rattle.pana_wire.specs.Reply.{row_data, rows_data, numbers_data, board_data, stamp_data, stamps_data, family_data, families_data, holding_data, holdings_data, refused_data, reply_data, reply_text};
 
-use crate::report_writing::entries_value;
+use crate::report_writing::{entries_value, entry_value};
 use pana_hall::{BoardRow, BoardView, Cause, CopyStamp, FamilyRow, Holding, Reply};
+use pana_journal::Entry;
 use serde_json::{Value, json};
 use std::alloc::{AllocError, Global};
 
@@ -20,6 +22,36 @@ pub fn encode(alloc: Global, reply: &Reply) -> Result<String, AllocError>
 {
     let value = reply_value(alloc, reply)?;
     value.to_string(alloc)
+}
+
+/// The line of a dump that has this entry alone, with its newline: the answer to `journal` where it would have just the
+/// entry. It is one line, and `decode_dump` reads it, without the newline, back as the entry.
+///
+/// It takes memory for the object and for its text, and fails only where that runs out.
+pub fn encode_entry(alloc: Global, entry: &Entry) -> Result<String, AllocError>
+    ensures line { IfOk result (λ line. IsEntryLine entry.now (string_bytes line)) }
+{
+    let mut line = entry_text(alloc, entry)?;
+    line.push('\n')?;
+    Ok(line)
+}
+
+fn entry_text(alloc: Global, entry: &Entry) -> Result<String, AllocError>
+    ensures text { IfOk result (λ text. string_bytes text ≡ entry_text entry.now) }
+    ensures back { OnOk result (dump_says (entry_text entry.now) ≡ Ok (entry.now ∷ [])) }
+{
+    let value = one_entry_value(alloc, entry)?;
+    value.to_string(alloc)
+}
+
+#[tactic(auto, unfolding(crate::specs::Reply::reply_data, crate::specs::Reply::entries_data))]
+fn one_entry_value(alloc: Global, entry: &Entry) -> Result<Value, AllocError>
+    ensures value { IfOk result (λ value. view value ≡ reply_data (Journal (entry.now ∷ []))) }
+    ensures names { OnOk result (HasEntryNames entry.now) }
+{
+    let mut entries = Vec::new(alloc);
+    entries.push(entry_value(alloc, entry)?)?;
+    json!(in alloc; { "entries": Value::Array(entries) })
 }
 
 #[tactic(auto, unfolding(crate::specs::Reply::reply_data))]

@@ -1,6 +1,6 @@
 //! Tests of what is written, and of dumps.
 use crate::tests::place;
-use crate::{Field, WireFault, decode_dump, encode, encode_call};
+use crate::{Field, WireFault, decode_dump, encode, encode_call, encode_entry};
 use pana_copies::{CopyPath, DeviceName};
 use pana_event::Rel;
 use pana_hall::{BoardRow, BoardView, Cause, CopyStamp, FamilyRow, Holding, HoldingList, Reply};
@@ -80,6 +80,10 @@ fn each_reply_is_written(rt: HostRuntime) -> Result<(), Fail> {
             "{\"board\":{\"copies\":[{\"conflict\":3,\"copy\":1,\"device\":\"laptop\",\"equal\":2,\"newer\":0,\"older\":1,\"path\":\"a\\\"b\"}],\"family\":1,\"newest\":[1,2],\"split\":true}}",
         ),
         (
+            Reply::Refused(Cause::NotKept),
+            "{\"code\":14,\"refused\":\"NotKept\"}",
+        ),
+        (
             Reply::Refused(Cause::JournalFull),
             "{\"code\":1,\"refused\":\"JournalFull\"}",
         ),
@@ -95,6 +99,27 @@ fn each_reply_is_written(rt: HostRuntime) -> Result<(), Fail> {
     for (reply, text) in replies {
         assert_eq!(rt; encode(alloc, &reply)?.as_str(), text);
     }
+    Ok(())
+}
+
+#[test]
+fn an_entry_is_written_as_a_line(rt: HostRuntime) -> Result<(), Fail> {
+    let alloc = rt.alloc();
+    let place = place(alloc, "usb", "a\"b\\c")?;
+    let report = Report::Duplicate { copy: 1, place };
+    let by = DeviceName::new(alloc, "laptop")?;
+    let line = encode_entry(
+        alloc,
+        &Entry {
+            number: 2,
+            by,
+            report,
+        },
+    )?;
+    assert_eq!(rt;
+        line.as_str(),
+        "{\"entries\":[{\"by\":\"laptop\",\"copy\":1,\"device\":\"usb\",\"do\":\"duplicate\",\"number\":2,\"path\":\"a\\\"b\\\\c\"}]}\n"
+    );
     Ok(())
 }
 

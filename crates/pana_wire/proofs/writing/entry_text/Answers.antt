@@ -1,0 +1,40 @@
+use Rattle.std.proofs.Common.{◌≤◌, Some, [], ◌∷◌, sym, subst, ◌∙◌, ap, inl, arith}
+use Rattle.std.specs.Prelude.{◌≡◌, ℕ, List, Ok, Err, Result, IfOk, OnOk, string_bytes}
+use Rattle.std.proofs.lemmas.List.Elements.{All-cons, All-nil}
+use Rattle.std.proofs.lemmas.Result.{IfOk-weaker}
+use Rattle.std.proofs.lemmas.Str.{IsUtf8-string_bytes, is_utf8-from_IsUtf8}
+use Rattle.serde_json.specs.Data.{depth}
+use Rattle.serde_json.specs.Read.{max_depth}
+use Rattle.serde_json.specs.Written.{has_float, compact_text}
+use Rattle.pana_hall.specs.declared.reply.Reply.TheVariants.{Journal}
+use Rattle.pana_wire.specs.Dump.{dump_says}
+use Rattle.pana_wire.specs.Reply.{reply_text}
+use Rattle.pana_wire.specs.inner.Names.{HasEntryNames}
+use Rattle.pana_wire.proofs.EntriesBack.{reply_back}
+use Rattle.pana_wire.proofs.Whole.{reply_whole}
+use Rattle.pana_wire.proofs.writing.entry_text.Goals as goal
+use Rattle.pana_wire.proofs.Short.{IfOk-both}
+
+on_ok : {X Y : Type 0} (P : Type 0) (r : Result X Y) → IfOk r (λ x. P) → OnOk r P
+on_ok P (Ok x) holds = holds
+on_ok P (Err y) holds = tt
+
+pub returns-clause-text : goal.returns-clause-text
+unfolding reply_text
+returns-clause-text c =
+    let value = c.in_ok-value.ensures.value in
+    IfOk-weaker c.to_string.result _ _ (λ text h. h (ap has_float value ∙ reply_whole _) ∙ ap compact_text value) c.to_string.ensures.text
+
+pub returns-clause-back : goal.returns-clause-back
+returns-clause-back c =
+    let value = c.in_ok-value.ensures.value in
+    let entry = c.args.entry.now in
+    on_ok _ c.to_string.result
+    (IfOk-both c.to_string.result _ _ _
+    (λ text reads is. subst (λ (l : List ℕ). dump_says l ≡ Ok (entry ∷ [])) is
+    (reply_back (Journal (entry ∷ [])) (string_bytes text) (All-cons HasEntryNames entry [] c.in_ok-value.ensures.names (All-nil HasEntryNames)) is
+    (is_utf8-from_IsUtf8 _ (IsUtf8-string_bytes text))
+    (λ shallow. reads (subst (λ d. depth d ≤ max_depth) (sym value) shallow) ∙ ap (λ d. Some d) value)
+    (inl (omega arith))))
+    c.to_string.ensures.reads_back
+    (returns-clause-text c))
