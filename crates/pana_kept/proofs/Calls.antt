@@ -11,7 +11,7 @@ use Rattle.pana_hall.specs.declared.cause.Cause.{Cause}
 use Rattle.pana_hall.specs.declared.cause.Cause.TheVariants as causes
 use Rattle.pana_hall.specs.declared.reply.Reply.{Reply}
 use Rattle.pana_hall.specs.declared.reply.Reply.TheVariants as replies
-use Rattle.pana_hall.specs.Permit.{Permits, PermitsBy, journal_after}
+use Rattle.pana_hall.specs.Permit.{Permits, PermitsBy, IsCauseOf, journal_after}
 use Rattle.pana_hall.specs.Refusal.{refusal}
 use Rattle.pana_hall.specs.Step.{Steps}
 use Rattle.pana_keep.specs.declared.journal.Journal.{Journal}
@@ -48,9 +48,9 @@ unfolding journal_after
 not_done_same journal by report (replies.Done n) not = absurd (cc)
 not_done_same journal by report reply not = refl
 
-pub permits_refused : (journal : List Entry) (by : List ℕ) (report : Report) (cause : Cause) → refusal journal by (calls.Report report) ≡ Some cause → Permits journal by (calls.Report report) (replies.Refused cause)
-unfolding Permits
-permits_refused journal by report cause is = subst (λ o. PermitsBy o journal (calls.Report report) (replies.Refused cause)) (sym is) refl
+-- nothing stands against a report that has no cause
+pub no_cause : (journal : List Entry) (by : List ℕ) (report : Report) → IsCauseOf journal by report None → refusal journal by (calls.Report report) ≡ None
+no_cause journal by report is = ⊎_elim (λ none. sym none) (λ deep. absurd (let none = deep.1 in cc)) is
 
 short_of : (journal : List Entry) (report : Report) → PermitsBy None journal (calls.Report report) (replies.Refused causes.OutOfMemory)
 short_of journal (reports.Duplicate copy place) = inr (causes.OutOfMemory, inl refl, refl)

@@ -1,5 +1,5 @@
 pub mod Calls
-pub mod NoBreak
-pub mod Texts
+pub mod Lines
 pub mod Runs
 pub mod Said
+pub mod Texts

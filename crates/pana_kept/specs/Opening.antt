@@ -1,13 +1,11 @@
 -- What a file is opened to, and why it isn't.
-use Rattle.std.specs.Prelude.{◌≡◌, ◌≢◌, ℕ, ◌+◌, Bool, true, false, IsTrue, List, ◌∷◌, ◌++◌, length, codes, decimal}
+use Rattle.std.specs.Prelude.{◌≡◌, ◌≢◌, ℕ, ◌+◌, Bool, true, false, IsTrue, List, ◌∷◌, ◌++◌, length}
 use Rattle.pana_journal.specs.declared.entry.Entry.{Entry}
-use Rattle.pana_hall.specs.Load.{IsLoadFault, shown_load_fault}
+use Rattle.pana_hall.specs.Load.{IsLoadFault}
 use Rattle.pana_wire.specs.Dump.{dump_says, IsDumpText}
 use Rattle.pana_wire.specs.Line.{Fails}
-use Rattle.pana_wire.specs.Shown.{shown_fault}
 use Rattle.pana_wire.specs.declared.fault.WireFault.{WireFault}
 use Rattle.pana_wire.specs.declared.fault.WireFault.TheVariants as wire
-use Rattle.pana_keep.specs.declared.device_fault.DeviceFault.{DeviceFault}
 use Rattle.pana_keep.specs.declared.device_fault.DeviceFault.TheVariants as devices
 use Rattle.pana_keep.specs.Lines.{recovered, is_journal}
 use Rattle.pana_kept.specs.declared.open_fault.OpenFault.{OpenFault}
@@ -43,16 +41,3 @@ IsOpenFault has_failed file fault = HaveNoHall (recovered file) fault
 abbrev pub is_of_device : OpenFault → Bool
 is_of_device (faults.Device fault) = true
 is_of_device _ = false
-
--- how it is printed why a file isn't opened
-abbrev pub shown_device_fault : DeviceFault → List ℕ
-shown_device_fault devices.OutOfMemory = codes "out of memory"
-shown_device_fault devices.StorageFull = codes "no space left on the device"
-shown_device_fault devices.Failed = codes "the device failed"
-
-abbrev pub shown_open_fault : OpenFault → List ℕ
-shown_open_fault faults.NoJournal = codes "not a journal"
-shown_open_fault (faults.Line number fault) = codes "line " ++ decimal number ++ codes ": " ++ shown_fault fault
-shown_open_fault (faults.Entry fault) = shown_load_fault fault
-shown_open_fault (faults.Device fault) = shown_device_fault fault
-shown_open_fault faults.OutOfMemory = codes "out of memory"

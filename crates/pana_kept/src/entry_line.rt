@@ -2,9 +2,8 @@ ghost use Rattle.std.specs.Prelude.{IfOk};
 ghost use Rattle.pana_kept.specs.Entries.{IsLineOf};
 
 use pana_copies::DeviceName;
-use pana_hall::Reply;
-use pana_journal::{Entry, EntryList, Report};
-use pana_wire::encode;
+use pana_journal::{Entry, Report};
+use pana_wire::encode_entry;
 use std::alloc::{AllocError, Global};
 
 /// The line of an entry in a journal's file, with its newline. Fails only where memory runs out.
@@ -16,13 +15,11 @@ pub(crate) fn line_of(
 ) -> Result<Vec<u8>, AllocError>
     ensures { IfOk result (λ line. IsLineOf (record { number = number; by = by.now; report = report.now }) line.items) }
 {
-    let mut entries = Vec::new(alloc);
-    entries.push(Entry {
+    let entry = Entry {
         number,
         by: by.copy_of()?,
         report: report.copy_of()?,
-    })?;
-    let mut text = encode(alloc, &Reply::Journal(EntryList::from_vec(entries)))?;
-    text.push_str("\n")?;
-    Ok(text.into_bytes())
+    };
+    let line = encode_entry(alloc, &entry)?;
+    Ok(line.into_bytes())
 }

@@ -18,7 +18,7 @@ use std::marker::Model;
 pub struct KeptHall<D: Device> {
     alloc: Global,
     hall: Hall,
-    journal: Journal<D>,
+    pub(crate) journal: Journal<D>,
 }
 
 impl<D: Device> Model for KeptHall<D> {

@@ -14,3 +14,6 @@ pub use crate::kept_hall::KeptHall;
 pub use crate::open_fault::OpenFault;
 pub use crate::opening::{Opened, open, read};
 pub use crate::serving::serve_kept;
+
+#[cfg(test)]
+mod tests;

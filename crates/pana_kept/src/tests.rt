@@ -39,3 +39,115 @@ fn entries_of(alloc: Global, file: Vec<u8>) -> Result<u64, OpenFault> {
     let mut journal = Journal::new(MemoryDevice::new(alloc, file));
     Ok(open(alloc, &mut journal)?.hall.length())
 }
+
+fn crash_after(calls: usize, written: usize, is_from_end: bool, other: Option<u8>) -> Crash {
+    Crash {
+        calls,
+        written,
+        is_from_end,
+        other,
+    }
+}
+
+/// Whether each crash after so many calls leaves so many entries, or one more, whatever of the writes had reached the disk.
+fn leaves(alloc: Global, device: &MemoryDevice, calls: usize, least: u64) -> Result<bool, Fail> {
+    for written in [0, 1, 2, 50, 200] {
+        for other in [None, Some(b'{'), Some(b'\n')] {
+            for is_from_end in [false, true] {
+                let file = device.after_crash(crash_after(calls, written, is_from_end, other))?;
+                let count = entries_of(alloc, file)?;
+                if count < least || count > least + 1 {
+                    return Ok(false);
+                }
+            }
+        }
+    }
+    Ok(true)
+}
+
+#[test]
+fn crashes_of_a_session(rt: HostRuntime) -> Result<(), Fail> {
+    let alloc = rt.alloc();
+    let mut session = session_on(alloc, MemoryDevice::new(alloc, Vec::new(alloc)))?;
+    let first = session.journal.device.calls();
+    let mut done = Vec::new(alloc);
+    for line in [REGISTER, EDIT, BOARD, EDIT] {
+        let _ = answers(alloc, &mut session, line)?;
+        done.push(session.journal.device.calls())?;
+    }
+    assert_eq!(rt;
+        done.as_slice(),
+        [first + 5, first + 10, first + 10, first + 15].as_slice()
+    );
+    for calls in first..first + 16 {
+        let least = ((calls - first) / 5) as u64;
+        assert!(rt;
+            leaves(alloc, &session.journal.device, calls, least)?,
+            "{calls}"
+        );
+    }
+    Ok(())
+}
+
+#[test]
+fn failing_calls(rt: HostRuntime) -> Result<(), Fail> {
+    let alloc = rt.alloc();
+    let refused = b"{\"code\":14,\"refused\":\"NotKept\"}\n".as_slice();
+    let one = b"{\"done\":1}\n".as_slice();
+    let rows: [(usize, &[u8], Option<ServeFault>); 6] = [
+        (4, refused, None),
+        (5, refused, None),
+        (6, b"", Some(ServeFault::Spent)),
+        (7, b"", Some(ServeFault::Spent)),
+        (8, b"", Some(ServeFault::Spent)),
+        (9, one, None),
+    ];
+    for (calls, want, fault) in rows {
+        let device = MemoryDevice::failing_after(alloc, Vec::new(alloc), calls);
+        let mut session = session_on(alloc, device)?;
+        let (answer, end) = answers(alloc, &mut session, REGISTER)?;
+        assert_eq!(rt; answer.as_slice(), want, "{calls}");
+        assert_eq!(rt; end, fault, "{calls}");
+        assert_eq!(rt; session.is_open(), fault.is_none(), "{calls}");
+    }
+    Ok(())
+}
+
+#[test]
+fn files_that_are_not_opened(rt: HostRuntime) -> Result<(), Fail> {
+    let alloc = rt.alloc();
+    let line = |line, fault| Err(OpenFault::Line { line, fault });
+    let files: [(&[u8], Result<u64, OpenFault>); 4] = [
+        (b"", Ok(0)),
+        (b"a photograph", Err(OpenFault::NoJournal)),
+        (b"{\n", line(1, WireFault::NotJson)),
+        (b"\0torn\n", Ok(0)),
+    ];
+    for (file, want) in files {
+        assert_eq!(rt; entries_of(alloc, file.to_vec(alloc)?), want);
+    }
+    let text = format!(in alloc;
+        "{}",
+        OpenFault::Line {
+            line: 7,
+            fault: WireFault::NotJson
+        }
+    )?;
+    assert_eq!(rt; text.as_str(), "line 7: NotJson");
+    Ok(())
+}
+
+#[test]
+fn journals_that_are_read(rt: HostRuntime) -> Result<(), Fail> {
+    let alloc = rt.alloc();
+    let mut file = REGISTERED.to_vec(alloc)?;
+    file.extend_from_slice(b"\0torn")?;
+    assert_eq!(rt; before_end(&file), REGISTERED);
+    let mut journal = Journal::new(MemoryDevice::new(alloc, file));
+    let found = read(alloc, &mut journal)?;
+    assert_eq!(rt; found.hall.length(), 1);
+    assert_eq!(rt; found.torn, 4);
+    assert_eq!(rt; journal.device.calls(), 0);
+    assert_eq!(rt; journal.device.read(alloc)?.len(), REGISTERED.len() + 5);
+    Ok(())
+}

@@ -14,7 +14,7 @@ returns-in_err-hall-clause-fault g c =
     let p = err_from_is_err_and c.from_residual-in_err-hall.result c.from_residual-in_err-hall.ensures.1 in
     rw (p.1, p.2)
     (λ known. let text : c.deref.result.now ≡ text_of (recovered file) = search (rules, c.in_ok-text.ensures.text, known) in
-        open_fault (g.D.Device.has_failed c.read.new.self.device) file fault (subst (λ (ls : List (List ℕ)). HaveNoHall ls fault) (ap lines_of text ∙ lines_again file) c.in_err-hall.ensures.fault))
+    open_fault (g.D.Device.has_failed c.read.new.self.device) file fault (subst (λ (ls : List (List ℕ)). HaveNoHall ls fault) (ap lines_of text ∙ lines_again file) c.in_err-hall.ensures.fault))
 
 pub returns-clause-hall : goal.returns-clause-hall
 returns-clause-hall g c known =

@@ -1,10 +1,11 @@
-use Rattle.std.proofs.Common.{◌≡◌, Some, None, refl, sym, subst, rules}
+use Rattle.std.proofs.Common.{◌≡◌, None, refl, subst, rules}
 use Rattle.pana_hall.specs.declared.call.Call.TheVariants as calls
 use Rattle.pana_hall.specs.declared.cause.Cause.TheVariants as causes
 use Rattle.pana_hall.specs.declared.reply.Reply.TheVariants as replies
+use Rattle.pana_hall.specs.Permit.{IsCauseOf}
 use Rattle.pana_hall.specs.Refusal.{refusal}
 use Rattle.pana_kept.specs.Kept.{KeptView, Keeps}
-use Rattle.pana_kept.proofs.Calls.{permits_refused, permits_short, after_refused, answered}
+use Rattle.pana_kept.proofs.Calls.{no_cause, permits_short, after_refused, answered}
 use Rattle.pana_kept.proofs.kept_hall.KeptHall.report.Goals as goal
 
 pub returns-in-Some-clause-step : goal.returns-in-Some-clause-step
@@ -14,11 +15,15 @@ returns-in-Some-clause-step g c =
     let by = c.args.by.now in
     let report = c.args.report in
     let cause = c.in-Some.cause in
-    let why : refusal es by (calls.Report report) ≡ Some cause = search rules in
     let P : KeptView g.row.D.Denot → Type 0 = λ v. Keeps g.D.Device.is_known g.D.Device.seen g.D.Device.may_leave g.D.Device.is_usable g.D.Device.moment g.D.Device.left_since v by (calls.Report report) (replies.Refused cause) v in
     subst P c.self.view_is
     (answered g.D.Device.is_known g.D.Device.seen g.D.Device.may_leave g.D.Device.is_usable g.D.Device.moment g.D.Device.left_since es es journal by (calls.Report report) (replies.Refused cause) refl c.self.invariant (g.met.D.Device.only_now journal.device)
-    (permits_refused es by report cause why, after_refused es by report cause))
+    (c.in-Some.ensures.permitted, after_refused es by report cause))
+
+pub keep-requires-clause-free : goal.keep-requires-clause-free
+keep-requires-clause-free g c =
+    let none : c.refusal.result ≡ None = search rules in
+    no_cause c.self.inside.hall c.args.by.now c.args.report (subst (IsCauseOf c.self.inside.hall c.args.by.now c.args.report) none c.refusal.ensures.cause)
 
 pub returns-in-Err-clause-step : goal.returns-in-Err-clause-step
 returns-in-Err-clause-step g c =
@@ -26,7 +31,8 @@ returns-in-Err-clause-step g c =
     let journal = c.self.inside.journal in
     let by = c.args.by.now in
     let report = c.args.report in
-    let free : refusal es by (calls.Report report) ≡ None = search rules in
+    let none : c.refusal.result ≡ None = search rules in
+    let free : refusal es by (calls.Report report) ≡ None = no_cause es by report (subst (IsCauseOf es by report) none c.refusal.ensures.cause) in
     let P : KeptView g.row.D.Denot → Type 0 = λ v. Keeps g.D.Device.is_known g.D.Device.seen g.D.Device.may_leave g.D.Device.is_usable g.D.Device.moment g.D.Device.left_since v by (calls.Report report) (replies.Refused causes.OutOfMemory) v in
     subst P c.self.view_is
     (answered g.D.Device.is_known g.D.Device.seen g.D.Device.may_leave g.D.Device.is_usable g.D.Device.moment g.D.Device.left_since es es journal by (calls.Report report) (replies.Refused causes.OutOfMemory) refl c.self.invariant (g.met.D.Device.only_now journal.device)
