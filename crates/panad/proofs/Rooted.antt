@@ -42,6 +42,13 @@ or_none a b c d is-a is-b is-c is-d = rw (is-a, is-b, is-c, is-d) refl
 pub few_pass : (n : ℕ) → n < 8 → leb 8 n ≡ false
 few_pass n few = grind (arith, nat_tests)
 
+last_false : (a b : Bool) → (a || b) ≡ false → b ≡ false
+last_false true b is = cc
+last_false false b is = is
+
+pub eighth : (n : ℕ) → leb 8 n ≡ false → n < 8
+eighth n few = grind (arith, nat_tests)
+
 pub many_pass : (n : ℕ) → 8 ≤ n → leb 8 n ≡ true
 many_pass n many = grind (arith, nat_tests)
 
@@ -103,6 +110,13 @@ abbrev pub NamesTo : {R : Type 0} → (R → List ℕ) → (R → List ℕ) → 
 NamesTo device folder words i roots = NamesSo device folder (texts (take i words)) (texts (drop i words)) roots
 
 module _ {R : Type 0} (device folder : R → List ℕ) (words : List (Bor (List ℕ))) where
+  -- beside a good root there is room for one more
+  pub room_left : (word : List ℕ) (roots : List R) → is_bad_root (map device roots) word ≡ false → length roots < 8
+  room_left word roots good =
+      let few = eighth (length (map device roots)) (last_false (not (is_device (device_of word)) || length (folder_of word) == 0 || list_any (λ known. bytes_eq known (device_of word)) (map device roots)) (leb 8 (length (map device roots))) good) in
+      let count = length-map roots device in
+      omega (arith, few, count)
+
   pub none_named : NamesTo device folder words 0 []
   none_named = record { devices = refl; folders = refl; bad = refl }
 

@@ -15,7 +15,6 @@ use pana_kept::before_end;
 use pana_scan::Disk;
 use pana_wire::Tap;
 use std::alloc::{AllocError, Global};
-use std::fs::Files;
 use std::io::{BufWriter, Read};
 use std::marker::Sync;
 use std::process::ExitCode;
@@ -284,7 +283,7 @@ fn compare(rt: &HostRuntime, words: &ArgMatches) -> Result<ExitCode, ProgramFaul
     compare_on(rt.alloc(), first, second)?.print(rt)
 }
 
-fn serve<T: Threads + Wait + Sync + Files + AllocGlobal + Clone + Drop>(
+fn serve<T: Threads + Wait + Sync>(
     rt: &HostRuntime,
     threads: &T,
     words: &ArgMatches,
@@ -373,7 +372,7 @@ fn words_of(rt: &HostRuntime) -> Result<Option<Vec<String>>, ProgramFault> {
     }
 }
 
-fn obey_words<T: Threads + Wait + Sync + Files + AllocGlobal + Clone + Drop>(
+fn obey_words<T: Threads + Wait + Sync>(
     rt: &HostRuntime,
     threads: &T,
     words: &[String],
@@ -394,10 +393,7 @@ fn obey_words<T: Threads + Wait + Sync + Files + AllocGlobal + Clone + Drop>(
     }
 }
 
-fn obey<T: Threads + Wait + Sync + Files + AllocGlobal + Clone + Drop>(
-    rt: &HostRuntime,
-    threads: &T,
-) -> Result<ExitCode, ProgramFault> {
+fn obey<T: Threads + Wait + Sync>(rt: &HostRuntime, threads: &T) -> Result<ExitCode, ProgramFault> {
     match words_of(rt)? {
         Some(words) => obey_words(rt, threads, words.as_slice()),
         None => refuse(
@@ -410,10 +406,7 @@ fn obey<T: Threads + Wait + Sync + Files + AllocGlobal + Clone + Drop>(
 
 /// Does what the command line asks. The status is 0, or 1 for a fault, which is printed in one line on standard error,
 /// or 2 for a command line that is refused.
-pub fn start<T: Threads + Wait + Sync + Files + AllocGlobal + Clone + Drop>(
-    rt: &HostRuntime,
-    threads: &T,
-) -> ExitCode {
+pub fn start<T: Threads + Wait + Sync>(rt: &HostRuntime, threads: &T) -> ExitCode {
     match obey(rt, threads) {
         Ok(status) => status,
         Err(fault) => {

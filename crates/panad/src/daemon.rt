@@ -9,7 +9,6 @@ use pana_copies::DeviceName;
 use pana_host::{DeskSession, OpenGate, listen, scanner};
 use pana_turn::{Desk, Pass};
 use std::alloc::{AllocError, Global};
-use std::fs::Files;
 use std::marker::Sync;
 use std::net::{Ipv4Addr, SocketAddr, TcpListener};
 use std::process::ExitCode;
@@ -30,33 +29,29 @@ struct Scanning<'a, T> {
 
 /// The scanners of the roots, by the last passes.
 fn scanners<'a, T>(
-    rt: &'a T,
-    alloc: Global,
+    rt: &'a HostRuntime,
+    threads: &'a T,
     desk: &'a Desk,
     ticks: &'a Ticks,
     roots: &'a [Root<'a>],
     passes: &mut Vec<Pass>,
 ) -> Result<Vec<Scanning<'a, T>>, AllocError> {
-    let mut scanners = Vec::with_capacity(alloc, roots.len())?;
+    let mut scanners = Vec::with_capacity(rt.alloc(), roots.len())?;
     for root in roots {
         let Some(pass) = passes.pop() else {
             break;
         };
         scanners.push_reserved(Scanning {
-            session: DeskSession::new(rt, desk, &OpenGate, 0, pass),
+            session: DeskSession::new(threads, desk, &OpenGate, 0, pass),
             device: &root.device,
-            folder: RootFolder::new(rt, root, ticks),
+            folder: RootFolder::new(rt, threads, root, ticks),
         });
     }
     Ok(scanners)
 }
 
 /// Scans all roots, each in a thread of its own, until standard input has ended.
-fn scan_all<T: Threads + Wait + Sync + Files + AllocGlobal + Clone + Drop>(
-    rt: &T,
-    alloc: Global,
-    scanners: &mut [Scanning<'_, T>],
-) {
+fn scan_all<T: Threads + Wait + Sync>(rt: &T, alloc: Global, scanners: &mut [Scanning<'_, T>]) {
     let scan = move |_place: usize, scanning: &mut Scanning<'_, T>| {
         let Scanning {
             session,
@@ -69,7 +64,7 @@ fn scan_all<T: Threads + Wait + Sync + Files + AllocGlobal + Clone + Drop>(
 }
 
 /// Counts the newlines of standard input, and scans all roots for each, until the input has ended.
-fn scan_by_newlines<T: Threads + Wait + Sync + Files + AllocGlobal + Clone + Drop>(
+fn scan_by_newlines<T: Threads + Wait + Sync>(
     rt: &HostRuntime,
     threads: &T,
     ticks: &Ticks,
@@ -91,7 +86,7 @@ fn listener_on(rt: &HostRuntime, port: u16) -> io::Result<(TcpListener, SocketAd
 }
 
 /// Serves sessions and scans the roots, once it has printed where it listens.
-fn serve_at<'a, T: Threads + Wait + Sync + Files + AllocGlobal + Clone + Drop>(
+fn serve_at<'a, T: Threads + Wait + Sync>(
     rt: &'a HostRuntime,
     threads: &'a T,
     (listener, address): (TcpListener, SocketAddr),
@@ -101,7 +96,7 @@ fn serve_at<'a, T: Threads + Wait + Sync + Files + AllocGlobal + Clone + Drop>(
     let alloc = rt.alloc();
     let (desk, mut passes) = Desk::open(alloc, SESSIONS + roots.len() as u32)?;
     let (desk, listener, ticks) = (&desk, &listener, &Ticks::new());
-    let mut scanners = scanners(threads, alloc, desk, ticks, roots, &mut passes)?;
+    let mut scanners = scanners(rt, threads, desk, ticks, roots, &mut passes)?;
     println!(rt; "listening {address}").map_err(|_| ProgramFault::Write)?;
     let (listened, ()) = thread::join(
         threads,
@@ -116,7 +111,7 @@ fn serve_at<'a, T: Threads + Wait + Sync + Files + AllocGlobal + Clone + Drop>(
 
 /// Listens on a port of 127.0.0.1, and serves sessions and scans the roots until as many sessions were served as are
 /// wanted and standard input has ended.
-pub fn serve<T: Threads + Wait + Sync + Files + AllocGlobal + Clone + Drop>(
+pub fn serve<T: Threads + Wait + Sync>(
     rt: &HostRuntime,
     threads: &T,
     port: u16,

@@ -1,6 +1,6 @@
 //! Roots: the words of the command line that name a device and its folder.
 
-ghost use Rattle.std.specs.Prelude.{◌≡◌, ◌⊎◌, [], true, false, None, Some, IfOk, IfErr, MatchOption, map, bytes_eq, ℕ, List};
+ghost use Rattle.std.specs.Prelude.{◌≤◌, length, ◌≡◌, ◌⊎◌, [], true, false, None, Some, IfOk, IfErr, MatchOption, map, bytes_eq, ℕ, List};
 ghost use Rattle.std.specs.List.{list_any};
 ghost use Rattle.std.specs.Borrow.{Bor};
 ghost use Rattle.panad.specs.Root.{device_of, first_bad, folder_of, is_bad_root};
@@ -68,6 +68,7 @@ pub fn roots_of<'a>(alloc: Global, words: &[&'a str]) -> Result<Vec<Root<'a>>, R
     ensures ok { IfOk result (λ roots. first_bad [] (texts words.now) ≡ None) }
     ensures devices { IfOk result (λ roots. map (λ root. root.device) roots.items ≡ map device_of (texts words.now)) }
     ensures folders { IfOk result (λ roots. map (λ root. root.folder.now) roots.items ≡ map folder_of (texts words.now)) }
+    ensures few { IfOk result (λ roots. length roots.items ≤ 8) }
     ensures bad { IfErr result (λ fault. (fault ≡ RootFault.OutOfMemory)
         ⊎ ((word : Bor (List ℕ)) × (fault ≡ RootFault.Bad word) × (first_bad [] (texts words.now) ≡ Some word.now))) }
 {

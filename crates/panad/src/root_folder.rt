@@ -4,13 +4,13 @@ use crate::root::Root;
 use crate::ticks::Ticks;
 use pana_host::Folder;
 use pana_scan::{Disk, Listing, ScanFault, Unwatched, read_root};
-use std::fs::Files;
 use std::sync::Wait;
 
 /// A root's folder, which is scanned at the start and once for each newline of standard input.
 #[derive(Drop)]
 pub struct RootFolder<'a, T> {
-    rt: &'a T,
+    rt: &'a HostRuntime,
+    threads: &'a T,
     root: &'a Root<'a>,
     ticks: &'a Ticks,
     scans: u64,
@@ -18,9 +18,15 @@ pub struct RootFolder<'a, T> {
 
 impl<'a, T> RootFolder<'a, T> {
     /// The folder before its first scan. Takes no memory.
-    pub fn new(rt: &'a T, root: &'a Root<'a>, ticks: &'a Ticks) -> RootFolder<'a, T> {
+    pub fn new(
+        rt: &'a HostRuntime,
+        threads: &'a T,
+        root: &'a Root<'a>,
+        ticks: &'a Ticks,
+    ) -> RootFolder<'a, T> {
         RootFolder {
             rt,
+            threads,
             root,
             ticks,
             scans: 0,
@@ -28,10 +34,10 @@ impl<'a, T> RootFolder<'a, T> {
     }
 }
 
-impl<T: Wait + Files + AllocGlobal + Clone + Drop> Folder for RootFolder<'_, T> {
+impl<T: Wait> Folder for RootFolder<'_, T> {
     fn next(&mut self) -> Option<Result<Listing, ScanFault>> {
         if let Some(before) = self.scans.checked_sub(1) {
-            if !self.ticks.wait_past(self.rt, before) {
+            if !self.ticks.wait_past(self.threads, before) {
                 return None;
             }
         }
