@@ -3,5 +3,3 @@ pub mod NeverSpent
 pub mod Asked
 pub mod Joined
 pub mod Reported
-pub mod Rooted
-pub mod Sending

@@ -6,5 +6,4 @@ pub mod Tables
 pub mod Load
 pub mod Show
 pub mod Scan
-pub mod Root
 pub mod inner

@@ -4,7 +4,6 @@
 mod answer;
 mod command;
 mod comparing;
-mod daemon;
 mod fault;
 mod journal_file;
 mod keeping;
@@ -12,19 +11,16 @@ mod line_fault;
 mod loading;
 mod one_hall;
 mod progress;
-mod root;
-mod root_folder;
 mod running;
 mod scanning;
 mod showing;
 mod tables;
 #[cfg(test)]
 mod tests;
-mod ticks;
 mod version;
 
 use std::process::ExitCode;
 
 fn main(rt: HostRuntime) -> ExitCode {
-    command::start(&rt, &rt)
+    command::start(&rt)
 }
