@@ -53,7 +53,7 @@ fn crash_after(calls: usize, written: usize, is_from_end: bool, other: Option<u8
 /// Whether each crash after so many calls leaves so many entries, or one more, whatever of the writes had reached the disk.
 fn leaves(alloc: Global, device: &MemoryDevice, calls: usize, least: u64) -> Result<bool, Fail> {
     for written in [0, 1, 2, 50, 200] {
-        for other in [None, Some(b'{'), Some(b'\n')] {
+        for other in [None, Some(b'{'), Some(0)] {
             for is_from_end in [false, true] {
                 let file = device.after_crash(crash_after(calls, written, is_from_end, other))?;
                 let count = entries_of(alloc, file)?;
