@@ -1,5 +1,5 @@
 -- Single calls: what each way that a report takes leaves.
-use Rattle.std.proofs.Common.{◌≡◌, ◌≢◌, ◌⊎◌, inl, inr, ⊎_elim, ℕ, ◌+◌, Bool, true, false, IsTrue, List, [], ◌∷◌, ◌++◌, length, Option, Some, None, refl, sym, ◌∙◌, ap, subst}
+use Rattle.std.proofs.Common.{◌≡◌, inl, inr, ⊎_elim, ℕ, ◌+◌, Bool, true, false, IsTrue, List, [], ◌∷◌, ◌++◌, length, Option, Some, None, refl, sym, ◌∙◌, ap, subst}
 use Rattle.std.proofs.lemmas.List.{append-nil}
 use Rattle.pana_journal.specs.declared.entry.Entry.{Entry}
 use Rattle.pana_journal.specs.declared.report.Report.{Report}
@@ -21,7 +21,7 @@ use Rattle.pana_keep.specs.Lines.{recovered, IsBeforeOrAfter}
 use Rattle.pana_keep.specs.Journal.{IsSettled, IsStaged}
 use Rattle.pana_keep.proofs.Settled.{staged_settles}
 use Rattle.pana_kept.specs.Entries.{Say, LoadsTo, LoadsFirst, IsLineOf}
-use Rattle.pana_kept.specs.Kept.{KeptView, IsKept, KeepsAll, IsNotKept, Keeps, Breaks}
+use Rattle.pana_kept.specs.Kept.{KeptView, IsKept, KeepsAll, Keeps, Breaks}
 use Rattle.pana_kept.specs.inner.{is_done}
 use Rattle.pana_kept.proofs.Said.{say_append, loads_same, loads_either, keeps_on, keeps_start, keeps_same}
 use Rattle.pana_kept.proofs.Runs.{after_grows, not_kept_same}

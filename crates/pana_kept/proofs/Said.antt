@@ -1,6 +1,6 @@
 -- What lines say, and prefixes of it.
-use Rattle.std.proofs.Common.{◌≡◌, inl, inr, ⊎_elim, ℕ, ◌≤◌, Bool, List, [], ◌∷◌, ◌++◌, length, take, Ok, refl, sym, ◌∙◌, ap, subst, arith, append_assoc, length-append}
-use Rattle.std.proofs.lemmas.List.{append-nil, take_at, take_all, take-append-le}
+use Rattle.std.proofs.Common.{◌≡◌, inl, inr, ⊎_elim, ℕ, ◌≤◌, Bool, List, [], ◌∷◌, ◌++◌, length, refl, sym, ◌∙◌, ap, subst, arith, append_assoc, length-append}
+use Rattle.std.proofs.lemmas.List.{take_at, take_all, take-append-le}
 use Rattle.pana_journal.specs.declared.entry.Entry.{Entry}
 use Rattle.pana_keep.specs.declared.journal.Journal.{Journal}
 use Rattle.pana_keep.specs.Device.{LeavesOnly}

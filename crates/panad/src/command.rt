@@ -19,7 +19,7 @@ use std::process::ExitCode;
 use std::{fs, io};
 
 /// How many reads a session of the program makes at most.
-const READS: u64 = 4_294_967_296;
+pub const READS: u64 = 4_294_967_296;
 
 const LINES: &str = "\
 Each line of input to `panad run` is what a device reports, or asks:

@@ -1,6 +1,7 @@
 //! Commands on a journal that is kept in a file.
 
 use crate::answer::Answer;
+use crate::command::READS;
 use crate::fault::ProgramFault;
 use crate::journal_file::{FileFault, open_locked};
 use crate::tables::tables_of;
@@ -10,9 +11,6 @@ use pana_wire::{ServeFault, Tap};
 use std::fs::File;
 use std::io::{self, BufWriter};
 use std::process::ExitCode;
-
-/// How many reads a session of the program makes at most.
-const READS: u64 = 4_294_967_296;
 
 fn report_file(rt: &HostRuntime, name: &str, fault: FileFault) -> Result<ExitCode, ProgramFault> {
     let text = match fault {
@@ -47,10 +45,7 @@ fn serve_input(
     match serve_kept(alloc, &mut reader, &mut writer, &mut session, READS) {
         Ok(_) => Ok(ExitCode::SUCCESS),
         Err(ServeFault::Spent) => Answer::reported(alloc, &"journal failed")?.print(rt),
-        Err(ServeFault::Read) => Err(ProgramFault::Read),
-        Err(ServeFault::Write) => Err(ProgramFault::Write),
-        Err(ServeFault::OutOfMemory) => Err(ProgramFault::OutOfMemory),
-        Err(ServeFault::Turns) => Err(ProgramFault::TooManyReads),
+        Err(fault) => Err(ProgramFault::of_serving(fault)),
     }
 }
 
