@@ -34,6 +34,7 @@ pub struct Opened {
 pub fn read<D: Device>(alloc: Global, journal: &mut Journal<D>) -> Result<Opened, OpenFault>
     requires { IsTrue D.is_known → IsDurable D.seen D.may_leave D.is_usable journal.old.device }
     ensures hall { IfOk result (λ opened. IsTrue D.is_known → LoadsTo opened.hall (D.seen journal.old.device)) }
+    ensures journal { OnOk result (IsTrue D.is_known → is_journal (D.seen journal.old.device) ≡ true) }
     ensures torn { IfOk result (λ opened. IsTrue D.is_known → opened.torn ≡ torn_length (D.seen journal.old.device)) }
     ensures state { OnOk result (journal.new.state ≡ JournalState.Read) }
     ensures end { OnOk result (IsTrue D.is_known → journal.new.end ≡ length (text_of (recovered (D.seen journal.new.device)))) }
@@ -66,6 +67,7 @@ pub fn open<D: Device>(alloc: Global, journal: &mut Journal<D>) -> Result<Opened
     ensures hall { IfOk result (λ opened. IsTrue D.is_known → LoadsTo opened.hall (D.seen journal.old.device)) }
     ensures kept { IfOk result (λ opened. IsTrue D.is_known → IsKept D.seen D.may_leave D.is_usable (record { entries = opened.hall; journal = journal.new })) }
     ensures open { OnOk result (journal.new.state ≡ JournalState.Open) }
+    ensures journal { OnOk result (IsTrue D.is_known → is_journal (D.seen journal.old.device) ≡ true) }
     ensures torn { IfOk result (λ opened. IsTrue D.is_known → opened.torn ≡ torn_length (D.seen journal.old.device)) }
     ensures fault { IfErr result (λ fault. IsTrue D.is_known → IsOpenFault (D.has_failed journal.new.device) (D.seen journal.old.device) fault) }
     ensures untouched { IfErr result (λ fault. is_of_device fault ≡ false → IsTrue D.is_known → D.seen journal.new.device ≡ D.seen journal.old.device) }
