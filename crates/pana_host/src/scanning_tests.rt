@@ -6,6 +6,7 @@ use pana_hall::{Call, Query, Reply};
 use pana_journal::Report;
 use pana_scan::{Found, Listing, ScanFault};
 use pana_turn::Desk;
+use pana_wire::Session;
 use std::alloc::{AllocError, Global};
 use std::test::Fail;
 
@@ -68,13 +69,7 @@ fn scanner_tally(rt: HostRuntime) -> Result<(), Fail> {
         faults: 1,
     };
     assert_eq!(rt; tally, wanted);
-    let mut pass = session.into_pass();
-    let reply = desk.call(
-        &rt,
-        &mut pass,
-        &usb,
-        Call::Query(Query::JournalFrom { entry: 1 }),
-    )?;
+    let reply = session.call(&usb, Call::Query(Query::JournalFrom { entry: 1 }))?;
     let Reply::Journal(entries) = reply else {
         assert!(rt; false);
         return Ok(());
