@@ -8,5 +8,5 @@ version = re.search(r'VERSION: &str = "(.*)";', SOURCE.read_text(encoding="utf-8
 
 for word in ("--version", "-V"):
     print(json.dumps({"args": [word], "output": f"panad {version}\n"}))
-refused = "error: unexpected argument '--version' found\n\nUsage: panad run\n\nFor more information, try '--help'.\n"
+refused = "error: unexpected argument '--version' found\n\nUsage: panad run [OPTIONS]\n\nFor more information, try '--help'.\n"
 print(json.dumps({"args": ["run", "--version"], "error": refused, "status": 2}))
