@@ -30,7 +30,8 @@ pub enum Reply {
     Refused(Cause),
 }
 
-/// The session has no call left to give: what was asked of it was not done.
+/// The session has no call left to give: what was asked of it was not done, unless the session's contract says that it may
+/// have been.
 #[derive(Clone, Copy, Debug, PartialEq, Eq)]
 pub struct Spent;
 

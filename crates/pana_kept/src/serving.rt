@@ -37,6 +37,7 @@ pub fn serve_kept<R: Read, W: Write, D: Device>(
     // at the start among them.
     ensures keeps_all { IsTrue D.is_known → session.old.journal.state ≡ JournalState.Open → KeepsAll D.moment D.left_since session.old session.new }
 {
+    // The contract of this call has what the session's invariant says, which the proof needs of its start.
     let _ = session.is_open();
     serve(alloc, reader, writer, session, reads)
 }
