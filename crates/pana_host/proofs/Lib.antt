@@ -3,4 +3,5 @@ pub mod Sending
 pub mod Scanned
 pub mod Tallies
 pub mod Scans
+pub mod EachScanner
 pub mod Sessions

@@ -1,10 +1,12 @@
--- A lane may go to another thread, with its booth, and so may a session; threads may share a listener.
+-- A lane may go to another thread, with its booth, and so may a session and a scanner.
 use denote.Ref.{NamedLft}
 use denote.RattleType.{RattleType}
-use denote.Param.SendFields.{declared_send}
+use denote.Struct.Field.{row_field}
+use denote.Param.SendFields.{as_row_send, declared_send}
 use denote.Param.Send.{IsSend, IsSync, sendable, view_send, shr_send}
 use Rattle.std.proofs.option.Option.TheSendSync as options
 use Rattle.std.proofs.result.Result.TheSendSync as results
+use Rattle.pana_copies.proofs.device_name.DeviceName.TheSendSync as devices
 use Rattle.pana_wire.proofs.tap.Tap.TheSendSync as taps
 use Rattle.pana_wire.proofs.serving.Served.TheSendSync as served
 use Rattle.pana_wire.proofs.serving.ServeFault.TheSendSync as faults
@@ -14,6 +16,7 @@ use Rattle.pana_host.specs.contracts.lane.LaneEnd as lane_end
 use Rattle.pana_host.specs.contracts.hosting.Booth as booth
 use Rattle.pana_host.specs.contracts.desk_session.DeskSession as session
 use Rattle.pana_host.specs.contracts.desk_session.DeskSession.TheInside as session_inside
+use Rattle.pana_host.specs.contracts.scanners.Scanner as scanner
 
 lane_send : (R W : RattleType) → IsSend R → IsSend W → IsSend (lane.the_row R W)
 lane_send R W r w = declared_send (lane.the_type R W) (pass_send, (taps.the_send R r, (taps.the_send W w, tt)))
@@ -26,3 +29,6 @@ booth_send R W r w = declared_send (booth.the_type R W) (options.the_send _ (lan
 
 pub session_send : (lft : NamedLft) (T G : RattleType) → IsSync T → IsSync G → IsSend (session.the_row lft T G)
 session_send lft T G t g = view_send _ _ _ _ _ (declared_send (session_inside.the_type lft T G) (shr_send _ _ T t, (shr_send _ _ _ desk_sync, (shr_send _ _ G g, (search sendable, (search sendable, (pass_send, tt)))))))
+
+pub scanner_send : (lft : NamedLft) (T G F : RattleType) → IsSync T → IsSync G → IsSend F → IsSend (scanner.the_row lft T G F)
+scanner_send lft T G F t g f = declared_send (scanner.the_type lft T G F) (session_send lft T G t g, (shr_send _ _ _ devices.the_sync, (as_row_send (row_field F) f, tt)))

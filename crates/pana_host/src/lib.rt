@@ -8,6 +8,7 @@ mod hosting;
 mod lane;
 mod listening;
 mod requests;
+mod scanners;
 mod scanning;
 
 pub use crate::desk_session::DeskSession;
@@ -16,6 +17,7 @@ pub use crate::gate::{Gate, OpenGate};
 pub use crate::hosting::host;
 pub use crate::lane::{Lane, LaneEnd};
 pub use crate::listening::listen;
+pub use crate::scanners::{Scanner, scan_all};
 pub use crate::scanning::{ScanTally, scanner};
 
 #[cfg(test)]

@@ -50,6 +50,7 @@ impl<D: Device> Journal<D> {
         ensures refused { IfErr result (λ fault. (fault ≡ KeepFault.Broken) ⊎ ((self.new.state ≡ JournalState.Open) × (IsTrue D.is_known → IsSettled D.seen D.may_leave D.is_usable self.new))) }
         ensures broken { IsErrOf result KeepFault.Broken → (self.new.state ≡ JournalState.Broken) × (IsTrue D.is_known → D.is_usable self.new.device ≡ false) }
         ensures cause { OnErr result (IsTrue D.is_known → HasRoom self.old.end text.now → IsTrue (D.has_failed self.new.device)) }
+        ensures failed { IsErrOf result KeepFault.Broken → IsTrue D.is_known → IsTrue (D.has_failed self.new.device) }
 
         // A crash at any moment of the call leaves the lines from before it.
         ensures any_moment { IsTrue D.is_known → LeavesOnly D.moment D.left_since self.old.device self.new.device

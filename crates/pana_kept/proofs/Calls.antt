@@ -1,6 +1,7 @@
 -- Single calls: what each way that a report takes leaves.
-use Rattle.std.proofs.Common.{◌≡◌, inl, inr, ⊎_elim, ℕ, ◌+◌, Bool, true, false, IsTrue, List, [], ◌∷◌, ◌++◌, length, Option, Some, None, refl, sym, ◌∙◌, ap, subst}
+use Rattle.std.proofs.Common.{◌≡◌, ◌⊎◌, inl, inr, ⊎_elim, ℕ, ◌+◌, ◌≤◌, ◌<◌, ◌^◌, nat_lt, arith, Bool, true, false, IsTrue, List, [], ◌∷◌, ◌++◌, length, Option, Some, None, refl, sym, ◌∙◌, ap, subst}
 use Rattle.std.proofs.lemmas.List.{append-nil}
+use Rattle.std.proofs.lemmas.Bool.{ltb-true, ltb-false}
 use Rattle.pana_journal.specs.declared.entry.Entry.{Entry}
 use Rattle.pana_journal.specs.declared.report.Report.{Report}
 use Rattle.pana_journal.specs.declared.report.Report.TheVariants as reports
@@ -14,15 +15,19 @@ use Rattle.pana_hall.specs.declared.reply.Reply.TheVariants as replies
 use Rattle.pana_hall.specs.Permit.{Permits, PermitsBy, IsCauseOf, journal_after}
 use Rattle.pana_hall.specs.Refusal.{refusal}
 use Rattle.pana_hall.specs.Step.{Steps}
+use Rattle.pana_hall.proofs.NotKept.{never_not_kept}
+use Rattle.pana_keep.specs.declared.device_fault.DeviceFault.{DeviceFault}
+use Rattle.pana_keep.specs.declared.device_fault.DeviceFault.TheVariants as devices
 use Rattle.pana_keep.specs.declared.journal.Journal.{Journal}
 use Rattle.pana_keep.specs.declared.journal_state.JournalState.TheVariants.{Open, Broken}
 use Rattle.pana_keep.specs.Device.{LeavesOnly}
-use Rattle.pana_keep.specs.Lines.{recovered, IsBeforeOrAfter}
+use Rattle.pana_keep.specs.Lines.{recovered, IsBeforeOrAfter, HasRoom}
 use Rattle.pana_keep.specs.Journal.{IsSettled, IsStaged}
+use Rattle.pana_keep.proofs.Recovered.{which}
 use Rattle.pana_keep.proofs.Settled.{staged_settles}
 use Rattle.pana_kept.specs.Entries.{Say, LoadsTo, LoadsFirst, IsLineOf}
-use Rattle.pana_kept.specs.Kept.{KeptView, IsKept, KeepsAll, Keeps, Breaks}
-use Rattle.pana_kept.specs.inner.{is_done}
+use Rattle.pana_kept.specs.Kept.{KeptView, IsKept, KeepsAll, IsFull, IsNotKept, NeedsOpen, Keeps, Breaks}
+use Rattle.pana_kept.specs.inner.{cause_of, is_done}
 use Rattle.pana_kept.proofs.Said.{say_append, loads_same, loads_either, keeps_on, keeps_start, keeps_same}
 use Rattle.pana_kept.proofs.Runs.{after_grows, not_kept_same}
 
@@ -48,6 +53,10 @@ unfolding journal_after
 not_done_same journal by report (replies.Done n) not = absurd (cc)
 not_done_same journal by report reply not = refl
 
+-- what a hall answers isn't NotKept
+never : {P : Type 0} (old : List Entry) (by : List ℕ) (call : Call) (reply : Reply) (new : List Entry) → Steps old by call reply new → reply ≡ replies.Refused causes.NotKept → P
+never old by call reply new steps is = absurd (never_not_kept old by call (subst (λ (r : Reply). Permits old by call r) is steps.0))
+
 -- nothing stands against a report that has no cause
 pub no_cause : (journal : List Entry) (by : List ℕ) (report : Report) → IsCauseOf journal by report None → refusal journal by (calls.Report report) ≡ None
 no_cause journal by report is = ⊎_elim (λ none. sym none) (λ deep. absurd (let none = deep.1 in cc)) is
@@ -64,29 +73,45 @@ pub after_refused : (journal : List Entry) (by : List ℕ) (report : Report) (ca
 unfolding journal_after
 after_refused journal by report cause = refl
 
+-- a report whose line the device doesn't take
+pub answers_fault : (journal : List Entry) (by : List ℕ) (report : Report) (fault : DeviceFault) → refusal journal by (calls.Report report) ≡ None
+    → Steps journal by (calls.Report report) (replies.Refused (cause_of fault)) journal ⊎ IsNotKept journal by (calls.Report report) (replies.Refused (cause_of fault)) journal
+answers_fault journal by report devices.OutOfMemory free = inl (permits_short journal by report free, after_refused journal by report causes.OutOfMemory)
+answers_fault journal by report devices.StorageFull free = inr (free, refl, refl)
+answers_fault journal by report devices.Failed free = inr (free, refl, refl)
+
+-- a fault that comes where there is room has come unless the file is full
+pub failed_or_full : {failed : Type 0} (end : ℕ) (text : List ℕ) → length text ≤ 1048577 → (HasRoom end text → failed) → failed ⊎ (2 ^ 60 < end)
+failed_or_full end text short cause = elim (which (nat_lt (2 ^ 60) end)) [
+  | inl full ↦ inr (ltb-true (2 ^ 60) end full)
+  | inr room ↦ inl (cause (ltb-false (2 ^ 60) end room, omega (arith, short)))
+]
+
 pub after_query : (journal : List Entry) (by : List ℕ) (query : Query) (reply : Reply) → journal_after journal by (calls.Query query) reply ≡ journal
 unfolding journal_after
 after_query journal by query reply = refl
 
-module _ {D : Type 0} (is_known : Bool) (seen : D → List ℕ) (may_leave : D → List ℕ → Type 0) (is_usable : D → Bool) (moment : D → ℕ) (left_since : D → ℕ → List ℕ → Type 0) where
+module _ {D : Type 0} (is_known : Bool) (seen : D → List ℕ) (may_leave : D → List ℕ → Type 0) (is_usable : D → Bool) (moment : D → ℕ) (left_since : D → ℕ → List ℕ → Type 0) (has_failed : D → Bool) where
   abbrev view : List Entry → Journal D → KeptView D
   view es journal = record { entries = es; journal = journal }
 
   abbrev Step : KeptView D → List ℕ → Call → Reply → KeptView D → Type 0
-  Step old by call reply new = Keeps is_known seen may_leave is_usable moment left_since old by call reply new
+  Step old by call reply new = Keeps is_known seen may_leave is_usable moment left_since has_failed old by call reply new
 
   abbrev Spends : KeptView D → KeptView D → Type 0
-  Spends old new = Breaks is_known moment left_since old new
+  Spends old new = Breaks is_known moment left_since has_failed old new
 
   -- the lines of the file were the same at any moment
   abbrev Same : Journal D → Journal D → Type 0
   Same a b = LeavesOnly moment left_since a.device b.device (λ f. recovered f ≡ recovered (seen a.device))
 
   -- with the file left alone
-  pub answered : (es new : List Entry) (journal : Journal D) (by : List ℕ) (call : Call) (reply : Reply) → new ≡ es → (IsTrue is_known → IsKept seen may_leave is_usable (view es journal))
+  pub answered : (es new : List Entry) (journal : Journal D) (by : List ℕ) (call : Call) (reply : Reply) → new ≡ es → NeedsOpen (view es journal) call → (IsTrue is_known → IsKept seen may_leave is_usable (view es journal))
       → ((c : List ℕ) → left_since journal.device (moment journal.device) c → may_leave journal.device c) → Steps es by call reply new → Step (view es journal) by call reply (view new journal)
-  answered es new journal by call reply same kept only_now steps = record {
+  answered es new journal by call reply same is_open kept only_now steps = record {
     answers = inl steps;
+    cause = λ known is. never es by call reply new steps is;
+    is_open = is_open;
     state = refl;
     kept = λ known. subst (λ (xs : List Entry). IsKept seen may_leave is_usable (view xs journal)) (sym same) (kept known);
     keeps_all = λ known works.
@@ -95,29 +120,34 @@ module _ {D : Type 0} (is_known : Bool) (seen : D → List ℕ) (may_leave : D �
   }
 
   -- with the line only staged
-  pub not_written : (es : List Entry) (a b : Journal D) (by : List ℕ) (report : Report) → b.state ≡ a.state → refusal es by (calls.Report report) ≡ None → (IsTrue is_known → LoadsTo es (seen a.device))
-      → (IsTrue is_known → IsSettled seen may_leave is_usable b) → (IsTrue is_known → recovered (seen b.device) ≡ recovered (seen a.device)) → (IsTrue is_known → Same a b) → Step (view es a) by (calls.Report report) (replies.Refused causes.NotKept) (view es b)
-  not_written es a b by report state free loads settled same run = record {
-    answers = inr (free, refl, refl);
+  pub not_written : (es : List Entry) (a b : Journal D) (by : List ℕ) (report : Report) (fault : DeviceFault) → a.state ≡ Open → b.state ≡ a.state → refusal es by (calls.Report report) ≡ None → (IsTrue is_known → IsTrue (has_failed b.device) ⊎ IsFull a) → (IsTrue is_known → LoadsTo es (seen a.device))
+      → (IsTrue is_known → IsSettled seen may_leave is_usable b) → (IsTrue is_known → recovered (seen b.device) ≡ recovered (seen a.device)) → (IsTrue is_known → Same a b) → Step (view es a) by (calls.Report report) (replies.Refused (cause_of fault)) (view es b)
+  not_written es a b by report fault is_open state free cause loads settled same run = record {
+    answers = answers_fault es by report fault free;
+    cause = λ known is. cause known;
+    is_open = is_open;
     state = state;
     kept = λ known works. (settled known, loads_same es (seen a.device) (seen b.device) (same known) (loads known));
     keeps_all = λ known works. keeps_same moment left_since a.device b.device (seen a.device) es (loads known) (run known);
   }
 
-  pub not_staged : (es : List Entry) (a b : Journal D) → a.state ≡ Open → b.state ≡ Broken → (IsTrue is_known → LoadsTo es (seen a.device)) → (IsTrue is_known → Same a b) → Spends (view es a) (view es b)
-  not_staged es a b opened broken loads run = record {
+  pub not_staged : (es : List Entry) (a b : Journal D) → a.state ≡ Open → b.state ≡ Broken → (IsTrue is_known → IsTrue (has_failed b.device)) → (IsTrue is_known → LoadsTo es (seen a.device)) → (IsTrue is_known → Same a b) → Spends (view es a) (view es b)
+  not_staged es a b opened broken failed loads run = record {
     broken = λ works. absurd (cc);
+    cause = λ known works. failed known;
     once = λ shut. absurd (shut opened);
     entries = inl refl;
     keeps_all = λ known works. keeps_same moment left_since a.device b.device (seen a.device) es (loads known) (run known);
   }
 
   -- the line is staged, and then the rest is done
-  pub staged_keeps : (es new : List Entry) (a b c : Journal D) (by : List ℕ) (call : Call) (reply : Reply) → b.state ≡ a.state → (IsTrue is_known → LoadsTo es (seen a.device)) → (IsTrue is_known → Same a b) → Step (view es b) by call reply (view new c) → Step (view es a) by call reply (view new c)
-  staged_keeps es new a b c by call reply state loads run k =
+  pub staged_keeps : (es new : List Entry) (a b c : Journal D) (by : List ℕ) (call : Call) (reply : Reply) → NeedsOpen (view es a) call → b.state ≡ a.state → b.end ≡ a.end → (IsTrue is_known → LoadsTo es (seen a.device)) → (IsTrue is_known → Same a b) → Step (view es b) by call reply (view new c) → Step (view es a) by call reply (view new c)
+  staged_keeps es new a b c by call reply is_open state end loads run k =
       let some : (some : List Entry) × (new ≡ es ++ some) = ⊎_elim (λ steps. let after = after_grows es by call reply in (after.0, steps.1 ∙ after.1)) (λ not. ([], not_kept_same es by call reply new not ∙ sym (append-nil es))) k.answers in
       record {
         answers = k.answers;
+        cause = λ known is. ⊎_elim (λ failed. inl failed) (λ full. inr (subst (λ (n : ℕ). 2 ^ 60 < n) end full)) (k.cause known is);
+        is_open = is_open;
         state = k.state ∙ state;
         kept = k.kept;
         keeps_all = λ known works. keeps_on moment left_since a.device b.device c.device es es new [] some.0 (sym (append-nil es)) some.1 (keeps_same moment left_since a.device b.device (seen a.device) es (loads known) (run known)) (k.keeps_all known (state ∙ works));
@@ -126,6 +156,7 @@ module _ {D : Type 0} (is_known : Bool) (seen : D → List ℕ) (may_leave : D �
   pub staged_breaks : (es new : List Entry) (a b c : Journal D) → a.state ≡ Open → b.state ≡ Open → (IsTrue is_known → LoadsTo es (seen a.device)) → (IsTrue is_known → Same a b) → Spends (view es b) (view new c) → Spends (view es a) (view new c)
   staged_breaks es new a b c opened still loads run k = record {
     broken = k.broken;
+    cause = λ known works. k.cause known still;
     once = λ shut. absurd (shut opened);
     entries = k.entries;
     keeps_all = λ known works.
@@ -144,11 +175,13 @@ module _ {D : Type 0} (is_known : Bool) (seen : D → List ℕ) (may_leave : D �
     before = λ t f le left. ⊎_elim (λ was. inl was) (λ p. inr (loads_either es e (seen a.device) line f loads is.says p)) (run.before t f le left);
   }
 
-  pub committed : (es new : List Entry) (a b : Journal D) (by line : List ℕ) (report : Report) (reply : Reply) → new ≡ es ++ next es by report ∷ [] → b.state ≡ a.state → Steps es by (calls.Report report) reply new → IsLineOf (next es by report) line
+  pub committed : (es new : List Entry) (a b : Journal D) (by line : List ℕ) (report : Report) (reply : Reply) → new ≡ es ++ next es by report ∷ [] → a.state ≡ Open → b.state ≡ a.state → Steps es by (calls.Report report) reply new → IsLineOf (next es by report) line
       → (IsTrue is_known → LoadsTo es (seen a.device)) → (IsTrue is_known → IsSettled seen may_leave is_usable b) → (IsTrue is_known → recovered (seen b.device) ≡ recovered (seen a.device) ++ recovered line)
       → (IsTrue is_known → LeavesOnly moment left_since a.device b.device (IsBeforeOrAfter (recovered (seen a.device)) (recovered line))) → Step (view es a) by (calls.Report report) reply (view new b)
-  committed es new a b by line report reply grown state steps is loads settled added run = record {
+  committed es new a b by line report reply grown is_open state steps is loads settled added run = record {
     answers = inl steps;
+    cause = λ known not. never es by (calls.Report report) reply new steps not;
+    is_open = is_open;
     state = state;
     kept = λ known works. (
       settled known,
@@ -157,17 +190,18 @@ module _ {D : Type 0} (is_known : Bool) (seen : D → List ℕ) (may_leave : D �
     keeps_all = λ known works. subst (λ (xs : List Entry). KeepsAll moment left_since (view es a) (view xs b)) (sym grown) (opened es (next es by report) line a b (loads known) is (run known));
   }
 
-  pub not_committed : (es new : List Entry) (a b : Journal D) (by line : List ℕ) (report : Report) → new ≡ es ++ next es by report ∷ [] → a.state ≡ Open → b.state ≡ Broken → IsLineOf (next es by report) line
+  pub not_committed : (es new : List Entry) (a b : Journal D) (by line : List ℕ) (report : Report) → new ≡ es ++ next es by report ∷ [] → a.state ≡ Open → b.state ≡ Broken → (IsTrue is_known → IsTrue (has_failed b.device)) → IsLineOf (next es by report) line
       → (IsTrue is_known → LoadsTo es (seen a.device)) → (IsTrue is_known → LeavesOnly moment left_since a.device b.device (IsBeforeOrAfter (recovered (seen a.device)) (recovered line))) → Spends (view es a) (view new b)
-  not_committed es new a b by line report grown works broken is loads run = record {
+  not_committed es new a b by line report grown works broken failed is loads run = record {
     broken = λ still. absurd (cc);
+    cause = λ known was. failed known;
     once = λ shut. absurd (shut works);
     entries = inr (next es by report, grown);
     keeps_all = λ known was. subst (λ (xs : List Entry). KeepsAll moment left_since (view es a) (view xs b)) (sym grown) (opened es (next es by report) line a b (loads known) is (run known));
   }
 
   -- what is staged is left, since the hall refuses its report
-  pub left_staged : (es new : List Entry) (journal : Journal D) (by line : List ℕ) (report : Report) (reply : Reply) → new ≡ es → Steps es by (calls.Report report) reply new → (IsTrue is_known → IsStaged seen may_leave is_usable line journal) → (IsTrue is_known → LoadsTo es (seen journal.device))
+  pub left_staged : (es new : List Entry) (journal : Journal D) (by line : List ℕ) (report : Report) (reply : Reply) → new ≡ es → journal.state ≡ Open → Steps es by (calls.Report report) reply new → (IsTrue is_known → IsStaged seen may_leave is_usable line journal) → (IsTrue is_known → LoadsTo es (seen journal.device))
       → ((c : List ℕ) → left_since journal.device (moment journal.device) c → may_leave journal.device c) → Step (view es journal) by (calls.Report report) reply (view new journal)
-  left_staged es new journal by line report reply same steps staged loads only_now =
-      answered es new journal by (calls.Report report) reply same (λ known works. (staged_settles seen may_leave is_usable line journal (staged known), loads known)) only_now steps
+  left_staged es new journal by line report reply same is_open steps staged loads only_now =
+      answered es new journal by (calls.Report report) reply same is_open (λ known works. (staged_settles seen may_leave is_usable line journal (staged known), loads known)) only_now steps

@@ -1,8 +1,10 @@
 -- The line of an entry is whole, and its only one.
-use Rattle.std.proofs.Common.{◌≡◌, inl, inr, ℕ, suc, ◌<◌, ◌==◌, true, false, cond, List, [], ◌∷◌, ◌++◌, length, length-append, refl, sym, ap, ◌∙◌, subst, arith}
+use Rattle.std.proofs.Common.{◌≡◌, inl, inr, ℕ, suc, ◌<◌, ◌==◌, true, false, cond, List, [], ◌∷◌, ◌++◌, length, length-append, nat_lt, Ok, Err, ◌≤◌, refl, sym, ap, ◌∙◌, subst, arith}
 use Rattle.std.proofs.lemmas.List.{append-nil}
+use Rattle.std.proofs.lemmas.Bool.{ltb-false}
 use Rattle.pana_journal.specs.declared.entry.Entry.{Entry}
-use Rattle.pana_wire.specs.Dump.{entry_text, IsEntryLine}
+use Rattle.pana_wire.specs.declared.fault.WireFault.TheVariants.{TooLong}
+use Rattle.pana_wire.specs.Dump.{dump_says, entry_text, IsEntryLine}
 use Rattle.pana_wire.specs.Lines.{ended, unended, last_line, lines_of}
 use Rattle.pana_wire.specs.Reply.{reply_data, reply_text}
 use Rattle.pana_keep.specs.Lines.{opens, recovered, text_of, HasNoBreak, AreLines}
@@ -42,6 +44,14 @@ gate_opens entry = refl
 some_bytes : (line text : List ℕ) → text ≡ line ++ 10 ∷ [] → 0 < length text
 some_bytes line text whole = omega (arith, ap length whole, length-append line (10 ∷ []))
 
+-- a line of a dump that is read is short
+says_short : (text : List ℕ) (entries : List Entry) → dump_says text ≡ Ok entries → length text ≤ 1048576
+unfolding dump_says
+says_short text entries says = elim (which (nat_lt 1048576 (length text))) [
+  | inl is ↦ absurd (let long : dump_says text ≡ Err TooLong = rw (is) refl in cc)
+  | inr other ↦ ltb-false 1048576 (length text) other
+]
+
 -- the line of an entry in a dump is one that a journal can hold
 pub is_line : (entry : Entry) (text : List ℕ) → IsEntryLine entry text → IsLineOf entry text
 is_line entry text is =
@@ -54,4 +64,5 @@ is_line entry text is =
         same = ap text_of found ∙ sym is.text;
       };
       says = subst (λ (ls : List (List ℕ)). Say ls (entry ∷ [])) (sym found) (entry ∷ [], [], is.back, refl, refl);
+      short = omega (arith, says_short line (entry ∷ []) is.back, ap length is.text, length-append line (10 ∷ []));
     }

@@ -28,12 +28,12 @@ pub not_kept_same : (old : List Entry) (by : List ℕ) (call : Call) (reply : Re
 not_kept_same old by (calls.Report report) reply new is = is.2
 not_kept_same old by (calls.Query query) reply new is = absurd is
 
-module _ {D : Type 0} (is_known : Bool) (seen : D → List ℕ) (may_leave : D → List ℕ → Type 0) (is_usable : D → Bool) (moment : D → ℕ) (left_since : D → ℕ → List ℕ → Type 0) (known : IsTrue is_known) where
+module _ {D : Type 0} (is_known : Bool) (seen : D → List ℕ) (may_leave : D → List ℕ → Type 0) (is_usable : D → Bool) (moment : D → ℕ) (left_since : D → ℕ → List ℕ → Type 0) (has_failed : D → Bool) (known : IsTrue is_known) where
   abbrev Step : KeptView D → List ℕ → Call → Reply → KeptView D → Type 0
-  Step old by call reply new = Keeps is_known seen may_leave is_usable moment left_since old by call reply new
+  Step old by call reply new = Keeps is_known seen may_leave is_usable moment left_since has_failed old by call reply new
 
   abbrev Spends : KeptView D → KeptView D → Type 0
-  Spends old new = Breaks is_known moment left_since old new
+  Spends old new = Breaks is_known moment left_since has_failed old new
 
   -- so far every call was answered
   pub record Ran (old new : KeptView D) : Type 0 where
@@ -96,6 +96,12 @@ module _ {D : Type 0} (is_known : Bool) (seen : D → List ℕ) (may_leave : D �
   breaks_in fault old mid new (line ∷ lines) output ran (inl here) = breaks_at fault old mid new line output ran here
   breaks_in fault old mid new (line ∷ lines) output ran (inr (next, text, rest, steps, answers, more, whole)) = breaks_in fault old next new lines rest (ran_line old mid next line text steps ran answers) more
 
+  -- the call that broke the journal found it open
+  pub broke : (old mid new : KeptView D) (lines : List (List ℕ)) (output : List ℕ) → Ran old mid → BreaksIn Step Spends Spent mid lines output new → IsTrue (has_failed new.journal.device)
+  broke old mid new [] output ran breaks = absurd breaks
+  broke old mid new (line ∷ lines) output ran (inl (m, says, spends, none)) = spends.cause known ran.works
+  broke old mid new (line ∷ lines) output ran (inr (next, text, rest, steps, answers, more, whole)) = broke old next new lines rest (ran_line old mid next line text steps ran answers) more
+
   pub served : (old new : KeptView D) (input output : List ℕ) (steps : ℕ) → Ran old old → AnswersLines Step old (lines_of input) output new steps → KeepsAll moment left_since old new
   served old new input output steps ran answers = (ran_lines old old new (lines_of input) output steps ran answers).keeps_all
 
@@ -105,6 +111,9 @@ module _ {D : Type 0} (is_known : Bool) (seen : D → List ℕ) (may_leave : D �
   stopped OutOfMemory met old new input output ran ends = breaks_in OutOfMemory old old new _ output ran ends
   stopped Spent met old new input output ran ends = breaks_in Spent old old new _ output ran ends
   stopped Turns met old new input output ran (steps, answers) = (ran_lines old old new (ended [] input) output steps ran answers).keeps_all
+
+pub at_err : {X E : Type 0} (r : Result X E) (e : E) (Q : E → Type 0) → r ≡ Err e → IfErr r Q → Q e
+at_err {X = X} {E = E} r e Q is holds = subst (λ (x : Result X E). IfErr x Q) is holds
 
 pub either_way : {X E : Type 0} (r : Result X E) (P : X → Type 0) (Q : E → Type 0) (R : Type 0) → IfOk r P → IfErr r Q → ((x : X) → P x → R) → ((e : E) → Q e → R) → R
 either_way (Ok x) P Q R p q on_ok on_err = on_ok x p

@@ -17,7 +17,8 @@ LoadsTo entries file = Say (recovered file) entries
 abbrev pub LoadsFirst : ℕ → List Entry → List ℕ → Type 0
 LoadsFirst least entries file = (n : ℕ) × (least ≤ n) × (n ≤ length entries) × LoadsTo (take n entries) file
 
--- a line that a journal can hold, with its newline, which says this entry and no other
+-- a line that a journal can hold, with its newline: it says this entry and no other, and is no longer than a line of a dump
 pub record IsLineOf (entry : Entry) (text : List ℕ) : Type 0 where
   pub whole : IsWhole text
   pub says : LoadsTo (entry ∷ []) text
+  pub short : length text ≤ 1048577

@@ -1,5 +1,5 @@
 -- What a call does to a hall and to the file that keeps its journal.
-use Rattle.std.specs.Prelude.{◌≡◌, ◌≢◌, ◌⊎◌, ℕ, Bool, IsTrue, List, [], ◌∷◌, ◌++◌, length, None}
+use Rattle.std.specs.Prelude.{◌≡◌, ◌≢◌, ◌⊎◌, ◌<◌, ◌^◌, ℕ, Bool, IsTrue, List, [], ◌∷◌, ◌++◌, length, None}
 use Rattle.pana_journal.specs.declared.entry.Entry.{Entry}
 use Rattle.pana_hall.specs.declared.call.Call.{Call}
 use Rattle.pana_hall.specs.declared.call.Call.TheVariants as calls
@@ -28,22 +28,36 @@ IsKept seen may_leave is_usable kept = kept.journal.state ≡ Open → IsSettled
 abbrev pub KeepsAll : {D : Type 0} → (D → ℕ) → (D → ℕ → List ℕ → Type 0) → KeptView D → KeptView D → Type 0
 KeepsAll moment left_since old new = LeavesOnly moment left_since old.journal.device new.journal.device (LoadsFirst (length old.entries) new.entries)
 
--- a report against which nothing else stands is refused, since it could not be written, and nothing has changed
+-- a report against which nothing else stands is refused, and nothing has changed
 abbrev pub IsNotKept : List Entry → List ℕ → Call → Reply → List Entry → Type 0
 IsNotKept old by (calls.Report report) reply new = (refusal old by (calls.Report report) ≡ None) × (reply ≡ Refused NotKept) × (new ≡ old)
 IsNotKept old by (calls.Query query) reply new = ⊥
 
--- A call that is answered: as by a hall alone, or a report is NotKept. The file follows.
-pub record Keeps {D : Type 0} (is_known : Bool) (seen : D → List ℕ) (may_leave : D → List ℕ → Type 0) (is_usable : D → Bool) (moment : D → ℕ) (left_since : D → ℕ → List ℕ → Type 0)
+-- the file has no room for one more line: its lines are longer than 2^60 bytes
+abbrev pub IsFull : {D : Type 0} → Journal D → Type 0
+IsFull journal = 2 ^ 60 < journal.end
+
+-- a report is answered only while the journal is open
+abbrev pub NeedsOpen : {D : Type 0} → KeptView D → Call → Type 0
+NeedsOpen old (calls.Report report) = old.journal.state ≡ Open
+NeedsOpen old (calls.Query query) = Unit {0}
+
+-- A call that is answered: as by a hall alone, or a report is NotKept. The file follows. NotKept has a cause: the device
+-- has failed, or the file was full.
+pub record Keeps {D : Type 0} (is_known : Bool) (seen : D → List ℕ) (may_leave : D → List ℕ → Type 0) (is_usable : D → Bool) (moment : D → ℕ) (left_since : D → ℕ → List ℕ → Type 0) (has_failed : D → Bool)
     (old : KeptView D) (by : List ℕ) (call : Call) (reply : Reply) (new : KeptView D) : Type 0 where
   pub answers : Steps old.entries by call reply new.entries ⊎ IsNotKept old.entries by call reply new.entries
+  pub cause : IsTrue is_known → reply ≡ Refused NotKept → IsTrue (has_failed new.journal.device) ⊎ IsFull old.journal
+  pub is_open : NeedsOpen old call
   pub state : new.journal.state ≡ old.journal.state
   pub kept : IsTrue is_known → IsKept seen may_leave is_usable new
   pub keeps_all : IsTrue is_known → old.journal.state ≡ Open → KeepsAll moment left_since old new
 
--- A call that isn't answered: the journal is broken, and at most the entry of the call's report has come.
-pub record Breaks {D : Type 0} (is_known : Bool) (moment : D → ℕ) (left_since : D → ℕ → List ℕ → Type 0) (old new : KeptView D) : Type 0 where
+-- A call that isn't answered: the journal is broken, since the device has failed or it was broken before. At most the
+-- entry of the call's report has come.
+pub record Breaks {D : Type 0} (is_known : Bool) (moment : D → ℕ) (left_since : D → ℕ → List ℕ → Type 0) (has_failed : D → Bool) (old new : KeptView D) : Type 0 where
   pub broken : new.journal.state ≢ Open
+  pub cause : IsTrue is_known → old.journal.state ≡ Open → IsTrue (has_failed new.journal.device)
   pub once : old.journal.state ≢ Open → new ≡ old
   pub entries : (new.entries ≡ old.entries) ⊎ ((entry : Entry) × (new.entries ≡ old.entries ++ entry ∷ []))
   pub keeps_all : IsTrue is_known → old.journal.state ≡ Open → KeepsAll moment left_since old new

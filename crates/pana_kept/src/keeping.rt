@@ -6,12 +6,12 @@ ghost use Rattle.pana_keep.specs.Lines.{HasRoom};
 ghost use Rattle.pana_keep.specs.Journal.{IsStaged};
 ghost use Rattle.pana_kept.specs.Entries.{IsLineOf, LoadsTo};
 ghost use Rattle.pana_kept.specs.Kept.{IsKept, Keeps, Breaks};
-ghost use Rattle.pana_kept.specs.inner.{is_done};
+ghost use Rattle.pana_kept.specs.inner.{cause_of, is_done};
 
 use pana_copies::DeviceName;
 use pana_hall::{Call, Cause, Hall, Reply, Spent};
 use pana_journal::Report;
-use pana_keep::{Device, Journal, JournalState, KeepFault};
+use pana_keep::{Device, DeviceFault, Journal, JournalState, KeepFault};
 
 /// Makes a report that nothing stands against, whose entry has this line.
 pub(crate) fn keep<D: Device>(
@@ -25,13 +25,13 @@ pub(crate) fn keep<D: Device>(
     requires kept { IsTrue D.is_known → IsKept D.seen D.may_leave D.is_usable (record { entries = hall.old; journal = journal.old }) }
     requires free { refusal hall.old by.now (calls.Report report) ≡ None }
     requires line { IsLineOf (record { number = length hall.old + 1; by = by.now; report = report }) line.now }
-    ensures step { IfOk result (λ reply. Keeps D.is_known D.seen D.may_leave D.is_usable D.moment D.left_since
+    ensures step { IfOk result (λ reply. Keeps D.is_known D.seen D.may_leave D.is_usable D.moment D.left_since D.has_failed
         (record { entries = hall.old; journal = journal.old }) by.now (calls.Report report) reply (record { entries = hall.new; journal = journal.new })) }
-    ensures spent { OnErr result (Breaks D.is_known D.moment D.left_since (record { entries = hall.old; journal = journal.old }) (record { entries = hall.new; journal = journal.new })) }
+    ensures spent { OnErr result (Breaks D.is_known D.moment D.left_since D.has_failed (record { entries = hall.old; journal = journal.old }) (record { entries = hall.new; journal = journal.new })) }
 {
     match journal.stage(line) {
         Ok(()) => finish(hall, journal, by, report, line),
-        Err(KeepFault::Refused(_)) => Ok(Reply::Refused(Cause::NotKept)),
+        Err(KeepFault::Refused(fault)) => Ok(Reply::Refused(cause_of(fault))),
         Err(KeepFault::Broken) => Err(Spent),
     }
 }
@@ -49,9 +49,9 @@ fn finish<D: Device>(
     requires loads { IsTrue D.is_known → LoadsTo hall.old (D.seen journal.old.device) }
     requires room { HasRoom journal.old.end line.now }
     requires line { IsLineOf (record { number = length hall.old + 1; by = by.now; report = report }) line.now }
-    ensures step { IfOk result (λ reply. Keeps D.is_known D.seen D.may_leave D.is_usable D.moment D.left_since
+    ensures step { IfOk result (λ reply. Keeps D.is_known D.seen D.may_leave D.is_usable D.moment D.left_since D.has_failed
         (record { entries = hall.old; journal = journal.old }) by.now (calls.Report report) reply (record { entries = hall.new; journal = journal.new })) }
-    ensures spent { OnErr result (Breaks D.is_known D.moment D.left_since (record { entries = hall.old; journal = journal.old }) (record { entries = hall.new; journal = journal.new })) }
+    ensures spent { OnErr result (Breaks D.is_known D.moment D.left_since D.has_failed (record { entries = hall.old; journal = journal.old }) (record { entries = hall.new; journal = journal.new })) }
 {
     let reply = hall.apply(by, Call::Report(report));
     if !is_done(&reply) {
@@ -60,6 +60,16 @@ fn finish<D: Device>(
     match journal.commit(line) {
         Ok(()) => Ok(reply),
         Err(_) => Err(Spent),
+    }
+}
+
+/// Why a report isn't kept whose line the device doesn't take.
+fn cause_of(fault: DeviceFault) -> Cause
+    ensures { result ≡ cause_of fault }
+{
+    match fault {
+        DeviceFault::OutOfMemory => Cause::OutOfMemory,
+        DeviceFault::StorageFull | DeviceFault::Failed => Cause::NotKept,
     }
 }
 

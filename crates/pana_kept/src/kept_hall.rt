@@ -55,8 +55,8 @@ impl<D: Device> KeptHall<D> {
     }
 
     fn report(&mut self, by: &DeviceName, report: Report) -> Result<Reply, Spent>
-        ensures step { IfOk result (λ reply. Keeps D.is_known D.seen D.may_leave D.is_usable D.moment D.left_since self.old by.now (calls.Report report) reply self.new) }
-        ensures spent { OnErr result (Breaks D.is_known D.moment D.left_since self.old self.new) }
+        ensures step { IfOk result (λ reply. Keeps D.is_known D.seen D.may_leave D.is_usable D.moment D.left_since D.has_failed self.old by.now (calls.Report report) reply self.new) }
+        ensures spent { OnErr result (Breaks D.is_known D.moment D.left_since D.has_failed self.old self.new) }
     {
         if self.journal.state != JournalState::Open {
             return Err(Spent);
@@ -76,9 +76,9 @@ impl<D: Device> Session for KeptHall<D> {
     ghost use Rattle.std.specs.Prelude.{IfOk, OnErr};
     ghost use Rattle.pana_kept.specs.Kept.{Keeps, Breaks};
 
-    ghost step = { λ old by call reply new. Keeps D.is_known D.seen D.may_leave D.is_usable D.moment D.left_since old by call reply new };
+    ghost step = { λ old by call reply new. Keeps D.is_known D.seen D.may_leave D.is_usable D.moment D.left_since D.has_failed old by call reply new };
 
-    ghost spends = { λ old new. Breaks D.is_known D.moment D.left_since old new };
+    ghost spends = { λ old new. Breaks D.is_known D.moment D.left_since D.has_failed old new };
 
     fn call(&mut self, by: &DeviceName, call: Call) -> Result<Reply, Spent> {
         match call {

@@ -1,5 +1,5 @@
 //! A session whose entries are kept.
-ghost use Rattle.std.specs.Prelude.{◌≡◌, ◌≤◌, ◌^◌, ◌⊎◌, false, IsTrue, IfOk, IfErr};
+ghost use Rattle.std.specs.Prelude.{◌≡◌, ◌≤◌, ◌^◌, ◌⊎◌, false, IsTrue, IfOk, IfErr, IsErrOf};
 ghost use Rattle.pana_wire.specs.Tap.{has_failed, MadeAtMost};
 ghost use Rattle.pana_wire.specs.Session.{Serves, Stops, NeverBegins};
 ghost use Rattle.pana_kept.specs.Kept.{Keeps, Breaks, KeepsAll};
@@ -25,12 +25,15 @@ pub fn serve_kept<R: Read, W: Write, D: Device>(
     requires reader { has_failed reader.old ≡ false }
     requires writer { has_failed writer.old ≡ false }
     requires reads { reads ≤ 2 ^ 40 }
-    ensures ok { IfOk result (Serves R.remaining W.contents (Keeps D.is_known D.seen D.may_leave D.is_usable D.moment D.left_since)
+    ensures ok { IfOk result (Serves R.remaining W.contents (Keeps D.is_known D.seen D.may_leave D.is_usable D.moment D.left_since D.has_failed)
         reader.old reader.new writer.old writer.new session.old session.new) }
     ensures fault { IfErr result (λ fault.
         NeverBegins reader.old reader.new writer.old writer.new session.old session.new fault
-        ⊎ Stops R.remaining W.contents (Keeps D.is_known D.seen D.may_leave D.is_usable D.moment D.left_since) (Breaks D.is_known D.moment D.left_since) reads
+        ⊎ Stops R.remaining W.contents (Keeps D.is_known D.seen D.may_leave D.is_usable D.moment D.left_since D.has_failed) (Breaks D.is_known D.moment D.left_since D.has_failed) reads
         reader.old reader.new writer.old writer.new session.old session.new fault) }
+
+    // From an open journal, it ends as Spent only where the device has failed.
+    ensures spent { IsErrOf result ServeFault.Spent → IsTrue D.is_known → session.old.journal.state ≡ JournalState.Open → IsTrue (D.has_failed session.new.journal.device) }
     ensures reads { MadeAtMost reads reader.old reader.new }
 
     // A crash at any moment of the session leaves a file that loads to the first n entries of now, all that there were

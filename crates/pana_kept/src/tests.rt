@@ -1,7 +1,9 @@
 //! What no clause says: that a session over a device that works answers, what it answers where the device fails, and by
 //! crashes that are run, that the definitions say what is meant.
+ghost use Rattle.std.specs.Prelude.{true, false, []};
+
 use crate::{KeptHall, OpenFault, Opened, before_end, open, read, serve_kept};
-use pana_keep::{Crash, Device, Journal, MemoryDevice};
+use pana_keep::{Crash, Device, DeviceFault, Journal, JournalState, MemoryDevice};
 use pana_wire::{ServeFault, Tap, WireFault};
 use std::alloc::Global;
 use std::test::Fail;
@@ -15,6 +17,48 @@ const BOARD: &[u8] = b"{\"by\":\"a\",\"do\":\"board\",\"family\":2}\n";
 const REGISTERED: &[u8] =
     b"{\"entries\":[{\"by\":\"a\",\"device\":\"a\",\"do\":\"register\",\"number\":1,\"path\":\"p\"}]}\n";
 
+/// A device that has no memory for what is written to it. Nothing is known of its bytes.
+#[derive(Drop)]
+struct ShortDevice;
+
+impl Device for ShortDevice {
+    ghost use Rattle.std.specs.Prelude.{◌≡◌};
+
+    ghost is_known = { false };
+
+    ghost seen = { λ _. [] };
+
+    ghost may_leave = { λ _ c. c ≡ [] };
+
+    ghost moment = { λ _. 0 };
+
+    ghost left_since = { λ _ t c. c ≡ [] };
+
+    ghost is_usable = { λ _. true };
+
+    ghost has_failed = { λ _. true };
+
+    ghost counts_now = { λ f t c le now. now };
+
+    ghost only_now = { λ f c left. left };
+
+    fn read(&mut self, alloc: Global) -> Result<Vec<u8>, DeviceFault> {
+        Ok(Vec::new(alloc))
+    }
+
+    fn write_at(&mut self, _: usize, _: &[u8]) -> Result<(), DeviceFault> {
+        Err(DeviceFault::OutOfMemory)
+    }
+
+    fn cut(&mut self, _: usize) -> Result<(), DeviceFault> {
+        Ok(())
+    }
+
+    fn sync(&mut self) -> Result<(), DeviceFault> {
+        Ok(())
+    }
+}
+
 /// A session on a new journal, whose device fails once after so many calls.
 fn session_of(alloc: Global, calls: usize) -> Result<KeptHall<MemoryDevice>, Fail> {
     let device = MemoryDevice::failing_after(alloc, Vec::new(alloc), calls);
@@ -24,9 +68,9 @@ fn session_of(alloc: Global, calls: usize) -> Result<KeptHall<MemoryDevice>, Fai
 }
 
 /// What a session answers to lines, and why it ended.
-fn answers(
+fn answers<D: Device>(
     alloc: Global,
-    session: &mut KeptHall<MemoryDevice>,
+    session: &mut KeptHall<D>,
     lines: &[u8],
 ) -> Result<(Vec<u8>, Option<ServeFault>), Fail> {
     let mut reader = Tap::new(lines);
@@ -110,6 +154,38 @@ fn failing_calls(rt: HostRuntime) -> Result<(), Fail> {
         assert_eq!(rt; end, fault, "{calls}");
         assert_eq!(rt; session.is_open(), fault.is_none(), "{calls}");
     }
+    Ok(())
+}
+
+#[test]
+fn report_after_a_failed_write(rt: HostRuntime) -> Result<(), Fail> {
+    let alloc = rt.alloc();
+    let mut session = session_of(alloc, 4)?;
+    let refused = b"{\"code\":14,\"refused\":\"NotKept\"}\n".as_slice();
+    let one = b"{\"done\":1}\n".as_slice();
+    for want in [refused, one] {
+        let (answer, end) = answers(alloc, &mut session, REGISTER)?;
+        assert_eq!(rt; answer.as_slice(), want);
+        assert_eq!(rt; end, None);
+    }
+    Ok(())
+}
+
+#[test]
+fn writes_without_memory(rt: HostRuntime) -> Result<(), Fail> {
+    let alloc = rt.alloc();
+    let mut journal = Journal::new(MemoryDevice::new(alloc, Vec::new(alloc)));
+    let Opened { hall, .. } = open(alloc, &mut journal)?;
+    let short = Journal {
+        device: ShortDevice,
+        end: 0,
+        state: JournalState::Open,
+    };
+    let mut session = KeptHall::new(alloc, hall, short);
+    let (answer, end) = answers(alloc, &mut session, REGISTER)?;
+    let want = b"{\"code\":9,\"refused\":\"OutOfMemory\"}\n".as_slice();
+    assert_eq!(rt; answer.as_slice(), want);
+    assert_eq!(rt; end, None);
     Ok(())
 }
 

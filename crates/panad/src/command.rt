@@ -1,5 +1,6 @@
 use crate::answer::Answer;
 use crate::comparing::compare_on;
+use crate::daemon;
 use crate::fault::ProgramFault;
 use crate::keeping::{run_kept, show_kept};
 use crate::loading::load_on;
@@ -9,13 +10,16 @@ use crate::scanning::scan_on;
 use crate::showing::show_on;
 use crate::version::VERSION;
 use clap::error::{Error, ErrorKind};
-use clap::{Arg, ArgMatches, Command};
+use clap::{Arg, ArgAction, ArgMatches, Command, value_parser};
 use pana_kept::before_end;
 use pana_scan::Disk;
 use pana_wire::Tap;
 use std::alloc::{AllocError, Global};
 use std::io::{BufWriter, Read};
+use std::marker::Sync;
 use std::process::ExitCode;
+use std::sync::Wait;
+use std::thread::Threads;
 use std::{fs, io};
 
 /// How many reads a session of the program makes at most.
@@ -32,7 +36,8 @@ Each line of input to `panad run` is what a device reports, or asks:
 Reports: register, duplicate, edit, reconcile, merge, relocate, remove, confirm,
 withdraw. Questions: families, board, stamps, pair, holdings, journal.
 
-`panad show` takes such lines and prints tables in place of the answers.
+`panad show` takes such lines and prints tables in place of the answers, and
+`panad serve` answers them over TCP, to several devices at a time.
 `panad COMMAND --help` shows an example. README.md has all answers, what is
 proved of them, and what isn't.";
 
@@ -82,6 +87,18 @@ DIR. Example:
 Symbolic links are passed over. Names that can't be reported are counted on
 standard error.";
 
+const SERVE_EXAMPLE: &str = "\
+It listens on 127.0.0.1 alone, and prints where. Each connection is a session as
+that of `panad run`, and all sessions share one journal. Nothing is kept after it
+ends. Example:
+
+    $ panad serve --port 7000 usb=/media/usb laptop=/home/me/papers
+    listening 127.0.0.1:7000
+
+At the start, and again at each newline on standard input, each folder is scanned,
+and what appeared, changed or went is reported by its device. Without --sessions it
+runs until it is killed.";
+
 const COMPARE_EXAMPLE: &str = "\
 A stamp is an id and an event of an Interval Tree Clock. Example:
 
@@ -98,6 +115,15 @@ const LOAD: &str = "load";
 const SCAN: &str = "scan";
 
 const COMPARE: &str = "compare";
+
+const SERVE: &str = "serve";
+
+/// The names of the daemon's port, number of sessions and folders on the command line.
+const PORT: &str = "port";
+
+const SESSIONS: &str = "sessions";
+
+const ROOT: &str = "DEVICE=DIR";
 
 /// The name of the file on the command line.
 const FILE: &str = "FILE";
@@ -181,6 +207,29 @@ fn compare_command<'a>(alloc: Global) -> Result<Command<'a>, AllocError> {
         .arg(second)
 }
 
+fn serve_command<'a>(alloc: Global) -> Result<Command<'a>, AllocError> {
+    let port = Arg::new(alloc, PORT)
+        .long(PORT)
+        .value_name("N")
+        .value_parser(value_parser!(u16))
+        .help("The port of 127.0.0.1 to listen on; 0 lets the system choose")
+        .required(true);
+    let sessions = Arg::new(alloc, SESSIONS)
+        .long(SESSIONS)
+        .value_name("S")
+        .value_parser(value_parser!(u64))
+        .help("End after S sessions and the end of standard input");
+    let roots = Arg::new(alloc, ROOT)
+        .action(ArgAction::Append)
+        .help("A device and the folder with its copies, up to 8 of them");
+    Command::new(alloc, SERVE)
+        .about("Answers lines over TCP, up to 16 sessions at a time, and scans folders")
+        .after_help(SERVE_EXAMPLE)
+        .arg(port)?
+        .arg(sessions)?
+        .arg(roots)
+}
+
 /// What the words of the command line may be.
 fn command_line<'a>(alloc: Global) -> Result<Command<'a>, AllocError> {
     Command::new(alloc, "panad")
@@ -193,7 +242,8 @@ fn command_line<'a>(alloc: Global) -> Result<Command<'a>, AllocError> {
         .subcommand(show_command(alloc)?)?
         .subcommand(load_command(alloc)?)?
         .subcommand(scan_command(alloc)?)?
-        .subcommand(compare_command(alloc)?)
+        .subcommand(compare_command(alloc)?)?
+        .subcommand(serve_command(alloc)?)
 }
 
 fn run(rt: &HostRuntime, words: &ArgMatches) -> Result<ExitCode, ProgramFault> {
@@ -231,6 +281,17 @@ fn compare(rt: &HostRuntime, words: &ArgMatches) -> Result<ExitCode, ProgramFaul
     let first = words.get_str(FIRST).unwrap_or("");
     let second = words.get_str(SECOND).unwrap_or("");
     compare_on(rt.alloc(), first, second)?.print(rt)
+}
+
+fn serve<T: Threads + Wait + Sync>(
+    rt: &HostRuntime,
+    threads: &T,
+    words: &ArgMatches,
+) -> Result<ExitCode, ProgramFault> {
+    // The port is required, so it is there.
+    let port = words.get_one(PORT).unwrap_or(0);
+    let roots = words.get_strs(ROOT).unwrap_or(&[]);
+    daemon::serve(rt, threads, port, words.get_one(SESSIONS), roots)
 }
 
 /// The bytes of a file, or `None` where it can't be read.
@@ -311,7 +372,11 @@ fn words_of(rt: &HostRuntime) -> Result<Option<Vec<String>>, ProgramFault> {
     }
 }
 
-fn obey_words(rt: &HostRuntime, words: &[String]) -> Result<ExitCode, ProgramFault> {
+fn obey_words<T: Threads + Wait + Sync>(
+    rt: &HostRuntime,
+    threads: &T,
+    words: &[String],
+) -> Result<ExitCode, ProgramFault> {
     let command = command_line(rt.alloc())?;
     let asked = match command.try_get_matches_from(words) {
         Ok(asked) => asked,
@@ -323,13 +388,14 @@ fn obey_words(rt: &HostRuntime, words: &[String]) -> Result<ExitCode, ProgramFau
         Some((LOAD, words)) => load(rt, words),
         Some((SCAN, words)) => scan(rt, words),
         Some((COMPARE, words)) => compare(rt, words),
+        Some((SERVE, words)) => serve(rt, threads, words),
         _ => refuse(rt, ErrorKind::MissingSubcommand, "a command is required"),
     }
 }
 
-fn obey(rt: &HostRuntime) -> Result<ExitCode, ProgramFault> {
+fn obey<T: Threads + Wait + Sync>(rt: &HostRuntime, threads: &T) -> Result<ExitCode, ProgramFault> {
     match words_of(rt)? {
-        Some(words) => obey_words(rt, words.as_slice()),
+        Some(words) => obey_words(rt, threads, words.as_slice()),
         None => refuse(
             rt,
             ErrorKind::InvalidValue,
@@ -340,8 +406,8 @@ fn obey(rt: &HostRuntime) -> Result<ExitCode, ProgramFault> {
 
 /// Does what the command line asks. The status is 0, or 1 for a fault, which is printed in one line on standard error,
 /// or 2 for a command line that is refused.
-pub fn start(rt: &HostRuntime) -> ExitCode {
-    match obey(rt) {
+pub fn start<T: Threads + Wait + Sync>(rt: &HostRuntime, threads: &T) -> ExitCode {
+    match obey(rt, threads) {
         Ok(status) => status,
         Err(fault) => {
             let _ = eprintln!(rt; "panad: {fault}");

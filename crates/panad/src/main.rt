@@ -4,6 +4,7 @@
 mod answer;
 mod command;
 mod comparing;
+mod daemon;
 mod fault;
 mod journal_file;
 mod keeping;
@@ -22,5 +23,5 @@ mod version;
 use std::process::ExitCode;
 
 fn main(rt: HostRuntime) -> ExitCode {
-    command::start(&rt)
+    command::start(&rt, &rt)
 }

@@ -4,6 +4,7 @@ use Rattle.pana_hall.specs.declared.cause.Cause.TheVariants as causes
 use Rattle.pana_hall.specs.declared.reply.Reply.TheVariants as replies
 use Rattle.pana_hall.specs.Permit.{IsCauseOf}
 use Rattle.pana_hall.specs.Refusal.{refusal}
+use Rattle.pana_keep.specs.declared.journal_state.JournalState.TheVariants.{Open}
 use Rattle.pana_kept.specs.Kept.{KeptView, Keeps}
 use Rattle.pana_kept.proofs.Calls.{no_cause, permits_short, after_refused, answered}
 use Rattle.pana_kept.proofs.kept_hall.KeptHall.report.Goals as goal
@@ -15,9 +16,10 @@ returns-in-Some-clause-step g c =
     let by = c.args.by.now in
     let report = c.args.report in
     let cause = c.in-Some.cause in
-    let P : KeptView g.row.D.Denot → Type 0 = λ v. Keeps g.D.Device.is_known g.D.Device.seen g.D.Device.may_leave g.D.Device.is_usable g.D.Device.moment g.D.Device.left_since v by (calls.Report report) (replies.Refused cause) v in
+    let works : journal.state ≡ Open = search rules in
+    let P : KeptView g.row.D.Denot → Type 0 = λ v. Keeps g.D.Device.is_known g.D.Device.seen g.D.Device.may_leave g.D.Device.is_usable g.D.Device.moment g.D.Device.left_since g.D.Device.has_failed v by (calls.Report report) (replies.Refused cause) v in
     subst P c.self.view_is
-    (answered g.D.Device.is_known g.D.Device.seen g.D.Device.may_leave g.D.Device.is_usable g.D.Device.moment g.D.Device.left_since es es journal by (calls.Report report) (replies.Refused cause) refl c.self.invariant (g.met.D.Device.only_now journal.device)
+    (answered g.D.Device.is_known g.D.Device.seen g.D.Device.may_leave g.D.Device.is_usable g.D.Device.moment g.D.Device.left_since g.D.Device.has_failed es es journal by (calls.Report report) (replies.Refused cause) refl works c.self.invariant (g.met.D.Device.only_now journal.device)
     (c.in-Some.ensures.permitted, after_refused es by report cause))
 
 pub keep-requires-clause-free : goal.keep-requires-clause-free
@@ -32,8 +34,9 @@ returns-in-Err-clause-step g c =
     let by = c.args.by.now in
     let report = c.args.report in
     let none : c.refusal.result ≡ None = search rules in
+    let works : journal.state ≡ Open = search rules in
     let free : refusal es by (calls.Report report) ≡ None = no_cause es by report (subst (IsCauseOf es by report) none c.refusal.ensures.cause) in
-    let P : KeptView g.row.D.Denot → Type 0 = λ v. Keeps g.D.Device.is_known g.D.Device.seen g.D.Device.may_leave g.D.Device.is_usable g.D.Device.moment g.D.Device.left_since v by (calls.Report report) (replies.Refused causes.OutOfMemory) v in
+    let P : KeptView g.row.D.Denot → Type 0 = λ v. Keeps g.D.Device.is_known g.D.Device.seen g.D.Device.may_leave g.D.Device.is_usable g.D.Device.moment g.D.Device.left_since g.D.Device.has_failed v by (calls.Report report) (replies.Refused causes.OutOfMemory) v in
     subst P c.self.view_is
-    (answered g.D.Device.is_known g.D.Device.seen g.D.Device.may_leave g.D.Device.is_usable g.D.Device.moment g.D.Device.left_since es es journal by (calls.Report report) (replies.Refused causes.OutOfMemory) refl c.self.invariant (g.met.D.Device.only_now journal.device)
+    (answered g.D.Device.is_known g.D.Device.seen g.D.Device.may_leave g.D.Device.is_usable g.D.Device.moment g.D.Device.left_since g.D.Device.has_failed es es journal by (calls.Report report) (replies.Refused causes.OutOfMemory) refl works c.self.invariant (g.met.D.Device.only_now journal.device)
     (permits_short es by report free, after_refused es by report causes.OutOfMemory))

@@ -19,8 +19,8 @@ returns-in-Query-clause-step g c =
     let reply = c.apply.result in
     let new : KeptView g.row.D.Denot = record { entries = c.apply.new.self; journal = journal } in
     let same : c.apply.new.self ≡ es = c.apply.ensures.journal ∙ after_query es by c.in-Query.query reply in
-    let P : KeptView g.row.D.Denot → Type 0 = λ v. Keeps g.D.Device.is_known g.D.Device.seen g.D.Device.may_leave g.D.Device.is_usable g.D.Device.moment g.D.Device.left_since v by c.args.call reply new in
-    let Q : Call → Type 0 = λ call. Keeps g.D.Device.is_known g.D.Device.seen g.D.Device.may_leave g.D.Device.is_usable g.D.Device.moment g.D.Device.left_since (record { entries = es; journal = journal }) by call reply new in
+    let P : KeptView g.row.D.Denot → Type 0 = λ v. Keeps g.D.Device.is_known g.D.Device.seen g.D.Device.may_leave g.D.Device.is_usable g.D.Device.moment g.D.Device.left_since g.D.Device.has_failed v by c.args.call reply new in
+    let Q : Call → Type 0 = λ call. Keeps g.D.Device.is_known g.D.Device.seen g.D.Device.may_leave g.D.Device.is_usable g.D.Device.moment g.D.Device.left_since g.D.Device.has_failed (record { entries = es; journal = journal }) by call reply new in
     subst P c.self.view_is (subst Q (sym c.in-Query.is)
-    (answered g.D.Device.is_known g.D.Device.seen g.D.Device.may_leave g.D.Device.is_usable g.D.Device.moment g.D.Device.left_since es c.apply.new.self journal by (calls.Query c.in-Query.query) reply same c.self.invariant (g.met.D.Device.only_now journal.device)
+    (answered g.D.Device.is_known g.D.Device.seen g.D.Device.may_leave g.D.Device.is_usable g.D.Device.moment g.D.Device.left_since g.D.Device.has_failed es c.apply.new.self journal by (calls.Query c.in-Query.query) reply same tt c.self.invariant (g.met.D.Device.only_now journal.device)
     (c.apply.ensures.permitted, c.apply.ensures.journal)))

@@ -1,0 +1,3 @@
+pub mod Rooted
+pub mod Passes
+pub mod Sending

@@ -1,0 +1,10 @@
+//! The daemon: sessions over TCP and scanners of folders, at one desk.
+#![tactic(auto)]
+
+mod daemon;
+mod root;
+mod root_folder;
+mod ticks;
+
+pub use crate::daemon::{DaemonFault, serve};
+pub use crate::root::{Root, RootFault, roots_of};

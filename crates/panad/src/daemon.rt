@@ -1,0 +1,50 @@
+//! `panad serve`.
+
+use crate::answer::Answer;
+use crate::fault::ProgramFault;
+use pana_daemon::{DaemonFault, RootFault, roots_of};
+use std::io;
+use std::marker::Sync;
+use std::net::{Ipv4Addr, SocketAddr, TcpListener};
+use std::process::ExitCode;
+use std::sync::Wait;
+use std::thread::Threads;
+
+/// A listener on a port of 127.0.0.1, and its address.
+fn listener_on(rt: &HostRuntime, port: u16) -> io::Result<(TcpListener, SocketAddr)> {
+    let listener = TcpListener::bind(rt, (Ipv4Addr::LOCALHOST, port))?;
+    let address = listener.local_addr()?;
+    Ok((listener, address))
+}
+
+/// Prints one line on standard error, and returns the status for it.
+fn complain(rt: &HostRuntime, text: &String) -> Result<ExitCode, ProgramFault> {
+    Answer::reported(rt.alloc(), text)?.print(rt)
+}
+
+/// Listens on a port of 127.0.0.1, and serves sessions and scans the roots that the words name, until as many sessions
+/// were served as are wanted and standard input has ended.
+pub fn serve<T: Threads + Wait + Sync>(
+    rt: &HostRuntime,
+    threads: &T,
+    port: u16,
+    wanted: Option<u64>,
+    words: &[&str],
+) -> Result<ExitCode, ProgramFault> {
+    let alloc = rt.alloc();
+    let roots = match roots_of(alloc, words) {
+        Ok(roots) => roots,
+        Err(RootFault::OutOfMemory) => return Err(ProgramFault::OutOfMemory),
+        Err(RootFault::Bad(word)) => {
+            return complain(rt, &format!(in alloc; "bad root {word}")?);
+        }
+    };
+    let Ok((listener, address)) = listener_on(rt, port) else {
+        return complain(rt, &format!(in alloc; "cannot listen on port {port}")?);
+    };
+    match pana_daemon::serve(rt, threads, &listener, &address, wanted, roots.as_slice()) {
+        Ok(()) => Ok(ExitCode::SUCCESS),
+        Err(DaemonFault::OutOfMemory) => Err(ProgramFault::OutOfMemory),
+        Err(DaemonFault::Write) => Err(ProgramFault::Write),
+    }
+}

@@ -1,0 +1,313 @@
+#!/usr/bin/env python3
+"""Runs `serve`, and talks to it over loopback as well and as badly as clients do.
+
+usage: check_daemon.py PROGRAM
+The last line is 'N passed, M failed'.
+"""
+from __future__ import annotations
+
+import shutil
+import socket
+import struct
+import subprocess
+import sys
+import tempfile
+import time
+from pathlib import Path
+
+from daemon import SECONDS, Broken, Daemon, line_of
+
+SESSIONS = 16
+WAIT = 0.02
+GOOD_END = (0, b"", b"")
+REQUESTS = (
+    b"POST / HTTP/1.1\r\nHost: 127.0.0.1\r\nContent-Type: text/plain\r\n\r\n",
+    b"GET / HTTP/1.1\r\n\r\n",
+    b"OPTIONS * HTTP/1.1\r\n\r\n",
+    b"A \n",
+)
+REPORT = line_of("page", "register", device="page", path="page.txt")
+
+
+def differs(got, wanted):
+    """Says what came that isn't wanted."""
+    if got != wanted:
+        yield f"wanted {wanted!r:.400}, got {got!r:.400}"
+
+
+def until(wanted, look):
+    """What a look gives at last: what is wanted, or after a while something else."""
+    end = time.monotonic() + SECONDS
+    while (got := look()) != wanted and time.monotonic() < end:
+        time.sleep(WAIT)
+    return got
+
+
+def ended(*words, **how):
+    """How the program ends that is given no input, and what it wrote."""
+    done = subprocess.run([*words], stdin=subprocess.DEVNULL, capture_output=True, timeout=SECONDS, **how)
+    return done.returncode, done.stdout, done.stderr
+
+
+def paths_on(daemon, device):
+    """The paths of the copies on a device, with what touched them last."""
+    return [(it["path"], it["touch"]) for it in daemon.ask("tester", "holdings", device=device)["holdings"]]
+
+
+def roots(program, room):
+    """A root is scanned at the start and at each newline of standard input: what appears, changes or goes is reported."""
+    (room / "usb").mkdir()
+    (room / "usb" / "b").write_text("one")
+    with Daemon(program, f"usb={room}/usb", f"gone={room}/gone") as daemon:
+        yield from differs(until([("b", 1)], lambda: paths_on(daemon, "usb")), [("b", 1)])
+        (room / "usb" / "a").write_text("abc")
+        (room / "usb" / "b").write_text("two")
+        daemon.tick()
+        wanted = [("b", 3), ("a", 2)]
+        yield from differs(until(wanted, lambda: paths_on(daemon, "usb")), wanted)
+        board = daemon.ask("tester", "board", family=2)
+        copy = {"conflict": 0, "copy": 2, "device": "usb", "equal": 0, "newer": 0, "older": 0, "path": "a"}
+        yield from differs(board, {"board": {"copies": [copy], "family": 2, "newest": [2], "split": False}})
+        (room / "usb" / "b").unlink()
+        daemon.tick()
+        yield from differs(until([("a", 2)], lambda: paths_on(daemon, "usb")), [("a", 2)])
+        yield from differs(paths_on(daemon, "gone"), [])
+
+
+def reported_by_hand(program, room):
+    """A copy that was reported by hand isn't registered a second time, and a change that was reported isn't either."""
+    (room / "plan").write_text("one")
+    with Daemon(program, f"usb={room}") as daemon:
+        until([("plan", 1)], lambda: paths_on(daemon, "usb"))
+        (room / "plan").write_text("two")
+        (room / "more").write_text("more")
+        daemon.ask("usb", "edit", copy=1)
+        daemon.ask("usb", "register", device="usb", path="more")
+        daemon.tick()
+        (room / "last").write_text("last")
+        daemon.tick()
+        wanted = [("plan", 2), ("more", 3), ("last", 4)]
+        yield from differs(until(wanted, lambda: paths_on(daemon, "usb")), wanted)
+
+
+def gone_in_a_line(program, _):
+    """A client that goes away in the middle of a line, or before its answers, leaves its whole lines; others go on."""
+    with Daemon(program) as daemon:
+        with daemon.client() as other:
+            other.ask("other", "register", device="other", path="a")
+            for number in range(3):
+                with daemon.client() as client:
+                    client.send(line_of("gone", "register", device="gone", path=str(number)) + b'{"by":"gone","do":"re')
+                yield from differs(until(number + 1, lambda: len(paths_on(daemon, "gone"))), number + 1)
+                yield from differs(other.ask("other", "edit", copy=1), {"done": 2 * number + 3})
+        yield from differs(daemon.run.poll(), None)
+
+
+def reset_by_clients(program, _):
+    """Clients that reset their connections while answers are on their way end their own sessions alone."""
+    with Daemon(program, "--sessions", "41") as daemon:
+        for _ in range(40):
+            client = daemon.client()
+            client.socket.setsockopt(socket.SOL_SOCKET, socket.SO_LINGER, struct.pack("ii", 1, 0))
+            client.send(line_of("x", "families") * 500)
+            client.close()
+        yield from differs(daemon.ask("x", "families"), {"families": []})
+        daemon.end_input()
+        yield from differs(daemon.ended(), GOOD_END)
+
+
+def never_reads(program, _):
+    """A client that never reads holds up no other."""
+    with Daemon(program) as daemon, daemon.client() as deaf:
+        deaf.socket.settimeout(1)
+        sent = 0
+        try:
+            while sent < 200_000_000:
+                sent += deaf.socket.send(line_of("deaf", "families") * 1000)
+            yield "what it sent was taken, though it read no answer"
+        except socket.timeout:
+            pass
+        with daemon.client() as other:
+            yield from differs(other.ask("other", "register", device="other", path="a"), {"done": 1})
+            yield from differs(other.ask("other", "edit", copy=1), {"done": 2})
+
+
+def requests(program, _):
+    """A request of a web page is closed: it gets no byte and makes no call, also where its body holds lines."""
+    with Daemon(program) as daemon:
+        for request in REQUESTS:
+            with daemon.client() as page:
+                page.send(request + REPORT)
+                yield from differs(page.rest(), b"")
+        with daemon.client() as page:
+            for byte in b"POST ":
+                page.send(bytes([byte]))
+                time.sleep(WAIT)
+            yield from differs(page.rest(), b"")
+        yield from differs(daemon.ask("x", "journal", **{"from": 1}), {"entries": []})
+
+
+def faulty_lines(program, _):
+    """Lines that begin with capitals and no blank, with a blank, or with a newline are faulty lines, and answered."""
+    with Daemon(program) as daemon:
+        for first in (b"GET\n", b" GET / HTTP/1.1\r\n", b"\n", b"POST\t/\n", b"get / HTTP/1.1\r\n"):
+            with daemon.client() as client:
+                client.send(first + REPORT)
+                client.end_input()
+                yield from differs(client.answer(), {"fault": "NotJson"})
+                yield from differs(set(client.answer()) <= {"done", "code", "copy", "refused"}, True)
+                yield from differs(client.rest(), b"")
+        with daemon.client() as client:
+            client.send(b"GET")
+            client.end_input()
+            yield from differs(client.rest(), b'{"fault":"NotJson"}\n')
+
+
+def ports(program, _):
+    """A port that is in use is reported; the daemon listens on 127.0.0.1 alone, and the next one may have its port."""
+    with Daemon(program, "--sessions", "2") as daemon:
+        port = str(daemon.port)
+        yield from differs(ended(program, "serve", "--port", port), (1, b"", f"panad: cannot listen on port {port}\n".encode()))
+        try:
+            socket.create_connection(("127.0.0.2", daemon.port), timeout=1).close()
+            yield "it listens on 127.0.0.2"
+        except OSError:
+            pass
+        for _ in range(2):
+            daemon.ask("x", "families")
+        daemon.end_input()
+        yield from differs(daemon.ended(), GOOD_END)
+    with Daemon(program, port=daemon.port) as again:
+        yield from differs(again.ask("x", "families"), {"families": []})
+
+
+def bad_roots(program, room):
+    """The first bad root is reported, before the port is tried; eight roots are fine, and a folder with `=` in its name."""
+    most = [f"d{it}={room}" for it in range(8)]
+    cases = [(["x"], "x"), (["="], "="), (["=d"], "=d"), (["A=d"], "A=d"), (["a="], "a="), (["a/b=d"], "a/b=d")]
+    cases += [(["a=/", "b=/", "a=/x", "x"], "a=/x"), (["a=/", "", "x"], ""), ([*most, "e=/", "x"], "e=/")]
+    cases += [([*most[:7], "d0=x", "x"], "d0=x"), (["a" * 33 + "=/"], "a" * 33 + "=/")]
+    with Daemon(program, *most, "--sessions", "0") as daemon:
+        port = str(daemon.port)
+        for words, bad in cases:
+            yield from differs(ended(program, "serve", "--port", port, *words), (1, b"", f"panad: bad root {bad}\n".encode()))
+        daemon.end_input()
+        yield from differs(daemon.ended(), GOOD_END)
+    with Daemon(program, "a=/missing=b", "--sessions", "0") as daemon:
+        daemon.end_input()
+        yield from differs(daemon.ended(), GOOD_END)
+
+
+def ends(program, _):
+    """It ends with status 0 after its sessions and the end of standard input, whichever comes first, and not before."""
+    with Daemon(program, "--sessions", "2") as daemon:
+        daemon.end_input()
+        first, second = daemon.client(), daemon.client()
+        yield from differs(first.ask("x", "families"), {"families": []})
+        first.close()
+        time.sleep(5 * WAIT)
+        yield from differs(daemon.run.poll(), None)
+        yield from differs(second.ask("x", "families"), {"families": []})
+        second.close()
+        yield from differs(daemon.ended(), GOOD_END)
+    with Daemon(program, "--sessions", "1") as daemon:
+        daemon.ask("x", "families")
+        time.sleep(5 * WAIT)
+        yield from differs(daemon.run.poll(), None)
+        daemon.end_input()
+        yield from differs(daemon.ended(), GOOD_END)
+    with Daemon(program) as daemon:
+        daemon.end_input()
+        time.sleep(5 * WAIT)
+        for _ in range(SESSIONS + 2):
+            yield from differs(daemon.ask("x", "families"), {"families": []})
+        yield from differs(daemon.run.poll(), None)
+
+
+def last_newlines(program, room):
+    """Newlines that came before the end of standard input are scans, also where it ends at once."""
+    (room / "a").write_text("abc")
+    with Daemon(program, f"usb={room}", "--sessions", "1") as daemon, daemon.client() as client:
+        daemon.run.stdin.write(b"\n" * 10)
+        daemon.end_input()
+        held = lambda: [it["path"] for it in client.ask("x", "holdings", device="usb")["holdings"]]
+        yield from differs(until(["a"], held), ["a"])
+        client.close()
+        yield from differs(daemon.ended(), GOOD_END)
+
+
+def one_more(program, _):
+    """Of 17 clients 16 are served, and the last one as soon as one of them is gone."""
+    with Daemon(program) as daemon:
+        served = [daemon.client() for _ in range(SESSIONS)]
+        for it in served:
+            it.ask("x", "families")
+        with daemon.client() as waiting:
+            waiting.send(line_of("x", "families"))
+            waiting.socket.settimeout(0.2)
+            try:
+                yield f"it was served: {waiting.socket.recv(100)!r}"
+            except socket.timeout:
+                waiting.socket.settimeout(SECONDS)
+            served.pop().close()
+            yield from differs(waiting.socket.recv(100), b'{"families":[]}\n')
+        for it in served:
+            it.close()
+
+
+def writes(program, _):
+    """Where the line about the port can't be printed, that is the fault."""
+    words = [program, "serve", "--port", "0", "--sessions", "0"]
+    with open("/dev/full", "wb") as full:
+        done = subprocess.run(words, stdin=subprocess.DEVNULL, stdout=full, stderr=subprocess.PIPE, timeout=SECONDS)
+    yield from differs((done.returncode, done.stderr), (1, b"panad: write failed\n"))
+    # A closed pipe: no signal ends it.
+    with subprocess.Popen(["true"], stdin=subprocess.PIPE) as reader:
+        reader.wait()
+        done = subprocess.run(words, stdin=subprocess.DEVNULL, stdout=reader.stdin, stderr=subprocess.PIPE, timeout=SECONDS)
+        yield from differs((done.returncode, done.stderr), (1, b"panad: write failed\n"))
+
+
+def idle(program, room):
+    """A daemon with nothing to do uses no processor time."""
+    with Daemon(program, f"usb={room}") as daemon, daemon.client() as client:
+        client.ask("x", "families")
+        until([], lambda: client.ask("x", "holdings", device="usb")["holdings"])
+        time.sleep(0.2)
+        before = times_of(daemon.run.pid)
+        time.sleep(1)
+        yield from differs(times_of(daemon.run.pid), before)
+
+
+def times_of(process):
+    """The ticks of processor time that a process has used."""
+    fields = Path(f"/proc/{process}/stat").read_text().rpartition(")")[2].split()
+    return int(fields[11]) + int(fields[12])
+
+
+CHECKS = (roots, reported_by_hand, gone_in_a_line, reset_by_clients, never_reads, requests, faulty_lines, ports)
+CHECKS += (bad_roots, ends, last_newlines, one_more, writes, idle)
+
+
+def main(words):
+    if len(words) != 1:
+        print(__doc__, file=sys.stderr)
+        return 2
+    program, passed, failed = str(Path(words[0]).resolve()), 0, 0
+    for check in CHECKS:
+        room = Path(tempfile.mkdtemp())
+        try:
+            faults = list(check(program, room))
+        except (OSError, subprocess.SubprocessError, ValueError, KeyError, Broken) as error:
+            faults = [f"{type(error).__name__}: {error}"]
+        finally:
+            shutil.rmtree(room, ignore_errors=True)
+        passed, failed = passed + (not faults), failed + bool(faults)
+        if faults:
+            print(f"FAILED: {check.__doc__}", *faults, sep="\n  ")
+    print(f"{passed} passed, {failed} failed")
+    return int(failed != 0)
+
+
+if __name__ == "__main__":
+    sys.exit(main(sys.argv[1:]))
