@@ -2,11 +2,12 @@
 ghost use Rattle.std.specs.Prelude.{◌≡◌, ◌≤◌, IfOk, length, map};
 ghost use Rattle.pana_host.specs.Listen.{AreOf};
 
+use crate::alarm::Alarm;
 use crate::root::Root;
 use crate::root_folder::RootFolder;
 use crate::ticks::Ticks;
-use pana_host::{DeskSession, OpenGate, Scanner, listen, scan_all};
-use pana_turn::{Desk, Pass};
+use pana_host::{DeskSession, Scanner, listen, scan_all};
+use pana_turn::{Desk, DeskHall, Pass};
 use std::alloc::AllocError;
 use std::marker::Sync;
 use std::net::{SocketAddr, TcpListener};
@@ -18,7 +19,7 @@ use std::thread::Threads;
 const SESSIONS: u32 = 16;
 
 /// A scanner of a root.
-type RootScanner<'a, T> = Scanner<'a, T, OpenGate, RootFolder<'a, T>>;
+type RootScanner<'a, T> = Scanner<'a, T, Alarm<'a>, RootFolder<'a, T>>;
 
 /// Why the daemon ended early.
 #[derive(Clone, Copy, Debug, PartialEq, Eq)]
@@ -27,6 +28,8 @@ pub enum DaemonFault {
     OutOfMemory,
     /// Where it listens can't be printed.
     Write,
+    /// The file that keeps the journal has failed, and a call had no answer.
+    Unanswered,
 }
 
 impl From<AllocError> for DaemonFault {
@@ -40,6 +43,7 @@ fn scanners<'a, T>(
     rt: &'a HostRuntime,
     threads: &'a T,
     desk: &'a Desk,
+    gate: &'a Alarm<'a>,
     ticks: &'a Ticks,
     roots: &'a [Root<'a>],
     passes: &mut Vec<Pass>,
@@ -56,7 +60,7 @@ fn scanners<'a, T>(
             unreachable!()
         };
         scanners.push_reserved(Scanner {
-            session: DeskSession::new(threads, desk, &OpenGate, 0, pass),
+            session: DeskSession::new(threads, desk, gate, 0, pass),
             device: &root.device,
             folder: RootFolder::new(rt, threads, root, ticks),
         });
@@ -79,13 +83,14 @@ fn scan_by_newlines<T: Threads + Wait + Sync>(
     );
 }
 
-/// Prints where it listens, and then serves the listener's connections, 16 at a time, and scans the roots: each by a
+/// Prints where it listens, and then serves the listener's connections at a desk with this hall, 16 at a time, and scans the roots: each by a
 /// thread of its own, once at the start and once for each newline on standard input. It ends once as many connections
 /// were taken as are wanted and standard input has ended; where no number is given, never.
 ///
 /// # Errors
 ///
-/// `OutOfMemory`, before a connection is taken; `Write`.
+/// `OutOfMemory`, before a connection is taken; `Write`; `Unanswered` at the end, where the hall's file has failed. That
+/// is printed once it has.
 pub fn serve<'a, T: Threads + Wait + Sync>(
     rt: &'a HostRuntime,
     threads: &'a T,
@@ -93,22 +98,24 @@ pub fn serve<'a, T: Threads + Wait + Sync>(
     address: &SocketAddr,
     wanted: Option<u64>,
     roots: &'a [Root<'a>],
+    hall: DeskHall,
 ) -> Result<(), DaemonFault>
     requires few { length roots.now ≤ 8 }
 {
     let alloc = rt.alloc();
-    let (desk, mut passes) = Desk::open(alloc, SESSIONS + roots.len() as u32)?;
-    let (desk, ticks) = (&desk, &Ticks::new());
-    let mut scanners = scanners(rt, threads, desk, ticks, roots, &mut passes)?;
+    let (desk, mut passes) = Desk::open_with(alloc, SESSIONS + roots.len() as u32, hall)?;
+    let (desk, ticks, gate) = (&desk, &Ticks::new(), &Alarm::new(rt));
+    let mut scanners = scanners(rt, threads, desk, gate, ticks, roots, &mut passes)?;
     println!(rt; "listening {address}").map_err(|_| DaemonFault::Write)?;
     let (listened, ()) = thread::join(
         threads,
         move ||
             requires { (length passes.items ≤ 64) × AreOf desk.now.id passes.items }
-        { listen(threads, alloc, desk, listener, passes, wanted, &OpenGate) },
+        { listen(threads, alloc, desk, listener, passes, wanted, gate) },
         || scan_by_newlines(rt, threads, ticks, scanners.as_mut_slice()),
     );
     match listened {
+        Ok(_) if gate.has_rung() => Err(DaemonFault::Unanswered),
         Ok(_) => Ok(()),
         Err(_) => Err(DaemonFault::OutOfMemory),
     }

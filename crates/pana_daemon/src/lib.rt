@@ -1,6 +1,7 @@
 //! The daemon: sessions over TCP and scanners of folders, at one desk.
 #![tactic(auto)]
 
+mod alarm;
 mod daemon;
 mod root;
 mod root_folder;

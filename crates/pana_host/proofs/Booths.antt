@@ -4,7 +4,7 @@ use Rattle.pana_host.specs.declared.lane.Lane.{Lane}
 use Rattle.pana_host.specs.declared.lane.LaneEnd.{LaneEnd}
 use Rattle.pana_host.specs.declared.hosting.Booth.{Booth}
 use Rattle.std.specs.Prelude.{unwrap_or}
-use Rattle.atomic_table.specs.Seated.{TableId}
+use Rattle.pana_turn.specs.Passes.{DeskId}
 use Rattle.pana_host.specs.Lane.{AreReady, AreServed, IsServed}
 use Rattle.pana_host.specs.inner.Booth.{put_end, ends_of, waiting, Waits, BringsTo}
 
@@ -34,7 +34,7 @@ put_room ends new booth before rest room more was step put same =
     omega (arith, was, ap length step, ap length put, length-append ends (put_end booth.end []), put_length booth.end, same)
 
 -- where a lane is ready, it waits in its booth
-pub waits_at : {R W : Type 0} → (desk : TableId) (lanes : List (Lane R W)) → AreReady desk lanes → (i : ℕ) (b d : Booth R W) → i < length (map waiting lanes) → b ≡ slice_index_or (map waiting lanes) i d → Waits desk b
+pub waits_at : {R W : Type 0} → (desk : DeskId) (lanes : List (Lane R W)) → AreReady desk lanes → (i : ℕ) (b d : Booth R W) → i < length (map waiting lanes) → b ≡ slice_index_or (map waiting lanes) i d → Waits desk b
 waits_at desk [] ready i b d within is = absurd (omega (arith, within))
 waits_at desk (lane ∷ lanes) ready zero b d within is = (lane, ap (λ (x : Booth _ _). x.lane) is, ready.0)
 waits_at desk (lane ∷ lanes) ready (suc i) b d within is = waits_at desk lanes ready.1 i b d (omega (arith, within)) is

@@ -13,7 +13,7 @@ use Rattle.pana_turn.specs.Passes.{PassView}
 use Rattle.pana_host.specs.Lane.{IsServed}
 use Rattle.pana_host.specs.Listen.{HaveGrown}
 use Rattle.pana_host.specs.declared.lane.Lane.{Lane}
-use Rattle.pana_host.specs.Session.{MakesCall, MakesNone, GrowsTo}
+use Rattle.pana_host.specs.Session.{MakesCall, GetsNone, GrowsTo}
 
 pub grows_same : (old new : PassView) → new ≡ old → GrowsTo old new
 grows_same old new is = subst (GrowsTo old) (sym is) (record { same = (refl, refl); seen = ([], append-nil old.seen) })
@@ -27,8 +27,9 @@ grows_on old mid new a b = record {
 call_grows : (old new : PassView) (by : List ℕ) (call : _) (reply : _) → MakesCall old by call reply new → GrowsTo old new
 call_grows old new by call reply m = record { same = m.same; seen = (m.adds.between ++ _ ∷ [], sym (append_assoc old.seen m.adds.between _) ∙ sym m.adds.seen) }
 
-none_grows : (old new : PassView) → MakesNone old new → GrowsTo old new
-none_grows old new m = record { same = m.same; seen = m.seen }
+none_grows : (old new : PassView) → GetsNone old new → GrowsTo old new
+none_grows old new (inl m) = record { same = m.same; seen = m.seen }
+none_grows old new (inr m) = call_grows old new m.by m.call m.reply (record { same = m.same; run = m.run; adds = m.adds })
 
 said_grows : (old new : PassView) (said : Result Message WireFault) (text : List ℕ) (steps : ℕ) → AnswersSaid MakesCall old said text new steps → GrowsTo old new
 said_grows old new (Err fault) text steps a = grows_same old new a.1
@@ -42,19 +43,19 @@ lines_grow : (old new : PassView) (lines : List (List ℕ)) (output : List ℕ) 
 lines_grow old new [] output steps a = grows_same old new a.1
 lines_grow old new (line ∷ lines) output steps (mid, text, rest, first, others, one, more, is, sum) = grows_on old mid new (line_grows old mid line text first one) (lines_grow mid new lines rest others more)
 
-break_grows : (fault : ServeFault) (old new : PassView) (line output : List ℕ) → BreaksAt MakesCall MakesNone fault old line output new → GrowsTo old new
+break_grows : (fault : ServeFault) (old new : PassView) (line output : List ℕ) → BreaksAt MakesCall GetsNone fault old line output new → GrowsTo old new
 break_grows Read old new line output b = absurd b
 break_grows Write old new line output (text, rest, steps, a, is) = line_grows old new line text steps a
 break_grows OutOfMemory old new line output (m, reply, says, made, none) = call_grows old new m.by m.call reply made
 break_grows Spent old new line output (m, says, none, nothing) = none_grows old new none
 break_grows Turns old new line output b = absurd b
 
-breaks_grow : (fault : ServeFault) (old new : PassView) (lines : List (List ℕ)) (output : List ℕ) → BreaksIn MakesCall MakesNone fault old lines output new → GrowsTo old new
+breaks_grow : (fault : ServeFault) (old new : PassView) (lines : List (List ℕ)) (output : List ℕ) → BreaksIn MakesCall GetsNone fault old lines output new → GrowsTo old new
 breaks_grow fault old new [] output b = absurd b
 breaks_grow fault old new (line ∷ lines) output (inl b) = break_grows fault old new line output b
 breaks_grow fault old new (line ∷ lines) output (inr (mid, text, rest, steps, one, more, is)) = grows_on old mid new (line_grows old mid line text steps one) (breaks_grow fault mid new lines rest more)
 
-ends_grow : (fault : ServeFault) (met : Bool) (old new : PassView) (input output : List ℕ) → EndsBy MakesCall MakesNone fault met old input output new → GrowsTo old new
+ends_grow : (fault : ServeFault) (met : Bool) (old new : PassView) (input output : List ℕ) → EndsBy MakesCall GetsNone fault met old input output new → GrowsTo old new
 ends_grow Read met old new input output (steps, a) = lines_grow old new _ output steps a
 ends_grow Write met old new input output b = breaks_grow Write old new (lines_come met input) output b
 ends_grow OutOfMemory met old new input output b = breaks_grow OutOfMemory old new (lines_come met input) output b
@@ -66,7 +67,7 @@ module _ {R W : Type 0} (remaining : R → Option (List ℕ)) (contents : W → 
   pub served_grows : (served : Served) → Serves remaining contents MakesCall r r' w w' old new served → GrowsTo old new
   served_grows served s = lines_grow old new (lines_of s.input) s.output served.calls s.text
 
-  pub stopped_grows : (most : ℕ) (fault : ServeFault) → NeverBegins r r' w w' old new fault ⊎ Stops remaining contents MakesCall MakesNone most r r' w w' old new fault → GrowsTo old new
+  pub stopped_grows : (most : ℕ) (fault : ServeFault) → NeverBegins r r' w w' old new fault ⊎ Stops remaining contents MakesCall GetsNone most r r' w w' old new fault → GrowsTo old new
   stopped_grows most fault (inl n) = grows_same old new n.session
   stopped_grows most fault (inr s) = ends_grow fault _ old new s.input s.output s.ends
 
@@ -74,20 +75,20 @@ module _ {R W : Type 0} (remaining : R → Option (List ℕ)) (contents : W → 
 pub is_served : {R W : Type 0} → (remaining : R → Option (List ℕ)) (contents : W → Option (List ℕ)) (lane : Lane R W) (old new pass : PassView) (r : Tap R) (w : Tap W) (result : Result Served ServeFault)
     → old ≡ lane.pass → pass ≡ new
     → IfOk result (Serves remaining contents MakesCall lane.reader r lane.writer w old new)
-    → IfErr result (λ fault. NeverBegins lane.reader r lane.writer w old new fault ⊎ Stops remaining contents MakesCall MakesNone (2 ^ 40) lane.reader r lane.writer w old new fault)
+    → IfErr result (λ fault. NeverBegins lane.reader r lane.writer w old new fault ⊎ Stops remaining contents MakesCall GetsNone (2 ^ 40) lane.reader r lane.writer w old new fault)
     → IsServed remaining contents lane (record { pass = pass; reader = r; writer = w; result = result })
 is_served {R = R} {W = W} remaining contents lane old new pass r w (Ok served) begins is ok err =
     let text : Serves remaining contents MakesCall lane.reader r lane.writer w lane.pass pass served = subst (λ (p : PassView). Serves remaining contents MakesCall lane.reader r lane.writer w lane.pass p served) (sym is) (subst (λ (p : PassView). Serves remaining contents MakesCall lane.reader r lane.writer w p new served) begins ok) in
     record { pass = served_grows remaining contents lane.reader r lane.writer w lane.pass pass served text; text = text }
 is_served {R = R} {W = W} remaining contents lane old new pass r w (Err fault) begins is ok err =
-    let ends : PassView → PassView → Type 0 = λ p q. NeverBegins lane.reader r lane.writer w p q fault ⊎ Stops remaining contents MakesCall MakesNone (2 ^ 40) lane.reader r lane.writer w p q fault in
+    let ends : PassView → PassView → Type 0 = λ p q. NeverBegins lane.reader r lane.writer w p q fault ⊎ Stops remaining contents MakesCall GetsNone (2 ^ 40) lane.reader r lane.writer w p q fault in
     let text : ends lane.pass pass = subst (ends lane.pass) (sym is) (subst (λ (p : PassView). ends p new) begins err) in
     record { pass = stopped_grows remaining contents lane.reader r lane.writer w lane.pass pass (2 ^ 40) fault text; text = text }
 
 -- however serving ends, it leaves the same pass, which has seen what it had seen
 pub any_grows : {R W : Type 0} → (remaining : R → Option (List ℕ)) (contents : W → Option (List ℕ)) (r r' : Tap R) (w w' : Tap W) (old new : PassView) (most : ℕ) (result : Result Served ServeFault)
     → IfOk result (Serves remaining contents MakesCall r r' w w' old new)
-    → IfErr result (λ fault. NeverBegins r r' w w' old new fault ⊎ Stops remaining contents MakesCall MakesNone most r r' w w' old new fault)
+    → IfErr result (λ fault. NeverBegins r r' w w' old new fault ⊎ Stops remaining contents MakesCall GetsNone most r r' w w' old new fault)
     → GrowsTo old new
 any_grows remaining contents r r' w w' old new most (Ok served) ok err = served_grows remaining contents r r' w w' old new served ok
 any_grows remaining contents r r' w w' old new most (Err fault) ok err = stopped_grows remaining contents r r' w w' old new most fault err

@@ -1,16 +1,16 @@
 -- Lanes before and after their sessions.
 use Rattle.std.specs.Prelude.{◌≡◌, ◌^◌, ◌⊎◌, ℕ, List, [], ◌∷◌, false, Option, Result, Ok, Err}
-use Rattle.atomic_table.specs.Seated.{TableId}
 use Rattle.pana_wire.specs.Tap.{has_failed}
 use Rattle.pana_wire.specs.Session.{Serves, Stops, NeverBegins}
 use Rattle.pana_wire.specs.declared.serving.Served.{Served}
 use Rattle.pana_wire.specs.declared.serving.ServeFault.{ServeFault}
-use Rattle.pana_host.specs.Session.{MakesCall, MakesNone, GrowsTo}
+use Rattle.pana_turn.specs.Passes.{DeskId}
+use Rattle.pana_host.specs.Session.{MakesCall, GetsNone, GrowsTo}
 use Rattle.pana_host.specs.declared.lane.Lane.{Lane}
 use Rattle.pana_host.specs.declared.lane.LaneEnd.{LaneEnd}
 
 -- the lane's pass is one of the desk, and neither of its taps has failed
-pub record IsReady {R W : Type 0} (desk : TableId) (lane : Lane R W) : Type 0 where
+pub record IsReady {R W : Type 0} (desk : DeskId) (lane : Lane R W) : Type 0 where
   pub pass : lane.pass.desk ≡ desk
   pub reader : has_failed lane.reader ≡ false
   pub writer : has_failed lane.writer ≡ false
@@ -19,7 +19,7 @@ pub record IsReady {R W : Type 0} (desk : TableId) (lane : Lane R W) : Type 0 wh
 abbrev pub EndsWith : {R W : Type 0} → (R → Option (List ℕ)) → (W → Option (List ℕ)) → Lane R W → LaneEnd R W → Result Served ServeFault → Type 0
 EndsWith remaining contents lane end (Ok served) = Serves remaining contents MakesCall lane.reader end.reader lane.writer end.writer lane.pass end.pass served
 EndsWith remaining contents lane end (Err fault) = NeverBegins lane.reader end.reader lane.writer end.writer lane.pass end.pass fault
-    ⊎ Stops remaining contents MakesCall MakesNone (2 ^ 40) lane.reader end.reader lane.writer end.writer lane.pass end.pass fault
+    ⊎ Stops remaining contents MakesCall GetsNone (2 ^ 40) lane.reader end.reader lane.writer end.writer lane.pass end.pass fault
 
 -- the lane's session was served, and this is its end
 pub record IsServed {R W : Type 0} (remaining : R → Option (List ℕ)) (contents : W → Option (List ℕ)) (lane : Lane R W) (end : LaneEnd R W) : Type 0 where
@@ -27,7 +27,7 @@ pub record IsServed {R W : Type 0} (remaining : R → Option (List ℕ)) (conten
   pub text : EndsWith remaining contents lane end end.result
 
 -- each lane is ready
-abbrev pub AreReady : {R W : Type 0} → TableId → List (Lane R W) → Type 0
+abbrev pub AreReady : {R W : Type 0} → DeskId → List (Lane R W) → Type 0
 AreReady desk [] = Unit {0}
 AreReady desk (lane ∷ lanes) = IsReady desk lane × AreReady desk lanes
 

@@ -1,11 +1,10 @@
 -- Passes before and after their connections were served.
 use Rattle.std.specs.Prelude.{◌≡◌, List, [], ◌∷◌}
-use Rattle.atomic_table.specs.Seated.{TableId}
-use Rattle.pana_turn.specs.Passes.{PassView}
+use Rattle.pana_turn.specs.Passes.{DeskId, PassView}
 use Rattle.pana_host.specs.Session.{GrowsTo}
 
 -- the passes are of the desk
-abbrev pub AreOf : TableId → List PassView → Type 0
+abbrev pub AreOf : DeskId → List PassView → Type 0
 AreOf desk [] = Unit {0}
 AreOf desk (pass ∷ passes) = (pass.desk ≡ desk) × AreOf desk passes
 

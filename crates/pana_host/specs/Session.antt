@@ -1,5 +1,5 @@
 -- What a session at a desk does to its pass.
-use Rattle.std.specs.Prelude.{◌≡◌, ◌^◌, ◌≤◌, ℕ, List, length}
+use Rattle.std.specs.Prelude.{◌≡◌, ◌⊎◌, ◌^◌, ◌≤◌, ℕ, IsTrue, List, length}
 use mathlib.Core.List.{IsPrefix}
 use Rattle.pana_hall.specs.declared.call.Call.{Call}
 use Rattle.pana_hall.specs.declared.reply.Reply.{Reply}
@@ -10,16 +10,30 @@ use Rattle.pana_turn.specs.Passes.{PassView, AddsCall, IsSamePass, own_calls}
 -- seen and this call there are only calls of other passes
 pub record MakesCall (old : PassView) (by : List ℕ) (call : Call) (reply : Reply) (new : PassView) : Type 0 where
   pub same : IsSamePass old new
-  pub run : IsHistory new.seen
+  pub run : IsHistory new.desk.begun new.seen
   pub adds : AddsCall old new by call reply
 
 -- the pass made no call, since 2^62 or more are finished: it may have seen more calls, of other passes
 pub record MakesNone (old new : PassView) : Type 0 where
   pub same : IsSamePass old new
-  pub run : IsHistory new.seen
+  pub run : IsHistory new.desk.begun new.seen
   pub seen : IsPrefix old.seen new.seen
   pub own : own_calls new ≡ own_calls old
   pub spent : 2 ^ 62 ≤ length new.seen
+
+-- a file keeps the hall, and has failed: the pass made a call that isn't answered, whatever became of it
+pub record MakesUnanswered (old new : PassView) : Type 0 where
+  pub same : IsSamePass old new
+  pub run : IsHistory new.desk.begun new.seen
+  pub keeps : IsTrue new.desk.begun.keeps
+  pub by : List ℕ
+  pub call : Call
+  pub reply : Reply
+  pub adds : AddsCall old new by call reply
+
+-- the session gets no answer
+abbrev pub GetsNone : PassView → PassView → Type 0
+GetsNone old new = MakesNone old new ⊎ MakesUnanswered old new
 
 -- the pass before and after a session: the same, and it has seen what it had seen, and maybe more
 pub record GrowsTo (old new : PassView) : Type 0 where

@@ -1,11 +1,11 @@
 //! A session whose calls are made at a desk.
 ghost use Rattle.std.specs.Prelude.{◌≡◌, IfOk, OnErr};
-ghost use Rattle.pana_host.specs.Session.{MakesCall, MakesNone};
+ghost use Rattle.pana_host.specs.Session.{GetsNone, MakesCall};
 
 use crate::gate::Gate;
 use pana_copies::DeviceName;
 use pana_hall::{Call, Reply, Spent};
-use pana_turn::{Desk, Pass};
+use pana_turn::{CallFault, Desk, Pass};
 use pana_wire::Session;
 use std::marker::Model;
 use std::sync::Wait;
@@ -71,21 +71,29 @@ impl<'a, T, G> DeskSession<'a, T, G> {
 }
 
 impl<T: Wait, G: Gate> Session for DeskSession<'_, T, G> {
-    ghost use Rattle.pana_host.specs.Session.{MakesCall, MakesNone};
+    ghost use Rattle.pana_host.specs.Session.{GetsNone, MakesCall};
 
     ghost step = { MakesCall };
 
-    ghost spends = { MakesNone };
+    ghost spends = { GetsNone };
 
     /// Makes the call at the desk, between the gate's questions.
     fn call(&mut self, by: &DeviceName, call: Call) -> Result<Reply, Spent>
         ensures step { IfOk result (λ reply. MakesCall self.old by.now call reply self.new) }
-        ensures spent { OnErr result (MakesNone self.old self.new) }
+        ensures spent { OnErr result (GetsNone self.old self.new) }
     {
         self.calls = self.calls.saturating_add(1);
         self.gate.before(self.lane, self.calls);
-        let reply = self.desk.call(self.rt, &mut self.pass, by, call)?;
-        self.gate.after(self.lane, self.calls);
-        Ok(reply)
+        match self.desk.call(self.rt, &mut self.pass, by, call) {
+            Ok(reply) => {
+                self.gate.after(self.lane, self.calls);
+                Ok(reply)
+            }
+            Err(CallFault::Spent) => Err(Spent),
+            Err(CallFault::Unanswered) => {
+                self.gate.unanswered(self.lane, self.calls);
+                Err(Spent)
+            }
+        }
     }
 }

@@ -9,6 +9,9 @@ pub trait Gate {
 
     /// After the reply to the caller's nth call.
     fn after(&self, lane: u32, nth: u64);
+
+    /// After the caller's nth call has no answer, since the file that keeps the hall has failed.
+    fn unanswered(&self, _lane: u32, _nth: u64) {}
 }
 
 /// A gate that lets all pass.

@@ -26,10 +26,10 @@ use Rattle.pana_keep.specs.Journal.{IsSettled, IsStaged}
 use Rattle.pana_keep.proofs.Recovered.{which}
 use Rattle.pana_keep.proofs.Settled.{staged_settles}
 use Rattle.pana_kept.specs.Entries.{Say, LoadsTo, LoadsFirst, IsLineOf}
-use Rattle.pana_kept.specs.Kept.{KeptView, IsKept, KeepsAll, IsFull, IsNotKept, NeedsOpen, Keeps, Breaks}
+use Rattle.pana_kept.specs.Kept.{KeptView, IsKept, KeepsAll, IsFull, Becomes, NeedsOpen, Keeps, Breaks}
 use Rattle.pana_kept.specs.inner.{cause_of, is_done}
 use Rattle.pana_kept.proofs.Said.{say_append, loads_same, loads_either, keeps_on, keeps_start, keeps_same}
-use Rattle.pana_kept.proofs.Runs.{after_grows, not_kept_same}
+use Rattle.pana_kept.proofs.Runs.{after_grows}
 
 -- the entry that a report of the device is next
 abbrev pub next : List Entry → List ℕ → Report → Entry
@@ -75,10 +75,10 @@ after_refused journal by report cause = refl
 
 -- a report whose line the device doesn't take
 pub answers_fault : (journal : List Entry) (by : List ℕ) (report : Report) (fault : DeviceFault) → refusal journal by (calls.Report report) ≡ None
-    → Steps journal by (calls.Report report) (replies.Refused (cause_of fault)) journal ⊎ IsNotKept journal by (calls.Report report) (replies.Refused (cause_of fault)) journal
+    → Becomes journal by (calls.Report report) (replies.Refused (cause_of fault)) journal
 answers_fault journal by report devices.OutOfMemory free = inl (permits_short journal by report free, after_refused journal by report causes.OutOfMemory)
-answers_fault journal by report devices.StorageFull free = inr (free, refl, refl)
-answers_fault journal by report devices.Failed free = inr (free, refl, refl)
+answers_fault journal by report devices.StorageFull free = inr ((free, refl), refl)
+answers_fault journal by report devices.Failed free = inr ((free, refl), refl)
 
 -- a fault that comes where there is room has come unless the file is full
 pub failed_or_full : {failed : Type 0} (end : ℕ) (text : List ℕ) → length text ≤ 1048577 → (HasRoom end text → failed) → failed ⊎ (2 ^ 60 < end)
@@ -143,7 +143,7 @@ module _ {D : Type 0} (is_known : Bool) (seen : D → List ℕ) (may_leave : D �
   -- the line is staged, and then the rest is done
   pub staged_keeps : (es new : List Entry) (a b c : Journal D) (by : List ℕ) (call : Call) (reply : Reply) → NeedsOpen (view es a) call → b.state ≡ a.state → b.end ≡ a.end → (IsTrue is_known → LoadsTo es (seen a.device)) → (IsTrue is_known → Same a b) → Step (view es b) by call reply (view new c) → Step (view es a) by call reply (view new c)
   staged_keeps es new a b c by call reply is_open state end loads run k =
-      let some : (some : List Entry) × (new ≡ es ++ some) = ⊎_elim (λ steps. let after = after_grows es by call reply in (after.0, steps.1 ∙ after.1)) (λ not. ([], not_kept_same es by call reply new not ∙ sym (append-nil es))) k.answers in
+      let some : (some : List Entry) × (new ≡ es ++ some) = ⊎_elim (λ steps. let after = after_grows es by call reply in (after.0, steps.1 ∙ after.1)) (λ not. ([], not.1 ∙ sym (append-nil es))) k.answers in
       record {
         answers = k.answers;
         cause = λ known is. ⊎_elim (λ failed. inl failed) (λ full. inr (subst (λ (n : ℕ). 2 ^ 60 < n) end full)) (k.cause known is);

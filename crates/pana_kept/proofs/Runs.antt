@@ -16,17 +16,13 @@ use Rattle.pana_wire.specs.Session.{AnswersSaid, AnswersLine, AnswersLines, Brea
 use Rattle.pana_wire.specs.Line.{line_says}
 use Rattle.pana_wire.specs.Lines.{ended, lines_of}
 use Rattle.pana_keep.specs.declared.journal_state.JournalState.TheVariants.{Open}
-use Rattle.pana_kept.specs.Kept.{KeptView, IsKept, KeepsAll, Keeps, Breaks, IsNotKept}
+use Rattle.pana_kept.specs.Kept.{KeptView, IsKept, KeepsAll, Keeps, Breaks}
 use Rattle.pana_kept.proofs.Said.{keeps_on, keeps_start}
 
 pub after_grows : (journal : List Entry) (by : List ℕ) (call : Call) (reply : Reply) → (some : List Entry) × (journal_after journal by call reply ≡ journal ++ some)
 unfolding journal_after
 after_grows journal by (calls.Report report) (replies.Done n) = (record { number = n; by = by; report = report } ∷ [], refl)
 after_grows journal by call reply = ([], sym (append-nil journal))
-
-pub not_kept_same : (old : List Entry) (by : List ℕ) (call : Call) (reply : Reply) (new : List Entry) → IsNotKept old by call reply new → new ≡ old
-not_kept_same old by (calls.Report report) reply new is = is.2
-not_kept_same old by (calls.Query query) reply new is = absurd is
 
 module _ {D : Type 0} (is_known : Bool) (seen : D → List ℕ) (may_leave : D → List ℕ → Type 0) (is_usable : D → Bool) (moment : D → ℕ) (left_since : D → ℕ → List ℕ → Type 0) (has_failed : D → Bool) (known : IsTrue is_known) where
   abbrev Step : KeptView D → List ℕ → Call → Reply → KeptView D → Type 0
@@ -53,7 +49,7 @@ module _ {D : Type 0} (is_known : Bool) (seen : D → List ℕ) (may_leave : D �
   grows : (old : KeptView D) (by : List ℕ) (call : Call) (reply : Reply) (new : KeptView D) → Step old by call reply new → (some : List Entry) × (new.entries ≡ old.entries ++ some)
   grows old by call reply new step =
       ⊎_elim (λ steps. let after = after_grows old.entries by call reply in (after.0, steps.1 ∙ after.1))
-      (λ not. ([], not_kept_same old.entries by call reply new.entries not ∙ sym (append-nil old.entries))) step.answers
+      (λ not. ([], not.1 ∙ sym (append-nil old.entries))) step.answers
 
   ran_step : (old mid new : KeptView D) (by : List ℕ) (call : Call) (reply : Reply) → Ran old mid → Step mid by call reply new → Ran old new
   ran_step old mid new by call reply ran step =

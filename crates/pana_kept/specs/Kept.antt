@@ -28,10 +28,14 @@ IsKept seen may_leave is_usable kept = kept.journal.state ≡ Open → IsSettled
 abbrev pub KeepsAll : {D : Type 0} → (D → ℕ) → (D → ℕ → List ℕ → Type 0) → KeptView D → KeptView D → Type 0
 KeepsAll moment left_since old new = LeavesOnly moment left_since old.journal.device new.journal.device (LoadsFirst (length old.entries) new.entries)
 
--- a report against which nothing else stands is refused, and nothing has changed
-abbrev pub IsNotKept : List Entry → List ℕ → Call → Reply → List Entry → Type 0
-IsNotKept old by (calls.Report report) reply new = (refusal old by (calls.Report report) ≡ None) × (reply ≡ Refused NotKept) × (new ≡ old)
-IsNotKept old by (calls.Query query) reply new = ⊥
+-- a report against which nothing else stands is refused as not kept
+abbrev pub IsNotKept : List Entry → List ℕ → Call → Reply → Type 0
+IsNotKept journal by (calls.Report report) reply = (refusal journal by (calls.Report report) ≡ None) × (reply ≡ Refused NotKept)
+IsNotKept journal by (calls.Query query) reply = ⊥
+
+-- what becomes of a call: the same as by a hall alone, or it is a report that isn't kept, and nothing has changed
+abbrev pub Becomes : List Entry → List ℕ → Call → Reply → List Entry → Type 0
+Becomes old by call reply new = Steps old by call reply new ⊎ (IsNotKept old by call reply × (new ≡ old))
 
 -- the file has no room for one more line: its lines are longer than 2^60 bytes
 abbrev pub IsFull : {D : Type 0} → Journal D → Type 0
@@ -46,7 +50,7 @@ NeedsOpen old (calls.Query query) = Unit {0}
 -- has failed, or the file was full.
 pub record Keeps {D : Type 0} (is_known : Bool) (seen : D → List ℕ) (may_leave : D → List ℕ → Type 0) (is_usable : D → Bool) (moment : D → ℕ) (left_since : D → ℕ → List ℕ → Type 0) (has_failed : D → Bool)
     (old : KeptView D) (by : List ℕ) (call : Call) (reply : Reply) (new : KeptView D) : Type 0 where
-  pub answers : Steps old.entries by call reply new.entries ⊎ IsNotKept old.entries by call reply new.entries
+  pub answers : Becomes old.entries by call reply new.entries
   pub cause : IsTrue is_known → reply ≡ Refused NotKept → IsTrue (has_failed new.journal.device) ⊎ IsFull old.journal
   pub is_open : NeedsOpen old call
   pub state : new.journal.state ≡ old.journal.state

@@ -1,15 +1,16 @@
 //! A report whose entry is kept: its line is staged, the hall changes, and the line is committed.
-ghost use Rattle.std.specs.Prelude.{◌≡◌, ◌+◌, IsTrue, length, None, IfOk, OnErr};
+ghost use Rattle.std.specs.Prelude.{◌≡◌, ◌+◌, IsTrue, length, None, IfErr, IfOk, OnErr};
 ghost use Rattle.pana_hall.specs.declared.call.Call.TheVariants as calls;
 ghost use Rattle.pana_hall.specs.Refusal.{refusal};
 ghost use Rattle.pana_keep.specs.Lines.{HasRoom};
 ghost use Rattle.pana_keep.specs.Journal.{IsStaged};
 ghost use Rattle.pana_kept.specs.Entries.{IsLineOf, LoadsTo};
-ghost use Rattle.pana_kept.specs.Kept.{IsKept, Keeps, Breaks};
+ghost use Rattle.pana_kept.specs.Kept.{IsKept, Becomes, Keeps, Breaks};
 ghost use Rattle.pana_kept.specs.inner.{cause_of, is_done};
 
+use crate::unanswered::Unanswered;
 use pana_copies::DeviceName;
-use pana_hall::{Call, Cause, Hall, Reply, Spent};
+use pana_hall::{Call, Cause, Hall, Reply};
 use pana_journal::Report;
 use pana_keep::{Device, DeviceFault, Journal, JournalState, KeepFault};
 
@@ -20,7 +21,7 @@ pub(crate) fn keep<D: Device>(
     by: &DeviceName,
     report: Report,
     line: &[u8],
-) -> Result<Reply, Spent>
+) -> Result<Reply, Unanswered>
     requires open { journal.old.state ≡ JournalState.Open }
     requires kept { IsTrue D.is_known → IsKept D.seen D.may_leave D.is_usable (record { entries = hall.old; journal = journal.old }) }
     requires free { refusal hall.old by.now (calls.Report report) ≡ None }
@@ -28,11 +29,14 @@ pub(crate) fn keep<D: Device>(
     ensures step { IfOk result (λ reply. Keeps D.is_known D.seen D.may_leave D.is_usable D.moment D.left_since D.has_failed
         (record { entries = hall.old; journal = journal.old }) by.now (calls.Report report) reply (record { entries = hall.new; journal = journal.new })) }
     ensures spent { OnErr result (Breaks D.is_known D.moment D.left_since D.has_failed (record { entries = hall.old; journal = journal.old }) (record { entries = hall.new; journal = journal.new })) }
+    ensures became { IfErr result (λ unanswered. Becomes hall.old by.now (calls.Report report) unanswered.reply hall.new) }
 {
     match journal.stage(line) {
         Ok(()) => finish(hall, journal, by, report, line),
         Err(KeepFault::Refused(fault)) => Ok(Reply::Refused(cause_of(fault))),
-        Err(KeepFault::Broken) => Err(Spent),
+        Err(KeepFault::Broken) => Err(Unanswered {
+            reply: Reply::Refused(Cause::NotKept),
+        }),
     }
 }
 
@@ -43,7 +47,7 @@ fn finish<D: Device>(
     by: &DeviceName,
     report: Report,
     line: &[u8],
-) -> Result<Reply, Spent>
+) -> Result<Reply, Unanswered>
     requires open { journal.old.state ≡ JournalState.Open }
     requires staged { IsTrue D.is_known → IsStaged D.seen D.may_leave D.is_usable line.now journal.old }
     requires loads { IsTrue D.is_known → LoadsTo hall.old (D.seen journal.old.device) }
@@ -52,6 +56,7 @@ fn finish<D: Device>(
     ensures step { IfOk result (λ reply. Keeps D.is_known D.seen D.may_leave D.is_usable D.moment D.left_since D.has_failed
         (record { entries = hall.old; journal = journal.old }) by.now (calls.Report report) reply (record { entries = hall.new; journal = journal.new })) }
     ensures spent { OnErr result (Breaks D.is_known D.moment D.left_since D.has_failed (record { entries = hall.old; journal = journal.old }) (record { entries = hall.new; journal = journal.new })) }
+    ensures became { IfErr result (λ unanswered. Becomes hall.old by.now (calls.Report report) unanswered.reply hall.new) }
 {
     let reply = hall.apply(by, Call::Report(report));
     if !is_done(&reply) {
@@ -59,7 +64,7 @@ fn finish<D: Device>(
     }
     match journal.commit(line) {
         Ok(()) => Ok(reply),
-        Err(_) => Err(Spent),
+        Err(_) => Err(Unanswered { reply }),
     }
 }
 

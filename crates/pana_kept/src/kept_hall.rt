@@ -1,9 +1,10 @@
-ghost use Rattle.std.specs.Prelude.{◌≡◌, ◌↔◌, IsTrue, IfOk, OnErr};
+ghost use Rattle.std.specs.Prelude.{◌≡◌, ◌↔◌, IsTrue, IfErr, IfOk, OnErr, length};
 ghost use Rattle.pana_hall.specs.declared.call.Call.TheVariants as calls;
-ghost use Rattle.pana_kept.specs.Kept.{IsKept, Keeps, Breaks};
+ghost use Rattle.pana_kept.specs.Kept.{IsKept, Becomes, Keeps, Breaks};
 
 use crate::entry_line::line_of;
 use crate::keeping::keep;
+use crate::unanswered::Unanswered;
 use pana_copies::DeviceName;
 use pana_hall::{Call, Cause, Hall, Reply, Spent};
 use pana_journal::Report;
@@ -54,12 +55,49 @@ impl<D: Device> KeptHall<D> {
         self.journal.state == JournalState::Open
     }
 
-    fn report(&mut self, by: &DeviceName, report: Report) -> Result<Reply, Spent>
+    /// How many entries the hall's journal has. Takes no memory.
+    pub fn length(&self) -> u64
+        ensures { result ≡ length self.now.entries }
+    {
+        self.hall.length()
+    }
+
+    /// Makes one call of a device, and returns its reply: a report that was done is in the file then.
+    ///
+    /// # Errors
+    ///
+    /// `Unanswered`, with what became of a report: the journal is broken.
+    pub fn make(&mut self, by: &DeviceName, call: Call) -> Result<Reply, Unanswered>
+        ensures step { IfOk result (λ reply. Keeps D.is_known D.seen D.may_leave D.is_usable D.moment D.left_since D.has_failed self.old by.now call reply self.new) }
+        ensures spent { OnErr result (Breaks D.is_known D.moment D.left_since D.has_failed self.old self.new) }
+        ensures became { IfErr result (λ unanswered. Becomes self.old.entries by.now call unanswered.reply self.new.entries) }
+    {
+        match call {
+            Call::Query(query) => Ok(self.hall.apply(by, Call::Query(query))),
+            Call::Report(report) => self.report(by, report),
+        }
+    }
+
+    /// What becomes of a report once the journal is broken: it is refused.
+    fn shut(&self, by: &DeviceName, report: &Report) -> Unanswered
+        ensures { Becomes self.now.entries by.now (calls.Report report.now) result.reply self.now.entries }
+    {
+        let cause = match self.hall.refusal(by, report) {
+            Some(cause) => cause,
+            None => Cause::NotKept,
+        };
+        Unanswered {
+            reply: Reply::Refused(cause),
+        }
+    }
+
+    fn report(&mut self, by: &DeviceName, report: Report) -> Result<Reply, Unanswered>
         ensures step { IfOk result (λ reply. Keeps D.is_known D.seen D.may_leave D.is_usable D.moment D.left_since D.has_failed self.old by.now (calls.Report report) reply self.new) }
         ensures spent { OnErr result (Breaks D.is_known D.moment D.left_since D.has_failed self.old self.new) }
+        ensures became { IfErr result (λ unanswered. Becomes self.old.entries by.now (calls.Report report) unanswered.reply self.new.entries) }
     {
         if self.journal.state != JournalState::Open {
-            return Err(Spent);
+            return Err(self.shut(by, &report));
         }
         if let Some(cause) = self.hall.refusal(by, &report) {
             return Ok(Reply::Refused(cause));
@@ -81,9 +119,9 @@ impl<D: Device> Session for KeptHall<D> {
     ghost spends = { λ old new. Breaks D.is_known D.moment D.left_since D.has_failed old new };
 
     fn call(&mut self, by: &DeviceName, call: Call) -> Result<Reply, Spent> {
-        match call {
-            Call::Query(query) => Ok(self.hall.apply(by, Call::Query(query))),
-            Call::Report(report) => self.report(by, report),
+        match self.make(by, call) {
+            Ok(reply) => Ok(reply),
+            Err(_) => Err(Spent),
         }
     }
 }

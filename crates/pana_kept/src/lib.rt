@@ -8,12 +8,14 @@ mod kept_hall;
 mod open_fault;
 mod opening;
 mod serving;
+mod unanswered;
 
 pub use crate::ending::before_end;
 pub use crate::kept_hall::KeptHall;
 pub use crate::open_fault::OpenFault;
 pub use crate::opening::{Opened, open, read};
 pub use crate::serving::serve_kept;
+pub use crate::unanswered::Unanswered;
 
 #[cfg(test)]
 mod tests;

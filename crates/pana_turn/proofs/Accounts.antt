@@ -25,15 +25,16 @@ all_joined P (x ∷ xs) ys first second = (first.0, all_joined P xs ys first.1 s
 module _ (seats : ℕ) (x : Course) (seat : ℕ) where
   -- a ticket more changes no account
   pub same_account : (tickets : ℕ) (holder : ℕ → ℕ) (a : Account) → IsAccountOf seats x seat a
-      → IsAccountOf seats (record { history = x.history; tickets = tickets; speaker = x.speaker; holder = holder }) seat a
-  same_account tickets holder a is = record { within = is.within; speaker = is.speaker; mine = is.mine; seen = is.seen }
+      → IsAccountOf seats (record { begun = x.begun; history = x.history; tickets = tickets; speaker = x.speaker; holder = holder }) seat a
+  same_account tickets holder a is = record { within = is.within; begun = is.begun; speaker = is.speaker; mine = is.mine; seen = is.seen }
 
   -- nor does another pass's call
   pub account_of_other : (c : FinishedCall) (a : Account) → c.pass ≢ a.number → IsAccountOf seats x seat a
-      → IsAccountOf seats (record { history = x.history ++ c ∷ []; tickets = x.tickets; speaker = x.speaker; holder = x.holder }) seat a
+      → IsAccountOf seats (record { begun = x.begun; history = x.history ++ c ∷ []; tickets = x.tickets; speaker = x.speaker; holder = x.holder }) seat a
   account_of_other c a not is =
       record {
         within = is.within;
+        begun = is.begun;
         speaker = is.speaker;
         mine = calls_of-other a.number x.history c not ∙ is.mine;
         seen = prefix_grows a.seen x.history (c ∷ []) is.seen;
@@ -41,6 +42,6 @@ module _ (seats : ℕ) (x : Course) (seat : ℕ) where
 
   -- nor does another seat that speaks for another pass
   pub account_beside : (number speaker : ℕ) (a : Account) → a.number ≢ number → IsAccountOf seats x seat a
-      → IsAccountOf seats (record { history = x.history; tickets = x.tickets; speaker = change_at x.speaker number speaker; holder = x.holder }) seat a
+      → IsAccountOf seats (record { begun = x.begun; history = x.history; tickets = x.tickets; speaker = change_at x.speaker number speaker; holder = x.holder }) seat a
   account_beside number speaker a not is =
-      record { within = is.within; speaker = change_else x.speaker number speaker a.number not ∙ is.speaker; mine = is.mine; seen = is.seen }
+      record { within = is.within; begun = is.begun; speaker = change_else x.speaker number speaker a.number not ∙ is.speaker; mine = is.mine; seen = is.seen }

@@ -1,6 +1,6 @@
 -- What was seen between two looks, where the pass made no call.
 use Rattle.std.specs.Prelude.{◌≡◌, ℕ, ◌==◌, List, [], ◌∷◌, ◌++◌, length}
-use Rattle.std.proofs.Common.{refl, sym, ap, ◌∙◌, append_assoc, length-append, arith}
+use Rattle.std.proofs.Common.{refl, sym, ap, ◌∙◌, append_assoc, length-append, arith, subst}
 use Rattle.std.proofs.lemmas.List.Elements.{filter-append}
 use mathlib.Core.List.{IsPrefix}
 use Rattle.pana_hall.specs.declared.call.Call.{Call}
@@ -41,3 +41,11 @@ adds_call old new by call reply number made before same between is seen =
       seen = seen ∙ ap (λ n. before ++ record { pass = n; by = by; call = made; reply = reply } ∷ []) same ∙ ap (λ c. before ++ record { pass = old.number; by = by; call = c; reply = reply } ∷ []) is
           ∙ ap (λ h. h ++ record { pass = old.number; by = by; call = call; reply = reply } ∷ []) (sym between.joined);
     }
+
+-- the same, by what the pass saw at its test and once it had the turn
+pub makes_call : (old new : PassView) (by : List ℕ) (call : Call) (reply : Reply) (number : ℕ) (seen first last : List FinishedCall) (made : Call) → number ≡ old.number → seen ≡ old.seen
+    → IsPrefix seen first → IsPrefix first last → calls_of number first ≡ calls_of number seen → calls_of number last ≡ calls_of number first
+    → made ≡ call → new.seen ≡ last ++ record { pass = number; by = by; call = made; reply = reply } ∷ [] → AddsCall old new by call reply
+makes_call old new by call reply number seen first last made same seen_is p q own again is grown =
+    let rest = between number seen first last p q own again in
+    adds_call old new by call reply number made last same (subst (λ n. Between n old.seen last) same (subst (λ (h : List FinishedCall). Between number h last) seen_is rest)) is grown

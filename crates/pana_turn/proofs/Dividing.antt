@@ -7,13 +7,13 @@ use mathlib.Core.Option.{some}
 use lib.ListN.{get_elem?}
 use Rattle.atomic_table.specs.Table.{State, Splits}
 use Rattle.atomic_table.proofs.Lists.{at_set, at_longer, set_else}
-use Rattle.pana_journal.specs.declared.entry.Entry.{Entry}
 use Rattle.pana_turn.specs.declared.finished_call.FinishedCall.{FinishedCall}
 use Rattle.pana_turn.specs.declared.view.Account.{Account}
 use Rattle.pana_turn.specs.declared.view.Stage.{Stage}
 use Rattle.pana_turn.specs.declared.view.Stage.TheVariants.{Idle, Tested, Drawn, Turn}
 use Rattle.pana_turn.specs.declared.view.View.{View}
-use Rattle.pana_turn.specs.Rule.{Course, IsAccountOf, FitsStage, Fits, IsHome, KeepsTo, Keeps, drawn_by, busy_by, passes_of}
+use Rattle.pana_turn.specs.Hall.{HallView}
+use Rattle.pana_turn.specs.Rule.{Course, DeskKey, IsAccountOf, FitsStage, Fits, IsHome, KeepsTo, Keeps, drawn_by, busy_by, passes_of}
 use Rattle.pana_turn.specs.inner.Views.{view, dealt, kept, noted}
 use Rattle.pana_turn.proofs.Histories.{prefix_nil}
 use Rattle.pana_turn.proofs.Seats.{sum_by-put, sum_by-push, at_pushed}
@@ -23,16 +23,16 @@ use Rattle.pana_turn.proofs.Tables.{change_at, change_here}
 
 -- the stage of a seat doesn't ask who speaks for a pass
 stage_beside : (x : Course) (speaker : ℕ → ℕ) (j : ℕ) (seen : List FinishedCall) (stage : Stage) → FitsStage x j seen stage
-    → FitsStage (record { history = x.history; tickets = x.tickets; speaker = speaker; holder = x.holder }) j seen stage
+    → FitsStage (record { begun = x.begun; history = x.history; tickets = x.tickets; speaker = speaker; holder = x.holder }) j seen stage
 stage_beside x speaker j seen Idle fits = tt
 stage_beside x speaker j seen Tested fits = tt
 stage_beside x speaker j seen (Drawn ticket) fits = fits
 stage_beside x speaker j seen Turn fits = fits
 
-module _ (seats : ℕ) (s : State (Maybe (List Entry)) View) (x : Course) (keeping : KeepsTo seats s x) where
+module _ (seats : ℕ) (s : State (Maybe HallView) View) (x : Course) (keeping : KeepsTo seats s x) where
   -- the course where another seat speaks for the pass
   abbrev spoken : ℕ → ℕ → Course
-  spoken number seat = record { history = x.history; tickets = x.tickets; speaker = change_at x.speaker number seat; holder = x.holder }
+  spoken number seat = record { begun = x.begun; history = x.history; tickets = x.tickets; speaker = change_at x.speaker number seat; holder = x.holder }
 
   -- a seat with accounts of other passes alone
   pub fits_beside : (number seat j : ℕ) (u : View) → AllByRecursion (λ a. a.number ≢ number) u.accounts → Fits seats x j u → Fits seats (spoken number seat) j u
@@ -115,7 +115,7 @@ module _ (seats : ℕ) (s : State (Maybe (List Entry)) View) (x : Course) (keepi
           record {
             seen = fits.seen;
             met = prefix_nil x.history;
-            accounts = (record { within = is.within; speaker = change_here x.speaker a.number (length s.views) a.number refl; mine = is.mine; seen = is.seen }, tt);
+            accounts = (record { within = is.within; begun = is.begun; speaker = change_here x.speaker a.number (length s.views) a.number refl; mine = is.mine; seen = is.seen }, tt);
             stage = tt;
             busy = omega arith;
           }
@@ -149,10 +149,10 @@ module _ (seats : ℕ) (s : State (Maybe (List Entry)) View) (x : Course) (keepi
             home = home_divided left right idle refl;
           }
 
-pub notes : (seats id : ℕ) (v : View) → v.stage ≡ Idle → Splits (Keeps seats) id v v (noted v)
-notes seats id v idle s keeps at = (keeps.0, divides_note seats s keeps.0 keeps.1 id v at idle)
+pub notes : (key : DeskKey) (id : ℕ) (v : View) → v.stage ≡ Idle → Splits (Keeps key) id v v (noted v)
+notes key id v idle s keeps at = (keeps.0, divides_note key.seats s keeps.0 keeps.1 id v at idle, keeps.2)
 
-pub deals : (seats id : ℕ) (a : Account) (rest : List Account) (seen met : List FinishedCall) → AllByRecursion (λ b. b.number ≢ a.number) rest
-    → Splits (Keeps seats) id (view (a ∷ rest) seen met Idle) (kept (view (a ∷ rest) seen met Idle)) (dealt (view (a ∷ rest) seen met Idle))
-deals seats id a rest seen met others s keeps at =
-    (spoken seats s keeps.0 keeps.1 a.number (length s.views), divides_pass seats s keeps.0 keeps.1 id (view (a ∷ rest) seen met Idle) at refl a rest refl others)
+pub deals : (key : DeskKey) (id : ℕ) (a : Account) (rest : List Account) (seen met : List FinishedCall) → AllByRecursion (λ b. b.number ≢ a.number) rest
+    → Splits (Keeps key) id (view (a ∷ rest) seen met Idle) (kept (view (a ∷ rest) seen met Idle)) (dealt (view (a ∷ rest) seen met Idle))
+deals key id a rest seen met others s keeps at =
+    (spoken key.seats s keeps.0 keeps.1 a.number (length s.views), divides_pass key.seats s keeps.0 keeps.1 id (view (a ∷ rest) seen met Idle) at refl a rest refl others, keeps.2)

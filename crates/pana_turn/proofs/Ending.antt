@@ -8,15 +8,15 @@ use mathlib.Core.Option.{some, some-injective}
 use native.Mathlib.Decide.{ℕ_discrete}
 use lib.ListN.{get_elem?}
 use Rattle.atomic_table.specs.Table.{State, Final, Seen}
-use Rattle.pana_journal.specs.declared.entry.Entry.{Entry}
 use Rattle.pana_turn.specs.declared.finished_call.FinishedCall.{FinishedCall}
 use Rattle.pana_turn.specs.declared.view.Account.{Account}
 use Rattle.pana_turn.specs.declared.view.Stage.TheVariants.{Idle, Turn}
 use Rattle.pana_turn.specs.declared.view.View.{View}
-use Rattle.pana_turn.specs.History.{calls_of, journal_of}
+use Rattle.pana_turn.specs.Hall.{HallView}
+use Rattle.pana_turn.specs.History.{IsHistory, calls_of, hall_of}
 use Rattle.pana_turn.specs.Passes.{PassView, own_calls}
 use Rattle.pana_turn.specs.Closing.{Closes, HasAll}
-use Rattle.pana_turn.specs.Rule.{Course, IsAccountOf, KeepsTo, Keeps, busy_at}
+use Rattle.pana_turn.specs.Rule.{Course, DeskKey, IsAccountOf, KeepsTo, Keeps, busy_at}
 use Rattle.pana_turn.specs.inner.Views.{account_of, view}
 
 module _ (seats : ℕ) (x : Course) (id : ℕ) where
@@ -45,14 +45,14 @@ module _ (seats : ℕ) (x : Course) (id : ℕ) where
   own_all (p ∷ passes) all (suc k) d within = own_all passes all.1 k d (omega arith)
 
 -- what is found in the slot and in word 1
-pub record Ends (seats : ℕ) (passes : List PassView) (words : List ℕ) (slots : List (Maybe (List Entry))) : Type 0 where
-  pub journal : List Entry
+pub record Ends (seats : ℕ) (begun : HallView) (passes : List PassView) (words : List ℕ) (slots : List (Maybe HallView)) : Type 0 where
+  pub hall : HallView
   pub calls : ℕ
-  pub slot : get_elem? slots 0 ≡ some (Some journal)
+  pub slot : get_elem? slots 0 ≡ some (Some hall)
   pub word : get_elem? words 1 ≡ some calls
-  pub closes : Closes seats passes journal calls
+  pub closes : Closes seats begun passes hall calls
 
-module _ (seats : ℕ) (passes : List PassView) (past : List FinishedCall) (whole : HasAll seats passes) (id : ℕ) (s : State (Maybe (List Entry)) View) (x : Course) (kept : KeepsTo seats s x)
+module _ (seats : ℕ) (passes : List PassView) (past : List FinishedCall) (whole : HasAll seats passes) (id : ℕ) (s : State (Maybe HallView) View) (x : Course) (kept : KeepsTo seats s x)
     (at : get_elem? s.views id ≡ some (view (map account_of passes) past [] Idle)) where
   all_accounts : AllByRecursion (IsAccountOf seats x id) (map account_of passes)
   all_accounts = (kept.fits id (view (map account_of passes) past [] Idle) at).accounts
@@ -68,10 +68,10 @@ module _ (seats : ℕ) (passes : List PassView) (past : List FinishedCall) (whol
       let odd : Idle ≡ Turn = ap (λ y. y.stage) (some-injective (view (map account_of passes) past [] Idle) u (sym at ∙ here)) ∙ turn in
       absurd (cc)
 
-  is_home : s.homes ≡ some (Some (journal_of x.history)) ∷ []
+  is_home : s.homes ≡ some (Some (hall_of x.begun x.history)) ∷ []
   is_home = elim kept.home [ inl h ↦ h.0 | inr g ↦ let h = g.1 in absurd (nobody h.0 h.1 h.2 h.3) ]
 
-  pub closes_so : Closes seats passes (journal_of x.history) (length x.history)
+  pub closes_so : Closes seats x.begun passes (hall_of x.begun x.history) (length x.history)
   closes_so =
       record {
         history = x.history;
@@ -84,16 +84,16 @@ module _ (seats : ℕ) (passes : List PassView) (past : List FinishedCall) (whol
       }
 
 -- the desk ends so
-pub ends : (seats : ℕ) (passes : List PassView) (past : List FinishedCall) (words : List ℕ) (slots : List (Maybe (List Entry))) (id : ℕ) → HasAll seats passes
-    → Final (Seen (Keeps seats) id (view (map account_of passes) past [] Idle)) words slots → Ends seats passes words slots
-ends seats passes past words slots id whole final =
+pub ends : (key : DeskKey) (passes : List PassView) (past : List FinishedCall) (words : List ℕ) (slots : List (Maybe HallView)) (id : ℕ) → HasAll key.seats passes
+    → Final (Seen (Keeps key) id (view (map account_of passes) past [] Idle)) words slots → Ends key.seats key.begun passes words slots
+ends key passes past words slots id whole final =
     let s = final.0 in let x = final.1.0.0 in let kept = final.1.0.1 in let at = final.1.1 in
     record {
-      journal = journal_of x.history;
+      hall = hall_of x.begun x.history;
       calls = length x.history;
-      slot = final.4 0 (Some (journal_of x.history)) (ap (λ homes. get_elem? homes 0) (is_home seats passes past whole id s x kept at));
+      slot = final.4 0 (Some (hall_of x.begun x.history)) (ap (λ homes. get_elem? homes 0) (is_home key.seats passes past whole id s x kept at));
       word = ap (λ ws. get_elem? ws 1) (sym final.2 ∙ kept.words);
-      closes = closes_so seats passes past whole id s x kept at;
+      closes = subst (λ (b : HallView). Closes key.seats b passes (hall_of x.begun x.history) (length x.history)) final.1.0.2 (closes_so key.seats passes past whole id s x kept at);
     }
 
 -- a list whose first is put where it is
@@ -102,19 +102,19 @@ first_same [] x is = refl
 first_same (y ∷ xs) x is = ap (λ z. z ∷ xs) is
 
 -- the same, of the list from which a note was taken
-pub ended : (seats key : ℕ) (passes : List PassView) (p q : PassView) (past : List FinishedCall) (words : List ℕ) (slots : List (Maybe (List Entry))) (id : ℕ) (v : View) → key ≡ seats → p ≡ q
-    → q ≡ get_or passes 0 q → HasAll seats passes → v ≡ view (map account_of (set passes 0 p)) past [] Idle → Final (Seen (Keeps key) id v) words slots → Ends seats passes words slots
+pub ended : (seats : ℕ) (key : DeskKey) (passes : List PassView) (p q : PassView) (past : List FinishedCall) (words : List ℕ) (slots : List (Maybe HallView)) (id : ℕ) (v : View) → key.seats ≡ seats → p ≡ q
+    → q ≡ get_or passes 0 q → HasAll seats passes → v ≡ view (map account_of (set passes 0 p)) past [] Idle → Final (Seen (Keeps key) id v) words slots → Ends seats key.begun passes words slots
 ended seats key passes p q past words slots id v same_key same_pass is whole same final =
-    let given : ℕ → View → Type 0 = λ k w. Final (Seen (Keeps k) id w) words slots in
+    let given : View → Type 0 = λ w. Final (Seen (Keeps key) id w) words slots in
     let one : set passes 0 p ≡ passes = ap (set passes 0) same_pass ∙ first_same passes q is in
     let v_is : v ≡ view (map account_of passes) past [] Idle = same ∙ ap (λ ps. view (map account_of ps) past [] Idle) one in
-    ends seats passes past words slots id whole (subst (given seats) v_is (subst (λ k. given k v) same_key final))
+    subst (λ n. Ends n key.begun passes words slots) same_key (ends key passes past words slots id (subst (λ n. HasAll n passes) (sym same_key) whole) (subst given v_is final))
 
 -- what was found in the slot and in word 1 is what is left
-pub left_so : (seats : ℕ) (passes : List PassView) (words : List ℕ) (slots : List (Maybe (List Entry))) (journal : List Entry) (calls : ℕ) → Ends seats passes words slots
-    → get_elem? slots 0 ≡ some (Some journal) → get_elem? words 1 ≡ some calls → Closes seats passes journal calls
-left_so seats passes words slots journal calls end slot word =
-    let same : Some end.journal ≡ Some journal = some-injective (Some end.journal) (Some journal) (sym end.slot ∙ slot) in
-    let journal_is : end.journal ≡ journal = cc (same) in
+pub left_so : (seats : ℕ) (begun : HallView) (passes : List PassView) (words : List ℕ) (slots : List (Maybe HallView)) (hall : HallView) (calls : ℕ) → Ends seats begun passes words slots
+    → get_elem? slots 0 ≡ some (Some hall) → get_elem? words 1 ≡ some calls → Closes seats begun passes hall calls
+left_so seats begun passes words slots hall calls end slot word =
+    let same : Some end.hall ≡ Some hall = some-injective (Some end.hall) (Some hall) (sym end.slot ∙ slot) in
+    let hall_is : end.hall ≡ hall = cc (same) in
     let calls_is : end.calls ≡ calls = some-injective end.calls calls (sym end.word ∙ word) in
-    subst (λ n. Closes seats passes journal n) calls_is (subst (λ j. Closes seats passes j end.calls) journal_is end.closes)
+    subst (λ n. Closes seats begun passes hall n) calls_is (subst (λ (h : HallView). Closes seats begun passes h end.calls) hall_is end.closes)

@@ -8,14 +8,15 @@ use lib.ListN.{get_elem?}
 use Rattle.atomic_table.specs.Table.{State, gives, Allows}
 use Rattle.atomic_table.proofs.Lists.{at_set}
 use Rattle.pana_journal.specs.declared.entry.Entry.{Entry}
-use Rattle.pana_hall.specs.Permit.{Permits, journal_after}
+use Rattle.pana_hall.specs.Permit.{journal_after}
 use Rattle.pana_turn.specs.declared.finished_call.FinishedCall.{FinishedCall}
 use Rattle.pana_turn.specs.declared.view.Account.{Account}
 use Rattle.pana_turn.specs.declared.view.Stage.{Stage}
 use Rattle.pana_turn.specs.declared.view.Stage.TheVariants.{Idle, Tested, Drawn, Turn}
 use Rattle.pana_turn.specs.declared.view.View.{View}
-use Rattle.pana_turn.specs.History.{IsHistory, calls_of, journal_of}
-use Rattle.pana_turn.specs.Rule.{Course, IsAccountOf, FitsStage, Fits, IsHome, KeepsTo, Keeps, drawn_by, busy_by, passes_of}
+use Rattle.pana_turn.specs.Hall.{HallView}
+use Rattle.pana_turn.specs.History.{IsHistory, Replies, calls_of, hall_of, journal_of}
+use Rattle.pana_turn.specs.Rule.{Course, DeskKey, IsAccountOf, FitsStage, Fits, IsHome, KeepsTo, Keeps, drawn_by, busy_by, passes_of}
 use Rattle.pana_turn.specs.inner.Views.{pass}
 use Rattle.pana_turn.specs.inner.Steps.{Finishes}
 use Rattle.pana_turn.proofs.Histories.{prefix_grows, journal_of-push, IsHistory-push, calls_of-own, All-push}
@@ -23,16 +24,16 @@ use Rattle.pana_turn.proofs.Seats.{sum_by-put}
 use Rattle.pana_turn.proofs.Accounts.{all_along, account_of_other}
 use Rattle.pana_turn.proofs.Taking.{tickets_few}
 
-module _ (seats : ℕ) (s : State (Maybe (List Entry)) View) (x : Course) (kept : KeepsTo seats s x) (id number : ℕ) (mine seen : List FinishedCall)
-    (at : get_elem? s.views id ≡ some (pass number mine seen Turn)) (c : FinishedCall) (own : c.pass ≡ number) where
+module _ (seats : ℕ) (s : State (Maybe HallView) View) (x : Course) (kept : KeepsTo seats s x) (id number : ℕ) (begun : HallView) (mine seen : List FinishedCall)
+    (at : get_elem? s.views id ≡ some (pass begun number mine seen Turn)) (c : FinishedCall) (own : c.pass ≡ number) where
   abbrev before : View
-  before = pass number mine seen Turn
+  before = pass begun number mine seen Turn
 
   abbrev after : View
-  after = pass number (mine ++ c ∷ []) (seen ++ c ∷ []) Idle
+  after = pass begun number (mine ++ c ∷ []) (seen ++ c ∷ []) Idle
 
   abbrev grown : Course
-  grown = record { history = x.history ++ c ∷ []; tickets = x.tickets; speaker = x.speaker; holder = x.holder }
+  grown = record { begun = x.begun; history = x.history ++ c ∷ []; tickets = x.tickets; speaker = x.speaker; holder = x.holder }
 
   fits_before : Fits seats x id before
   fits_before = kept.fits id before at
@@ -42,6 +43,9 @@ module _ (seats : ℕ) (s : State (Maybe (List Entry)) View) (x : Course) (kept 
 
   longer : length (x.history ++ c ∷ []) ≡ length x.history + 1
   longer = length-append x.history (c ∷ [])
+
+  begun_is : begun ≡ x.begun
+  begun_is = fits_before.accounts.0.begun
 
   -- another seat has no account of the pass
   apart : (j : ℕ) → j ≢ id → (a : Account) → IsAccountOf seats x j a → c.pass ≢ a.number
@@ -75,6 +79,7 @@ module _ (seats : ℕ) (s : State (Maybe (List Entry)) View) (x : Course) (kept 
         accounts = (
           record {
             within = a.within;
+            begun = a.begun;
             speaker = a.speaker;
             mine = calls_of-own number x.history c own ∙ ap (λ h. h ++ c ∷ []) a.mine;
             seen = (x.history ++ c ∷ [], refl);
@@ -102,28 +107,31 @@ module _ (seats : ℕ) (s : State (Maybe (List Entry)) View) (x : Course) (kept 
       let stands : FitsStage x j u.seen Turn = (let P : Stage → Type 0 = λ stage. FitsStage x j u.seen stage in subst P turn ((kept.fits j u there).stage)) in
       other (sym stands.0 ∙ fits_before.stage.0)
 
-  module _ (journal : List Entry) (left : journal ≡ journal_after (journal_of seen) c.by c.call c.reply) (permitted : Permits (journal_of seen) c.by c.call c.reply) where
-    journal_is : journal ≡ journal_of (x.history ++ c ∷ [])
-    journal_is = left ∙ ap (λ h. journal_after (journal_of h) c.by c.call c.reply) saw_all ∙ sym (journal_of-push x.history c)
+  module _ (hall : HallView) (left : hall ≡ record { entries = journal_after (journal_of begun seen) c.by c.call c.reply; keeps = begun.keeps }) (replies : Replies begun.keeps (journal_of begun seen) c.by c.call c.reply) where
+    hall_is : hall ≡ hall_of x.begun (x.history ++ c ∷ [])
+    hall_is =
+        left ∙ ap (λ b. record { entries = journal_after (journal_of b seen) c.by c.call c.reply; keeps = b.keeps }) begun_is
+        ∙ ap (λ h. record { entries = journal_after (journal_of x.begun h) c.by c.call c.reply; keeps = x.begun.keeps }) saw_all
+        ∙ ap (λ (es : List Entry). record { entries = es; keeps = x.begun.keeps }) (sym (journal_of-push x.begun x.history c))
 
-    home_after : IsHome grown (set s.homes 0 (some (Some journal))) (set s.views id after)
+    home_after : IsHome grown (set s.homes 0 (some (Some hall))) (set s.views id after)
     home_after =
         inl (
-          ap (λ hs. set hs 0 (some (Some journal))) was_out ∙ ap (λ j. some (Some j) ∷ []) journal_is,
+          ap (λ hs. set hs 0 (some (Some hall))) was_out ∙ ap (λ j. some (Some j) ∷ []) hall_is,
           (λ j u there turn.
               ⊎_elim (λ t. let odd : Idle ≡ Turn = ap (λ y. y.stage) t.1 ∙ turn in absurd (cc)) (λ t. no_other j u t.0 t.1 turn) (at_set s.views id j after u there)),
         )
 
-    run_before : IsHistory seen
-    run_before = subst IsHistory (sym saw_all) kept.run
+    run_before : IsHistory begun seen
+    run_before = subst (λ (b : HallView). IsHistory b seen) (sym begun_is) (subst (IsHistory x.begun) (sym saw_all) kept.run)
 
-    run_seen : IsHistory (seen ++ c ∷ [])
-    run_seen = IsHistory-push seen c run_before permitted
+    run_seen : IsHistory begun (seen ++ c ∷ [])
+    run_seen = IsHistory-push begun seen c run_before replies
 
-    run_after : IsHistory (x.history ++ c ∷ [])
-    run_after = subst (λ h. IsHistory (h ++ c ∷ [])) saw_all run_seen
+    run_after : IsHistory x.begun (x.history ++ c ∷ [])
+    run_after = subst (λ (b : HallView). IsHistory b (x.history ++ c ∷ [])) begun_is (subst (λ h. IsHistory begun (h ++ c ∷ [])) saw_all run_seen)
 
-    pub keeps_on : KeepsTo seats (record { words = set s.words 1 ((slice_index s.words 1 + 1) % 2 ^ 64); homes = set s.homes 0 (some (Some journal)); views = set s.views id after }) grown
+    pub keeps_on : KeepsTo seats (record { words = set s.words 1 ((slice_index s.words 1 + 1) % 2 ^ 64); homes = set s.homes 0 (some (Some hall)); views = set s.views id after }) grown
     keeps_on =
         let fits : length x.history + 1 < 2 ^ 64 = (let few = tickets_few seats s x kept in omega (arith, kept.drawn)) in
         record {
@@ -142,19 +150,19 @@ module _ (seats : ℕ) (s : State (Maybe (List Entry)) View) (x : Course) (kept 
     own_after = calls_of-own number seen c own ∙ ap (λ h. h ++ c ∷ []) (ap (calls_of number) saw_all ∙ fits_before.accounts.0.mine)
 
 -- the seat that has the turn, and the hall as the call left it, finishes the call
-pub finishes : (seats slots id number : ℕ) (mine seen : List FinishedCall) (c : FinishedCall) (journal : List Entry) → c.pass ≡ number → Permits (journal_of seen) c.by c.call c.reply
-    → journal ≡ journal_after (journal_of seen) c.by c.call c.reply
-    → Allows (Keeps seats) slots id (pass number mine seen Turn, (0, Some journal) ∷ []) 1 (λ n. (n + 1) % 2 ^ 64) (Finishes c (pass number mine seen Turn, (0, Some journal) ∷ []))
-finishes seats slots id number mine seen c journal own permitted left s keeping long at fits =
+pub finishes : (key : DeskKey) (slots id number : ℕ) (begun : HallView) (mine seen : List FinishedCall) (c : FinishedCall) (hall : HallView) → c.pass ≡ number → Replies begun.keeps (journal_of begun seen) c.by c.call c.reply
+    → hall ≡ record { entries = journal_after (journal_of begun seen) c.by c.call c.reply; keeps = begun.keeps }
+    → Allows (Keeps key) slots id (pass begun number mine seen Turn, (0, Some hall) ∷ []) 1 (λ n. (n + 1) % 2 ^ 64) (Finishes c (pass begun number mine seen Turn, (0, Some hall) ∷ []))
+finishes key slots id number begun mine seen c hall own replies left s keeping long at fits =
     let x = keeping.0 in let kept = keeping.1 in (
-      pass number (mine ++ c ∷ []) (seen ++ c ∷ []) Idle,
+      pass begun number (mine ++ c ∷ []) (seen ++ c ∷ []) Idle,
       gives,
       tt,
-      (grown seats s x kept id number mine seen at c own, keeps_on seats s x kept id number mine seen at c own journal left permitted),
+      (grown key.seats s x kept id number begun mine seen at c own, keeps_on key.seats s x kept id number begun mine seen at c own hall left replies, keeping.2),
       record {
         view = refl;
-        own = own_after seats s x kept id number mine seen at c own journal left permitted;
-        run = run_seen seats s x kept id number mine seen at c own journal left permitted;
+        own = own_after key.seats s x kept id number begun mine seen at c own hall left replies;
+        run = run_seen key.seats s x kept id number begun mine seen at c own hall left replies;
         slots = refl;
       },
     )

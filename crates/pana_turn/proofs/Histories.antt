@@ -1,13 +1,14 @@
 -- Histories that grow by a call, and their beginnings.
-use Rattle.std.specs.Prelude.{◌≡◌, ℕ, ◌==◌, List, [], ◌∷◌, ◌++◌, cond, All}
-use Rattle.std.proofs.Common.{◌≢◌, ◌<◌, refl, sym, ap, ◌∙◌, append-nil, append_assoc, eq-eqb, ne_eqb, zero, suc, arith}
+use Rattle.std.specs.Prelude.{◌≡◌, ℕ, ◌==◌, Bool, false, List, [], ◌∷◌, ◌++◌, cond, All}
+use Rattle.std.proofs.Common.{◌≢◌, ◌<◌, refl, sym, ap, ◌∙◌, append-nil, append_assoc, eq-eqb, ne_eqb, zero, suc, arith, ⊎_elim}
 use Rattle.std.proofs.lemmas.List.Elements.{filter-append, All-append}
 use mathlib.Core.List.{IsPrefix}
 use Rattle.pana_journal.specs.declared.entry.Entry.{Entry}
-use Rattle.pana_hall.specs.Permit.{Permits, journal_after}
+use Rattle.pana_hall.specs.Permit.{journal_after}
 use Rattle.pana_hall.specs.Run.{IsRunFrom, journal_from}
 use Rattle.pana_turn.specs.declared.finished_call.FinishedCall.{FinishedCall}
-use Rattle.pana_turn.specs.History.{IsHistory, calls_of, exchanges, journal_of}
+use Rattle.pana_turn.specs.Hall.{HallView}
+use Rattle.pana_turn.specs.History.{IsHistory, IsHistoryFrom, Replies, calls_of, exchanges, journal_of}
 
 pub prefix_self : {A : Type 0} (xs : List A) → IsPrefix xs xs
 prefix_self xs = ([], append-nil xs)
@@ -24,17 +25,22 @@ journal_pushed journal [] c = refl
 journal_pushed journal (x ∷ history) c = journal_pushed (journal_after journal x.by x.call x.reply) history c
 
 -- the journal after one call more
-pub journal_of-push : (history : List FinishedCall) (c : FinishedCall) → journal_of (history ++ c ∷ []) ≡ journal_after (journal_of history) c.by c.call c.reply
-journal_of-push history c = journal_pushed [] history c
+pub journal_of-push : (begun : HallView) (history : List FinishedCall) (c : FinishedCall) → journal_of begun (history ++ c ∷ []) ≡ journal_after (journal_of begun history) c.by c.call c.reply
+journal_of-push begun history c = journal_pushed begun.entries history c
 
-run_pushed : (journal : List Entry) (history : List FinishedCall) (c : FinishedCall) → IsRunFrom journal (exchanges history)
-    → Permits (journal_from journal (exchanges history)) c.by c.call c.reply → IsRunFrom journal (exchanges (history ++ c ∷ []))
-run_pushed journal [] c run permitted = (permitted, tt)
-run_pushed journal (x ∷ history) c run permitted = (run.0, run_pushed (journal_after journal x.by x.call x.reply) history c run.1 permitted)
+run_pushed : (keeps : Bool) (journal : List Entry) (history : List FinishedCall) (c : FinishedCall) → IsHistoryFrom keeps journal history
+    → Replies keeps (journal_from journal (exchanges history)) c.by c.call c.reply → IsHistoryFrom keeps journal (history ++ c ∷ [])
+run_pushed keeps journal [] c run replies = (replies, tt)
+run_pushed keeps journal (x ∷ history) c run replies = (run.0, run_pushed keeps (journal_after journal x.by x.call x.reply) history c run.1 replies)
 
--- a permitted call more makes a history
-pub IsHistory-push : (history : List FinishedCall) (c : FinishedCall) → IsHistory history → Permits (journal_of history) c.by c.call c.reply → IsHistory (history ++ c ∷ [])
-IsHistory-push history c run permitted = run_pushed [] history c run permitted
+-- a call more with such a reply makes a history
+pub IsHistory-push : (begun : HallView) (history : List FinishedCall) (c : FinishedCall) → IsHistory begun history → Replies begun.keeps (journal_of begun history) c.by c.call c.reply → IsHistory begun (history ++ c ∷ [])
+IsHistory-push begun history c run replies = run_pushed begun.keeps begun.entries history c run replies
+
+-- where no file keeps the hall, each reply is permitted
+pub run_of : (journal : List Entry) (history : List FinishedCall) → IsHistoryFrom false journal history → IsRunFrom journal (exchanges history)
+run_of journal [] run = tt
+run_of journal (x ∷ history) run = (⊎_elim (λ permitted. permitted) (λ odd. absurd (let never = odd.0 in cc)) run.0, run_of (journal_after journal x.by x.call x.reply) history run.1)
 
 own_alone : (number : ℕ) (c : FinishedCall) → c.pass ≡ number → calls_of number (c ∷ []) ≡ c ∷ []
 own_alone number c is = ap (λ b. cond b (c ∷ []) []) (eq-eqb c.pass number is)

@@ -6,11 +6,11 @@ use mathlib.Core.Option.{some}
 use lib.ListN.{get_elem?}
 use Rattle.atomic_table.specs.Table.{State, Joins}
 use Rattle.atomic_table.proofs.Lists.{at_set, set_else}
-use Rattle.pana_journal.specs.declared.entry.Entry.{Entry}
 use Rattle.pana_turn.specs.declared.finished_call.FinishedCall.{FinishedCall}
 use Rattle.pana_turn.specs.declared.view.Stage.TheVariants.{Idle, Turn}
 use Rattle.pana_turn.specs.declared.view.View.{View}
-use Rattle.pana_turn.specs.Rule.{Course, IsAccountOf, Fits, IsHome, KeepsTo, Keeps, drawn_at, drawn_by, busy_at, busy_by, passes_of}
+use Rattle.pana_turn.specs.Hall.{HallView}
+use Rattle.pana_turn.specs.Rule.{Course, DeskKey, IsAccountOf, Fits, IsHome, KeepsTo, Keeps, drawn_at, drawn_by, busy_at, busy_by, passes_of}
 use Rattle.pana_turn.specs.inner.Views.{view, account, pass, spent, informed, gathered}
 use Rattle.pana_turn.proofs.Histories.{prefix_nil}
 use Rattle.pana_turn.proofs.Seats.{sum_by-put}
@@ -19,7 +19,7 @@ use Rattle.pana_turn.proofs.Looking.{other_seat}
 use Rattle.pana_turn.proofs.Tables.{change_at, change_here}
 use Rattle.pana_turn.proofs.Dividing.{fits_beside, others_of}
 
-module _ (seats : ℕ) (s : State (Maybe (List Entry)) View) (x : Course) (keeping : KeepsTo seats s x) (id : ℕ) (v : View) (at : get_elem? s.views id ≡ some v) (idle : v.stage ≡ Idle)
+module _ (seats : ℕ) (s : State (Maybe HallView) View) (x : Course) (keeping : KeepsTo seats s x) (id : ℕ) (v : View) (at : get_elem? s.views id ≡ some v) (idle : v.stage ≡ Idle)
     (other : ℕ) (w : View) (apart : other ≡ id → ⊥) (both : View) (there : get_elem? (set s.views id both) other ≡ some w) (idle_there : w.stage ≡ Idle) where
   -- the other seat was there before
   pub other_at : get_elem? s.views other ≡ some w
@@ -30,7 +30,7 @@ module _ (seats : ℕ) (s : State (Maybe (List Entry)) View) (x : Course) (keepi
 
   module _ (idle_both : both.stage ≡ Idle) (sum : length both.accounts ≡ length v.accounts + length w.accounts) (speaker : ℕ → ℕ) where
     abbrev joined : Course
-    joined = record { history = x.history; tickets = x.tickets; speaker = speaker; holder = x.holder }
+    joined = record { begun = x.begun; history = x.history; tickets = x.tickets; speaker = speaker; holder = x.holder }
 
     module _ (fits_both : Fits seats joined id both) (fits_else : (j : ℕ) (u : View) → j ≢ id → j ≢ other → get_elem? s.views j ≡ some u → Fits seats joined j u) where
       fits_spent : (j : ℕ) → Fits seats joined j spent
@@ -104,46 +104,48 @@ module _ (seats : ℕ) (s : State (Maybe (List Entry)) View) (x : Course) (keepi
           }
 
 -- a seat meets a note
-pub informs : (seats id other : ℕ) (v : View) (past : List FinishedCall) → v.stage ≡ Idle → Joins (Keeps seats) id v other (view [] past [] Idle) (informed v (view [] past [] Idle)) spent
-informs seats id other v past idle s keeps at apart there =
+pub informs : (key : DeskKey) (id other : ℕ) (v : View) (past : List FinishedCall) → v.stage ≡ Idle → Joins (Keeps key) id v other (view [] past [] Idle) (informed v (view [] past [] Idle)) spent
+informs key id other v past idle s keeps at apart there =
     let x = keeps.0 in let keeping = keeps.1 in
     let w : View = view [] past [] Idle in
     let both : View = informed v w in
     let fits = keeping.fits id v at in
-    let note = keeping.fits other w (other_at seats s x keeping id v at idle other w apart both there refl) in (
+    let note = keeping.fits other w (other_at key.seats s x keeping id v at idle other w apart both there refl) in (
       x,
-      takes_in seats s x keeping id v at idle other w apart both there refl idle (omega arith) x.speaker
+      takes_in key.seats s x keeping id v at idle other w apart both there refl idle (omega arith) x.speaker
           (record { seen = fits.seen; met = note.seen; accounts = fits.accounts; stage = fits.stage; busy = fits.busy })
           (λ j u not_id not_other at_j. keeping.fits j u at_j),
+      keeps.2,
     )
 
 -- a seat takes in a pass
-pub gathers : (seats id other : ℕ) (v : View) (number : ℕ) (mine past : List FinishedCall) → v.stage ≡ Idle
-    → Joins (Keeps seats) id v other (pass number mine past Idle) (gathered v (pass number mine past Idle)) spent
-gathers seats id other v number mine past idle s keeps at apart there =
+pub gathers : (key : DeskKey) (id other : ℕ) (v : View) (begun : HallView) (number : ℕ) (mine past : List FinishedCall) → v.stage ≡ Idle
+    → Joins (Keeps key) id v other (pass begun number mine past Idle) (gathered v (pass begun number mine past Idle)) spent
+gathers key id other v begun number mine past idle s keeps at apart there =
     let x = keeps.0 in let keeping = keeps.1 in
-    let w : View = pass number mine past Idle in
+    let w : View = pass begun number mine past Idle in
     let both : View = gathered v w in
     let fits = keeping.fits id v at in
-    let taken = keeping.fits other w (other_at seats s x keeping id v at idle other w apart both there refl) in
+    let taken = keeping.fits other w (other_at key.seats s x keeping id v at idle other w apart both there refl) in
     let is = taken.accounts.0 in
     let back : id ≢ other = λ e. apart (sym e) in
-    let beside = fits_beside seats s x keeping number id id v (others_of seats s x keeping number other id is.speaker back v.accounts fits.accounts) fits in
+    let beside = fits_beside key.seats s x keeping number id id v (others_of key.seats s x keeping number other id is.speaker back v.accounts fits.accounts) fits in
     let free : busy_by v ≡ 0 = ap busy_at idle in
-    let long : length (v.accounts ++ account number mine past ∷ []) ≡ length v.accounts + 1 = length-append v.accounts (account number mine past ∷ []) in
-    let last : IsAccountOf seats (record { history = x.history; tickets = x.tickets; speaker = change_at x.speaker number id; holder = x.holder }) id (account number mine past)
-    = record { within = is.within; speaker = change_here x.speaker number id number refl; mine = is.mine; seen = taken.seen } in (
-      record { history = x.history; tickets = x.tickets; speaker = change_at x.speaker number id; holder = x.holder },
-      takes_in seats s x keeping id v at idle other w apart both there refl idle (omega (arith, long)) (change_at x.speaker number id)
+    let long : length (v.accounts ++ account begun number mine past ∷ []) ≡ length v.accounts + 1 = length-append v.accounts (account begun number mine past ∷ []) in
+    let last : IsAccountOf key.seats (record { begun = x.begun; history = x.history; tickets = x.tickets; speaker = change_at x.speaker number id; holder = x.holder }) id (account begun number mine past)
+    = record { within = is.within; begun = is.begun; speaker = change_here x.speaker number id number refl; mine = is.mine; seen = taken.seen } in (
+      record { begun = x.begun; history = x.history; tickets = x.tickets; speaker = change_at x.speaker number id; holder = x.holder },
+      takes_in key.seats s x keeping id v at idle other w apart both there refl idle (omega (arith, long)) (change_at x.speaker number id)
           (record {
             seen = beside.seen;
             met = beside.met;
-            accounts = all_joined (IsAccountOf seats (record { history = x.history; tickets = x.tickets; speaker = change_at x.speaker number id; holder = x.holder }) id) v.accounts (account number mine past ∷ [])
+            accounts = all_joined (IsAccountOf key.seats (record { begun = x.begun; history = x.history; tickets = x.tickets; speaker = change_at x.speaker number id; holder = x.holder }) id) v.accounts (account begun number mine past ∷ [])
                 beside.accounts (last, tt);
             stage = beside.stage;
             busy = omega (arith, free);
           })
           (λ j u not_id not_other at_j.
           let fits_u = keeping.fits j u at_j in
-          fits_beside seats s x keeping number id j u (others_of seats s x keeping number other j is.speaker not_other u.accounts fits_u.accounts) fits_u),
+          fits_beside key.seats s x keeping number id j u (others_of key.seats s x keeping number other j is.speaker not_other u.accounts fits_u.accounts) fits_u),
+      keeps.2,
     )

@@ -1,3 +1,4 @@
+pub mod Halls
 pub mod Histories
 pub mod Seats
 pub mod Tables

@@ -8,36 +8,50 @@ use lib.ListN.{get_elem?}
 use native.Mathlib.Decide.{dec_le, ℕ_discrete}
 use Rattle.atomic_table.specs.Table.{State, keeps, takes, Allows}
 use Rattle.atomic_table.proofs.Lists.{at_set, set_else}
-use Rattle.pana_journal.specs.declared.entry.Entry.{Entry}
 use Rattle.pana_turn.specs.declared.finished_call.FinishedCall.{FinishedCall}
 use Rattle.pana_turn.specs.declared.view.Account.{Account}
 use Rattle.pana_turn.specs.declared.view.Stage.{Stage}
 use Rattle.pana_turn.specs.declared.view.Stage.TheVariants.{Idle, Tested, Drawn, Turn}
 use Rattle.pana_turn.specs.declared.view.View.{View}
-use Rattle.pana_turn.specs.History.{calls_of, journal_of}
-use Rattle.pana_turn.specs.Rule.{Course, IsAccountOf, FitsStage, Fits, IsHome, KeepsTo, Keeps, drawn_at, drawn_by, busy_at, busy_by, passes_of}
-use Rattle.pana_turn.specs.inner.Views.{view, account}
+use Rattle.pana_turn.specs.Hall.{HallView}
+use Rattle.pana_turn.specs.History.{IsHistory, calls_of, hall_of}
+use Rattle.pana_turn.specs.Rule.{Course, IsAccountOf, FitsStage, Fits, IsHome, DeskKey, KeepsTo, Keeps, drawn_at, drawn_by, busy_at, busy_by, passes_of}
+use Rattle.pana_turn.specs.inner.Views.{view, account, begun_of}
 use Rattle.pana_turn.specs.inner.Steps.{Holds, Looked, Glances, Tests, Awaits, ticket_of}
 use Rattle.pana_turn.proofs.Histories.{prefix_self, prefix_nil}
 use Rattle.pana_turn.proofs.Seats.{sum_by-put, sum_by-below, at_put}
 
 -- who has the turn is another seat than one that hasn't
-pub other_seat : (s : State (Maybe (List Entry)) View) (id : ℕ) (v : View) → get_elem? s.views id ≡ some v → (j : ℕ) (u : View) → (get_elem? s.views j ≡ some u) × (u.stage ≡ Turn)
+pub other_seat : (s : State (Maybe HallView) View) (id : ℕ) (v : View) → get_elem? s.views id ≡ some v → (j : ℕ) (u : View) → (get_elem? s.views j ≡ some u) × (u.stage ≡ Turn)
     → (v.stage ≡ Turn → ⊥) → j ≢ id
 other_seat s id v at j u there not_before same =
     let here : get_elem? s.views id ≡ some u = ap (λ i. get_elem? s.views i) (sym same) ∙ there.0 in
     not_before (ap (λ y. y.stage) (some-injective v u (sym at ∙ here)) ∙ there.1)
 
-module _ (seats : ℕ) (s : State (Maybe (List Entry)) View) (x : Course) (kept : KeepsTo seats s x) (id : ℕ) (v : View) (at : get_elem? s.views id ≡ some v) where
+first_begun : (seats id : ℕ) (x : Course) (accounts : List Account) → 1 ≤ length accounts → AllByRecursion (IsAccountOf seats x id) accounts → begun_of accounts ≡ x.begun
+first_begun seats id x [] one all = absurd (omega arith)
+first_begun seats id x (a ∷ accounts) one all = all.0.begun
+
+module _ (seats : ℕ) (s : State (Maybe HallView) View) (x : Course) (kept : KeepsTo seats s x) (id : ℕ) (v : View) (at : get_elem? s.views id ≡ some v) where
   -- what was found is the number of finished calls
   pub found_is : slice_index s.words 1 ≡ length x.history
   found_is = ap (λ ws. slice_index ws 1) kept.words
 
-  own_calls_are : (number : ℕ) (mine past : List FinishedCall) → v.accounts ≡ account number mine past ∷ [] → calls_of number x.history ≡ mine
-  own_calls_are number mine past is =
+  account_is : (begun : HallView) (number : ℕ) (mine past : List FinishedCall) → v.accounts ≡ account begun number mine past ∷ [] → IsAccountOf seats x id (account begun number mine past)
+  account_is begun number mine past is =
       let P : List Account → Type 0 = λ accounts. AllByRecursion (IsAccountOf seats x id) accounts in
-      let all : P (account number mine past ∷ []) = subst P is ((kept.fits id v at).accounts) in
-      all.0.mine
+      let all : P (account begun number mine past ∷ []) = subst P is ((kept.fits id v at).accounts) in
+      all.0
+
+  own_calls_are : (begun : HallView) (number : ℕ) (mine past : List FinishedCall) → v.accounts ≡ account begun number mine past ∷ [] → calls_of number x.history ≡ mine
+  own_calls_are begun number mine past is = (account_is begun number mine past is).mine
+
+  run_is : (begun : HallView) (number : ℕ) (mine past : List FinishedCall) → v.accounts ≡ account begun number mine past ∷ [] → IsHistory begun x.history
+  run_is begun number mine past is = subst (λ (b : HallView). IsHistory b x.history) (sym (account_is begun number mine past is).begun) kept.run
+
+  -- a seat that speaks for a pass knows the hall at the start
+  pub begun_is : 1 ≤ length v.accounts → begun_of v.accounts ≡ x.begun
+  begun_is one = first_begun seats id x v.accounts one ((kept.fits id v at).accounts)
 
   -- the seat has seen the whole history
   pub looked : (stage : Stage) → Looked v (slice_index s.words 1) (view v.accounts x.history [] stage) stage
@@ -45,7 +59,7 @@ module _ (seats : ℕ) (s : State (Maybe (List Entry)) View) (x : Course) (kept 
       let fits = kept.fits id v at in
       record {
         long = sym found_is;
-        run = kept.run;
+        run = run_is;
         seen = fits.seen;
         met = fits.met;
         own = own_calls_are;
@@ -53,7 +67,7 @@ module _ (seats : ℕ) (s : State (Maybe (List Entry)) View) (x : Course) (kept 
       }
 
   -- where the seat's ticket has come and it hasn't the turn yet, the hall is in its slot
-  pub is_in : x.holder (length x.history) ≡ id → (v.stage ≡ Turn → ⊥) → s.homes ≡ some (Some (journal_of x.history)) ∷ []
+  pub is_in : x.holder (length x.history) ≡ id → (v.stage ≡ Turn → ⊥) → s.homes ≡ some (Some (hall_of x.begun x.history)) ∷ []
   is_in holds not_before =
       elim kept.home [
         | inl h ↦ h.0
@@ -94,7 +108,7 @@ module _ (seats : ℕ) (s : State (Maybe (List Entry)) View) (x : Course) (kept 
           omega (arith, kept.given)
 
       module _ (same : drawn_at stage ≡ drawn_at v.stage) (room : length x.history + sum_by busy_by s.views + busy_at stage ≤ 4611686018427387904 + seats + busy_at v.stage) where
-        pub goes_on : (homes : List (Option (Maybe (List Entry)))) → IsHome x homes (set s.views id (view v.accounts x.history [] stage))
+        pub goes_on : (homes : List (Option (Maybe HallView))) → IsHome x homes (set s.views id (view v.accounts x.history [] stage))
             → KeepsTo seats (record { words = set s.words 1 (slice_index s.words 1); homes = homes; views = set s.views id (view v.accounts x.history [] stage) }) x
         goes_on homes home =
             let y : View = view v.accounts x.history [] stage in
@@ -123,21 +137,21 @@ drawn_is_no_turn : (ticket : ℕ) → Drawn ticket ≡ Turn → ⊥
 drawn_is_no_turn ticket odd = absurd (cc)
 
 -- a pass that is idle, or a note, glances
-pub glances : (seats slots id : ℕ) (me : Holds) → me.0.stage ≡ Idle → Allows (Keeps seats) slots id me 1 (λ n. n) (Glances me)
-glances seats slots id me idle s keeping long at fits =
+pub glances : (key : DeskKey) (slots id : ℕ) (me : Holds) → me.0.stage ≡ Idle → Allows (Keeps key) slots id me 1 (λ n. n) (Glances me)
+glances key slots id me idle s keeping long at fits =
     let x = keeping.0 in let kept = keeping.1 in let v = me.0 in
     let drawn : 0 ≡ drawn_at v.stage = sym (ap drawn_at idle) in
     let free : busy_at v.stage ≡ 0 = ap busy_at idle in (
       view v.accounts x.history [] Idle,
       keeps,
       tt,
-      (x, goes_on seats s x kept id v at Idle tt (omega arith) drawn (omega (arith, kept.room, free)) s.homes (stays_home seats s x kept id v at Idle idle_is_no_turn (not_turn v.stage Idle idle idle_is_no_turn))),
-      (looked seats s x kept id v at Idle, refl),
+      (x, goes_on key.seats s x kept id v at Idle tt (omega arith) drawn (omega (arith, kept.room, free)) s.homes (stays_home key.seats s x kept id v at Idle idle_is_no_turn (not_turn v.stage Idle idle idle_is_no_turn)), keeping.2),
+      (looked key.seats s x kept id v at Idle, refl),
     )
 
 -- the test before a ticket is drawn
-pub tests : (seats slots id : ℕ) (me : Holds) → me.0.stage ≡ Idle → length me.0.accounts ≡ 1 → Allows (Keeps seats) slots id me 1 (λ n. n) (Tests me)
-tests seats slots id me idle alone s keeping long at fits =
+pub tests : (key : DeskKey) (slots id : ℕ) (me : Holds) → me.0.stage ≡ Idle → length me.0.accounts ≡ 1 → Allows (Keeps key) slots id me 1 (λ n. n) (Tests me)
+tests key slots id me idle alone s keeping long at fits =
     let x = keeping.0 in let kept = keeping.1 in let v = me.0 in
     let drawn : 0 ≡ drawn_at v.stage = sym (ap drawn_at idle) in
     let free : busy_at v.stage ≡ 0 = ap busy_at idle in
@@ -147,25 +161,25 @@ tests seats slots id me idle alone s keeping long at fits =
         view v.accounts x.history [] Idle,
         keeps,
         tt,
-        (x, goes_on seats s x kept id v at Idle tt (omega arith) drawn (omega (arith, kept.room, free)) s.homes (stays_home seats s x kept id v at Idle idle_is_no_turn before)),
-        ((λ few. absurd (omega arith)), (λ _. looked seats s x kept id v at Idle), refl),
+        (x, goes_on key.seats s x kept id v at Idle tt (omega arith) drawn (omega (arith, kept.room, free)) s.homes (stays_home key.seats s x kept id v at Idle idle_is_no_turn before), keeping.2),
+        ((λ few. absurd (omega arith)), (λ _. looked key.seats s x kept id v at Idle), refl),
       )
       | no few ↦
           let below : slice_index s.words 1 < 4611686018427387904 = lt_of_not-le few in
-          let found = found_is seats s x kept id v at in
+          let found = found_is key.seats s x kept id v at in
           let one : 1 ≤ length v.accounts = omega arith in
-          let busy = few_busy seats s x kept id v at Tested tt one in (
+          let busy = few_busy key.seats s x kept id v at Tested tt one in (
             view v.accounts x.history [] Tested,
             keeps,
             tt,
-            (x, goes_on seats s x kept id v at Tested tt one drawn (omega arith) s.homes (stays_home seats s x kept id v at Tested tested_is_no_turn before)),
-            ((λ _. looked seats s x kept id v at Tested), (λ many. absurd (omega arith)), refl),
+            (x, goes_on key.seats s x kept id v at Tested tt one drawn (omega arith) s.homes (stays_home key.seats s x kept id v at Tested tested_is_no_turn before), keeping.2),
+            ((λ _. looked key.seats s x kept id v at Tested), (λ many. absurd (omega arith)), refl),
           )
     ]
 
 -- a seat with a ticket waits: where as many calls are finished, it has the turn, and takes the hall
-pub awaits : (seats slots id : ℕ) (me : Holds) → me.0.stage ≡ Drawn (ticket_of me.0.stage) → 1 ≤ length me.0.accounts → Allows (Keeps seats) slots id me 1 (λ n. n) (Awaits me)
-awaits seats slots id me drawn one s keeping long at fits =
+pub awaits : (key : DeskKey) (slots id : ℕ) (me : Holds) → me.0.stage ≡ Drawn (ticket_of me.0.stage) → 1 ≤ length me.0.accounts → Allows (Keeps key) slots id me 1 (λ n. n) (Awaits me)
+awaits key slots id me drawn one s keeping long at fits =
     let x = keeping.0 in let kept = keeping.1 in let v = me.0 in
     let ticket : ℕ = ticket_of v.stage in
     let before : drawn_at v.stage ≡ 1 = ap drawn_at drawn in
@@ -174,19 +188,20 @@ awaits seats slots id me drawn one s keeping long at fits =
     let no_turn = not_turn v.stage (Drawn ticket) drawn (drawn_is_no_turn ticket) in
     elim (ℕ_discrete (slice_index s.words 1) (ticket_of v.stage)) [
       | yes come ↦
-          let here : length x.history ≡ ticket_of v.stage = sym (found_is seats s x kept id v at) ∙ come in
+          let here : length x.history ≡ ticket_of v.stage = sym (found_is key.seats s x kept id v at) ∙ come in
           let holds : x.holder (length x.history) ≡ id = ap x.holder here ∙ stands.0 in
           let drawn_before : length x.history < x.tickets = omega (arith, stands.2, here) in
-          let home = is_in seats s x kept id v at holds no_turn in (
+          let home = is_in key.seats s x kept id v at holds no_turn in (
             view v.accounts x.history [] Turn,
-            takes 0 (Some (journal_of x.history)),
+            takes 0 (Some (hall_of x.begun x.history)),
             ap (λ hs. get_elem? hs 0) home,
             (
               x,
-              goes_on seats s x kept id v at Turn (holds, drawn_before, refl) one (sym before) (omega (arith, kept.room, busy)) (set s.homes 0 none)
+              goes_on key.seats s x kept id v at Turn (holds, drawn_before, refl) one (sym before) (omega (arith, kept.room, busy)) (set s.homes 0 none)
                   (inr (ap (λ hs. set hs 0 none) home, (id, view v.accounts x.history [] Turn, at_put s.views id v (view v.accounts x.history [] Turn) at, refl))),
+              keeping.2,
             ),
-            ((λ _. (looked seats s x kept id v at Turn, refl)), (λ not. absurd (not come))),
+            ((λ _. (looked key.seats s x kept id v at Turn, ap (λ b. (0, Some (hall_of b x.history)) ∷ me.1) (sym (begun_is key.seats s x kept id v at one)))), (λ not. absurd (not come))),
           )
       | no early ↦ (
         view v.accounts x.history [] (Drawn (ticket_of v.stage)),
@@ -194,9 +209,10 @@ awaits seats slots id me drawn one s keeping long at fits =
         tt,
         (
           x,
-          goes_on seats s x kept id v at (Drawn (ticket_of v.stage)) stands one (sym before) (omega (arith, kept.room, busy)) s.homes
-              (stays_home seats s x kept id v at (Drawn (ticket_of v.stage)) (drawn_is_no_turn (ticket_of v.stage)) no_turn),
+          goes_on key.seats s x kept id v at (Drawn (ticket_of v.stage)) stands one (sym before) (omega (arith, kept.room, busy)) s.homes
+              (stays_home key.seats s x kept id v at (Drawn (ticket_of v.stage)) (drawn_is_no_turn (ticket_of v.stage)) no_turn),
+          keeping.2,
         ),
-        ((λ come. absurd (early come)), (λ _. (looked seats s x kept id v at (Drawn (ticket_of v.stage)), refl))),
+        ((λ come. absurd (early come)), (λ _. (looked key.seats s x kept id v at (Drawn (ticket_of v.stage)), refl))),
       )
     ]

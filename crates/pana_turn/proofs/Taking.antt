@@ -7,12 +7,12 @@ use mathlib.Core.Option.{some}
 use lib.ListN.{get_elem?}
 use Rattle.atomic_table.specs.Table.{State, keeps, Allows}
 use Rattle.atomic_table.proofs.Lists.{at_set, set_else}
-use Rattle.pana_journal.specs.declared.entry.Entry.{Entry}
 use Rattle.pana_turn.specs.declared.finished_call.FinishedCall.{FinishedCall}
 use Rattle.pana_turn.specs.declared.view.Stage.{Stage}
 use Rattle.pana_turn.specs.declared.view.Stage.TheVariants.{Idle, Tested, Drawn, Turn}
 use Rattle.pana_turn.specs.declared.view.View.{View}
-use Rattle.pana_turn.specs.Rule.{Course, IsAccountOf, FitsStage, Fits, IsHome, KeepsTo, Keeps, drawn_at, drawn_by, busy_at, busy_by, passes_of}
+use Rattle.pana_turn.specs.Hall.{HallView}
+use Rattle.pana_turn.specs.Rule.{Course, DeskKey, IsAccountOf, FitsStage, Fits, IsHome, KeepsTo, Keeps, drawn_at, drawn_by, busy_at, busy_by, passes_of}
 use Rattle.pana_turn.specs.inner.Views.{view}
 use Rattle.pana_turn.specs.inner.Steps.{Holds, Draws}
 use Rattle.pana_turn.proofs.Seats.{sum_by-put, sum_by-below}
@@ -26,7 +26,7 @@ drawn_below_busy Tested = omega arith
 drawn_below_busy (Drawn ticket) = omega arith
 drawn_below_busy Turn = omega arith
 
-module _ (seats : ℕ) (s : State (Maybe (List Entry)) View) (x : Course) (kept : KeepsTo seats s x) where
+module _ (seats : ℕ) (s : State (Maybe HallView) View) (x : Course) (kept : KeepsTo seats s x) where
   -- the words are far from the greatest number
   pub tickets_few : x.tickets ≤ 4611686018427387904 + 64
   tickets_few =
@@ -39,7 +39,7 @@ module _ (seats : ℕ) (s : State (Maybe (List Entry)) View) (x : Course) (kept 
 
   -- the course after a ticket is drawn
   abbrev drawn_course : ℕ → Course
-  drawn_course id = record { history = x.history; tickets = x.tickets + 1; speaker = x.speaker; holder = change_at x.holder x.tickets id }
+  drawn_course id = record { begun = x.begun; history = x.history; tickets = x.tickets + 1; speaker = x.speaker; holder = change_at x.holder x.tickets id }
 
   -- a ticket that was drawn before keeps its holder
   stage_after_draw : (id j : ℕ) (seen : List FinishedCall) (stage : Stage) → FitsStage x j seen stage → FitsStage (drawn_course id) j seen stage
@@ -101,13 +101,13 @@ module _ (seats : ℕ) (s : State (Maybe (List Entry)) View) (x : Course) (kept 
         }
 
 -- a seat that passed the test draws a ticket
-pub draws : (seats slots id : ℕ) (me : Holds) → me.0.stage ≡ Tested → Allows (Keeps seats) slots id me 0 (λ n. (n + 1) % 2 ^ 64) (Draws me)
-draws seats slots id me tested s keeping long at fits =
+pub draws : (key : DeskKey) (slots id : ℕ) (me : Holds) → me.0.stage ≡ Tested → Allows (Keeps key) slots id me 0 (λ n. (n + 1) % 2 ^ 64) (Draws me)
+draws key slots id me tested s keeping long at fits =
     let x = keeping.0 in let kept = keeping.1 in let v = me.0 in
     let found : slice_index s.words 0 ≡ x.tickets = ap (λ ws. slice_index ws 0) kept.words in (
       view v.accounts v.seen v.met (Drawn x.tickets),
       keeps,
       tt,
-      (drawn_course seats s x kept id, ticket_drawn seats s x kept id v at tested),
+      (drawn_course key.seats s x kept id, ticket_drawn key.seats s x kept id v at tested, keeping.2),
       ap (λ ticket. (view v.accounts v.seen v.met (Drawn ticket), me.1)) (sym found),
     )

@@ -2,16 +2,17 @@
 use Rattle.std.specs.Prelude.{◌≡◌, ◌==◌, ℕ, ◌<◌, Bool, true, false, List, length, All}
 use Rattle.std.specs.List.{list_any}
 use mathlib.Core.List.{IsPrefix}
-use Rattle.pana_journal.specs.declared.entry.Entry.{Entry}
 use Rattle.pana_turn.specs.declared.finished_call.FinishedCall.{FinishedCall}
-use Rattle.pana_turn.specs.History.{IsHistory, calls_of, journal_of}
+use Rattle.pana_turn.specs.Hall.{HallView}
+use Rattle.pana_turn.specs.History.{IsHistory, calls_of, hall_of}
 use Rattle.pana_turn.specs.Passes.{PassView, own_calls}
 
--- the journal and the number of calls are those of one history of these passes' calls
-pub record Closes (seats : ℕ) (passes : List PassView) (journal : List Entry) (calls : ℕ) : Type 0 where
+-- the hall and the number of calls are those that one history of these passes' calls leaves, from the hall that the
+-- desk was opened with
+pub record Closes (seats : ℕ) (begun : HallView) (passes : List PassView) (hall : HallView) (calls : ℕ) : Type 0 where
   pub history : List FinishedCall
-  pub run : IsHistory history
-  pub left : journal ≡ journal_of history
+  pub run : IsHistory begun history
+  pub left : hall ≡ hall_of begun history
   pub counted : calls ≡ length history
   -- it begins with what each pass has seen
   pub seen : All (λ pass. IsPrefix pass.seen history) passes

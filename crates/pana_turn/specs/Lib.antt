@@ -1,3 +1,4 @@
+pub mod Hall
 pub mod History
 pub mod Passes
 pub mod Closing

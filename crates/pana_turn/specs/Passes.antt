@@ -5,16 +5,22 @@ use Rattle.atomic_table.specs.Seated.{TableId}
 use Rattle.pana_hall.specs.declared.call.Call.{Call}
 use Rattle.pana_hall.specs.declared.reply.Reply.{Reply}
 use Rattle.pana_turn.specs.declared.finished_call.FinishedCall.{FinishedCall}
+use Rattle.pana_turn.specs.Hall.{HallView}
 use Rattle.pana_turn.specs.History.{calls_of}
+
+-- which desk it is, and the hall that it was opened with
+pub record DeskId : Type 0 where
+  pub table : TableId
+  pub begun : HallView
 
 -- a desk: which it is, and how many passes it has
 pub record DeskView : Type 0 where
-  pub id : TableId
+  pub id : DeskId
   pub seats : ℕ
 
 -- a pass: its desk, its number there, and the history that it has seen
 pub record PassView : Type 0 where
-  pub desk : TableId
+  pub desk : DeskId
   pub number : ℕ
   pub seen : List FinishedCall
 
@@ -28,11 +34,11 @@ abbrev pub own_calls : PassView → List FinishedCall
 own_calls pass = calls_of pass.number pass.seen
 
 -- the pass before its first call
-abbrev pub new_pass : TableId → ℕ → PassView
+abbrev pub new_pass : DeskId → ℕ → PassView
 new_pass desk number = record { desk = desk; number = number; seen = [] }
 
 -- the passes of a new desk, numbered from 0
-abbrev pub new_passes : TableId → ℕ → List PassView
+abbrev pub new_passes : DeskId → ℕ → List PassView
 new_passes desk seats = map (new_pass desk) (range_with_len 0 seats)
 
 -- one pass, before and after: what it has seen may differ

@@ -6,24 +6,31 @@ use mathlib.Core.List.{IsPrefix}
 use mathlib.Core.Option.{Option, none, some}
 use lib.ListN.{get_elem?}
 use Rattle.atomic_table.specs.Table.{State}
-use Rattle.pana_journal.specs.declared.entry.Entry.{Entry}
 use Rattle.pana_turn.specs.declared.finished_call.FinishedCall.{FinishedCall}
 use Rattle.pana_turn.specs.declared.view.Account.{Account}
 use Rattle.pana_turn.specs.declared.view.Stage.{Stage}
 use Rattle.pana_turn.specs.declared.view.Stage.TheVariants.{Idle, Tested, Drawn, Turn}
 use Rattle.pana_turn.specs.declared.view.View.{View}
-use Rattle.pana_turn.specs.History.{IsHistory, calls_of, journal_of}
+use Rattle.pana_turn.specs.Hall.{HallView}
+use Rattle.pana_turn.specs.History.{IsHistory, calls_of, hall_of}
 
--- what stands behind the words: the history, how many tickets were drawn, the seat that speaks for each pass, and the seat that drew each ticket
+-- the key of a desk's table: how many passes there are, and the hall that it was opened with
+pub record DeskKey : Type 0 where
+  pub seats : ℕ
+  pub begun : HallView
+
+-- what stands behind the words: the hall at the start, the history, how many tickets were drawn, the seat that speaks for each pass, and the seat that drew each ticket
 pub record Course : Type 0 where
+  pub begun : HallView
   pub history : List FinishedCall
   pub tickets : ℕ
   pub speaker : ℕ → ℕ
   pub holder : ℕ → ℕ
 
--- the seat speaks for a pass of the desk, and the account has that pass's calls
+-- the seat speaks for a pass of the desk, and the account has the hall at the start and that pass's calls
 pub record IsAccountOf (seats : ℕ) (course : Course) (seat : ℕ) (account : Account) : Type 0 where
   pub within : account.number < seats
+  pub begun : account.begun ≡ course.begun
   pub speaker : course.speaker account.number ≡ seat
   pub mine : calls_of account.number course.history ≡ account.mine
   pub seen : IsPrefix account.seen course.history
@@ -68,16 +75,16 @@ pub record Fits (seats : ℕ) (course : Course) (seat : ℕ) (view : View) : Typ
   pub busy : busy_by view ≤ passes_of view
 
 -- the hall is in its slot and no seat has the turn, or it is out and some seat has it
-abbrev pub IsHome : Course → List (Option (Maybe (List Entry))) → List View → Type 0
+abbrev pub IsHome : Course → List (Option (Maybe HallView)) → List View → Type 0
 IsHome course homes views =
-    ((homes ≡ some (Some (journal_of course.history)) ∷ []) × ((seat : ℕ) (view : View) → get_elem? views seat ≡ some view → view.stage ≡ Turn → ⊥))
+    ((homes ≡ some (Some (hall_of course.begun course.history)) ∷ []) × ((seat : ℕ) (view : View) → get_elem? views seat ≡ some view → view.stage ≡ Turn → ⊥))
     ⊎ ((homes ≡ none ∷ []) × ((seat : ℕ) × (view : View) × (get_elem? views seat ≡ some view) × (view.stage ≡ Turn)))
 
 -- the table of a desk with this many passes, on this course
-pub record KeepsTo (seats : ℕ) (table : State (Maybe (List Entry)) View) (course : Course) : Type 0 where
+pub record KeepsTo (seats : ℕ) (table : State (Maybe HallView) View) (course : Course) : Type 0 where
   -- word 0 is the number of tickets, word 1 that of finished calls
   pub words : table.words ≡ course.tickets ∷ length course.history ∷ []
-  pub run : IsHistory course.history
+  pub run : IsHistory course.begun course.history
   pub known : All (λ finished. finished.pass < seats) course.history
   pub few : seats ≤ 64
   -- each pass has one seat that speaks for it
@@ -88,9 +95,9 @@ pub record KeepsTo (seats : ℕ) (table : State (Maybe (List Entry)) View) (cour
   pub fits : (seat : ℕ) (view : View) → get_elem? table.views seat ≡ some view → Fits seats course seat view
   pub home : IsHome course table.homes table.views
 
--- there is such a course
-abbrev pub Keeps : ℕ → State (Maybe (List Entry)) View → Type 0
-Keeps seats table = (course : Course) × KeepsTo seats table course
+-- there is such a course, from the hall that the desk was opened with
+abbrev pub Keeps : DeskKey → State (Maybe HallView) View → Type 0
+Keeps key table = (course : Course) × KeepsTo key.seats table course × (course.begun ≡ key.begun)
 
 -- no call is on its way
 abbrev pub AllIdle : List View → Type 0
@@ -100,15 +107,15 @@ AllIdle views = (seat : ℕ) (view : View) → get_elem? views seat ≡ some vie
 abbrev pub HasTurn : List View → ℕ → View → Type 0
 HasTurn views seat view = (get_elem? views seat ≡ some view) × (view.stage ≡ Turn)
 
--- the hall is in its slot, its journal is that of a history, and both words are that history's length
-pub record IsAtRest (table : State (Maybe (List Entry)) View) : Type 0 where
+-- the hall is in its slot, it is that which a history leaves, and both words are that history's length
+pub record IsAtRest (begun : HallView) (table : State (Maybe HallView) View) : Type 0 where
   pub history : List FinishedCall
-  pub run : IsHistory history
+  pub run : IsHistory begun history
   pub words : table.words ≡ length history ∷ length history ∷ []
-  pub home : table.homes ≡ some (Some (journal_of history)) ∷ []
+  pub home : table.homes ≡ some (Some (hall_of begun history)) ∷ []
 
 -- the hall is out, and what the seat has seen is a history, of the length in word 1
-pub record IsAway (table : State (Maybe (List Entry)) View) (view : View) : Type 0 where
-  pub run : IsHistory view.seen
+pub record IsAway (begun : HallView) (table : State (Maybe HallView) View) (view : View) : Type 0 where
+  pub run : IsHistory begun view.seen
   pub finished : slice_index table.words 1 ≡ length view.seen
   pub away : table.homes ≡ none ∷ []

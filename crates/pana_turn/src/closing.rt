@@ -32,7 +32,7 @@ pub(crate) fn has_all(seats: u32, passes: &[Pass]) -> bool
 pub(crate) fn gather(floor: &Floor, seat: &mut Place, passes: Vec<Pass>)
     requires floor { (floor.now.table_id.words ≡ 2) × (floor.now.table_id.slots ≡ 1) }
     requires seat { (seat.old.table_id ≡ floor.now.table_id) × (seat.old.me ≡ (note seat.old.me.0.seen, [])) }
-    requires passes { All (λ pass. pass.desk ≡ floor.now.table_id) passes.items }
+    requires passes { All (λ pass. pass.desk.table ≡ floor.now.table_id) passes.items }
     ensures table { (seat.new.table_id ≡ seat.old.table_id) × (seat.new.id ≡ seat.old.id) }
     ensures gathered { seat.new.me ≡ (view (map account_of passes.items) seat.old.me.0.seen [] Idle, []) }
 {

@@ -11,9 +11,9 @@ use crate::turns::{Floor, Place};
 /// Deals a pass for each number from the first seat, which speaks for them all. Takes no memory.
 pub(crate) fn deal(floor: &Floor, seat: &mut Place, seats: u32, passes: &mut Vec<Pass>)
     requires floor { (floor.now.table_id.words ≡ 2) × (floor.now.table_id.slots ≡ 1) }
-    requires seat { (seat.old.table_id ≡ floor.now.table_id) × (seat.old.me ≡ (first seats, [])) }
+    requires seat { (seat.old.table_id ≡ floor.now.table_id) × (floor.now.key.seats ≡ seats) × (seat.old.me ≡ (first floor.now.key, [])) }
     requires passes { (passes.old.items ≡ []) × (seats ≤ vec_capacity passes.old) }
-    ensures { passes.new.items ≡ new_passes floor.now.table_id seats }
+    ensures { passes.new.items ≡ new_passes (record { table = floor.now.table_id; begun = floor.now.key.begun }) seats }
 {
     for number in 0..seats {
         let place = floor.split_seat::<Dealing>(seat);

@@ -4,6 +4,7 @@
 mod closing;
 mod dealing;
 mod desk;
+mod desk_hall;
 mod finished_call;
 pub mod laws;
 mod pass;
@@ -12,7 +13,8 @@ mod turn;
 mod turns;
 mod view;
 
-pub use crate::desk::{CloseRefused, Closed, Desk};
+pub use crate::desk::{CallFault, CloseRefused, Closed, Desk};
+pub use crate::desk_hall::DeskHall;
 pub use crate::finished_call::FinishedCall;
 pub use crate::pass::{Note, Pass};
 

@@ -14,13 +14,13 @@ impl Model for Pass {
     ghost use Rattle.pana_turn.specs.Passes.{PassView};
     ghost use Rattle.pana_turn.specs.History.{calls_of};
     ghost use Rattle.pana_turn.specs.declared.view.Stage.TheVariants.{Idle};
-    ghost use Rattle.pana_turn.specs.inner.Views.{pass};
+    ghost use Rattle.pana_turn.specs.inner.Views.{begun_of, pass};
 
     ghost Value = { PassView };
 
-    ghost view = { λ p. record { desk = p.seat.table_id; number = p.number; seen = p.seat.me.0.seen } };
+    ghost view = { λ p. record { desk = record { table = p.seat.table_id; begun = begun_of p.seat.me.0.accounts }; number = p.number; seen = p.seat.me.0.seen } };
 
-    ghost invariant = { λ p. p.seat.me ≡ (pass p.number (calls_of p.number p.seat.me.0.seen) p.seat.me.0.seen Idle, []) };
+    ghost invariant = { λ p. p.seat.me ≡ (pass (begun_of p.seat.me.0.accounts) p.number (calls_of p.number p.seat.me.0.seen) p.seat.me.0.seen Idle, []) };
 }
 
 /// What a pass had seen when it wrote this down, to be met by another pass of its desk. It takes no room.

@@ -1,13 +1,13 @@
+use crate::desk_hall::DeskHall;
 use crate::finished_call::FinishedCall;
 use crate::view::View;
 use atomic_table::{Join, Play, Split};
-use pana_hall::Hall;
 use std::marker::{Brand, PhantomData};
 
 /// A look at how many calls are finished.
 pub(crate) struct Glance;
 
-impl Play<Option<Hall>, View> for Glance {
+impl Play<Option<DeskHall>, View> for Glance {
     ghost use Rattle.pana_turn.specs.inner.Steps.{Glances};
 
     ghost then = { λ _. Glances };
@@ -16,7 +16,7 @@ impl Play<Option<Hall>, View> for Glance {
 /// The same, before a ticket is drawn: are calls left?
 pub(crate) struct Test;
 
-impl Play<Option<Hall>, View> for Test {
+impl Play<Option<DeskHall>, View> for Test {
     ghost use Rattle.pana_turn.specs.inner.Steps.{Tests};
 
     ghost then = { λ _. Tests };
@@ -25,7 +25,7 @@ impl Play<Option<Hall>, View> for Test {
 /// A ticket is drawn.
 pub(crate) struct Draw;
 
-impl Play<Option<Hall>, View> for Draw {
+impl Play<Option<DeskHall>, View> for Draw {
     ghost use Rattle.pana_turn.specs.inner.Steps.{Draws};
 
     ghost then = { λ _. Draws };
@@ -34,7 +34,7 @@ impl Play<Option<Hall>, View> for Draw {
 /// A look at how many calls are finished, with a ticket: where the turn has come, it takes the hall.
 pub(crate) struct Await;
 
-impl Play<Option<Hall>, View> for Await {
+impl Play<Option<DeskHall>, View> for Await {
     ghost use Rattle.pana_turn.specs.inner.Steps.{Awaits};
 
     ghost then = { λ _. Awaits };
@@ -58,7 +58,7 @@ pub(crate) struct Finish<C: Naming> {
     of: PhantomData<C>,
 }
 
-impl<C: Naming> Play<Option<Hall>, View> for Finish<C> {
+impl<C: Naming> Play<Option<DeskHall>, View> for Finish<C> {
     ghost use Rattle.pana_turn.specs.inner.Steps.{Finishes};
 
     ghost then = { λ _. Finishes C.finished };

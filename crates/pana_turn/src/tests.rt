@@ -3,9 +3,9 @@
 
 ghost use Rattle.std.specs.Prelude.{◌≡◌};
 
-use crate::{Desk, Pass};
+use crate::{CallFault, Desk, Pass};
 use pana_copies::{CopyPath, DeviceName, Place};
-use pana_hall::{Call, Cause, Query, Reply, Spent};
+use pana_hall::{Call, Cause, Query, Reply};
 use pana_journal::Report;
 use std::alloc::{AllocError, Global};
 use std::sync::Wait;
@@ -22,7 +22,7 @@ fn register(alloc: Global, device: &str) -> Result<Call, Fail> {
 }
 
 /// The number of the entry that a report made, or 0 where it made none. `None` where memory ran out.
-fn entry_of(reply: Result<Reply, Spent>) -> Option<u64> {
+fn entry_of(reply: Result<Reply, CallFault>) -> Option<u64> {
     match reply {
         Ok(Reply::Done { entry }) => Some(entry),
         Ok(Reply::Refused(Cause::OutOfMemory)) => None,

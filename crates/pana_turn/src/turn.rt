@@ -1,16 +1,17 @@
 //! A turn: to wait for it, and to end it.
 
 ghost use Rattle.std.specs.Prelude.{◌≡◌, ◌++◌, [], ◌∷◌, IsFalse, IsTrue, None, Some};
-ghost use Rattle.pana_hall.specs.Permit.{Permits, journal_after};
+ghost use Rattle.pana_hall.specs.Permit.{journal_after};
 ghost use Rattle.pana_turn.specs.declared.view.Stage.TheVariants.{Drawn, Idle, Tested, Turn};
-ghost use Rattle.pana_turn.specs.History.{IsHistory, calls_of, journal_of};
+ghost use Rattle.pana_turn.specs.History.{IsHistory, Replies, calls_of, hall_of, journal_of};
 ghost use Rattle.pana_turn.specs.inner.Steps.{SeesMore};
 ghost use Rattle.pana_turn.specs.inner.Views.{pass};
 
+use crate::desk_hall::DeskHall;
 use crate::plays::{Await, Draw, Finish, Naming};
 use crate::turns::{Floor, Place};
 use pana_copies::DeviceName;
-use pana_hall::{Call, Hall, Reply};
+use pana_hall::{Call, Reply};
 use std::snapshot::Snapshot;
 use std::sync::Wait;
 use std::sync::atomic::AtomicU64;
@@ -53,11 +54,11 @@ fn await_rest<R: Wait>(rt: &R, floor: &Floor)
 /// A look whether the ticket's turn has come. Where it has, the hall's slot is the seat's.
 fn has_come(floor: &Floor, seat: &mut Place, number: u32, ticket: u64) -> bool
     requires floor { (floor.now.table_id.words ≡ 2) × (floor.now.table_id.slots ≡ 1) }
-    requires seat { (seat.old.table_id ≡ floor.now.table_id) × (seat.old.me ≡ (pass number (calls_of number seat.old.me.0.seen) seat.old.me.0.seen (Drawn ticket), [])) }
+    requires seat { (seat.old.table_id ≡ floor.now.table_id) × (seat.old.me ≡ (pass floor.now.key.begun number (calls_of number seat.old.me.0.seen) seat.old.me.0.seen (Drawn ticket), [])) }
     ensures table { seat.new.table_id ≡ seat.old.table_id }
-    ensures come { IsTrue result → seat.new.me ≡ (pass number (calls_of number seat.old.me.0.seen) seat.new.me.0.seen Turn, (0, Some (journal_of seat.new.me.0.seen)) ∷ []) }
-    ensures early { IsFalse result → seat.new.me ≡ (pass number (calls_of number seat.old.me.0.seen) seat.new.me.0.seen (Drawn ticket), []) }
-    ensures looked { SeesMore number seat.old.me.0.seen seat.new.me.0.seen }
+    ensures come { IsTrue result → seat.new.me ≡ (pass floor.now.key.begun number (calls_of number seat.old.me.0.seen) seat.new.me.0.seen Turn, (0, Some (hall_of floor.now.key.begun seat.new.me.0.seen)) ∷ []) }
+    ensures early { IsFalse result → seat.new.me ≡ (pass floor.now.key.begun number (calls_of number seat.old.me.0.seen) seat.new.me.0.seen (Drawn ticket), []) }
+    ensures looked { SeesMore floor.now.key.begun number seat.old.me.0.seen seat.new.me.0.seen }
 {
     floor.load::<Await>(seat, 1) == ticket
 }
@@ -65,10 +66,10 @@ fn has_come(floor: &Floor, seat: &mut Place, number: u32, ticket: u64) -> bool
 /// Waits until the ticket's turn has come.
 fn await_turn<R: Wait>(rt: &R, floor: &Floor, seat: &mut Place, number: u32, ticket: u64)
     requires floor { (floor.now.table_id.words ≡ 2) × (floor.now.table_id.slots ≡ 1) }
-    requires seat { (seat.old.table_id ≡ floor.now.table_id) × (seat.old.me ≡ (pass number (calls_of number seat.old.me.0.seen) seat.old.me.0.seen (Drawn ticket), [])) }
+    requires seat { (seat.old.table_id ≡ floor.now.table_id) × (seat.old.me ≡ (pass floor.now.key.begun number (calls_of number seat.old.me.0.seen) seat.old.me.0.seen (Drawn ticket), [])) }
     ensures table { seat.new.table_id ≡ seat.old.table_id }
-    ensures turn { seat.new.me ≡ (pass number (calls_of number seat.old.me.0.seen) seat.new.me.0.seen Turn, (0, Some (journal_of seat.new.me.0.seen)) ∷ []) }
-    ensures looked { SeesMore number seat.old.me.0.seen seat.new.me.0.seen }
+    ensures turn { seat.new.me ≡ (pass floor.now.key.begun number (calls_of number seat.old.me.0.seen) seat.new.me.0.seen Turn, (0, Some (hall_of floor.now.key.begun seat.new.me.0.seen)) ∷ []) }
+    ensures looked { SeesMore floor.now.key.begun number seat.old.me.0.seen seat.new.me.0.seen }
 {
     for _ in rt.forever() {
         if has_come(floor, seat, number, ticket) {
@@ -80,12 +81,12 @@ fn await_turn<R: Wait>(rt: &R, floor: &Floor, seat: &mut Place, number: u32, tic
 }
 
 /// Draws a ticket, waits until that number of calls is finished, and takes the hall.
-pub(crate) fn take_turn<R: Wait>(rt: &R, floor: &Floor, seat: &mut Place, number: u32) -> Hall
+pub(crate) fn take_turn<R: Wait>(rt: &R, floor: &Floor, seat: &mut Place, number: u32) -> DeskHall
     requires floor { (floor.now.table_id.words ≡ 2) × (floor.now.table_id.slots ≡ 1) }
-    requires seat { (seat.old.table_id ≡ floor.now.table_id) × (seat.old.me ≡ (pass number (calls_of number seat.old.me.0.seen) seat.old.me.0.seen Tested, [])) }
-    ensures seat { (seat.new.table_id ≡ seat.old.table_id) × (seat.new.me ≡ (pass number (calls_of number seat.old.me.0.seen) seat.new.me.0.seen Turn, (0, None) ∷ [])) }
-    ensures looked { SeesMore number seat.old.me.0.seen seat.new.me.0.seen }
-    ensures hall { result ≡ journal_of seat.new.me.0.seen }
+    requires seat { (seat.old.table_id ≡ floor.now.table_id) × (seat.old.me ≡ (pass floor.now.key.begun number (calls_of number seat.old.me.0.seen) seat.old.me.0.seen Tested, [])) }
+    ensures seat { (seat.new.table_id ≡ seat.old.table_id) × (seat.new.me ≡ (pass floor.now.key.begun number (calls_of number seat.old.me.0.seen) seat.new.me.0.seen Turn, (0, None) ∷ [])) }
+    ensures looked { SeesMore floor.now.key.begun number seat.old.me.0.seen seat.new.me.0.seen }
+    ensures hall { result ≡ hall_of floor.now.key.begun seat.new.me.0.seen }
 {
     await_rest(rt, floor);
     let ticket = floor.fetch_add::<Draw>(seat, 0, 1);
@@ -100,21 +101,21 @@ pub(crate) fn take_turn<R: Wait>(rt: &R, floor: &Floor, seat: &mut Place, number
 pub(crate) fn give_turn<C: Naming>(
     floor: &Floor,
     seat: &mut Place,
-    hall: Hall,
+    hall: DeskHall,
     number: u32,
     by: &DeviceName,
     call: Snapshot<Call>,
     reply: &Reply,
 )
     requires floor { (floor.now.table_id.words ≡ 2) × (floor.now.table_id.slots ≡ 1) }
-    requires seat { (seat.old.table_id ≡ floor.now.table_id) × (seat.old.me ≡ (pass number (calls_of number seat.old.me.0.seen) seat.old.me.0.seen Turn, (0, None) ∷ [])) }
+    requires seat { (seat.old.table_id ≡ floor.now.table_id) × (seat.old.me ≡ (pass floor.now.key.begun number (calls_of number seat.old.me.0.seen) seat.old.me.0.seen Turn, (0, None) ∷ [])) }
     requires named { C.finished ≡ record { pass = number; by = by.now; call = call.value; reply = reply.now } }
-    requires permitted { Permits (journal_of seat.old.me.0.seen) by.now call.value reply.now }
-    requires hall { hall ≡ journal_after (journal_of seat.old.me.0.seen) by.now call.value reply.now }
+    requires replies { Replies floor.now.key.begun.keeps (journal_of floor.now.key.begun seat.old.me.0.seen) by.now call.value reply.now }
+    requires hall { hall ≡ record { entries = journal_after (journal_of floor.now.key.begun seat.old.me.0.seen) by.now call.value reply.now; keeps = floor.now.key.begun.keeps } }
     ensures table { seat.new.table_id ≡ seat.old.table_id }
-    ensures finished { seat.new.me ≡ (pass number (calls_of number seat.old.me.0.seen ++ C.finished ∷ []) (seat.old.me.0.seen ++ C.finished ∷ []) Idle, []) }
+    ensures finished { seat.new.me ≡ (pass floor.now.key.begun number (calls_of number seat.old.me.0.seen ++ C.finished ∷ []) (seat.old.me.0.seen ++ C.finished ∷ []) Idle, []) }
     ensures own { calls_of number (seat.old.me.0.seen ++ C.finished ∷ []) ≡ calls_of number seat.old.me.0.seen ++ C.finished ∷ [] }
-    ensures run { IsHistory (seat.old.me.0.seen ++ C.finished ∷ []) }
+    ensures run { IsHistory floor.now.key.begun (seat.old.me.0.seen ++ C.finished ∷ []) }
 {
     floor.exchange(seat, 0, Some(hall));
     floor.fetch_add::<Finish<C>>(seat, 1, 1);

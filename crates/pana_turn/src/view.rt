@@ -1,10 +1,13 @@
+use crate::desk_hall::DeskHall;
 use crate::finished_call::FinishedCall;
 use std::collections::LinkedList;
 
-/// A pass that a seat speaks for: its number, the calls that it made, and what it had seen when it was handed back.
+/// A pass that a seat speaks for: its number, the hall that its desk was opened with, the calls that it made, and what it
+/// had seen when it was handed back.
 /// No value of it is made.
 pub struct Account {
     pub number: u32,
+    pub begun: DeskHall,
     pub mine: LinkedList<FinishedCall>,
     pub seen: LinkedList<FinishedCall>,
 }

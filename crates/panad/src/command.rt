@@ -89,8 +89,8 @@ standard error.";
 
 const SERVE_EXAMPLE: &str = "\
 It listens on 127.0.0.1 alone, and prints where. Each connection is a session as
-that of `panad run`, and all sessions share one journal. Nothing is kept after it
-ends. Example:
+that of `panad run`, and all sessions share one journal. Without --journal nothing
+is kept after it ends. Example:
 
     $ panad serve --port 7000 usb=/media/usb laptop=/home/me/papers
     listening 127.0.0.1:7000
@@ -219,6 +219,9 @@ fn serve_command<'a>(alloc: Global) -> Result<Command<'a>, AllocError> {
         .value_name("S")
         .value_parser(value_parser!(u64))
         .help("End after S sessions and the end of standard input");
+    let journal = journal_option(alloc).help(
+        "The file that keeps the reports; it is made if it isn't there",
+    );
     let roots = Arg::new(alloc, ROOT)
         .action(ArgAction::Append)
         .help("A device and the folder with its copies, up to 8 of them");
@@ -227,6 +230,7 @@ fn serve_command<'a>(alloc: Global) -> Result<Command<'a>, AllocError> {
         .after_help(SERVE_EXAMPLE)
         .arg(port)?
         .arg(sessions)?
+        .arg(journal)?
         .arg(roots)
 }
 
@@ -291,7 +295,8 @@ fn serve<T: Threads + Wait + Sync>(
     // The port is required, so it is there.
     let port = words.get_one(PORT).unwrap_or(0);
     let roots = words.get_strs(ROOT).unwrap_or(&[]);
-    daemon::serve(rt, threads, port, words.get_one(SESSIONS), roots)
+    let journal = words.get_str(JOURNAL);
+    daemon::serve(rt, threads, port, words.get_one(SESSIONS), journal, roots)
 }
 
 /// The bytes of a file, or `None` where it can't be read.

@@ -2,7 +2,10 @@
 
 use crate::answer::Answer;
 use crate::fault::ProgramFault;
+use crate::keeping::open_hall;
 use pana_daemon::{DaemonFault, RootFault, roots_of};
+use pana_hall::Hall;
+use pana_turn::DeskHall;
 use std::io;
 use std::marker::Sync;
 use std::net::{Ipv4Addr, SocketAddr, TcpListener};
@@ -22,6 +25,22 @@ fn complain(rt: &HostRuntime, text: &String) -> Result<ExitCode, ProgramFault> {
     Answer::reported(rt.alloc(), text)?.print(rt)
 }
 
+/// The hall that all sessions share: that of a journal's file, or a new one; or the status, where a line says why there is
+/// none.
+fn hall_of(
+    rt: &HostRuntime,
+    journal: Option<&str>,
+) -> Result<Result<DeskHall, ExitCode>, ProgramFault> {
+    let Some(name) = journal else {
+        let hall = Hall::new(rt.alloc()).map_err(|_| ProgramFault::OutOfMemory)?;
+        return Ok(Ok(DeskHall::alone(hall)));
+    };
+    match open_hall(rt, name)? {
+        Ok(hall) => Ok(Ok(DeskHall::kept(hall))),
+        Err(status) => Ok(Err(status)),
+    }
+}
+
 /// Listens on a port of 127.0.0.1, and serves sessions and scans the roots that the words name, until as many sessions
 /// were served as are wanted and standard input has ended.
 pub fn serve<T: Threads + Wait + Sync>(
@@ -29,6 +48,7 @@ pub fn serve<T: Threads + Wait + Sync>(
     threads: &T,
     port: u16,
     wanted: Option<u64>,
+    journal: Option<&str>,
     words: &[&str],
 ) -> Result<ExitCode, ProgramFault> {
     let alloc = rt.alloc();
@@ -42,8 +62,21 @@ pub fn serve<T: Threads + Wait + Sync>(
     let Ok((listener, address)) = listener_on(rt, port) else {
         return complain(rt, &format!(in alloc; "cannot listen on port {port}")?);
     };
-    match pana_daemon::serve(rt, threads, &listener, &address, wanted, roots.as_slice()) {
+    let hall = match hall_of(rt, journal)? {
+        Ok(hall) => hall,
+        Err(status) => return Ok(status),
+    };
+    match pana_daemon::serve(
+        rt,
+        threads,
+        &listener,
+        &address,
+        wanted,
+        roots.as_slice(),
+        hall,
+    ) {
         Ok(()) => Ok(ExitCode::SUCCESS),
+        Err(DaemonFault::Unanswered) => Ok(ExitCode::FAILURE), // it has been printed
         Err(DaemonFault::OutOfMemory) => Err(ProgramFault::OutOfMemory),
         Err(DaemonFault::Write) => Err(ProgramFault::Write),
     }

@@ -49,20 +49,31 @@ fn serve_input(
     }
 }
 
-/// Serves standard input as `run` does, on the hall of a journal's file, which keeps each entry before its `Done` is
-/// printed.
-pub fn run_kept(rt: &HostRuntime, name: &str) -> Result<ExitCode, ProgramFault> {
+/// The hall of a journal's file; or the status, where a line says why there is none.
+pub fn open_hall(
+    rt: &HostRuntime,
+    name: &str,
+) -> Result<Result<KeptHall<FileDevice>, ExitCode>, ProgramFault> {
     let file = match open_locked(rt, name) {
         Ok(file) => file,
-        Err(fault) => return report_file(rt, name, fault),
+        Err(fault) => return Ok(Err(report_file(rt, name, fault)?)),
     };
     let mut journal = Journal::new(FileDevice::new(file));
     match pana_kept::open(rt.alloc(), &mut journal) {
         Ok(Opened { hall, torn }) => {
             report_torn(rt, name, torn);
-            serve_input(rt, KeptHall::new(rt.alloc(), hall, journal))
+            Ok(Ok(KeptHall::new(rt.alloc(), hall, journal)))
         }
-        Err(fault) => report_fault(rt, name, fault),
+        Err(fault) => Ok(Err(report_fault(rt, name, fault)?)),
+    }
+}
+
+/// Serves standard input as `run` does, on the hall of a journal's file, which keeps each entry before its `Done` is
+/// printed.
+pub fn run_kept(rt: &HostRuntime, name: &str) -> Result<ExitCode, ProgramFault> {
+    match open_hall(rt, name)? {
+        Ok(hall) => serve_input(rt, hall),
+        Err(status) => Ok(status),
     }
 }
 

@@ -1,6 +1,6 @@
 -- Booths: where a lane waits for its thread, and its end is put.
 use Rattle.std.specs.Prelude.{◌≡◌, ℕ, List, [], ◌∷◌, Option, Some, None}
-use Rattle.atomic_table.specs.Seated.{TableId}
+use Rattle.pana_turn.specs.Passes.{DeskId}
 use Rattle.pana_host.specs.Lane.{IsReady, IsServed}
 use Rattle.pana_host.specs.declared.lane.Lane.{Lane}
 use Rattle.pana_host.specs.declared.lane.LaneEnd.{LaneEnd}
@@ -11,7 +11,7 @@ abbrev pub waiting : {R W : Type 0} → Lane R W → Booth R W
 waiting lane = record { lane = Some lane; end = None }
 
 -- a lane that is ready waits there
-abbrev pub Waits : {R W : Type 0} → TableId → Booth R W → Type 0
+abbrev pub Waits : {R W : Type 0} → DeskId → Booth R W → Type 0
 Waits {R = R} {W = W} desk booth = (lane : Lane R W) × (booth.lane ≡ Some lane) × IsReady desk lane
 
 -- the lane that waited was served, and its end is there

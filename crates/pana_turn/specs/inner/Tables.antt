@@ -1,11 +1,12 @@
 -- The table of a desk.
 use Rattle.std.specs.Prelude.{◌≡◌, ℕ, ◌<◌, ◌≤◌}
 use Rattle.atomic_table.specs.Seated.{TableId}
+use Rattle.pana_turn.specs.Rule.{DeskKey}
 
 -- two words and one slot, under the rule for this many passes, of which there are 1 to 64
-pub record IsTable (id : TableId) (rule seats : ℕ) : Type 0 where
+pub record IsTable (id : TableId) (rule : DeskKey) (seats : ℕ) : Type 0 where
   pub words : id.words ≡ 2
   pub slots : id.slots ≡ 1
-  pub rule_is : rule ≡ seats
+  pub rule_is : rule.seats ≡ seats
   pub not_none : 0 < seats
   pub few : seats ≤ 64

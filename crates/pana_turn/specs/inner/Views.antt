@@ -6,29 +6,36 @@ use Rattle.pana_turn.specs.declared.view.Account.{Account}
 use Rattle.pana_turn.specs.declared.view.Stage.{Stage}
 use Rattle.pana_turn.specs.declared.view.Stage.TheVariants.{Idle}
 use Rattle.pana_turn.specs.declared.view.View.{View}
+use Rattle.pana_turn.specs.Hall.{HallView, new_hall}
 use Rattle.pana_turn.specs.Passes.{PassView, own_calls}
+use Rattle.pana_turn.specs.Rule.{DeskKey}
 
 abbrev pub view : List Account → List FinishedCall → List FinishedCall → Stage → View
 view accounts seen met stage = record { accounts = accounts; seen = seen; met = met; stage = stage }
 
-abbrev pub account : ℕ → List FinishedCall → List FinishedCall → Account
-account number mine seen = record { number = number; mine = mine; seen = seen }
+abbrev pub account : HallView → ℕ → List FinishedCall → List FinishedCall → Account
+account begun number mine seen = record { number = number; begun = begun; mine = mine; seen = seen }
 
 -- the seat of a pass
-abbrev pub pass : ℕ → List FinishedCall → List FinishedCall → Stage → View
-pass number mine seen stage = view (account number mine [] ∷ []) seen [] stage
+abbrev pub pass : HallView → ℕ → List FinishedCall → List FinishedCall → Stage → View
+pass begun number mine seen stage = view (account begun number mine [] ∷ []) seen [] stage
 
 -- a pass that made no call
-abbrev pub new_account : ℕ → Account
-new_account number = account number [] []
+abbrev pub new_account : HallView → ℕ → Account
+new_account begun number = account begun number [] []
 
 -- the passes from this number on
-abbrev pub accounts_from : ℕ → ℕ → List Account
-accounts_from number seats = map new_account (range_with_len number (seats - number))
+abbrev pub accounts_from : HallView → ℕ → ℕ → List Account
+accounts_from begun number seats = map (new_account begun) (range_with_len number (seats - number))
 
 -- the first seat speaks for every pass
-abbrev pub first : ℕ → View
-first seats = view (accounts_from 0 seats) [] [] Idle
+abbrev pub first : DeskKey → View
+first key = view (accounts_from key.begun 0 key.seats) [] [] Idle
+
+-- the hall that the first account's desk was opened with
+abbrev pub begun_of : List Account → HallView
+begun_of [] = new_hall
+begun_of (a ∷ accounts) = a.begun
 
 -- the first account alone, and the others
 abbrev pub one : List Account → List Account
@@ -64,7 +71,7 @@ informed v w = view v.accounts v.seen w.seen v.stage
 
 -- the accounts remember what was seen
 abbrev pub sealed : List FinishedCall → List Account → List Account
-sealed seen accounts = map (λ a. account a.number a.mine seen) accounts
+sealed seen accounts = map (λ a. account a.begun a.number a.mine seen) accounts
 
 -- the seat takes in another's accounts, with what that one had seen
 abbrev pub gathered : View → View → View
@@ -72,4 +79,4 @@ gathered v w = view (v.accounts ++ sealed w.seen w.accounts) v.seen v.met v.stag
 
 -- a pass that was handed back: its number, its own calls, and what it had seen
 abbrev pub account_of : PassView → Account
-account_of p = account p.number (own_calls p) p.seen
+account_of p = account p.desk.begun p.number (own_calls p) p.seen

@@ -12,4 +12,4 @@ invariant-loop-pass l =
     × (l.seat.id ≡ l.fn.seat.id)
     × (l.seat.me ≡ (view l.seat.me.0.accounts l.fn.seat.me.0.seen [] Idle, []))
     × (l.seat.me.0.accounts ++ map account_of l.pass-iterator.rest.items ≡ map account_of l.fn.passes.items)
-    × All (λ pass. pass.desk ≡ l.floor.table_id) l.pass-iterator.rest.items
+    × All (λ pass. pass.desk.table ≡ l.floor.table_id) l.pass-iterator.rest.items

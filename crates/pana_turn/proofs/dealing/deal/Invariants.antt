@@ -8,6 +8,6 @@ use Rattle.pana_turn.proofs.dealing.deal.Given as goal
 abbrev pub invariant-loop-number : goal.invariant-loop-number
 invariant-loop-number l =
     (l.seat.table_id ≡ l.floor.table_id)
-    × (l.seat.me ≡ (view (accounts_from l.number l.seats) [] [] Idle, []))
-    × (l.passes.items ≡ new_passes l.floor.table_id l.number)
+    × (l.seat.me ≡ (view (accounts_from l.floor.key.begun l.number l.seats) [] [] Idle, []))
+    × (l.passes.items ≡ new_passes (record { table = l.floor.table_id; begun = l.floor.key.begun }) l.number)
     × (l.seats ≤ vec_capacity l.passes)

@@ -4,7 +4,7 @@ use Rattle.pana_hall.specs.declared.call.Call.{Call}
 use Rattle.pana_hall.specs.declared.call.Call.TheVariants as calls
 use Rattle.pana_kept.specs.Kept.{KeptView, IsKept, Keeps}
 use Rattle.pana_kept.proofs.Calls.{after_query, answered}
-use Rattle.pana_kept.proofs.kept_hall.KeptHallSession.call.Goals as goal
+use Rattle.pana_kept.proofs.kept_hall.KeptHall.make.Goals as goal
 
 pub invariant_of-self : goal.invariant_of-self
 invariant_of-self g c known =
