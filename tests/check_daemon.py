@@ -6,16 +6,14 @@ The last line is 'N passed, M failed'.
 """
 from __future__ import annotations
 
-import shutil
 import socket
 import struct
 import subprocess
 import sys
-import tempfile
 import time
 from pathlib import Path
 
-from daemon import SECONDS, Broken, Daemon, line_of
+from daemon import SECONDS, Daemon, differs, line_of, run_checks
 
 SESSIONS = 16
 WAIT = 0.02
@@ -27,12 +25,6 @@ REQUESTS = (
     b"A \n",
 )
 REPORT = line_of("page", "register", device="page", path="page.txt")
-
-
-def differs(got, wanted):
-    """Says what came that isn't wanted."""
-    if got != wanted:
-        yield f"wanted {wanted!r:.400}, got {got!r:.400}"
 
 
 def until(wanted, look):
@@ -289,25 +281,5 @@ CHECKS = (roots, reported_by_hand, gone_in_a_line, reset_by_clients, never_reads
 CHECKS += (bad_roots, ends, last_newlines, one_more, writes, idle)
 
 
-def main(words):
-    if len(words) != 1:
-        print(__doc__, file=sys.stderr)
-        return 2
-    program, passed, failed = str(Path(words[0]).resolve()), 0, 0
-    for check in CHECKS:
-        room = Path(tempfile.mkdtemp())
-        try:
-            faults = list(check(program, room))
-        except (OSError, subprocess.SubprocessError, ValueError, KeyError, Broken) as error:
-            faults = [f"{type(error).__name__}: {error}"]
-        finally:
-            shutil.rmtree(room, ignore_errors=True)
-        passed, failed = passed + (not faults), failed + bool(faults)
-        if faults:
-            print(f"FAILED: {check.__doc__}", *faults, sep="\n  ")
-    print(f"{passed} passed, {failed} failed")
-    return int(failed != 0)
-
-
 if __name__ == "__main__":
-    sys.exit(main(sys.argv[1:]))
+    sys.exit(run_checks(__doc__, CHECKS, sys.argv[1:]))

@@ -3,8 +3,12 @@ from __future__ import annotations
 
 import json
 import re
+import shutil
 import socket
 import subprocess
+import sys
+import tempfile
+from pathlib import Path
 
 SECONDS = 30
 LISTENING = re.compile(rb"listening 127\.0\.0\.1:(\d+)\n")
@@ -65,12 +69,12 @@ class Client:
 class Daemon:
     """A run of `serve` on a port that the system chooses, or on the given one."""
 
-    def __init__(self, program, *words, port=0):
-        self.words = [program, "serve", "--port", str(port), *words]
+    def __init__(self, program, *words, port=0, **how):
+        self.words, self.how = [program, "serve", "--port", str(port), *words], how
 
     def __enter__(self):
         pipe = subprocess.PIPE
-        self.run = subprocess.Popen(self.words, stdin=pipe, stdout=pipe, stderr=pipe, bufsize=0)
+        self.run = subprocess.Popen(self.words, stdin=pipe, stdout=pipe, stderr=pipe, bufsize=0, **self.how)
         line = self.run.stdout.readline()
         found = LISTENING.fullmatch(line)
         if not found:
@@ -114,3 +118,30 @@ def pages(client, by="tester"):
             return
         yield page
         number += len(page["entries"])
+
+
+def differs(got, wanted):
+    """Says what came that isn't wanted."""
+    if got != wanted:
+        yield f"wanted {wanted!r:.400}, got {got!r:.400}"
+
+
+def run_checks(usage, checks, words):
+    """Runs checks of the program that the words name, each in a folder of its own, and says which failed and why."""
+    if len(words) != 1:
+        print(usage, file=sys.stderr)
+        return 2
+    program, passed, failed = str(Path(words[0]).resolve()), 0, 0
+    for check in checks:
+        room = Path(tempfile.mkdtemp())
+        try:
+            faults = list(check(program, room))
+        except (OSError, subprocess.SubprocessError, ValueError, KeyError, Broken) as error:
+            faults = [f"{type(error).__name__}: {error}"]
+        finally:
+            shutil.rmtree(room, ignore_errors=True)
+        passed, failed = passed + (not faults), failed + bool(faults)
+        if faults:
+            print(f"FAILED: {check.__doc__}", *faults, sep="\n  ")
+    print(f"{passed} passed, {failed} failed")
+    return int(failed != 0)

@@ -1,0 +1,162 @@
+#!/usr/bin/env python3
+"""Runs `serve --journal` through kills, a full disk, failed syncs and files that it can't have.
+
+usage: check_kept_daemon.py PROGRAM
+The last line is 'N passed, M failed'.
+"""
+from __future__ import annotations
+
+import json
+import os
+import random
+import resource
+import signal
+import subprocess
+import sys
+import threading
+import time
+from pathlib import Path
+
+from daemon import SECONDS, Broken, Daemon, differs, line_of, pages, run_checks
+
+HERE = Path(__file__).resolve().parent
+KILLS = 20
+CLIENTS = 8
+NOT_KEPT = {"code": 14, "refused": "NotKept"}
+
+
+def kept(program, file, *words, **how):
+    """A daemon whose hall the file keeps."""
+    return Daemon(program, "--journal", str(file), *words, **how)
+
+
+def register(client, by, path):
+    return client.ask(by, "register", device=by, path=path)
+
+
+def entries(client):
+    return [entry for page in pages(client) for entry in page["entries"]]
+
+
+def two_starts(program, room):
+    """What sessions and a scanner reported is there after the daemon was killed, and it goes on from there."""
+    file = room / "journal"
+    (room / "usb").mkdir()
+    (room / "usb" / "b").write_text("one")
+    with kept(program, file, f"usb={room}/usb") as daemon, daemon.client() as client:
+        end = time.monotonic() + SECONDS
+        while not client.ask("x", "holdings", device="usb")["holdings"] and time.monotonic() < end:
+            time.sleep(0.02)
+        yield from differs(client.ask("desk", "duplicate", copy=1, device="desk", path="b"), {"done": 2})
+        yield from differs(client.ask("desk", "edit", copy=2), {"done": 3})
+        before = entries(client)
+        daemon.run.send_signal(signal.SIGKILL)
+        daemon.run.wait()
+    yield from differs(oct(file.stat().st_mode & 0o777), "0o600")
+    with kept(program, file) as daemon, daemon.client() as client:
+        yield from differs(entries(client), before)
+        yield from differs(client.ask("desk", "pair", a=1, b=2), {"pair": "Older"})
+        yield from differs(client.ask("desk", "reconcile", a=1, b=2), {"done": 4})
+    loaded = subprocess.run([program, "load", file], capture_output=True, timeout=SECONDS)
+    shown = subprocess.run([program, "show", "--journal", file], capture_output=True, timeout=SECONDS)
+    yield from differs((loaded.returncode, loaded.stdout), (0, shown.stdout))
+    yield from differs(b"usb" in shown.stdout and b"desk" in shown.stdout, True)
+
+
+def report(daemon, by, done):
+    """Reports edits until the daemon is gone, and notes the number of each that was acknowledged."""
+    try:
+        with daemon.client() as client:
+            copy = register(client, by, "own")["done"]
+            done.append(copy)
+            while True:
+                done.append(client.ask(by, "edit", copy=copy)["done"])
+    except (OSError, Broken, ValueError):
+        pass
+
+
+def killed_under_load(program, room):
+    """However it is killed while eight clients report, the file opens, and has each report that was acknowledged."""
+    for number in range(KILLS):
+        file = room / str(number)
+        done = {f"c{it}": [] for it in range(CLIENTS)}
+        with kept(program, file) as daemon:
+            threads = [threading.Thread(target=report, args=(daemon, *it)) for it in done.items()]
+            for it in threads:
+                it.start()
+            time.sleep(random.uniform(0, 0.3))
+            daemon.run.send_signal(signal.SIGKILL)
+            for it in threads:
+                it.join()
+        with kept(program, file) as daemon, daemon.client() as client:
+            by = {entry["number"]: entry["by"] for entry in entries(client)}
+        yield from differs(sorted(by), list(range(1, len(by) + 1)))
+        for name, numbers in done.items():
+            yield from differs([by.get(it) for it in numbers], [name] * len(numbers))
+
+
+def full_disk(program, room):
+    """Where there is no room a report is NotKept, for sessions and questions alike nothing has changed, and later ones work."""
+    file = room / "journal"
+    ignore = lambda: signal.signal(signal.SIGXFSZ, signal.SIG_IGN)
+    with kept(program, file, restore_signals=False, preexec_fn=ignore) as daemon, daemon.client() as client:
+        yield from differs(register(client, "a", "f"), {"done": 1})
+        process, size = daemon.run.pid, file.stat().st_size
+        resource.prlimit(process, resource.RLIMIT_FSIZE, (size, resource.RLIM_INFINITY))
+        yield from differs([client.ask("a", "edit", copy=1) for _ in range(3)], [NOT_KEPT] * 3)
+        yield from differs(client.ask("a", "edit", copy=9), {"code": 2, "copy": 9, "refused": "UnknownCopy"})
+        yield from differs(daemon.ask("b", "edit", copy=1), NOT_KEPT)
+        yield from differs(len(entries(client)), 1)
+        resource.prlimit(process, resource.RLIMIT_FSIZE, (resource.RLIM_INFINITY, resource.RLIM_INFINITY))
+        yield from differs(daemon.ask("b", "edit", copy=1), {"done": 2})
+    with kept(program, file) as daemon, daemon.client() as client:
+        yield from differs(len(entries(client)), 2)
+
+
+def failed_sync(program, room):
+    """A sync that fails ends each session that reports, with no answer; questions work; the file has all that was done."""
+    library, file = room / "failing.so", room / "journal"
+    subprocess.run(["cc", "-shared", "-fPIC", "-o", library, HERE / "failing_sync.c"], check=True, timeout=SECONDS)
+    # Two syncs open a new file, and each report makes two: here the last fails, once the third report is in the file.
+    for number in (7, 8):
+        file.unlink(missing_ok=True)
+        found = {**os.environ, "LD_PRELOAD": str(library), "FAILING_SYNC": str(number)}
+        with kept(program, file, "--sessions", "4", env=found) as daemon:
+            with daemon.client() as client:
+                yield from differs([register(client, "a", it) for it in "fg"], [{"done": 1}, {"done": 2}])
+                client.send(line_of("a", "edit", copy=1))
+                yield from differs(client.rest(), b"")
+            with daemon.client() as client:
+                yield from differs(len(entries(client)) in (2, 3), True)
+                client.send(line_of("a", "edit", copy=1))
+                yield from differs(client.rest(), b"")
+            for _ in range(2):
+                yield from differs(daemon.ask("x", "pair", a=1, b=1), {"pair": "Equal"})
+            daemon.end_input()
+            yield from differs(daemon.ended(), (1, b"", b"panad: journal failed\n"))
+        with kept(program, file) as daemon, daemon.client() as client:
+            yield from differs(len(entries(client)) in (2, 3), True)
+
+
+def other_files(program, room):
+    """A file that is in use, is no journal or can't be opened is reported; it isn't touched, and nobody listens."""
+    file, other = room / "journal", room / "text"
+    other.write_text("some text\n")
+    with kept(program, file):
+        cases = [(file, f"journal {file} is in use"), (other, f"journal {other}: not a journal"), (room, f"cannot open journal {room}")]
+        for name, text in cases:
+            words = [program, "serve", "--port", "0", "--journal", name]
+            done = subprocess.run(words, stdin=subprocess.DEVNULL, capture_output=True, timeout=SECONDS)
+            yield from differs((done.returncode, done.stdout, done.stderr), (1, b"", f"panad: {text}\n".encode()))
+        run = subprocess.run([program, "run", "--journal", file], input=b"", capture_output=True, timeout=SECONDS)
+        yield from differs((run.returncode, run.stderr), (1, f"panad: journal {file} is in use\n".encode()))
+    yield from differs(other.read_text(), "some text\n")
+    run = subprocess.run([program, "run", "--journal", file], input=line_of("a", "families"), capture_output=True, timeout=SECONDS)
+    yield from differs((run.returncode, json.loads(run.stdout)), (0, {"families": []}))
+
+
+CHECKS = (two_starts, killed_under_load, full_disk, failed_sync, other_files)
+
+
+if __name__ == "__main__":
+    sys.exit(run_checks(__doc__, CHECKS, sys.argv[1:]))
