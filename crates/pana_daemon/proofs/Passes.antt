@@ -4,30 +4,29 @@ use Rattle.std.proofs.Common.{◌≡◌, ◌<◌, ℕ, ◌+◌, List, [], ◌∷
 use Rattle.std.proofs.lemmas.List.{length_push, map-append}
 use Rattle.std.proofs.lemmas.List.FromFn.{length-map-range_with_len}
 use Rattle.std.proofs.lemmas.Grind.{take_at_read}
-use Rattle.atomic_table.specs.Seated.{TableId}
-use Rattle.pana_turn.specs.Passes.{PassView, new_pass, new_passes}
+use Rattle.pana_turn.specs.Passes.{DeskId, PassView, new_pass, new_passes}
 use Rattle.pana_host.specs.Listen.{AreOf}
 
-of_numbers : (desk : TableId) (numbers : List ℕ) → AreOf desk (map (new_pass desk) numbers)
+of_numbers : (desk : DeskId) (numbers : List ℕ) → AreOf desk (map (new_pass desk) numbers)
 of_numbers desk [] = tt
 of_numbers desk (number ∷ numbers) = (refl, of_numbers desk numbers)
 
 -- the passes of a new desk are of it
-pub new_of : (desk : TableId) (seats : ℕ) (passes : List PassView) → passes ≡ new_passes desk seats → AreOf desk passes
+pub new_of : (desk : DeskId) (seats : ℕ) (passes : List PassView) → passes ≡ new_passes desk seats → AreOf desk passes
 new_of desk seats passes is = subst (AreOf desk) (sym is) (of_numbers desk (range_with_len 0 seats))
 
-pub new_count : (desk : TableId) (seats : ℕ) (passes : List PassView) → passes ≡ new_passes desk seats → length passes ≡ seats
+pub new_count : (desk : DeskId) (seats : ℕ) (passes : List PassView) → passes ≡ new_passes desk seats → length passes ≡ seats
 new_count desk seats passes is = ap length is ∙ length-map-range_with_len (new_pass desk) 0 seats
 
 -- the last of them is, and the others are
-of_last : (desk : TableId) (passes : List PassView) (pass : PassView) → AreOf desk (passes ++ pass ∷ []) → AreOf desk passes × (pass.desk ≡ desk)
+of_last : (desk : DeskId) (passes : List PassView) (pass : PassView) → AreOf desk (passes ++ pass ∷ []) → AreOf desk passes × (pass.desk ≡ desk)
 of_last desk [] pass of = (tt, of.0)
 of_last desk (first ∷ passes) pass of = let (others, last) = of_last desk passes pass of.1 in ((of.0, others), last)
 
-pub others_of : (desk : TableId) (all passes : List PassView) (pass : PassView) → AreOf desk all → all ≡ passes ++ pass ∷ [] → AreOf desk passes
+pub others_of : (desk : DeskId) (all passes : List PassView) (pass : PassView) → AreOf desk all → all ≡ passes ++ pass ∷ [] → AreOf desk passes
 others_of desk all passes pass of is = (of_last desk passes pass (subst (AreOf desk) is of)).0
 
-pub last_of : (desk : TableId) (all passes : List PassView) (pass : PassView) → AreOf desk all → all ≡ passes ++ pass ∷ [] → pass.desk ≡ desk
+pub last_of : (desk : DeskId) (all passes : List PassView) (pass : PassView) → AreOf desk all → all ≡ passes ++ pass ∷ [] → pass.desk ≡ desk
 last_of desk all passes pass of is = (of_last desk passes pass (subst (AreOf desk) is of)).1
 
 -- what scanners have of the roots so far, they have with one more

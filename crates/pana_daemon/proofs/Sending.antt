@@ -4,10 +4,10 @@ use denote.RattleType.{RattleType}
 use denote.Param.SendFields.{declared_send}
 use denote.Param.Send.{IsSend, IsSync, sendable, shr_send}
 use Rattle.std.proofs.rt.LibcRuntime.TheSendSync as runtime
-use Rattle.pana_host.proofs.gate.OpenGate.TheSendSync as gates
 use Rattle.pana_host.proofs.Sending.{scanner_send}
-use Rattle.pana_host.specs.contracts.gate.OpenGate as gate
 use Rattle.pana_host.specs.contracts.scanners.Scanner as scanner
+use Rattle.pana_daemon.proofs.alarm.Alarm.TheSendSync as alarms
+use Rattle.pana_daemon.specs.contracts.alarm.Alarm as alarm
 use Rattle.pana_daemon.proofs.root.Root.TheSendSync as roots
 use Rattle.pana_daemon.proofs.ticks.Ticks.TheSendSync as ticks
 use Rattle.pana_daemon.specs.contracts.root_folder.RootFolder as folder
@@ -15,5 +15,5 @@ use Rattle.pana_daemon.specs.contracts.root_folder.RootFolder as folder
 pub folder_send : (lft : NamedLft) (T : RattleType) → IsSync T → IsSend (folder.the_row lft T)
 folder_send lft T t = declared_send (folder.the_type lft T) (shr_send _ _ _ runtime.the_sync, (shr_send _ _ T t, (shr_send _ _ _ (roots.the_sync lft), (shr_send _ _ _ ticks.the_sync, (search sendable, tt)))))
 
-pub root_scanner_send : (lft inner : NamedLft) (T : RattleType) → IsSync T → IsSend (scanner.the_row lft T gate.the_row (folder.the_row inner T))
-root_scanner_send lft inner T t = scanner_send lft T gate.the_row (folder.the_row inner T) t gates.the_sync (folder_send inner T t)
+pub root_scanner_send : (lft rung inner : NamedLft) (T : RattleType) → IsSync T → IsSend (scanner.the_row lft T (alarm.the_row rung) (folder.the_row inner T))
+root_scanner_send lft rung inner T t = scanner_send lft T (alarm.the_row rung) (folder.the_row inner T) t (alarms.the_sync rung) (folder_send inner T t)

@@ -19,7 +19,7 @@ use std::thread::Threads;
 const SESSIONS: u32 = 16;
 
 /// A scanner of a root.
-type RootScanner<'a, T> = Scanner<'a, T, Alarm<'a>, RootFolder<'a, T>>;
+type RootScanner<'a, 'b, T> = Scanner<'a, T, Alarm<'b>, RootFolder<'a, T>>;
 
 /// Why the daemon ended early.
 #[derive(Clone, Copy, Debug, PartialEq, Eq)]
@@ -39,15 +39,15 @@ impl From<AllocError> for DaemonFault {
 }
 
 /// The scanners of the roots, in order, each by the last of the passes that are left.
-fn scanners<'a, T>(
+fn scanners<'a, 'b, T>(
     rt: &'a HostRuntime,
     threads: &'a T,
     desk: &'a Desk,
-    gate: &'a Alarm<'a>,
+    gate: &'a Alarm<'b>,
     ticks: &'a Ticks,
     roots: &'a [Root<'a>],
     passes: &mut Vec<Pass>,
-) -> Result<Vec<RootScanner<'a, T>>, AllocError>
+) -> Result<Vec<RootScanner<'a, 'b, T>>, AllocError>
     requires of { AreOf desk.now.id passes.old.items }
     requires enough { length roots.now ≤ length passes.old.items }
     ensures of { AreOf desk.now.id passes.new.items }
@@ -73,7 +73,7 @@ fn scan_by_newlines<T: Threads + Wait + Sync>(
     rt: &HostRuntime,
     threads: &T,
     ticks: &Ticks,
-    scanners: &mut [RootScanner<'_, T>],
+    scanners: &mut [RootScanner<'_, '_, T>],
 ) {
     let alloc = rt.alloc();
     thread::join(

@@ -17,4 +17,4 @@ captures name A B C a b c =
 
 pub join-requires-send-F : goal.join-requires-send-F
 join-requires-send-F g c κs within =
-    param_send 1 _ (arg_send _ no _ (captures _ _ _ _ (shr_send _ _ (param 0 g.row.T) c.type_bounds.sync-T) (shr_send _ _ _ global.the_sync) (mut_slice_send _ _ _ (root_scanner_send (record { mir = named 9; lft = _ }) (record { mir = named 10; lft = _ }) (param 0 g.row.T) c.type_bounds.sync-T))))
+    param_send 1 _ (arg_send _ no _ (captures _ _ _ _ (shr_send _ _ (param 0 g.row.T) c.type_bounds.sync-T) (shr_send _ _ _ global.the_sync) (mut_slice_send _ _ _ (root_scanner_send (record { mir = named 9; lft = _ }) (record { mir = named 10; lft = _ }) (record { mir = named 11; lft = _ }) (param 0 g.row.T) c.type_bounds.sync-T))))

@@ -15,23 +15,24 @@ use Rattle.std.proofs.option.Option.TheSendSync as options
 use Rattle.std.proofs.result.Result.TheSendSync as results
 use Rattle.std.proofs.vec.Vec.TheSendSync as vecs
 use Rattle.pana_turn.proofs.Sending.{desk_sync, pass_send}
+use Rattle.pana_daemon.proofs.alarm.Alarm.TheSendSync as alarms
 use Rattle.pana_daemon.proofs.Passes.{new_of, new_count}
 use Rattle.pana_daemon.proofs.daemon.serve.Goals as goal
 
 pub scanners-requires-clause-of : goal.scanners-requires-clause-of
-scanners-requires-clause-of g c = new_of c.in_ok-desk.desk.id _ c.in_ok-desk.passes.items c.in_ok-desk.ensures.1
+scanners-requires-clause-of g c = new_of c.in_ok-desk.desk.id _ c.in_ok-desk.passes.items c.in_ok-desk.ensures.2
 
 pub scanners-requires-clause-enough : goal.scanners-requires-clause-enough
-scanners-requires-clause-enough g c = omega (arith, new_count c.in_ok-desk.desk.id _ c.in_ok-desk.passes.items c.in_ok-desk.ensures.1, c.in_ok-desk.ensures.0)
+scanners-requires-clause-enough g c = omega (arith, new_count c.in_ok-desk.desk.id _ c.in_ok-desk.passes.items c.in_ok-desk.ensures.2, c.in_ok-desk.ensures.1)
 
--- a closure that captures six values may go to another thread where these may
-captures : (name : Sym) (A B C D E F : RattleType) → IsSend A → IsSend B → IsSend C → IsSend D → IsSend E → IsSend F → IsSend (TupleAt name (A ∷ B ∷ C ∷ D ∷ E ∷ F ∷ []))
-captures name A B C D E F a b c d e f =
-    let made = type_at name (A ∷ B ∷ C ∷ D ∷ E ∷ F ∷ []) in recorded_send _ _ _ made.to_one (struct_send (shape made) (a, (b, (c, (d, (e, (f, tt)))))))
+-- a closure that captures seven values may go to another thread where these may
+captures : (name : Sym) (A B C D E F G : RattleType) → IsSend A → IsSend B → IsSend C → IsSend D → IsSend E → IsSend F → IsSend G → IsSend (TupleAt name (A ∷ B ∷ C ∷ D ∷ E ∷ F ∷ G ∷ []))
+captures name A B C D E F G a b c d e f h =
+    let made = type_at name (A ∷ B ∷ C ∷ D ∷ E ∷ F ∷ G ∷ []) in recorded_send _ _ _ made.to_one (struct_send (shape made) (a, (b, (c, (d, (e, (f, (h, tt))))))))
 
 pub join-listened-requires-send-F : goal.join-listened-requires-send-F
 join-listened-requires-send-F g c κs within =
-    param_send 1 _ (arg_send _ no _ (captures _ _ _ _ _ _ _ (shr_send _ _ (param 0 g.row.T) c.type_bounds.sync-T) global.the_send (shr_send _ _ _ desk_sync) (shr_send _ _ _ listeners.the_sync) (vecs.the_send _ _ _ pass_send global.the_send frees.the_frees) (options.the_send u64 (search sendable))))
+    param_send 1 _ (arg_send _ no _ (captures _ _ _ _ _ _ _ _ (shr_send _ _ (param 0 g.row.T) c.type_bounds.sync-T) global.the_send (shr_send _ _ _ desk_sync) (shr_send _ _ _ listeners.the_sync) (vecs.the_send _ _ _ pass_send global.the_send frees.the_frees) (options.the_send u64 (search sendable)) (shr_send _ _ _ (alarms.the_sync _))))
 
 pub join-listened-requires-send-A : goal.join-listened-requires-send-A
 join-listened-requires-send-A g c κs within =
@@ -39,5 +40,5 @@ join-listened-requires-send-A g c κs within =
 
 pub join-listened-requires-after_bounds : goal.join-listened-requires-after_bounds
 join-listened-requires-after_bounds g c κs within =
-    let few : length c.scanners.new.passes.items ≤ 64 = omega (arith, c.scanners.ensures.fewer, new_count c.in_ok-desk.desk.id _ c.in_ok-desk.passes.items c.in_ok-desk.ensures.1, c.requires.few) in
+    let few : length c.scanners.new.passes.items ≤ 64 = omega (arith, c.scanners.ensures.fewer, new_count c.in_ok-desk.desk.id _ c.in_ok-desk.passes.items c.in_ok-desk.ensures.2, c.requires.few) in
     (((few, c.scanners.ensures.of), param_sync 0 _ (arg_sync _ no _ c.type_bounds.sync-T)), arg_sync _ yes _ (param_sync 0 _ (arg_sync (layout g.row.T) no _ c.type_bounds.sync-T)))

@@ -38,4 +38,4 @@ returns-clause-done g c =
     let own = looked.own (begun_of c.pass.inside.seat.me.0.accounts) number (calls_of number old) [] (ap (λ me. me.0.accounts) c.pass.invariant) in
     let turn = c.take_turn-hall.ensures.looked in
     makes_call _ _ _ _ _ number old _ _ c.of-asked.result.value (ap (λ p. p.number) c.pass.view_is) (ap (λ p. p.seen) c.pass.view_is) looked.seen turn.seen own turn.own c.of-asked.ensures
-        (ap (λ me. me.0.seen) c.give_turn.ensures.finished)
+    (ap (λ me. me.0.seen) c.give_turn.ensures.finished)
