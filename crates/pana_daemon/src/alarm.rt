@@ -1,4 +1,4 @@
-//! What a person is told once the file that keeps the journal has failed.
+//! What is printed once the file that keeps the journal has failed.
 
 use pana_host::Gate;
 use std::sync::atomic::{AtomicBool, Ordering};

@@ -109,7 +109,7 @@ impl Desk {
     /// # Errors
     ///
     /// `Spent` only where 2^62 or more calls are finished: the call isn't made. `Unanswered` only where a file keeps the
-    /// hall: the file has failed, and what became of the call isn't told.
+    /// hall: the file has failed, and the call's reply isn't returned.
     pub fn call<R: Wait>(
         &self,
         rt: &R,

@@ -34,7 +34,7 @@ impl Model for DeskHall {
 #[derive(Drop)]
 pub struct Made {
     pub reply: Reply,
-    /// Where it isn't, nobody may be told the reply: the journal's file has failed.
+    /// Where it isn't, the reply may not be returned: the journal's file has failed.
     pub is_answered: bool,
 }
 
