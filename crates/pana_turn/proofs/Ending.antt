@@ -13,7 +13,7 @@ use Rattle.pana_turn.specs.declared.view.Account.{Account}
 use Rattle.pana_turn.specs.declared.view.Stage.TheVariants.{Idle, Turn}
 use Rattle.pana_turn.specs.declared.view.View.{View}
 use Rattle.pana_turn.specs.Hall.{HallView}
-use Rattle.pana_turn.specs.History.{IsHistory, calls_of, hall_of}
+use Rattle.pana_turn.specs.History.{calls_of, hall_of}
 use Rattle.pana_turn.specs.Passes.{PassView, own_calls}
 use Rattle.pana_turn.specs.Closing.{Closes, HasAll}
 use Rattle.pana_turn.specs.Rule.{Course, DeskKey, IsAccountOf, KeepsTo, Keeps, busy_at}

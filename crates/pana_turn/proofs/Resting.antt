@@ -1,5 +1,5 @@
 -- What the rule says of a desk at rest, and of a seat with the turn.
-use Rattle.std.specs.Prelude.{◌≡◌, ℕ, List, [], ◌∷◌, length, slice_index, Some}
+use Rattle.std.specs.Prelude.{◌≡◌, ℕ, [], ◌∷◌, length, slice_index, Some}
 use Rattle.std.specs.Prelude.{Option as Maybe}
 use Rattle.std.proofs.Common.{sym, ap, ◌∙◌, subst, inl, inr, arith}
 use mathlib.Core.Option.{some}

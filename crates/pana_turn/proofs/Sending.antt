@@ -3,7 +3,7 @@ use denote.Struct.Field.{row_field}
 use denote.Param.SendFields.{as_row_send, declared_send, declared_sync, variants_send}
 use denote.Param.Send.{IsSend, IsSync, sendable, view_send, view_sync}
 use denote.Hole.{as_row}
-use denote.Builtin.{u32, u64}
+use denote.Builtin.{u64}
 use Rattle.std.specs.contracts.option.Option as options_row
 use Rattle.std.proofs.boxed.Box.TheSendSync as boxes
 use Rattle.std.proofs.vec.Vec.TheSendSync as vecs

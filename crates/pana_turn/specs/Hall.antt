@@ -1,5 +1,5 @@
 -- What contracts see of the hall at a desk.
-use Rattle.std.specs.Prelude.{ℕ, Bool, true, false, List, []}
+use Rattle.std.specs.Prelude.{Bool, true, false, List, []}
 use Rattle.pana_journal.specs.declared.entry.Entry.{Entry}
 use Rattle.pana_turn.specs.declared.desk_hall.Kind.{Kind}
 use Rattle.pana_turn.specs.declared.desk_hall.Kind.TheVariants.{Alone, Kept}

@@ -3,7 +3,6 @@ use Rattle.atomic_table.specs.Table.{Allows, rest}
 use Rattle.pana_hall.specs.Permit.{journal_after}
 use Rattle.pana_turn.specs.declared.finished_call.FinishedCall.{FinishedCall}
 use Rattle.pana_turn.specs.declared.view.Stage.TheVariants.{Turn}
-use Rattle.pana_turn.specs.Hall.{HallView}
 use Rattle.pana_turn.specs.History.{Replies, calls_of, journal_of}
 use Rattle.pana_turn.specs.Rule.{Keeps}
 use Rattle.pana_turn.specs.inner.Views.{pass}

@@ -1,7 +1,6 @@
 use Rattle.std.proofs.Common.{◌≡◌, None, inl, inr, refl, sym, subst, rules}
 use Rattle.pana_hall.specs.declared.call.Call.TheVariants as calls
 use Rattle.pana_hall.specs.declared.cause.Cause.{Cause}
-use Rattle.pana_hall.specs.declared.cause.Cause.TheVariants as causes
 use Rattle.pana_hall.specs.declared.reply.Reply.TheVariants.{Refused}
 use Rattle.pana_hall.specs.Permit.{IsCauseOf}
 use Rattle.pana_kept.specs.Kept.{KeptView, Becomes}
