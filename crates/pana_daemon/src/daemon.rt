@@ -83,9 +83,9 @@ fn scan_by_newlines<T: Threads + Wait + Sync>(
     );
 }
 
-/// Prints where it listens, and then serves the listener's connections at a desk with this hall, 16 at a time, and scans the roots: each by a
-/// thread of its own, once at the start and once for each newline on standard input. It ends once as many connections
-/// were taken as are wanted and standard input has ended; where no number is given, never.
+/// Prints where it listens, and then serves the listener's connections at a desk with this hall, 16 at a time, and scans
+/// the roots: each by a thread of its own, once at the start and once for each newline on standard input. It ends once as
+/// many connections were taken as are wanted and standard input has ended; where no number is given, never.
 ///
 /// # Errors
 ///
