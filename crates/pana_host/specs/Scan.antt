@@ -92,9 +92,9 @@ AreScans device (given ∷ more) made faults =
 abbrev pub counted : ℕ → ℕ
 counted n = min n (2 ^ 64 - 1)
 
--- a scanner's work: it takes what the folder gives until that gives no more, or no call is left in the midst of a scan,
+-- a scanner's work: it takes what the folder gives until that gives no more, or a call has no answer,
 -- and the calls that the session makes are the scans' of what was given. Its tally counts the scans, their reports, and
--- their faults; a scan in which no call is left is no fault.
+-- their faults; a scan in which a call has no answer is no fault.
 pub record Scans {F S : Type 0} (gives : F → Option (Result Contents ScanFault) → F → Type 0) (step : S → List ℕ → Call → Reply → S → Type 0) (spends : S → S → Type 0)
     (device : List ℕ) (folder_old folder_new : F) (old new : S) (tally : ScanTally) : Type 0 where
   pub given : List (Result Contents ScanFault)

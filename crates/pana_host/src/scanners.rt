@@ -22,7 +22,7 @@ pub struct Scanner<'a, T, G, F> {
 }
 
 impl<T: Wait, G: Gate, F: Folder> Scanner<'_, T, G, F> {
-    /// Scans the folder as `scanner` does, until it gives no more, or no call is left.
+    /// Scans the folder as `scanner` does, until it gives no more, or a call has no answer.
     pub fn run(&mut self, rt: &T, alloc: Global) -> ScanTally
         ensures { HasScanned F.gives self.old self.new result }
     {

@@ -145,7 +145,7 @@ fn take<S: Session>(
 /// Takes what the folder gives, one listing after another, asks for the device's holdings, plans, and makes the report
 /// of each step; a step that was done is settled in the baseline, and one that was refused isn't. A scan is passed over
 /// from where a fault comes: a listing that failed or is of another device, holdings that were refused, memory that ran
-/// out. It ends where the folder gives no more, or where no call is left.
+/// out. It ends where the folder gives no more, or at the first call that has no answer.
 pub fn scanner<T: Wait, S: Session, F: Folder>(
     rt: &T,
     alloc: Global,
