@@ -41,6 +41,13 @@ def ended(*words, **how):
     return done.returncode, done.stdout, done.stderr
 
 
+def appear(file, text):
+    """Makes a file that has its whole text from the start, also for a scan that is on its way."""
+    beside = file.parent.with_name(f"{file.name}.new")
+    beside.write_text(text)
+    beside.rename(file)
+
+
 def paths_on(daemon, device):
     """The paths of the copies on a device, with what touched them last."""
     return [(it["path"], it["touch"]) for it in daemon.ask("tester", "holdings", device=device)["holdings"]]
@@ -68,15 +75,17 @@ def roots(program, room):
 
 def reported_by_hand(program, room):
     """A copy that was reported by hand isn't registered a second time, and a change that was reported isn't either."""
-    (room / "plan").write_text("one")
-    with Daemon(program, f"usb={room}") as daemon:
+    root = room / "usb"
+    root.mkdir()
+    (root / "plan").write_text("one")
+    with Daemon(program, f"usb={root}") as daemon:
         until([("plan", 1)], lambda: paths_on(daemon, "usb"))
-        (room / "plan").write_text("two")
-        (room / "more").write_text("more")
+        (root / "plan").write_text("two")
+        (root / "more").write_text("more")
         daemon.ask("usb", "edit", copy=1)
         daemon.ask("usb", "register", device="usb", path="more")
         daemon.tick()
-        (room / "last").write_text("last")
+        appear(root / "last", "last")
         daemon.tick()
         wanted = [("plan", 2), ("more", 3), ("last", 4)]
         yield from differs(until(wanted, lambda: paths_on(daemon, "usb")), wanted)

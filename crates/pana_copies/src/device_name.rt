@@ -1,30 +1,34 @@
-ghost use Rattle.std.specs.Prelude.{◌≡◌, ◌⊎◌, ◌↔◌, true, false, IfOk, IfErr, IsErrOf};
+ghost use Rattle.std.specs.Prelude.{◌≡◌, ◌↔◌, true, false, length, IfOk, IfErr, IsErrOf};
 ghost use Rattle.std.specs.List.{list_all};
-ghost use Rattle.pana_copies.specs.Names.{is_device, is_device_byte};
+ghost use Rattle.pana_copies.specs.Names.{is_device, is_device_byte, before_zeros};
 
 use crate::name_fault::NameFault;
-use std::alloc::{AllocError, Global};
 use std::hash::{Hash, Hasher};
 use std::marker::Model;
+use std::{fmt, str};
 
 /// The longest name of a device, in bytes.
 const LONGEST_DEVICE: usize = 32;
 
 /// The name of a device: 1 to 32 bytes of `a` to `z`, `0` to `9`, `-` and `_`.
-#[derive(Debug, Drop)]
+///
+/// It takes 32 bytes where it stands, and no allocation. After a shorter name stand zeros.
+#[derive(Drop)]
 pub struct DeviceName {
-    text: String,
+    bytes: [u8; LONGEST_DEVICE],
 }
 
+const _: () = prove!(size_of::<DeviceName>() == 32);
+
 impl Model for DeviceName {
-    ghost use Rattle.std.specs.Prelude.{◌≡◌, List, ℕ, string_bytes, true};
-    ghost use Rattle.pana_copies.specs.Names.{is_device};
+    ghost use Rattle.std.specs.Prelude.{◌≡◌, List, ℕ, true};
+    ghost use Rattle.pana_copies.specs.Names.{is_device, before_zeros};
 
     ghost Value = { List ℕ };
 
-    ghost view = { λ name. string_bytes name.text };
+    ghost view = { λ name. before_zeros name.bytes };
 
-    ghost invariant = { λ name. is_device (string_bytes name.text) ≡ true };
+    ghost invariant = { λ name. is_device (before_zeros name.bytes) ≡ true };
 }
 
 fn is_device_byte(byte: u8) -> bool
@@ -45,24 +49,40 @@ fn is_device(text: &str) -> bool
     !text.is_empty() && text.len() <= LONGEST_DEVICE && are_device_bytes(text.as_bytes())
 }
 
+/// How many bytes stand before the first zero.
+fn len_before_zeros(bytes: &[u8]) -> usize
+    ensures { result ≡ length (before_zeros bytes.now) }
+{
+    bytes
+        .iter()
+        .position(|byte| *byte == 0)
+        .unwrap_or(bytes.len())
+}
+
 impl DeviceName {
-    /// Takes a text as a device's name.
+    /// Takes a text as a device's name. Takes no memory.
     ///
     /// # Errors
     ///
-    /// `BadDevice` where the text is no such name; `OutOfMemory`.
-    pub fn new(alloc: Global, text: &str) -> Result<DeviceName, NameFault>
+    /// `BadDevice` where the text is no such name, and no other.
+    pub fn new(text: &str) -> Result<DeviceName, NameFault>
         ensures ok { IfOk result (λ name. name ≡ text.now) }
         ensures bad { IsErrOf result NameFault.BadDevice ↔ (is_device text.now ≡ false) }
-        ensures others { IfErr result (λ fault. (fault ≡ NameFault.BadDevice) ⊎ (fault ≡ NameFault.OutOfMemory)) }
+        ensures others { IfErr result (λ fault. fault ≡ NameFault.BadDevice) }
     {
         if !is_device(text) {
             return Err(NameFault::BadDevice);
         }
-        match String::from_str(alloc, text) {
-            Ok(text) => Ok(DeviceName { text }),
-            Err(_) => Err(NameFault::OutOfMemory),
-        }
+        let mut bytes = [0; LONGEST_DEVICE];
+        bytes[..text.len()].copy_from_slice(text.as_bytes());
+        Ok(DeviceName { bytes })
+    }
+
+    fn as_bytes(&self) -> &[u8]
+        ensures bytes { result.now ≡ self.now }
+        ensures device { is_device self.now ≡ true }
+    {
+        &self.bytes[..len_before_zeros(&self.bytes)]
     }
 
     /// The name as text. Takes no memory.
@@ -70,16 +90,14 @@ impl DeviceName {
         ensures text { result.now ≡ self.now }
         ensures device { is_device self.now ≡ true }
     {
-        self.text.as_str()
+        str::from_utf8(self.as_bytes()).unwrap()
     }
 
-    /// The same name once more. Fails only where memory runs out.
-    pub fn copy_of(&self) -> Result<DeviceName, AllocError>
-        ensures { IfOk result (λ name. name ≡ self.now) }
+    /// The same name once more. Takes no memory.
+    pub fn copy_of(&self) -> DeviceName
+        ensures { result ≡ self.now }
     {
-        Ok(DeviceName {
-            text: self.text.clone()?,
-        })
+        DeviceName { bytes: self.bytes }
     }
 }
 
@@ -93,7 +111,7 @@ impl PartialEq for DeviceName {
     ghost laws = { Prim.search (comparing, rules) };
 
     fn eq(&self, other: &DeviceName) -> bool {
-        self.text == other.text
+        self.as_bytes() == other.as_bytes()
     }
 }
 
@@ -114,6 +132,14 @@ impl Hash for DeviceName {
     ghost respects_eq = { Prim.search (hashing, rules) };
 
     fn hash<H: Hasher>(&self, state: &mut H) {
-        self.text.hash(state)
+        self.as_str().hash(state)
+    }
+}
+
+impl fmt::Debug for DeviceName {
+    fn fmt<W: fmt::Write>(&self, f: &mut fmt::Formatter<W>) -> fmt::Result {
+        f.debug_struct("DeviceName")
+            .field("text", &self.as_str())
+            .finish()
     }
 }

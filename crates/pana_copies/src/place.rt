@@ -18,7 +18,7 @@ impl Place {
     pub fn copy_of(&self) -> Result<Place, AllocError>
         ensures { IfOk result (λ place. place ≡ self.now) }
     {
-        let device = self.device.copy_of()?;
+        let device = self.device.copy_of();
         let path = self.path.copy_of()?;
         Ok(Place { device, path })
     }

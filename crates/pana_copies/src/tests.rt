@@ -3,7 +3,7 @@ use std::alloc::Global;
 use std::test::Fail;
 
 fn place(alloc: Global, device: &str) -> Result<Place, NameFault> {
-    let device = DeviceName::new(alloc, device)?;
+    let device = DeviceName::new(device)?;
     let path = CopyPath::new(alloc, "notes.txt")?;
     Ok(Place { device, path })
 }
@@ -78,5 +78,29 @@ fn a_copy_moves(rt: HostRuntime) -> Result<(), Fail> {
     assert!(rt; relocate(rt.alloc(), &mut table, 2, "attic")?);
     assert_eq!(rt; found(rt.alloc(), &table, "attic")?, Some(2));
     assert_eq!(rt; found(rt.alloc(), &table, "phone")?, None);
+    Ok(())
+}
+
+#[test]
+fn names_of_each_length_are_taken(rt: HostRuntime) -> Result<(), Fail> {
+    let texts = [
+        "a",
+        "a-device-of-thirty-one-letters-",
+        "a-device-of-thirty-two-letters-_",
+    ];
+    for text in texts {
+        let name = DeviceName::new(text)?;
+        let same = name.copy_of();
+        assert_eq!(rt; same.as_str(), text);
+        assert!(rt; same == name);
+    }
+    Ok(())
+}
+
+#[test]
+fn a_name_prints_as_text(rt: HostRuntime) -> Result<(), Fail> {
+    let name = DeviceName::new("laptop")?;
+    let text = format!(in rt.alloc(); "{name:?}")?;
+    assert_eq!(rt; text.as_str(), "DeviceName { text: \"laptop\" }");
     Ok(())
 }

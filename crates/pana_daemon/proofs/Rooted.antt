@@ -1,5 +1,5 @@
 -- Words and the roots that they name.
-use Rattle.std.proofs.Common.{◌≡◌, refl, sym, ap, subst, ◌∙◌, ℕ, suc, ◌+◌, take, drop, get_or, ◌<◌, ◌≤◌, Bool, true, false, ◌||◌, ◌==◌, not, leb, List, [], ◌∷◌, map, length, ◌++◌, if◌then◌else◌, bytes_eq, Option, Some, None, Bor, arith}
+use Rattle.std.proofs.Common.{◌≡◌, refl, sym, ap, subst, ◌∙◌, ℕ, suc, ◌+◌, take, drop, get_or, ◌<◌, ◌≤◌, Bool, true, false, ◌||◌, ◌==◌, not, leb, List, [], ◌∷◌, map, length, ◌++◌, if◌then◌else◌, ◌↔◌, bytes_eq, Option, Some, None, Bor, arith}
 use Rattle.std.specs.List.{list_any}
 use Rattle.std.proofs.lemmas.List.{length-map, map-append, append_assoc, take-append-drop, take_all, drop_all}
 use Rattle.std.proofs.lemmas.Grind.{take_at_read}
@@ -19,6 +19,11 @@ pub parts : (word : List ℕ) (r : Option (Bor (List ℕ) × Bor (List ℕ))) �
 parts word r split x is =
     let (inside, front, back) = rw is at (split_once_first 61 word r split (omega arith)) in
     (front, back)
+
+-- what isn't false is true
+pub not_false : {A : Type 0} (b : Bool) → (A ↔ (b ≡ false)) → (A → ⊥) → b ≡ true
+not_false true iff none = refl
+not_false false iff none = absurd (none (iff.1 refl))
 
 or_second : (a b c d : Bool) → b ≡ true → (((a || b) || c) || d) ≡ true
 or_second true b c d is = refl

@@ -5,8 +5,8 @@ ghost use Rattle.std.specs.List.{list_any};
 ghost use Rattle.std.specs.Borrow.{Bor};
 ghost use Rattle.pana_daemon.specs.Root.{device_of, first_bad, folder_of, is_bad_root, texts};
 
-use pana_copies::{DeviceName, NameFault};
-use std::alloc::{AllocError, Global};
+use pana_copies::DeviceName;
+use std::alloc::Global;
 
 /// How many roots there are at most.
 pub const MOST_ROOTS: usize = 8;
@@ -36,25 +36,22 @@ fn has_device(roots: &[Root<'_>], device: &DeviceName) -> bool
 
 /// The root that a word names, beside those that earlier words named; or none where the word is bad.
 fn root_of<'a>(
-    alloc: Global,
     word: &'a str,
     earlier: &[Root<'a>],
-) -> Result<Option<Root<'a>>, AllocError>
-    ensures { IfOk result (λ found. MatchOption found (is_bad_root (map (λ root. root.device) earlier.now) word.now ≡ true)
-        (λ root. (is_bad_root (map (λ root. root.device) earlier.now) word.now ≡ false) × (root.device ≡ device_of word.now) × (root.folder.now ≡ folder_of word.now))) }
+) -> Option<Root<'a>>
+    ensures { MatchOption result (is_bad_root (map (λ root. root.device) earlier.now) word.now ≡ true)
+        (λ root. (is_bad_root (map (λ root. root.device) earlier.now) word.now ≡ false) × (root.device ≡ device_of word.now) × (root.folder.now ≡ folder_of word.now)) }
 {
     let Some((device, folder)) = word.split_once('=') else {
-        return Ok(None);
+        return None;
     };
-    let device = match DeviceName::new(alloc, device) {
-        Ok(device) => device,
-        Err(NameFault::BadDevice) => return Ok(None),
-        Err(_) => return Err(AllocError),
+    let Ok(device) = DeviceName::new(device) else {
+        return None;
     };
     if folder.is_empty() || has_device(earlier, &device) || earlier.len() >= MOST_ROOTS {
-        return Ok(None);
+        return None;
     }
-    Ok(Some(Root { device, folder }))
+    Some(Root { device, folder })
 }
 
 /// The roots that the words name, in order.
@@ -73,10 +70,7 @@ pub fn roots_of<'a>(alloc: Global, words: &[&'a str]) -> Result<Vec<Root<'a>>, R
 {
     let mut roots = Vec::new(alloc);
     for word in words {
-        let Ok(named) = root_of(alloc, word, roots.as_slice()) else {
-            return Err(RootFault::OutOfMemory);
-        };
-        let Some(root) = named else {
+        let Some(root) = root_of(word, roots.as_slice()) else {
             return Err(RootFault::Bad(word));
         };
         let Ok(()) = roots.push(root) else {

@@ -28,3 +28,4 @@ pub mod Followed
 pub mod Joined
 pub mod Texts
 pub mod Depths
+pub mod NewFamily

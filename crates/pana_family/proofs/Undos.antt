@@ -128,20 +128,23 @@ back_again (w ∷ us) u v cap b few e same is =
 
 -- Nothing.
 
+pub empty_stands : StandsFor [] []
+empty_stands = record {
+  same = tt;
+  owning = λ r i. absurd i;
+  apart = λ r q i. absurd i;
+  owner = λ r q i. absurd i;
+  marked = λ t u i. absurd i;
+  made = record { event_of = λ u. leaf 0; levels = λ r t i. absurd i };
+}
+
 pub empty_kept : IsKept []
 empty_kept = record {
   rising = tt;
   few = omega arith;
   levels = λ r i. absurd i;
   table = [];
-  stands = record {
-    same = tt;
-    owning = λ r i. absurd i;
-    apart = λ r q i. absurd i;
-    owner = λ r q i. absurd i;
-    marked = λ t u i. absurd i;
-    made = record { event_of = λ u. leaf 0; levels = λ r t i. absurd i };
-  };
+  stands = empty_stands;
   numbers = λ t u i. absurd i;
   held = λ t h i. absurd i;
 }

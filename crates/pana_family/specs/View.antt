@@ -1,5 +1,5 @@
 -- A family as contracts see it: its rows, and the rows that withdrawing the pending entries gives back, the last entry's first.
-use Rattle.std.specs.Prelude.{◌≡◌, ◌⊎◌, ℕ, ◌+◌, ◌≤◌, Bool, not, List, [], ◌∷◌, length, map, take, refl, slice_index_or}
+use Rattle.std.specs.Prelude.{◌≡◌, ◌⊎◌, ℕ, ◌+◌, ◌≤◌, Bool, false, not, List, [], ◌∷◌, length, map, take, refl, slice_index_or}
 use Rattle.std.specs.Coded.{Coded, code_by, coded×, coded_ℕ, coded_bool, coded_list}
 use Rattle.pana_family.specs.declared.row.StampRow.{StampRow}
 use Rattle.pana_family.specs.contracts.row.StampRow as stamp_row
@@ -7,7 +7,7 @@ use Rattle.pana_id.specs.Id.{is_single}
 use Rattle.pana_family.specs.Sets.{Before, Sets}
 use Rattle.pana_family.specs.Stands.{StandsFor}
 use Rattle.pana_family.specs.Kept.{IsKept}
-use Rattle.pana_family.specs.Rows.{AreBefore, OwnSame, lives, copy_rows, id_in, deepest}
+use Rattle.pana_family.specs.Rows.{AreBefore, OwnSame, lives, copy_rows, id_in, deepest, seed_row}
 
 -- the rows that withdrawing a pending entry gives back
 pub record Undone : Type 0 where
@@ -23,6 +23,10 @@ pub record Kept : Type 0 where
 -- the entry, with the rows from before it
 abbrev pub undone : ℕ → List StampRow → Undone
 undone entry rows = record { entry = entry; rows = rows }
+
+-- the family that entry n begins: its copy alone, and nothing before it
+abbrev pub new_family : ℕ → Kept
+new_family n = record { rows = seed_row n ∷ []; undo = undone n [] ∷ []; free = false ∷ [] }
 
 -- how such records are kept as numbers
 abbrev pub undone_code : Coded Undone

@@ -7,7 +7,7 @@ ghost use Rattle.pana_family.specs.Rows.{AreEdited, duplicated_rows};
 ghost use Rattle.pana_family.specs.Kept.{IsKept};
 ghost use Rattle.pana_family.specs.Stands.{StandsFor};
 ghost use Rattle.pana_family.specs.Sets.{Sets, began, settled, after, confirmed, withdrawn};
-ghost use Rattle.pana_family.specs.View.{Means, is_living, IsNew, IsPending, IsLast, copy_count, can_split, OwnsSame, depth_at, Deepens, undone, more_undo};
+ghost use Rattle.pana_family.specs.View.{Means, is_living, IsNew, IsPending, IsLast, copy_count, can_split, OwnsSame, depth_at, Deepens, new_family, undone, more_undo};
 
 use crate::fault::FamilyFault;
 use crate::paired::PairedRows;
@@ -53,6 +53,7 @@ impl Family {
     /// `AllocError` where an allocation failed.
     pub fn new(alloc: Global, entry: u64) -> Result<Family, AllocError>
         ensures stands { IfOk result (λ f. Means f (began entry)) }
+        ensures exact { IfOk result (λ f. f ≡ new_family entry) }
         ensures deep { IfOk result (λ f. (k : ℕ) → depth_at k f ≡ 0) }
     {
         let rows = PairedRows::new(alloc, entry)?;

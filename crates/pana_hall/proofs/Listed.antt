@@ -9,6 +9,7 @@ use Rattle.pana_journal.specs.declared.report.Report.{Report}
 use Rattle.pana_journal.specs.declared.report.Report.TheVariants.{Register}
 use Rattle.pana_journal.specs.declared.entry.Entry.{Entry}
 use Rattle.pana_family.specs.View.{Means, can_split}
+use Rattle.pana_family.proofs.NewFamily.{new_means, new_depth}
 use Rattle.pana_hall.specs.declared.kept_family.KeptFamily.{KeptFamily}
 use Rattle.pana_hall.specs.Family.{families, is_register}
 use Rattle.pana_hall.specs.Living.{living}
@@ -18,6 +19,7 @@ use Rattle.pana_hall.specs.Accepted.{Accepts, IsAccepted}
 use Rattle.pana_hall.specs.Laws.{AreRising, family_of_next}
 use Rattle.pana_hall.specs.inner.OldPlaces.{old, old_places, Keeps}
 use Rattle.pana_hall.specs.inner.Spots.{IsFree}
+use Rattle.pana_hall.specs.inner.Listed.{new_kept}
 use Rattle.pana_hall.specs.inner.Steps.{Begins}
 use Rattle.pana_hall.specs.inner.Kept.{next_entry, AreListed, AreSpots, IsFamilyKept, IsReady, IsReadyAt}
 use Rattle.pana_hall.proofs.Lists.{each_append, each_weaker}
@@ -143,6 +145,9 @@ module _ {journal : List Entry} {by : List ℕ} {report : Report} {list : List K
 each_two : {X : Type 0} (P Q R : X → Type 0) (xs : List X) → ((x : X) → P x → Q x → R x) → AllByRecursion P xs → AllByRecursion Q xs → AllByRecursion R xs
 each_two P Q R [] f ps qs = tt
 each_two P Q R (x ∷ xs) f ps qs = (f x ps.0 qs.0, each_two P Q R xs f ps.1 qs.1)
+
+pub new_begins : (n : ℕ) → Begins n (new_kept n)
+new_begins n = record { number = refl; stands = new_means n; places = (refl, tt); deep = new_depth n }
 
 -- a family that a Register began
 kept_begun : (journal : List Entry) (by : List ℕ) (place : Place) (it : KeptFamily) → IsAccepted 8 journal → Accepts 8 journal (next_entry journal by (Register place)) → Begins (length journal + 1) it

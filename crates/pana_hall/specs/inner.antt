@@ -3,6 +3,7 @@ pub mod Families
 pub mod Places
 pub mod Spots
 pub mod OldPlaces
+pub mod Listed
 pub mod Steps
 pub mod Kept
 pub mod Rows

@@ -20,7 +20,7 @@ use crate::cause::Cause;
 use crate::families::Families;
 use crate::family_row::FamilyRow;
 use crate::holding::{Holding, HoldingList};
-use crate::kept_family::KeptFamily;
+use crate::listed_family::ListedFamily;
 use crate::reply::Reply;
 use pana_copies::{CopyTable, DeviceName, Place};
 use pana_event::Rel;
@@ -36,7 +36,7 @@ fn pair_of(journal: &Journal, families: &Families, copies: &CopyTable, a: u64, b
 {
     let _ = journal;
     let _ = copies;
-    families.of_entry(a).unwrap().family().rel(a, b)
+    families.of_entry(a).unwrap().rel(a, b)
 }
 
 /// The answer to a query that nothing stands against. Fails only where memory runs out; a Pair takes none.
@@ -61,7 +61,7 @@ pub fn answer(
             Ok(Reply::Board(board_of(alloc, family, journal, families, copies)?))
         }
         Query::Stamps { family } => {
-            Ok(Reply::Stamps(stamps_of(family, journal, families, copies)?))
+            Ok(Reply::Stamps(stamps_of(alloc, family, journal, families, copies)?))
         }
         Query::Pair { a, b } => Ok(Reply::Pair(pair_of(journal, families, copies, a, b))),
         Query::Holdings { device } => {
@@ -86,20 +86,20 @@ fn family_rows(
     let mut rows = Vec::new(alloc);
     for it in families.as_slice() {
         if it.has_copies() {
-            rows.push(family_row(it)?)?;
+            rows.push(family_row(alloc, it)?)?;
         }
     }
     Ok(rows)
 }
 
 /// A family's row, read off its board.
-fn family_row(it: &KeptFamily) -> Result<FamilyRow, AllocError>
+fn family_row(alloc: Global, it: &ListedFamily) -> Result<FamilyRow, AllocError>
     ensures { IfOk result (λ row. (sets : Sets) → Means it.now.family sets → row ≡ row_of_sets it.now.number sets.table) }
 {
-    let board = it.family().board()?;
+    let board = it.board(alloc)?;
     Ok(FamilyRow {
         family: it.number(),
-        copies: it.family().count() as u64,
+        copies: it.count() as u64,
         newest: board.newest.as_slice().len() as u64,
         split: board.split,
     })
@@ -118,7 +118,7 @@ fn board_of(
     ensures { IfOk result (λ view. view ≡ board_of family (living journal.now.entries)) }
 {
     let _ = journal;
-    let board = families.of_entry(family).unwrap().family().board()?;
+    let board = families.of_entry(family).unwrap().board(alloc)?;
     let rows = board_rows(alloc, copies, board.rows.as_slice())?;
     Ok(BoardView {
         family,
@@ -130,6 +130,7 @@ fn board_of(
 
 /// The stamps of a family's copies.
 fn stamps_of(
+    alloc: Global,
     family: u64,
     journal: &Journal,
     families: &Families,
@@ -141,7 +142,7 @@ fn stamps_of(
 {
     let _ = journal;
     let _ = copies;
-    families.of_entry(family).unwrap().family().stamps()
+    families.of_entry(family).unwrap().stamps(alloc)
 }
 
 /// The rows of a board, each with the place of its copy.
@@ -205,7 +206,7 @@ fn holding_at(
         copy: number,
         family: found.family,
         path,
-        touch: it.family().touch(number),
+        touch: it.touch(number),
     }))
 }
 

@@ -31,7 +31,7 @@ pub fn is_too_deep(
         return false;
     };
     match families.of_entry(*copy) {
-        Some(it) => !it.family().splits(*copy),
+        Some(it) => !it.splits(*copy),
         None => false,
     }
 }

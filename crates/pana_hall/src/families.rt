@@ -4,14 +4,14 @@ ghost use Rattle.pana_hall.specs.Family.{subject};
 ghost use Rattle.pana_hall.specs.inner.Families.{family_at, position_at};
 ghost use Rattle.pana_hall.specs.inner.Kept.{position_for};
 
-use crate::kept_family::KeptFamily;
+use crate::listed_family::ListedFamily;
 use pana_journal::Report;
 use std::alloc::{AllocError, Global};
 
 /// The families that have begun, by rising number, and for each entry of the journal the position of its family.
 #[derive(Drop)]
 pub struct Families {
-    pub list: Vec<KeptFamily>,
+    pub list: Vec<ListedFamily>,
     pub positions: Vec<usize>,
 }
 
@@ -28,7 +28,7 @@ impl Families {
     }
 
     /// The families in order. Takes no memory.
-    pub fn as_slice(&self) -> &[KeptFamily]
+    pub fn as_slice(&self) -> &[ListedFamily]
         ensures { result.now ≡ self.now.list.items }
     {
         self.list.as_slice()
@@ -71,7 +71,7 @@ impl Families {
     }
 
     /// The family of an entry, if there is such an entry. Takes no memory.
-    pub fn of_entry(&self, number: u64) -> Option<&KeptFamily>
+    pub fn of_entry(&self, number: u64) -> Option<&ListedFamily>
         ensures { option_copied result ≡ family_at self.now.list.items self.now.positions.items number }
     {
         self.list.get(self.position_of(number)?)

@@ -4,7 +4,8 @@ ghost use Rattle.pana_family.specs.Table.{copies_of, duplicated, edited, reconci
 ghost use Rattle.pana_family.specs.Sets.{Sets, confirmed, withdrawn, Pends, PendsLast};
 ghost use Rattle.pana_family.specs.View.{Means, is_living, IsNew, IsLast, can_split, depth_at};
 ghost use Rattle.pana_hall.specs.inner.OldPlaces.{Old, later, Keeps, IsRoom};
-ghost use Rattle.pana_hall.specs.inner.Steps.{Begins, Reports};
+ghost use Rattle.pana_hall.specs.inner.Listed.{new_kept};
+ghost use Rattle.pana_hall.specs.inner.Steps.{Reports};
 
 use crate::old_places::{OldPlaces, Ring};
 use pana_copies::Place;
@@ -22,7 +23,7 @@ pub struct KeptFamily {
 impl KeptFamily {
     /// The family that this entry begins. Fails only where memory runs out.
     pub fn new(alloc: Global, entry: u64) -> Result<KeptFamily, AllocError>
-        ensures { IfOk result (λ kept. Begins entry kept) }
+        ensures { IfOk result (λ kept. kept ≡ new_kept entry) }
     {
         let family = Family::new(alloc, entry)?;
         Ok(KeptFamily {

@@ -13,6 +13,7 @@ mod hall;
 mod holding;
 mod kept_family;
 pub mod laws;
+mod listed_family;
 mod loading;
 mod old_place;
 mod old_places;

@@ -1,9 +1,8 @@
 //! What an accepted report makes of a journal, and of what is kept of it.
 ghost use Rattle.std.specs.Prelude.{◌≡◌, ℕ, ◌+◌, ◌<◌, List, [], ◌∷◌, ◌++◌, length, ◌==◌, if◌then◌else◌, Some, None, OnOk, OnErr};
 ghost use Rattle.pana_copies.specs.Spots.{kept};
-ghost use Rattle.pana_hall.specs.declared.kept_family.KeptFamily.{KeptFamily};
 ghost use Rattle.pana_hall.specs.inner.Spots.{SameSpots, IsFree};
-ghost use Rattle.pana_hall.specs.inner.Steps.{Begins};
+ghost use Rattle.pana_hall.specs.inner.Listed.{new_kept};
 ghost use Rattle.pana_hall.specs.inner.Kept.{next_entry, AreListed, AreSpots, IsFamilyKept, IsReady, IsReadyAt, IsKept, Records, Splits};
 ghost use Rattle.pana_hall.specs.Living.{living};
 ghost use Rattle.pana_hall.specs.Refusal.{report_refusal};
@@ -11,6 +10,7 @@ ghost use Rattle.pana_hall.specs.Refusal.{report_refusal};
 use crate::changing::{duplicate, relocate, remove, withdraw};
 use crate::families::Families;
 use crate::kept_family::KeptFamily;
+use crate::listed_family::{Form, ListedFamily};
 use pana_copies::{CopyTable, DeviceName, Place};
 use pana_journal::{Journal, Report};
 use std::alloc::{AllocError, Global};
@@ -51,17 +51,43 @@ pub fn change(
     }
 }
 
+/// Does to a family of the list what `change` does. A new one takes memory for its stamps by its second report.
+fn change_listed(
+    alloc: Global,
+    journal: &Journal,
+    by: &DeviceName,
+    it: &mut ListedFamily,
+    copies: &mut CopyTable,
+    report: &Report,
+) -> Result<(), AllocError>
+    requires ready { IsReady journal.now.entries by.now report.now it.old copies.old }
+    ensures number { it.new.number ≡ it.old.number }
+    ensures family { OnOk result (IsFamilyKept (journal.now.entries ++ next_entry journal.now.entries by.now report.now ∷ []) it.new) }
+    ensures spots { OnOk result (AreSpots (journal.now.entries ++ next_entry journal.now.entries by.now report.now ∷ []) copies.new) }
+    ensures same { OnErr result (it.new ≡ it.old) }
+    ensures still { OnErr result (SameSpots copies.old copies.new) }
+{
+    match &mut it.form {
+        Form::New(entry) => {
+            let mut kept = Box::new(alloc, KeptFamily::new(alloc, *entry)?)?;
+            change(alloc, journal, by, &mut kept, copies, report)?;
+            it.form = Form::Changed(kept);
+            Ok(())
+        }
+        Form::Changed(kept) => change(alloc, journal, by, kept, copies, report),
+    }
+}
+
 /// Begins a family by the next entry, a Register at this place. Fails only where memory runs out, and then changes nothing.
 fn begin(
-    alloc: Global,
-    list: &mut Vec<KeptFamily>,
+    list: &mut Vec<ListedFamily>,
     copies: &mut CopyTable,
     entry: u64,
     place: &Place,
 ) -> Result<(), AllocError>
     requires fresh { kept copies.old entry ≡ None }
     requires free { IsFree place.now copies.old }
-    ensures list { OnOk result ((it : KeptFamily) × (list.new.items ≡ list.old.items ++ it ∷ []) × Begins entry it) }
+    ensures list { OnOk result (list.new.items ≡ list.old.items ++ new_kept entry ∷ []) }
     ensures spots { OnOk result ((number : ℕ) → kept copies.new number
         ≡ (if number == entry then Some (record { family = entry; place = place.now }) else kept copies.old number)) }
     ensures same { OnErr result (list.new.items ≡ list.old.items) }
@@ -69,7 +95,7 @@ fn begin(
 {
     let place = place.copy_of()?;
     copies.reserve()?;
-    list.push(KeptFamily::new(alloc, entry)?)?;
+    list.push(ListedFamily::new(entry))?;
     copies.insert(entry, entry, place);
     Ok(())
 }
@@ -88,7 +114,7 @@ fn change_at(
     alloc: Global,
     journal: &Journal,
     by: &DeviceName,
-    list: &mut Vec<KeptFamily>,
+    list: &mut Vec<ListedFamily>,
     position: usize,
     copies: &mut CopyTable,
     report: &Report,
@@ -100,11 +126,11 @@ fn change_at(
     ensures still { OnErr result (SameSpots copies.old copies.new) }
 {
     match report {
-        Report::Register { place } => begin(alloc, list, copies, journal.length() + 1, place),
+        Report::Register { place } => begin(list, copies, journal.length() + 1, place),
         _ => {
             // whose contract says that the position is within the list
             let _ = list.as_slice();
-            change(alloc, journal, by, &mut list[position], copies, report)
+            change_listed(alloc, journal, by, &mut list[position], copies, report)
         }
     }
 }
@@ -124,7 +150,7 @@ pub fn record(
     requires splits { Splits families.old.list.items families.old.positions.items report }
     ensures { Records journal.old.entries by.now report result journal.new.entries families.new.list.items families.new.positions.items copies.new }
 {
-    let by = by.copy_of()?;
+    let by = by.copy_of();
     reserve(journal)?;
     let position = families.position_for(&report).unwrap();
     families.push_position(position)?;

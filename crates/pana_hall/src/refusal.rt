@@ -84,7 +84,7 @@ fn family_full(
     let _ = journal;
     let _ = copies.get(number)?;
     let it = families.of_entry(number)?;
-    (it.family().count() >= MOST_COPIES).then_some(Cause::FamilyFull)
+    (it.count() >= MOST_COPIES).then_some(Cause::FamilyFull)
 }
 
 fn unknown_entry(number: u64, journal: &Journal) -> Option<Cause>

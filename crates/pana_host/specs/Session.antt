@@ -3,6 +3,7 @@ use Rattle.std.specs.Prelude.{◌≡◌, ◌⊎◌, ◌^◌, ◌≤◌, ℕ, IsT
 use mathlib.Core.List.{IsPrefix}
 use Rattle.pana_hall.specs.declared.call.Call.{Call}
 use Rattle.pana_hall.specs.declared.reply.Reply.{Reply}
+use Rattle.pana_kept.specs.Kept.{IsReport}
 use Rattle.pana_turn.specs.History.{IsHistory}
 use Rattle.pana_turn.specs.Passes.{PassView, AddsCall, IsSamePass, own_calls}
 
@@ -21,7 +22,7 @@ pub record MakesNone (old new : PassView) : Type 0 where
   pub own : own_calls new ≡ own_calls old
   pub spent : 2 ^ 62 ≤ length new.seen
 
--- a file keeps the hall, and has failed: the pass made a call that isn't answered, whatever became of it
+-- a file keeps the hall, and has failed: the pass made a report that isn't answered, whatever became of it
 pub record MakesUnanswered (old new : PassView) : Type 0 where
   pub same : IsSamePass old new
   pub run : IsHistory new.desk.begun new.seen
@@ -29,6 +30,7 @@ pub record MakesUnanswered (old new : PassView) : Type 0 where
   pub by : List ℕ
   pub call : Call
   pub reply : Reply
+  pub report : IsReport call
   pub adds : AddsCall old new by call reply
 
 -- the session gets no answer

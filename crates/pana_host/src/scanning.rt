@@ -71,7 +71,7 @@ fn report_all<S: Session>(
     Ok(())
 }
 
-/// Asks for the holdings of the device; none where they aren't answered, or memory runs out before they are asked for.
+/// Asks for the holdings of the device; none where they aren't answered.
 fn holdings_of<S: Session>(
     session: &mut S,
     device: &DeviceName,
@@ -79,10 +79,10 @@ fn holdings_of<S: Session>(
     ensures ok { IfOk result (Asks S.step device.now session.old session.new) }
     ensures spent { IfErr result (λ _. S.spends session.old session.new) }
 {
-    let Ok(name) = device.copy_of() else {
-        return Ok(None);
+    let query = Query::Holdings {
+        device: device.copy_of(),
     };
-    match session.call(device, Call::Query(Query::Holdings { device: name }))? {
+    match session.call(device, Call::Query(query))? {
         Reply::Holdings(holdings) => Ok(Some(holdings)),
         _ => Ok(None),
     }

@@ -24,7 +24,7 @@ struct Fading {
 }
 
 fn listing(alloc: Global, has_file: bool) -> Result<Listing, AllocError> {
-    let Ok(device) = DeviceName::new(alloc, "usb") else {
+    let Ok(device) = DeviceName::new("usb") else {
         return Err(AllocError);
     };
     let mut listing = Listing::new(alloc, device);
@@ -58,7 +58,7 @@ fn scanner_tally(rt: HostRuntime) -> Result<(), Fail> {
     let Some(pass) = passes.pop() else {
         return Ok(());
     };
-    let usb = DeviceName::new(alloc, "usb")?;
+    let usb = DeviceName::new("usb")?;
     let mut folder = Fading { alloc, scans: 0 };
     let mut session = DeskSession::new(&rt, &desk, &OpenGate, 0, pass);
     let tally = scanner(&rt, alloc, &mut session, &usb, &mut folder);

@@ -17,7 +17,7 @@ impl Entry {
     pub fn copy_of(&self) -> Result<Entry, AllocError>
         ensures { IfOk result (λ entry. entry ≡ self.now) }
     {
-        let by = self.by.copy_of()?;
+        let by = self.by.copy_of();
         let report = self.report.copy_of()?;
         Ok(Entry {
             number: self.number,

@@ -41,6 +41,11 @@ Becomes old by call reply new = Steps old by call reply new ⊎ (IsNotKept old b
 abbrev pub IsFull : {D : Type 0} → Journal D → Type 0
 IsFull journal = 2 ^ 60 < journal.end
 
+-- the call is a report, and no query
+abbrev pub IsReport : Call → Type 0
+IsReport (calls.Report report) = Unit {0}
+IsReport (calls.Query query) = ⊥
+
 -- a report is answered only while the journal is open
 abbrev pub NeedsOpen : {D : Type 0} → KeptView D → Call → Type 0
 NeedsOpen old (calls.Report report) = old.journal.state ≡ Open

@@ -17,7 +17,7 @@ pub(crate) fn line_of(
 {
     let entry = Entry {
         number,
-        by: by.copy_of()?,
+        by: by.copy_of(),
         report: report.copy_of()?,
     };
     let line = encode_entry(alloc, &entry)?;

@@ -1,6 +1,6 @@
 ghost use Rattle.std.specs.Prelude.{◌≡◌, ◌↔◌, IsTrue, IfErr, IfOk, OnErr, length};
 ghost use Rattle.pana_hall.specs.declared.call.Call.TheVariants as calls;
-ghost use Rattle.pana_kept.specs.Kept.{IsKept, Becomes, Keeps, Breaks};
+ghost use Rattle.pana_kept.specs.Kept.{IsKept, Becomes, Keeps, Breaks, IsReport};
 
 use crate::entry_line::line_of;
 use crate::keeping::keep;
@@ -66,11 +66,12 @@ impl<D: Device> KeptHall<D> {
     ///
     /// # Errors
     ///
-    /// `Unanswered`, with what became of a report: the journal is broken.
+    /// `Unanswered`, with what became of the call, which is a report: the journal is broken. A query is always answered.
     pub fn make(&mut self, by: &DeviceName, call: Call) -> Result<Reply, Unanswered>
         ensures step { IfOk result (λ reply. Keeps D.is_known D.seen D.may_leave D.is_usable D.moment D.left_since D.has_failed self.old by.now call reply self.new) }
         ensures spent { OnErr result (Breaks D.is_known D.moment D.left_since D.has_failed self.old self.new) }
         ensures became { IfErr result (λ unanswered. Becomes self.old.entries by.now call unanswered.reply self.new.entries) }
+        ensures report { OnErr result (IsReport call) }
     {
         match call {
             Call::Query(query) => Ok(self.hall.apply(by, Call::Query(query))),

@@ -57,7 +57,7 @@ pub fn record(
     requires free { report_refusal 8 journal.old.entries copies.old by.now report ≡ None }
     ensures { Records journal.old.entries families.old copies.old by.now report result journal.new.entries families.new copies.new }
 {
-    let by = by.copy_of()?;
+    let by = by.copy_of();
     reserve(journal)?;
     let family = families.of_next(journal.length() + 1, &report);
     families.push(family)?;

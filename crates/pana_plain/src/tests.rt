@@ -23,7 +23,7 @@ fn place(alloc: Global, number: u64) -> Result<Place, Fail> {
     let device = if number % 2 == 0 { "laptop" } else { "desk" };
     let path = format!(in alloc; "file{number}")?;
     Ok(Place {
-        device: DeviceName::new(alloc, device)?,
+        device: DeviceName::new(device)?,
         path: CopyPath::new(alloc, path.as_str())?,
     })
 }
@@ -63,7 +63,7 @@ fn query(alloc: Global, kind: u64, a: u64, b: u64) -> Result<Query, Fail> {
         1 => Query::Board { family: a },
         2 => Query::Pair { a, b },
         3 => Query::Holdings {
-            device: DeviceName::new(alloc, "laptop")?,
+            device: DeviceName::new("laptop")?,
         },
         _ => Query::JournalFrom { entry: a },
     })
@@ -115,7 +115,7 @@ fn same_reply(
 fn same_story(alloc: Global, seed: u64, calls: u64) -> Result<u64, Fail> {
     let mut hall = Hall::new(alloc)?;
     let mut plain = PlainHall::new(alloc)?;
-    let by = DeviceName::new(alloc, "laptop")?;
+    let by = DeviceName::new("laptop")?;
     let mut random = seed;
     for _ in 0..calls {
         random = next(random);

@@ -18,7 +18,7 @@ fn row(
     Ok(BoardRow {
         copy,
         place: Place {
-            device: DeviceName::new(alloc, device)?,
+            device: DeviceName::new(device)?,
             path: CopyPath::new(alloc, path)?,
         },
         newer,

@@ -208,7 +208,7 @@ fn look_at<R: Files + AllocGlobal + Clone + Drop, W: Watch>(
     requires { IsSortedBy (λ one other. is_lt (path_cmp one other)) files.items }
     ensures { IfOk result (λ listing. (listing.device ≡ device.now) × (listing.skipped ≡ skipped)) }
 {
-    let mut listing = Listing::new(alloc, device.copy_of()?);
+    let mut listing = Listing::new(alloc, device.copy_of());
     listing.skip(skipped);
     for path in files {
         if listing.is_above(&path) {

@@ -96,7 +96,7 @@ impl Spot<'_> {
         ensures { IfOk result (λ step. step ≡ record { path = self.now.path.now; fingerprint = Some fingerprint; report = Register (record { device = device.now; path = self.now.path.now }) }) }
     {
         let place = Place {
-            device: device.copy_of()?,
+            device: device.copy_of(),
             path: self.path.copy_of()?,
         };
         self.step(Some(fingerprint), Report::Register { place })

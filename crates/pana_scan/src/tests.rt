@@ -27,7 +27,7 @@ fn path(alloc: Global, text: &str) -> Result<CopyPath, NameFault> {
 }
 
 fn listing_of(alloc: Global, rows: &[(&str, Found)]) -> Result<Listing, Fail> {
-    let mut listing = Listing::new(alloc, DeviceName::new(alloc, "usb")?);
+    let mut listing = Listing::new(alloc, DeviceName::new("usb")?);
     for (text, found) in rows {
         let path = path(alloc, text)?;
         if listing.is_above(&path) {
@@ -40,7 +40,7 @@ fn listing_of(alloc: Global, rows: &[(&str, Found)]) -> Result<Listing, Fail> {
 fn register(alloc: Global, text: &str) -> Result<Report, NameFault> {
     Ok(Report::Register {
         place: Place {
-            device: DeviceName::new(alloc, "usb")?,
+            device: DeviceName::new("usb")?,
             path: path(alloc, text)?,
         },
     })
@@ -208,7 +208,7 @@ fn reads_that_fail_or_run_out_give_no_fingerprint(rt: HostRuntime) {
 #[test]
 fn names_passed_over_are_counted(rt: HostRuntime) -> Result<(), Fail> {
     let alloc = rt.alloc();
-    let mut listing = Listing::new(alloc, DeviceName::new(alloc, "usb")?);
+    let mut listing = Listing::new(alloc, DeviceName::new("usb")?);
     listing.skip(1);
     listing.skip(1);
     assert_eq!(rt; listing.skipped(), 2);
@@ -251,7 +251,7 @@ fn watch_learns_of_files_and_bytes(rt: HostRuntime) -> Result<(), Fail> {
     let root = new_folder(&rt, "watched")?;
     fs::write(&rt, format!(in alloc; "{root}/a")?, "abc")?;
     fs::write(&rt, format!(in alloc; "{root}/b")?, "")?;
-    let device = DeviceName::new(alloc, "usb")?;
+    let device = DeviceName::new("usb")?;
     let mut tally = Tally { files: 0, bytes: 0 };
     let read = read_root(
         alloc,
@@ -270,7 +270,7 @@ fn watch_learns_of_files_and_bytes(rt: HostRuntime) -> Result<(), Fail> {
 
 /// What a scan of the folder finds.
 fn scanned(rt: &HostRuntime, folder: &str) -> Result<Listing, ScanFault> {
-    let device = match DeviceName::new(rt.alloc(), "usb") {
+    let device = match DeviceName::new("usb") {
         Ok(device) => device,
         Err(_) => return Err(ScanFault::OutOfMemory),
     };

@@ -31,6 +31,9 @@ use Rattle.pana_family.specs.contracts.undo.Undo as undo
 use Rattle.pana_family.specs.contracts.family.Family as family
 use Rattle.pana_family.specs.contracts.family.Family.TheInside as family_inside
 use Rattle.pana_hall.specs.contracts.kept_family.KeptFamily as kept_family
+use Rattle.pana_hall.specs.contracts.listed_family.Form as form
+use Rattle.pana_hall.specs.contracts.listed_family.ListedFamily as listed_family
+use Rattle.pana_hall.specs.contracts.listed_family.ListedFamily.TheInside as listed_inside
 use Rattle.pana_hall.specs.contracts.families.Families as families
 use Rattle.pana_hall.specs.contracts.hall.Hall as hall
 use Rattle.pana_hall.specs.contracts.hall.Hall.TheInside as hall_inside
@@ -103,8 +106,14 @@ places_send = view_send _ _ _ _ _ (declared_send places_inside.the_type (options
 kept_family_send : IsSend kept_family.the_row
 kept_family_send = declared_send kept_family.the_type (search sendable, (family_send, (places_send, tt)))
 
+form_send : IsSend form.the_row
+form_send = variants_send form.enum ((search sendable, tt), ((boxes.the_send _ _ _ kept_family_send global.the_send frees.the_frees, tt), tt))
+
+listed_family_send : IsSend listed_family.the_row
+listed_family_send = view_send _ _ _ _ _ (declared_send listed_inside.the_type (form_send, tt))
+
 families_send : IsSend families.the_row
-families_send = declared_send families.the_type (vecs.the_send _ _ _ kept_family_send global.the_send frees.the_frees, (vecs.the_send _ _ _ (search sendable) global.the_send frees.the_frees, tt))
+families_send = declared_send families.the_type (vecs.the_send _ _ _ listed_family_send global.the_send frees.the_frees, (vecs.the_send _ _ _ (search sendable) global.the_send frees.the_frees, tt))
 
 pub hall_send : IsSend hall.the_row
 hall_send = view_send _ _ _ _ _ (declared_send hall_inside.the_type (global.the_send, (journals.the_send, (families_send, (copy_tables.the_send, tt)))))

@@ -1,6 +1,7 @@
 ghost use Rattle.std.specs.Prelude.{◌≡◌, ◌<◌, ◌≤◌, All, IfErr, IfOk, IsErrOf, IsTrue, length};
 ghost use mathlib.Core.List.{IsPrefix};
 ghost use Rattle.pana_hall.specs.declared.reply.Reply.{Reply};
+ghost use Rattle.pana_kept.specs.Kept.{IsReport};
 ghost use Rattle.pana_turn.specs.Hall.{new_hall};
 ghost use Rattle.pana_turn.specs.History.{IsHistory};
 ghost use Rattle.pana_turn.specs.Passes.{AddsCall, IsSamePass, new_passes, own_calls};
@@ -108,8 +109,8 @@ impl Desk {
     ///
     /// # Errors
     ///
-    /// `Spent` only where 2^62 or more calls are finished: the call isn't made. `Unanswered` only where a file keeps the
-    /// hall: the file has failed, and the call's reply isn't returned.
+    /// `Spent` only where 2^62 or more calls are finished: the call isn't made. `Unanswered` only of a report, where a
+    /// file keeps the hall: the file has failed, and the call's reply isn't returned.
     pub fn call<R: Wait>(
         &self,
         rt: &R,
@@ -122,6 +123,7 @@ impl Desk {
         ensures run { IsHistory self.now.id.begun pass.new.seen }
         ensures done { IfOk result (AddsCall pass.old pass.new by.now call) }
         ensures spent { IsErrOf result CallFault.Spent → IsPrefix pass.old.seen pass.new.seen × (own_calls pass.new ≡ own_calls pass.old) × (4611686018427387904 ≤ length pass.new.seen) }
+        ensures report { IsErrOf result CallFault.Unanswered → IsReport call }
         ensures unanswered { IsErrOf result CallFault.Unanswered → IsTrue self.now.id.begun.keeps × ((reply : Reply) × AddsCall pass.old pass.new by.now call reply) }
     {
         let (floor, seat, number) = (&self.table.shared, &mut pass.seat, pass.number);

@@ -1,5 +1,6 @@
 ghost use Rattle.std.specs.Prelude.{◌≡◌, true, false, IsFalse, IsTrue, length};
 ghost use Rattle.pana_hall.specs.Permit.{journal_after};
+ghost use Rattle.pana_kept.specs.Kept.{IsReport};
 ghost use Rattle.pana_turn.specs.Hall.{HallView, new_hall};
 ghost use Rattle.pana_turn.specs.History.{Replies};
 
@@ -67,11 +68,12 @@ impl DeskHall {
         }
     }
 
-    /// Makes one call of a device.
+    /// Makes one call of a device. A query is always answered.
     pub(crate) fn make(&mut self, by: &DeviceName, call: Call) -> Made
         ensures replies { Replies self.old.keeps self.old.entries by.now call result.reply }
         ensures hall { self.new ≡ record { entries = journal_after self.old.entries by.now call result.reply; keeps = self.old.keeps } }
         ensures answered { IsFalse result.is_answered → IsTrue self.old.keeps }
+        ensures report { IsFalse result.is_answered → IsReport call }
     {
         match &mut self.kind {
             Kind::Alone(hall) => Made {

@@ -15,7 +15,7 @@ use std::thread;
 /// A report of a new file at the path `a`.
 fn register(alloc: Global, device: &str) -> Result<Call, Fail> {
     let place = Place {
-        device: DeviceName::new(alloc, device)?,
+        device: DeviceName::new(device)?,
         path: CopyPath::new(alloc, "a")?,
     };
     Ok(Call::Report(Report::Register { place }))
@@ -43,7 +43,7 @@ fn rows_of(reply: Reply) -> Option<usize> {
 fn shared_desk(rt: HostRuntime) -> Result<(), Fail> {
     let alloc = rt.alloc();
     let (desk, mut passes) = Desk::open(alloc, 2)?;
-    let laptop = DeviceName::new(alloc, "laptop")?;
+    let laptop = DeviceName::new("laptop")?;
     let Some(mut second) = passes.pop() else {
         return Ok(());
     };
@@ -110,8 +110,8 @@ fn edits<R: Wait>(
 fn two_threads(rt: HostRuntime) -> Result<(), Fail> {
     let alloc = rt.alloc();
     let (desk, mut passes) = Desk::open(alloc, 2)?;
-    let laptop = DeviceName::new(alloc, "laptop")?;
-    let usb = DeviceName::new(alloc, "usb")?;
+    let laptop = DeviceName::new("laptop")?;
+    let usb = DeviceName::new("usb")?;
     let (Some(second), Some(first)) = (passes.pop(), passes.pop()) else {
         return Ok(());
     };

@@ -71,7 +71,7 @@ fn entry_in(alloc: Global, object: &Value) -> Result<Entry, WireFault>
     ensures { Gives result (entry_in (view object.now)) }
 {
     let number = number_in(Field::Number, object)?;
-    let by = device_in(alloc, Field::By, object)?;
+    let by = device_in(Field::By, object)?;
     let word = word_in(object)?;
     let report = report_in(alloc, word, object)?;
     Ok(Entry { number, by, report })

@@ -71,7 +71,7 @@ pub fn check_object(value: &Value) -> Result<(), WireFault>
 fn message_in(alloc: Global, value: &Value) -> Result<Message, WireFault>
     ensures { Gives result (message_in (view value.now)) }
 {
-    let by = device_in(alloc, Field::By, value)?;
+    let by = device_in(Field::By, value)?;
     let word = word_in(value)?;
     let call = call_in(alloc, word, value)?;
     Ok(Message { by, call })
@@ -108,7 +108,7 @@ fn call_in(alloc: Global, word: Word, value: &Value) -> Result<Call, WireFault>
             b: number_in(fields[1], value)?,
         },
         Word::Holdings => Query::Holdings {
-            device: device_in(alloc, fields[0], value)?,
+            device: device_in(fields[0], value)?,
         },
         Word::Journal => Query::JournalFrom {
             entry: number_in(fields[0], value)?,
@@ -164,23 +164,19 @@ pub fn report_in(alloc: Global, word: Word, value: &Value) -> Result<Report, Wir
 fn place_in(alloc: Global, device: Field, path: Field, value: &Value) -> Result<Place, WireFault>
     ensures { Gives result (place_in device path (view value.now)) }
 {
-    let device = device_in(alloc, device, value)?;
+    let device = device_in(device, value)?;
     let path = path_in(alloc, path, value)?;
     Ok(Place { device, path })
 }
 
 #[tactic(auto, unfolding(crate::specs::Line::device_in))]
-pub fn device_in(alloc: Global, field: Field, value: &Value) -> Result<DeviceName, WireFault>
+pub fn device_in(field: Field, value: &Value) -> Result<DeviceName, WireFault>
     ensures { Gives result (device_in field (view value.now)) }
 {
     let Some(text) = value.get(field.name()).and_then(Value::as_str) else {
         return Err(WireFault::BadField(field));
     };
-    match DeviceName::new(alloc, text) {
-        Ok(device) => Ok(device),
-        Err(NameFault::BadDevice) => Err(WireFault::BadField(field)),
-        Err(_) => Err(WireFault::OutOfMemory),
-    }
+    DeviceName::new(text).map_err(|_| WireFault::BadField(field))
 }
 
 #[tactic(auto, unfolding(crate::specs::Line::path_in))]

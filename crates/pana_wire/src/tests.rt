@@ -7,7 +7,7 @@ use std::test::Fail;
 
 pub fn place(alloc: Global, device: &str, path: &str) -> Result<Place, NameFault> {
     Ok(Place {
-        device: DeviceName::new(alloc, device)?,
+        device: DeviceName::new(device)?,
         path: CopyPath::new(alloc, path)?,
     })
 }
@@ -79,7 +79,7 @@ fn each_word_for_a_report_is_read(rt: HostRuntime) -> Result<(), Fail> {
         ),
     ];
     for (line, report) in rows {
-        let by = DeviceName::new(alloc, "laptop")?;
+        let by = DeviceName::new("laptop")?;
         let call = Call::Report(report);
         assert_eq!(rt;
             decode(alloc, line.as_bytes()),
@@ -110,7 +110,7 @@ fn each_word_for_a_query_is_read(rt: HostRuntime) -> Result<(), Fail> {
         (
             "{\"by\":\"laptop\",\"do\":\"holdings\",\"device\":\"usb\"}",
             Query::Holdings {
-                device: DeviceName::new(alloc, "usb")?,
+                device: DeviceName::new("usb")?,
             },
         ),
         (
@@ -119,7 +119,7 @@ fn each_word_for_a_query_is_read(rt: HostRuntime) -> Result<(), Fail> {
         ),
     ];
     for (line, query) in rows {
-        let by = DeviceName::new(alloc, "laptop")?;
+        let by = DeviceName::new("laptop")?;
         let call = Call::Query(query);
         assert_eq!(rt;
             decode(alloc, line.as_bytes()),

@@ -11,7 +11,7 @@ use std::test::Fail;
 
 /// The one entry of the example.
 fn edits(alloc: Global) -> Result<EntryList, Fail> {
-    let by = DeviceName::new(alloc, "laptop")?;
+    let by = DeviceName::new("laptop")?;
     let report = Report::Edit { copy: 1 };
     Ok(PlainList::from_vec(vec![in alloc;
         Entry {
@@ -107,7 +107,7 @@ fn an_entry_is_written_as_a_line(rt: HostRuntime) -> Result<(), Fail> {
     let alloc = rt.alloc();
     let place = place(alloc, "usb", "a\"b\\c")?;
     let report = Report::Duplicate { copy: 1, place };
-    let by = DeviceName::new(alloc, "laptop")?;
+    let by = DeviceName::new("laptop")?;
     let line = encode_entry(
         alloc,
         &Entry {
@@ -148,7 +148,7 @@ fn a_depth_is_written(rt: HostRuntime) -> Result<(), Fail> {
 #[test]
 fn each_report_is_written(rt: HostRuntime) -> Result<(), Fail> {
     let alloc = rt.alloc();
-    let by = DeviceName::new(alloc, "usb")?;
+    let by = DeviceName::new("usb")?;
     let reports = [
         (
             Report::Register {
@@ -219,7 +219,7 @@ fn a_dump_is_read(rt: HostRuntime) -> Result<(), Fail> {
     let entries = decode_dump(alloc, line.as_bytes())?;
     let first = Entry {
         number: 9,
-        by: DeviceName::new(alloc, "usb")?,
+        by: DeviceName::new("usb")?,
         report: Report::Remove {
             copy: 1,
             heir: None,
@@ -227,7 +227,7 @@ fn a_dump_is_read(rt: HostRuntime) -> Result<(), Fail> {
     };
     let second = Entry {
         number: 9,
-        by: DeviceName::new(alloc, "x")?,
+        by: DeviceName::new("x")?,
         report: Report::Confirm { entry: 2 },
     };
     assert_eq!(rt; entries.as_slice(), [first, second].as_slice());

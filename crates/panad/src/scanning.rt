@@ -4,7 +4,7 @@ ghost use Rattle.pana_scan.specs.Disk.{IsFresh};
 ghost use Rattle.panad.specs.Scan.{AnswersScan, PrintsFirstScan, lines_for, skipped_line};
 
 use crate::answer::Answer;
-use pana_copies::{DeviceName, NameFault};
+use pana_copies::DeviceName;
 use pana_hall::HoldingList;
 use pana_scan::{Baseline, Disk, Listing, ScanFault, Step, Watch, plan, read_root};
 use pana_wire::encode_call;
@@ -68,10 +68,8 @@ pub fn scan_on<R: Files + AllocGlobal + Clone + Drop, W: Watch>(
     requires { IsFresh disk.old }
     ensures { IfOk result (AnswersScan device.now disk.new) }
 {
-    let device = match DeviceName::new(alloc, device) {
-        Ok(device) => device,
-        Err(NameFault::BadDevice) => return Answer::reported(alloc, &"BadDevice"),
-        Err(_) => return Err(AllocError),
+    let Ok(device) = DeviceName::new(device) else {
+        return Answer::reported(alloc, &"BadDevice");
     };
     match read_root(alloc, disk, &device, folder, watch) {
         Ok(listing) => answer_listing(alloc, &listing),

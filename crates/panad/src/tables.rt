@@ -58,7 +58,7 @@ pub fn tables_of(alloc: Global, hall: &mut Hall) -> Result<String, AllocError>
     ensures text { IfOk result (λ text. string_bytes text ≡ tables_text hall.old) }
     ensures hall { hall.new ≡ hall.old }
 {
-    let by = DeviceName::new(alloc, ASKER).map_err(|_| AllocError)?;
+    let by = DeviceName::new(ASKER).map_err(|_| AllocError)?;
     let rows = families_of(hall, &by)?;
     let tables = each_table(alloc, hall, &by, rows.as_slice())?;
     tables.as_slice().join(alloc, "\n")

@@ -10,7 +10,7 @@ use std::test::Fail;
 
 fn place(alloc: Global, device: &str, path: &str) -> Result<Place, Fail> {
     Ok(Place {
-        device: DeviceName::new(alloc, device)?,
+        device: DeviceName::new(device)?,
         path: CopyPath::new(alloc, path)?,
     })
 }
@@ -20,7 +20,7 @@ fn names_and_places(rt: HostRuntime) -> Result<(), Fail> {
     let home = place(rt.alloc(), "laptop", "work/plan.txt")?;
     assert_eq!(rt; home.device.as_str(), "laptop");
     assert_eq!(rt; home.path.as_str(), "work/plan.txt");
-    assert_eq!(rt; home.device.copy_of()?.as_str(), "laptop");
+    assert_eq!(rt; home.device.copy_of().as_str(), "laptop");
     assert_eq!(rt; home.path.copy_of()?.as_str(), "work/plan.txt");
     assert!(rt; home.copy_of()?.is_same(&home));
     assert!(rt; !place(rt.alloc(), "usb", "work/plan.txt")?.is_same(&home));
@@ -56,7 +56,7 @@ fn copies_of_entries(rt: HostRuntime) -> Result<(), Fail> {
         Report::Withdraw { entry: 11 },
     ]?;
     for report in &reports {
-        let by = DeviceName::new(rt.alloc(), "desk")?;
+        let by = DeviceName::new("desk")?;
         let entry = Entry {
             number: 9,
             by,
@@ -70,11 +70,11 @@ fn copies_of_entries(rt: HostRuntime) -> Result<(), Fail> {
 
 #[test]
 fn full_journal(rt: HostRuntime) -> Result<(), Fail> {
-    let by = DeviceName::new(rt.alloc(), "desk")?;
+    let by = DeviceName::new("desk")?;
     let mut journal = Journal::new(rt.alloc());
     for _ in 0..1_000_000 {
         journal.reserve_one()?;
-        let _ = journal.append(by.copy_of()?, Report::Edit { copy: 1 });
+        let _ = journal.append(by.copy_of(), Report::Edit { copy: 1 });
     }
     assert_eq!(rt; journal.length(), 1_000_000);
     assert!(rt; journal.is_full());
@@ -84,11 +84,11 @@ fn full_journal(rt: HostRuntime) -> Result<(), Fail> {
 
 #[test]
 fn pages_of_a_journal(rt: HostRuntime) -> Result<(), Fail> {
-    let by = DeviceName::new(rt.alloc(), "desk")?;
+    let by = DeviceName::new("desk")?;
     let mut journal = Journal::new(rt.alloc());
     for _ in 0..250 {
         journal.reserve_one()?;
-        let _ = journal.append(by.copy_of()?, Report::Edit { copy: 1 });
+        let _ = journal.append(by.copy_of(), Report::Edit { copy: 1 });
     }
     let rows = [
         (0, 100, Some(1)),
@@ -172,7 +172,7 @@ fn each_call_is_answered(rt: HostRuntime) -> Result<(), Fail> {
 #[test]
 fn calls_on_a_hall(rt: HostRuntime) -> Result<(), Fail> {
     let alloc = rt.alloc();
-    let by = DeviceName::new(alloc, "laptop")?;
+    let by = DeviceName::new("laptop")?;
     let mut hall = Hall::new(alloc)?;
     let register = Report::Register {
         place: place(alloc, "laptop", "a")?,
@@ -189,8 +189,8 @@ fn calls_on_a_hall(rt: HostRuntime) -> Result<(), Fail> {
         copy: 1,
         place: place(alloc, "usb", "a")?,
     };
-    calls.push_back((by.copy_of()?, Call::Report(duplicate)))?;
-    calls.push_back((by.copy_of()?, Call::Report(Report::Edit { copy: 2 })))?;
+    calls.push_back((by.copy_of(), Call::Report(duplicate)))?;
+    calls.push_back((by.copy_of(), Call::Report(Report::Edit { copy: 2 })))?;
     calls.push_back((by, Call::Query(Query::Board { family: 1 })))?;
     let replies = hall.apply_all(calls)?;
     assert_eq!(rt; replies.len(), 3);

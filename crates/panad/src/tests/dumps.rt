@@ -154,7 +154,7 @@ fn a_report_is_written_and_made(rt: HostRuntime) -> Result<(), Fail> {
         alloc,
         &["{\"by\":\"laptop\",\"do\":\"register\",\"device\":\"laptop\",\"path\":\"a\"}"],
     )?;
-    let by = DeviceName::new(alloc, "usb")?;
+    let by = DeviceName::new("usb")?;
     let line = encode_call(alloc, &by, &Report::Edit { copy: 1 })?;
     assert_eq!(rt;
         answer(alloc, &mut hall, line.as_str())?.as_str(),

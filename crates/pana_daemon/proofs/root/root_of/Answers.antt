@@ -1,5 +1,6 @@
-use Rattle.std.proofs.Common.{◌≡◌, sym, ◌∙◌, ap}
-use Rattle.pana_daemon.proofs.Rooted.{parts, good_root, no_folder, taken, many, few_pass, many_pass}
+use Rattle.std.proofs.Common.{◌≡◌, sym, subst, ◌∙◌, ap}
+use Rattle.std.specs.Prelude.{IfErr}
+use Rattle.pana_daemon.proofs.Rooted.{parts, not_false, good_root, no_folder, taken, many, few_pass, many_pass}
 use Rattle.pana_copies.specs.Names.{is_device}
 use Rattle.pana_daemon.specs.Root.{device_of}
 use Rattle.pana_daemon.proofs.root.root_of.Goals as goal
@@ -19,4 +20,4 @@ pub returns : goal.returns
 returns c =
     let (before, behind) = parts c.args.word.now _ c.split_once.ensures.cases _ c.in-Some.is in
     let is_d : c.in-Ok.device ≡ device_of c.args.word.now = c.in-Ok.ensures.ok ∙ before in
-    (good_root (λ root. root.device) c.args.earlier.now c.args.word.now c.in-Ok.device c.in-Some.folder.now is_d behind (ap is_device (sym c.device.view_is) ∙ c.device.invariant) (sym c.is_empty.ensures ∙ c.if-is_empty.false) (sym c.has_device.ensures ∙ c.if-has_device.false) (few_pass _ c.if-earlier-ge-MOST_ROOTS.false), is_d, behind)
+    (good_root (λ root. root.device) c.args.earlier.now c.args.word.now c.in-Ok.device c.in-Some.folder.now is_d behind (ap is_device c.in-Ok.ensures.ok ∙ not_false (is_device c.in-Some.device.now) c.in-Ok.ensures.bad (λ is. subst (λ r. IfErr r (λ _. ⊥)) is tt)) (sym c.is_empty.ensures ∙ c.if-is_empty.false) (sym c.has_device.ensures ∙ c.if-has_device.false) (few_pass _ c.if-earlier-ge-MOST_ROOTS.false), is_d, behind)

@@ -3,7 +3,7 @@ use Rattle.std.specs.List.{AllByRecursion}
 use Rattle.std.proofs.Common.{refl, sym, ap, ◌∙◌, subst}
 use Rattle.pana_copies.specs.Spots.{kept}
 use Rattle.pana_family.specs.declared.board.CopyCounts.{CopyCounts}
-use Rattle.pana_family.specs.View.{Kept, Means}
+use Rattle.pana_family.specs.View.{Means}
 use Rattle.pana_hall.specs.Sets.{sets_of}
 use Rattle.pana_hall.specs.inner.Families.{family_at}
 use Rattle.pana_hall.specs.inner.Rows.{placed_row}
@@ -22,8 +22,8 @@ board_rows-requires c =
     let journal = c.args.journal.now.entries in
     let fs = c.args.families.now in
     let at : family_at fs.list.items fs.positions.items c.args.family ≡ Some c.unwrap.result.now = sym c.of_entry.ensures ∙ ap option_copied c.unwrap.ensures in
-    let means : Means c.family.result.now (sets_of c.args.family journal) =
-    subst (λ (f : Kept). Means f (sets_of c.args.family journal)) (sym c.family.ensures) (known_family journal fs.list.items fs.positions.items c.args.copies.now c.args.family c.unwrap.result.now c.requires.kept c.requires.free at) in
+    let means : Means c.unwrap.result.now.family (sets_of c.args.family journal) =
+    (known_family journal fs.list.items fs.positions.items c.args.copies.now c.args.family c.unwrap.result.now c.requires.kept c.requires.free at) in
     subst (AllByRecursion (λ (row : CopyCounts). IsSome (kept c.args.copies.now row.copy))) (sym (c.as_slice.ensures ∙ c.in_ok-board.ensures.rows _ means)) (rows_kept journal c.args.family c.args.copies.now c.requires.kept.accepted c.requires.kept.spots)
 
 pub returns : goal.returns
@@ -31,8 +31,8 @@ returns c =
     let journal = c.args.journal.now.entries in
     let fs = c.args.families.now in
     let at : family_at fs.list.items fs.positions.items c.args.family ≡ Some c.unwrap.result.now = sym c.of_entry.ensures ∙ ap option_copied c.unwrap.ensures in
-    let means : Means c.family.result.now (sets_of c.args.family journal) =
-    subst (λ (f : Kept). Means f (sets_of c.args.family journal)) (sym c.family.ensures) (known_family journal fs.list.items fs.positions.items c.args.copies.now c.args.family c.unwrap.result.now c.requires.kept c.requires.free at) in
+    let means : Means c.unwrap.result.now.family (sets_of c.args.family journal) =
+    (known_family journal fs.list.items fs.positions.items c.args.copies.now c.args.family c.unwrap.result.now c.requires.kept c.requires.free at) in
     board_is journal c.args.family c.from_vec.result c.in_ok-board.board.newest c.in_ok-board.board.split c.args.copies.now c.requires.kept.accepted c.requires.kept.spots
     (c.from_vec.ensures ∙ c.in_ok-rows.ensures ∙ ap (map (placed_row c.args.copies.now)) (c.as_slice.ensures ∙ c.in_ok-board.ensures.rows _ means))
     (c.in_ok-board.ensures.newest _ means) (c.in_ok-board.ensures.split _ means)

@@ -1,12 +1,12 @@
 use Rattle.std.specs.Prelude.{◌≡◌, ℕ, true, cond, Some, None, IsSome, List, option_map, option_copied, option_and_then}
 use Rattle.std.specs.Str.{bytes_eq}
-use Rattle.std.proofs.Common.{refl, sym, ap, ◌∙◌, subst}
+use Rattle.std.proofs.Common.{refl, sym, ap, ◌∙◌}
 use Rattle.pana_copies.specs.declared.place.Place.{Place}
 use Rattle.pana_copies.specs.Spots.{Spot}
 use Rattle.pana_hall.specs.Queries.{holding}
 use Rattle.pana_hall.proofs.Places.{found_number}
 use Rattle.pana_hall.proofs.Held.{touch_of_copy}
-use Rattle.pana_family.specs.View.{Kept, Means, is_living}
+use Rattle.pana_family.specs.View.{Means}
 use Rattle.pana_hall.specs.Living.{Copy, living}
 use Rattle.pana_hall.specs.Sets.{sets_of}
 use Rattle.pana_hall.specs.inner.Families.{family_at}
@@ -29,7 +29,7 @@ touch-requires c =
     let copy = found_spot journal c.args.copies.now c.args.number _ c.requires.kept.spots (sym c.get.ensures ∙ ap (option_map _) c.in-Some.is) in
     let at : family_at fs.list.items fs.positions.items c.args.number ≡ Some c.unwrap-it.result.now = sym c.of_entry.ensures ∙ ap option_copied c.unwrap-it.ensures in
     let kept_it = has_family journal fs.list.items fs.positions.items c.args.copies.now c.args.number c.requires.kept c.unwrap-it.result.now at in
-    subst (λ (f : Kept). is_living f c.args.number ≡ true) (sym c.family.ensures) (is_living_kept journal c.unwrap-it.result.now c.args.number copy.0 c.requires.kept.accepted kept_it.0 kept_it.1 copy.1)
+    (is_living_kept journal c.unwrap-it.result.now c.args.number copy.0 c.requires.kept.accepted kept_it.0 kept_it.1 copy.1)
 
 pub returns : goal.returns
 returns c =
@@ -39,8 +39,8 @@ returns c =
     let at : family_at fs.list.items fs.positions.items c.args.number ≡ Some c.unwrap-it.result.now = sym c.of_entry.ensures ∙ ap option_copied c.unwrap-it.ensures in
     let kept_it = has_family journal fs.list.items fs.positions.items c.args.copies.now c.args.number c.requires.kept c.unwrap-it.result.now at in
     let family = c.unwrap-it.result.now.number in
-    let means : Means c.family.result.now (sets_of family journal) = subst (λ (f : Kept). Means f (sets_of family journal)) (sym c.family.ensures) kept_it.0.means in
-    let touch : c.touch.result ≡ copy.0.touch = c.touch.ensures.sets _ means ∙ touch_of_copy journal family c.args.number copy.0 c.requires.kept.accepted copy.1 (sym kept_it.1) in
+    let means : Means c.unwrap-it.result.now.family (sets_of family journal) = kept_it.0.means in
+    let touch : c.touch.result ≡ copy.0.touch = c.touch.ensures _ means ∙ touch_of_copy journal family c.args.number copy.0 c.requires.kept.accepted copy.1 (sym kept_it.1) in
     let number : copy.0.number ≡ c.args.number = found_number (living journal) c.args.number copy.0 copy.1 in
     let there : copy.0.place ≡ c.in-Some.found.place.now = ap (λ (s : Spot). s.place) copy.2 in
     let own : copy.0.family ≡ c.in-Some.found.family = ap (λ (s : Spot). s.family) copy.2 in

@@ -1,8 +1,7 @@
-use Rattle.std.specs.Prelude.{◌≡◌, true, Some, None, IsSome, option_copied}
-use Rattle.std.proofs.Common.{refl, sym, ap, ◌∙◌, subst}
+use Rattle.std.specs.Prelude.{◌≡◌, Some, None, IsSome, option_copied}
+use Rattle.std.proofs.Common.{refl, sym, ap, ◌∙◌}
 use Rattle.pana_family.specs.Relation.{relation}
 use Rattle.pana_family.specs.Table.{set_in}
-use Rattle.pana_family.specs.View.{Kept, Means, is_living}
 use Rattle.pana_hall.specs.Living.{living, known_to}
 use Rattle.pana_hall.specs.Sets.{sets_of}
 use Rattle.pana_hall.specs.inner.Families.{family_at}
@@ -26,7 +25,7 @@ rel-requires-clause-first c =
     let pair = pair_at journal c.args.a c.args.b c.requires.kept.accepted c.requires.free in
     let at : family_at fs.list.items fs.positions.items c.args.a ≡ Some c.unwrap.result.now = sym c.of_entry.ensures ∙ ap option_copied c.unwrap.ensures in
     let kept_it = has_family journal fs.list.items fs.positions.items c.args.copies.now c.args.a c.requires.kept c.unwrap.result.now at in
-    subst (λ (f : Kept). is_living f c.args.a ≡ true) (sym c.family.ensures) (is_living_kept journal c.unwrap.result.now c.args.a pair.first c.requires.kept.accepted kept_it.0 kept_it.1 pair.found_first)
+    (is_living_kept journal c.unwrap.result.now c.args.a pair.first c.requires.kept.accepted kept_it.0 kept_it.1 pair.found_first)
 
 pub rel-requires-clause-second : goal.rel-requires-clause-second
 rel-requires-clause-second c =
@@ -35,7 +34,7 @@ rel-requires-clause-second c =
     let pair = pair_at journal c.args.a c.args.b c.requires.kept.accepted c.requires.free in
     let at : family_at fs.list.items fs.positions.items c.args.a ≡ Some c.unwrap.result.now = sym c.of_entry.ensures ∙ ap option_copied c.unwrap.ensures in
     let kept_it = has_family journal fs.list.items fs.positions.items c.args.copies.now c.args.a c.requires.kept c.unwrap.result.now at in
-    subst (λ (f : Kept). is_living f c.args.b ≡ true) (sym c.family.ensures) (is_living_kept journal c.unwrap.result.now c.args.b pair.second c.requires.kept.accepted kept_it.0 (kept_it.1 ∙ sym pair.of) pair.found_second)
+    (is_living_kept journal c.unwrap.result.now c.args.b pair.second c.requires.kept.accepted kept_it.0 (kept_it.1 ∙ sym pair.of) pair.found_second)
 
 pub returns : goal.returns
 returns c =
@@ -45,6 +44,6 @@ returns c =
     let at : family_at fs.list.items fs.positions.items c.args.a ≡ Some c.unwrap.result.now = sym c.of_entry.ensures ∙ ap option_copied c.unwrap.ensures in
     let kept_it = has_family journal fs.list.items fs.positions.items c.args.copies.now c.args.a c.requires.kept c.unwrap.result.now at in
     let family = c.unwrap.result.now.number in
-    c.rel.ensures (sets_of family journal) (subst (λ (f : Kept). Means f (sets_of family journal)) (sym c.family.ensures) kept_it.0.means)
+    c.rel.ensures (sets_of family journal) (kept_it.0.means)
     ∙ ap (λ s. relation s (set_in (sets_of family journal).table c.args.b)) (set_of_copy journal family c.args.a pair.first c.requires.kept.accepted pair.found_first (sym kept_it.1))
     ∙ ap (relation (known_to (living journal) c.args.a)) (set_of_copy journal family c.args.b pair.second c.requires.kept.accepted pair.found_second (pair.of ∙ sym kept_it.1))

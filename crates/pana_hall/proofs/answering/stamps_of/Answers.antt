@@ -1,7 +1,7 @@
 use Rattle.std.specs.Prelude.{◌≡◌, Some, None, IsSome, option_copied}
-use Rattle.std.proofs.Common.{refl, sym, ap, ◌∙◌, subst}
+use Rattle.std.proofs.Common.{refl, sym, ap, ◌∙◌}
 use Rattle.std.proofs.lemmas.Result.{IfOk-weaker}
-use Rattle.pana_family.specs.View.{Kept, Means}
+use Rattle.pana_family.specs.View.{Means}
 use Rattle.pana_hall.specs.Sets.{sets_of}
 use Rattle.pana_hall.specs.inner.Families.{family_at}
 use Rattle.pana_hall.proofs.Answered.{family_there, known_family, stamps_are}
@@ -18,6 +18,6 @@ returns c =
     let journal = c.args.journal.now.entries in
     let fs = c.args.families.now in
     let at : family_at fs.list.items fs.positions.items c.args.family ≡ Some c.unwrap.result.now = sym c.of_entry.ensures ∙ ap option_copied c.unwrap.ensures in
-    let means : Means c.family.result.now (sets_of c.args.family journal) =
-    subst (λ (f : Kept). Means f (sets_of c.args.family journal)) (sym c.family.ensures) (known_family journal fs.list.items fs.positions.items c.args.copies.now c.args.family c.unwrap.result.now c.requires.kept c.requires.free at) in
-    IfOk-weaker c.stamps.result _ _ (λ stamps are. stamps_are journal c.args.family stamps c.requires.kept.accepted (are _ means)) c.stamps.ensures.sets
+    let means : Means c.unwrap.result.now.family (sets_of c.args.family journal) =
+    (known_family journal fs.list.items fs.positions.items c.args.copies.now c.args.family c.unwrap.result.now c.requires.kept c.requires.free at) in
+    IfOk-weaker c.stamps.result _ _ (λ stamps are. stamps_are journal c.args.family stamps c.requires.kept.accepted (are _ means)) c.stamps.ensures

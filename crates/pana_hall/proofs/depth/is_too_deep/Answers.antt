@@ -1,6 +1,6 @@
 use Rattle.std.specs.Prelude.{◌≡◌, ◌≤◌, Bool, true, false, not, Some, None, option_copied}
 use Rattle.std.proofs.Common.{refl, sym, ap, ◌∙◌, subst, inr}
-use Rattle.pana_family.specs.View.{Kept, is_living, depth_at}
+use Rattle.pana_family.specs.View.{depth_at}
 use Rattle.pana_hall.specs.declared.call.Call.TheVariants as calls
 use Rattle.pana_hall.specs.declared.cause.Cause.TheVariants.{TooDeep}
 use Rattle.pana_hall.specs.Living.{living}
@@ -17,7 +17,6 @@ splits-requires c =
     let at : family_at families.list.items families.positions.items c.in-Duplicate.copy ≡ Some c.in-Some.it.now = sym c.of_entry.ensures ∙ ap option_copied c.in-Some.is in
     let kept_it = has_family journal families.list.items families.positions.items c.args.copies.now c.in-Duplicate.copy c.requires.kept c.in-Some.it.now at in
     let free = subst (λ r. report_refusal 8 journal (living journal) c.args.by.now r ≡ None) c.in-Duplicate.is c.requires.free in
-    subst (λ (f : Kept). is_living f c.in-Duplicate.copy ≡ true) (sym c.family.ensures)
     (source_lives journal c.args.by.now c.in-Duplicate.copy c.in-Duplicate.place c.in-Some.it.now c.requires.kept.accepted free kept_it.0 kept_it.1)
 
 pub returns-in-Some-clause-shortage : goal.returns-in-Some-clause-shortage
@@ -26,7 +25,7 @@ returns-in-Some-clause-shortage c = λ deep.
     let families = c.args.families.now in
     let at : family_at families.list.items families.positions.items c.in-Duplicate.copy ≡ Some c.in-Some.it.now = sym c.of_entry.ensures ∙ ap option_copied c.in-Some.is in
     let kept_it = has_family journal families.list.items families.positions.items c.args.copies.now c.in-Duplicate.copy c.requires.kept c.in-Some.it.now at in
-    let whole : 256 ≤ depth_at 0 c.in-Some.it.now.family = subst (λ (f : Kept). 256 ≤ depth_at 0 f) c.family.ensures (c.splits.ensures.deep (not_true c.splits.result deep)) in
+    let whole : 256 ≤ depth_at 0 c.in-Some.it.now.family = c.splits.ensures.deep (not_true c.splits.result deep) in
     subst (λ r. IsShortage journal (calls.Report r) TooDeep) (sym c.in-Duplicate.is) (inr (refl, deep_enough journal c.in-Duplicate.copy c.in-Some.it.now kept_it.0 kept_it.1 whole))
   where
     not_true : (b : Bool) → not b ≡ true → b ≡ false

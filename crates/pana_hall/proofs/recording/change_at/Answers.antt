@@ -3,7 +3,8 @@ use Rattle.std.proofs.Common.{sym, ap, ◌∙◌, subst, arith}
 use Rattle.pana_copies.specs.Spots.{kept}
 use Rattle.pana_hall.specs.inner.Kept.{next_entry, AreListed, AreSpots, IsReadyAt}
 use Rattle.pana_hall.proofs.Changes.{on_ok}
-use Rattle.pana_hall.proofs.Listed.{fresh_register, free_register, listed_push, spots_register, ready_at, listed_set, still_there, position_within, not_register, on_err}
+use Rattle.pana_hall.specs.inner.Listed.{new_kept}
+use Rattle.pana_hall.proofs.Listed.{new_begins, fresh_register, free_register, listed_push, spots_register, ready_at, listed_set, still_there, position_within, not_register, on_err}
 use Rattle.pana_hall.proofs.recording.change_at.Goals as goal
 
 pub begin-requires-clause-fresh : goal.begin-requires-clause-fresh
@@ -19,7 +20,7 @@ pub returns-in-Register-clause-list : goal.returns-in-Register-clause-list
 returns-in-Register-clause-list c =
     let ready = subst (λ r. IsReadyAt c.args.journal.now.entries c.args.by.now r c.args.list.now.items c.args.position c.args.copies.now) c.in-Register.is c.requires.ready in
     subst (λ r. OnOk c.begin.result (AreListed (c.args.journal.now.entries ++ next_entry c.args.journal.now.entries c.args.by.now r ∷ []) c.begin.new.list.items)) (sym c.in-Register.is)
-    (on_ok c.begin.result (λ more. subst (AreListed _) (sym more.1) (listed_push ready c.length.result c.length.ensures.length more.0 more.2)) c.begin.ensures.list)
+    (on_ok c.begin.result (λ more. subst (AreListed _) (sym more) (listed_push ready c.length.result c.length.ensures.length (new_kept (c.length.result + 1)) (new_begins (c.length.result + 1)))) c.begin.ensures.list)
 
 pub returns-in-Register-clause-spots : goal.returns-in-Register-clause-spots
 returns-in-Register-clause-spots c =
@@ -33,15 +34,15 @@ index_mut-requires c =
     let same : length c.as_slice.result.now ≡ length c.args.list.now.items = ap length c.as_slice.ensures.value in
     omega (arith, c.as_slice.ensures.len)
 
-pub change-requires : goal.change-requires
-change-requires c = record { ready = ready_at c.requires.ready (not_register c.args.report.now c.in_default.not-Register) c.index_mut.result.now c.index_mut.result.now c.index_mut.ensures.value }
+pub change_listed-requires : goal.change_listed-requires
+change_listed-requires c = record { ready = ready_at c.requires.ready (not_register c.args.report.now c.in_default.not-Register) c.index_mut.result.now c.index_mut.result.now c.index_mut.ensures.value }
 
 pub returns-in_default : goal.returns-in_default
 returns-in_default c =
     let later = not_register c.args.report.now c.in_default.not-Register in
     record {
-      list = on_ok c.change.result (λ kept_it. listed_set c.requires.ready later c.index_mut.result.now c.index_mut.result.now c.change.new.it c.index_mut.ensures.value c.change.ensures.number kept_it) c.change.ensures.family;
-      spots = c.change.ensures.spots;
-      same = on_err c.change.result (λ same. still_there c.requires.ready later c.index_mut.result.now c.index_mut.result.now c.change.new.it c.index_mut.ensures.value same) c.change.ensures.same;
-      still = c.change.ensures.still;
+      list = on_ok c.change_listed.result (λ kept_it. listed_set c.requires.ready later c.index_mut.result.now c.index_mut.result.now c.change_listed.new.it c.index_mut.ensures.value c.change_listed.ensures.number kept_it) c.change_listed.ensures.family;
+      spots = c.change_listed.ensures.spots;
+      same = on_err c.change_listed.result (λ same. still_there c.requires.ready later c.index_mut.result.now c.index_mut.result.now c.change_listed.new.it c.index_mut.ensures.value same) c.change_listed.ensures.same;
+      still = c.change_listed.ensures.still;
     }

@@ -18,8 +18,8 @@ change_at-changed-requires c =
     let at : position_for families.list.items families.positions.items c.args.report ≡ Some c.unwrap-position.result = sym c.position_for.ensures ∙ c.unwrap-position.ensures in
     let ready = ready_for c.args.journal.now.entries c.args.by.now c.args.report families.list.items families.positions.items c.args.copies.now c.requires.kept c.requires.free c.requires.splits c.unwrap-position.result at in
     record {
-      ready = subst (λ (j : List Entry). IsReadyAt j c.in_ok-by.by c.args.report c.push_position.new.self.list.items c.unwrap-position.result c.args.copies.now) (sym c.reserve.ensures.entries)
-          (subst (λ by. IsReadyAt c.args.journal.now.entries by c.args.report c.push_position.new.self.list.items c.unwrap-position.result c.args.copies.now) (sym c.in_ok-by.ensures)
+      ready = subst (λ (j : List Entry). IsReadyAt j c.copy_of-by.result c.args.report c.push_position.new.self.list.items c.unwrap-position.result c.args.copies.now) (sym c.reserve.ensures.entries)
+          (subst (λ by. IsReadyAt c.args.journal.now.entries by c.args.report c.push_position.new.self.list.items c.unwrap-position.result c.args.copies.now) (sym c.copy_of-by.ensures)
           (subst (λ (l : List KeptFamily). IsReadyAt c.args.journal.now.entries c.args.by.now c.args.report l c.unwrap-position.result c.args.copies.now) (sym (ap (λ l. l.items) c.push_position.ensures.list)) ready));
     }
 
@@ -31,15 +31,15 @@ returns c =
     let at : position_for families.list.items families.positions.items report ≡ Some c.unwrap-position.result = sym c.position_for.ensures ∙ c.unwrap-position.ensures in
     let list' = c.change_at-changed.new.list.items in
     let copies' = c.change_at-changed.new.copies in
-    let same : c.reserve.new.journal.entries ++ next_entry c.reserve.new.journal.entries c.in_ok-by.by report ∷ [] ≡ journal ++ next_entry journal c.args.by.now report ∷ [] =
-    ap (λ (j : List Entry). j ++ next_entry j c.in_ok-by.by report ∷ []) c.reserve.ensures.entries ∙ ap (λ by. journal ++ next_entry journal by report ∷ []) c.in_ok-by.ensures in
+    let same : c.reserve.new.journal.entries ++ next_entry c.reserve.new.journal.entries c.copy_of-by.result report ∷ [] ≡ journal ++ next_entry journal c.args.by.now report ∷ [] =
+    ap (λ (j : List Entry). j ++ next_entry j c.copy_of-by.result report ∷ []) c.reserve.ensures.entries ∙ ap (λ by. journal ++ next_entry journal by report ∷ []) c.copy_of-by.ensures in
     let listed : AreListed (journal ++ next_entry journal c.args.by.now report ∷ []) list' = subst (λ (j : List Entry). AreListed j list') same c.in_default.ensures.list in
     let spots : AreSpots (journal ++ next_entry journal c.args.by.now report ∷ []) copies' = subst (λ (j : List Entry). AreSpots j copies') same c.in_default.ensures.spots in
     let next = kept_next journal c.args.by.now report families.list.items families.positions.items c.args.copies.now c.requires.kept c.requires.free c.unwrap-position.result at list' copies' listed spots in
     let number : c.append.result ≡ length journal + 1 = c.append.ensures.number ∙ ap (λ (j : List Entry). length j + 1) c.reserve.ensures.entries in
     let entries : c.append.new.self.entries ≡ journal ++ next_entry journal c.args.by.now report ∷ [] =
-    c.append.ensures.entries ∙ ap (λ (j : List Entry). j ++ record { number = c.append.result; by = c.in_ok-by.by; report = report } ∷ []) c.reserve.ensures.entries
-    ∙ ap (λ n. journal ++ record { number = n; by = c.in_ok-by.by; report = report } ∷ []) number ∙ ap (λ by. journal ++ next_entry journal by report ∷ []) c.in_ok-by.ensures in (
+    c.append.ensures.entries ∙ ap (λ (j : List Entry). j ++ record { number = c.append.result; by = c.copy_of-by.result; report = report } ∷ []) c.reserve.ensures.entries
+    ∙ ap (λ n. journal ++ record { number = n; by = c.copy_of-by.result; report = report } ∷ []) number ∙ ap (λ by. journal ++ next_entry journal by report ∷ []) c.copy_of-by.ensures in (
       number,
       entries,
       subst (λ (j : List Entry). IsKept j list' c.push_position.new.self.positions.items copies') (sym entries)

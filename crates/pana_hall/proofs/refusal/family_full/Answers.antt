@@ -1,7 +1,5 @@
 use Rattle.std.specs.Prelude.{◌≡◌, Some, None, option_map, option_copied}
-use Rattle.std.proofs.Common.{sym, ap, ◌∙◌, subst}
-use Rattle.pana_family.specs.View.{Kept, Means}
-use Rattle.pana_hall.specs.Sets.{sets_of}
+use Rattle.std.proofs.Common.{sym, ap, ◌∙◌}
 use Rattle.pana_hall.specs.inner.Families.{family_at}
 use Rattle.pana_hall.proofs.Refusals.{found_spot, full_is, copy_has_family, has_family}
 use Rattle.pana_hall.proofs.refusal.family_full.Goals as goal
@@ -25,4 +23,4 @@ returns c =
     let kept_it = has_family journal families.list.items families.positions.items c.args.copies.now c.args.number c.requires c.in_ok-it.it.now at in
     c.then_some.ensures
     ∙ full_is journal families.list.items families.positions.items c.args.copies.now c.args.number copy.0 c.in_ok-it.it.now c.count.result c.requires copy.1 at
-    (c.count.ensures.sets _ (subst (λ (f : Kept). Means f (sets_of c.in_ok-it.it.now.number journal)) (sym c.family.ensures) kept_it.0.means))
+    (c.count.ensures _ (kept_it.0.means))

@@ -13,6 +13,6 @@ returns c =
     let bytes = string_bytes c.in_ok-line.line in
     let value : c.into_bytes.result.items ≡ bytes = search rules in
     let line : IsEntryLine entry bytes =
-    subst (λ (r : Report). IsEntryLine (record { number = c.args.number; by = c.args.by.now; report = r }) bytes) c.in_ok-copy_of-2.ensures
-    (subst (λ (b : List ℕ). IsEntryLine (record { number = c.args.number; by = b; report = c.in_ok-copy_of-2.field-0 }) bytes) c.in_ok-copy_of.ensures c.in_ok-line.ensures.line) in
+    subst (λ (r : Report). IsEntryLine (record { number = c.args.number; by = c.args.by.now; report = r }) bytes) c.in_ok-copy_of.ensures
+    (subst (λ (b : List ℕ). IsEntryLine (record { number = c.args.number; by = b; report = c.in_ok-copy_of.field-0 }) bytes) c.copy_of.ensures c.in_ok-line.ensures.line) in
     subst (λ (text : List ℕ). IsLineOf entry text) (sym value) (is_line entry bytes line)
