@@ -1,14 +1,14 @@
 #!/usr/bin/env python3
-"""Runs each test of the given crates with its Nth allocation failing, for N = 1, 2, .. until none fails.
+"""Runs the tests of the given modules of pana_tests with the Nth allocation failing, for N = 1, 2, .. until none fails.
 
-usage: each_test.py CRATE..
+usage: each_test.py MODULE..
 
 A test passes with no failed allocation. With one it ends with an error that says so, AllocError, AllocFailed
 or OutOfMemory: not with another answer, a failed assertion or a crash. A test of STARTS_THREADS may also pass: a
 thread that can't be made, as memory runs out, is done without. What a test leaves in the folder for temporary files
 is taken away. Of a test with more than MOST allocations, MOST fail in turn, evenly spread. The tests are those that
 `rt ci` or `rt test` has built.
-The last line is 'N passed, M failed', one for each crate.
+The last line is 'N passed, M failed', one for each module.
 """
 from __future__ import annotations
 
@@ -22,28 +22,28 @@ from pathlib import Path
 
 import failing
 
-CRATES = Path(__file__).resolve().parents[2] / "crates"
+PROGRAM = Path(__file__).resolve().parents[2] / "crates/pana_tests/out/pana_tests_tests"
 PROCESSES = 4
 SECONDS = 60
 SHOWN = 5
 MOST = 2000
-STARTS_THREADS = {"tests::two_threads"}
+STARTS_THREADS = {"turn::two_threads"}
 LISTED = re.compile(r"^(\S+): test$", re.MULTILINE)
 OUT_OF_MEMORY = re.compile(rb"error: (AllocError|AllocFailed \{ \.\. \}|OutOfMemory|Kind\(OutOfMemory\))\nthe test failed: its result gives status 1\n")
 
 
-def run(program, test, library, at):
+def run(test, library, at):
     """Runs the test with allocation number `at` failing (0: none): its status, standard error, allocations, failed ones."""
     with failing.Report() as report:
         environment = {**report.environment(library, at), "TMPDIR": str(Path(library).parent)}
-        ended = subprocess.run([program, test], env=environment, pass_fds=[report.number], capture_output=True, timeout=SECONDS)
+        ended = subprocess.run([PROGRAM, test], env=environment, pass_fds=[report.number], capture_output=True, timeout=SECONDS)
         return (ended.returncode, ended.stderr, *report.counts())
 
 
-def fault_of(program, test, library, at):
+def fault_of(test, library, at):
     """What is wrong with a run in which allocation number `at` fails, or None."""
     try:
-        status, error, _, failed = run(program, test, library, at)
+        status, error, _, failed = run(test, library, at)
     except (OSError, subprocess.SubprocessError) as fault:
         return f"allocation {at} failed: {fault}"
     if failed != 1:
@@ -60,48 +60,47 @@ def chosen(allocations):
     return sorted({1 + at * (allocations - 1) // (min(allocations, MOST) - 1 or 1) for at in range(min(allocations, MOST))})
 
 
-def faults_of(program, test, library):
+def faults_of(test, library):
     """How many allocations of the test failed, and what went wrong."""
-    status, error, allocations, _ = run(program, test, library, 0)
+    status, error, allocations, _ = run(test, library, 0)
     if status:
         return 0, [f"{test}: with no failed allocation it ended with status {status} and {error[:200]!r}"]
     numbers = chosen(allocations)
     with ProcessPoolExecutor(PROCESSES) as pool:
-        faults = pool.map(fault_of, *([it] * len(numbers) for it in (program, test, library)), numbers, chunksize=8)
+        faults = pool.map(fault_of, *([it] * len(numbers) for it in (test, library)), numbers, chunksize=8)
         return len(numbers), [f"{test}: {it}" for it in faults if it]
 
 
-def sweep(crate, library):
-    """Sweeps the tests of one crate: how many allocations failed, and whether all was as it must be."""
-    program = CRATES / crate / "out" / f"{crate}_tests"
+def sweep(module, library):
+    """Sweeps the tests of one module: how many allocations failed, and whether all was as it must be."""
     failed, faults = 0, []
     try:
-        listed = subprocess.run([program, "--list"], capture_output=True, text=True, timeout=SECONDS, check=True)
-        tests = LISTED.findall(listed.stdout)
+        listed = subprocess.run([PROGRAM, "--list"], capture_output=True, text=True, timeout=SECONDS, check=True)
+        tests = [it for it in LISTED.findall(listed.stdout) if it.startswith(f"{module}::")]
         for test in tests:
-            more, wrong = faults_of(program, test, library)
+            more, wrong = faults_of(test, library)
             failed += more
             faults += wrong
     except (OSError, subprocess.SubprocessError) as fault:
         tests, faults = [], [f"its tests could not run: {fault}"]
     if not failed and not faults:
         faults = ["none of its tests allocates"]
-    print(f"{'FAILED' if faults else 'ok'} {crate}: {failed} failed allocations in {len(tests)} tests", *faults[:SHOWN], sep="\n    ", flush=True)
+    print(f"{'FAILED' if faults else 'ok'} {module}: {failed} failed allocations in {len(tests)} tests", *faults[:SHOWN], sep="\n    ", flush=True)
     return failed, not faults
 
 
-def main(crates):
+def main(modules):
     with tempfile.TemporaryDirectory(prefix="sweep-") as room:
         library = failing.compiled(room)
-        if library is None or not crates:
-            print("FAILED: failing.c does not compile" if crates else "FAILED: no crate is named")
-            print(f"0 passed, {max(len(crates), 1)} failed")
+        if library is None or not modules:
+            print("FAILED: failing.c does not compile" if modules else "FAILED: no module is named")
+            print(f"0 passed, {max(len(modules), 1)} failed")
             return 1
-        outcomes = [sweep(it, library) for it in crates]
+        outcomes = [sweep(it, library) for it in modules]
     passed = sum(it[1] for it in outcomes)
-    print(f"{sum(it[0] for it in outcomes)} allocations failed in the tests of {len(crates)} crates")
-    print(f"{passed} passed, {len(crates) - passed} failed")
-    return 0 if passed == len(crates) else 1
+    print(f"{sum(it[0] for it in outcomes)} allocations failed in the tests of {len(modules)} modules")
+    print(f"{passed} passed, {len(modules) - passed} failed")
+    return 0 if passed == len(modules) else 1
 
 
 if __name__ == "__main__":

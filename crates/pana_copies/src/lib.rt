@@ -6,8 +6,6 @@ mod copy_table;
 mod device_name;
 mod name_fault;
 mod place;
-#[cfg(test)]
-mod tests;
 
 pub use crate::copy_path::CopyPath;
 pub use crate::copy_table::{CopyTable, KeptCopy};

@@ -35,10 +35,7 @@ fn has_device(roots: &[Root<'_>], device: &DeviceName) -> bool
 }
 
 /// The root that a word names, beside those that earlier words named; or none where the word is bad.
-fn root_of<'a>(
-    word: &'a str,
-    earlier: &[Root<'a>],
-) -> Option<Root<'a>>
+fn root_of<'a>(word: &'a str, earlier: &[Root<'a>]) -> Option<Root<'a>>
     ensures { MatchOption result (is_bad_root (map (λ root. root.device) earlier.now) word.now ≡ true)
         (λ root. (is_bad_root (map (λ root. root.device) earlier.now) word.now ≡ false) × (root.device ≡ device_of word.now) × (root.folder.now ≡ folder_of word.now)) }
 {

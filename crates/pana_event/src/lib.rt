@@ -11,8 +11,6 @@
 pub mod laws;
 mod node;
 mod rel;
-#[cfg(test)]
-mod tests;
 mod tree;
 
 pub use crate::node::{Halves, Node};

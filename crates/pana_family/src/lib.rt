@@ -23,8 +23,6 @@ mod rows;
 mod searching;
 mod settling;
 mod stamps;
-#[cfg(test)]
-mod tests;
 mod undo;
 
 pub use crate::board::{CopyCounts, FamilyBoard};

@@ -19,10 +19,3 @@ pub use crate::lane::{Lane, LaneEnd};
 pub use crate::listening::listen;
 pub use crate::scanners::{Scanner, scan_all};
 pub use crate::scanning::{ScanTally, scanner};
-
-#[cfg(test)]
-mod listening_tests;
-#[cfg(test)]
-mod scanning_tests;
-#[cfg(test)]
-mod tests;

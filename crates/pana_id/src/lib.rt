@@ -9,8 +9,6 @@ mod id_fault;
 mod id_tree;
 pub mod laws;
 mod node;
-#[cfg(test)]
-mod tests;
 
 pub use crate::id_fault::IdFault;
 pub use crate::id_tree::IdTree;

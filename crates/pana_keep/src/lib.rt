@@ -23,6 +23,3 @@ pub use crate::keeper::Keeper;
 pub use crate::lines::is_whole;
 pub use crate::memory::{Crash, MemoryDevice};
 pub use crate::recovery::Recovery;
-
-#[cfg(test)]
-mod tests;

@@ -55,6 +55,13 @@ impl<D: Device> KeptHall<D> {
         self.journal.state == JournalState::Open
     }
 
+    /// The journal that has the hall's entries, and its device. Takes no memory.
+    pub fn journal(&self) -> &Journal<D>
+        ensures { result.now ≡ self.now.journal }
+    {
+        &self.journal
+    }
+
     /// How many entries the hall's journal has. Takes no memory.
     pub fn length(&self) -> u64
         ensures { result ≡ length self.now.entries }

@@ -16,6 +16,3 @@ pub use crate::open_fault::OpenFault;
 pub use crate::opening::{Opened, open, read};
 pub use crate::serving::serve_kept;
 pub use crate::unanswered::Unanswered;
-
-#[cfg(test)]
-mod tests;

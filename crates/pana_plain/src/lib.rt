@@ -14,8 +14,6 @@ mod pending;
 mod recording;
 mod refusal;
 mod relation;
-#[cfg(test)]
-mod tests;
 mod update_set;
 
 pub use crate::hall::PlainHall;

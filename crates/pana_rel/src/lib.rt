@@ -8,8 +8,6 @@ mod pair_table;
 mod rel_list;
 mod row;
 mod rows;
-#[cfg(test)]
-mod tests;
 
 pub use crate::counts::Counts;
 pub use crate::pair_table::PairTable;

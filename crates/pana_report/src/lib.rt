@@ -7,8 +7,6 @@ mod line;
 mod place;
 mod printing;
 mod state;
-#[cfg(test)]
-mod tests;
 mod widths;
 
 pub use crate::printing::print;

@@ -23,6 +23,3 @@ pub use crate::planning::plan;
 pub use crate::scan_fault::ScanFault;
 pub use crate::step::{Plan, Step, StepList};
 pub use crate::watch::{Unwatched, Watch};
-
-#[cfg(test)]
-mod tests;

@@ -14,8 +14,6 @@ mod filling;
 mod growing;
 pub mod laws;
 mod stamp;
-#[cfg(test)]
-mod tests;
 
 pub use crate::cost::Cost;
 pub use crate::filling::fill;

@@ -7,8 +7,6 @@ mod fault;
 mod id;
 pub mod laws;
 mod reading;
-#[cfg(test)]
-mod tests;
 mod writing;
 
 pub use crate::fault::TextFault;

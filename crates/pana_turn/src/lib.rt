@@ -17,6 +17,3 @@ pub use crate::desk::{CallFault, CloseRefused, Closed, Desk};
 pub use crate::desk_hall::DeskHall;
 pub use crate::finished_call::FinishedCall;
 pub use crate::pass::{Note, Pass};
-
-#[cfg(test)]
-mod tests;

@@ -11,16 +11,10 @@ mod message;
 mod reading;
 mod report_writing;
 mod serving;
-#[cfg(test)]
-mod serving_tests;
 mod session;
 mod tap;
-#[cfg(test)]
-mod tests;
 mod word;
 mod writing;
-#[cfg(test)]
-mod writing_tests;
 
 pub use crate::cutting::split_lines;
 pub use crate::dump::decode_dump;

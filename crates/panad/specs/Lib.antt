@@ -1,9 +1,1 @@
-pub mod Never
 pub mod Fault
-pub mod Compare
-pub mod Answered
-pub mod Tables
-pub mod Load
-pub mod Show
-pub mod Scan
-pub mod inner

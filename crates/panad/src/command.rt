@@ -1,16 +1,12 @@
-use crate::answer::Answer;
-use crate::comparing::compare_on;
 use crate::daemon;
 use crate::fault::ProgramFault;
 use crate::keeping::{run_kept, show_kept};
-use crate::loading::load_on;
+use crate::printing::print_answer;
 use crate::progress::Progress;
-use crate::running::run_on;
-use crate::scanning::scan_on;
-use crate::showing::show_on;
 use crate::version::VERSION;
 use clap::error::{Error, ErrorKind};
 use clap::{Arg, ArgAction, ArgMatches, Command, value_parser};
+use pana_commands::{Answer, compare_on, load_on, run_on, scan_on, show_on};
 use pana_kept::before_end;
 use pana_scan::Disk;
 use pana_wire::Tap;
@@ -277,14 +273,14 @@ fn scan(rt: &HostRuntime, words: &ArgMatches) -> Result<ExitCode, ProgramFault> 
         &mut progress,
     );
     progress.end();
-    answer?.print(rt)
+    print_answer(rt, &answer?)
 }
 
 fn compare(rt: &HostRuntime, words: &ArgMatches) -> Result<ExitCode, ProgramFault> {
     // Both words are required, so they are there.
     let first = words.get_str(FIRST).unwrap_or("");
     let second = words.get_str(SECOND).unwrap_or("");
-    compare_on(rt.alloc(), first, second)?.print(rt)
+    print_answer(rt, &compare_on(rt.alloc(), first, second)?)
 }
 
 fn serve<T: Threads + Wait + Sync>(
@@ -324,7 +320,7 @@ fn bytes_of_input(rt: &HostRuntime) -> Result<Vec<u8>, ProgramFault> {
 
 fn cannot_read(rt: &HostRuntime, name: &str) -> Result<ExitCode, ProgramFault> {
     let text = format!(in rt.alloc(); "cannot read {name}")?;
-    Answer::reported(rt.alloc(), &text)?.print(rt)
+    print_answer(rt, &Answer::reported(rt.alloc(), &text)?)
 }
 
 fn show(rt: &HostRuntime, words: &ArgMatches) -> Result<ExitCode, ProgramFault> {
@@ -338,14 +334,14 @@ fn show(rt: &HostRuntime, words: &ArgMatches) -> Result<ExitCode, ProgramFault> 
         },
         None => bytes_of_input(rt)?,
     };
-    show_on(rt.alloc(), bytes.as_slice())?.print(rt)
+    print_answer(rt, &show_on(rt.alloc(), bytes.as_slice())?)
 }
 
 fn load(rt: &HostRuntime, words: &ArgMatches) -> Result<ExitCode, ProgramFault> {
     // The word is required, so it is there.
     let name = words.get_str(FILE).unwrap_or("");
     match bytes_of(rt, name)? {
-        Some(bytes) => load_on(rt.alloc(), before_end(&bytes))?.print(rt),
+        Some(bytes) => print_answer(rt, &load_on(rt.alloc(), before_end(&bytes))?),
         None => cannot_read(rt, name),
     }
 }

@@ -1,8 +1,9 @@
 //! `panad serve`.
 
-use crate::answer::Answer;
 use crate::fault::ProgramFault;
 use crate::keeping::open_hall;
+use crate::printing::print_answer;
+use pana_commands::Answer;
 use pana_daemon::{DaemonFault, RootFault, roots_of};
 use pana_hall::Hall;
 use pana_turn::DeskHall;
@@ -22,7 +23,7 @@ fn listener_on(rt: &HostRuntime, port: u16) -> io::Result<(TcpListener, SocketAd
 
 /// Prints one line on standard error, and returns the status for it.
 fn complain(rt: &HostRuntime, text: &String) -> Result<ExitCode, ProgramFault> {
-    Answer::reported(rt.alloc(), text)?.print(rt)
+    print_answer(rt, &Answer::reported(rt.alloc(), text)?)
 }
 
 /// The hall that all sessions share: that of a journal's file, or a new one; or the status, where a line says why there is

@@ -1,10 +1,10 @@
 //! Commands on a journal that is kept in a file.
 
-use crate::answer::Answer;
 use crate::command::READS;
 use crate::fault::ProgramFault;
 use crate::journal_file::{FileFault, open_locked};
-use crate::tables::tables_of;
+use crate::printing::print_answer;
+use pana_commands::{Answer, tables_of};
 use pana_keep::{FileDevice, Journal};
 use pana_kept::{KeptHall, OpenFault, Opened, serve_kept};
 use pana_wire::{ServeFault, Tap};
@@ -17,12 +17,12 @@ fn report_file(rt: &HostRuntime, name: &str, fault: FileFault) -> Result<ExitCod
         FileFault::CannotOpen => format!(in rt.alloc(); "cannot open journal {name}")?,
         FileFault::InUse => format!(in rt.alloc(); "journal {name} is in use")?,
     };
-    Answer::reported(rt.alloc(), &text)?.print(rt)
+    print_answer(rt, &Answer::reported(rt.alloc(), &text)?)
 }
 
 fn report_fault(rt: &HostRuntime, name: &str, fault: OpenFault) -> Result<ExitCode, ProgramFault> {
     let text = format!(in rt.alloc(); "journal {name}: {fault}")?;
-    Answer::reported(rt.alloc(), &text)?.print(rt)
+    print_answer(rt, &Answer::reported(rt.alloc(), &text)?)
 }
 
 /// Says how many bytes a crash has left behind the last entry. That standard error can't be written is no fault.
@@ -44,7 +44,7 @@ fn serve_input(
     let mut writer = Tap::new(output);
     match serve_kept(alloc, &mut reader, &mut writer, &mut session, READS) {
         Ok(_) => Ok(ExitCode::SUCCESS),
-        Err(ServeFault::Spent) => Answer::reported(alloc, &"journal failed")?.print(rt),
+        Err(ServeFault::Spent) => { print_answer(rt, &Answer::reported(alloc, &"journal failed")?) }
         Err(fault) => Err(ProgramFault::of_serving(fault)),
     }
 }
@@ -86,7 +86,7 @@ pub fn show_kept(rt: &HostRuntime, name: &str) -> Result<ExitCode, ProgramFault>
     match pana_kept::read(rt.alloc(), &mut journal) {
         Ok(Opened { mut hall, .. }) => {
             let tables = tables_of(rt.alloc(), &mut hall)?;
-            Answer::printed(rt.alloc(), tables).print(rt)
+            print_answer(rt, &Answer::printed(rt.alloc(), tables))
         }
         Err(fault) => report_fault(rt, name, fault),
     }

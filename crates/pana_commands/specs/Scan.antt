@@ -1,0 +1,33 @@
+-- What `scan` answers for a device and a folder.
+use Rattle.std.specs.Prelude.{◌≡◌, ◌⊎◌, ℕ, ◌==◌, false, List, [], ◌∷◌, ◌++◌, codes, decimal, if◌then◌else◌, string_bytes}
+use Rattle.std.specs.List.{flat_map}
+use Rattle.pana_copies.specs.Names.{is_device}
+use Rattle.pana_scan.specs.Disk.{HasCause, IsWithin}
+use Rattle.pana_scan.specs.Fault.{shown_scan_fault}
+use Rattle.pana_scan.specs.Listing.{Contents}
+use Rattle.pana_scan.specs.Plan.{plan_of}
+use Rattle.pana_scan.specs.declared.disk.Disk.{Disk}
+use Rattle.pana_scan.specs.declared.scan_fault.ScanFault.{ScanFault}
+use Rattle.pana_scan.specs.declared.step.Step.{Step}
+use Rattle.pana_wire.specs.Report.{report_text}
+use Rattle.pana_commands.specs.declared.answer.Answer.{Answer}
+use Rattle.pana_commands.specs.Answered.{Reports, report_line}
+
+-- the lines by which a device makes the reports of steps
+abbrev pub lines_for : List ℕ → List Step → List ℕ
+lines_for device steps = flat_map (λ step. report_text device step.report ++ 10 ∷ []) steps
+
+-- the report about names that were passed over, where there are some
+abbrev pub skipped_line : ℕ → List ℕ
+skipped_line skipped = if skipped == 0 then [] else report_line (decimal skipped ++ codes " names skipped")
+
+-- the lines of all that a first scan with this listing calls for, with status 0
+abbrev pub PrintsFirstScan : Contents → Answer → Type 0
+PrintsFirstScan listing answer = (string_bytes answer.out ≡ lines_for listing.device (plan_of [] [] listing).steps)
+    × (string_bytes answer.err ≡ skipped_line listing.skipped) × (answer.status ≡ 0)
+
+-- what is answered, by what came of the disk: that the device is none; the lines of what was found; or why nothing was
+abbrev pub AnswersScan : {R : Type 0} → List ℕ → Disk R → Answer → Type 0
+AnswersScan device disk answer = ((is_device device ≡ false) × Reports (codes "BadDevice") answer)
+    ⊎ ((listing : Contents) × (listing.device ≡ device) × IsWithin disk × PrintsFirstScan listing answer)
+    ⊎ ((fault : ScanFault) × HasCause disk fault × Reports (shown_scan_fault fault) answer)

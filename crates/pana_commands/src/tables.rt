@@ -1,0 +1,65 @@
+//! The tables of all families of a hall.
+ghost use Rattle.std.specs.Prelude.{◌≡◌, map, IfOk, string_bytes};
+ghost use Rattle.pana_hall.specs.Board.{board_of};
+ghost use Rattle.pana_hall.specs.Living.{living};
+ghost use Rattle.pana_hall.specs.Queries.{family_rows};
+ghost use Rattle.pana_commands.specs.Tables.{table_of, tables_text};
+
+use pana_copies::DeviceName;
+use pana_hall::{BoardView, Call, FamilyRow, Hall, Query, Reply};
+use pana_list::PlainList;
+use pana_report::print;
+use std::alloc::{AllocError, Global};
+
+/// The device in whose name the program asks; a question has the same answer for each.
+const ASKER: &str = "panad";
+
+fn families_of(hall: &mut Hall, by: &DeviceName) -> Result<PlainList<FamilyRow>, AllocError>
+    ensures rows { IfOk result (λ rows. rows ≡ family_rows hall.old (living hall.old)) }
+    ensures hall { hall.new ≡ hall.old }
+{
+    match hall.apply(by, Call::Query(Query::Families)) {
+        Reply::Families(rows) => Ok(rows),
+        _ => Err(AllocError),
+    }
+}
+
+fn board_of(hall: &mut Hall, by: &DeviceName, family: u64) -> Result<BoardView, AllocError>
+    ensures board { IfOk result (λ board. board ≡ board_of family (living hall.old)) }
+    ensures hall { hall.new ≡ hall.old }
+{
+    match hall.apply(by, Call::Query(Query::Board { family })) {
+        Reply::Board(board) => Ok(board),
+        _ => Err(AllocError),
+    }
+}
+
+/// The tables of families. The hall stays as it is.
+fn each_table(
+    alloc: Global,
+    hall: &mut Hall,
+    by: &DeviceName,
+    rows: &[FamilyRow],
+) -> Result<Vec<String>, AllocError>
+    ensures tables { IfOk result (λ tables. map string_bytes tables.items ≡ map (table_of hall.old) rows.now) }
+    ensures hall { hall.new ≡ hall.old }
+{
+    let mut tables = Vec::new(alloc);
+    for row in rows {
+        let board = board_of(hall, by, row.family)?;
+        tables.push(print(alloc, &board)?)?;
+    }
+    Ok(tables)
+}
+
+/// The tables of the families that have a living copy, by rising number, with an empty line between two. The hall stays
+/// as it is. Fails only where memory runs out.
+pub fn tables_of(alloc: Global, hall: &mut Hall) -> Result<String, AllocError>
+    ensures text { IfOk result (λ text. string_bytes text ≡ tables_text hall.old) }
+    ensures hall { hall.new ≡ hall.old }
+{
+    let by = DeviceName::new(ASKER).map_err(|_| AllocError)?;
+    let rows = families_of(hall, &by)?;
+    let tables = each_table(alloc, hall, &by, rows.as_slice())?;
+    tables.as_slice().join(alloc, "\n")
+}

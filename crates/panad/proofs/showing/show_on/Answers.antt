@@ -1,5 +1,0 @@
-use Rattle.std.proofs.Common.{rules}
-use Rattle.panad.proofs.showing.show_on.Goals as goal
-
-pub returns : goal.returns
-returns c = (c.take_lines.new.hall, search rules, search rules, search rules)
