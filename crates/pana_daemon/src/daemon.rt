@@ -1,14 +1,15 @@
 //! Sessions and scanners, until both have ended.
-ghost use Rattle.std.specs.Prelude.{◌≡◌, ◌≤◌, IfOk, length, map};
-ghost use Rattle.pana_host.specs.Listen.{AreOf};
+ghost use Rattle.std.specs.Prelude.{◌≡◌, ◌+◌, ◌++◌, ◌≤◌, IfOk, length, map, vec_capacity};
+ghost use Rattle.pana_host.specs.Listen.{AreOf, HaveGrown};
+ghost use Rattle.pana_daemon.specs.Serve.{Ends, passes_of};
 
 use crate::alarm::Alarm;
 use crate::root::Root;
 use crate::root_folder::RootFolder;
 use crate::ticks::Ticks;
 use pana_host::{DeskSession, Scanner, listen, scan_all};
-use pana_turn::{Desk, DeskHall, Pass};
-use std::alloc::AllocError;
+use pana_turn::{Closed, Desk, DeskHall, Pass};
+use std::alloc::{AllocError, Global};
 use std::marker::Sync;
 use std::net::{SocketAddr, TcpListener};
 use std::sync::Wait;
@@ -20,6 +21,15 @@ const SESSIONS: u32 = 16;
 
 /// A scanner of a root.
 type RootScanner<'a, 'b, T> = Scanner<'a, T, Alarm<'b>, RootFolder<'a, T>>;
+
+/// Where connections come in: the desk that they are served at, how many are wanted, and who is asked about each call.
+#[derive(Drop)]
+struct Front<'d, 'l, 'g, 'r> {
+    desk: &'d Desk,
+    listener: &'l TcpListener,
+    wanted: Option<u64>,
+    gate: &'g Alarm<'r>,
+}
 
 /// Why the daemon ended early.
 #[derive(Clone, Copy, Debug, PartialEq, Eq)]
@@ -38,7 +48,7 @@ impl From<AllocError> for DaemonFault {
     }
 }
 
-/// The scanners of the roots, in order, each by the last of the passes that are left.
+/// The scanners of the roots, in order, each by the pass at its place.
 fn scanners<'a, 'b, T>(
     rt: &'a HostRuntime,
     threads: &'a T,
@@ -46,17 +56,17 @@ fn scanners<'a, 'b, T>(
     gate: &'a Alarm<'b>,
     ticks: &'a Ticks,
     roots: &'a [Root<'a>],
-    passes: &mut Vec<Pass>,
+    passes: Vec<Pass>,
 ) -> Result<Vec<RootScanner<'a, 'b, T>>, AllocError>
-    requires of { AreOf desk.now.id passes.old.items }
-    requires enough { length roots.now ≤ length passes.old.items }
-    ensures of { AreOf desk.now.id passes.new.items }
-    ensures fewer { length passes.new.items ≤ length passes.old.items }
-    ensures each { IfOk result (λ scanners. map (λ scanner. scanner.device.now) scanners.items ≡ map (λ root. root.device) roots.now) }
+    requires of { AreOf desk.now.id passes.items }
+    requires enough { length passes.items ≡ length roots.now }
+    ensures passes { IfOk result (λ scanners. passes_of scanners.items ≡ passes.items) }
+    ensures devices { IfOk result (λ scanners. map (λ scanner. scanner.device.now) scanners.items ≡ map (λ root. root.device) roots.now) }
 {
     let mut scanners = Vec::with_capacity(rt.alloc(), roots.len())?;
+    let mut passes = passes.into_iter();
     for root in roots {
-        let Some(pass) = passes.pop() else {
+        let Some(pass) = passes.next() else {
             unreachable!()
         };
         scanners.push_reserved(Scanner {
@@ -68,24 +78,119 @@ fn scanners<'a, 'b, T>(
     Ok(scanners)
 }
 
-/// Counts the newlines of standard input, and scans all roots for each, until the input has ended.
+/// The scanners' passes, in order. Takes no memory where there is room for them.
+fn take_passes<T>(scanners: Vec<RootScanner<'_, '_, T>>, passes: &mut Vec<Pass>)
+    requires empty { length passes.old.items ≡ 0 }
+    requires room { length scanners.items ≤ vec_capacity passes.old }
+    ensures passes { passes.new.items ≡ passes_of scanners.entry.items }
+    ensures capacity { vec_capacity passes.new ≡ vec_capacity passes.old }
+{
+    for scanner in scanners {
+        passes.push_reserved(scanner.session.into_pass());
+    }
+}
+
+/// Has the scanners scan until all have ended, and then hands their passes back, in order, for which there is room.
+fn scan<T: Threads + Wait + Sync>(
+    threads: &T,
+    alloc: Global,
+    mut scanners: Vec<RootScanner<'_, '_, T>>,
+    mut back: Vec<Pass>,
+) -> Vec<Pass>
+    requires empty { length back.items ≡ 0 }
+    requires room { length scanners.items ≤ vec_capacity back }
+    ensures passes { HaveGrown (passes_of scanners.entry.items) result.items }
+    ensures capacity { vec_capacity result ≡ vec_capacity back }
+{
+    scan_all(threads, alloc, scanners.as_mut_slice());
+    take_passes(scanners, &mut back);
+    back
+}
+
+/// Counts the newlines of standard input, and scans all roots for each, until the input has ended. Then it hands the
+/// scanners' passes back, in order, for which there is room.
 fn scan_by_newlines<T: Threads + Wait + Sync>(
     rt: &HostRuntime,
     threads: &T,
     ticks: &Ticks,
-    scanners: &mut [RootScanner<'_, '_, T>],
-) {
+    scanners: Vec<RootScanner<'_, '_, T>>,
+    back: Vec<Pass>,
+) -> Vec<Pass>
+    requires empty { length back.items ≡ 0 }
+    requires room { length scanners.items ≤ vec_capacity back }
+    ensures passes { HaveGrown (passes_of scanners.entry.items) result.items }
+    ensures capacity { vec_capacity result ≡ vec_capacity back }
+{
+    let alloc = rt.alloc();
+    let (back, ()) = thread::join(
+        threads,
+        move ||
+            requires { (length back.items ≡ 0) × (length scanners.items ≤ vec_capacity back) }
+        { scan(threads, alloc, scanners, back) },
+        || ticks.count(threads, &mut rt.reader()),
+    );
+    back
+}
+
+/// Serves connections as `listen` does, and hands the passes back, in order: with `false`, as they were, where memory ran
+/// out before a connection was taken.
+fn serve_connections<T: Threads + Wait + Sync>(
+    threads: &T,
+    alloc: Global,
+    front: &Front<'_, '_, '_, '_>,
+    passes: Vec<Pass>,
+) -> (bool, Vec<Pass>)
+    requires few { length passes.items ≤ 64 }
+    requires of { AreOf front.now.desk.now.id passes.items }
+    ensures { HaveGrown passes.items result.1.items }
+{
+    let Front {
+        desk,
+        listener,
+        wanted,
+        gate,
+    } = front;
+    match listen(threads, alloc, desk, listener, passes, *wanted, *gate) {
+        Ok(back) => (true, back),
+        Err(back) => (false, back),
+    }
+}
+
+/// Serves connections by these passes while the scanners scan, and hands both their passes back, in order.
+fn serve_and_scan<T: Threads + Wait + Sync>(
+    rt: &HostRuntime,
+    threads: &T,
+    ticks: &Ticks,
+    front: Box<Front<'_, '_, '_, '_>>,
+    others: Vec<Pass>,
+    scanners: Vec<RootScanner<'_, '_, T>>,
+    back: Vec<Pass>,
+) -> ((bool, Vec<Pass>), Vec<Pass>)
+    requires few { length others.items ≤ 64 }
+    requires of { AreOf front.value.desk.now.id others.items }
+    requires empty { length back.items ≡ 0 }
+    requires room { length scanners.items ≤ vec_capacity back }
+    ensures served { HaveGrown others.items result.0.1.items }
+    ensures scanned { HaveGrown (passes_of scanners.entry.items) result.1.items }
+    ensures capacity { vec_capacity result.1 ≡ vec_capacity back }
+{
     let alloc = rt.alloc();
     thread::join(
         threads,
-        || scan_all(threads, alloc, scanners),
-        || ticks.count(threads, &mut rt.reader()),
-    );
+        move || -> (bool, Vec<Pass>)
+            requires { (length others.items ≤ 64) × AreOf front.value.desk.now.id others.items }
+            ensures { HaveGrown others.items result.1.items }
+        { serve_connections(threads, alloc, &front, others) },
+        move ||
+            requires { (length back.items ≡ 0) × (length scanners.items ≤ vec_capacity back) }
+        { scan_by_newlines(rt, threads, ticks, scanners, back) },
+    )
 }
 
 /// Prints where it listens, and then serves the listener's connections at a desk with this hall, 16 at a time, and scans
 /// the roots: each by a thread of its own, once at the start and once for each newline on standard input. It ends once as
-/// many connections were taken as are wanted and standard input has ended; where no number is given, never.
+/// many connections were taken as are wanted and standard input has ended; where no number is given, never. Then it closes
+/// the desk, and returns the hall, with the number of calls that were made.
 ///
 /// # Errors
 ///
@@ -99,24 +204,41 @@ pub fn serve<'a, T: Threads + Wait + Sync>(
     wanted: Option<u64>,
     roots: &'a [Root<'a>],
     hall: DeskHall,
-) -> Result<(), DaemonFault>
+) -> Result<Closed, DaemonFault>
     requires few { length roots.now ≤ 8 }
+    ensures closed { IfOk result (λ closed. Ends (16 + length roots.now) hall closed.hall closed.calls) }
 {
     let alloc = rt.alloc();
     let (desk, mut passes) = Desk::open_with(alloc, SESSIONS + roots.len() as u32, hall)?;
-    let (desk, ticks, gate) = (&desk, &Ticks::new(), &Alarm::new(rt));
-    let mut scanners = scanners(rt, threads, desk, gate, ticks, roots, &mut passes)?;
+    let room = Vec::with_capacity(alloc, passes.len())?;
+    let others = passes.split_off(roots.len())?;
+    let (ticks, gate) = (Ticks::new(), Alarm::new(rt));
+    let scanners = scanners(&*rt, &*threads, &desk, &gate, &ticks, &*roots, passes)?;
+    // In a box, since of a closure that captures it as it stands `join` passes nothing on.
+    let front = Front {
+        desk: &desk,
+        listener: &*listener,
+        wanted,
+        gate: &gate,
+    };
+    let Ok(front) = Box::new(alloc, front) else {
+        return Err(DaemonFault::OutOfMemory);
+    };
     println!(rt; "listening {address}").map_err(|_| DaemonFault::Write)?;
-    let (listened, ()) = thread::join(
-        threads,
-        move ||
-            requires { (length passes.items ≤ 64) × AreOf desk.now.id passes.items }
-        { listen(threads, alloc, desk, listener, passes, wanted, gate) },
-        || scan_by_newlines(rt, threads, ticks, scanners.as_mut_slice()),
+    let ((has_listened, mut served), mut back) = serve_and_scan(
+        &*rt, &*threads, &ticks, front, others, scanners, room,
     );
-    match listened {
-        Ok(_) if gate.has_rung() => Err(DaemonFault::Unanswered),
-        Ok(_) => Ok(()),
-        Err(_) => Err(DaemonFault::OutOfMemory),
+    if !has_listened {
+        return Err(DaemonFault::OutOfMemory);
     }
+    if gate.has_rung() {
+        return Err(DaemonFault::Unanswered);
+    }
+    let Ok(()) = back.append(&mut served) else {
+        unreachable!()
+    };
+    let Ok(closed) = desk.close(back) else {
+        unreachable!()
+    };
+    Ok(closed)
 }

@@ -76,7 +76,7 @@ pub fn serve<T: Threads + Wait + Sync>(
         roots.as_slice(),
         hall,
     ) {
-        Ok(()) => Ok(ExitCode::SUCCESS),
+        Ok(_) => Ok(ExitCode::SUCCESS),
         Err(DaemonFault::Unanswered) => Ok(ExitCode::FAILURE), // it has been printed
         Err(DaemonFault::OutOfMemory) => Err(ProgramFault::OutOfMemory),
         Err(DaemonFault::Write) => Err(ProgramFault::Write),
