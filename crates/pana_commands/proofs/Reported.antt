@@ -1,30 +1,26 @@
 -- How the parts of a report are put together, and lines one after another.
 use Rattle.std.specs.Prelude.{◌≡◌, ◌≢◌, false, ℕ, ◌+◌, ◌<◌, decimal, List, [], ◌∷◌, ◌++◌, length, codes, if◌then◌else◌, Option, Some, Result, Ok, Err, OnOk}
 use Rattle.std.specs.Result.{is_ok}
-use Rattle.std.proofs.Common.{refl, sym, ap, ◌∙◌, subst, inl, inr, take, drop, get_or, append-nil, arith}
+use Rattle.std.proofs.Common.{refl, sym, ap, ◌∙◌, subst, inl, inr, take, get_or, append-nil, arith}
 use Rattle.std.specs.Borrow.{Bor}
-use Rattle.std.proofs.lemmas.List.{append_assoc, map-append, length-map, length-take-le, take-append-drop}
+use Rattle.std.proofs.lemmas.List.{append_assoc}
 use Rattle.std.proofs.lemmas.Bool.{ne_eqb}
-use Rattle.std.proofs.lemmas.Grind.{take_at_read}
 use Rattle.pana_journal.specs.declared.entry.Entry.{Entry}
-use Rattle.pana_wire.specs.Dump.{dump_says, IsDumpText}
-use Rattle.pana_wire.specs.Line.{Fails}
-use Rattle.pana_wire.specs.declared.fault.WireFault.{WireFault}
-use Rattle.pana_wire.specs.declared.fault.WireFault.TheVariants.{OutOfMemory}
 use Rattle.pana_wire.specs.Lines.{lines_of}
 use Rattle.pana_hall.specs.Load.{IsLoadFault, shown_load_fault}
 use Rattle.pana_hall.specs.declared.loading.LoadFault.{LoadFault}
 use Rattle.pana_commands.specs.declared.answer.Answer.{Answer}
 use Rattle.pana_commands.specs.declared.line_fault.LineFault.{LineFault}
 use Rattle.pana_commands.specs.Answered.{Reports, report_line}
-use Rattle.pana_commands.specs.Load.{SayEntries, HasFault, AnswersDump, AnswersEntries, shown_line_fault}
+use Rattle.pana_commands.specs.Load.{HasFault, AnswersDump, AnswersEntries, shown_line_fault}
 use Rattle.pana_copies.specs.Names.{is_device}
 use Rattle.pana_scan.specs.Disk.{HasCause}
 use Rattle.pana_scan.specs.declared.disk.Disk.{Disk}
 use Rattle.pana_scan.specs.declared.scan_fault.ScanFault.{ScanFault}
 use Rattle.pana_scan.specs.Fault.{shown_scan_fault}
 use Rattle.pana_commands.specs.Scan.{AnswersScan, skipped_line}
-use Rattle.pana_commands.specs.inner.{texts}
+use Rattle.pana_wire.specs.inner.Slices.{texts}
+use Rattle.pana_wire.proofs.Said.{texts_next, texts_before}
 use Rattle.pana_commands.specs.Show.{TakesLine, TakesLines, report_of}
 
 pub line_report : (digits why : List ℕ) → codes "panad: line " ++ (digits ++ (codes ": " ++ (why ++ 10 ∷ []))) ≡ report_line (codes "line " ++ digits ++ codes ": " ++ why)
@@ -63,21 +59,6 @@ takes_one_more n old (first ∷ lines) reports mid line why new (next, reason, r
       ∙ ap (λ m. report_of n reason ++ (rest ++ report_of m why)) (omega arith),
 )
 
--- one line more
-pub say_one_more : (lines : List (List ℕ)) (entries : List Entry) (line : List ℕ) (more : List Entry)
-    → SayEntries lines entries → dump_says line ≡ Ok more → SayEntries (lines ++ line ∷ []) (entries ++ more)
-say_one_more [] entries line more none says = (more, [], says, refl, ap (λ l. l ++ more) none ∙ sym (append-nil more))
-say_one_more (first ∷ lines) entries line more (here, rest, says_first, says_rest, whole) says =
-    (here, rest ++ more, says_first, say_one_more lines rest line more says_rest says, ap (λ l. l ++ more) whole ∙ append_assoc here rest more)
-
-texts_next : (lines : List (Bor (List ℕ))) (index : ℕ) (d : Bor (List ℕ)) → index < length lines
-    → texts (take (index + 1) lines) ≡ texts (take index lines) ++ (get_or lines index d).now ∷ []
-texts_next lines index d within =
-    ap texts ((take_at_read lines index d within).1) ∙ map-append (λ line. line.now) (take index lines) (get_or lines index d ∷ [])
-
-texts_before : (lines : List (Bor (List ℕ))) (index : ℕ) → index < length lines → length (texts (take index lines)) ≡ index
-texts_before lines index within = length-map (take index lines) (λ line. line.now) ∙ length-take-le index lines (omega arith)
-
 pub next_taken : (lines : List (Bor (List ℕ))) (index : ℕ) (d : Bor (List ℕ)) (old mid new : List Entry) (reports reports' : List ℕ) (why : Option (List ℕ)) → index < length lines
     → TakesLines 1 old (texts (take index lines)) reports mid → TakesLine mid (get_or lines index d).now why new → reports' ≡ reports ++ report_of (index + 1) why
     → TakesLines 1 old (texts (take (index + 1) lines)) reports' new
@@ -86,30 +67,6 @@ next_taken lines index d old mid new reports reports' why within before line is 
     subst (λ r. TakesLines 1 old (texts (take (index + 1) lines)) r new) (sym (is ∙ ap (λ m. reports ++ report_of m why) number))
     (subst (λ l. TakesLines 1 old l (reports ++ report_of (1 + length (texts (take index lines))) why) new) (sym (texts_next lines index d within))
     (takes_one_more 1 old (texts (take index lines)) reports mid (get_or lines index d).now why new before line))
-
-pub next_said : (lines : List (Bor (List ℕ))) (index : ℕ) (d : Bor (List ℕ)) (entries entries' more : List Entry) → index < length lines
-    → SayEntries (texts (take index lines)) entries → dump_says (get_or lines index d).now ≡ Ok more → entries' ≡ entries ++ more → SayEntries (texts (take (index + 1) lines)) entries'
-next_said lines index d entries entries' more within before says is =
-    subst (λ e. SayEntries (texts (take (index + 1) lines)) e) (sym is)
-    (subst (λ l. SayEntries l (entries ++ more)) (sym (texts_next lines index d within)) (say_one_more (texts (take index lines)) entries (get_or lines index d).now more before says))
-
--- the line at an index has the fault
-pub fault_at : (lines : List (Bor (List ℕ))) (index : ℕ) (d : Bor (List ℕ)) (entries : List Entry) (fault : WireFault) → index < length lines
-    → SayEntries (texts (take index lines)) entries → Fails fault (dump_says (get_or lines index d).now) → (fault ≡ OutOfMemory → IsDumpText (get_or lines index d).now)
-    → HasFault (texts lines) (record { line = index + 1; fault = fault })
-fault_at lines index d entries fault within before fails memory = record {
-  before = texts (take index lines);
-  line = (get_or lines index d).now;
-  rest = texts (drop (index + 1) lines);
-  entries = entries;
-  whole = ap texts (sym (take-append-drop (index + 1) lines)) ∙ map-append (λ line. line.now) (take (index + 1) lines) (drop (index + 1) lines)
-      ∙ ap (λ l. l ++ texts (drop (index + 1) lines)) (texts_next lines index d within)
-      ∙ append_assoc (texts (take index lines)) ((get_or lines index d).now ∷ []) (texts (drop (index + 1) lines));
-  read = before;
-  number = let at = texts_before lines index within in omega (arith, at);
-  says = fails;
-  memory = memory;
-}
 
 -- where loading stopped at an entry, it is reported
 pub load_reported : (entries : List Entry) (fault : LoadFault) (answer : Answer) → IsLoadFault entries fault → fault.at ≢ 0

@@ -5,4 +5,3 @@ pub mod Tables
 pub mod Load
 pub mod Show
 pub mod Scan
-pub mod inner

@@ -1,9 +1,10 @@
 //! A dump read, loaded and printed as tables.
 ghost use Rattle.std.specs.Prelude.{◌≡◌, IfOk, MatchResult};
 ghost use Rattle.pana_hall.specs.Accepted.{IsAccepted};
-ghost use Rattle.pana_commands.specs.inner.{texts};
+ghost use Rattle.pana_wire.specs.DumpLines.{Say};
+ghost use Rattle.pana_wire.specs.inner.Slices.{texts};
 ghost use Rattle.pana_commands.specs.Answered.{Prints, Reports};
-ghost use Rattle.pana_commands.specs.Load.{AnswersDump, AnswersEntries, HasFault, SayEntries};
+ghost use Rattle.pana_commands.specs.Load.{AnswersDump, AnswersEntries, HasFault};
 ghost use Rattle.pana_commands.specs.Tables.{tables_text};
 
 use crate::answer::Answer;
@@ -16,7 +17,7 @@ use std::alloc::{AllocError, Global};
 
 /// The entries in the lines of a dump, or its first line with a fault.
 fn entries_in(alloc: Global, lines: &[&[u8]]) -> Result<Result<EntryList, LineFault>, AllocError>
-    ensures { IfOk result (λ read. MatchResult read (SayEntries (texts lines.now)) (HasFault (texts lines.now))) }
+    ensures { IfOk result (λ read. MatchResult read (Say (texts lines.now)) (HasFault (texts lines.now))) }
 {
     let mut entries = EntryList::new(alloc);
     for (index, line) in lines.iter().enumerate() {

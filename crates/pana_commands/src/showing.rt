@@ -1,6 +1,6 @@
 //! Lines made as calls on a new hall, and its tables in place of the answers.
 ghost use Rattle.std.specs.Prelude.{◌≡◌, ◌++◌, [], IfOk, OnOk, option_map, string_bytes};
-ghost use Rattle.pana_commands.specs.inner.{texts};
+ghost use Rattle.pana_wire.specs.inner.Slices.{texts};
 ghost use Rattle.pana_commands.specs.Show.{AnswersLines, status_of, TakesLine, TakesLines, report_of, shown_reason};
 
 use crate::answer::Answer;

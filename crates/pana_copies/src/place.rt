@@ -1,4 +1,4 @@
-ghost use Rattle.std.specs.Prelude.{◌≡◌, ◌↔◌, IsTrue, IfOk};
+ghost use Rattle.std.specs.Prelude.{◌≡◌, IfOk};
 
 use crate::copy_path::CopyPath;
 use crate::device_name::DeviceName;
@@ -12,8 +12,6 @@ pub struct Place {
 }
 
 impl Place {
-    ghost use Rattle.pana_copies.specs.Places.{same_place};
-
     /// The same place once more. Fails only where memory runs out.
     pub fn copy_of(&self) -> Result<Place, AllocError>
         ensures { IfOk result (λ place. place ≡ self.now) }
@@ -21,13 +19,5 @@ impl Place {
         let device = self.device.copy_of();
         let path = self.path.copy_of()?;
         Ok(Place { device, path })
-    }
-
-    /// Whether the two are one place. Takes no memory.
-    pub fn is_same(&self, other: &Place) -> bool
-        ensures test { result ≡ same_place self.now other.now }
-        ensures same { IsTrue result ↔ (self.now ≡ other.now) }
-    {
-        self == other
     }
 }

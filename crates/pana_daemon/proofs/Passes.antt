@@ -1,7 +1,7 @@
 -- Passes of one desk, and scanners of roots.
 use Rattle.std.specs.List.{range_with_len}
 use Rattle.std.proofs.Common.{◌≡◌, ◌==◌, ◌<◌, ◌||◌, ◌⊎◌, inl, inr, ℕ, zero, suc, ◌+◌, Bool, true, false, All, List, [], ◌∷◌, ◌++◌, map, length, take, drop, get_or, Option, Result, arith, refl, sym, subst, ap, ◌∙◌, append_assoc, append-nil}
-use Rattle.std.proofs.lemmas.List.{length_push, map-append, take-append-drop}
+use Rattle.std.proofs.lemmas.List.{map-append, take-append-drop}
 use Rattle.std.proofs.lemmas.List.FromFn.{length-map-range_with_len}
 use Rattle.std.proofs.Math.Seq.{take-append_seam}
 use Rattle.std.proofs.lemmas.Grind.{take_at_read}
@@ -9,8 +9,7 @@ use Rattle.std.proofs.lemmas.Bool.Decides.{nat_tests}
 use Rattle.pana_hall.specs.Run.{Exchange}
 use Rattle.pana_scan.specs.declared.scan_fault.ScanFault.{ScanFault}
 use Rattle.pana_scan.specs.Listing.{Contents}
-use Rattle.pana_turn.specs.Closing.{Closes, HasAll, LacksOne, has_pass}
-use Rattle.pana_turn.specs.Hall.{HallView}
+use Rattle.pana_turn.specs.Closing.{HasAll, LacksOne, has_pass}
 use Rattle.pana_turn.specs.Passes.{DeskId, PassView, new_pass, new_passes}
 use Rattle.pana_host.specs.declared.scanners.Scanner.{Scanner}
 use Rattle.pana_host.specs.declared.scanning.ScanTally.{ScanTally}
@@ -18,8 +17,8 @@ use Rattle.pana_host.specs.Listen.{AreOf, HaveGrown}
 use Rattle.pana_host.specs.Scan.{Makes, Scans}
 use Rattle.pana_host.specs.Scanners.{HaveScanned}
 use Rattle.pana_host.specs.Session.{GetsNone, GrowsTo, MakesCall}
-use Rattle.pana_host.proofs.Sessions.{grows_on, grows_same}
-use Rattle.pana_daemon.specs.Serve.{Ends, passes_of}
+use Rattle.pana_host.proofs.Sessions.{grows_on, grows_same, call_grows, none_grows}
+use Rattle.pana_daemon.specs.Serve.{passes_of}
 
 of_numbers : (desk : DeskId) (numbers : List ℕ) → AreOf desk (map (new_pass desk) numbers)
 of_numbers desk [] = tt
@@ -115,13 +114,6 @@ each_of desk [] of k d within = absurd (omega (arith, within))
 each_of desk (pass ∷ passes) of zero d within = of.0
 each_of desk (pass ∷ passes) of (suc k) d within = each_of desk passes of.1 k d (omega (arith, within))
 
-call_grows : (old new : PassView) (by : List ℕ) (call : _) (reply : _) → MakesCall old by call reply new → GrowsTo old new
-call_grows old new by call reply m = record { same = m.same; seen = (m.adds.between ++ _ ∷ [], sym (append_assoc old.seen m.adds.between _) ∙ sym m.adds.seen) }
-
-none_grows : (old new : PassView) → GetsNone old new → GrowsTo old new
-none_grows old new (inl m) = record { same = m.same; seen = m.seen }
-none_grows old new (inr m) = call_grows old new m.by m.call m.reply (record { same = m.same; run = m.run; adds = m.adds })
-
 made_grow : (old new : PassView) (made : List Exchange) → Makes MakesCall old made new → GrowsTo old new
 made_grow old new [] so = grows_same old new so
 made_grow old new (one ∷ more) (mid, first, others) = grows_on old mid new (call_grows old mid one.by one.call one.reply first) (made_grow mid new more others)
@@ -149,13 +141,6 @@ pub count_of : {T G F : Type 0} (scanners : List (Scanner T G F)) → length (pa
 count_of [] = refl
 count_of (scanner ∷ scanners) = ap suc (count_of scanners)
 
--- as many scanners as before
-pub scanned_count : {T G F : Type 0} (gives : F → Option (Result Contents ScanFault) → F → Type 0) (olds news : List (Scanner T G F)) → HaveScanned gives olds news → length news ≡ length olds
-scanned_count gives [] [] so = refl
-scanned_count gives [] (new ∷ news) so = absurd so
-scanned_count gives (old ∷ olds) [] so = absurd so
-scanned_count gives (old ∷ olds) (new ∷ news) so = ap suc (scanned_count gives olds news so.1)
-
 -- once no scanner is left, the passes are all
 pub all_taken : {T G F : Type 0} (passes : List PassView) (rest : List (Scanner T G F)) (all : List PassView) → length rest ≡ 0 → passes ++ passes_of rest ≡ all → passes ≡ all
 all_taken passes [] all none so = sym (append-nil passes) ∙ so
@@ -181,16 +166,9 @@ one_more of_s of_r scanners new roots i root scanner within so pushed same here 
     ap (λ xs. map of_s xs) pushed ∙ map-append of_s scanners (scanner ∷ []) ∙ ap (λ xs. xs ++ of_s scanner ∷ []) so ∙ ap (λ x. map of_r (take i roots) ++ x ∷ []) (same ∙ ap of_r here)
     ∙ sym (map-append of_r (take i roots) (get_or roots i root ∷ [])) ∙ ap (λ xs. map of_r xs) (sym ((take_at_read roots i root within).1))
 
-pub pushed_length : {S : Type 0} (new scanners : List S) (scanner : S) → new ≡ scanners ++ scanner ∷ [] → length new ≡ length scanners + 1
-pushed_length new scanners scanner pushed = ap length pushed ∙ length_push scanners scanner
-
 -- what comes of the items so far and of those to come stays as one of these goes over
 pub moved : {S X : Type 0} (of_s : S → X) (scanners new : List S) (rest after all : List X) (pass : X) (scanner : S)
     → map of_s scanners ++ rest ≡ all → rest ≡ pass ∷ after → new ≡ scanners ++ scanner ∷ [] → of_s scanner ≡ pass → map of_s new ++ after ≡ all
 moved of_s scanners new rest after all pass scanner so next pushed same =
     ap (λ xs. map of_s xs ++ after) pushed ∙ ap (λ xs. xs ++ after) (map-append of_s scanners (scanner ∷ [])) ∙ append_assoc (map of_s scanners) (of_s scanner ∷ []) after
     ∙ ap (λ x. map of_s scanners ++ x ∷ after) same ∙ ap (λ xs. map of_s scanners ++ xs) (sym next) ∙ so
-
--- what a desk closes with is what a daemon ends with
-pub ends_so : (seats : ℕ) (begun : HallView) (passes : List PassView) (hall : HallView) (calls : ℕ) → Closes seats begun passes hall calls → Ends seats begun hall calls
-ends_so seats begun passes hall calls c = record { history = c.history; run = c.run; left = c.left; counted = c.counted; passes = c.others }

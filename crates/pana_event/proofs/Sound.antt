@@ -47,9 +47,6 @@ pub same_below : (e f : Event) → IsNormal e → IsNormal f → depth e ≤ 256
 same_below e f normal others first second up down =
     same-tree 256 e f normal others first second (λ point long. omega (arith, up.levels point long, down.levels point long))
 
-pub below_self : (e : Event) → IsBelow e e
-below_self e = record { levels = λ point long. omega arith }
-
 -- a normal event with the levels of the join is the join
 pub joined_is_one : (e f join : Event) → IsNormal e → IsNormal f → IsNormal join → depth e ≤ 256 → depth f ≤ 256 → depth join ≤ 256 → IsJoin e f join → join ≡ joined e f
 joined_is_one e f join normal others joint first second shallow is =

@@ -13,7 +13,7 @@ use Rattle.pana_family.specs.Rows.{lives, copy_rows}
 use Rattle.pana_family.specs.inner.Making.{held_rows}
 use Rattle.pana_family.specs.Kept.{IsKept}
 use Rattle.pana_family.specs.Sets.{Sets, Before, IsAbove, Pends, PendsLast}
-use Rattle.pana_family.specs.View.{Means, Undone, StandBefore, Undoes, UndoesFirst, is_living, IsNew, IsPending, IsLast, copy_count}
+use Rattle.pana_family.specs.View.{Means, Undone, StandBefore, Undoes, UndoesFirst, is_living, IsNew, IsLast, copy_count}
 use Rattle.pana_family.proofs.Members.{of_row, of_known, same_length}
 use Rattle.pana_family.proofs.Changes.{below_is_subset}
 use Rattle.pana_family.proofs.Held.{one_known, set_of}
@@ -26,12 +26,6 @@ same_living (r ∷ rows) (t ∷ table) copy same =
     ap (λ (k : ℕ). (k == copy && is_copy r.holder) || lives rows copy) same.0
     ∙ ap (λ (o : Option ℕ). (t.copy == copy && is_copy o) || lives rows copy) same.2
     ∙ ap (λ (b : Bool). (t.copy == copy && is_copy t.holder) || b) (same_living rows table copy same.3)
-
-same_pending : (n : ℕ) (undo : List Undone) (before : List Before) → StandBefore undo before → Pends n before → Undoes n undo
-same_pending n [] [] stands pends = absurd pends
-same_pending n [] (b ∷ before) stands pends = absurd stands
-same_pending n (u ∷ undo) [] stands pends = absurd pends
-same_pending n (u ∷ undo) (b ∷ before) stands pends = elim pends [ inl e ↦ inl (stands.0 ∙ e) | inr p ↦ inr (same_pending n undo before stands.2 p) ]
 
 same_last : (n : ℕ) (undo : List Undone) (before : List Before) → StandBefore undo before → PendsLast n before → UndoesFirst n undo
 same_last n [] [] stands pends = absurd pends
@@ -46,10 +40,6 @@ living_by_sets f sets copy means = same_living f.rows sets.table copy means.rows
 pub new_by_sets : (f : Family) (sets : Sets) (n : ℕ) → Means f sets → IsAbove n sets.table → IsNew n f
 unfolding Means IsNew
 new_by_sets f sets n means above = λ r i. let t = of_row f.rows sets.table means.rows.same r i in let h = above t.0 t.1 in (omega (arith, t.2, h.0), omega (arith, t.3, h.1))
-
-pub pending_by_sets : (f : Family) (sets : Sets) (n : ℕ) → Means f sets → Pends n sets.before → IsPending n f
-unfolding Means IsPending
-pending_by_sets f sets n means pends = same_pending n f.undo sets.before means.undo pends
 
 pub last_by_sets : (f : Family) (sets : Sets) (n : ℕ) → Means f sets → PendsLast n sets.before → IsLast n f
 unfolding Means IsLast

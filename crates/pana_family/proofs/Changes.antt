@@ -16,12 +16,12 @@ use Rattle.pana_family.proofs.Unions.{union_members, missing}
 use Rattle.pana_family.specs.Updates.{has, union}
 use Rattle.pana_family.specs.Relation.{relation}
 use Rattle.pana_family.specs.Laws.{IsSubset}
-use Rattle.pana_family.specs.Table.{Known, known, knowing, In, change, without, set_in, duplicated, edited, united, registered, touched, touch_in, AreBelow}
+use Rattle.pana_family.specs.Table.{Known, known, knowing, In, change, set_in, duplicated, edited, united, registered, touched, touch_in, AreBelow}
 use Rattle.pana_family.specs.Stands.{top, AreSame, StandsFor}
-use Rattle.pana_family.specs.Rows.{IsRising, dropped, AreBefore, seed_row}
+use Rattle.pana_family.specs.Rows.{IsRising, AreBefore, seed_row}
 use Rattle.pana_family.specs.Rows.{replaced}
 use Rattle.pana_family.proofs.Sound.{Others, Put, all_put, fewer, Updated, United, all_united, edit_keeps, share_keeps, join_keeps, below_subset, subset_below}
-use Rattle.pana_family.proofs.Members.{found_in, of_row, of_known, same_changed, same_restamped, same_dropped, same_pushed, Holds, held, all_held, to_sound, of_sound, Changed, holds_changed, SetsOf, holds_restamped, holds_without, holds_pushed, put_more, in_replaced, one_row, above_low}
+use Rattle.pana_family.proofs.Members.{found_in, of_row, of_known, same_changed, same_restamped, same_pushed, Holds, held, all_held, to_sound, of_sound, Changed, holds_changed, SetsOf, holds_restamped, holds_pushed, put_more, in_replaced, one_row, above_low}
 use Rattle.pana_family.proofs.Relations.{relates}
 
 -- a row's copy holds the set that is found for it
@@ -75,11 +75,6 @@ duplicate_stands rows table r x y n st up before i named also touched same_left 
     (λ t j e. let m = of_known rows table st.same t j in absurd (omega (arith, (before m.0 m.1).0, m.2, e)))
     d s ys h))
     (share_keeps P r.copy n r.stamp x.stamp y.stamp (set_in table r.copy) (to_sound rows table st) (holds_found rows table st.same r i) parted same_left same_right))
-
-pub remove_stands : (rows : List StampRow) (table : List Known) (c : ℕ) → StandsFor rows table → StandsFor (dropped c rows) (without c table)
-remove_stands rows table c st =
-    of_sound (dropped c rows) (without c table) (same_dropped c rows table st.same)
-    (fewer (Holds rows table) (Holds (dropped c rows) (without c table)) (λ d s ys h. (holds_without c rows table d s ys h).0) (to_sound rows table st))
 
 pub reconcile_stands : (rows : List StampRow) (table : List Known) (a b x y : StampRow) (m : Stamp) (n : ℕ) → StandsFor rows table → IsRising 0 rows → In a rows → In b rows → a.copy ≢ b.copy
     → x.copy ≡ a.copy → x.holder ≡ a.holder → x.touch ≡ n → x.stamp.event ≡ m.event → y.copy ≡ b.copy → y.holder ≡ b.holder → y.touch ≡ n → y.stamp.event ≡ m.event

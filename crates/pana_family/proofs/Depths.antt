@@ -40,20 +40,11 @@ pub pushed_deep : (rows new : List StampRow) (us : List Undo) (b : Buffer Undo) 
 pushed_deep rows new us b u cap more eight is back less f same =
     subst (λ (k : Kept). Deepens more k (view_of new b.items)) same (deepens (view_of rows us) (view_of new b.items) u.entry more (pushed rows new us b u cap eight is back) less)
 
-pub withdrawn_depth : (f g : Kept) (n : ℕ) → f.undo ≡ undone n g.rows ∷ g.undo → (k : ℕ) → depth_at k g ≡ depth_at (k + 1) f
-unfolding depth_at
-withdrawn_depth f g n is k =
-    let next : k + 1 ≡ suc k = omega arith in
-    rw next (ap (λ (l : List ℕ). slice_index_or l k 0) (sym (ap depths is)))
-
 pub confirmed_depth : (f g : Kept) (at : ℕ) → g.rows ≡ f.rows → g.undo ≡ take at f.undo → (k : ℕ) → depth_at k g ≤ depth_at k f
 unfolding depth_at
 confirmed_depth f g at rows undo zero = omega (arith, ap deepest rows)
 confirmed_depth f g at rows undo (suc k) =
     subst (λ (l : List ℕ). slice_index_or l k 0 ≤ slice_index_or (depths f.undo) k 0) (sym (ap depths undo ∙ depths_take at f.undo)) (take_less at k (depths f.undo))
-
-pub same_depth : (f g : Kept) → g ≡ f → (k : ℕ) → depth_at k g ≤ depth_at k f
-same_depth f g is k = omega (arith, ap (depth_at k) is)
 
 pub seed_depth : (f : Kept) (n : ℕ) → f.rows ≡ seed_row n ∷ [] → f.undo ≡ undone n [] ∷ [] → (k : ℕ) → depth_at k f ≡ 0
 unfolding depth_at

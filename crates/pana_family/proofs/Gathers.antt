@@ -1,13 +1,13 @@
 -- Summing the ids of parcels that end.
-use Rattle.std.specs.Prelude.{◌≡◌, ◌≢◌, ◌↔◌, ℕ, ◌≤◌, ◌<◌, ◌+◌, Bool, true, false, ◌&&◌, ◌||◌, List, [], ◌∷◌, ◌++◌, length, take, Option, IsTrue}
+use Rattle.std.specs.Prelude.{◌≡◌, ◌≢◌, ℕ, ◌≤◌, ◌<◌, ◌+◌, Bool, true, false, ◌&&◌, ◌||◌, List, [], ◌∷◌, ◌++◌, length, take, Option}
 use Rattle.std.specs.List.{list_any}
 use Rattle.std.proofs.Common.{refl, sym, ap, subst, ◌∙◌, inl, inr, arith, get_or, zero, suc}
 use Rattle.std.proofs.lemmas.Bool.{or_cases, and_parts}
 use Rattle.std.proofs.lemmas.List.{take_more}
 use Rattle.pana_id.specs.Id.{Id, has as owns, is_zero, depth, sum_of, IsSum, SharesNoPoint}
 use Rattle.pana_id.proofs.Sums.{depth-sum}
-use Rattle.pana_event.specs.Event.{Event, IsNormal, depth as height}
-use Rattle.pana_event.specs.Order.{IsBelow, is_leq}
+use Rattle.pana_event.specs.Event.{IsNormal, depth as height}
+use Rattle.pana_event.specs.Order.{is_leq}
 use Rattle.pana_event.proofs.Orders.{leq-is-below, below-is-leq}
 use Rattle.pana_family.specs.declared.row.StampRow.{StampRow}
 use Rattle.pana_family.specs.Holders.{is_held}
@@ -19,10 +19,6 @@ use Rattle.pana_family.proofs.Members.{in_left, above_low}
 use Rattle.pana_family.proofs.Places.{deepest_in}
 use Rattle.pana_family.proofs.Parcels.{from_both, any_some, any_from}
 use Rattle.pana_family.proofs.Owners.{in_right}
-
-pub leq_is : (e f : Event) (t : Bool) → IsNormal f → height e ≤ 256 → height f ≤ 256 → (IsTrue t ↔ IsBelow e f) → t ≡ is_leq e f
-leq_is e f t normal first second is =
-    from_both t (is_leq e f) (λ w. below-is-leq e f first second normal (is.0 w)) (λ w. is.1 (leq-is-below e f first second w))
 
 pub gather_none : (test : StampRow → Bool) (i j : Id) → is_zero i ≡ false → j ≡ i → Gathered test i [] j
 gather_none test i j some same = record {

@@ -5,7 +5,7 @@ use Rattle.std.proofs.lemmas.Bool.{or_cases, or_parts, or_from, cases_Bool, both
 use Rattle.pana_family.specs.declared.row.StampRow.{StampRow}
 use Rattle.pana_family.specs.Updates.{has, is_within}
 use Rattle.pana_family.specs.Laws.{IsSubset}
-use Rattle.pana_family.specs.Holders.{leave, is_held, passed}
+use Rattle.pana_family.specs.Holders.{is_held, passed}
 use Rattle.pana_family.specs.Table.{Known, In, known, knowing, change, without, set_in, parcel, ends, settled, lost, wrapped, passed_on, duplicated, edited, touched, united, registered, AreHeld, AreBelow}
 use Rattle.pana_family.specs.Stands.{AreSame}
 use Rattle.pana_family.specs.Rows.{IsRising}
@@ -53,9 +53,6 @@ one_known low (r ∷ rows) (k ∷ table) same up t s i j e =
 
 pub set_of : (table : List Known) (t : Known) → One table → In t table → set_in table t.copy ≡ t.set
 set_of table t one i = let k = found_in table t i in sym k.3 ∙ ap (λ (w : Known). w.set) (one k.0 t k.1 i k.2)
-
-pub one_leave : (test : Known → Bool) (table : List Known) → One table → One (leave test table)
-one_leave test table one t s i j e = one t s (in_leave test table t i).0 (in_leave test table s j).0 e
 
 no_holder : (o : Option ℕ) (h : ℕ) → o ≡ None → o ≡ Some h → ⊥
 no_holder o h none some = absurd (cc)

@@ -49,9 +49,6 @@ put_one n row old new gone are holds = record {
       ∙ with_row_rest n row (rel_of old) a b (λ e. gone (subst (Contains old.copies) e here)) (λ e. gone (subst (Contains old.copies) e there));
 }
 
-pub none_put : (n : ℕ) (old : Table) → IsGrownBy n old old
-none_put n old = record { more = λ c here. here; from = λ c here. inl here; same = λ a b here there. refl }
-
 pub none_grown : (rows : List StampRow) (old : Table) → IsGrown rows old old
 none_grown rows old = record { more = λ c here. here; from = λ c here. inl here; same = λ a b here there. refl }
 
@@ -82,23 +79,6 @@ taken_lives rows i c r within is here =
         | inr s ↦ inr s
       ]
     ]
-
-pub none_shrunk : (rows : List StampRow) (old : Table) → IsShrunk [] rows old old
-none_shrunk rows old = record { kept = λ c here lives. here; from = λ c here. (here, λ t. let wrong : false ≡ true = t in absurd (cc wrong)); same = λ a b here there. refl }
-
--- a copy that stays
-pub none_taken_out : (n : ℕ) (rows : List StampRow) (old : Table) → (Contains old.copies n → lives rows n ≡ true) → IsShrunk (n ∷ []) rows old old
-none_taken_out n rows old stays = record {
-  kept = λ c here lives. here;
-  from = λ c here. (
-    here,
-    λ t. elim (or_cases (n == c) false t) [
-      | inl e ↦ subst (λ (k : ℕ). lives rows k ≡ true) (eqb-true n c e) (stays (subst (Contains old.copies) (sym (eqb-true n c e)) here))
-      | inr f ↦ let wrong : false ≡ true = f in absurd (cc wrong)
-    ],
-  );
-  same = λ a b here there. refl;
-}
 
 pub one_taken_out : (n : ℕ) (rows : List StampRow) (old new : Table) → lives rows n ≡ false → new.copies ≡ without n old.copies → Holds new (rel_of old) → IsShrunk (n ∷ []) rows old new
 one_taken_out n rows old new gone are holds = record {

@@ -21,7 +21,7 @@ use Rattle.pana_family.proofs.Members.{in_append, in_replaced, in_change, in_dro
 use Rattle.pana_family.proofs.Places.{set_is, rising_replaced, rising_dropped, rising_pushed, rising_lower}
 use Rattle.pana_family.proofs.Changes.{edit_stands, duplicate_stands, reconcile_stands, merge_stands, seed_stands, touch_stands, no_update, holder_at}
 use Rattle.pana_family.proofs.Parcels.{in_leave, in_passed_rows, in_passed_on, lost_stands, wrap_stands, pass_stands, settle_stands, same_holder}
-use Rattle.pana_family.proofs.Held.{Held, held_from, held_to, one_known, held_settled, held_edited, held_touched, held_united, held_wrapped, held_lost, held_duplicated, held_registered}
+use Rattle.pana_family.proofs.Held.{Held, held_from, one_known, held_settled, held_edited, held_touched, held_united, held_wrapped, held_lost, held_duplicated, held_registered}
 
 -- a write at a place
 pub set_here : (rows : List StampRow) (i : ℕ) (r x : StampRow) → IsRising 0 rows → i < length rows → r ≡ get_or rows i r → set rows i x ≡ replaced r.copy x rows
@@ -39,9 +39,6 @@ pub record KeptBut (Lax : ℕ → Type 0) (rows : List StampRow) : Type 0 where
 
 pub kept_from : (Lax : ℕ → Type 0) (rows : List StampRow) → ((h : ℕ) → Lax h → ⊥) → KeptBut Lax rows → IsKept rows
 kept_from Lax rows none k = record { rising = k.rising; few = k.few; levels = k.levels; table = k.table; stands = k.stands; numbers = k.numbers; held = held_from Lax k.table none k.held }
-
-pub kept_to : (Lax : ℕ → Type 0) (rows : List StampRow) → IsKept rows → KeptBut Lax rows
-kept_to Lax rows k = record { rising = k.rising; few = k.few; levels = k.levels; table = k.table; stands = k.stands; numbers = k.numbers; held = held_to Lax k.table k.held }
 
 -- How many copies there are.
 

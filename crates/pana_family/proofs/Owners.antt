@@ -26,9 +26,6 @@ own_by rows new from to p long =
 pub owned_in : (rows : List StampRow) (r : StampRow) (p : List Bool) → In r rows → owns r.stamp.id p ≡ true → owned rows p ≡ true
 owned_in rows r p i o = any_from (λ r. owns r.stamp.id p) rows r i o
 
-pub own_refl : (rows : List StampRow) → OwnSame rows rows
-own_refl rows p long = refl
-
 pub own_then : (rows mid new : List StampRow) → OwnSame rows mid → OwnSame mid new → OwnSame rows new
 own_then rows mid new f g p long = g p long ∙ f p long
 
@@ -153,12 +150,6 @@ own_settled rows h x ending up i out done =
         | inr e ↦ owned_in new q p (in_replaced_other x.copy x less q (stays_in ending rows q j stays) (eqb-false q.copy x.copy e)) o
       ]
     ])
-
--- the points of a parcel that ended are its last holder's
-pub ended_is_holders : (rows : List StampRow) (h x q : StampRow) (ending : StampRow → Bool) (p : List Bool) → length p ≡ 256 → IsSettled rows h x ending → In q rows → ending q ≡ true
-    → owns q.stamp.id p ≡ true → owns x.stamp.id p ≡ true
-ended_is_holders rows h x q ending p long done i over o =
-    done.gathered p long ∙ or_right (owns h.stamp.id p) (list_any (λ r. ending r && owns r.stamp.id p) rows) (any_from (λ r. ending r && owns r.stamp.id p) rows q i (rw (over, o) refl))
 
 -- Depths.
 

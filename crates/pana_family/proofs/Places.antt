@@ -43,15 +43,6 @@ in_at (r ∷ rows) (suc i) d within = inr (in_at rows i d (omega arith))
 pub in_read : (rows : List StampRow) (i : ℕ) (r : StampRow) → i < length rows → r ≡ get_or rows i r → In r rows
 in_read rows i r within e = subst (λ (q : StampRow). In q rows) (sym e) (in_at rows i r within)
 
--- a copy that there has a row, and a row's copy there
-pub living_row : (copy : ℕ) (rows : List StampRow) → there rows copy ≡ true → (r : StampRow) × In r rows × (r.copy ≡ copy)
-living_row copy [] here = absurd (cc)
-living_row copy (r ∷ rows) here =
-    elim (r.copy == copy) as (λ b. (r.copy == copy) ≡ b → (b || there rows copy) ≡ true → (q : StampRow) × In q (r ∷ rows) × (q.copy ≡ copy)) [
-      | true ↦ λ w h. (r, inl refl, eqb-true r.copy copy w)
-      | false ↦ λ w h. let m = living_row copy rows h in (m.0, inr m.1, m.2)
-    ] refl here
-
 pub replaced_none : (low c : ℕ) (x : StampRow) (rows : List StampRow) → IsRising low rows → c < low → replaced c x rows ≡ rows
 replaced_none low c x [] up less = refl
 replaced_none low c x (r ∷ rows) up less =
@@ -111,55 +102,12 @@ rising_pushed low y [] up least less = (least, tt)
 rising_pushed low y (r ∷ rows) up least less =
     (up.0, rising_pushed (r.copy + 1) y rows up.1 (omega (arith, less r (inl refl))) (λ q i. less q (inr i)))
 
-pub length_replaced : (c : ℕ) (x : StampRow) (rows : List StampRow) → length (replaced c x rows) ≡ length rows
-length_replaced c x [] = refl
-length_replaced c x (r ∷ rows) = ap suc (length_replaced c x rows)
-
-pub length_dropped : (c : ℕ) (rows : List StampRow) → length (dropped c rows) ≤ length rows
-length_dropped c [] = omega arith
-length_dropped c (r ∷ rows) =
-    let rest : length (dropped c rows) ≤ length rows = length_dropped c rows in
-    elim (r.copy == c) as (λ b. length (cond b (dropped c rows) (r ∷ dropped c rows)) ≤ suc (length rows)) [
-      | true ↦ omega arith
-      | false ↦ omega arith
-    ]
-
--- a row put back
-pub replaced_back : (c : ℕ) (r x : StampRow) (rows : List StampRow) → x.copy ≡ c → ((q : StampRow) → In q rows → q.copy ≡ c → q ≡ r) → replaced c r (replaced c x rows) ≡ rows
-replaced_back c r x [] named one = refl
-replaced_back c r x (q ∷ rows) named one =
-    let rest : replaced c r (replaced c x rows) ≡ rows = replaced_back c r x rows named (λ k i. one k (inr i)) in
-    elim (q.copy == c) as (λ b. (q.copy == c) ≡ b → replaced c r (cond b x q ∷ replaced c x rows) ≡ q ∷ rows) [
-      | true ↦ λ w. ap (λ (b : Bool). cond b r x ∷ replaced c r (replaced c x rows)) (eq-eqb x.copy c named)
-          ∙ ap (λ (l : List StampRow). r ∷ l) rest ∙ ap (λ (k : StampRow). k ∷ rows) (sym (one q (inl refl) (eqb-true q.copy c w)))
-      | false ↦ λ w. ap (λ (b : Bool). cond b r q ∷ replaced c r (replaced c x rows)) w ∙ ap (λ (l : List StampRow). q ∷ l) rest
-    ] refl
-
 -- the last row taken off again
 pub dropped_last : (y : StampRow) (rows : List StampRow) → ((r : StampRow) → In r rows → r.copy ≢ y.copy) → dropped y.copy (rows ++ y ∷ []) ≡ rows
 dropped_last y [] other = ap (λ (b : Bool). cond b [] (y ∷ [])) (eq-eqb y.copy y.copy refl)
 dropped_last y (r ∷ rows) other =
     ap (λ (b : Bool). cond b (dropped y.copy (rows ++ y ∷ [])) (r ∷ dropped y.copy (rows ++ y ∷ []))) (ne_eqb r.copy y.copy (other r (inl refl)))
     ∙ ap (λ (l : List StampRow). r ∷ l) (dropped_last y rows (λ q i. other q (inr i)))
-
--- replacing one row and dropping another
-pub dropped_replaced : (c h : ℕ) (x : StampRow) (rows : List StampRow) → x.copy ≡ h → h ≢ c → dropped c (replaced h x rows) ≡ replaced h x (dropped c rows)
-dropped_replaced c h x [] named differ = refl
-dropped_replaced c h x (r ∷ rows) named differ =
-    let rest : dropped c (replaced h x rows) ≡ replaced h x (dropped c rows) = dropped_replaced c h x rows named differ in
-    elim (r.copy == h) as (λ b. (r.copy == h) ≡ b → dropped c (cond b x r ∷ replaced h x rows) ≡ replaced h x (dropped c (r ∷ rows))) [
-      | true ↦ λ w.
-          let not_x : (x.copy == c) ≡ false = ne_eqb x.copy c (λ e. differ (sym named ∙ e)) in
-          let not_r : (r.copy == c) ≡ false = ne_eqb r.copy c (λ e. differ (sym (eqb-true r.copy h w) ∙ e)) in
-          ap (λ (b : Bool). cond b (dropped c (replaced h x rows)) (x ∷ dropped c (replaced h x rows))) not_x
-          ∙ ap (λ (l : List StampRow). x ∷ l) rest
-          ∙ ap (λ (b : Bool). cond b x r ∷ replaced h x (dropped c rows)) (sym w)
-          ∙ ap (λ (b : Bool). replaced h x (cond b (dropped c rows) (r ∷ dropped c rows))) (sym not_r)
-      | false ↦ λ w. elim (r.copy == c) as (λ v. cond v (dropped c (replaced h x rows)) (r ∷ dropped c (replaced h x rows)) ≡ replaced h x (cond v (dropped c rows) (r ∷ dropped c rows))) [
-        | true ↦ rest
-        | false ↦ ap (λ (l : List StampRow). r ∷ l) rest ∙ ap (λ (b : Bool). cond b x r ∷ replaced h x (dropped c rows)) (sym w)
-      ]
-    ] refl
 
 pub put_back_later : (x r : StampRow) (rows : List StampRow) → r.copy < x.copy → put_back x (r ∷ rows) ≡ r ∷ put_back x rows
 put_back_later x r rows less =
@@ -348,12 +296,6 @@ first_holds test (r ∷ rows) d here =
 pub free_from : (o : Option ℕ) → is_copy o ≡ true → o ≡ None
 free_from None e = refl
 free_from (Some h) e = absurd (cc)
-
--- a number that isn't there
-pub dropped_away : (n : ℕ) (rows : List StampRow) → ((r : StampRow) → In r rows → r.copy ≢ n) → dropped n rows ≡ rows
-dropped_away n [] other = refl
-dropped_away n (r ∷ rows) other =
-    ap (λ (b : Bool). cond b (dropped n rows) (r ∷ dropped n rows)) (ne_eqb r.copy n (other r (inl refl))) ∙ ap (λ (l : List StampRow). r ∷ l) (dropped_away n rows (λ q i. other q (inr i)))
 
 pub row_found : (low : ℕ) (r : StampRow) (rows : List StampRow) → IsRising low rows → In r rows → row_in rows r.copy ≡ r
 row_found low r [] up i = absurd i

@@ -2,7 +2,6 @@
 use Rattle.std.specs.Prelude.{◌≡◌, Bool, true, false, cond, ◌&&◌, ◌||◌, List, [], ◌∷◌, filter}
 use Rattle.std.specs.List.{list_any}
 use Rattle.std.proofs.Common.{refl, ap, ◌∙◌}
-use Rattle.std.proofs.Math.Bool.{and_comm}
 
 -- two tests that answer alike
 pub list_any-same : {X : Type 0} (p q : X → Bool) (xs : List X) → ((x : X) → p x ≡ q x) → list_any p xs ≡ list_any q xs
@@ -17,11 +16,3 @@ list_any-filter p q (x ∷ xs) =
       | true ↦ ap (λ b. p x || b) (list_any-filter p q xs)
       | false ↦ list_any-filter p q xs
     ]
-
--- two of the chosen ones, of which the second relates so to the first
-pub any_two-filter : {X : Type 0} (r : X → X → Bool) (q : X → Bool) (xs : List X)
-    → list_any (λ x. list_any (r x) (filter q xs)) (filter q xs) ≡ list_any (λ x. q x && list_any (λ y. r x y && q y) xs) xs
-any_two-filter r q xs =
-    list_any-filter (λ x. list_any (r x) (filter q xs)) q xs
-    ∙ list_any-same _ _ xs (λ x. ap (λ b. q x && b)
-    (list_any-filter (r x) q xs ∙ list_any-same _ _ xs (λ y. and_comm (q y) (r x y))))

@@ -18,10 +18,6 @@ pub IsRunFrom-append : (journal : List Entry) (run : List Exchange) (x : Exchang
 IsRunFrom-append journal [] x permitted last = (last, tt)
 IsRunFrom-append journal (y ∷ run) x permitted last = (permitted.0, IsRunFrom-append (journal_after journal y.by y.call y.reply) run x permitted.1 last)
 
--- no call leaves all as it was
-pub runs_to_itself : (journal : List Entry) → RunsTo journal [] [] journal
-runs_to_itself journal = record { run = []; permitted = tt; left = refl; called = refl; replied = refl }
-
 -- one call more
 pub runs_on : (old new : List Entry) (calls : List (List ℕ × Call)) (replies : List Reply) (by : List ℕ) (call : Call) (reply : Reply) → RunsTo old calls replies new
     → Permits new by call reply → RunsTo old (calls ++ (by, call) ∷ []) (replies ++ reply ∷ []) (journal_after new by call reply)

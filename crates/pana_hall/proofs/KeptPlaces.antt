@@ -1,5 +1,5 @@
 -- The old places that a family keeps, as entries come.
-use Rattle.std.specs.Prelude.{◌≡◌, ℕ, zero, suc, ◌==◌, cond, List, [], ◌∷◌, take, drop, slice_get, option_and_then, Option, None, true, false}
+use Rattle.std.specs.Prelude.{◌≡◌, ℕ, zero, suc, ◌==◌, cond, List, [], ◌∷◌, take, slice_get, option_and_then, Option, None, true, false}
 use Rattle.std.specs.List.{AllByRecursion}
 use Rattle.std.proofs.Common.{refl, sym, ap, subst}
 use Rattle.circular_buffer.specs.Buffer.{Buffer, buffer}
@@ -30,12 +30,6 @@ first_later n (o ∷ first) [] are = absurd are
 first_later n (o ∷ first) (p ∷ places) are =
     subst (λ (q : Old). AreFirst (later n (o ∷ first)) (later n (q ∷ places))) are.0
     (elim (o.entry == n) as (λ b. AreFirst (cond b [] (o ∷ later n first)) (cond b [] (o ∷ later n places))) [ true ↦ tt | false ↦ (refl, first_later n first places are.1) ])
-
-pub first_rest : (first places : List Old) → AreFirst first places → AreFirst (drop 1 first) (drop 1 places)
-first_rest [] [] are = tt
-first_rest [] (p ∷ places) are = are.1
-first_rest (o ∷ first) [] are = absurd are
-first_rest (o ∷ first) (p ∷ places) are = are.1
 
 -- the place of the first of them
 abbrev pub front : List Old → Option Place

@@ -17,7 +17,6 @@ use Rattle.pana_hall.specs.Refusal.{report_refusal}
 use Rattle.pana_hall.specs.Accepted.{IsAccepted}
 use Rattle.pana_hall.specs.Laws.{AreRising}
 use Rattle.pana_hall.specs.inner.Families.{position_at}
-use Rattle.pana_hall.specs.inner.Spots.{SameSpots}
 use Rattle.pana_hall.specs.inner.Kept.{next_entry, ArePlaced, AreListed, AreSpots, IsAt, IsKept, IsReadyAt, Splits, position_for, position_of_subject}
 use Rattle.pana_hall.proofs.Rising.{entry_at_place, slice_get-append, slice_get-push}
 use Rattle.pana_hall.proofs.Grown.{family_new, family_old}
@@ -199,13 +198,3 @@ module _ (journal : List Entry) (by : List ℕ) (report : Report) (list : List K
               ];
         };
       }
-
-  -- and what is kept where memory ran out
-  pub kept_still : IsKept journal list positions copies → (list' : List KeptFamily) (positions' : List ℕ) (copies' : Table) → list' ≡ list → positions' ≡ positions → SameSpots copies copies'
-      → IsKept journal list' positions' copies'
-  kept_still all list' positions' copies' same_list same_positions same_spots = record {
-    accepted = all.accepted;
-    listed = subst (AreListed journal) (sym same_list) all.listed;
-    placed = subst (ArePlaced journal) (sym same_positions) all.placed;
-    spots = λ n. same_spots n ∙ all.spots n;
-  }

@@ -1,24 +1,20 @@
 -- What one entry more makes of an accepted journal: the facts that the hall's functions are proved from.
-use Rattle.std.specs.Prelude.{◌≡◌, ℕ, ◌≤◌, true, cond, not, List, [], ◌∷◌, ◌++◌, length, filter, Some}
+use Rattle.std.specs.Prelude.{◌≡◌, ℕ, ◌≤◌, true, List, [], ◌∷◌, ◌++◌, length, Some}
 use Rattle.std.specs.List.{AllByRecursion}
-use Rattle.std.proofs.Common.{sym, ap, ◌∙◌, append-nil}
-use Rattle.pana_journal.specs.declared.report.Report.TheVariants.{Confirm, Withdraw}
 use Rattle.pana_journal.specs.declared.entry.Entry.{Entry}
 use Rattle.pana_journal.specs.Entries.{IsNumbered, entry_at}
 use Rattle.pana_hall.specs.Family.{families}
-use Rattle.pana_hall.specs.Effective.{effective, is_of_copies, left_out, withdraws}
-use Rattle.pana_hall.specs.Living.{Copy, copy_in, living, copies_of, after_entry}
+use Rattle.pana_hall.specs.Effective.{effective, left_out}
+use Rattle.pana_hall.specs.Living.{Copy, copy_in, living, copies_of}
 use Rattle.pana_hall.specs.Pending.{pending, is_last}
 use Rattle.pana_hall.specs.Refusal.{brought_back, displaced}
 use Rattle.pana_hall.specs.inner.Places.{place_of}
 use Rattle.pana_hall.specs.Accepted.{Accepts, IsAccepted}
 use Rattle.pana_hall.specs.Laws.{AreRising, IsOrderly}
 use Rattle.pana_hall.proofs.Lists.{each_weaker}
-use Rattle.pana_hall.proofs.Locality.{copies_of-push}
-use Rattle.pana_hall.proofs.Grown.{effective-push, effective-copies}
 use Rattle.pana_hall.proofs.Sound.{accepted_is_sound}
 use Rattle.pana_hall.proofs.Tables.{merged}
-use Rattle.pana_hall.proofs.Places.{found_number, living_confirmed, left_out_one, accepted_is_apart}
+use Rattle.pana_hall.proofs.Places.{found_number, accepted_is_apart}
 use Rattle.pana_hall.proofs.Runs.{accepts_on}
 use Rattle.pana_hall.proofs.Undone.{back_lives, place_left}
 
@@ -29,22 +25,6 @@ next_accepted most journal entry accepted accepts = accepts_on most [] journal e
 -- its nth entry has number n
 pub numbers : (most : ℕ) (journal : List Entry) → IsAccepted most journal → IsNumbered journal
 numbers most journal accepted = (accepted_is_sound most journal accepted).numbered
-
--- the copies that live after a report of copies
-pub living-report : (journal : List Entry) (entry : Entry) → is_of_copies entry.report ≡ true → living (journal ++ entry ∷ []) ≡ after_entry (living journal) entry
-living-report journal entry is = ap copies_of (effective-copies journal entry is) ∙ copies_of-push (effective journal) entry
-
--- after a Confirm
-pub living-confirm : (journal : List Entry) (entry : Entry) (m : ℕ) → entry.report ≡ Confirm m → living (journal ++ entry ∷ []) ≡ living journal
-living-confirm = living_confirmed
-
--- and after a Withdraw
-pub living-withdraw : (journal : List Entry) (entry : Entry) (m : ℕ) → entry.report ≡ Withdraw m → living (journal ++ entry ∷ []) ≡ copies_of (left_out (m ∷ []) (effective journal))
-living-withdraw journal entry m is = ap copies_of
-    (effective-push journal entry
-    ∙ ap (λ r. filter (λ e. not (withdraws e.number r)) (effective journal) ++ cond (is_of_copies r) (entry ∷ []) []) is
-    ∙ append-nil _
-    ∙ sym (left_out_one m (effective journal)))
 
 -- the living copies rise, and none has a number above the journal's length
 pub rising : (most : ℕ) (journal : List Entry) → IsAccepted most journal

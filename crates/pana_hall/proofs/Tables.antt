@@ -60,9 +60,6 @@ table_own most k family journal sound =
     copies_of-family (families journal) (length journal) family _ (each_filter _ _ (effective journal) (each_effective _ journal sound.well))
     ∙ ap copies_of (filter_swap _ _ (effective journal))
 
-table_now : (most family : ℕ) (journal : List Entry) → IsSound most journal → table most 0 family journal ≡ copies_of (own family journal)
-table_now most family journal sound = table_own most 0 family journal sound ∙ ap copies_of (left_out_now (pending most family journal) (own family journal))
-
 -- the numbers of a journal's entries are below the next one
 pub own_below : (most family n : ℕ) (journal : List Entry) → IsSound most journal → n ≡ length journal + 1 → AllByRecursion (λ e. not (n == e.number) ≡ true) (own family journal)
 own_below most family n journal sound next =

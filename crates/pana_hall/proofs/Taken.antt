@@ -1,6 +1,6 @@
 -- What a permitted reply to a report leaves.
-use Rattle.std.specs.Prelude.{◌≡◌, ◌⊎◌, ℕ, ◌+◌, List, [], ◌∷◌, ◌++◌, length, Option, Some, None}
-use Rattle.std.proofs.Common.{refl, ap, sym, inl, inr}
+use Rattle.std.specs.Prelude.{◌≡◌, ◌⊎◌, ◌+◌, List, [], ◌∷◌, ◌++◌, length, Option, Some, None}
+use Rattle.std.proofs.Common.{ap, sym, inl, inr}
 use Rattle.pana_journal.specs.declared.report.Report.{Report}
 use Rattle.pana_journal.specs.declared.entry.Entry.{Entry}
 use Rattle.pana_hall.specs.declared.call.Call.TheVariants as calls
@@ -24,8 +24,3 @@ entry_taken journal entry reply number permitted other =
       | inl done ↦ rw done (ap (λ n. journal ++ record { number = n; by = entry.by; report = entry.report } ∷ []) (sym number))
       | inr refused ↦ absurd (other refused.0 refused.1)
     ]
-
--- a refused call leaves the journal
-pub journal_kept : (journal : List Entry) (by : List ℕ) (report : Report) (cause : Cause) → journal_after journal by (calls.Report report) (Refused cause) ≡ journal
-unfolding journal_after
-journal_kept journal by report cause = refl

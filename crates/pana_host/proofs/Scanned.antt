@@ -37,9 +37,6 @@ pub record ScannedSoFar {F S : Type 0} (gives : F → Option (Result Contents Sc
   pub faults : tally.faults ≡ counted passed
 
 module _ {F S : Type 0} (gives : F → Option (Result Contents ScanFault) → F → Type 0) (step : S → List ℕ → Call → Reply → S → Type 0) (spends : S → S → Type 0) (device : List ℕ) (folder_old : F) (old : S) where
-  pub no_scan : ScannedSoFar gives step device folder_old folder_old old old (record { scans = 0; reports = 0; refused = 0; faults = 0 })
-  no_scan = record { given = []; made = []; passed = 0; folder = refl; calls = refl; are = (refl, refl); scans = refl; reports = refl; refused = refl; faults = refl }
-
   -- the folder gives no more
   pub all_scanned : (folder_mid folder_new : F) (mid : S) (tally : ScanTally) → ScannedSoFar gives step device folder_old folder_mid old mid tally → gives folder_mid None folder_new → Scans gives step spends device folder_old folder_new old mid tally
   all_scanned folder_mid folder_new mid tally far none = record {

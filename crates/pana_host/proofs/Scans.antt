@@ -16,7 +16,7 @@ use Rattle.pana_scan.specs.Plan.{plan_of}
 use Rattle.pana_host.specs.declared.scanning.ScanTally.{ScanTally}
 use Rattle.pana_host.specs.Scan.{Makes, AreReports, ReportsWith, Follow}
 use Rattle.pana_host.specs.inner.Scan.{Asks, MakesReport, ReportsOne, ReportsSteps, ScansOnce, StopsReporting, StopsSpent, Tallies, reporting}
-use Rattle.pana_host.proofs.Tallies.{tallies_none, tallies_then, tallies_after_query, tallies_done, tallies_fault, tallies_refused}
+use Rattle.pana_host.proofs.Tallies.{tallies_then, tallies_after_query, tallies_done, tallies_fault, tallies_refused}
 
 module _ {S : Type 0} (step : S → List ℕ → Call → Reply → S → Type 0) where
   -- calls and more calls
@@ -45,9 +45,6 @@ pub record SoFar {S : Type 0} (step : S → List ℕ → Call → Reply → S �
   pub tally : Tallies tally_old tally_new made 0
 
 module _ {S : Type 0} (step : S → List ℕ → Call → Reply → S → Type 0) (device : List ℕ) (steps : List Step) where
-  pub none_yet : (old : S) (tally : ScanTally) → SoFar step device steps 0 old old tally tally
-  none_yet old tally = record { made = []; calls = refl; are = tt; long = refl; tally = tallies_none tally }
-
   module _ (index : ℕ) (old mid new : S) (s : Step) (first before after : ScanTally) (far : SoFar step device steps index old mid first before) (room : index < length steps) (is : s ≡ slice_index_or steps index s) where
     -- the next step's report behind those before it
     next_reports : (reply : Reply) → AreReports device steps (far.made ++ reporting device s reply ∷ [])
@@ -97,10 +94,6 @@ module _ {S : Type 0} (step : S → List ℕ → Call → Reply → S → Type 0
     pub stops_at : (spends : S → S → Type 0) → spends mid new → after ≡ before → StopsReporting step spends device steps old new first after
     stops_at spends spent same = record { mid = mid; made = far.made; calls = far.calls; are = far.are; tally = subst (λ (t : ScanTally). Tallies first t far.made 0) (sym same) far.tally; ends = spent }
 
-  -- after the last step all reports were made
-  pub all_made : (index : ℕ) (old new : S) (first last : ScanTally) → SoFar step device steps index old new first last → index ≡ length steps → ReportsSteps step device steps old new first last
-  all_made index old new first last far long = record { made = far.made; faults = 0; calls = far.calls; are = record { are = far.are; all = inl (refl, far.long ∙ long) }; tally = far.tally }
-
 -- with no report, but a fault, nothing is asked of the answer
 no_reports : (device : List ℕ) (listing : Contents) (reply : Reply) → Follow device listing reply [] 1
 no_reports device listing (Holdings holdings) = ([], record { are = tt; all = inr refl })
@@ -116,10 +109,6 @@ module _ {S : Type 0} (step : S → List ℕ → Call → Reply → S → Type 0
   -- a scan may have no call, and that is a fault
   pub no_call : (given : Result Contents ScanFault) (old new : S) (first last : ScanTally) → new ≡ old → Tallies first last [] 1 → ScansOnce step device given old new first last
   no_call given old new first last same tally = record { made = []; faults = 1; calls = same; is = refl; tally = tally }
-
-  -- no call is left at the first
-  pub none_made : (given : Result Contents ScanFault) (spends : S → S → Type 0) (old new : S) (first last : ScanTally) → spends old new → last ≡ first → StopsSpent step spends device given old new first last
-  none_made given spends old new first last spent same = record { mid = old; made = []; calls = refl; is = refl; tally = subst (λ (t : ScanTally). Tallies first t [] 0) (sym same) (tallies_none first); ends = spent }
 
   abbrev asking : Reply → Exchange
   asking reply = record { by = device; call = calls.Query (queries.Holdings device); reply = reply }

@@ -24,10 +24,10 @@ grows_on old mid new a b = record {
   seen = (a.seen.0 ++ b.seen.0, sym (append_assoc old.seen a.seen.0 b.seen.0) ∙ ap (λ (l : List FinishedCall). l ++ b.seen.0) a.seen.1 ∙ b.seen.1);
 }
 
-call_grows : (old new : PassView) (by : List ℕ) (call : _) (reply : _) → MakesCall old by call reply new → GrowsTo old new
+pub call_grows : (old new : PassView) (by : List ℕ) (call : _) (reply : _) → MakesCall old by call reply new → GrowsTo old new
 call_grows old new by call reply m = record { same = m.same; seen = (m.adds.between ++ _ ∷ [], sym (append_assoc old.seen m.adds.between _) ∙ sym m.adds.seen) }
 
-none_grows : (old new : PassView) → GetsNone old new → GrowsTo old new
+pub none_grows : (old new : PassView) → GetsNone old new → GrowsTo old new
 none_grows old new (inl m) = record { same = m.same; seen = m.seen }
 none_grows old new (inr m) = call_grows old new m.by m.call m.reply (record { same = m.same; run = m.run; adds = m.adds })
 

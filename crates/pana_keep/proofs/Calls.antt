@@ -63,9 +63,6 @@ module _ (first : List ℕ) (calls : List Call) where
   pub sync_follows : (c : List ℕ) → MayLeave first (calls ++ Sync ∷ []) c → MayLeave first calls c
   sync_follows c left = subst (MayLeave first calls) (sym (sync_only c left)) (possible first (λ d. d ≡ first) calls refl)
 
-  pub elapses_same : Elapses (length calls) (length calls) (LeftSince first calls) (LeftSince first calls) (MayLeave first calls)
-  elapses_same = record { later = omega arith; nothing_else = λ t c le left. inl left; keeps = λ t c le left. left }
-
   pub elapses_push : (call : Call) → Elapses (length calls) (length (calls ++ call ∷ [])) (LeftSince first calls) (LeftSince first (calls ++ call ∷ [])) (MayLeave first (calls ++ call ∷ []))
   elapses_push call = record {
     later = omega (arith, length-append calls (call ∷ []));

@@ -6,4 +6,3 @@ pub mod Prefixes
 pub mod Recovered
 pub mod Settled
 pub mod Tears
-pub mod Texts

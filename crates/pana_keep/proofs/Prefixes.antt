@@ -10,9 +10,6 @@ begins_split prefix c begins = sym (take-append-drop (length prefix) c) ∙ ap (
 pub begins_from : (prefix c rest : List ℕ) → c ≡ prefix ++ rest → Begins prefix c
 begins_from prefix c rest is = ap (λ (l : List ℕ). take (length prefix) l) is ∙ take_at prefix rest (length prefix) refl
 
-pub begins_length : (prefix c : List ℕ) → Begins prefix c → length prefix ≤ length c
-begins_length prefix c begins = omega (arith, ap length (begins_split prefix c begins), length-append prefix (drop (length prefix) c))
-
 pub begins_less : (prefix more c : List ℕ) → Begins (prefix ++ more) c → Begins prefix c
 begins_less prefix more c begins = begins_from prefix c (more ++ drop (length (prefix ++ more)) c) (begins_split (prefix ++ more) c begins ∙ append_assoc prefix more _)
 

@@ -1,6 +1,5 @@
 pub mod Calls
 pub mod Device
 pub mod Journal
-pub mod Keeper
 pub mod Lines
 pub mod Memory

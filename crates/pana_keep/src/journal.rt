@@ -22,7 +22,7 @@ pub struct Journal<D: Device> {
 }
 
 impl<D: Device> Journal<D> {
-    /// A journal over a device. Recover it before its first line.
+    /// A journal over a device. Read it, and repair it, before its first line.
     pub fn new(device: D) -> Journal<D>
         ensures device { result.device ≡ device }
         ensures state { result.state ≡ JournalState.Unread }

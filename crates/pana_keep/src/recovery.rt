@@ -23,31 +23,6 @@ pub struct Recovery {
 }
 
 impl<D: Device> Journal<D> {
-    /// Reads the lines of a file that a crash may have left, and cuts off what stands behind them. It may crash too. A
-    /// file that is no journal stays as it is.
-    pub fn recover(&mut self, alloc: Global) -> Result<Recovery, DeviceFault>
-        requires { IsTrue D.is_known → IsDurable D.seen D.may_leave D.is_usable self.old.device }
-
-        ensures text { IfOk result (λ found. IsTrue D.is_known → found.text.items ≡ text_of (recovered (D.seen self.old.device))) }
-        ensures torn { IfOk result (λ found. IsTrue D.is_known → found.torn ≡ torn_length (D.seen self.old.device)) }
-        ensures is_journal { IfOk result (λ found. IsTrue D.is_known → found.is_journal ≡ is_journal (D.seen self.old.device)) }
-        ensures settled { IfOk result (λ found. found.is_journal ≡ true → IsTrue D.is_known → IsSettled D.seen D.may_leave D.is_usable self.new) }
-        ensures open { IfOk result (λ found. found.is_journal ≡ true → self.new.state ≡ JournalState.Open) }
-        ensures foreign { IfOk result (λ found. found.is_journal ≡ false → IsTrue D.is_known → D.seen self.new.device ≡ D.seen self.old.device) }
-        ensures same { OnOk result (IsTrue D.is_known → recovered (D.seen self.new.device) ≡ recovered (D.seen self.old.device)) }
-        ensures cause { IsTrue D.is_known → HasCause (D.has_failed self.new.device) result }
-
-        // A crash at any moment leaves the same lines.
-        ensures any_moment { IsTrue D.is_known → LeavesOnly D.moment D.left_since self.old.device self.new.device
-            (λ c. recovered c ≡ recovered (D.seen self.old.device)) }
-    {
-        let found = self.read(alloc)?;
-        if found.is_journal {
-            self.repair()?;
-        }
-        Ok(found)
-    }
-
     /// Reads the lines of a file that a crash may have left, and changes nothing. Repair it before its first new line,
     /// if it is a journal. Sync a file of the system before: what another process has written reads back, and a power
     /// cut may still lose it.

@@ -25,7 +25,8 @@ use Rattle.pana_keep.specs.Lines.{recovered, IsBeforeOrAfter, HasRoom}
 use Rattle.pana_keep.specs.Journal.{IsSettled, IsStaged}
 use Rattle.pana_keep.proofs.Recovered.{which}
 use Rattle.pana_keep.proofs.Settled.{staged_settles}
-use Rattle.pana_kept.specs.Entries.{Say, LoadsTo, LoadsFirst, IsLineOf}
+use Rattle.pana_wire.specs.DumpLines.{Say}
+use Rattle.pana_kept.specs.Entries.{LoadsTo, LoadsFirst, IsLineOf}
 use Rattle.pana_kept.specs.Kept.{KeptView, IsKept, KeepsAll, IsFull, Becomes, NeedsOpen, Keeps, Breaks}
 use Rattle.pana_kept.specs.inner.{cause_of, is_done}
 use Rattle.pana_kept.proofs.Said.{say_append, loads_same, loads_either, keeps_on, keeps_start, keeps_same}

@@ -9,7 +9,8 @@ use Rattle.pana_wire.specs.Lines.{ended, unended, last_line, lines_of}
 use Rattle.pana_wire.specs.Reply.{reply_data, reply_text}
 use Rattle.pana_keep.specs.Lines.{opens, recovered, text_of, HasNoBreak, AreLines}
 use Rattle.pana_keep.proofs.Recovered.{which, recovered_lines}
-use Rattle.pana_kept.specs.Entries.{Say, IsLineOf}
+use Rattle.pana_wire.specs.DumpLines.{Say}
+use Rattle.pana_kept.specs.Entries.{IsLineOf}
 
 -- how many newlines there are
 abbrev breaks : List ℕ → ℕ

@@ -8,7 +8,8 @@ use Rattle.pana_keep.specs.Lines.{recovered, IsBeforeOrAfter}
 use Rattle.pana_keep.specs.Journal.{IsSettled}
 use Rattle.pana_keep.proofs.Moments.{started, then_on}
 use Rattle.pana_keep.proofs.Settled.{recovered_same}
-use Rattle.pana_kept.specs.Entries.{Say, LoadsTo, LoadsFirst}
+use Rattle.pana_wire.specs.DumpLines.{Say}
+use Rattle.pana_kept.specs.Entries.{LoadsTo, LoadsFirst}
 
 pub say_append : (ls ms : List (List ℕ)) (es fs : List Entry) → Say ls es → Say ms fs → Say (ls ++ ms) (es ++ fs)
 say_append [] ms es fs none says = subst (λ (xs : List Entry). Say ms (xs ++ fs)) (sym none) says

@@ -1,13 +1,8 @@
 -- The entries that a journal's file stands for.
-use Rattle.std.specs.Prelude.{◌≡◌, ◌≤◌, ℕ, List, [], ◌∷◌, ◌++◌, length, take, Ok}
+use Rattle.std.specs.Prelude.{◌≤◌, ℕ, List, [], ◌∷◌, length, take}
 use Rattle.pana_journal.specs.declared.entry.Entry.{Entry}
-use Rattle.pana_wire.specs.Dump.{dump_says}
+use Rattle.pana_wire.specs.DumpLines.{Say}
 use Rattle.pana_keep.specs.Lines.{recovered, IsWhole}
-
--- the lines say these entries, one line after another
-abbrev pub Say : List (List ℕ) → List Entry → Type 0
-Say [] entries = entries ≡ []
-Say (line ∷ lines) entries = (first : List Entry) × (rest : List Entry) × (dump_says line ≡ Ok first) × Say lines rest × (entries ≡ first ++ rest)
 
 -- the file loads to these entries, whatever a crash made of it
 abbrev pub LoadsTo : List Entry → List ℕ → Type 0

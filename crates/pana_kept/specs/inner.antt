@@ -1,16 +1,11 @@
 -- Words that only inner functions and proofs need: nobody has to believe them.
-use Rattle.std.specs.Prelude.{ℕ, Bool, true, false, List, map}
-use Rattle.std.specs.Borrow.{Bor}
+use Rattle.std.specs.Prelude.{Bool, true, false}
 use Rattle.pana_hall.specs.declared.cause.Cause.{Cause}
 use Rattle.pana_hall.specs.declared.cause.Cause.TheVariants as causes
 use Rattle.pana_hall.specs.declared.reply.Reply.{Reply}
 use Rattle.pana_hall.specs.declared.reply.Reply.TheVariants.{Done}
 use Rattle.pana_keep.specs.declared.device_fault.DeviceFault.{DeviceFault}
 use Rattle.pana_keep.specs.declared.device_fault.DeviceFault.TheVariants as devices
-
--- the lines that slices refer to
-abbrev pub texts : List (Bor (List ℕ)) → List (List ℕ)
-texts lines = map (λ line. line.now) lines
 
 -- whether a report was done
 abbrev pub is_done : Reply → Bool

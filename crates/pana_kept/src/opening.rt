@@ -4,9 +4,10 @@ ghost use Rattle.pana_wire.specs.Lines.{lines_of};
 ghost use Rattle.pana_keep.specs.Device.{LeavesOnly};
 ghost use Rattle.pana_keep.specs.Lines.{recovered, text_of, torn_length, is_journal};
 ghost use Rattle.pana_keep.specs.Journal.{IsDurable};
-ghost use Rattle.pana_kept.specs.Entries.{Say, LoadsTo};
+ghost use Rattle.pana_wire.specs.DumpLines.{Say};
+ghost use Rattle.pana_wire.specs.inner.Slices.{texts};
+ghost use Rattle.pana_kept.specs.Entries.{LoadsTo};
 ghost use Rattle.pana_kept.specs.Kept.{IsKept};
-ghost use Rattle.pana_kept.specs.inner.{texts};
 ghost use Rattle.pana_kept.specs.Opening.{HaveNoHall, IsOpenFault, is_of_device};
 
 use crate::open_fault::OpenFault;

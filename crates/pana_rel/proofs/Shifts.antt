@@ -1,14 +1,7 @@
 -- Relations moved by one place.
 use Rattle.std.proofs.Common.{◌≡◌, ℕ, suc, ◌+◌, ◌-◌, ◌<◌, List, [], ◌∷◌, ◌++◌, length, get_or, set, take, drop, ap, ap₂, sym, ◌∙◌, arith}
-use Rattle.std.specs.List.{insert, remove}
-use Rattle.std.proofs.lemmas.List.{take_more_set, drop_more, drop-set-lt, drop_all, append-nil, append_assoc}
-
--- to put y in at a place is to write it there and to put in what stood there one further
-pub insert_shift : {X : Type 0} (xs : List X) (i : ℕ) (y d : X) → i < length xs → insert (set xs i y) (i + 1) (get_or xs i d) ≡ insert xs i y
-insert_shift xs i y d h =
-    ap₂ (λ a b. a ++ get_or xs i d ∷ b) (take_more_set xs i y h) (drop-set-lt (i + 1) xs i y (omega arith))
-    ∙ append_assoc (take i xs) (y ∷ []) (get_or xs i d ∷ drop (i + 1) xs)
-    ∙ ap (λ rest. take i xs ++ y ∷ rest) (sym (drop_more xs i d h))
+use Rattle.std.specs.List.{remove}
+use Rattle.std.proofs.lemmas.List.{take_more_set, drop_more, drop-set-lt, append_assoc}
 
 -- to take what stands at a place out is to write the next one there and to take that one out
 pub remove_shift : {X : Type 0} (xs : List X) (i : ℕ) (d : X) → i + 1 < length xs → remove (set xs i (get_or xs (i + 1) d)) (i + 1) ≡ remove xs i
@@ -21,7 +14,3 @@ remove_shift xs i d h =
     ∙ ap (λ n. take i xs ++ next ∷ drop n xs) far
     ∙ ap (λ rest. take i xs ++ rest) (sym (drop_more xs (i + 1) d h))
     ∙ ap (λ n. take i xs ++ drop n xs) (sym near)
-
-pub remove_end : {X : Type 0} (xs : List X) (i : ℕ) → i + 1 ≡ length xs → remove xs i ≡ take (length xs - 1) xs
-remove_end xs i h =
-    ap (λ rest. take i xs ++ rest) (drop_all (suc i) xs (omega arith)) ∙ append-nil (take i xs) ∙ ap (λ n. take n xs) (omega arith)

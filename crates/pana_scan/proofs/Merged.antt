@@ -273,14 +273,6 @@ module _ (p : Path) (found : List FoundRow) (kept : List BaselineRow) (living : 
       ap (map (known_of found kept living)) paths_next
       ∙ (λ i. known_first i ∷ map_later (in_order (rest_of p found kept living)) (in_order_below p (rest_of p found kept living) below_rest) i)
 
--- nothing is known where nothing is left
-pub knowns_none : (found : List FoundRow) (kept : List BaselineRow) (living : List Holding)
-    → lesser (first_path found_path found) (lesser (first_path kept_path kept) (first_path living_path living)) ≡ None → knowns found kept living ≡ []
-knowns_none found kept living none =
-    let outer = lesser_none (first_path found_path found) (lesser (first_path kept_path kept) (first_path living_path living)) none in
-    let inner = lesser_none (first_path kept_path kept) (first_path living_path living) outer.1 in
-    λ i. knowns (none_left found_path found outer.0 i) (none_left kept_path kept inner.0 i) (none_left living_path living inner.1 i)
-
 -- ---- holdings behind references
 
 abbrev lent_path : Bor Holding → Path
@@ -327,9 +319,6 @@ next_known found kept living p rf rk rl is =
       mark = option_map (λ row. row.mark) (head_at kept_path p kept);
       living = sym (head_lent p living) i;
     } ∷ knowns (rest_at found_path p found) (rest_at kept_path p kept) (sym (rest_lent p living) i))
-
-pub none_known : (found : List FoundRow) (kept : List BaselineRow) (living : List (Bor Holding)) → None ≡ least_path found kept living → knowns found kept (lent living) ≡ []
-none_known found kept living none = knowns_none found kept (lent living) (sym (none ∙ least_lent found kept living))
 
 pub rest_lent_rise : (p : Path) (living : List (Bor Holding)) → HoldingsRise (lent living) → HoldingsRise (lent (rest_at lent_path p living))
 rest_lent_rise p living rise = subst HoldingsRise (sym (rest_lent p living)) (rest_rise living_path p (lent living) rise)

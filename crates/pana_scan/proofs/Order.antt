@@ -4,7 +4,7 @@ use Rattle.std.specs.List.{AllByRecursion, list_any}
 use Rattle.std.specs.List.Sorted.{IsStrictlySortedBy}
 use Rattle.std.specs.declared.cmp.Ordering.{Ordering}
 use Rattle.std.specs.declared.cmp.Ordering.TheVariants.{Less, Equal, Greater}
-use Rattle.std.specs.Ordering.{is_lt, is_eq, ordering_reverse}
+use Rattle.std.specs.Ordering.{is_eq, ordering_reverse}
 use Rattle.std.specs.Cmp.Lexicographic.{nat_list_cmp_total, texts_ties}
 use Rattle.std.specs.FinMap.{slice_cmp-IsAntisymmetric, nat_cmp-IsAntisymmetric}
 use Rattle.std.specs.Str.{bytes_eq}
@@ -56,9 +56,6 @@ eq_is_same p q e = elim (path_cmp p q) as (λ o. path_cmp p q ≡ o → is_eq o 
   | Equal ↦ λ is h. same_path p q is
   | Greater ↦ λ is h. absurd (true≢false (sym h))
 ] refl (sym (texts_ties p q) ∙ e)
-
-pub not_below_itself : (p : Path) → path_cmp p p ≡ Less → ⊥
-not_below_itself p less = true≢false (ap is_lt (sym less ∙ equal_itself p))
 
 pub below_chain : (p q : Path) (paths : List Path) → path_cmp p q ≡ Less → IsBelow q paths → IsBelow p paths
 below_chain p q [] less below = tt

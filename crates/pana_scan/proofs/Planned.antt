@@ -2,8 +2,7 @@
 use Rattle.std.specs.Prelude.{◌≡◌, ℕ, List, [], ◌∷◌, ◌++◌, map, Option, Some, None, option_map}
 use Rattle.std.specs.List.{cons_option}
 use Rattle.std.specs.List.Sorted.{IsStrictlySortedBy}
-use Rattle.std.specs.Option.{option_to_list}
-use Rattle.std.proofs.Common.{refl, sym, ap, ◌∙◌, subst, append_assoc, append-nil, Bor}
+use Rattle.std.proofs.Common.{refl, sym, ap, ◌∙◌, subst, append-nil, Bor}
 use Rattle.pana_hall.specs.declared.holding.Holding.{Holding}
 use Rattle.pana_scan.specs.declared.baseline.BaselineRow.{BaselineRow}
 use Rattle.pana_scan.specs.declared.baseline.Mark.{Mark}
@@ -15,11 +14,6 @@ use Rattle.pana_scan.proofs.Order.{IsBelow, Rise, in_order_rise}
 use Rattle.pana_scan.specs.inner.Left.{HoldTheSame}
 use Rattle.pana_scan.proofs.Merged.{lent, three}
 use Rattle.pana_scan.proofs.Sorted.{knowns_same}
-
--- one more, where there is one
-pub cons_after : {T : Type 0} (done : List T) (next : Option T) (rest : List T) → (done ++ option_to_list next) ++ rest ≡ done ++ cons_option next rest
-cons_after done None rest = ap (λ xs. xs ++ rest) (append-nil done)
-cons_after done (Some x) rest = append_assoc done (x ∷ []) rest
 
 abbrev key : BaselineRow → Path
 key row = row.path

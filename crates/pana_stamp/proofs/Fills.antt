@@ -1,8 +1,8 @@
 -- What filling gives.
 use Rattle.std.proofs.Common.{◌≡◌, ◌≤◌, max, Bool, true, false, List, [], ◌∷◌, length, arith, refl}
 use Rattle.pana_id.specs.Id.{Id, zero_id, one_id, pair, has}
-use Rattle.pana_event.specs.Event.{Event, leaf, fork, number, level, least, greatest, depth, IsNormal, IsSound}
-use Rattle.pana_event.proofs.Levels.{least-le-greatest, least-normal, level-le-greatest}
+use Rattle.pana_event.specs.Event.{Event, leaf, fork, level, least, greatest, depth, IsNormal, IsSound}
+use Rattle.pana_event.proofs.Levels.{least-le-greatest, level-le-greatest}
 use Rattle.pana_event.proofs.Norms.{greatest-norm, depth-norm, level-norm-left, level-norm-right, normal-norm}
 use Rattle.pana_stamp.specs.Fill.{fill, IsFilled}
 
@@ -45,10 +45,6 @@ normal-fill (pair i one_id) (fork n l r) normal =
     normal-norm n f (leaf (max (greatest r) (least f))) (normal-fill i l normal.1) tt
 normal-fill (pair i j) (fork n l r) normal =
     normal-norm n (fill i l) (fill j r) (normal-fill i l normal.1) (normal-fill j r normal.2)
-
--- of the filled half of a normal event the own number is the least level
-pub least-fill : (i : Id) (e : Event) → IsNormal e → least (fill i e) ≡ number (fill i e)
-least-fill i e normal = least-normal (fill i e) (normal-fill i e normal)
 
 pub ruleset fill_limits = (greatest-fill, least-le-greatest, normal-fill)
 

@@ -17,13 +17,6 @@ module _ {V : Type 0} (f : V → ℕ) where
   pub sum_by-push : (vs : List V) (w : V) → sum_by f (vs ++ w ∷ []) ≡ sum_by f vs + f w
   sum_by-push vs w = omega (arith, sum_by-append f vs (w ∷ []), sum_by-cons f w [])
 
-  -- one seat counts no more than all
-  pub one_of_sum : (vs : List V) (i : ℕ) (v : V) → get_elem? vs i ≡ some v → f v ≤ sum_by f vs
-  one_of_sum [] i v at = absurd (some-ne-none v (sym at))
-  one_of_sum (u ∷ vs) zero v at =
-      let same : f u ≡ f v = ap f (some-injective u v at) in omega (arith, sum_by-cons f u vs, same)
-  one_of_sum (u ∷ vs) (suc i) v at = omega (arith, sum_by-cons f u vs, one_of_sum vs i v at)
-
 module _ {V : Type 0} (f g : V → ℕ) where
   -- where each counts no more, all count no more
   pub sum_by-below : (vs : List V) → ((i : ℕ) (v : V) → get_elem? vs i ≡ some v → f v ≤ g v) → sum_by f vs ≤ sum_by g vs
@@ -46,12 +39,6 @@ module _ {V : Type 0} where
   at_pushed [] w u (suc j) at = absurd (some-ne-none u (sym at))
   at_pushed (v ∷ vs) w u zero at = inl (at, omega arith)
   at_pushed (v ∷ vs) w u (suc j) at = elim (at_pushed vs w u j at) [ inl t ↦ inl (t.0, omega (arith, t.1)) | inr t ↦ inr (ap suc t.0, t.1) ]
-
-  -- a seat that is there is among them
-  pub at_within : (vs : List V) (i : ℕ) (v : V) → get_elem? vs i ≡ some v → i < length vs
-  at_within [] i v at = absurd (some-ne-none v (sym at))
-  at_within (u ∷ vs) zero v at = omega arith
-  at_within (u ∷ vs) (suc i) v at = let rest = at_within vs i v at in omega arith
 
   -- where each counts nothing, all count nothing
   pub sum_by-zero : (vs : List V) → sum_by (λ _. 0) vs ≡ 0

@@ -10,4 +10,5 @@ pub mod DumpBack
 pub mod EntriesBack
 pub mod OneLine
 pub mod SessionRun
+pub mod Said
 pub mod FaultLine

@@ -7,7 +7,6 @@ use Rattle.pana_wire.specs.declared.serving.Served.{Served}
 use Rattle.pana_wire.specs.declared.fault.WireFault.{WireFault}
 use Rattle.pana_wire.specs.declared.message.Message.{Message}
 use Rattle.pana_wire.specs.Line.{line_says}
-use Rattle.pana_wire.specs.Lines.{last_line}
 use Rattle.pana_wire.specs.Session.{AnswersSaid, AnswersLine, AnswersLines}
 use Rattle.pana_wire.specs.inner.Kept.{keep, ended_kept, unended_kept}
 use Rattle.pana_wire.specs.inner.Progress.{Answered, Progress, both}
@@ -45,10 +44,6 @@ ended_few held (b ∷ bs) =
       | true ↦ let rest : length (ended_kept [] bs) ≤ length bs = ended_few [] bs in omega arith
       | false ↦ let rest : length (ended_kept (keep held b) bs) ≤ length bs = ended_few (keep held b) bs in omega arith
     ]
-
-pub last_few : (held : List ℕ) → length (last_line held) ≤ 1
-last_few [] = omega arith
-last_few (b ∷ bs) = omega arith
 
 module _ {S : Type 0} (step : S → List ℕ → Call → Reply → S → Type 0) where
   -- a line takes one step at most

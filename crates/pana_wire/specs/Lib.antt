@@ -3,6 +3,7 @@ pub mod Word
 pub mod Fault
 pub mod Line
 pub mod Dump
+pub mod DumpLines
 pub mod Report
 pub mod Reply
 pub mod Lines

@@ -2,4 +2,5 @@
 pub mod Kept
 pub mod Names
 pub mod Progress
+pub mod Slices
 pub mod Writing

@@ -1,5 +1,5 @@
 use Rattle.std.proofs.Common.{arith}
-use Rattle.pana_commands.proofs.Reported.{next_said, fault_at}
+use Rattle.pana_wire.proofs.Said.{next_said, fault_at}
 use Rattle.pana_commands.proofs.loading.entries_in.Goals as goal
 
 pub returns-in-Err : goal.returns-in-Err

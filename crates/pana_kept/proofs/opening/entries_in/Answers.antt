@@ -1,5 +1,5 @@
 use Rattle.std.proofs.Common.{arith}
-use Rattle.pana_kept.proofs.Texts.{next_said, fault_at}
+use Rattle.pana_wire.proofs.Said.{next_said, fault_at}
 use Rattle.pana_kept.proofs.opening.entries_in.Goals as goal
 
 pub returns-in-Err-clause-fault : goal.returns-in-Err-clause-fault

@@ -1,6 +1,6 @@
 use Rattle.std.proofs.Common.{take}
-use Rattle.pana_kept.specs.Entries.{Say}
-use Rattle.pana_kept.specs.inner.{texts}
+use Rattle.pana_wire.specs.DumpLines.{Say}
+use Rattle.pana_wire.specs.inner.Slices.{texts}
 use Rattle.pana_kept.proofs.opening.entries_in.Given as goal
 
 abbrev pub invariant-loop-index : goal.invariant-loop-index

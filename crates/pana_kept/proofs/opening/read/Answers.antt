@@ -2,7 +2,7 @@ use Rattle.std.proofs.Common.{◌≡◌, List, ℕ, ◌∙◌, ap, subst, rules}
 use Rattle.std.proofs.lemmas.Result.{err_from_is_err_and}
 use Rattle.pana_wire.specs.Lines.{lines_of}
 use Rattle.pana_keep.specs.Lines.{recovered, text_of}
-use Rattle.pana_kept.specs.Entries.{Say}
+use Rattle.pana_wire.specs.DumpLines.{Say}
 use Rattle.pana_kept.specs.Opening.{HaveNoHall}
 use Rattle.pana_kept.proofs.Texts.{lines_again, open_fault}
 use Rattle.pana_kept.proofs.opening.read.Goals as goal

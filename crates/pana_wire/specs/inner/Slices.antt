@@ -1,4 +1,4 @@
--- Words that only inner functions and proofs need: nobody has to believe them.
+-- Lines that slices refer to.
 use Rattle.std.specs.Prelude.{ℕ, List, map}
 use Rattle.std.specs.Borrow.{Bor}
 

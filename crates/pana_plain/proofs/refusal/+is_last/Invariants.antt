@@ -1,5 +1,0 @@
-use Rattle.std.proofs.Common.{length}
-use Rattle.pana_plain.proofs.refusal.+is_last.Given as goal
-
-abbrev pub decreases-is_last : goal.decreases-is_last
-decreases-is_last l = length l.numbers.now

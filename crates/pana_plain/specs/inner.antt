@@ -1,3 +1,0 @@
--- Words that only inner functions and proofs need: nobody has to believe them.
-pub mod Families
-pub mod Recording
