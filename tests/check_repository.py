@@ -42,6 +42,12 @@ WORDED_SOURCES = ("crates/*/README.md", "crates/**/*.rt", "crates/**/*.antt", "c
 MOST_EDITS = 20
 COMMENT = re.compile(r"(?://|--)(.*)")
 CODE = re.compile(r"`[^`]*`")
+# A name in a source; the beginning of a block whose items stand two blanks further right; and that of an item.
+CITES = re.compile(r"[^\s(){}\[\],;.`\"⟦⟧«»:]+")
+INNER = re.compile(r"(module _|mutual)\b")
+ITEM = re.compile(r"((?:(?:pub|abbrev|unfoldable|opaque|data|record|ruleset)\s+)*)([^\s:(){}\[\],=]+)")
+# Files of lemmas that stand for themselves: what definitions say of worked rows, and where a statement is false.
+FOR_THEMSELVES = {"Worked.antt", "Bounds.antt", "Lib.antt"}
 QUOTED = re.compile(r"`([^`]+)`")
 NAME = re.compile(r"\w+(::\w+)*")
 WORD = re.compile(r"\w+")
@@ -205,6 +211,39 @@ def untried_names():
     yield from (f"nothing looks at {it}" for it in names if f'"{it}"' not in wanted)
 
 
+def items_of(lines):
+    """The items of a file of lemmas by name, each with the numbers of its lines."""
+    found, current, is_inner = {}, None, False
+    for number, line in enumerate(lines):
+        indent = len(line) - len(line.lstrip())
+        if not line.strip() or line[indent] in "})]":
+            continue
+        is_inner = is_inner and indent > 0
+        if INNER.match(line):
+            is_inner, current = True, None
+        elif indent == 2 * is_inner and not line.lstrip().startswith("unfolding "):
+            is_item = not re.match(r"\s*(pub )?(mod|use|open)\b", line)
+            current = ITEM.match(line.lstrip())[2] if is_item else None
+        if current:
+            found.setdefault(current, set()).add(number)
+    return found
+
+
+def uncited_lemmas():
+    """Each lemma of a crate is cited, by a proof or by what a function's attribute names."""
+    sources = [it for kind in ("rt", "antt") for it in TOP.glob(f"crates/*/*/**/*.{kind}") if "out" not in it.parts]
+    lines = {it: [COMMENT.sub("", line) for line in lines_of(it)] for it in sources}
+    cited = {}
+    for file, text in lines.items():
+        for number, line in enumerate(text):
+            for name in CITES.findall(line):
+                cited.setdefault(name, set()).add((file, number))
+    for file in sorted(it for it in sources if it.parent.name == "proofs" and it.name not in FOR_THEMSELVES):
+        for name, own in items_of(lines[file]).items():
+            if all(at == file and number in own for at, number in cited.get(name, ())):
+                yield f"{named(file)}: nothing cites {name}"
+
+
 def is_there(page, name):
     """Whether what a page names in backquotes is a path from the top or in a crate, or no path of ours."""
     first = name.split("/")[0]
@@ -229,7 +268,7 @@ def named_in_pages():
                     yield f"{named(page)}:{number} names {name}, which is not there"
 
 
-CHECKS = (long_sources, crates_and_folders, crate_folders, dead_links, citations, dialect, edits, untried_names, named_in_pages, kit_line)
+CHECKS = (long_sources, crates_and_folders, crate_folders, dead_links, citations, dialect, edits, uncited_lemmas, untried_names, named_in_pages, kit_line)
 
 
 def main():

@@ -27,12 +27,28 @@ printf '%s %s\\n' "$(basename -- "$PWD")" "$*" >>"$kit/calls"
 """
 LIB = "printf 'so far: 2 of 5 functions checked\\nlogic=proved\\n'"
 PROGRAM = "mkdir -p out; printf '#!/bin/sh\\necho answers\\n' >out/panad; chmod +x out/panad"
-WELL = f'case "$1" in lib) {LIB} ;; run) {PROGRAM} ;; ci) printf "2 passed, 0 failed\\n"; cd crates/panad; {PROGRAM} ;; esac'
-HOLLOW = (
-    "rt: must-fail high/replies_left_out.edit: refused, as it must be (only because a proof file names what the edit"
-    " took away, so this says little of the contract: change a value and keep the names): ./proofs/Answers.antt:8:67: error"
-)
+# What becomes of an edit is what its file says, or else what the file `all` beside `does` says.
+CI = f"""passed=2 failed=0
+for it in crates/*/must-fail/*.edit; do
+  [ -f "$it" ] || continue
+  crate=${{it#crates/}} crate=${{crate%%/*}}
+  name=$crate/${{it##*/}}
+  printf '%s\\n' "$name" >>"$kit/tried"
+  case $(cat "$kit/all" "$it" 2>/dev/null | head -n 1) in
+    refused) said='refused, as it must be: ./src/lib.rt:1:1: error' passed=$((passed + 1)) ;;
+    hollow) said='refused, as it must be (only because a proof file names what the edit took away): ./proofs/A.antt:8:67: error' passed=$((passed + 1)) ;;
+    bad) said='BAD EDIT: it changes nothing' ;;
+    *) said='NOT REFUSED: the crate is still proved with this edit' failed=$((failed + 1)) ;;
+  esac
+  printf 'rt: must-fail %s: %s\\n' "$name" "$said"
+done
+(cd crates/panad; {PROGRAM})
+printf '%s passed, %s failed\\n' "$passed" "$failed"
+[ "$failed" -eq 0 ]"""
+WELL = f'case "$1" in lib) {LIB} ;; run) {PROGRAM} ;; ci) {CI} ;; esac'
 STUB = "print('1 passed, 0 failed')\n"
+# What is no stub: the scripts that the checks look at.
+REAL = {"edits.py", "gate.py", "quick.py"}
 
 
 class Kit:
@@ -52,7 +68,7 @@ class Kit:
             stub = self.repository / it.relative_to(TOP)
             if "scenarios" not in it.parts:
                 stub.parent.mkdir(parents=True, exist_ok=True)
-                stub.write_text(STUB)
+                stub.write_text(it.read_text() if it.name in REAL else STUB)
         (self.kit / "bin").mkdir(parents=True)
         (self.kit / "KIT-ID").write_text("made up\n")
         (self.kit / "bin" / "rt").write_text(RT)
@@ -62,8 +78,27 @@ class Kit:
     def has_rt_do(self, does):
         (self.kit / "does").write_text(does)
 
+    def has_edits(self, count, says):
+        """Gives the crates low and high together so many must-fail edits, each of which says what becomes of it."""
+        for at in range(count):
+            it = self.repository / "crates" / ("low" if at % 2 else "high") / "must-fail" / f"edit_{at}.edit"
+            it.parent.mkdir(exist_ok=True)
+            it.write_text(f"{says}\n")
+
+    def tried(self):
+        """The edits that rt has tried since this was last asked."""
+        file = self.kit / "tried"
+        found = file.read_text().split() if file.exists() else []
+        file.unlink(missing_ok=True)
+        return found
+
+    def record(self):
+        """The record of edits that were refused, and its file."""
+        file = self.repository / "tests" / "edits-tried"
+        return file.read_text().splitlines() if file.exists() else []
+
     def calls(self):
-        return (self.kit / "calls").read_text().splitlines()
+        return (self.kit / "calls").read_text().splitlines() if (self.kit / "calls").exists() else []
 
     def start(self, *words, **how):
         path = f"{self.kit / 'bin'}:{os.environ.get('PATH', os.defpath)}"
@@ -173,15 +208,111 @@ def gate_that_passes(kit):
         yield f"it ended with {status}, called {kit.calls()} and printed {output[-400:]!r}"
 
 
-def hollow_edit(kit):
-    """./test fails on a must-fail edit that is refused only because a proof file names what it took away."""
-    passed = int(kit.run("./test")[1].splitlines()[-1].split()[0])
-    kit.has_rt_do(f"cat <<'END'\n{HOLLOW}\nEND\n{WELL}")
+def text_first(kit):
+    """./test and ./test quick end where a check that takes seconds fails, and prove nothing."""
+    (kit.repository / "tests" / "check_repository.py").write_text("print('0 passed, 1 failed')\nraise SystemExit(1)\n")
+    for words in ([], ["quick"], ["edits"]):
+        status, output, _ = kit.run("./test", *words)
+        if status != 1 or kit.calls() or "== scenarios" in output:
+            yield f"./test {words} ended with {status}, called {kit.calls()} and printed {output[-400:]!r}"
+
+
+def how_long(kit):
+    """./test prints at its end what took how long, and of the edits how many were tried and taken over."""
+    kit.has_edits(10, "refused")
+    kit.run("./test")
+    lines = kit.run("./test")[1].splitlines()
+    table = lines[lines.index("== what took how long, in minutes") + 1 :]
+    for wanted in ("rt ci: proofs, tests and must-fail edits", "must-fail edits: 1 tried, 9 taken over", "scenarios", "in all"):
+        if not any(it.endswith(wanted) for it in table):
+            yield f"the table has no line of {wanted!r}: {table}"
+
+
+def untried_edits(kit):
+    """./test tries the edits without a line in the record, writes the lines, and tries a tenth of them the next time."""
+    kit.has_edits(10, "refused")
     status, output, _ = kit.run("./test")
-    if status != 1 or output.splitlines()[-1] != f"{passed - 1} passed, 1 failed":
-        yield f"it ended with {status} and {output.splitlines()[-1]!r}"
-    if "FAILED: must-fail high/replies_left_out.edit" not in output:
-        yield "it doesn't name the edit"
+    passed = int(output.splitlines()[-1].split()[0])
+    tried, record = kit.tried(), kit.record()
+    if status or len(tried) != 10 or [it.split()[0] for it in record] != sorted(tried):
+        yield f"it ended with {status}, tried {tried} and wrote {record}"
+    status, output, _ = kit.run("./test")
+    if status or len(kit.tried()) != 1 or kit.record() != record or output.splitlines()[-1] != f"{passed - 9} passed, 0 failed":
+        yield f"the second time it ended with {status}, wrote {kit.record()} and printed {output[-200:]!r}"
+
+
+def stale_edits(kit):
+    """./test tries the edits again where their crate, one below it, the edit or the kit has changed, or a line's sum is wrong."""
+    kit.has_edits(10, "refused")
+    kit.run("./test")
+    first = kit.record()
+    low, high = ([it.split()[0] for it in first if it.startswith(crate)] for crate in ("low", "high"))
+    file = kit.repository / "tests" / "edits-tried"
+    changes = (
+        (lambda: (kit.repository / "crates/high/src/lib.rt").write_text("//! Something.\n"), high),
+        (lambda: (kit.repository / "crates/low/src/lib.rt").write_text("//! Something.\n"), low + high),
+        (lambda: (kit.repository / "crates" / low[0].replace("/", "/must-fail/")).write_text("refused\n\n"), low[:1]),
+        (lambda: file.write_text("".join(f"{it.split()[0]} {'0' * 64 if it.startswith(high[0]) else it.split()[1]}\n" for it in kit.record())), high[:1]),
+        (lambda: file.write_text("".join(f"{it}\n" for it in kit.record() if not it.startswith(high[1]))), high[1:2]),
+        (lambda: (kit.kit / "KIT-ID").write_text("another\n"), low + high),
+    )
+    kit.tried()
+    for number, (change, wanted) in enumerate(changes, 1):
+        change()
+        said = f"{len(wanted)} of 10 have no line in tests/edits-tried that holds"
+        if said not in kit.run("./test", "quick")[1]:
+            yield f"after change {number} ./test quick doesn't say: {said}"
+        status, _, _ = kit.run("./test")
+        tried, record = kit.tried(), kit.record()
+        if status or {*wanted} - {*tried} or len({*tried} - {*wanted}) > 1 or len(record) != 10:
+            yield f"after change {number} it ended with {status} and tried {tried} in place of {wanted}"
+    if {*kit.record()} & {*first}:
+        yield "a line is as it was, though the kit has changed"
+
+
+def wrong_record(kit):
+    """A line of the record that is wrong comes out with the tenth that is tried: ./test fails, names the edit and takes its line away."""
+    kit.has_edits(10, "refused")
+    kit.run("./test")
+    kit.tried()
+    (kit.kit / "all").write_text("missed\n")
+    status, output, _ = kit.run("./test")
+    tried = kit.tried()
+    if status != 1 or len(tried) != 1 or f"must-fail {tried[0]}: NOT REFUSED" not in output:
+        yield f"it ended with {status}, tried {tried} and printed {output[-400:]!r}"
+    if len(kit.record()) != 9 or any(it.startswith(f"{tried[0]} ") for it in kit.record()):
+        yield f"the record is {kit.record()}"
+    if "== scenarios" not in output:
+        yield "the scenarios weren't run, though the program is proved"
+
+
+def edits_not_refused(kit):
+    """./test fails on an edit that is not refused, that can't be read, or that only a proof file refuses, and writes no line of it."""
+    passed = int(kit.run("./test")[1].splitlines()[-1].split()[0])
+    for says, why in (("missed", "NOT REFUSED"), ("bad", "it cannot be applied"), ("hollow", "a proof file names what this edit takes away")):
+        kit.has_edits(1, says)
+        for _ in range(2):
+            status, output, _ = kit.run("./test")
+            if status != 1 or output.splitlines()[-1] != f"{passed} passed, 1 failed" or why not in output or kit.record():
+                yield f"an edit that is {says}: it ended with {status}, {output.splitlines()[-1]!r}, and the record {kit.record()}"
+
+
+def edits_of_failed_crates(kit):
+    """./test fails where rt ci says nothing of an edit that it was to try."""
+    kit.has_edits(3, "refused")
+    kit.has_rt_do('case "$1" in ci) printf "2 passed, 0 failed\\n" ;; esac')
+    status, output, _ = kit.run("./test")
+    if status != 1 or "3 must-fail edits were not tried" not in output or kit.record():
+        yield f"it ended with {status}, the record {kit.record()} and printed {output[-400:]!r}"
+
+
+def all_edits(kit):
+    """./test edits tries every edit and writes the record, and runs no scenario."""
+    kit.has_edits(10, "refused")
+    for _ in range(2):
+        status, output, _ = kit.run("./test", "edits")
+        if status or len(kit.tried()) != 10 or len(kit.record()) != 10 or "== scenarios" in output:
+            yield f"it ended with {status}, the record {kit.record()} and printed {output[-400:]!r}"
 
 
 def quick(kit):
@@ -193,7 +324,7 @@ def quick(kit):
     status, output, _ = kit.run("./test", "quick")
     if kit.run("./panad", "run") != (0, "answers\n", ""):
         yield "the program isn't kept"
-    if (kit.kit / "calls").exists():
+    if any(it.endswith(" ci") for it in kit.calls()):
         yield f"rt was called: {kit.calls()}"
     if status or "== scenarios" not in output:
         yield f"it ended with {status} and printed {output[-400:]!r}"
@@ -210,7 +341,8 @@ def passes(check):
     return not found
 
 
-CHECKS = (other_arguments, first_use, on_a_terminal, failed_proof, interrupted, ended_alone, gate_that_passes, hollow_edit, quick)
+CHECKS = (other_arguments, first_use, on_a_terminal, failed_proof, interrupted, ended_alone, gate_that_passes, quick, text_first, how_long)
+CHECKS += (untried_edits, stale_edits, wrong_record, edits_not_refused, edits_of_failed_crates, all_edits)
 
 
 def main():

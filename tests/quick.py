@@ -4,40 +4,24 @@
 usage: quick.py KIT
 It is no verdict: that is `rt ci`, which proves everything from nothing and tries the must-fail edits. The tests of a
 crate are built again where its sources, those of a crate below it or the kit have changed since they last passed.
+It says how many must-fail edits `./test` would try for what has changed.
 The last line is 'N passed, M failed', one for each crate.
 """
 from __future__ import annotations
 
-import hashlib
-import os
 import re
 import subprocess
 import sys
 import time
 from pathlib import Path
 
-TOP = Path(__file__).resolve().parent.parent
-sys.path.insert(0, str(TOP / "tools"))
-import prove  # noqa: E402
+import edits
+import prove
+from edits import TOP, sources, sum_of
 
-PARTS = ("src", "specs", "proofs")
 SHOWN = 15
 SECONDS = "60"
 TEST = re.compile(rb"#\[test\]")
-
-
-def sum_of(files, *more):
-    """One sum of some files, by path and content, and of more; it is the same wherever the repository lies."""
-    total = hashlib.sha256(repr(more).encode())
-    for it in files:
-        total.update(repr((os.path.relpath(it, TOP) if TOP in it.parents else it.name, it.read_bytes())).encode())
-    return total.hexdigest()
-
-
-def sources(name):
-    """The files that the crate is proved from."""
-    folder = TOP / "crates" / name
-    return sorted(it for part in PARTS for it in (folder / part).glob("**/*") if it.is_file())
 
 
 def ran(words, folder):
@@ -51,9 +35,7 @@ def tested(kit, name):
     """Whether the crate's tests pass, and what was printed: those built before where nothing has changed since."""
     folder = TOP / "crates" / name
     program, passed = folder / "out" / f"{name}_tests", folder / "out" / "tests-passed"
-    below = prove.with_those_below([name])
-    files = [file for it in below for file in sources(it)]
-    wanted = sum_of([kit / "KIT-ID", *files], [(it, prove.uses()[it]) for it in below])
+    wanted = edits.crate_sum(kit, name)
     if program.is_file() and passed.is_file() and passed.read_text() == f"{wanted} {sum_of([program])}":
         return ran([kit / "bin" / "rattle-test", "--seconds", SECONDS, program], folder)
     passed.unlink(missing_ok=True)
@@ -83,6 +65,7 @@ def passes(kit, name):
 def main(kit):
     outcomes = [passes(Path(kit), it) for it in prove.with_those_below(prove.uses())]
     failed = outcomes.count(False) + (not outcomes)
+    print(f"must-fail edits: {len(edits.stale(kit))} of {len(edits.names())} have no line in tests/edits-tried that holds, and ./test would try them")
     print(f"{outcomes.count(True)} passed, {failed} failed")
     return 1 if failed else 0
 

@@ -1,0 +1,90 @@
+"""The must-fail edits, and the record of those that a clause refused: tests/edits-tried.
+
+What becomes of an edit follows from its text, its crate, what lies below the crate, and the kit. So a line of the
+record has the edit's name and one sum of all these, and the edit need not be tried again while its sum is the same.
+A line is written where a run saw the edit refused. A tenth of those that need not be tried are tried all the same,
+another tenth each day, so that a line that is wrong comes out.
+"""
+from __future__ import annotations
+
+import hashlib
+import os
+import sys
+import time
+from pathlib import Path
+
+TOP = Path(__file__).resolve().parent.parent
+sys.path.insert(0, str(TOP / "tools"))
+import prove  # noqa: E402
+
+RECORD = TOP / "tests" / "edits-tried"
+PARTS = ("src", "specs", "proofs")
+TENTHS = 10
+SECONDS_A_DAY = 86_400
+
+
+def sum_of(files, *more):
+    """One sum of some files, by path and content, and of more; it is the same wherever the repository lies."""
+    total = hashlib.sha256(repr(more).encode())
+    for it in files:
+        total.update(repr((os.path.relpath(it, TOP) if TOP in it.parents else it.name, it.read_bytes())).encode())
+    return total.hexdigest()
+
+
+def sources(name):
+    """The files that the crate is proved from."""
+    folder = TOP / "crates" / name
+    return sorted(it for part in PARTS for it in (folder / part).glob("**/*") if it.is_file())
+
+
+def crate_sum(kit, name):
+    """One sum of all that the crate's proof rests on: its files, those of the crates below, and the kit."""
+    below = prove.with_those_below([name])
+    files = [file for it in below for file in sources(it)]
+    return sum_of([Path(kit) / "KIT-ID", *files], [(it, prove.uses()[it]) for it in below])
+
+
+def names():
+    """All edits, as `crate/name.edit`, by crate and name."""
+    crates = [it for it in prove.with_those_below(prove.uses())]
+    return [f"{crate}/{it.name}" for crate in crates for it in sorted((TOP / "crates" / crate / "must-fail").glob("*.edit"))]
+
+
+def path_of(name):
+    crate, _, edit = name.partition("/")
+    return TOP / "crates" / crate / "must-fail" / edit
+
+
+def sums(kit):
+    """Each edit with its sum."""
+    found = names()
+    of_crates = {crate: crate_sum(kit, crate) for crate in {it.partition("/")[0] for it in found}}
+    return {it: sum_of([path_of(it)], of_crates[it.partition("/")[0]]) for it in found}
+
+
+def recorded():
+    """The lines of the record: the sum at which each edit was refused. A line that is none counts for nothing."""
+    lines = RECORD.read_text(encoding="utf-8").splitlines() if RECORD.is_file() else []
+    return dict(words for words in map(str.split, lines) if len(words) == 2)
+
+
+def stale(kit):
+    """The edits that have no line in the record, or one with another sum."""
+    found = recorded()
+    return [name for name, sum in sums(kit).items() if found.get(name) != sum]
+
+
+def of_the_day(day=None):
+    """The tenth of all edits that is tried today. They stand side by side, so most share the check that they begin with."""
+    day = int(time.time()) // SECONDS_A_DAY if day is None else day
+    found = names()
+    return [it for at, it in enumerate(found) if at * TENTHS // len(found) == day % TENTHS]
+
+
+def write(refused, others):
+    """Writes a line for each edit that was refused, with its sum; those of others that were tried go, and of edits that are gone."""
+    kept = {it: sum for it, sum in recorded().items() if it not in others and path_of(it).is_file()}
+    kept.update(refused)
+    new = RECORD.with_name(f"{RECORD.name}.new")
+    new.write_text("".join(f"{it} {kept[it]}\n" for it in sorted(kept)), encoding="utf-8")
+    new.replace(RECORD)
