@@ -208,6 +208,27 @@ def gate_that_passes(kit):
         yield f"it ended with {status}, called {kit.calls()} and printed {output[-400:]!r}"
 
 
+def kept_for_the_next(kit):
+    """What a first use leaves of its proofs is one packed file a crate, which the next build unpacks; other kept work stays."""
+    keeps = 'printf "%s %s\\n" "$(basename "$PWD")" "$(cat out/incremental/proof 2>/dev/null)" >>"$kit/found"; mkdir -p out/incremental out/rlib'
+    kit.has_rt_do(f"{keeps}; printf proved >out/incremental/proof; {WELL}")
+    outs = [kit.repository / "crates" / name / "out" for name in ("low", "panad")]
+    (outs[0] / "incremental").mkdir(parents=True)
+    (outs[0] / "incremental" / "proof").write_text("checked")
+    for wanted in ("low checked|panad", "low proved|panad proved"):
+        (kit.repository / "crates" / "panad" / "src" / "more.rt").write_text(f"// {wanted}\n")
+        status, output, error = kit.run("./panad", "run")
+        found = "|".join(it.strip() for it in (kit.kit / "found").read_text().splitlines()[-2:])
+        if (status, output, found) != (0, "answers\n", wanted):
+            yield f"it ended with {status}, {output!r}, {error!r}, and found {found}"
+        left = [sorted(it.name for it in out.iterdir()) for out in outs]
+        if left != [["incremental", "rlib"], ["built-for-the-program", "kept-work.tgz", "panad"]]:
+            yield f"the folders out/ have {left}"
+    kit.run("./test", "quick")
+    if not (outs[1] / "incremental").is_dir() or (outs[1] / "kept-work.tgz").exists():
+        yield "./test quick doesn't unpack it"
+
+
 def text_first(kit):
     """./test and ./test quick end where a check that takes seconds fails, and prove nothing."""
     (kit.repository / "tests" / "check_repository.py").write_text("print('0 passed, 1 failed')\nraise SystemExit(1)\n")
@@ -341,8 +362,8 @@ def passes(check):
     return not found
 
 
-CHECKS = (other_arguments, first_use, on_a_terminal, failed_proof, interrupted, ended_alone, gate_that_passes, quick, text_first, how_long)
-CHECKS += (untried_edits, stale_edits, wrong_record, edits_not_refused, edits_of_failed_crates, all_edits)
+CHECKS = (other_arguments, first_use, on_a_terminal, failed_proof, interrupted, ended_alone, gate_that_passes, quick)
+CHECKS += (kept_for_the_next, text_first, how_long, untried_edits, stale_edits, wrong_record, edits_not_refused, edits_of_failed_crates, all_edits)
 
 
 def main():

@@ -16,6 +16,7 @@ import time
 from pathlib import Path
 
 import edits
+import kept_work
 import prove
 from edits import TOP, sources, sum_of
 
@@ -48,6 +49,9 @@ def tested(kit, name):
 def passes(kit, name):
     """Whether the crate is proved and its tests pass; prints its line, and the end of what rt printed where not."""
     start = time.monotonic()
+    out = TOP / "crates" / name / "out"
+    kept_work.unpack(out)
+    (out / kept_work.MARK).unlink(missing_ok=True)
     has_tests = any(TEST.search(it.read_bytes()) for it in sources(name))
     is_program = (TOP / "crates" / name / "src" / "main.rt").is_file()
     words = ["run", "--", "run"] if is_program else ["lib"]

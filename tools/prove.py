@@ -4,7 +4,7 @@
 usage: prove.py RT LOG
 RT is the kit's command rt; all that it prints goes to the file LOG. On standard error stands how far it is: on a
 terminal one line that changes, elsewhere a line for each crate. Each crate's proofs are kept in its folder out/, so
-a run that is interrupted is gone on with by the next.
+a run that is interrupted is gone on with by the next. Once the program is built they are packed (kept_work.py).
 """
 from __future__ import annotations
 
@@ -17,6 +17,8 @@ import sys
 import time
 from dataclasses import dataclass
 from pathlib import Path
+
+import kept_work
 
 TOP = Path(__file__).resolve().parent.parent
 PROGRAM = "panad"
@@ -133,15 +135,19 @@ def main(rt, log):
     for it in (signal.SIGTERM, signal.SIGHUP):
         signal.signal(it, signal.default_int_handler)
     names = with_those_below([PROGRAM])
+    outs = {it: TOP / "crates" / it / "out" for it in names}
     progress = Progress(len(names))
     try:
+        kept_work.each(kept_work.unpack, outs.values())
         with open(log, "w", encoding="utf-8") as log:
             for name in names:
                 progress.begin(name)
+                kept_work.mark(outs[name])
                 is_built = build(rt, name, log, progress)
                 progress.end(is_built)
                 if not is_built:
                     return 1
+        kept_work.each(kept_work.pack, outs.values())
     except KeyboardInterrupt:
         progress.clear()
         print("panad: interrupted; what is proved is kept, and the next start goes on from there", file=sys.stderr)
