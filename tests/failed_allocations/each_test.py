@@ -1,8 +1,9 @@
 #!/usr/bin/env python3
-"""Runs the tests of the given modules of pana_tests with the Nth allocation failing, for N = 1, 2, .. until none fails.
+"""Runs the tests of the given modules with the Nth allocation failing, for N = 1, 2, .. until none fails.
 
 usage: each_test.py MODULE..
 
+A module stands in one of the crates OF_TESTS, as src/MODULE.rt; one that stands in none of them has failed.
 A test passes with no failed allocation. With one it ends with an error that says so, AllocError, AllocFailed
 or OutOfMemory: not with another answer, a failed assertion or a crash. A test of STARTS_THREADS may also pass: a
 thread that can't be made, as memory runs out, is done without. What a test leaves in the folder for temporary files
@@ -22,7 +23,8 @@ from pathlib import Path
 
 import failing
 
-PROGRAM = Path(__file__).resolve().parents[2] / "crates/pana_tests/out/pana_tests_tests"
+CRATES = Path(__file__).resolve().parents[2] / "crates"
+OF_TESTS = ("pana_clock_tests", "pana_hall_tests", "pana_desk_tests")
 PROCESSES = 4
 SECONDS = 60
 SHOWN = 5
@@ -32,18 +34,30 @@ LISTED = re.compile(r"^(\S+): test$", re.MULTILINE)
 OUT_OF_MEMORY = re.compile(rb"error: (AllocError|AllocFailed \{ \.\. \}|OutOfMemory|Kind\(OutOfMemory\))\nthe test failed: its result gives status 1\n")
 
 
-def run(test, library, at):
+class NoModule(Exception):
+    """No crate of tests has a module of this name."""
+
+
+def program_of(module):
+    """The built tests of the crate that has the module, or NoModule."""
+    for crate in OF_TESTS:
+        if (CRATES / crate / "src" / f"{module}.rt").is_file():
+            return CRATES / crate / "out" / f"{crate}_tests"
+    raise NoModule(f"none of {', '.join(OF_TESTS)} has src/{module}.rt")
+
+
+def run(program, test, library, at):
     """Runs the test with allocation number `at` failing (0: none): its status, standard error, allocations, failed ones."""
     with failing.Report() as report:
         environment = {**report.environment(library, at), "TMPDIR": str(Path(library).parent)}
-        ended = subprocess.run([PROGRAM, test], env=environment, pass_fds=[report.number], capture_output=True, timeout=SECONDS)
+        ended = subprocess.run([program, test], env=environment, pass_fds=[report.number], capture_output=True, timeout=SECONDS)
         return (ended.returncode, ended.stderr, *report.counts())
 
 
-def fault_of(test, library, at):
+def fault_of(program, test, library, at):
     """What is wrong with a run in which allocation number `at` fails, or None."""
     try:
-        status, error, _, failed = run(test, library, at)
+        status, error, _, failed = run(program, test, library, at)
     except (OSError, subprocess.SubprocessError) as fault:
         return f"allocation {at} failed: {fault}"
     if failed != 1:
@@ -60,14 +74,14 @@ def chosen(allocations):
     return sorted({1 + at * (allocations - 1) // (min(allocations, MOST) - 1 or 1) for at in range(min(allocations, MOST))})
 
 
-def faults_of(test, library):
+def faults_of(program, test, library):
     """How many allocations of the test failed, and what went wrong."""
-    status, error, allocations, _ = run(test, library, 0)
+    status, error, allocations, _ = run(program, test, library, 0)
     if status:
         return 0, [f"{test}: with no failed allocation it ended with status {status} and {error[:200]!r}"]
     numbers = chosen(allocations)
     with ProcessPoolExecutor(PROCESSES) as pool:
-        faults = pool.map(fault_of, *([it] * len(numbers) for it in (test, library)), numbers, chunksize=8)
+        faults = pool.map(fault_of, *([it] * len(numbers) for it in (program, test, library)), numbers, chunksize=8)
         return len(numbers), [f"{test}: {it}" for it in faults if it]
 
 
@@ -75,12 +89,15 @@ def sweep(module, library):
     """Sweeps the tests of one module: how many allocations failed, and whether all was as it must be."""
     failed, faults = 0, []
     try:
-        listed = subprocess.run([PROGRAM, "--list"], capture_output=True, text=True, timeout=SECONDS, check=True)
+        program = program_of(module)
+        listed = subprocess.run([program, "--list"], capture_output=True, text=True, timeout=SECONDS, check=True)
         tests = [it for it in LISTED.findall(listed.stdout) if it.startswith(f"{module}::")]
         for test in tests:
-            more, wrong = faults_of(test, library)
+            more, wrong = faults_of(program, test, library)
             failed += more
             faults += wrong
+    except NoModule as fault:
+        tests, faults = [], [str(fault)]
     except (OSError, subprocess.SubprocessError) as fault:
         tests, faults = [], [f"its tests could not run: {fault}"]
     if not failed and not faults:

@@ -1,0 +1,51 @@
+use pana_copies::{CopyPath, CopyTable, DeviceName, NameFault, Place};
+use std::alloc::Global;
+use std::test::Fail;
+
+/// The place of the notes on this device.
+fn notes(alloc: Global, device: &str) -> Result<Place, NameFault> {
+    Ok(Place {
+        device: DeviceName::new(device)?,
+        path: CopyPath::new(alloc, "work/notes.txt")?,
+    })
+}
+
+/// Keeps a copy on a device, unless it is kept already or its place is another's: whether it did.
+fn keep(alloc: Global, table: &mut CopyTable, copy: u64, device: &str) -> Result<bool, Fail> {
+    let place = notes(alloc, device)?;
+    if table.get(copy).is_some() || table.at(&place).is_some() {
+        return Ok(false);
+    }
+    table.reserve()?;
+    table.insert(copy, 1, place);
+    Ok(true)
+}
+
+#[test]
+fn copies_are_kept_at_places(rt: HostRuntime) -> Result<(), Fail> {
+    let alloc = rt.alloc();
+    let mut table = CopyTable::new(alloc);
+    for (copy, device, is_new) in [(1, "desk", true), (2, "phone", true), (3, "phone", false)] {
+        assert_eq!(rt; keep(alloc, &mut table, copy, device)?, is_new);
+    }
+    assert_eq!(rt; table.len(), 2);
+    let place = notes(alloc, "phone")?;
+    assert_eq!(rt; table.at(&place), Some(2));
+    Ok(())
+}
+
+#[test]
+fn a_place_is_copied(rt: HostRuntime) -> Result<(), Fail> {
+    let place = notes(rt.alloc(), "laptop")?;
+    let copy = place.copy_of()?;
+    assert!(rt; copy == place);
+    Ok(())
+}
+
+#[test]
+fn a_name_prints_as_text(rt: HostRuntime) -> Result<(), Fail> {
+    let name = DeviceName::new("laptop")?;
+    let text = format!(in rt.alloc(); "{name:?}")?;
+    assert_eq!(rt; text.as_str(), "DeviceName { text: \"laptop\" }");
+    Ok(())
+}

@@ -1,0 +1,21 @@
+//! The tests of the clocks, families, names, places and kept lines: what no clause says of their calls.
+#![tactic(auto)]
+
+#[cfg(test)]
+mod copies;
+#[cfg(test)]
+mod event;
+#[cfg(test)]
+mod family;
+#[cfg(test)]
+mod id;
+#[cfg(test)]
+mod keep;
+#[cfg(test)]
+mod notation;
+#[cfg(test)]
+mod rel;
+#[cfg(test)]
+mod stamp;
+#[cfg(test)]
+mod text;

@@ -1,5 +1,0 @@
-//! Lines: what is read, what is written, and sessions.
-
-mod reading;
-mod serving;
-mod writing;
