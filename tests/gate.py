@@ -68,13 +68,13 @@ class Processors(threading.Thread):
         running = {}
         for it in Path("/proc").glob("[0-9]*"):
             try:
-                name, _, rest = (it / "stat").read_text().partition("(")[2].rpartition(")")
-                fields = rest.split()
-                running[int(it.name)] = name, int(fields[1]), fields[19], int(fields[11]) + int(fields[12])
+                fields = (it / "stat").read_text().rpartition(")")[2].split()
+                is_prover = os.path.basename(os.readlink(it / "exe")) == "rattle"
+                running[int(it.name)] = is_prover, int(fields[1]), fields[19], int(fields[11]) + int(fields[12])
             except (OSError, ValueError, IndexError):
                 continue
-        for number, (name, _, start, ticks) in running.items():
-            if name == "rattle" and self.is_below(number, running):
+        for number, (is_prover, _, start, ticks) in running.items():
+            if is_prover and self.is_below(number, running):
                 self.taken[number, start] = ticks
                 self.kinds.setdefault((number, start), self.kind_of(number))
 
