@@ -17,6 +17,7 @@ from daemon import SECONDS, Daemon, differs, line_of, run_checks
 
 SESSIONS = 16
 WAIT = 0.02
+WINDOWS = 25
 GOOD_END = (0, b"", b"")
 REQUESTS = (
     b"POST / HTTP/1.1\r\nHost: 127.0.0.1\r\nContent-Type: text/plain\r\n\r\n",
@@ -71,6 +72,36 @@ def roots(program, room):
         daemon.tick()
         yield from differs(until([("a", 2)], lambda: paths_on(daemon, "usb")), [("a", 2)])
         yield from differs(paths_on(daemon, "gone"), [])
+
+
+def each_root(program, room):
+    """Of two roots each is scanned at the start and at each newline, and its files are reported as its device's."""
+    for name in ("usb", "desk"):
+        (room / name).mkdir()
+        (room / name / f"on-{name}").write_text(name)
+    with Daemon(program, f"usb={room}/usb", f"desk={room}/desk") as daemon:
+        look = lambda: [[path for path, _ in paths_on(daemon, it)] for it in ("usb", "desk")]
+        wanted = [["on-usb"], ["on-desk"]]
+        yield from differs(until(wanted, look), wanted)
+        for name in ("usb", "desk"):
+            appear(room / name / "more", name)
+        daemon.tick()
+        wanted = [["on-usb", "more"], ["on-desk", "more"]]
+        yield from differs([sorted(it) for it in until(wanted, look)], [sorted(it) for it in wanted])
+
+
+def sent_together(program, _):
+    """Lines that are sent together are answered at once: their answers don't wait for the client's acknowledgements."""
+    with Daemon(program) as daemon, daemon.client() as client:
+        took = []
+        for _ in range(WINDOWS):
+            begun = time.monotonic()
+            client.send(line_of("x", "families") * 16)
+            for _ in range(16):
+                yield from differs(client.answer(), {"families": []})
+            took.append(time.monotonic() - begun)
+        # Held back, they would take 40 ms a window.
+        yield from differs(sorted(took)[WINDOWS // 2] < 0.02, True)
 
 
 def reported_by_hand(program, room):
@@ -286,7 +317,7 @@ def times_of(process):
     return int(fields[11]) + int(fields[12])
 
 
-CHECKS = (roots, reported_by_hand, gone_in_a_line, reset_by_clients, never_reads, requests, faulty_lines, ports)
+CHECKS = (roots, each_root, sent_together, reported_by_hand, gone_in_a_line, reset_by_clients, never_reads, requests, faulty_lines, ports)
 CHECKS += (bad_roots, ends, last_newlines, one_more, writes, idle)
 
 
