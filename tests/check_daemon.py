@@ -11,29 +11,33 @@ import struct
 import subprocess
 import sys
 import time
-from pathlib import Path
 
-from daemon import SECONDS, Daemon, differs, line_of, run_checks
+from daemon import SECONDS, WAIT, Daemon, differs, line_of, run_checks, times_of, until
 
 SESSIONS = 16
-WAIT = 0.02
 WINDOWS = 25
 GOOD_END = (0, b"", b"")
-REQUESTS = (
-    b"POST / HTTP/1.1\r\nHost: 127.0.0.1\r\nContent-Type: text/plain\r\n\r\n",
-    b"GET / HTTP/1.1\r\n\r\n",
-    b"OPTIONS * HTTP/1.1\r\n\r\n",
-    b"A \n",
-)
 REPORT = line_of("page", "register", device="page", path="page.txt")
 
 
-def until(wanted, look):
-    """What a look gives at last: what is wanted, or after a while something else."""
-    end = time.monotonic() + SECONDS
-    while (got := look()) != wanted and time.monotonic() < end:
-        time.sleep(WAIT)
-    return got
+def client_hello(ticket):
+    """What a browser begins an https connection with, where it has this session ticket."""
+    extension = struct.pack(">HH", 0x23, len(ticket)) + ticket
+    body = b"\x03\x03" + bytes(32) + b"\x00" + b"\x00\x02\x13\x01" + b"\x01\x00" + struct.pack(">H", len(extension)) + extension
+    hello = b"\x01" + struct.pack(">I", len(body))[1:] + body
+    return b"\x16\x03\x01" + struct.pack(">H", len(hello)) + hello
+
+
+# What begins no session, each with a report behind it.
+OTHERS = (
+    b"POST / HTTP/1.1\r\nHost: 127.0.0.1\r\nContent-Type: text/plain\r\n\r\n" + REPORT,
+    b"GET / HTTP/1.1\r\n\r\n" + REPORT,
+    b" \t\rGET\n" + REPORT,
+    b"\n" + REPORT,
+    b"[]\n" + REPORT,
+    b"\x00" + REPORT,
+    client_hello(b"\n" + REPORT),
+)
 
 
 def ended(*words, **how):
@@ -164,35 +168,41 @@ def never_reads(program, _):
             yield from differs(other.ask("other", "edit", copy=1), {"done": 2})
 
 
-def requests(program, _):
-    """A request of a web page is closed: it gets no byte and makes no call, also where its body holds lines."""
+def other_streams(program, _):
+    """A connection whose first byte that isn't a blank isn't `{` is closed: it gets no byte and makes no call."""
     with Daemon(program) as daemon:
-        for request in REQUESTS:
-            with daemon.client() as page:
-                page.send(request + REPORT)
-                yield from differs(page.rest(), b"")
-        with daemon.client() as page:
-            for byte in b"POST ":
-                page.send(bytes([byte]))
-                time.sleep(WAIT)
-            yield from differs(page.rest(), b"")
+        for stream in OTHERS:
+            with daemon.client() as other:
+                other.send(stream)
+                yield from differs(other.rest(), b"")
+        for start in (b"POST ", b"   \r\t P"):
+            with daemon.client() as other:
+                for byte in start:
+                    try:
+                        other.send(bytes([byte]))
+                    except OSError:
+                        break
+                    time.sleep(WAIT)
+                yield from differs(other.rest(), b"")
         yield from differs(daemon.ask("x", "journal", **{"from": 1}), {"entries": []})
 
 
 def faulty_lines(program, _):
-    """Lines that begin with capitals and no blank, with a blank, or with a newline are faulty lines, and answered."""
+    """Lines of a session that begin with capitals, with a blank, or with a newline are faulty lines, and answered."""
     with Daemon(program) as daemon:
-        for first in (b"GET\n", b" GET / HTTP/1.1\r\n", b"\n", b"POST\t/\n", b"get / HTTP/1.1\r\n"):
+        for later in (b"GET\n", b" GET / HTTP/1.1\r\n", b"\n", b"POST\t/\n", b"get / HTTP/1.1\r\n", b"\x16\x03\n"):
             with daemon.client() as client:
-                client.send(first + REPORT)
+                client.send(b" \t\r " + line_of("x", "families") + later + REPORT)
                 client.end_input()
+                yield from differs("families" in client.answer(), True)
                 yield from differs(client.answer(), {"fault": "NotJson"})
                 yield from differs(set(client.answer()) <= {"done", "code", "copy", "refused"}, True)
                 yield from differs(client.rest(), b"")
-        with daemon.client() as client:
-            client.send(b"GET")
-            client.end_input()
-            yield from differs(client.rest(), b'{"fault":"NotJson"}\n')
+        for only in (b"{", b"{\n", b" {GET"):
+            with daemon.client() as client:
+                client.send(only)
+                client.end_input()
+                yield from differs(client.rest(), b'{"fault":"NotJson"}\n')
 
 
 def ports(program, _):
@@ -230,8 +240,8 @@ def bad_roots(program, room):
         yield from differs(daemon.ended(), GOOD_END)
 
 
-def ends(program, _):
-    """It ends with status 0 after its sessions and the end of standard input, whichever comes first, and not before."""
+def ends(program, room):
+    """It ends with status 0 after its sessions and, where there is a root, the end of standard input, and not before."""
     with Daemon(program, "--sessions", "2") as daemon:
         daemon.end_input()
         first, second = daemon.client(), daemon.client()
@@ -242,12 +252,18 @@ def ends(program, _):
         yield from differs(second.ask("x", "families"), {"families": []})
         second.close()
         yield from differs(daemon.ended(), GOOD_END)
-    with Daemon(program, "--sessions", "1") as daemon:
+    with Daemon(program, "--sessions", "1", f"usb={room}") as daemon:
         daemon.ask("x", "families")
         time.sleep(5 * WAIT)
         yield from differs(daemon.run.poll(), None)
         daemon.end_input()
         yield from differs(daemon.ended(), GOOD_END)
+    for number in (0, 1):
+        # Without a root standard input isn't read, and its end isn't waited for.
+        with Daemon(program, "--sessions", str(number)) as daemon:
+            for _ in range(number):
+                daemon.ask("x", "families")
+            yield from differs(daemon.ended(), GOOD_END)
     with Daemon(program) as daemon:
         daemon.end_input()
         time.sleep(5 * WAIT)
@@ -257,7 +273,7 @@ def ends(program, _):
 
 
 def last_newlines(program, room):
-    """Newlines that came before the end of standard input are scans, also where it ends at once."""
+    """Newlines that came before the end of standard input are followed by a scan, also where it ends at once."""
     (room / "a").write_text("abc")
     with Daemon(program, f"usb={room}", "--sessions", "1") as daemon, daemon.client() as client:
         daemon.run.stdin.write(b"\n" * 10)
@@ -311,13 +327,7 @@ def idle(program, room):
         yield from differs(times_of(daemon.run.pid), before)
 
 
-def times_of(process):
-    """The ticks of processor time that a process has used."""
-    fields = Path(f"/proc/{process}/stat").read_text().rpartition(")")[2].split()
-    return int(fields[11]) + int(fields[12])
-
-
-CHECKS = (roots, each_root, sent_together, reported_by_hand, gone_in_a_line, reset_by_clients, never_reads, requests, faulty_lines, ports)
+CHECKS = (roots, each_root, sent_together, reported_by_hand, gone_in_a_line, reset_by_clients, never_reads, other_streams, faulty_lines, ports)
 CHECKS += (bad_roots, ends, last_newlines, one_more, writes, idle)
 
 

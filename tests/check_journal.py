@@ -7,6 +7,7 @@ With quick fewer kills and cuts are made. The last line is 'N passed, M failed'.
 from __future__ import annotations
 
 import contextlib
+import hashlib
 import json
 import os
 import random
@@ -26,6 +27,7 @@ import scenario
 SECONDS = 60
 NOBODY = 65534
 MOST_LINES = 3000
+DISKS = 20
 HERE = Path(__file__).resolve().parent
 
 
@@ -35,7 +37,16 @@ class Setting:
 
     program: str
     kills: int
-    cuts: range
+    starts: int
+    every: int
+
+    def lengths(self, whole):
+        """To which lengths it is cut: to each, or to some."""
+        return range(0, len(whole) + 1, self.every)
+
+    def bits(self, whole):
+        """Which bits are flipped, each by its byte's place and its number: all, or some."""
+        return [(at, bit) for at in range(len(whole)) for bit in range(8)][:: self.every]
 
 
 def line(by="laptop", **said):
@@ -142,31 +153,123 @@ def made(program, file, edits):
     return entries(program, file, edits + 1)
 
 
+def each_command(program, name):
+    """What `run` and `show` report of a journal that they don't open."""
+    for words in (("run", "--journal", name), ("show", "--journal", name)):
+        yield ran(program, *words, given=REGISTER)
+
+
 def cuts(it, room):
-    """Cut after each of its last bytes, a journal opens with the entries that are whole."""
+    """Cut to each length, a journal opens where its last line is whole, and else is reported and stays as it is."""
     file, cut = room / "journal", room / "cut"
-    all_of = made(it.program, file, 8)
+    all_of = made(it.program, file, 2)
     whole = file.read_bytes()
-    for less in it.cuts:
-        cut.write_bytes(whole[:-less])
-        lines = cut.read_bytes().count(b"\n")
-        behind = len(whole[:-less]) - sum(len(text) for text in whole.splitlines(keepends=True)[:lines])
-        error = b"panad: journal %s: %d bytes behind the last entry were cut off\n" % (os.fsencode(cut), behind)
-        yield from differs(entries(it.program, cut, 9, error if behind else b""), all_of[:lines])
-        yield from differs(answers(it.program, cut, BOARD)[0].get("refused"), None if lines else "UnknownFamily")
+    ends = [0, *(at + 1 for at, byte in enumerate(whole) if byte == 10), len(whole)]
+    for length in it.lengths(whole):
+        cut.write_bytes(whole[:length])
+        if length in ends:
+            lines = max(0, whole[:length].count(b"\n") - 1)
+            yield from differs(entries(it.program, cut, 3), all_of[:lines])
+            yield from differs(answers(it.program, cut, BOARD)[0].get("refused"), None if lines else "UnknownFamily")
+        else:
+            for found in each_command(it.program, cut):
+                yield from differs(found, reported(b"", f"journal {cut}: the last line has no newline"))
+            yield from differs(cut.read_bytes(), whole[:length])
+
+
+def flips(it, room):
+    """With any of its bits flipped, a journal isn't opened, by no command, and stays as it is."""
+    file, other = room / "journal", room / "other"
+    made(it.program, file, 1)
+    whole = file.read_bytes()
+    damaged = 0
+    for at, bit in it.bits(whole):
+        held = bytearray(whole)
+        held[at] ^= 1 << bit
+        other.write_bytes(held)
+        for words in (("run", "--journal"), ("show", "--journal"), ("load",)):
+            status, out, err = ran(it.program, *words, other, given=REGISTER)
+            if (status, out, err.count(b"\n")) != (1, b"", 1):
+                yield f"bit {bit} of byte {at}, {words[0]}: {status} {out!r:.80} {err!r:.80}"
+            damaged += b": Damaged" in err
+        yield from differs(other.read_bytes(), bytes(held))
+    print(f"  {damaged} times it was reported as Damaged")
 
 
 def bytes_behind(it, room):
-    """Random bytes behind the end, or a whole line of an entry, are cut off and counted."""
+    """What a commit in progress may leave behind the end is cut off and counted, and other bytes are reported and stay."""
     file, other = room / "journal", room / "other"
     all_of = made(it.program, file, 3)
     whole = file.read_bytes()
     for length in (1, 2, 50, 5000):
-        for more in (random.randbytes(length), whole[:length], b"\n" * length):
+        for more in (random.randbytes(length), b"\n" * length, whole[1:30]):
             other.write_bytes(whole + more)
             error = b"panad: journal %s: %d bytes behind the last entry were cut off\n" % (os.fsencode(other), len(more))
             yield from differs(entries(it.program, other, 4, error), all_of)
             yield from differs(other.read_bytes(), whole)
+    for more in (b"\n" + whole, b"x" * 1_048_578):
+        other.write_bytes(whole + more)
+        for found in (*each_command(it.program, other), ran(it.program, "load", other)):
+            yield from differs(found, reported(b"", f"journal {other}: not a journal"))
+        yield from differs(other.read_bytes(), whole + more)
+
+
+def names_that_lead_elsewhere(it, room):
+    """Once its name leads to another file, or to none, the journal has failed, and no entry is acknowledged."""
+    for change in (Path.unlink, lambda name: name.rename(room / "moved"), lambda name: (room / "new").rename(name)):
+        file = room / "journal"
+        (room / "new").write_bytes(b"")
+        file.unlink(missing_ok=True)
+        session = Session(it.program, file)
+        yield from differs(session.ask(REGISTER), {"done": 1})
+        change(file)
+        yield from differs(session.ask(EDIT), "nothing")
+        yield from differs(session.end(), reported(b"", "journal failed"))
+
+
+def dumps(it, room):
+    """A dump becomes a journal, whose further lines are sealed; with any bit flipped but in that field's name it isn't loaded."""
+    file, dump = room / "journal", room / "dump"
+    all_of = made(it.program, file, 2)
+    dump.write_bytes(b"".join(json.dumps({"entries": [entry]}, separators=(",", ":")).encode() + b"\n" for entry in all_of))
+    yield from differs(answers(it.program, dump, EDIT), [{"done": 4}])
+    whole = dump.read_bytes()
+    yield from differs(whole.count(b'"sha256":'), 1)
+    name = whole.index(b',"sha256":"')
+    named = range(name, name + 11)
+    for at, bit in it.bits(whole[:-1]):
+        held = bytearray(whole)
+        held[at] ^= 1 << bit
+        dump.write_bytes(held)
+        status, out, err = ran(it.program, "load", dump)
+        if (status, out, err.count(b"\n")) != (1, b"", 1) and at not in named:
+            yield f"bit {bit} of byte {at}: {status} {out!r:.80} {err!r:.80}"
+
+
+def sealed_lines(it, room):
+    """Each line but the first ends with the SHA-256 of all the bytes before its digits, by Python's own."""
+    file = room / "journal"
+    made(it.program, file, 3)
+    whole, at = file.read_bytes().split(b"\0")[0], 0
+    for number, text in enumerate(whole.splitlines(keepends=True)):
+        if number == 0:
+            yield from differs(text, b'{"entries":[],"journal":1}\n')
+        else:
+            start = at + len(text) - 67
+            yield from differs(whole[start : start + 64].decode(), hashlib.sha256(whole[:start]).hexdigest())
+            yield from differs(json.loads(text)["sha256"], whole[start : start + 64].decode())
+        at += len(text)
+
+
+def starts_at_once(it, room):
+    """Of three that start at once on a missing file one has it, and the others report that it is in use."""
+    for number in range(it.starts):
+        file = room / f"journal{number}"
+        started = [Session(it.program, file) for _ in range(3)]
+        found = sorted(session.end() for session in started)
+        used = reported(b"", f"journal {file} is in use")
+        if any(one not in ((0, b"", b""), used) for one in found) or (0, b"", b"") not in found:
+            yield f"{found!r:.300}"
 
 
 class Session:
@@ -230,6 +333,101 @@ def failed_syncs(it, room):
             yield f"sync {number}: {done} were acknowledged behind the first 2, {len(there)} are there"
 
 
+def forgetful_disk(it, room):
+    """Behind any sync that fails for one process, what a later one acknowledges is on the disk that a power cut leaves."""
+    library, file, disk_has, cut = room / "forgetful.so", room / "journal", room / "disk", room / "cut"
+    subprocess.run(["cc", "-shared", "-fPIC", "-o", library, HERE / "forgetful_disk.c"], check=True, timeout=SECONDS)
+    for number in range(1, 16):
+        file.unlink(missing_ok=True)
+        made(it.program, file, 1)
+        shutil.copyfile(file, disk_has)
+        loaded = {**os.environ, "LD_PRELOAD": str(library), "FORGETFUL_DISK": str(disk_has)}
+        found = ran(it.program, "run", "--journal", file, given=EDIT * 4, env={**loaded, "FAILING_SYNC": str(number)})
+        first = [json.loads(text)["done"] for text in found[1].splitlines()]
+        status, out, err = ran(it.program, "run", "--journal", file, given=EDIT * 3, env=loaded)
+        later = [json.loads(text)["done"] for text in out.splitlines()]
+        if status or len(later) != 3:
+            yield f"sync {number}: {status} {err!r}"
+        shutil.copyfile(disk_has, cut)
+        there = len(entries(it.program, cut, 20, None))
+        if there < max([2, *first, *later]):
+            yield f"sync {number}: {first} and then {later} were acknowledged, {there} entries are on the disk"
+
+
+def disk(room, size):
+    """A file system of its own over an image on a small one, whose store has no room for all of it."""
+    store, mounted, image = room / "store", room / "mounted", room / "store" / "image"
+    store.mkdir()
+    mounted.mkdir()
+    subprocess.run(["mount", "-t", "tmpfs", "-o", f"size={size}", "tmpfs", store], check=True, timeout=SECONDS)
+    with image.open("wb") as made_:
+        made_.truncate(8 << 20)
+    subprocess.run(["mkfs.ext4", "-q", "-O", "^has_journal", image], check=True, timeout=SECONDS)
+    subprocess.run(["mount", "-o", "loop", image, mounted], check=True, timeout=SECONDS)
+    return store, mounted
+
+
+def failed_disk(it, room):
+    """What was acknowledged behind a sync that failed for an earlier process is on the disk (where root is at hand)."""
+    if os.geteuid() != 0 or not shutil.which("mkfs.ext4"):
+        print("  not checked: it needs root and mkfs.ext4")
+        return
+    for number in range(DISKS):
+        part = room / str(number)
+        part.mkdir()
+        try:
+            store, mounted = disk(part, 3 << 20)
+        except (OSError, subprocess.SubprocessError) as error:
+            print(f"  not checked: no file system can be mounted here ({error})")
+            return
+        try:
+            acknowledged, found = acknowledged_after_a_failed_disk(it, part, store, mounted)
+        finally:
+            for name in (mounted, store):
+                subprocess.run(["umount", name], check=False, timeout=SECONDS)
+        if found is not None:
+            print(f"  disk {number}: {acknowledged} were acknowledged, {found} are on it")
+            if found < acknowledged:
+                yield f"{acknowledged} were acknowledged, {found} are on the disk"
+            return
+    print(f"  not checked: each of {DISKS} disks has lost what it had synced before")
+
+
+def acknowledged_after_a_failed_disk(it, room, store, mounted):
+    """How many entries were acknowledged, and how many a power cut leaves; none where the disk had lost what it had synced.
+
+    A loop device takes a write that its store has cut short for a whole one, so a sync may succeed that wrote nothing.
+    Such a journal is reported, and isn't touched.
+    """
+    file = mounted / "journal"
+    made(it.program, file, 3)
+    session = Session(it.program, file)
+    with contextlib.suppress(OSError), (store / "filler").open("wb", buffering=0) as filler:
+        while filler.write(b"x" * 4096):
+            pass
+    answer = {"done": 5}
+    while answer != "nothing":
+        answer = session.ask(EDIT)
+    if session.end() != reported(b"", "journal failed"):
+        raise ValueError("a failed sync isn't reported")
+    (store / "filler").unlink()
+    status, out, err = ran(it.program, "run", "--journal", file, given=EDIT * 5)
+    if b"the last line has no newline" in err or b"Damaged" in err:
+        return 0, None
+    if status:
+        raise ValueError(f"it isn't opened: {err!r}")
+    # what a power cut leaves is what the store has: it is read by a mount of a copy
+    copy, again, kept = room / "copy", room / "again", room / "kept"
+    shutil.copyfile(store / "image", copy)
+    again.mkdir()
+    subprocess.run(["mount", "-o", "loop,ro", copy, again], check=True, timeout=SECONDS)
+    try:
+        shutil.copyfile(again / "journal", kept)
+    finally:
+        subprocess.run(["umount", again], check=False, timeout=SECONDS)
+    return json.loads(out.splitlines()[-1])["done"], len(entries(it.program, kept, 500, None))
+
+
 def second_process(it, room):
     """A second process is refused while the first goes on, and the lock goes with the first, however it ends."""
     file = room / "journal"
@@ -260,6 +458,11 @@ def other_files(it, room):
     good = b'{"entries":[{"by":"a","device":"a","do":"register","number":1,"path":"p"}]}\n'
     twice = good + good
     for held, why in (
+        (b'{"name":"x","version":"1.0.0"}', "not a journal"),
+        (b"\0\0\0\x18ftypmp42\0\0\0\0mp42isom", "not a journal"),
+        (b"\0\1\0\0\0\x12\1\0\0\4\0\x20OS/2", "not a journal"),
+        (good[:-1], "the last line has no newline"),
+        (twice[:-40], "the last line has no newline"),
         (b"a photograph\n", "not a journal"),
         (b"{torn}\nwith more\n", "not a journal"),
         (b"\n", "not a journal"),
@@ -273,10 +476,10 @@ def other_files(it, room):
         for words in (("run", "--journal", file), ("show", "--journal", file)):
             yield from differs(ran(it.program, *words, given=REGISTER), reported(b"", f"journal {file}: {why}"))
         yield from differs(file.read_bytes(), held)
-    for name in (room, room / "missing" / "journal", room / "file" / "journal"):
-        yield from differs(ran(it.program, "run", "--journal", name), reported(b"", f"cannot open journal {name}"))
     os.mkfifo(room / "fifo")
-    yield from differs(ran(it.program, "run", "--journal", room / "fifo"), reported(b"", f"cannot open journal {room / 'fifo'}"))
+    for name in (room, room / "missing" / "journal", room / "file" / "journal", room / "fifo"):
+        for found in each_command(it.program, name):
+            yield from differs(found, reported(b"", f"cannot open journal {name}"))
 
 
 def permissions(it, room):
@@ -343,8 +546,27 @@ def main(words):
         print(__doc__, file=sys.stderr)
         return 2
     program, passed, failed = str(Path(words[0]).resolve()), 0, 0
-    setting = Setting(program, 20, range(1, 300, 7)) if words[1:] else Setting(program, 200, range(1, 301))
-    checks = (new_file, other_files, permissions, second_process, full_disk, failed_syncs, bytes_behind, cuts, kills, tables, same_answers)
+    setting = Setting(program, 20, 5, 17) if words[1:] else Setting(program, 200, 30, 1)
+    checks = (
+        new_file,
+        sealed_lines,
+        other_files,
+        permissions,
+        second_process,
+        starts_at_once,
+        full_disk,
+        failed_syncs,
+        forgetful_disk,
+        failed_disk,
+        names_that_lead_elsewhere,
+        bytes_behind,
+        cuts,
+        flips,
+        dumps,
+        kills,
+        tables,
+        same_answers,
+    )
     for check in checks:
         room, since = Path(tempfile.mkdtemp()), time.monotonic()
         try:

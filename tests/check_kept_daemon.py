@@ -17,7 +17,7 @@ import threading
 import time
 from pathlib import Path
 
-from daemon import SECONDS, Broken, Daemon, differs, line_of, pages, run_checks
+from daemon import SECONDS, Broken, Daemon, differs, line_of, pages, run_checks, until
 
 HERE = Path(__file__).resolve().parent
 KILLS = 20
@@ -115,13 +115,11 @@ def full_disk(program, room):
 
 def failed_sync(program, room):
     """A sync that fails ends each session that reports, with no answer; questions work; the file has all that was done."""
-    library, file = room / "failing.so", room / "journal"
-    subprocess.run(["cc", "-shared", "-fPIC", "-o", library, HERE / "failing_sync.c"], check=True, timeout=SECONDS)
-    # Two syncs open a new file, and each report makes two: here the last fails, once the third report is in the file.
-    for number in (7, 8):
+    file = room / "journal"
+    # Four syncs open a new file, and each report makes two: here the last fails, once the third report is in the file.
+    for number in (9, 10):
         file.unlink(missing_ok=True)
-        found = {**os.environ, "LD_PRELOAD": str(library), "FAILING_SYNC": str(number)}
-        with kept(program, file, "--sessions", "4", env=found) as daemon:
+        with kept(program, file, "--sessions", "4", env=failing(room, number)) as daemon:
             with daemon.client() as client:
                 yield from differs([register(client, "a", it) for it in "fg"], [{"done": 1}, {"done": 2}])
                 client.send(line_of("a", "edit", copy=1))
@@ -136,6 +134,59 @@ def failed_sync(program, room):
             yield from differs(daemon.ended(), (1, b"", b"panad: journal failed\n"))
         with kept(program, file) as daemon, daemon.client() as client:
             yield from differs(len(entries(client)) in (2, 3), True)
+
+
+def failing(room, number):
+    """The environment in which the sync with this number fails."""
+    library = room / "failing.so"
+    subprocess.run(["cc", "-shared", "-fPIC", "-o", library, HERE / "failing_sync.c"], check=True, timeout=SECONDS)
+    return {**os.environ, "LD_PRELOAD": str(library), "FAILING_SYNC": str(number)}
+
+
+def ends_for_itself(program, room):
+    """Without --sessions a daemon whose sync fails takes no more clients, and ends with the last of its sessions, in 10 s."""
+    (room / "usb").mkdir()
+    for number, roots in enumerate(([], [f"usb={room}/usb"])):
+        for waits in (False, True):
+            file = room / f"{number}{waits}"
+            with kept(program, file, *roots, env=failing(room, 5)) as daemon:
+                with daemon.client() as asker, daemon.client() as reporter:
+                    yield from differs(asker.ask("x", "families"), {"families": []})
+                    reporter.send(line_of("a", "register", device="a", path="f"))
+                    yield from differs(reporter.rest(), b"")
+                    begun = time.monotonic()
+                    yield from differs("families" in asker.ask("x", "families"), True)
+                    yield from differs(until(True, lambda: is_refused(daemon)), True)
+                    if waits and number:
+                        yield from differs(until(True, lambda: is_closed(asker)), True)
+                    elif waits:
+                        yield from differs(asker.rest(), b"")
+                yield from differs(daemon.ended(), (1, b"", b"panad: journal failed\n"))
+                yield from differs(time.monotonic() - begun < 11, True)
+    with kept(program, room / "stay", "--stay", env=failing(room, 5)) as daemon:
+        with daemon.client() as reporter:
+            reporter.send(line_of("a", "register", device="a", path="f"))
+            yield from differs(reporter.rest(), b"")
+        time.sleep(11)
+        yield from differs("families" in daemon.ask("x", "families"), True)
+        yield from differs(daemon.run.poll(), None)
+
+
+def is_closed(client):
+    """Whether a client that asks again and again gets no answer any more."""
+    try:
+        client.ask("x", "families")
+        return False
+    except (OSError, Broken):
+        return True
+
+
+def is_refused(daemon):
+    try:
+        daemon.client().close()
+        return False
+    except ConnectionError:
+        return True
 
 
 def other_files(program, room):
@@ -155,7 +206,7 @@ def other_files(program, room):
     yield from differs((run.returncode, json.loads(run.stdout)), (0, {"families": []}))
 
 
-CHECKS = (two_starts, killed_under_load, full_disk, failed_sync, other_files)
+CHECKS = (two_starts, killed_under_load, full_disk, failed_sync, ends_for_itself, other_files)
 
 
 if __name__ == "__main__":

@@ -8,9 +8,11 @@ import socket
 import subprocess
 import sys
 import tempfile
+import time
 from pathlib import Path
 
 SECONDS = 30
+WAIT = 0.02
 LISTENING = re.compile(rb"listening 127\.0\.0\.1:(\d+)\n")
 
 
@@ -24,10 +26,14 @@ def line_of(by, do, **fields):
 
 
 class Client:
-    """A connection to the daemon."""
+    """A connection to the daemon, which takes in so many bytes, or as many as the system chooses, before they are read."""
 
-    def __init__(self, port):
-        self.socket = socket.create_connection(("127.0.0.1", port), timeout=SECONDS)
+    def __init__(self, port, room=None):
+        self.socket = socket.socket()
+        if room:
+            self.socket.setsockopt(socket.SOL_SOCKET, socket.SO_RCVBUF, room)
+        self.socket.settimeout(SECONDS)
+        self.socket.connect(("127.0.0.1", port))
         self.socket.setsockopt(socket.IPPROTO_TCP, socket.TCP_NODELAY, 1)
         self.reader = self.socket.makefile("rb")
 
@@ -89,8 +95,8 @@ class Daemon:
         for it in (self.run.stdin, self.run.stdout, self.run.stderr):
             it.close()
 
-    def client(self):
-        return Client(self.port)
+    def client(self, room=None):
+        return Client(self.port, room)
 
     def ask(self, *words, **fields):
         """The answer to a client of its own."""
@@ -118,6 +124,20 @@ def pages(client, by="tester"):
             return
         yield page
         number += len(page["entries"])
+
+
+def until(wanted, look):
+    """What a look gives at last: what is wanted, or after a while something else."""
+    end = time.monotonic() + SECONDS
+    while (got := look()) != wanted and time.monotonic() < end:
+        time.sleep(WAIT)
+    return got
+
+
+def times_of(process):
+    """The ticks of processor time that a process has used."""
+    fields = Path(f"/proc/{process}/stat").read_text().rpartition(")")[2].split()
+    return int(fields[11]) + int(fields[12])
 
 
 def differs(got, wanted):

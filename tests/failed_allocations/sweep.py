@@ -12,12 +12,15 @@ The program may end with 'panad: out of memory' and status 1 in two places: befo
 and where a call was taken whose answer could not be encoded, so never at a faulty line.
 What the queries must show is recorded in a run with no failed allocation, whose other answers must be the
 scenario's output.
+Each session of `run` is swept once more with a journal on disk, a new one for each run, which afterwards has to
+load to as many entries as were answered as done, or one more where the program ended after a call.
 Of a scenario of several runs each is swept by itself: it must end as it says, or, where an allocation
 failed, with status 1, no output, and one of the lines of the file sweep on standard error.
 The last line is 'N passed, M failed', one for each scenario swept.
 """
 from __future__ import annotations
 
+import json
 import os
 import signal
 import subprocess
@@ -25,7 +28,7 @@ import sys
 import tempfile
 from collections import Counter
 from concurrent.futures import ProcessPoolExecutor
-from dataclasses import dataclass
+from dataclasses import dataclass, replace
 from pathlib import Path
 
 HERE = Path(__file__).resolve().parent
@@ -65,9 +68,13 @@ class Session:
     library: str
     queries: list[bytes]
     steps: list[Step]
+    is_kept: bool = False
 
     def judge(self, talk):
-        return talk_through(talk, self)
+        kind, done = talk_through(talk, self)
+        if self.is_kept:
+            want_kept(self, talk.journal, done, kind == "ended the program after a call")
+        return kind
 
 
 @dataclass(frozen=True)
@@ -78,6 +85,7 @@ class Single:
     library: str
     run: scenario.Run
     last_words: list[bytes]
+    is_kept = False
 
     def judge(self, talk):
         return judge_single(talk, self)
@@ -96,9 +104,11 @@ def stop_hanging(*_):
 class Talk:
     """A run of the program with one failing allocation (0: none), line by line, that ends after SECONDS at most."""
 
-    def __init__(self, command, library, at):
+    def __init__(self, command, library, at, journal=None):
         self.report = failing.Report()
-        self.held = b""
+        self.held, self.journal = b"", journal
+        if journal:
+            command = [*command, "--journal", journal]
         pipes = {"stdin": subprocess.PIPE, "stdout": subprocess.PIPE, "stderr": subprocess.PIPE, "bufsize": 0}
         environment = self.report.environment(library, at)
         self.program = subprocess.Popen(command, env=environment, cwd="/", pass_fds=[self.report.number], **pipes)
@@ -166,17 +176,35 @@ def want_same_state(talk, plan, step):
         want(f"after OutOfMemory at {clipped(step.line)} the answer to {clipped(query)}", shown, talk.ask(query))
 
 
+def want_kept(plan, journal, done, may_have_more):
+    """Holds a journal to the number of entries that were acknowledged."""
+    if not os.path.exists(journal) and done == 0:
+        return
+    pages = b"".join(b'{"by":"x","do":"journal","from":%d}\n' % at for at in range(1, done + 2, 100))
+    words = [*plan.command, "--journal", journal]
+    read = subprocess.run(words, input=pages, capture_output=True, timeout=SECONDS, check=False)
+    want("what opening the journal reports", (0, b""), (read.returncode, read.stderr.partition(b" bytes behind")[0] if may_have_more else read.stderr))
+    there = sum(len(json.loads(it)["entries"]) for it in read.stdout.splitlines())
+    if there != done and not (may_have_more and there == done + 1):
+        raise Broken(f"{done} reports were answered as done, and the journal has {there}")
+
+
 def judge_end(talk, step, is_first):
     """Judges a program that ended in place of an answer, and returns the kind of that end."""
     if not is_first and step.answer.startswith(b'{"fault"'):
         raise Broken(f"it ended at the faulty line {clipped(step.line)}, which makes no call")
+    if is_first and talk.journal:
+        status, rest, said = talk.end()
+        opening = f"panad: journal {talk.journal}: out of memory\n".encode()
+        want("an end before the first answer", (1, b"", True), (status, rest, said in (LAST_WORDS, opening)))
+        return "ended before the first answer"
     want_end(talk, 1, LAST_WORDS)
     return "ended before the first answer" if is_first else "ended the program after a call"
 
 
 def talk_through(talk, plan):
-    """Sends all lines, judges each answer, and returns what came of the failed allocation."""
-    kind = "left no trace"
+    """Sends all lines, judges each answer, and returns what came of the failed allocation, and how many were done."""
+    kind, done = "left no trace", 0
     for at, step in enumerate(plan.steps):
         answer = talk.ask(step.line)
         if answer == FAULT or answer == REFUSED and not step.answer.startswith(ALLOCATE_NOTHING):
@@ -188,10 +216,11 @@ def talk_through(talk, plan):
         if answer is None:
             if kind == "answered OutOfMemory" or not talk.counts()[1]:
                 raise Broken(f"it ended at {clipped(step.line)}, and no allocation failed for it: {talk.end()}")
-            return judge_end(talk, step, at == 0)
+            return judge_end(talk, step, at == 0), done
         want(f"the answer to {clipped(step.line)}", step.answer, answer)
+        done += answer.startswith(b'{"done"')
     want_end(talk, 0, b"")
-    return kind
+    return kind, done
 
 
 def judge_single(talk, plan):
@@ -208,13 +237,15 @@ def judge_single(talk, plan):
 def failing_run(plan, at):
     """One run with allocation number `at` failing: its allocations, the failed ones, what came of it, and its fault."""
     try:
-        with Talk(plan.command, plan.library, at) as talk:
-            kind, fault = "broke", None
-            try:
-                kind = plan.judge(talk)
-            except Broken as error:
-                fault = str(error)
-            return (*talk.counts(), kind, fault)
+        with tempfile.TemporaryDirectory(prefix="kept-") as room:
+            journal = f"{room}/journal" if plan.is_kept else None
+            with Talk(plan.command, plan.library, at, journal) as talk:
+                kind, fault = "broke", None
+                try:
+                    kind = plan.judge(talk)
+                except (Broken, ValueError, subprocess.SubprocessError) as error:
+                    fault = str(error)
+                return (*talk.counts(), kind, fault)
     except OSError as error:
         return 0, 0, "broke", f"it could not run: {error}"
 
@@ -275,7 +306,8 @@ def plans_of(case, program, library):
     if not case.sweep:
         raise Broken("its file sweep is empty")
     if case.is_session:
-        return [recorded(case, program, library)]
+        plan = recorded(case, program, library)
+        return [plan, replace(plan, is_kept=True)] if plan.command[1:] == ["run"] else [plan]
     if any(run.given or run.source or run.to for run in case.runs):
         raise Broken("a run that is swept has no input, and its output goes to no file")
     last_words = [it + b"\n" for it in case.sweep]

@@ -1,12 +1,18 @@
 //! What no clause says: that calls succeed where memory is there and a device works, what a file of the system gives, and
 //! that the definitions say what is meant, by crashes that are run.
 use pana_keep::{
-    Crash, Device, DeviceFault, FileDevice, Journal, JournalState, KeepFault, MemoryDevice,
-    Recovery, is_whole,
+    Crash, Device, DeviceFault, FileDevice, FileKind, Journal, JournalState, KeepFault,
+    MemoryDevice, Recovery, is_whole,
 };
 use std::alloc::Global;
 use std::fs::{File, OpenOptions};
 use std::test::Fail;
+
+/// A file of the system, by its name.
+fn device_of(rt: &HostRuntime, name: &str, file: File) -> Result<FileDevice, Fail> {
+    let text = String::from_str(rt.alloc(), name)?;
+    Ok(FileDevice::new(rt.clone()?, text, file))
+}
 
 /// What a file stands for after a crash, if it is a journal.
 fn recovered(alloc: Global, file: Vec<u8>) -> Result<Recovery, DeviceFault> {
@@ -43,21 +49,25 @@ fn leaves_either(
 #[test]
 fn torn_ends(rt: HostRuntime) -> Result<(), Fail> {
     let alloc = rt.alloc();
-    let files: [(&[u8], &[u8], usize, bool); 8] = [
-        (b"", b"", 0, true),
-        (b"{1}\n", b"{1}\n", 0, true),
-        (b"{1}\n\0", b"{1}\n", 0, true),
-        (b"{1}\n{2}\n{torn", b"{1}\n{2}\n", 5, true),
-        (b"{1}\n\0torn}\n{3}\n", b"{1}\n", 10, true),
-        (b"{1}\ntorn\n{3}\n", b"{1}\n", 9, false),
-        (b"a photograph", b"", 12, false),
-        (b"\n", b"", 1, false),
+    let files: [(&[u8], &[u8], usize, FileKind); 12] = [
+        (b"", b"", 0, FileKind::Journal),
+        (b"\0\"entries\":[", b"", 11, FileKind::Journal),
+        (b"\0\0\0\x18ftyp", b"", 7, FileKind::Foreign),
+        (b"{1}\n", b"{1}\n", 0, FileKind::Journal),
+        (b"{1}\n\0", b"{1}\n", 0, FileKind::Journal),
+        (b"{1}\n{2}\n{torn", b"{1}\n{2}\n", 5, FileKind::Foreign),
+        (b"{1}\n{\"entr", b"{1}\n", 6, FileKind::Unended),
+        (b"{1}\n\0torn}\n{3}\n", b"{1}\n", 10, FileKind::Journal),
+        (b"{1}\n\0\n{\"entries\":[", b"{1}\n", 13, FileKind::Foreign),
+        (b"{1}\ntorn\n{3}\n", b"{1}\n", 9, FileKind::Foreign),
+        (b"a photograph", b"", 12, FileKind::Foreign),
+        (b"\n", b"", 1, FileKind::Foreign),
     ];
-    for (file, lines, torn, is_journal) in files {
+    for (file, lines, torn, kind) in files {
         let found = recovered(alloc, file.to_vec(alloc)?)?;
         assert_eq!(rt; found.text.as_slice(), lines);
         assert_eq!(rt; found.torn, torn);
-        assert_eq!(rt; found.is_journal, is_journal);
+        assert_eq!(rt; found.kind, kind);
         assert_eq!(rt; is_whole(file), !file.is_empty() && file == lines);
     }
     Ok(())
@@ -69,7 +79,7 @@ fn crashes_of_a_repair_and_a_commit(rt: HostRuntime) -> Result<(), Fail> {
     let file = b"{1}\n\0torn}\n{3}\n".to_vec(alloc)?;
     let mut journal = Journal::new(MemoryDevice::new(alloc, file));
     let found = journal.read(alloc)?;
-    assert!(rt; found.is_journal);
+    assert_eq!(rt; found.kind, FileKind::Journal);
     journal.repair()?;
     assert_eq!(rt; journal.device.calls(), 4);
     let text = b"{2}\n{3}\n";
@@ -98,16 +108,16 @@ fn messages_of_faults(rt: HostRuntime) -> Result<(), Fail> {
 #[test]
 fn files_of_the_system(rt: HostRuntime) -> Result<(), Fail> {
     let alloc = rt.alloc();
-    let mut folder = FileDevice::new(File::open(&rt, "/")?);
+    let mut folder = device_of(&rt, "/", File::open(&rt, "/")?)?;
     assert_eq!(rt; folder.read(alloc).err(), Some(DeviceFault::Failed));
     assert_eq!(rt; folder.cut(0), Err(DeviceFault::Failed));
-    let mut null = FileDevice::new(File::open(&rt, "/dev/null")?);
+    let mut null = device_of(&rt, "/dev/null", File::open(&rt, "/dev/null")?)?;
     assert_eq!(rt; null.read(alloc)?.as_slice(), b"".as_slice());
     assert_eq!(rt; null.write_at(0, b"{"), Err(DeviceFault::Failed));
     assert_eq!(rt; null.sync(), Err(DeviceFault::Failed));
     let full = OpenOptions::new().write(true).open(&rt, "/dev/full")?;
     let mut journal = Journal {
-        device: FileDevice::new(full),
+        device: device_of(&rt, "/dev/full", full)?,
         end: 0,
         state: JournalState::Open,
     };

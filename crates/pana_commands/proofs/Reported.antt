@@ -12,10 +12,12 @@ use Rattle.pana_hall.specs.declared.loading.LoadFault.{LoadFault}
 use Rattle.pana_commands.specs.declared.answer.Answer.{Answer}
 use Rattle.pana_commands.specs.declared.line_fault.LineFault.{LineFault}
 use Rattle.pana_commands.specs.Answered.{Reports, report_line}
-use Rattle.pana_commands.specs.Load.{HasFault, AnswersDump, AnswersEntries, shown_line_fault}
+use Rattle.pana_commands.specs.Load.{HasFault, AnswersDump, AnswersEntries, AnswersLines, shown_line_fault}
+use Rattle.pana_seal.specs.Seal.{IsDamagedAt}
+use Rattle.pana_seal.specs.Shown.{shown_seal_fault}
+use Rattle.pana_seal.specs.declared.seal_fault.SealFault.TheVariants.{Damaged}
 use Rattle.pana_copies.specs.Names.{is_device}
-use Rattle.pana_scan.specs.Disk.{HasCause}
-use Rattle.pana_scan.specs.declared.disk.Disk.{Disk}
+use Rattle.pana_scan.specs.Listing.{Contents}
 use Rattle.pana_scan.specs.declared.scan_fault.ScanFault.{ScanFault}
 use Rattle.pana_scan.specs.Fault.{shown_scan_fault}
 use Rattle.pana_commands.specs.Scan.{AnswersScan, skipped_line}
@@ -75,9 +77,14 @@ load_reported entries fault answer (inl shortage) some says = absurd (some short
 load_reported entries fault answer (inr stops) some says = inr (fault, stops, says (shown_load_fault fault) refl)
 
 -- a line's fault is reported
-pub line_reported : (bytes : List ℕ) (fault : LineFault) (answer : Answer) → HasFault (lines_of bytes) fault
-    → ((text : List ℕ) → Some (shown_line_fault fault) ≡ Some text → Reports text answer) → AnswersDump bytes answer
-line_reported bytes fault answer has says = inr (fault, has, says (shown_line_fault fault) refl)
+pub line_reported : (lines : List (List ℕ)) (fault : LineFault) (answer : Answer) → HasFault lines fault
+    → ((text : List ℕ) → Some (shown_line_fault fault) ≡ Some text → Reports text answer) → AnswersLines lines answer
+line_reported lines fault answer has says = inr (fault, has, says (shown_line_fault fault) refl)
+
+-- a damaged line is reported
+pub damage_reported : (bytes : List ℕ) (number : ℕ) (answer : Answer) → IsDamagedAt (lines_of bytes) number
+    → ((text : List ℕ) → Some (shown_seal_fault (Damaged number)) ≡ Some text → Reports text answer) → AnswersDump bytes answer
+damage_reported bytes number answer damaged says = inr (number, damaged, says (shown_seal_fault (Damaged number)) refl)
 
 -- names were passed over
 pub skipped_report : (skipped : ℕ) → skipped ≢ 0 → codes "panad: " ++ (decimal skipped ++ codes " names skipped\n") ≡ skipped_line skipped
@@ -87,11 +94,11 @@ skipped_report skipped some =
     ∙ ap (λ t. codes "panad: " ++ t) (append_assoc (decimal skipped) (codes " names skipped") (10 ∷ [])))
 
 -- the device's name is none
-pub bad_device_reported : {R : Type 0} (device : List ℕ) (disk : Disk R) (answer : Answer) → is_device device ≡ false
-    → ((text : List ℕ) → Some (codes "BadDevice") ≡ Some text → Reports text answer) → AnswersScan device disk answer
-bad_device_reported device disk answer bad says = inl (bad, says (codes "BadDevice") refl)
+pub bad_device_reported : (device : List ℕ) (scanned : Result Contents ScanFault → Type 0) (answer : Answer) → is_device device ≡ false
+    → ((text : List ℕ) → Some (codes "BadDevice") ≡ Some text → Reports text answer) → AnswersScan device scanned answer
+bad_device_reported device scanned answer bad says = inl (bad, says (codes "BadDevice") refl)
 
 -- the folder can't be scanned
-pub scan_reported : {R : Type 0} (device : List ℕ) (disk : Disk R) (fault : ScanFault) (answer : Answer) → HasCause disk fault
-    → ((text : List ℕ) → Some (shown_scan_fault fault) ≡ Some text → Reports text answer) → AnswersScan device disk answer
-scan_reported device disk fault answer cause says = inr (inr (fault, cause, says (shown_scan_fault fault) refl))
+pub scan_reported : (device : List ℕ) (scanned : Result Contents ScanFault → Type 0) (fault : ScanFault) (answer : Answer) → scanned (Err fault)
+    → ((text : List ℕ) → Some (shown_scan_fault fault) ≡ Some text → Reports text answer) → AnswersScan device scanned answer
+scan_reported device scanned fault answer why says = inr (inr (fault, why, says (shown_scan_fault fault) refl))

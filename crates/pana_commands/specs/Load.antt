@@ -7,6 +7,9 @@ use Rattle.pana_hall.specs.declared.loading.LoadFault.{LoadFault}
 use Rattle.pana_wire.specs.DumpLines.{Say, HasFaultAt}
 use Rattle.pana_wire.specs.Lines.{lines_of}
 use Rattle.pana_wire.specs.Shown.{shown_fault}
+use Rattle.pana_seal.specs.Seal.{IsIntact, IsDamagedAt}
+use Rattle.pana_seal.specs.Shown.{shown_seal_fault}
+use Rattle.pana_seal.specs.declared.seal_fault.SealFault.TheVariants.{Damaged}
 use Rattle.pana_commands.specs.declared.answer.Answer.{Answer}
 use Rattle.pana_commands.specs.declared.line_fault.LineFault.{LineFault}
 use Rattle.pana_commands.specs.Answered.{Prints, Reports}
@@ -25,7 +28,12 @@ abbrev pub AnswersEntries : List Entry → Answer → Type 0
 AnswersEntries entries answer = (IsAccepted 8 entries × Prints (tables_text entries) answer)
     ⊎ ((fault : LoadFault) × StopsAt entries fault × Reports (shown_load_fault fault) answer)
 
--- what is answered to a dump: of its entries, or the first line with a fault
+-- what is answered to lines: of their entries, or the first one with a fault
+abbrev pub AnswersLines : List (List ℕ) → Answer → Type 0
+AnswersLines lines answer = ((entries : List Entry) × Say lines entries × AnswersEntries entries answer)
+    ⊎ ((fault : LineFault) × HasFault lines fault × Reports (shown_line_fault fault) answer)
+
+-- what is answered to a dump: of its lines, which are as they were sealed, or the first damaged one
 abbrev pub AnswersDump : List ℕ → Answer → Type 0
-AnswersDump bytes answer = ((entries : List Entry) × Say (lines_of bytes) entries × AnswersEntries entries answer)
-    ⊎ ((fault : LineFault) × HasFault (lines_of bytes) fault × Reports (shown_line_fault fault) answer)
+AnswersDump bytes answer = (IsIntact (lines_of bytes) × AnswersLines (lines_of bytes) answer)
+    ⊎ ((number : ℕ) × IsDamagedAt (lines_of bytes) number × Reports (shown_seal_fault (Damaged number)) answer)

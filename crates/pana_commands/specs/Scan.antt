@@ -1,12 +1,10 @@
 -- What `scan` answers for a device and a folder.
-use Rattle.std.specs.Prelude.{◌≡◌, ◌⊎◌, ℕ, ◌==◌, false, List, [], ◌∷◌, ◌++◌, codes, decimal, if◌then◌else◌, string_bytes}
+use Rattle.std.specs.Prelude.{◌≡◌, ◌⊎◌, ℕ, ◌==◌, false, List, [], ◌∷◌, ◌++◌, codes, decimal, if◌then◌else◌, string_bytes, Result, Ok, Err}
 use Rattle.std.specs.List.{flat_map}
 use Rattle.pana_copies.specs.Names.{is_device}
-use Rattle.pana_scan.specs.Disk.{HasCause, IsWithin}
 use Rattle.pana_scan.specs.Fault.{shown_scan_fault}
 use Rattle.pana_scan.specs.Listing.{Contents}
 use Rattle.pana_scan.specs.Plan.{plan_of}
-use Rattle.pana_scan.specs.declared.disk.Disk.{Disk}
 use Rattle.pana_scan.specs.declared.scan_fault.ScanFault.{ScanFault}
 use Rattle.pana_scan.specs.declared.step.Step.{Step}
 use Rattle.pana_wire.specs.Report.{report_text}
@@ -26,8 +24,8 @@ abbrev pub PrintsFirstScan : Contents → Answer → Type 0
 PrintsFirstScan listing answer = (string_bytes answer.out ≡ lines_for listing.device (plan_of [] [] listing).steps)
     × (string_bytes answer.err ≡ skipped_line listing.skipped) × (answer.status ≡ 0)
 
--- what is answered, by what came of the disk: that the device is none; the lines of what was found; or why nothing was
-abbrev pub AnswersScan : {R : Type 0} → List ℕ → Disk R → Answer → Type 0
-AnswersScan device disk answer = ((is_device device ≡ false) × Reports (codes "BadDevice") answer)
-    ⊎ ((listing : Contents) × (listing.device ≡ device) × IsWithin disk × PrintsFirstScan listing answer)
-    ⊎ ((fault : ScanFault) × HasCause disk fault × Reports (shown_scan_fault fault) answer)
+-- what is answered, by what is said of the scan: that the device is none; the lines of what was found; or why nothing was
+abbrev pub AnswersScan : List ℕ → (Result Contents ScanFault → Type 0) → Answer → Type 0
+AnswersScan device scanned answer = ((is_device device ≡ false) × Reports (codes "BadDevice") answer)
+    ⊎ ((listing : Contents) × (listing.device ≡ device) × scanned (Ok listing) × PrintsFirstScan listing answer)
+    ⊎ ((fault : ScanFault) × scanned (Err fault) × Reports (shown_scan_fault fault) answer)

@@ -4,7 +4,7 @@ ghost use Rattle.pana_hall.specs.Accepted.{IsAccepted};
 ghost use Rattle.pana_wire.specs.DumpLines.{Say};
 ghost use Rattle.pana_wire.specs.inner.Slices.{texts};
 ghost use Rattle.pana_commands.specs.Answered.{Prints, Reports};
-ghost use Rattle.pana_commands.specs.Load.{AnswersDump, AnswersEntries, HasFault};
+ghost use Rattle.pana_commands.specs.Load.{AnswersDump, AnswersEntries, AnswersLines, HasFault};
 ghost use Rattle.pana_commands.specs.Tables.{tables_text};
 
 use crate::answer::Answer;
@@ -12,6 +12,7 @@ use crate::line_fault::LineFault;
 use crate::tables::tables_of;
 use pana_hall::Hall;
 use pana_journal::EntryList;
+use pana_seal::{SealFault, read_seals};
 use pana_wire::{decode_dump, split_lines};
 use std::alloc::{AllocError, Global};
 
@@ -46,8 +47,18 @@ fn answer_entries(alloc: Global, entries: EntryList) -> Result<Answer, AllocErro
     }
 }
 
-/// The tables of the families of a dump, of which each line is read by itself, or why there are none: the first line
-/// with a fault, or else the first entry that isn't the next one of a journal.
+/// The tables of the journal that these lines are, or why they are none.
+fn answer_lines(alloc: Global, lines: &[&[u8]]) -> Result<Answer, AllocError>
+    ensures { IfOk result (AnswersLines (texts lines.now)) }
+{
+    match entries_in(alloc, lines)? {
+        Ok(entries) => answer_entries(alloc, entries),
+        Err(fault) => Answer::reported(alloc, &fault),
+    }
+}
+
+/// The tables of the families of a dump, of which each line is read by itself, or why there are none: the first line that
+/// isn't as it was sealed, or else the first with a fault, or else the first entry that isn't the next one of a journal.
 ///
 /// # Errors
 ///
@@ -57,8 +68,11 @@ pub fn load_on(alloc: Global, bytes: &[u8]) -> Result<Answer, AllocError>
     ensures { IfOk result (AnswersDump bytes.now) }
 {
     let lines = split_lines(alloc, bytes)?;
-    match entries_in(alloc, lines.as_slice())? {
-        Ok(entries) => answer_entries(alloc, entries),
-        Err(fault) => Answer::reported(alloc, &fault),
+    match read_seals(alloc, lines.as_slice()) {
+        Ok(_) => answer_lines(alloc, lines.as_slice()),
+        Err(SealFault::Damaged { line }) => {
+            Answer::reported(alloc, &SealFault::Damaged { line })
+        }
+        Err(SealFault::OutOfMemory) => Err(AllocError),
     }
 }

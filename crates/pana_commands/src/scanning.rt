@@ -1,6 +1,6 @@
 //! A folder's first scan, as lines.
 ghost use Rattle.std.specs.Prelude.{◌≡◌, ◌++◌, IfOk, string_bytes};
-ghost use Rattle.pana_scan.specs.Disk.{IsFresh};
+ghost use Rattle.pana_scan.specs.Scan.{IsFresh, IsScanned};
 ghost use Rattle.pana_commands.specs.Scan.{AnswersScan, PrintsFirstScan, lines_for, skipped_line};
 
 use crate::answer::Answer;
@@ -9,7 +9,6 @@ use pana_hall::HoldingList;
 use pana_scan::{Baseline, Disk, Listing, ScanFault, Step, Watch, plan, read_root};
 use pana_wire::encode_call;
 use std::alloc::{AllocError, Global};
-use std::fs::Files;
 
 /// The lines by which a device makes the reports of steps.
 fn lines_for(alloc: Global, device: &DeviceName, steps: &[Step]) -> Result<String, AllocError>
@@ -58,15 +57,15 @@ fn answer_listing(alloc: Global, listing: &Listing) -> Result<Answer, AllocError
 /// # Errors
 ///
 /// `AllocError` where an allocation failed.
-pub fn scan_on<R: Files + AllocGlobal + Clone + Drop, W: Watch>(
+pub fn scan_on<D: Disk, W: Watch>(
     alloc: Global,
-    disk: &mut Disk<'_, R>,
+    disk: &mut D,
     device: &str,
     folder: &str,
     watch: &mut W,
 ) -> Result<Answer, AllocError>
-    requires { IsFresh disk.old }
-    ensures { IfOk result (AnswersScan device.now disk.new) }
+    requires { IsFresh (D.has_failed disk.old) (D.entries disk.old) (D.faults disk.old) }
+    ensures { IfOk result (AnswersScan device.now (IsScanned D.is_known (D.tree disk.old) folder.now device.now (D.has_failed disk.new) (D.entries disk.new) (D.faults disk.new))) }
 {
     let Ok(device) = DeviceName::new(device) else {
         return Answer::reported(alloc, &"BadDevice");

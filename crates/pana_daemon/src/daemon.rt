@@ -6,28 +6,34 @@ ghost use Rattle.pana_daemon.specs.Serve.{Ends, passes_of};
 use crate::alarm::Alarm;
 use crate::root::Root;
 use crate::root_folder::RootFolder;
+use crate::running::can_run;
+use crate::standard_input::StandardInput;
 use crate::ticks::Ticks;
-use pana_host::{DeskSession, Scanner, listen, scan_all};
+use pana_host::{DeskSession, Entrance, Scanner, listen, scan_all};
 use pana_turn::{Closed, Desk, DeskHall, Pass};
 use std::alloc::{AllocError, Global};
 use std::marker::Sync;
-use std::net::{SocketAddr, TcpListener};
+use std::net::SocketAddr;
 use std::sync::Wait;
 use std::thread;
 use std::thread::Threads;
+use std::time::Clock;
 
 /// How many sessions are served at a time.
 const SESSIONS: u32 = 16;
 
+/// How many threads there are at most, besides one for each session and for each root: sessions and scanners, and standard
+/// input.
+const OTHERS: u32 = 2;
+
 /// A scanner of a root.
 type RootScanner<'a, 'b, T> = Scanner<'a, T, Alarm<'b>, RootFolder<'a, T>>;
 
-/// Where connections come in: the desk that they are served at, how many are wanted, and who is asked about each call.
+/// Where connections come in, the desk that they are served at, and who is asked about each call.
 #[derive(Drop)]
-struct Front<'d, 'l, 'g, 'r> {
+struct Front<'d, 'g, 'r> {
     desk: &'d Desk,
-    listener: &'l TcpListener,
-    wanted: Option<u64>,
+    entrance: Entrance,
     gate: &'g Alarm<'r>,
 }
 
@@ -38,6 +44,10 @@ pub enum DaemonFault {
     OutOfMemory,
     /// Where it listens can't be printed.
     Write,
+    /// No descriptor is left, before anything is printed.
+    NoDescriptor,
+    /// Not as many threads can be made as it takes.
+    NoThreads,
     /// The file that keeps the journal has failed, and a call had no answer.
     Unanswered,
 }
@@ -46,6 +56,17 @@ impl From<AllocError> for DaemonFault {
     fn from(_error: AllocError) -> DaemonFault {
         DaemonFault::OutOfMemory
     }
+}
+
+/// The alarm that ends all where no number of sessions is wanted and it isn't to stay.
+fn alarm_of<'a>(
+    rt: &'a HostRuntime,
+    entrance: &Entrance,
+    stays: bool,
+) -> Result<Alarm<'a>, DaemonFault> {
+    let ends = entrance.wanted.is_none() && !stays;
+    let listener = if ends { Some(&entrance.listener) } else { None };
+    Alarm::new(rt, listener).map_err(|_| DaemonFault::NoDescriptor)
 }
 
 /// The scanners of the roots, in order, each by the pass at its place.
@@ -91,7 +112,7 @@ fn take_passes<T>(scanners: Vec<RootScanner<'_, '_, T>>, passes: &mut Vec<Pass>)
 }
 
 /// Has the scanners scan until all have ended, and then hands their passes back, in order, for which there is room.
-fn scan<T: Threads + Wait + Sync>(
+fn scan<T: Threads + Wait + Clock + Sync>(
     threads: &T,
     alloc: Global,
     mut scanners: Vec<RootScanner<'_, '_, T>>,
@@ -107,12 +128,13 @@ fn scan<T: Threads + Wait + Sync>(
     back
 }
 
-/// Counts the newlines of standard input, and scans all roots for each, until the input has ended. Then it hands the
-/// scanners' passes back, in order, for which there is room.
-fn scan_by_newlines<T: Threads + Wait + Sync>(
+/// Looks for newlines of standard input, and scans all roots after them, until the input has ended. Then it hands the
+/// scanners' passes back, in order, for which there is room. Where there is no root it doesn't read standard input.
+fn scan_by_newlines<T: Threads + Wait + Clock + Sync>(
     rt: &HostRuntime,
     threads: &T,
     ticks: &Ticks,
+    alarm: &Alarm<'_>,
     scanners: Vec<RootScanner<'_, '_, T>>,
     back: Vec<Pass>,
 ) -> Vec<Pass>
@@ -122,46 +144,48 @@ fn scan_by_newlines<T: Threads + Wait + Sync>(
     ensures capacity { vec_capacity result ≡ vec_capacity back }
 {
     let alloc = rt.alloc();
+    if scanners.is_empty() {
+        return scan(threads, alloc, scanners, back);
+    }
     let (back, ()) = thread::join(
         threads,
         move ||
             requires { (length back.items ≡ 0) × (length scanners.items ≤ vec_capacity back) }
         { scan(threads, alloc, scanners, back) },
-        || ticks.count(threads, &mut rt.reader()),
+        || ticks.count(threads, &mut StandardInput { rt, threads, alarm }),
     );
     back
 }
 
 /// Serves connections as `listen` does, and hands the passes back, in order: with `false`, as they were, where memory ran
 /// out before a connection was taken.
-fn serve_connections<T: Threads + Wait + Sync>(
+fn serve_connections<T: Threads + Wait + Clock + Sync>(
     threads: &T,
     alloc: Global,
-    front: &Front<'_, '_, '_, '_>,
+    front: Front<'_, '_, '_>,
     passes: Vec<Pass>,
 ) -> (bool, Vec<Pass>)
     requires few { length passes.items ≤ 64 }
-    requires of { AreOf front.now.desk.now.id passes.items }
+    requires of { AreOf front.desk.now.id passes.items }
     ensures { HaveGrown passes.items result.1.items }
 {
     let Front {
         desk,
-        listener,
-        wanted,
+        entrance,
         gate,
     } = front;
-    match listen(threads, alloc, desk, listener, passes, *wanted, *gate) {
+    match listen(threads, alloc, desk, entrance, passes, gate) {
         Ok(back) => (true, back),
         Err(back) => (false, back),
     }
 }
 
 /// Serves connections by these passes while the scanners scan, and hands both their passes back, in order.
-fn serve_and_scan<T: Threads + Wait + Sync>(
+fn serve_and_scan<T: Threads + Wait + Clock + Sync>(
     rt: &HostRuntime,
     threads: &T,
     ticks: &Ticks,
-    front: Box<Front<'_, '_, '_, '_>>,
+    front: Box<Front<'_, '_, '_>>,
     others: Vec<Pass>,
     scanners: Vec<RootScanner<'_, '_, T>>,
     back: Vec<Pass>,
@@ -174,34 +198,49 @@ fn serve_and_scan<T: Threads + Wait + Sync>(
     ensures scanned { HaveGrown (passes_of scanners.entry.items) result.1.items }
     ensures capacity { vec_capacity result.1 ≡ vec_capacity back }
 {
-    let alloc = rt.alloc();
+    let (alloc, alarm) = (rt.alloc(), front.gate);
     thread::join(
         threads,
         move || -> (bool, Vec<Pass>)
             requires { (length others.items ≤ 64) × AreOf front.value.desk.now.id others.items }
             ensures { HaveGrown others.items result.1.items }
-        { serve_connections(threads, alloc, &front, others) },
+        { serve_connections(threads, alloc, Box::into_inner(front), others) },
         move ||
             requires { (length back.items ≡ 0) × (length scanners.items ≤ vec_capacity back) }
-        { scan_by_newlines(rt, threads, ticks, scanners, back) },
+        { scan_by_newlines(rt, threads, ticks, alarm, scanners, back) },
     )
 }
 
+/// Prints where it listens, where so many threads can be made.
+fn announce<T: Threads + Wait + Sync>(
+    rt: &HostRuntime,
+    threads: &T,
+    address: &SocketAddr,
+    count: u32,
+) -> Result<(), DaemonFault> {
+    if !can_run(threads, count) {
+        return Err(DaemonFault::NoThreads);
+    }
+    println!(rt; "listening {address}").map_err(|_| DaemonFault::Write)
+}
+
 /// Prints where it listens, and then serves the listener's connections at a desk with this hall, 16 at a time, and scans
-/// the roots: each by a thread of its own, once at the start and once for each newline on standard input. It ends once as
-/// many connections were taken as are wanted and standard input has ended; where no number is given, never. Then it closes
-/// the desk, and returns the hall, with the number of calls that were made.
+/// the roots: each by a thread of its own, at the start and after newlines on standard input. It ends once as many
+/// connections were taken as are wanted, these have ended and, where there is a root, standard input has ended too; where
+/// no number is given, only where the hall's file fails and it isn't to stay: it takes no further connection then, closes
+/// those that are open still after 5 to 10 seconds, and doesn't wait for standard input. Then it closes the desk, and
+/// returns the hall, with the number of calls that were made.
 ///
 /// # Errors
 ///
-/// `OutOfMemory`, before a connection is taken; `Write`; `Unanswered` at the end, where the hall's file has failed. That
-/// is printed once it has.
-pub fn serve<'a, T: Threads + Wait + Sync>(
+/// `OutOfMemory`, before a connection is taken; `NoThreads` and `NoDescriptor`, before anything is printed; `Write`;
+/// `Unanswered` at the end, where the hall's file has failed. That is printed once it has.
+pub fn serve<'a, T: Threads + Wait + Clock + Sync>(
     rt: &'a HostRuntime,
     threads: &'a T,
-    listener: &TcpListener,
     address: &SocketAddr,
-    wanted: Option<u64>,
+    entrance: Entrance,
+    stays: bool,
     roots: &'a [Root<'a>],
     hall: DeskHall,
 ) -> Result<Closed, DaemonFault>
@@ -212,19 +251,18 @@ pub fn serve<'a, T: Threads + Wait + Sync>(
     let (desk, mut passes) = Desk::open_with(alloc, SESSIONS + roots.len() as u32, hall)?;
     let room = Vec::with_capacity(alloc, passes.len())?;
     let others = passes.split_off(roots.len())?;
-    let (ticks, gate) = (Ticks::new(), Alarm::new(rt));
+    let (ticks, gate) = (Ticks::new(), alarm_of(rt, &entrance, stays)?);
     let scanners = scanners(&*rt, &*threads, &desk, &gate, &ticks, &*roots, passes)?;
     // In a box, since of a closure that captures it as it stands `join` passes nothing on.
     let front = Front {
         desk: &desk,
-        listener: &*listener,
-        wanted,
+        entrance,
         gate: &gate,
     };
     let Ok(front) = Box::new(alloc, front) else {
         return Err(DaemonFault::OutOfMemory);
     };
-    println!(rt; "listening {address}").map_err(|_| DaemonFault::Write)?;
+    announce(rt, threads, address, SESSIONS + roots.len() as u32 + OTHERS)?;
     let ((has_listened, mut served), mut back) = serve_and_scan(
         &*rt, &*threads, &ticks, front, others, scanners, room,
     );

@@ -5,6 +5,8 @@ mod alarm;
 mod daemon;
 mod root;
 mod root_folder;
+mod running;
+mod standard_input;
 mod ticks;
 
 pub use crate::daemon::{DaemonFault, serve};

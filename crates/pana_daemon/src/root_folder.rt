@@ -3,17 +3,19 @@
 use crate::root::Root;
 use crate::ticks::Ticks;
 use pana_host::Folder;
-use pana_scan::{Disk, Listing, ScanFault, Unwatched, read_root};
+use pana_scan::{Listing, ScanFault, SystemDisk, Unwatched, read_root};
 use std::sync::Wait;
 
-/// A root's folder, which is scanned at the start and once for each newline of standard input.
+/// A root's folder, which is scanned at the start, and again once a newline of standard input has come since the last
+/// scan began; so newlines that come during a scan are one more.
 #[derive(Drop)]
 pub struct RootFolder<'a, T> {
     rt: &'a HostRuntime,
     threads: &'a T,
     root: &'a Root<'a>,
     ticks: &'a Ticks,
-    scans: u64,
+    /// How many newlines had come when the last scan began; none before the first.
+    seen: Option<u64>,
 }
 
 impl<'a, T> RootFolder<'a, T> {
@@ -29,20 +31,18 @@ impl<'a, T> RootFolder<'a, T> {
             threads,
             root,
             ticks,
-            scans: 0,
+            seen: None,
         }
     }
 }
 
 impl<T: Wait> Folder for RootFolder<'_, T> {
     fn next(&mut self) -> Option<Result<Listing, ScanFault>> {
-        if let Some(before) = self.scans.checked_sub(1) {
-            if !self.ticks.wait_past(self.threads, before) {
-                return None;
-            }
-        }
-        self.scans = self.scans.saturating_add(1);
-        let mut disk = Disk::new(self.rt);
+        self.seen = Some(match self.seen {
+            None => self.ticks.so_far(),
+            Some(seen) => self.ticks.wait_past(self.threads, seen)?,
+        });
+        let mut disk = SystemDisk::new(self.rt);
         Some(read_root(
             self.rt.alloc(),
             &mut disk,

@@ -1,6 +1,6 @@
 //! Newlines of standard input, as those count who wait for them.
 
-ghost use Rattle.std.specs.Prelude.{◌≡◌, ◌==◌, length, filter};
+ghost use Rattle.std.specs.Prelude.{◌≡◌, ◌==◌, ◌<◌, IfSome, length, filter};
 
 use std::io::Read;
 use std::sync::Wait;
@@ -50,15 +50,22 @@ impl Ticks {
         self.word.wake_all();
     }
 
-    /// Waits until more than this many newlines have come, and says whether they have; or that they won't.
-    pub fn wait_past<T: Wait>(&self, threads: &T, seen: u64) -> bool {
+    /// How many newlines have come. It waits for nobody.
+    pub fn so_far(&self) -> u64 {
+        self.word.load(Ordering::SeqCst) >> 1
+    }
+
+    /// Waits until more than this many newlines have come, and returns how many have; or none, where they won't.
+    pub fn wait_past<T: Wait>(&self, threads: &T, seen: u64) -> Option<u64>
+        ensures { IfSome result (λ newlines. seen < newlines) }
+    {
         for _ in threads.forever() {
             let word = self.word.load(Ordering::SeqCst);
             if (word >> 1) > seen {
-                return true;
+                return Some(word >> 1);
             }
             if word & 1 == 1 {
-                return false;
+                return None;
             }
             self.word.park(threads, (word % (1 << 32)) as u32);
         }

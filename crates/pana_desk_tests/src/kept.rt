@@ -66,8 +66,8 @@ impl Device for ShortDevice {
 fn session_of(alloc: Global, calls: usize) -> Result<KeptHall<MemoryDevice>, Fail> {
     let device = MemoryDevice::failing_after(alloc, Vec::new(alloc), calls);
     let mut journal = Journal::new(device);
-    let Opened { hall, .. } = open(alloc, &mut journal)?;
-    Ok(KeptHall::new(alloc, hall, journal))
+    let Opened { hall, sealer, .. } = open(alloc, &mut journal)?;
+    Ok(KeptHall::new(alloc, hall, journal, sealer))
 }
 
 /// What a session answers to lines, and why it ended.
@@ -143,12 +143,12 @@ fn failing_calls(rt: HostRuntime) -> Result<(), Fail> {
     let taken_again = b"{\"code\":14,\"refused\":\"NotKept\"}\n{\"done\":1}\n".as_slice();
     let refused = b"{\"done\":1}\n{\"code\":14,\"refused\":\"NotKept\"}\n".as_slice();
     let rows: [(usize, &[u8], Option<ServeFault>); 6] = [
-        (4, taken_again, None),
-        (5, taken_again, None),
-        (6, b"", Some(ServeFault::Spent)),
-        (7, b"", Some(ServeFault::Spent)),
-        (8, b"", Some(ServeFault::Spent)),
-        (9, refused, None),
+        (9, taken_again, None),
+        (10, taken_again, None),
+        (11, b"", Some(ServeFault::Spent)),
+        (12, b"", Some(ServeFault::Spent)),
+        (13, b"", Some(ServeFault::Spent)),
+        (14, refused, None),
     ];
     for (calls, want, fault) in rows {
         let mut session = session_of(alloc, calls)?;
@@ -164,13 +164,13 @@ fn failing_calls(rt: HostRuntime) -> Result<(), Fail> {
 fn writes_without_memory(rt: HostRuntime) -> Result<(), Fail> {
     let alloc = rt.alloc();
     let mut journal = Journal::new(MemoryDevice::new(alloc, Vec::new(alloc)));
-    let Opened { hall, .. } = open(alloc, &mut journal)?;
+    let Opened { hall, sealer, .. } = open(alloc, &mut journal)?;
     let short = Journal {
         device: ShortDevice,
         end: 0,
         state: JournalState::Open,
     };
-    let mut session = KeptHall::new(alloc, hall, short);
+    let mut session = KeptHall::new(alloc, hall, short, sealer);
     let (answer, end) = answers(alloc, &mut session, REGISTER)?;
     let want = b"{\"code\":9,\"refused\":\"OutOfMemory\"}\n".as_slice();
     assert_eq!(rt; answer.as_slice(), want);
@@ -201,5 +201,9 @@ fn messages_of_faults(rt: HostRuntime) -> Result<(), Fail> {
     };
     let text = format!(in rt.alloc(); "{fault}")?;
     assert_eq!(rt; text.as_str(), "line 7: NotJson");
+    let damaged = format!(in rt.alloc(); "{}", OpenFault::Damaged { line: 7 })?;
+    assert_eq!(rt; damaged.as_str(), "line 7: Damaged");
+    let unended = format!(in rt.alloc(); "{}", OpenFault::Unended)?;
+    assert_eq!(rt; unended.as_str(), "the last line has no newline");
     Ok(())
 }

@@ -1,4 +1,4 @@
-//! The tests of the hall, of its scans, lines and tables: what no clause says of their calls.
+//! The tests of the hall, of its lines and tables: what no clause says of their calls.
 #![tactic(auto)]
 
 #[cfg(test)]
@@ -7,7 +7,5 @@ mod hall;
 mod places;
 #[cfg(test)]
 mod report;
-#[cfg(test)]
-mod scan;
 #[cfg(test)]
 mod wire;

@@ -1,4 +1,5 @@
 pub mod Booths
+pub mod Openings
 pub mod Sending
 pub mod Scanned
 pub mod Tallies

@@ -12,6 +12,19 @@ pub trait Gate {
 
     /// After the caller's nth call has no answer, since the file that keeps the hall has failed.
     fn unanswered(&self, _lane: u32, _nth: u64) {}
+
+    /// After no connection could be taken, for a reason that may pass.
+    fn not_taken(&self) {}
+
+    /// Whether no further connection is to be taken.
+    fn is_closing(&self) -> bool {
+        false
+    }
+
+    /// Whether the sessions that are open are to end.
+    fn is_over(&self) -> bool {
+        false
+    }
 }
 
 /// A gate that lets all pass.

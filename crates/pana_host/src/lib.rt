@@ -2,12 +2,14 @@
 #![tactic(auto)]
 
 mod desk_session;
+mod door;
 mod folder;
 mod gate;
 mod hosting;
 mod lane;
 mod listening;
-mod requests;
+mod objects;
+mod patience;
 mod scanners;
 mod scanning;
 
@@ -16,6 +18,7 @@ pub use crate::folder::Folder;
 pub use crate::gate::{Gate, OpenGate};
 pub use crate::hosting::host;
 pub use crate::lane::{Lane, LaneEnd};
-pub use crate::listening::listen;
+pub use crate::listening::{Entrance, listen};
+pub use crate::patience::Patience;
 pub use crate::scanners::{Scanner, scan_all};
 pub use crate::scanning::{ScanTally, scanner};

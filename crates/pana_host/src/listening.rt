@@ -4,8 +4,10 @@ ghost use Rattle.pana_host.specs.Listen.{AreOf, HaveGrown};
 ghost use Rattle.pana_host.specs.Session.{GrowsTo};
 
 use crate::desk_session::DeskSession;
+use crate::door::Door;
 use crate::gate::Gate;
-use crate::requests::NoRequests;
+use crate::objects::ObjectReader;
+use crate::patience::{Patience, PatientReader, PatientWriter, Visit};
 use pana_turn::{Desk, Pass};
 use pana_wire::{Tap, serve};
 use std::alloc::Global;
@@ -15,36 +17,27 @@ use std::net::{TcpListener, TcpStream};
 use std::sync::{Mutex, Wait};
 use std::thread;
 use std::thread::Threads;
+use std::time::Clock;
 
 /// How many reads a session may make.
 const MOST_READS: u64 = 1 << 40;
 
-/// How many failed accepts in a row end a worker.
-const MOST_FAILURES: u32 = 1000;
-
-/// The next connection; none where as many were taken as are wanted, or accepting failed again and again.
-fn next_connection<T: Wait>(
-    rt: &T,
-    listener: &TcpListener,
-    taken: &Mutex<u64>,
-    wanted: Option<u64>,
-) -> Option<TcpStream> {
-    let mut taken = taken.lock(rt);
-    if wanted == Some(*taken) {
-        return None;
-    }
-    for _ in 0..MOST_FAILURES {
-        if let Ok((stream, _)) = listener.accept() {
-            *taken = taken.saturating_add(1);
-            return Some(stream);
-        }
-    }
-    None
+/// A listener, how many of its connections are wanted, all where there is no number, and how long each may keep others
+/// waiting.
+#[derive(Drop)]
+pub struct Entrance {
+    pub listener: TcpListener,
+    pub wanted: Option<u64>,
+    pub patience: Patience,
 }
 
 /// Serves a connection to its end. What ends it early ends it alone.
-fn serve_connection<T: Wait, G: Gate>(
+fn serve_connection<T: Wait + Clock, G: Gate>(
+    rt: &T,
     alloc: Global,
+    gate: &G,
+    door: &Mutex<Door>,
+    patience: Patience,
     stream: &TcpStream,
     session: &mut DeskSession<'_, T, G>,
 )
@@ -54,30 +47,34 @@ fn serve_connection<T: Wait, G: Gate>(
     if stream.set_nodelay(true).is_err() {
         return;
     }
-    let Ok(output) = BufWriter::new(alloc, stream) else {
+    let Ok(visit) = Visit::new(rt, gate, door, stream, patience) else {
         return;
     };
-    let mut reader = Tap::new(NoRequests::new(stream));
+    let Ok(output) = BufWriter::new(alloc, PatientWriter::new(&visit)) else {
+        return;
+    };
+    let mut reader = Tap::new(ObjectReader::new(PatientReader::new(&visit)));
     let mut writer = Tap::new(output);
     let _ = serve(alloc, &mut reader, &mut writer, session, MOST_READS);
 }
 
 /// Serves connections, one after another, until no more is wanted.
-fn work<T: Wait, G: Gate>(
+fn work<T: Wait + Clock, G: Gate>(
     rt: &T,
     alloc: Global,
-    listener: &TcpListener,
-    taken: &Mutex<u64>,
-    wanted: Option<u64>,
+    gate: &G,
+    door: &Mutex<Door>,
+    patience: Patience,
     session: &mut DeskSession<'_, T, G>,
 )
     ensures { GrowsTo session.old session.new }
 {
     for _ in rt.forever() {
-        let Some(stream) = next_connection(rt, listener, taken, wanted) else {
+        let next = door.lock(rt).take(rt, gate);
+        let Some(stream) = next else {
             return;
         };
-        serve_connection(alloc, &stream, session);
+        serve_connection(rt, alloc, gate, door, patience, &stream, session);
     }
 }
 
@@ -113,21 +110,22 @@ fn take_passes<T, G>(sessions: Vec<DeskSession<'_, T, G>>, passes: &mut Vec<Pass
 }
 
 /// Serves the listener's connections, as many at a time as there are passes, each in a thread of its own; where no thread
-/// can be made, one worker after another. It ends once as many connections were taken as are wanted, and never where no
-/// number is given, and returns the passes in order.
+/// can be made, one worker after another. It closes the listener once as many connections were taken as are wanted, and
+/// then ends with the last of these; where no number is given it ends only where the gate says so. It returns the passes
+/// in order.
 ///
-/// A connection whose first bytes are those of an HTTP request is closed, with no call made and nothing written.
+/// A connection whose first byte that isn't a blank isn't `{` is closed, with no call made and nothing written. So is one
+/// that keeps others waiting for too long, where it stands.
 ///
 /// # Errors
 ///
 /// The passes as they came, where an allocation failed, before a connection is taken.
-pub fn listen<T: Threads + Wait + Sync, G: Gate + Sync>(
+pub fn listen<T: Threads + Wait + Clock + Sync, G: Gate + Sync>(
     rt: &T,
     alloc: Global,
     desk: &Desk,
-    listener: &TcpListener,
+    entrance: Entrance,
     passes: Vec<Pass>,
-    wanted: Option<u64>,
     gate: &G,
 ) -> Result<Vec<Pass>, Vec<Pass>>
     requires few { length passes.items ≤ 64 }
@@ -143,11 +141,16 @@ pub fn listen<T: Threads + Wait + Sync, G: Gate + Sync>(
         return Err(passes);
     };
     open_sessions(rt, desk, gate, passes, &mut sessions);
-    let taken = Mutex::new(0);
-    let counted = &taken;
+    let Entrance {
+        listener,
+        wanted,
+        patience,
+    } = entrance;
+    let inner = Mutex::new(Door::new(listener, wanted));
+    let door = &inner;
     let serve = move |_place: usize, session: &mut DeskSession<'_, T, G>|
         ensures { GrowsTo session.entry.now session.exit.now }
-    { work(rt, alloc, listener, counted, wanted, session) };
+    { work(rt, alloc, gate, door, patience, session) };
     thread::for_each_mut(rt, sessions.as_mut_slice(), 64, &serve);
     take_passes(sessions, &mut back);
     Ok(back)

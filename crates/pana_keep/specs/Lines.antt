@@ -1,6 +1,8 @@
 -- The lines that a file stands for.
-use Rattle.std.specs.Prelude.{◌≡◌, ◌⊎◌, ◌<◌, ◌≤◌, ◌+◌, ◌^◌, ℕ, Bool, true, false, List, [], ◌∷◌, ◌++◌, length, take, drop, if◌then◌else◌, ◌==◌, not}
-use Rattle.std.specs.List.{list_any}
+use Rattle.std.specs.Prelude.{◌≡◌, ◌⊎◌, ◌<◌, ◌≤◌, ◌+◌, ◌^◌, ℕ, nat_le, Bool, true, false, ◌&&◌, ◌||◌, List, [], ◌∷◌, ◌++◌, length, take, drop, if◌then◌else◌, ◌==◌, nat_eq, not, codes}
+use Rattle.std.specs.List.{list_any, starts_with}
+use Rattle.pana_keep.specs.declared.file_kind.FileKind.{FileKind}
+use Rattle.pana_keep.specs.declared.file_kind.FileKind.TheVariants.{Journal, Unended, Foreign}
 
 -- a line counts only if it begins with `{`: its gate
 abbrev pub opens : List ℕ → Bool
@@ -38,14 +40,60 @@ ungated (b ∷ bs) = if b == 0 then length bs else length bs + 1
 abbrev pub torn_length : List ℕ → ℕ
 torn_length file = ungated (drop (length (text_of (recovered file))) file)
 
--- whether this may stand behind the lines of a journal: nothing, a closed gate and anything, or a line cut short
+-- the first line of a new journal's file: it says no entry
+abbrev pub header : List ℕ
+header = codes "{\"entries\":[],\"journal\":1}"
+
+-- each byte is NUL or the one at its place in the text
+abbrev pub is_begun : List ℕ → List ℕ → Bool
+is_begun [] text = true
+is_begun (b ∷ bs) [] = false
+is_begun (b ∷ bs) (t ∷ text) = ((b == 0) || (b == t)) && is_begun bs text
+
+-- what stands in a file whose header isn't there yet: nothing, or some of the bytes that are staged for it
+abbrev pub is_new : List ℕ → Bool
+is_new file = is_begun file (0 ∷ (drop 1 header ++ 10 ∷ 0 ∷ []))
+
+-- how each line of a journal begins
+abbrev pub entries_begin : List ℕ
+entries_begin = codes "{\"entries\":["
+
+-- a line begins so, but for the first
+abbrev pub has_entries : List ℕ → Bool
+has_entries [] = false
+has_entries (b ∷ bs) = ((b == 10) && starts_with nat_eq bs entries_begin) || has_entries bs
+
+-- what a commit in progress can leave behind the lines: nothing, or a closed gate and at most the bytes of the longest
+-- text, and no line of entries among them
 abbrev pub ends_journal : List ℕ → Bool
 ends_journal [] = true
-ends_journal (b ∷ bs) = if b == 0 then true else (if b == 123 then not (list_any (λ x. x == 10) bs) else false)
+ends_journal (b ∷ bs) = (b == 0) && (nat_le (length bs) 1048577 && not (has_entries bs))
 
--- whether the file is one that a journal may have left
-abbrev pub is_journal : List ℕ → Bool
-is_journal file = ends_journal (drop (length (text_of (recovered file))) file)
+-- a line of entries that has begun, and has no newline
+abbrev pub is_unended : List ℕ → Bool
+is_unended [] = false
+is_unended (b ∷ bs) = (starts_with nat_eq (b ∷ bs) entries_begin || starts_with nat_eq entries_begin (b ∷ bs)) && not (list_any (λ x. x == 10) (b ∷ bs))
+
+-- what a file isn't where it isn't a journal: a line is cut, or it is something else
+abbrev pub other_kind : List ℕ → FileKind
+other_kind behind = if is_unended behind then Unended else Foreign
+
+-- what a file without a line is: one that is still being made, or none of a journal
+abbrev pub kind_new : List ℕ → FileKind
+kind_new file = if is_new file then Journal else other_kind file
+
+-- what a file is, by what stands behind its lines
+abbrev pub kind_behind : List ℕ → FileKind
+kind_behind behind = if ends_journal behind then Journal else other_kind behind
+
+-- what a file with these lines is
+abbrev pub kind_with : List ℕ → List (List ℕ) → FileKind
+kind_with file [] = kind_new file
+kind_with file (l ∷ ls) = kind_behind (drop (length (text_of (l ∷ ls))) file)
+
+-- what a file is
+abbrev pub kind_of : List ℕ → FileKind
+kind_of file = kind_with file (recovered file)
 
 -- no newline in it
 abbrev pub HasNoBreak : List ℕ → Type 0
@@ -70,6 +118,6 @@ pub record IsWhole (text : List ℕ) : Type 0 where
 abbrev pub IsBeforeOrAfter : List (List ℕ) → List (List ℕ) → List ℕ → Type 0
 IsBeforeOrAfter lines more file = (recovered file ≡ lines) ⊎ (recovered file ≡ lines ++ more)
 
--- neither is too long for the other to come behind it
+-- the lines aren't too long for more, and the text isn't longer than a line of a dump with its newline
 abbrev pub HasRoom : ℕ → List ℕ → Type 0
-HasRoom end text = (end ≤ 2 ^ 60) × (length text ≤ 2 ^ 60)
+HasRoom end text = (end ≤ 2 ^ 60) × (length text ≤ 1048577)

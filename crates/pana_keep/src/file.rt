@@ -3,20 +3,41 @@ ghost use Rattle.std.specs.Prelude.{true, false, []};
 use crate::device::Device;
 use crate::device_fault::DeviceFault;
 use std::alloc::Global;
+use std::fs;
 use std::fs::File;
 use std::io::{self, ErrorKind, Read, Seek, SeekFrom};
-use std::os::unix::fs::FileExt;
+use std::os::unix::fs::{FileExt, MetadataExt};
 
-/// A file of the system. Nothing is known of its bytes, so nothing is proved of what its calls do.
+/// A file of the system, with the name by which it is found. Nothing is known of its bytes, so nothing is proved of what
+/// its calls do.
 #[derive(Drop)]
 pub struct FileDevice {
+    rt: HostRuntime,
+    name: String,
     file: File,
 }
 
 impl FileDevice {
-    /// The device of a file, opened to read and write, and not to append: there a write would go to the end.
-    pub fn new(file: File) -> FileDevice {
-        FileDevice { file }
+    /// The device of a file with this name, opened to read and write, and not to append: there a write would go to the
+    /// end. A sync fails once the name leads to another file, or to none.
+    pub fn new(rt: HostRuntime, name: String, file: File) -> FileDevice {
+        FileDevice { rt, name, file }
+    }
+
+    /// Whether the file is a regular one, and the one that its name leads to now.
+    pub fn is_named(&self) -> io::Result<bool> {
+        let found = self.file.metadata()?;
+        let named = fs::metadata(&self.rt, self.name.as_str())?;
+        Ok(found.is_file() && found.dev() == named.dev() && found.ino() == named.ino())
+    }
+
+    fn sync_named(&self) -> io::Result<()> {
+        self.file.sync_data()?;
+        if self.is_named()? {
+            Ok(())
+        } else {
+            Err(ErrorKind::NotFound.into())
+        }
     }
 }
 
@@ -75,6 +96,6 @@ impl Device for FileDevice {
     }
 
     fn sync(&mut self) -> Result<(), DeviceFault> {
-        self.file.sync_data().map_err(|error| fault_of(&error))
+        self.sync_named().map_err(|error| fault_of(&error))
     }
 }

@@ -7,8 +7,9 @@ use crate::device::Device;
 use crate::device_fault::DeviceFault;
 use crate::journal_state::JournalState;
 use crate::keep_fault::KeepFault;
+use crate::lines::LONGEST;
 
-/// How long a text is at most, and the lines before it.
+/// How long the lines of a file are at most, for more to come behind them.
 const MOST_BYTES: usize = 1 << 60;
 
 /// Lines of text in a file. Each begins with `{`, its gate: that byte is written last, once all behind it is on the
@@ -80,7 +81,7 @@ impl<D: Device> Journal<D> {
         ensures any_moment { IsTrue D.is_known → LeavesOnly D.moment D.left_since self.old.device self.new.device
             (λ c. recovered c ≡ recovered (D.seen self.old.device)) }
     {
-        if text.len() > MOST_BYTES || self.end > MOST_BYTES {
+        if text.len() > LONGEST || self.end > MOST_BYTES {
             return Err(DeviceFault::StorageFull);
         }
         self.device.write_at(self.end + 1, &text[1..])?;

@@ -1,13 +1,14 @@
 ghost use Rattle.std.specs.Prelude.{◌≡◌, true, false, is_ok, if◌then◌else◌, IsTrue, length, IfOk, OnOk, OnErr};
 ghost use Rattle.pana_keep.specs.Device.{LeavesOnly, HasCause};
-ghost use Rattle.pana_keep.specs.Lines.{recovered, text_of, torn_length, is_journal};
+ghost use Rattle.pana_keep.specs.Lines.{recovered, text_of, torn_length, kind_of};
 ghost use Rattle.pana_keep.specs.Journal.{IsDurable, IsSettled};
 
 use crate::device::Device;
 use crate::device_fault::DeviceFault;
+use crate::file_kind::FileKind;
 use crate::journal::Journal;
 use crate::journal_state::JournalState;
-use crate::lines::{can_end_journal, ungated_length, whole_length};
+use crate::lines::{kind_of, ungated_length, whole_length};
 use std::alloc::Global;
 
 /// What a file stood for when it was opened.
@@ -17,9 +18,8 @@ pub struct Recovery {
     pub text: Vec<u8>,
     /// How many bytes stood behind them, a closed gate not counted: what a crash left of other lines.
     pub torn: usize,
-    /// Whether they are what a crash leaves of a journal: nothing, a closed gate and anything, or a line cut short. If
-    /// not, the file is something else.
-    pub is_journal: bool,
+    /// What the file is.
+    pub kind: FileKind,
 }
 
 impl<D: Device> Journal<D> {
@@ -31,7 +31,7 @@ impl<D: Device> Journal<D> {
 
         ensures text { IfOk result (λ found. IsTrue D.is_known → found.text.items ≡ text_of (recovered (D.seen self.old.device))) }
         ensures torn { IfOk result (λ found. IsTrue D.is_known → found.torn ≡ torn_length (D.seen self.old.device)) }
-        ensures is_journal { IfOk result (λ found. IsTrue D.is_known → found.is_journal ≡ is_journal (D.seen self.old.device)) }
+        ensures kind { IfOk result (λ found. IsTrue D.is_known → found.kind ≡ kind_of (D.seen self.old.device)) }
         ensures state { self.new.state ≡ (if is_ok result then JournalState.Read else JournalState.Unread) }
         ensures end { IfOk result (λ found. self.new.end ≡ length found.text.items) }
         ensures same { IsTrue D.is_known → D.seen self.new.device ≡ D.seen self.old.device }
@@ -43,17 +43,12 @@ impl<D: Device> Journal<D> {
         self.state = JournalState::Unread;
         let mut text = self.device.read(alloc)?;
         let end = whole_length(&text);
-        let rest = &text[end..];
-        let torn = ungated_length(rest);
-        let is_journal = can_end_journal(rest);
+        let torn = ungated_length(&text[end..]);
+        let kind = kind_of(&text, end);
         text.truncate(end);
         self.end = end;
         self.state = JournalState::Read;
-        Ok(Recovery {
-            text,
-            torn,
-            is_journal,
-        })
+        Ok(Recovery { text, torn, kind })
     }
 
     /// Cuts off what stands behind the lines that were read, and closes the gate.

@@ -1,16 +1,17 @@
--- The line of an entry is whole, and its only one.
-use Rattle.std.proofs.Common.{◌≡◌, inl, inr, ℕ, suc, ◌<◌, ◌==◌, true, false, cond, List, [], ◌∷◌, ◌++◌, length, length-append, nat_lt, Ok, Err, ◌≤◌, refl, sym, ap, ◌∙◌, subst, arith}
-use Rattle.std.proofs.lemmas.List.{append-nil}
-use Rattle.std.proofs.lemmas.Bool.{ltb-false}
+-- The line of an entry is whole, sealed, and its only one.
+use Rattle.std.proofs.Common.{◌≡◌, inl, inr, ℕ, suc, ◌-◌, ◌<◌, ◌≤◌, ◌==◌, true, false, cond, List, [], ◌∷◌, ◌++◌, length, length-append, take, Some, refl, sym, ap, ◌∙◌, subst, arith}
+use Rattle.std.specs.Prelude.{slice_get}
+use Rattle.std.proofs.lemmas.List.{append-nil, take-append-le}
 use Rattle.pana_journal.specs.declared.entry.Entry.{Entry}
-use Rattle.pana_wire.specs.declared.fault.WireFault.TheVariants.{TooLong}
-use Rattle.pana_wire.specs.Dump.{dump_says, entry_text, IsEntryLine}
+use Rattle.pana_wire.specs.Dump.{entry_text}
+use Rattle.pana_wire.specs.Seal.{entry_body, sealed_text, IsSealedLine}
 use Rattle.pana_wire.specs.Lines.{ended, unended, last_line, lines_of}
 use Rattle.pana_wire.specs.Reply.{reply_data, reply_text}
 use Rattle.pana_keep.specs.Lines.{opens, recovered, text_of, HasNoBreak, AreLines}
 use Rattle.pana_keep.proofs.Recovered.{which, recovered_lines}
-use Rattle.pana_wire.specs.DumpLines.{Say}
-use Rattle.pana_kept.specs.Entries.{IsLineOf}
+use Rattle.pana_seal.specs.Seal.{digest_of}
+use Rattle.pana_seal.proofs.Sealed.{sealed_by}
+use Rattle.pana_kept.specs.Entries.{IsLineOf, IsSealedBehind}
 
 -- how many newlines there are
 abbrev breaks : List ℕ → ℕ
@@ -38,32 +39,46 @@ one_line line one =
     let text : List ℕ = line ++ 10 ∷ [] in
     none_counted line (omega (arith, ap length one, length-append (ended [] text) (last_line (unended [] text)), ended_count [] line))
 
-gate_opens : (entry : Entry) → opens (entry_text entry) ≡ true
-unfolding reply_text reply_data
-gate_opens entry = refl
+gate_opens : (line : List ℕ) → slice_get (line ++ 10 ∷ []) 0 ≡ Some 123 → opens line ≡ true
+gate_opens [] is = absurd (let other : Some 10 ≡ Some 123 = is in cc)
+gate_opens (b ∷ line) is = let gate : b ≡ 123 = (let some : Some b ≡ Some 123 = is in cc) in ap (λ (x : ℕ). x == 123) gate
 
 some_bytes : (line text : List ℕ) → text ≡ line ++ 10 ∷ [] → 0 < length text
 some_bytes line text whole = omega (arith, ap length whole, length-append line (10 ∷ []))
 
--- a line of a dump that is read is short
-says_short : (text : List ℕ) (entries : List Entry) → dump_says text ≡ Ok entries → length text ≤ 1048576
-unfolding dump_says
-says_short text entries says = elim (which (nat_lt 1048576 (length text))) [
-  | inl is ↦ absurd (let long : dump_says text ≡ Err TooLong = rw (is) refl in cc)
-  | inr other ↦ ltb-false 1048576 (length text) other
-]
+-- a line that is one of its text is the only one of a file
+only_line : (line text : List ℕ) → text ≡ line ++ 10 ∷ [] → lines_of text ≡ line ∷ [] → slice_get text 0 ≡ Some 123 → recovered text ≡ line ∷ []
+only_line line text is one gate =
+    let are : AreLines (line ∷ []) = (gate_opens line (subst (λ (t : List ℕ). slice_get t 0 ≡ Some 123) is gate), one_line line (sym (ap lines_of is) ∙ one), tt) in
+    ap recovered (is ∙ sym (append-nil (line ++ 10 ∷ []))) ∙ recovered_lines (line ∷ []) [] are
 
--- the line of an entry in a dump is one that a journal can hold
-pub is_line : (entry : Entry) (text : List ℕ) → IsEntryLine entry text → IsLineOf entry text
-is_line entry text is =
-    let line = entry_text entry in
-    let are : AreLines (line ∷ []) = (gate_opens entry, one_line line (sym (ap lines_of is.text) ∙ is.one), tt) in
-    let found : recovered text ≡ line ∷ [] = ap recovered (is.text ∙ sym (append-nil (line ++ 10 ∷ []))) ∙ recovered_lines (line ∷ []) [] are in
+-- the sealed line of an entry is one that a journal can hold
+pub is_line : (entry : Entry) (digest text : List ℕ) → IsSealedLine entry digest text → IsLineOf entry text
+is_line entry digest text is =
+    let line = sealed_text entry digest in
+    let found : recovered text ≡ line ∷ [] = only_line line text is.text is.one is.opens in
     record {
       whole = record {
         some = some_bytes line text is.text;
         same = ap text_of found ∙ sym is.text;
       };
-      says = subst (λ (ls : List (List ℕ)). Say ls (entry ∷ [])) (sym found) (entry ∷ [], [], is.back, refl, refl);
-      short = omega (arith, says_short line (entry ∷ []) is.back, ap length is.text, length-append line (10 ∷ []));
+      line = line;
+      one = found;
+      says = is.back;
+      short = is.short;
     }
+
+pub is_sealed_behind : (before : List ℕ) (entry : Entry) (digest text : List ℕ) → digest ≡ digest_of before (entry_body entry) → IsSealedLine entry digest text → IsSealedBehind before text
+is_sealed_behind before entry digest text made is =
+    (sealed_text entry digest, only_line (sealed_text entry digest) text is.text is.one is.opens, sealed_by before (entry_body entry) digest made)
+
+-- the text of an entry but for its brace and its newline
+pub body_of_line : (entry : Entry) (line : List ℕ) → line ≡ entry_text entry ++ 10 ∷ [] → take (length line - 2) line ≡ entry_body entry
+body_of_line entry line is =
+    let text = entry_text entry in
+    let count : length line - 2 ≡ length text - 1 = omega (arith, ap length is, length-append text (10 ∷ [])) in
+    ap (λ (n : ℕ). take n line) count ∙ ap (take (length text - 1)) is ∙ take-append-le (length text - 1) text (10 ∷ []) (omega arith)
+
+pub line_long : (entry : Entry) (line : List ℕ) → line ≡ entry_text entry ++ 10 ∷ [] → 2 ≤ length line
+unfolding reply_text reply_data
+line_long entry line is = omega (arith, ap length is, length-append (entry_text entry) (10 ∷ []))

@@ -4,12 +4,14 @@ use Rattle.std.proofs.lemmas.List.{take_at, take_all, take-append-le}
 use Rattle.pana_journal.specs.declared.entry.Entry.{Entry}
 use Rattle.pana_keep.specs.declared.journal.Journal.{Journal}
 use Rattle.pana_keep.specs.Device.{LeavesOnly}
-use Rattle.pana_keep.specs.Lines.{recovered, IsBeforeOrAfter}
+use Rattle.pana_keep.specs.Lines.{recovered, text_of, IsBeforeOrAfter}
 use Rattle.pana_keep.specs.Journal.{IsSettled}
 use Rattle.pana_keep.proofs.Moments.{started, then_on}
 use Rattle.pana_keep.proofs.Settled.{recovered_same}
 use Rattle.pana_wire.specs.DumpLines.{Say}
-use Rattle.pana_kept.specs.Entries.{LoadsTo, LoadsFirst}
+use Rattle.pana_seal.specs.Seal.{IsIntact}
+use Rattle.pana_seal.proofs.Intact.{intact_more}
+use Rattle.pana_kept.specs.Entries.{LoadsTo, LoadsFirst, IsLineOf, IsSealedBehind}
 
 pub say_append : (ls ms : List (List ℕ)) (es fs : List Entry) → Say ls es → Say ms fs → Say (ls ++ ms) (es ++ fs)
 say_append [] ms es fs none says = subst (λ (xs : List Entry). Say ms (xs ++ fs)) (sym none) says
@@ -17,7 +19,15 @@ say_append (l ∷ ls) ms es fs (first, rest, line, others, whole) says =
     (first, rest ++ fs, line, say_append ls ms rest fs others says, ap (λ (xs : List Entry). xs ++ fs) whole ∙ append_assoc first rest fs)
 
 pub loads_same : (es : List Entry) (file other : List ℕ) → recovered other ≡ recovered file → LoadsTo es file → LoadsTo es other
-loads_same es file other same loads = subst (λ (ls : List (List ℕ)). Say ls es) (sym same) loads
+loads_same es file other same loads = (subst (λ (ls : List (List ℕ)). Say ls es) (sym same) loads.0, subst IsIntact (sym same) loads.1)
+
+-- one line more
+pub loads_more : (es : List Entry) (e : Entry) (old text file : List ℕ) → LoadsTo es old → IsLineOf e text → IsSealedBehind (text_of (recovered old)) text → recovered file ≡ recovered old ++ recovered text → LoadsTo (es ++ e ∷ []) file
+loads_more es e old text file loads line sealed after =
+    let says : Say (recovered text) (e ∷ []) = subst (λ (ls : List (List ℕ)). Say ls (e ∷ [])) (sym line.one) (e ∷ [], [], line.says, refl, refl) in (
+      subst (λ (ls : List (List ℕ)). Say ls (es ++ e ∷ [])) (sym after) (say_append (recovered old) (recovered text) es (e ∷ []) loads.0 says),
+      subst IsIntact (sym (after ∙ ap (λ (ls : List (List ℕ)). recovered old ++ ls) sealed.1)) (intact_more (recovered old) sealed.0 loads.1 (λ due. sealed.2)),
+    )
 
 -- all of the entries are the first ones
 pub loads_all : (least : ℕ) (es : List Entry) (file : List ℕ) → least ≤ length es → LoadsTo es file → LoadsFirst least es file
@@ -29,10 +39,10 @@ loads_before es e file loads =
     (length es, omega arith, omega (arith, length-append es (e ∷ [])), subst (λ (xs : List Entry). LoadsTo xs file) (sym (take_at es (e ∷ []) (length es) refl)) loads)
 
 -- one more may be there or not
-pub loads_either : (es : List Entry) (e : Entry) (old text file : List ℕ) → LoadsTo es old → LoadsTo (e ∷ []) text → IsBeforeOrAfter (recovered old) (recovered text) file → LoadsFirst (length es) (es ++ e ∷ []) file
-loads_either es e old text file loads line (inl before) = loads_before es e file (loads_same es old file before loads)
-loads_either es e old text file loads line (inr after) =
-    loads_all (length es) (es ++ e ∷ []) file (omega (arith, length-append es (e ∷ []))) (subst (λ (ls : List (List ℕ)). Say ls (es ++ e ∷ [])) (sym after) (say_append (recovered old) (recovered text) es (e ∷ []) loads line))
+pub loads_either : (es : List Entry) (e : Entry) (old text file : List ℕ) → LoadsTo es old → IsLineOf e text → IsSealedBehind (text_of (recovered old)) text → IsBeforeOrAfter (recovered old) (recovered text) file → LoadsFirst (length es) (es ++ e ∷ []) file
+loads_either es e old text file loads line sealed (inl before) = loads_before es e file (loads_same es old file before loads)
+loads_either es e old text file loads line sealed (inr after) =
+    loads_all (length es) (es ++ e ∷ []) file (omega (arith, length-append es (e ∷ []))) (loads_more es e old text file loads line sealed after)
 
 loads_grown : (least : ℕ) (es more : List Entry) (file : List ℕ) → LoadsFirst least es file → LoadsFirst least (es ++ more) file
 loads_grown least es more file loads =
@@ -53,14 +63,6 @@ module _ {D : Type 0} (moment : D → ℕ) (left_since : D → ℕ → List ℕ 
   keeps_start seen may_leave is_usable journal es settled loads only_now =
       started moment left_since journal.device (LoadsFirst (length es) es)
       (λ f left. loads_all (length es) es f (omega arith) (loads_same es (seen journal.device) f (recovered_same (seen journal.device) f (settled.durable f (only_now f left))) loads))
-
-  -- an entry whose line is staged and then committed, or not
-  pub keeps_push : (a b c : D) (seen_a seen_b text : List ℕ) (es : List Entry) (e : Entry) → LoadsTo es seen_a → LoadsTo (e ∷ []) text → recovered seen_b ≡ recovered seen_a
-      → LeavesOnly moment left_since a b (λ f. recovered f ≡ recovered seen_a) → LeavesOnly moment left_since b c (IsBeforeOrAfter (recovered seen_b) (recovered text)) → LeavesOnly moment left_since a c (LoadsFirst (length es) (es ++ e ∷ []))
-  keeps_push a b c seen_a seen_b text es e loads line same first second =
-      then_on moment left_since a b c (λ f. recovered f ≡ recovered seen_a) (IsBeforeOrAfter (recovered seen_b) (recovered text)) (LoadsFirst (length es) (es ++ e ∷ [])) first second
-      (λ f p. loads_before es e f (loads_same es seen_a f p loads))
-      (λ f q. loads_either es e seen_b text f (loads_same es seen_a seen_b same loads) line q)
 
   -- a line that is only staged
   pub keeps_same : (a b : D) (seen_a : List ℕ) (es : List Entry) → LoadsTo es seen_a → LeavesOnly moment left_since a b (λ f. recovered f ≡ recovered seen_a) → LeavesOnly moment left_since a b (LoadsFirst (length es) es)

@@ -39,6 +39,8 @@ lines_again file =
 -- a text that has no hall is the reason why its file isn't opened
 pub open_fault : (has_failed : Bool) (file : List ℕ) (fault : OpenFault) → HaveNoHall (recovered file) fault → IsOpenFault has_failed file fault
 open_fault has_failed file faults.NoJournal why = absurd why
+open_fault has_failed file faults.Unended why = absurd why
+open_fault has_failed file (faults.Damaged number) why = why
 open_fault has_failed file (faults.Device fault) why = absurd why
 open_fault has_failed file (faults.Line number fault) why = why
 open_fault has_failed file (faults.Entry fault) why = why

@@ -11,17 +11,23 @@ use Rattle.pana_hall.specs.Step.{Steps}
 use Rattle.pana_keep.specs.declared.journal.Journal.{Journal}
 use Rattle.pana_keep.specs.declared.journal_state.JournalState.TheVariants.{Open}
 use Rattle.pana_keep.specs.Device.{LeavesOnly}
+use Rattle.pana_keep.specs.Lines.{recovered, text_of}
 use Rattle.pana_keep.specs.Journal.{IsSettled}
+use Rattle.pana_seal.specs.declared.sealer.Sealer.{Sealer}
+use Rattle.pana_seal.specs.Seal.{Covers}
 use Rattle.pana_kept.specs.Entries.{LoadsTo, LoadsFirst}
 
--- what contracts see of a kept hall: the entries of the hall's journal, and the journal in the file
+-- what contracts see of a kept hall: the entries of the hall's journal, the journal in the file, and what its next line is
+-- sealed behind
 pub record KeptView (D : Type 0) : Type 0 where
   pub entries : List Entry
   pub journal : Journal D
+  pub sealer : Sealer
 
--- While the journal is open, the file stands for the entries, and so does each that a crash may leave.
+-- While the journal is open, the file stands for the entries, and so does each that a crash may leave, and the sealer has
+-- taken up its lines.
 abbrev pub IsKept : {D : Type 0} → (D → List ℕ) → (D → List ℕ → Type 0) → (D → Bool) → KeptView D → Type 0
-IsKept seen may_leave is_usable kept = kept.journal.state ≡ Open → IsSettled seen may_leave is_usable kept.journal × LoadsTo kept.entries (seen kept.journal.device)
+IsKept seen may_leave is_usable kept = kept.journal.state ≡ Open → IsSettled seen may_leave is_usable kept.journal × LoadsTo kept.entries (seen kept.journal.device) × Covers kept.sealer (text_of (recovered (seen kept.journal.device)))
 
 -- A crash at any moment since `old` leaves a file that loads to the first n entries of now, all that there were then
 -- among them.

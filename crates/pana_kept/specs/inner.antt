@@ -4,8 +4,17 @@ use Rattle.pana_hall.specs.declared.cause.Cause.{Cause}
 use Rattle.pana_hall.specs.declared.cause.Cause.TheVariants as causes
 use Rattle.pana_hall.specs.declared.reply.Reply.{Reply}
 use Rattle.pana_hall.specs.declared.reply.Reply.TheVariants.{Done}
+use Rattle.pana_kept.specs.declared.open_fault.OpenFault.{OpenFault}
+use Rattle.pana_kept.specs.declared.open_fault.OpenFault.TheVariants as opens
+use Rattle.pana_seal.specs.declared.seal_fault.SealFault.{SealFault}
+use Rattle.pana_seal.specs.declared.seal_fault.SealFault.TheVariants as seals
 use Rattle.pana_keep.specs.declared.device_fault.DeviceFault.{DeviceFault}
 use Rattle.pana_keep.specs.declared.device_fault.DeviceFault.TheVariants as devices
+
+-- a fault of seals as one of opening
+abbrev pub open_fault_of : SealFault → OpenFault
+open_fault_of (seals.Damaged number) = opens.Damaged number
+open_fault_of seals.OutOfMemory = opens.OutOfMemory
 
 -- whether a report was done
 abbrev pub is_done : Reply → Bool

@@ -9,6 +9,7 @@ use pana_copies::DeviceName;
 use pana_hall::{Call, Cause, Hall, Reply, Spent};
 use pana_journal::Report;
 use pana_keep::{Device, Journal, JournalState};
+use pana_seal::Sealer;
 use pana_wire::Session;
 use std::alloc::Global;
 use std::marker::Model;
@@ -20,6 +21,7 @@ pub struct KeptHall<D: Device> {
     alloc: Global,
     hall: Hall,
     pub(crate) journal: Journal<D>,
+    sealer: Sealer,
 }
 
 impl<D: Device> Model for KeptHall<D> {
@@ -28,15 +30,15 @@ impl<D: Device> Model for KeptHall<D> {
 
     ghost Value = { KeptView D };
 
-    ghost view = { λ kept. record { entries = kept.hall; journal = kept.journal } };
+    ghost view = { λ kept. record { entries = kept.hall; journal = kept.journal; sealer = kept.sealer } };
 
-    ghost invariant = { λ kept. IsTrue D.is_known → IsKept D.seen D.may_leave D.is_usable (record { entries = kept.hall; journal = kept.journal }) };
+    ghost invariant = { λ kept. IsTrue D.is_known → IsKept D.seen D.may_leave D.is_usable (record { entries = kept.hall; journal = kept.journal; sealer = kept.sealer }) };
 }
 
 impl<D: Device> KeptHall<D> {
-    /// The hall that was loaded from a journal's file, with that journal. Takes no memory.
-    pub fn new(alloc: Global, hall: Hall, journal: Journal<D>) -> KeptHall<D>
-        requires { IsTrue D.is_known → IsKept D.seen D.may_leave D.is_usable (record { entries = hall; journal = journal }) }
+    /// The hall that was loaded from a journal's file, with that journal and what has taken up its lines. Takes no memory.
+    pub fn new(alloc: Global, hall: Hall, journal: Journal<D>, sealer: Sealer) -> KeptHall<D>
+        requires { IsTrue D.is_known → IsKept D.seen D.may_leave D.is_usable (record { entries = hall; journal = journal; sealer = sealer }) }
         ensures entries { result.entries ≡ hall }
         ensures journal { result.journal ≡ journal }
     {
@@ -44,6 +46,7 @@ impl<D: Device> KeptHall<D> {
             alloc,
             hall,
             journal,
+            sealer,
         }
     }
 
@@ -111,10 +114,16 @@ impl<D: Device> KeptHall<D> {
             return Ok(Reply::Refused(cause));
         }
         let number = self.hall.length() + 1;
-        match line_of(self.alloc, number, by, &report) {
-            Ok(line) => keep(&mut self.hall, &mut self.journal, by, report, &line),
-            Err(_) => Ok(Reply::Refused(Cause::OutOfMemory)),
-        }
+        let Ok(line) = line_of(self.alloc, &self.sealer, number, by, &report) else {
+            return Ok(Reply::Refused(Cause::OutOfMemory));
+        };
+        let KeptHall {
+            hall,
+            journal,
+            sealer,
+            ..
+        } = self;
+        keep(hall, journal, sealer, by, report, &line)
     }
 }
 

@@ -3,6 +3,11 @@ pub mod Merged
 pub mod Settled
 pub mod Listed
 pub mod Hashed
+pub mod Kept
+pub mod Walked
+pub mod Looked
+pub mod Recalled
 pub mod Sorted
 pub mod Planned
 pub mod Worked
+pub mod Pictured

@@ -1,14 +1,13 @@
 -- The rows of a listing: a path goes in at the end, above the last.
 use Rattle.std.specs.Prelude.{◌≡◌, ◌↔◌, ℕ, zero, suc, ◌+◌, ◌-◌, ◌<◌, Bool, IsTrue, List, [], ◌∷◌, ◌++◌, map, length, slice_index_or}
 use Rattle.std.specs.Ordering.{is_lt}
-use Rattle.pana_scan.proofs.Settled.{less_from}
 use Rattle.std.specs.List.Sorted.{IsStrictlySortedBy}
 use Rattle.std.specs.declared.cmp.Ordering.TheVariants.{Less}
 use Rattle.std.proofs.Common.{refl, sym, ap, ◌∙◌, subst, arith}
 use Rattle.pana_scan.specs.declared.listing.FoundRow.{FoundRow}
 use Rattle.pana_scan.specs.Order.{Path, path_cmp}
 use Rattle.pana_scan.specs.Listing.{IsAbove, RowsRise}
-use Rattle.pana_scan.proofs.Order.{IsBelow, less_then}
+use Rattle.pana_scan.proofs.Order.{IsBelow, less_then, less_from}
 
 abbrev key : FoundRow → Path
 key row = row.path

@@ -4,7 +4,7 @@ use Rattle.std.specs.List.{AllByRecursion, list_any}
 use Rattle.std.specs.List.Sorted.{IsStrictlySortedBy}
 use Rattle.std.specs.declared.cmp.Ordering.{Ordering}
 use Rattle.std.specs.declared.cmp.Ordering.TheVariants.{Less, Equal, Greater}
-use Rattle.std.specs.Ordering.{is_eq, ordering_reverse}
+use Rattle.std.specs.Ordering.{is_lt, is_eq, ordering_reverse}
 use Rattle.std.specs.Cmp.Lexicographic.{nat_list_cmp_total, texts_ties}
 use Rattle.std.specs.FinMap.{slice_cmp-IsAntisymmetric, nat_cmp-IsAntisymmetric}
 use Rattle.std.specs.Str.{bytes_eq}
@@ -28,6 +28,11 @@ has paths path = list_any (λ other. bytes_eq other path) paths
 pub nothing_rises : Rise []
 unfolding IsStrictlySortedBy
 nothing_rises = tt
+
+pub less_from : (o : Ordering) → is_lt o ≡ true → o ≡ Less
+less_from Less is = refl
+less_from Equal is = absurd (true≢false (sym is))
+less_from Greater is = absurd (true≢false (sym is))
 
 pub same_path : (p q : Path) → path_cmp p q ≡ Equal → p ≡ q
 same_path = slice_cmp-IsAntisymmetric nat_cmp-IsAntisymmetric

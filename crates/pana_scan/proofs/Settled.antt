@@ -16,7 +16,7 @@ use Rattle.pana_scan.specs.declared.baseline.Mark.{Mark}
 use Rattle.pana_scan.specs.Order.{Path, path_cmp}
 use Rattle.pana_scan.specs.Baseline.{MarksRise, with_row, without}
 use Rattle.pana_scan.specs.inner.Position.{IsAt, IsGap}
-use Rattle.pana_scan.proofs.Order.{IsBelow, Rise, same_path, turned, below_chain}
+use Rattle.pana_scan.proofs.Order.{IsBelow, Rise, same_path, turned, below_chain, less_from}
 
 abbrev key : BaselineRow → Path
 key row = row.path
@@ -151,11 +151,6 @@ without_rise p rows rise = rise_filter key (is_other p) rows rise
 -- each path is below this one
 abbrev AreBelow : List Path → Path → Type 0
 AreBelow paths p = AllByRecursion (λ q. path_cmp q p ≡ Less) paths
-
-pub less_from : (o : Ordering) → is_lt o ≡ true → o ≡ Less
-less_from Less is = refl
-less_from Equal is = absurd (true≢false (sym is))
-less_from Greater is = absurd (true≢false (sym is))
 
 greater_from_test : (o : Ordering) → is_gt o ≡ true → o ≡ Greater
 greater_from_test Less is = absurd (true≢false (sym is))

@@ -3,5 +3,9 @@ pub mod Listing
 pub mod Baseline
 pub mod Plan
 pub mod Disk
+pub mod Names
+pub mod Tree
+pub mod Scan
+pub mod Memory
 pub mod Fault
 pub mod inner

@@ -2,4 +2,4 @@
 pub mod Heads
 pub mod Left
 pub mod Position
-pub mod Tree
+pub mod Walk

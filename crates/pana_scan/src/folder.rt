@@ -1,42 +1,58 @@
 //! A folder read into a listing.
-ghost use Rattle.std.specs.Prelude.{◌≡◌, ◌+◌, ◌≤◌, [], ◌++◌, length, if◌then◌else◌, is_some, option_copied, string_bytes, IfOk, IfErr, OnOk};
-ghost use Rattle.pana_scan.specs.Disk.{HasCause, IsFresh, IsWithin, KeepsLimits, deepest, entries};
+ghost use Rattle.std.specs.Prelude.{◌≡◌, ◌+◌, ◌≤◌, ◌<◌, false, IsTrue, IsOk, [], ◌++◌, length, if◌then◌else◌, is_some, option_copied, string_bytes, IfOk, IfErr, OnOk};
 ghost use Rattle.std.specs.Option.{option_to_list};
 ghost use Rattle.std.specs.List.Sorted.{IsSortedBy};
 ghost use Rattle.std.specs.Ordering.{is_lt};
 ghost use Rattle.pana_scan.specs.Order.{path_cmp};
 ghost use Rattle.pana_scan.specs.Listing.{counted};
-ghost use Rattle.pana_scan.specs.inner.Tree.{depth_of, inner_text, is_folder, nested, taken_path, whole_text};
+ghost use Rattle.pana_scan.specs.Names.{file_in, is_skipped, path_in, whole_text};
+ghost use Rattle.pana_scan.specs.Tree.{inner_folder};
+ghost use Rattle.pana_scan.specs.Scan.{HasFaults, HasMet, IsFresh, IsScan, found_of, is_unreadable, is_unlisted, unreadable_count};
+ghost use Rattle.pana_scan.specs.inner.Walk.{IsFolderRead, IsGathered, IsLookedAt, kept_file, kept_folder};
 
-use crate::disk::{Disk, Kind};
-use crate::fingerprinting::watched_fingerprint;
+use crate::disk::Disk;
+use crate::disk_fault::DiskFault;
+use crate::entry::{Entry, Kind};
+use crate::fingerprinting::fingerprint;
 use crate::listing::{Found, Listing};
 use crate::ordering::path_order;
 use crate::scan_fault::ScanFault;
 use crate::watch::Watch;
 use pana_copies::{CopyPath, DeviceName, NameFault};
 use std::alloc::{AllocError, Global};
-use std::fs::{DirEntry, Files};
-use std::io::ErrorKind;
+
+/// How many entries of folders a scan meets at most, of any kind.
+const MOST_ENTRIES: u64 = 100_000;
+
+/// How many levels of folders a scan lists at most: the root's, and 64 below it.
+const MOST_LEVELS: u64 = 65;
 
 /// How often a file is read at most.
 const MOST_READS: u64 = 16_777_216;
 
-/// What was met of a folder so far, by paths relative to it.
+/// A folder to be listed, by its path relative to the root, or the root itself; and how many levels may be listed from
+/// it down, its own among them.
 #[derive(Drop)]
-struct Tree {
+pub(crate) struct FolderAt {
+    path: Option<CopyPath>,
+    levels: u64,
+}
+
+/// What was met of a root so far, by paths relative to it.
+#[derive(Drop)]
+struct Gathered {
     /// Folders that aren't listed yet.
-    folders: Vec<CopyPath>,
+    folders: Vec<FolderAt>,
     files: Vec<CopyPath>,
     skipped: u64,
 }
 
 /// Reads all files of a folder, and of the folders in it, into a listing of this device.
 ///
-/// Each regular file is `Seen` with its fingerprint, or `Unreadable` where it is gone, can't be opened or read, or is
-/// longer than 16,777,216 reads. Symbolic links, and what is neither a file nor a folder, are passed over. A name that
-/// isn't UTF-8, and a file or folder whose path isn't a copy's path, is counted as skipped, and such a folder isn't
-/// entered. Paths are relative to the folder, with `/` between folders.
+/// Each regular file is `Seen` with its fingerprint, or `Unreadable` where it is gone, can't be opened or read, or
+/// doesn't come to its end in 16,777,216 reads. Symbolic links, and what is neither a file nor a folder, are passed
+/// over. A name that isn't UTF-8, and a file or folder whose path isn't a copy's path, is counted as skipped, and such a
+/// folder isn't entered. Paths are relative to the folder, with `/` between folders.
 ///
 /// # Errors
 ///
@@ -45,97 +61,116 @@ struct Tree {
 /// file's bytes.
 ///
 /// The watch learns of each file, and of what was read of it.
-pub fn read_root<R: Files + AllocGlobal + Clone + Drop, W: Watch>(
+pub fn read_root<D: Disk, W: Watch>(
     alloc: Global,
-    disk: &mut Disk<'_, R>,
+    disk: &mut D,
     device: &DeviceName,
     folder: &str,
     watch: &mut W,
 ) -> Result<Listing, ScanFault>
-    requires { IsFresh disk.old }
+    requires { IsFresh (D.has_failed disk.old) (D.entries disk.old) (D.faults disk.old) }
+    ensures known { IsTrue D.is_known → IsScan (D.tree disk.old) folder.now device.now result }
     ensures device { IfOk result (λ listing. listing.device ≡ device.now) }
-    ensures ok { OnOk result (IsWithin disk.new) }
-    ensures fault { IfErr result (HasCause disk.new) }
-    ensures limits { KeepsLimits disk.new }
+    ensures failed { D.has_failed disk.new ≡ is_unlisted result }
+    ensures entries { HasMet (D.entries disk.new) result }
+    ensures faults { HasFaults (D.faults disk.new) result }
 {
-    let mut tree = Tree {
-        folders: Vec::new(alloc),
-        files: Vec::new(alloc),
-        skipped: 0,
-    };
-    read_folder(alloc, disk, folder, None, &mut tree)?;
-    while let Some(inner) = tree.folders.pop() {
-        read_folder(alloc, disk, folder, Some(&inner), &mut tree)?;
-    }
-    let Tree {
+    let Gathered {
         mut files,
         skipped,
         ..
-    } = tree;
+    } = gather(alloc, disk, folder)?;
     files.sort_by(|one, other| path_order(one, other))?;
     Ok(look_at(alloc, disk, device, folder, files, skipped, watch)?)
 }
 
-/// Lists one folder, the root or one inside it, and keeps what is met.
-fn read_folder<R: Files + AllocGlobal + Clone + Drop>(
-    alloc: Global,
-    disk: &mut Disk<'_, R>,
-    root: &str,
-    folder: Option<&CopyPath>,
-    tree: &mut Tree,
-) -> Result<(), ScanFault>
-    requires { IsWithin disk.old }
-    ensures ok { OnOk result (IsWithin disk.new) }
-    ensures fault { IfErr result (HasCause disk.new) }
-    ensures limits { KeepsLimits disk.new }
-    ensures depth { OnOk result (nested (option_copied folder.entry) ≤ deepest disk.new) }
-    ensures grows { OnOk result (length tree.new.folders.items + entries disk.old ≤ length tree.old.folders.items + entries disk.new) }
+/// Lists the root and all folders in it.
+fn gather<D: Disk>(alloc: Global, disk: &mut D, root: &str) -> Result<Gathered, ScanFault>
+    requires { IsFresh (D.has_failed disk.old) (D.entries disk.old) (D.faults disk.old) }
+    ensures known { IsTrue D.is_known → IsGathered (D.tree disk.old) root.now result }
+    ensures tree { IsTrue D.is_known → D.tree disk.new ≡ D.tree disk.old }
+    ensures failed { D.has_failed disk.new ≡ is_unlisted result }
+    ensures entries { HasMet (D.entries disk.new) result }
+    ensures faults { D.faults disk.new ≡ 0 }
 {
-    let whole = whole_path(alloc, root, folder)?;
-    let depth = match folder {
-        Some(folder) => depth_of(folder),
-        None => 0,
+    let mut gathered = Gathered {
+        folders: Vec::new(alloc),
+        files: Vec::new(alloc),
+        skipped: 0,
     };
-    let mut names = disk.list(whole.as_str(), depth)?;
-    while let Some(entry) = disk.next(&mut names) {
-        match entry? {
-            Some(entry) => tree.meet(alloc, disk, folder, &entry)?,
-            None => tree.skipped = tree.skipped.saturating_add(1),
+    gathered.folders.push(FolderAt {
+        path: None,
+        levels: MOST_LEVELS,
+    })?;
+    while let Some(folder) = gathered.folders.pop() {
+        read_folder(alloc, disk, root, &folder, &mut gathered)?;
+    }
+    Ok(gathered)
+}
+
+/// Lists one folder, the root or one inside it, and keeps what is met.
+fn read_folder<D: Disk>(
+    alloc: Global,
+    disk: &mut D,
+    root: &str,
+    folder: &FolderAt,
+    gathered: &mut Gathered,
+) -> Result<(), ScanFault>
+    requires failed { D.has_failed disk.old ≡ false }
+    requires entries { D.entries disk.old ≤ 100000 }
+    ensures known { IsTrue D.is_known → IsFolderRead (D.tree disk.old) root.now folder.now (D.entries disk.old) gathered.old result (D.entries disk.new) gathered.new }
+    ensures tree { IsTrue D.is_known → D.tree disk.new ≡ D.tree disk.old }
+    ensures failed { D.has_failed disk.new ≡ is_unlisted result }
+    ensures entries { HasMet (D.entries disk.new) result }
+    ensures faults { D.faults disk.new ≡ D.faults disk.old }
+    ensures grows { OnOk result (length gathered.new.folders.items + D.entries disk.old ≤ length gathered.old.folders.items + D.entries disk.new) }
+{
+    let Some(levels) = folder.levels.checked_sub(1) else {
+        return Err(ScanFault::TooNested);
+    };
+    let whole = whole_path(alloc, root, folder.path.as_ref())?;
+    disk.list(whole.as_str())?;
+    while let Some(entry) = disk.next(alloc)? {
+        if disk.met() > MOST_ENTRIES {
+            return Err(ScanFault::TooMany);
         }
+        gathered.meet(alloc, folder.path.as_ref(), levels, &entry)?;
     }
     Ok(())
 }
 
-impl Tree {
-    /// Keeps a file, or a folder to be listed; counts one whose path isn't a copy's path.
-    fn meet<R: Files + AllocGlobal + Clone + Drop>(
+impl Gathered {
+    /// Keeps a file, or a folder from which so many levels may be listed; counts one whose path isn't a copy's path.
+    fn meet(
         &mut self,
         alloc: Global,
-        disk: &mut Disk<'_, R>,
         folder: Option<&CopyPath>,
-        entry: &DirEntry<R>,
-    ) -> Result<(), ScanFault>
-        requires { IsWithin disk.old }
-        ensures ok { OnOk result (IsWithin disk.new) }
-        ensures fault { IfErr result (HasCause disk.new) }
-        ensures limits { KeepsLimits disk.new }
-        ensures entries { entries disk.new ≡ entries disk.old }
-        ensures depth { deepest disk.new ≡ deepest disk.old }
-        ensures grows { OnOk result (length self.new.folders.items ≤ length self.old.folders.items + 1) }
+        levels: u64,
+        entry: &Entry,
+    ) -> Result<(), AllocError>
+        ensures folders { OnOk result (self.new.folders.items ≡ self.old.folders.items ++ option_to_list (inner_folder (option_copied folder.entry) levels entry.now)) }
+        ensures files { OnOk result (self.new.files.items ≡ self.old.files.items ++ option_to_list (file_in (option_copied folder.entry) entry.now)) }
+        ensures skipped { OnOk result (self.new.skipped ≡ (if is_skipped (option_copied folder.entry) entry.now then counted self.old.skipped 1 else self.old.skipped)) }
     {
-        let kind = disk.kind(entry)?;
-        if kind == Kind::Other {
-            return Ok(());
+        match entry {
+            Entry::Named { name, kind } => {
+                if *kind == Kind::Other {
+                    return Ok(());
+                }
+                let path = inner_path(alloc, folder, name.as_str())?;
+                self.keep(*kind, path, levels)
+            }
+            Entry::NotText => {
+                self.skipped = self.skipped.saturating_add(1);
+                Ok(())
+            }
         }
-        let path = inner_path(alloc, folder, entry.file_name())?;
-        self.keep(kind, path)?;
-        Ok(())
     }
 
     /// Keeps a path, as a folder's or a file's; counts one that isn't a copy's path.
-    fn keep(&mut self, kind: Kind, path: Option<CopyPath>) -> Result<(), AllocError>
-        ensures folders { OnOk result (self.new.folders.items ≡ self.old.folders.items ++ (if is_folder kind then option_to_list path else [])) }
-        ensures files { OnOk result (self.new.files.items ≡ self.old.files.items ++ (if is_folder kind then [] else option_to_list path)) }
+    fn keep(&mut self, kind: Kind, path: Option<CopyPath>, levels: u64) -> Result<(), AllocError>
+        ensures folders { OnOk result (self.new.folders.items ≡ self.old.folders.items ++ kept_folder kind path levels) }
+        ensures files { OnOk result (self.new.files.items ≡ self.old.files.items ++ kept_file kind path) }
         ensures skipped { OnOk result (self.new.skipped ≡ (if is_some path then self.old.skipped else counted self.old.skipped 1)) }
     {
         let Some(path) = path else {
@@ -143,7 +178,10 @@ impl Tree {
             return Ok(());
         };
         match kind {
-            Kind::Folder => self.folders.push(path)?,
+            Kind::Folder => self.folders.push(FolderAt {
+                path: Some(path),
+                levels,
+            })?,
             Kind::File | Kind::Gone | Kind::Other => self.files.push(path)?,
         }
         Ok(())
@@ -156,7 +194,7 @@ fn inner_path(
     folder: Option<&CopyPath>,
     name: &str,
 ) -> Result<Option<CopyPath>, AllocError>
-    ensures { IfOk result (λ path. path ≡ taken_path (inner_text (option_copied folder.entry) name.now)) }
+    ensures { IfOk result (λ path. path ≡ path_in (option_copied folder.entry) name.now) }
 {
     let taken = match folder {
         Some(folder) => {
@@ -172,20 +210,7 @@ fn inner_path(
     }
 }
 
-/// How many folders below the root a folder is.
-fn depth_of(folder: &CopyPath) -> u64
-    ensures { result ≡ depth_of folder.now }
-{
-    let slashes = folder
-        .as_str()
-        .as_bytes()
-        .iter()
-        .filter(|byte| **byte == b'/')
-        .count();
-    (slashes as u64).saturating_add(1)
-}
-
-/// The path by which the system knows what is inside the root, or the root itself.
+/// The path by which the disk knows what is inside the root, or the root itself.
 fn whole_path(alloc: Global, root: &str, inner: Option<&CopyPath>) -> Result<String, AllocError>
     ensures { IfOk result (λ path. string_bytes path ≡ whole_text root.now (option_copied inner.entry)) }
 {
@@ -196,9 +221,9 @@ fn whole_path(alloc: Global, root: &str, inner: Option<&CopyPath>) -> Result<Str
 }
 
 /// The listing of these files, which are sorted by their paths. A path that was met twice is listed once.
-fn look_at<R: Files + AllocGlobal + Clone + Drop, W: Watch>(
+fn look_at<D: Disk, W: Watch>(
     alloc: Global,
-    disk: &Disk<'_, R>,
+    disk: &mut D,
     device: &DeviceName,
     root: &str,
     files: Vec<CopyPath>,
@@ -206,7 +231,11 @@ fn look_at<R: Files + AllocGlobal + Clone + Drop, W: Watch>(
     watch: &mut W,
 ) -> Result<Listing, AllocError>
     requires { IsSortedBy (λ one other. is_lt (path_cmp one other)) files.items }
-    ensures { IfOk result (λ listing. (listing.device ≡ device.now) × (listing.skipped ≡ skipped)) }
+    ensures known { IfOk result (λ listing. IsTrue D.is_known → IsLookedAt (D.tree disk.old) root.now files.items listing.rows) }
+    ensures rest { IfOk result (λ listing. (listing.device ≡ device.now) × (listing.skipped ≡ skipped)) }
+    ensures failed { D.has_failed disk.new ≡ D.has_failed disk.old }
+    ensures entries { D.entries disk.new ≡ D.entries disk.old }
+    ensures faults { IfOk result (λ listing. D.faults disk.new ≤ D.faults disk.old + unreadable_count listing.rows) }
 {
     let mut listing = Listing::new(alloc, device.copy_of());
     listing.skip(skipped);
@@ -220,18 +249,20 @@ fn look_at<R: Files + AllocGlobal + Clone + Drop, W: Watch>(
 }
 
 /// What is found of a file.
-fn found<R: Files + AllocGlobal + Clone + Drop, W: Watch>(
-    disk: &Disk<'_, R>,
-    file: &str,
-    watch: &mut W,
-) -> Result<Found, AllocError> {
+fn found<D: Disk, W: Watch>(disk: &mut D, file: &str, watch: &mut W) -> Result<Found, AllocError>
+    ensures known { IfOk result (λ found. IsTrue D.is_known → found ≡ found_of ((D.tree disk.old).content file.now)) }
+    ensures tree { IsTrue D.is_known → D.tree disk.new ≡ D.tree disk.old }
+    ensures failed { D.has_failed disk.new ≡ D.has_failed disk.old }
+    ensures entries { D.entries disk.new ≡ D.entries disk.old }
+    ensures faults { IfOk result (λ found. D.faults disk.new ≤ (if is_unreadable found then D.faults disk.old + 1 else D.faults disk.old)) }
+{
     watch.file_begun();
-    let mut file = match disk.open(file) {
-        Ok(file) => file,
-        Err(fault) if fault.kind() == ErrorKind::OutOfMemory => return Err(AllocError),
-        Err(_) => return Ok(Found::Unreadable),
-    };
-    Ok(match watched_fingerprint(&mut file, MOST_READS, watch) {
+    match disk.open(file) {
+        Ok(()) => {}
+        Err(DiskFault::OutOfMemory) => return Err(AllocError),
+        Err(DiskFault::Failed) => return Ok(Found::Unreadable),
+    }
+    Ok(match fingerprint(disk, MOST_READS, watch) {
         Some(digest) => Found::Seen(digest),
         None => Found::Unreadable,
     })

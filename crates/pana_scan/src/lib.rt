@@ -3,23 +3,31 @@
 
 mod baseline;
 mod disk;
+mod disk_fault;
+mod entry;
 mod fingerprinting;
 mod folder;
 mod listing;
+mod memory_disk;
 mod merging;
 mod ordering;
 mod outcome;
 mod planning;
 mod scan_fault;
 mod step;
+mod system_disk;
 mod watch;
 
 pub use crate::baseline::{Baseline, BaselineRow, Mark};
 pub use crate::disk::Disk;
+pub use crate::disk_fault::DiskFault;
+pub use crate::entry::{Entry, EntryName, Kind};
 pub use crate::fingerprinting::fingerprint;
 pub use crate::folder::read_root;
 pub use crate::listing::{Found, FoundRow, Listing};
+pub use crate::memory_disk::{MemoryDisk, MemoryFile, MemoryFolder};
 pub use crate::planning::plan;
 pub use crate::scan_fault::ScanFault;
 pub use crate::step::{Plan, Step, StepList};
+pub use crate::system_disk::SystemDisk;
 pub use crate::watch::{Unwatched, Watch};

@@ -1,3 +1,4 @@
+use crate::disk_fault::DiskFault;
 use std::alloc::{AllocError, AllocFailed};
 use std::error::Error;
 use std::fmt;
@@ -52,5 +53,19 @@ impl From<AllocError> for ScanFault {
 
     fn from(_: AllocError) -> ScanFault {
         ScanFault::OutOfMemory
+    }
+}
+
+impl From<DiskFault> for ScanFault {
+    ghost use Rattle.std.specs.Prelude.{◌≡◌};
+    ghost use Rattle.pana_scan.specs.Fault.{listing_fault};
+
+    ghost from_gives = { λ error fault. fault ≡ listing_fault error };
+
+    fn from(error: DiskFault) -> ScanFault {
+        match error {
+            DiskFault::Failed => ScanFault::Folder,
+            DiskFault::OutOfMemory => ScanFault::OutOfMemory,
+        }
     }
 }

@@ -44,6 +44,7 @@ use Rattle.pana_journal.proofs.journal.Journal.TheSendSync as journals
 use Rattle.pana_copies.proofs.copy_table.CopyTable.TheSendSync as copy_tables
 use Rattle.pana_keep.proofs.file.FileDevice.TheSendSync as devices
 use Rattle.pana_keep.proofs.journal_state.JournalState.TheSendSync as states
+use Rattle.pana_seal.proofs.sealer.Sealer.TheSendSync as sealers
 use Rattle.pana_keep.specs.contracts.file.FileDevice as device
 use Rattle.pana_keep.specs.contracts.file.FileDeviceDevice.TheImpl as device_impl
 use Rattle.pana_keep.specs.contracts.journal.Journal as file_journal
@@ -122,7 +123,7 @@ file_journal_send : IsSend (file_journal.the_row device.the_row)
 file_journal_send = declared_send (file_journal.the_type device.the_row) (as_row_send (row_field device.the_row) devices.the_send, (search sendable, (states.the_send, tt)))
 
 kept_hall_send : IsSend (kept_hall.the_row device.the_row device_impl.ghosts)
-kept_hall_send = view_send _ _ _ _ _ (declared_send (kept_hall_inside.the_type device.the_row device_impl.ghosts) (global.the_send, (hall_send, (file_journal_send, tt))))
+kept_hall_send = view_send _ _ _ _ _ (declared_send (kept_hall_inside.the_type device.the_row device_impl.ghosts) (global.the_send, (hall_send, (file_journal_send, (sealers.the_send, tt)))))
 
 kind_send : IsSend kind.the_row
 kind_send = variants_send kind.enum ((hall_send, tt), ((kept_hall_send, tt), tt))

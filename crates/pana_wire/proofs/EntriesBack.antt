@@ -54,19 +54,19 @@ entry_shallow n by (reports.Remove copy (Some heir)) = omega arith
 entry_shallow n by (reports.Confirm entry) = omega arith
 entry_shallow n by (reports.Withdraw entry) = omega arith
 
-entries_back : (entries : List Entry) → All HasEntryNames entries → entries_in (map entry_data entries) ≡ Ok entries
+pub entries_back : (entries : List Entry) → All HasEntryNames entries → entries_in (map entry_data entries) ≡ Ok entries
 unfolding entry_data
 entries_back [] names = refl
 entries_back (entry ∷ entries) names =
     let named = All-head HasEntryNames entry entries names in
     rw (entry_back entry.number entry.by entry.report named.0 named.1, entries_back entries (All-tail HasEntryNames entry entries names)) refl
 
-entries_shallow : (entries : List Entry) → items_depth (items_of (map entry_data entries)) ≤ 1
+pub entries_shallow : (entries : List Entry) → items_depth (items_of (map entry_data entries)) ≤ 1
 unfolding entry_data
 entries_shallow [] = omega arith
 entries_shallow (entry ∷ entries) = omega (arith, entry_shallow entry.number entry.by entry.report, entries_shallow entries)
 
-all_objects : (entries : List Entry) → are_objects (map entry_data entries) ≡ true
+pub all_objects : (entries : List Entry) → are_objects (map entry_data entries) ≡ true
 unfolding entry_data
 all_objects [] = refl
 all_objects (entry ∷ entries) = all_objects entries

@@ -9,6 +9,7 @@ pub mod Short
 pub mod DumpBack
 pub mod EntriesBack
 pub mod OneLine
+pub mod Sealed
 pub mod SessionRun
 pub mod Said
 pub mod FaultLine

@@ -133,7 +133,7 @@ mutual
       (both_in_line (quoted k) (58 ∷ (compact_text d ++ members_text true ms)) (quoted_in_line k)
       (refl, both_in_line (compact_text d) (members_text true ms) (text_in_line d (left_holds (is_natural d) (members_natural ms) is)) (members_in_line true ms (right_holds (is_natural d) (members_natural ms) is))))
 
-entry_natural : (n : ℕ) (by : List ℕ) (report : Report) → is_natural (object (put_report by report (put (field_name fields.Number) (number_data n) no_members))) ≡ true
+pub entry_natural : (n : ℕ) (by : List ℕ) (report : Report) → is_natural (object (put_report by report (put (field_name fields.Number) (number_data n) no_members))) ≡ true
 unfolding put_report
 entry_natural n by (reports.Register place) = refl
 entry_natural n by (reports.Duplicate copy place) = refl
@@ -161,7 +161,7 @@ unended_one begun [] line = refl
 unended_one begun (b ∷ bytes) line =
     ap (λ c. cond c (unended [] (bytes ++ 10 ∷ [])) (unended (begun ++ b ∷ []) (bytes ++ 10 ∷ []))) line.0 ∙ unended_one (begun ++ b ∷ []) bytes line.1
 
-lines_one : (bytes : List ℕ) → IsInLine bytes → lines_of (bytes ++ 10 ∷ []) ≡ bytes ∷ []
+pub lines_one : (bytes : List ℕ) → IsInLine bytes → lines_of (bytes ++ 10 ∷ []) ≡ bytes ∷ []
 lines_one bytes line = rw (ended_one [] bytes line, unended_one [] bytes line) refl
 
 text_one : (entry : Entry) → IsInLine (entry_text entry)

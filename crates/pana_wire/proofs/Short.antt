@@ -1,12 +1,15 @@
 -- The text of a report, and that of 100 entries, is short enough to be read back.
 use Rattle.std.proofs.Common.{◌≡◌, ℕ, zero, suc, ◌+◌, ◌*◌, ◌≤◌, ◌==◌, ◌&&◌, ◌/◌, ◌%◌, Bool, true, false, cond, if◌then◌else◌, List, [], ◌∷◌, ◌++◌, length, map, nat_le, nat_lt, Some, None, Result, Ok, Err, refl, arith}
+use Rattle.std.specs.Prelude.{OnOk}
 use Rattle.std.specs.Result.{IfOk}
 use Rattle.std.specs.Char.{digit_char}
 use Rattle.std.specs.List.{All}
 use Rattle.std.specs.Fmt.{decimal, digits, digits_onto, digit_glyph}
 use Rattle.std.proofs.lemmas.Bool.{leb-true}
 use Rattle.std.proofs.lemmas.List.{length-append}
-use Rattle.std.proofs.lemmas.List.Elements.{All-head, All-tail}
+use Rattle.std.proofs.lemmas.List.Elements.{All-cons, All-nil, All-head, All-tail}
+use Rattle.hex.specs.Hex.{lower_digits}
+use Rattle.hex.proofs.HexLemmas.{length-encode_with}
 use Rattle.json.specs.Print.{escape, escape_byte, escape_letter, quoted}
 use Rattle.serde_json.specs.Data.{unsigned, negative, float, Data, null, boolean, number, string, array, object, Items, no_items, item, Members, no_members, member, put}
 use Rattle.serde_json.specs.View.{items_of}
@@ -21,11 +24,17 @@ use Rattle.pana_wire.specs.Field.{field_name}
 use Rattle.pana_wire.specs.Report.{number_data, put_report, report_data, report_text, entry_data}
 use Rattle.pana_wire.specs.Reply.{entries_data, reply_data, reply_text}
 use Rattle.pana_wire.specs.inner.Names.{HasNames, HasEntryNames}
+use Rattle.pana_wire.specs.inner.SealedData.{sealed_data}
 
 -- what follows of two facts about what was returned
 pub IfOk-both : {X Y : Type 0} (r : Result X Y) (P Q R : X → Type 0) → ((x : X) → P x → Q x → R x) → IfOk r P → IfOk r Q → IfOk r R
 IfOk-both (Ok x) P Q R both p q = both x p q
 IfOk-both (Err y) P Q R both p q = tt
+
+-- what holds anyway, holds where something was returned
+pub on_ok : {X Y : Type 0} (P : Type 0) (r : Result X Y) → IfOk r (λ x. P) → OnOk r P
+on_ok P (Ok x) holds = holds
+on_ok P (Err y) holds = tt
 
 either_short : (b : Bool) (most : ℕ) (xs ys : List ℕ) → length xs ≤ most → length ys ≤ most → length (cond b xs ys) ≤ most
 either_short true most xs ys first second = first
@@ -161,3 +170,8 @@ entries_short (entry ∷ entries) names =
 pub page_short : (entries : List Entry) → All HasEntryNames entries → length entries ≤ 100 → length (reply_text (replies.Journal entries)) ≤ 1048576
 unfolding reply_text reply_data entries_data
 page_short entries names few = omega (arith, fits (reply_data (replies.Journal entries)), entries_short entries names)
+
+pub sealed_short : (entry : Entry) (digest : List ℕ) → HasEntryNames entry → length digest ≡ 32 → length (compact_text (sealed_data entry digest)) ≤ 1048576
+unfolding sealed_data entries_data
+sealed_short entry digest names long =
+    omega (arith, fits (sealed_data entry digest), entries_short (entry ∷ []) (All-cons HasEntryNames entry [] names (All-nil HasEntryNames)), length-encode_with lower_digits digest, long)

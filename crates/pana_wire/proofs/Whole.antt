@@ -58,7 +58,7 @@ entry_whole n by (reports.Remove copy (Some heir)) = refl
 entry_whole n by (reports.Confirm entry) = refl
 entry_whole n by (reports.Withdraw entry) = refl
 
-entries_whole : (entries : List Entry) → items_have_float (items_of (map entry_data entries)) ≡ false
+pub entries_whole : (entries : List Entry) → items_have_float (items_of (map entry_data entries)) ≡ false
 unfolding entry_data
 entries_whole [] = refl
 entries_whole (entry ∷ entries) = rw (entry_whole entry.number entry.by entry.report) (entries_whole entries)

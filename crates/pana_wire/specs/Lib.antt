@@ -10,5 +10,6 @@ pub mod Lines
 pub mod Tap
 pub mod Session
 pub mod Laws
+pub mod Seal
 pub mod Shown
 pub mod inner

@@ -2,5 +2,6 @@
 pub mod Kept
 pub mod Names
 pub mod Progress
+pub mod SealedData
 pub mod Slices
 pub mod Writing

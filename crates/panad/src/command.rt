@@ -1,4 +1,5 @@
-use crate::daemon;
+use crate::daemon::{self, Wishes};
+use crate::descriptors::take_standard_descriptors;
 use crate::fault::ProgramFault;
 use crate::keeping::{run_kept, show_kept};
 use crate::printing::print_answer;
@@ -7,8 +8,10 @@ use crate::version::VERSION;
 use clap::error::{Error, ErrorKind};
 use clap::{Arg, ArgAction, ArgMatches, Command, value_parser};
 use pana_commands::{Answer, compare_on, load_on, run_on, scan_on, show_on};
+use pana_host::Patience;
+use pana_keep::ends_journal;
 use pana_kept::before_end;
-use pana_scan::Disk;
+use pana_scan::SystemDisk;
 use pana_wire::Tap;
 use std::alloc::{AllocError, Global};
 use std::io::{BufWriter, Read};
@@ -16,6 +19,7 @@ use std::marker::Sync;
 use std::process::ExitCode;
 use std::sync::Wait;
 use std::thread::Threads;
+use std::time::Clock;
 use std::{fs, io};
 
 /// How many reads a session of the program makes at most.
@@ -91,9 +95,10 @@ is kept after it ends. Example:
     $ panad serve --port 7000 usb=/media/usb laptop=/home/me/papers
     listening 127.0.0.1:7000
 
-At the start, and again at each newline on standard input, each folder is scanned,
-and what appeared, changed or went is reported by its device. Without --sessions it
-runs until it is killed.";
+At the start, and again after each newline on standard input, each folder is
+scanned, and what appeared, changed or went is reported by its device; without a
+folder standard input isn't read. Without --sessions it runs until it is killed,
+or until the journal's file fails.";
 
 const COMPARE_EXAMPLE: &str = "\
 A stamp is an id and an event of an Interval Tree Clock. Example:
@@ -119,6 +124,18 @@ const PORT: &str = "port";
 
 const SESSIONS: &str = "sessions";
 
+/// The names of what a client may take its time for, and the seconds where they aren't given.
+const HURRY: &str = "hurry";
+
+const HURRY_SECONDS: u32 = 5;
+
+const IDLE: &str = "idle";
+
+const IDLE_SECONDS: u32 = 300;
+
+/// The name of the wish to go on without a journal.
+const STAY: &str = "stay";
+
 const ROOT: &str = "DEVICE=DIR";
 
 /// The name of the file on the command line.
@@ -139,6 +156,14 @@ const SECOND: &str = "SECOND";
 
 fn journal_option<'a>(alloc: Global) -> Arg<'a> {
     Arg::new(alloc, JOURNAL).long(JOURNAL).value_name(FILE)
+}
+
+fn seconds_option<'a>(alloc: Global, name: &'a str, help: &'a str) -> Arg<'a> {
+    Arg::new(alloc, name)
+        .long(name)
+        .value_name("SECONDS")
+        .value_parser(value_parser!(u32))
+        .help(help)
 }
 
 fn run_command<'a>(alloc: Global) -> Result<Command<'a>, AllocError> {
@@ -203,6 +228,21 @@ fn compare_command<'a>(alloc: Global) -> Result<Command<'a>, AllocError> {
         .arg(second)
 }
 
+/// The command with the options that say how long a client may keep others waiting.
+fn with_patience<'a>(alloc: Global, command: Command<'a>) -> Result<Command<'a>, AllocError> {
+    let hurry = seconds_option(
+        alloc,
+        HURRY,
+        "Time to a first line, or to take an answer, while others wait; 5 by default",
+    );
+    let idle = seconds_option(
+        alloc,
+        IDLE,
+        "Time to a further line while others wait; 300 by default",
+    );
+    command.arg(hurry)?.arg(idle)
+}
+
 fn serve_command<'a>(alloc: Global) -> Result<Command<'a>, AllocError> {
     let port = Arg::new(alloc, PORT)
         .long(PORT)
@@ -214,20 +254,26 @@ fn serve_command<'a>(alloc: Global) -> Result<Command<'a>, AllocError> {
         .long(SESSIONS)
         .value_name("S")
         .value_parser(value_parser!(u64))
-        .help("End after S sessions and the end of standard input");
+        .help("End after S sessions, and with a folder the end of standard input");
     let journal = journal_option(alloc).help(
         "The file that keeps the reports; it is made if it isn't there",
     );
+    let stay = Arg::new(alloc, STAY)
+        .long(STAY)
+        .action(ArgAction::SetTrue)
+        .help("Answer questions for ever once the journal's file has failed");
     let roots = Arg::new(alloc, ROOT)
         .action(ArgAction::Append)
         .help("A device and the folder with its copies, up to 8 of them");
-    Command::new(alloc, SERVE)
+    let command = Command::new(alloc, SERVE)
         .about("Answers lines over TCP, up to 16 sessions at a time, and scans folders")
         .after_help(SERVE_EXAMPLE)
         .arg(port)?
         .arg(sessions)?
         .arg(journal)?
-        .arg(roots)
+        .arg(stay)?
+        .arg(roots)?;
+    with_patience(alloc, command)
 }
 
 /// What the words of the command line may be.
@@ -267,7 +313,7 @@ fn scan(rt: &HostRuntime, words: &ArgMatches) -> Result<ExitCode, ProgramFault> 
     let mut progress = Progress::new(rt);
     let answer = scan_on(
         rt.alloc(),
-        &mut Disk::new(rt),
+        &mut SystemDisk::new(rt),
         device,
         folder,
         &mut progress,
@@ -283,7 +329,7 @@ fn compare(rt: &HostRuntime, words: &ArgMatches) -> Result<ExitCode, ProgramFaul
     print_answer(rt, &compare_on(rt.alloc(), first, second)?)
 }
 
-fn serve<T: Threads + Wait + Sync>(
+fn serve<T: Threads + Wait + Clock + Sync>(
     rt: &HostRuntime,
     threads: &T,
     words: &ArgMatches,
@@ -292,7 +338,17 @@ fn serve<T: Threads + Wait + Sync>(
     let port = words.get_one(PORT).unwrap_or(0);
     let roots = words.get_strs(ROOT).unwrap_or(&[]);
     let journal = words.get_str(JOURNAL);
-    daemon::serve(rt, threads, port, words.get_one(SESSIONS), journal, roots)
+    let patience = Patience {
+        hurry: words.get_one(HURRY).unwrap_or(HURRY_SECONDS),
+        idle: words.get_one(IDLE).unwrap_or(IDLE_SECONDS),
+    };
+    let wishes = Wishes {
+        port,
+        wanted: words.get_one(SESSIONS),
+        patience,
+        stays: words.get_flag(STAY),
+    };
+    daemon::serve(rt, threads, wishes, journal, roots)
 }
 
 /// The bytes of a file, or `None` where it can't be read.
@@ -340,10 +396,15 @@ fn show(rt: &HostRuntime, words: &ArgMatches) -> Result<ExitCode, ProgramFault> 
 fn load(rt: &HostRuntime, words: &ArgMatches) -> Result<ExitCode, ProgramFault> {
     // The word is required, so it is there.
     let name = words.get_str(FILE).unwrap_or("");
-    match bytes_of(rt, name)? {
-        Some(bytes) => print_answer(rt, &load_on(rt.alloc(), before_end(&bytes))?),
-        None => cannot_read(rt, name),
+    let Some(bytes) = bytes_of(rt, name)? else {
+        return cannot_read(rt, name);
+    };
+    let lines = before_end(&bytes);
+    if !bytes.get(lines.len()..).is_some_and(ends_journal) {
+        let text = format!(in rt.alloc(); "journal {name}: not a journal")?;
+        return print_answer(rt, &Answer::reported(rt.alloc(), &text)?);
     }
+    print_answer(rt, &load_on(rt.alloc(), lines)?)
 }
 
 /// Prints help, or what is wrong with the words, and returns the status for it.
@@ -373,7 +434,7 @@ fn words_of(rt: &HostRuntime) -> Result<Option<Vec<String>>, ProgramFault> {
     }
 }
 
-fn obey_words<T: Threads + Wait + Sync>(
+fn obey_words<T: Threads + Wait + Clock + Sync>(
     rt: &HostRuntime,
     threads: &T,
     words: &[String],
@@ -394,7 +455,10 @@ fn obey_words<T: Threads + Wait + Sync>(
     }
 }
 
-fn obey<T: Threads + Wait + Sync>(rt: &HostRuntime, threads: &T) -> Result<ExitCode, ProgramFault> {
+fn obey<T: Threads + Wait + Clock + Sync>(
+    rt: &HostRuntime,
+    threads: &T,
+) -> Result<ExitCode, ProgramFault> {
     match words_of(rt)? {
         Some(words) => obey_words(rt, threads, words.as_slice()),
         None => refuse(
@@ -407,7 +471,8 @@ fn obey<T: Threads + Wait + Sync>(rt: &HostRuntime, threads: &T) -> Result<ExitC
 
 /// Does what the command line asks. The status is 0, or 1 for a fault, which is printed in one line on standard error,
 /// or 2 for a command line that is refused.
-pub fn start<T: Threads + Wait + Sync>(rt: &HostRuntime, threads: &T) -> ExitCode {
+pub fn start<T: Threads + Wait + Clock + Sync>(rt: &HostRuntime, threads: &T) -> ExitCode {
+    take_standard_descriptors(rt);
     match obey(rt, threads) {
         Ok(status) => status,
         Err(fault) => {

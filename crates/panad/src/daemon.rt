@@ -6,6 +6,7 @@ use crate::printing::print_answer;
 use pana_commands::Answer;
 use pana_daemon::{DaemonFault, RootFault, roots_of};
 use pana_hall::Hall;
+use pana_host::{Entrance, Patience};
 use pana_turn::DeskHall;
 use std::io;
 use std::marker::Sync;
@@ -13,6 +14,17 @@ use std::net::{Ipv4Addr, SocketAddr, TcpListener};
 use std::process::ExitCode;
 use std::sync::Wait;
 use std::thread::Threads;
+use std::time::Clock;
+
+/// What the command line asks of the daemon.
+#[derive(Clone, Copy, Debug, PartialEq, Eq)]
+pub struct Wishes {
+    pub port: u16,
+    pub wanted: Option<u64>,
+    pub patience: Patience,
+    /// Whether it stays where the journal's file has failed.
+    pub stays: bool,
+}
 
 /// A listener on a port of 127.0.0.1, and its address.
 fn listener_on(rt: &HostRuntime, port: u16) -> io::Result<(TcpListener, SocketAddr)> {
@@ -43,16 +55,21 @@ fn hall_of(
 }
 
 /// Listens on a port of 127.0.0.1, and serves sessions and scans the roots that the words name, until as many sessions
-/// were served as are wanted and standard input has ended.
-pub fn serve<T: Threads + Wait + Sync>(
+/// were served as are wanted and, where there is a root, standard input has ended.
+pub fn serve<T: Threads + Wait + Clock + Sync>(
     rt: &HostRuntime,
     threads: &T,
-    port: u16,
-    wanted: Option<u64>,
+    wishes: Wishes,
     journal: Option<&str>,
     words: &[&str],
 ) -> Result<ExitCode, ProgramFault> {
     let alloc = rt.alloc();
+    let Wishes {
+        port,
+        wanted,
+        patience,
+        stays,
+    } = wishes;
     let roots = match roots_of(alloc, words) {
         Ok(roots) => roots,
         Err(RootFault::OutOfMemory) => return Err(ProgramFault::OutOfMemory),
@@ -67,12 +84,17 @@ pub fn serve<T: Threads + Wait + Sync>(
         Ok(hall) => hall,
         Err(status) => return Ok(status),
     };
+    let entrance = Entrance {
+        listener,
+        wanted,
+        patience,
+    };
     match pana_daemon::serve(
         rt,
         threads,
-        &listener,
         &address,
-        wanted,
+        entrance,
+        stays,
         roots.as_slice(),
         hall,
     ) {
@@ -80,5 +102,9 @@ pub fn serve<T: Threads + Wait + Sync>(
         Err(DaemonFault::Unanswered) => Ok(ExitCode::FAILURE), // it has been printed
         Err(DaemonFault::OutOfMemory) => Err(ProgramFault::OutOfMemory),
         Err(DaemonFault::Write) => Err(ProgramFault::Write),
+        Err(DaemonFault::NoThreads) => complain(rt, &format!(in alloc; "cannot make threads")?),
+        Err(DaemonFault::NoDescriptor) => {
+            complain(rt, &format!(in alloc; "cannot listen on port {port}")?)
+        }
     }
 }

@@ -1,7 +1,7 @@
-//! Files of journals: found or made, locked and synced.
+//! Files of journals: found or made, locked, and read from the disk.
 
 use std::fs::{self, File, OpenOptions, TryLockError};
-use std::io::{self, ErrorKind};
+use std::io::{self, Error, ErrorKind};
 use std::os::fd::AsRawFd;
 use std::os::unix::fs::{MetadataExt, OpenOptionsExt};
 use std::path::Path;
@@ -24,24 +24,61 @@ fn folder_of(name: &str) -> &str {
     }
 }
 
-/// Makes a file that only its owner may read and write, and syncs its folder.
+/// Whether the name leads to a regular file. What isn't one isn't even opened: a pipe would wait for its other end.
+fn is_regular(rt: &HostRuntime, name: &str) -> io::Result<bool> {
+    Ok(fs::metadata(rt, name)?.is_file())
+}
+
+/// The regular file with this name, to be read.
+pub fn open_to_read(rt: &HostRuntime, name: &str) -> io::Result<File> {
+    if is_regular(rt, name)? {
+        File::open(rt, name)
+    } else {
+        Err(ErrorKind::InvalidInput.into())
+    }
+}
+
+/// The regular file with this name, to be read and written.
+fn find(rt: &HostRuntime, name: &str) -> io::Result<File> {
+    if is_regular(rt, name)? {
+        OpenOptions::new().read(true).write(true).open(rt, name)
+    } else {
+        Err(ErrorKind::InvalidInput.into())
+    }
+}
+
+/// Makes a file that only its owner may read and write.
 fn make(rt: &HostRuntime, name: &str) -> io::Result<File> {
-    let file = OpenOptions::new()
+    OpenOptions::new()
         .read(true)
         .write(true)
         .create_new(true)
         .mode(0o600)
-        .open(rt, name)?;
-    File::open(rt, folder_of(name))?.sync_all()?;
-    Ok(file)
+        .open(rt, name)
 }
 
 /// The file with this name, which is made where it isn't there.
 fn find_or_make(rt: &HostRuntime, name: &str) -> io::Result<File> {
-    match OpenOptions::new().read(true).write(true).open(rt, name) {
-        Err(error) if matches!(error.kind(), ErrorKind::NotFound) => make(rt, name),
-        found => found,
+    match find(rt, name) {
+        Err(error) if matches!(error.kind(), ErrorKind::NotFound) => {}
+        found => return found,
     }
+    match make(rt, name) {
+        Err(error) if matches!(error.kind(), ErrorKind::AlreadyExists) => find(rt, name),
+        made => made,
+    }
+}
+
+/// Has the file and its name on the disk, and what is read of it come from there: after a sync that failed for an earlier
+/// process, memory may hold what the disk has not, and a later sync succeeds.
+fn settle(rt: &HostRuntime, name: &str, file: &File) -> io::Result<()> {
+    file.sync_all()?;
+    let advised = libc::posix_fadvise(file.as_raw_fd(), 0, 0, libc::POSIX_FADV_DONTNEED);
+    if advised != 0 {
+        return Err(Error::from_raw_os_error(advised));
+    }
+    let whole = fs::canonicalize(rt, name)?;
+    File::open(rt, folder_of(whole.as_str()))?.sync_all()
 }
 
 /// Whether the file is a regular one, and the one that has this name now.
@@ -64,11 +101,11 @@ fn lock(rt: &HostRuntime, name: &str) -> io::Result<Result<File, FileFault>> {
     if !is_named(rt, name, &file)? {
         return Ok(Err(FileFault::CannotOpen));
     }
-    file.sync_all()?;
+    settle(rt, name, &file)?;
     Ok(Ok(file))
 }
 
-/// Opens a journal's file, or makes it, and locks it for this process. What others have written to it is synced.
+/// Opens a journal's file, or makes it, and locks it for this process. It is on the disk then, and so is its name.
 pub fn open_locked(rt: &HostRuntime, name: &str) -> Result<File, FileFault> {
     match lock(rt, name) {
         Ok(locked) => locked,

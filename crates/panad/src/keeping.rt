@@ -2,7 +2,7 @@
 
 use crate::command::READS;
 use crate::fault::ProgramFault;
-use crate::journal_file::{FileFault, open_locked};
+use crate::journal_file::{FileFault, open_locked, open_to_read};
 use crate::printing::print_answer;
 use pana_commands::{Answer, tables_of};
 use pana_keep::{FileDevice, Journal};
@@ -49,6 +49,16 @@ fn serve_input(
     }
 }
 
+/// The journal in a file of this name.
+fn journal_of(
+    rt: &HostRuntime,
+    name: &str,
+    file: File,
+) -> Result<Journal<FileDevice>, ProgramFault> {
+    let name = String::from_str(rt.alloc(), name)?;
+    Ok(Journal::new(FileDevice::new(rt.clone()?, name, file)))
+}
+
 /// The hall of a journal's file; or the status, where a line says why there is none.
 pub fn open_hall(
     rt: &HostRuntime,
@@ -58,11 +68,11 @@ pub fn open_hall(
         Ok(file) => file,
         Err(fault) => return Ok(Err(report_file(rt, name, fault)?)),
     };
-    let mut journal = Journal::new(FileDevice::new(file));
+    let mut journal = journal_of(rt, name, file)?;
     match pana_kept::open(rt.alloc(), &mut journal) {
-        Ok(Opened { hall, torn }) => {
+        Ok(Opened { hall, sealer, torn }) => {
             report_torn(rt, name, torn);
-            Ok(Ok(KeptHall::new(rt.alloc(), hall, journal)))
+            Ok(Ok(KeptHall::new(rt.alloc(), hall, journal, sealer)))
         }
         Err(fault) => Ok(Err(report_fault(rt, name, fault)?)),
     }
@@ -79,10 +89,10 @@ pub fn run_kept(rt: &HostRuntime, name: &str) -> Result<ExitCode, ProgramFault> 
 
 /// Prints the tables of a journal's file, which isn't changed.
 pub fn show_kept(rt: &HostRuntime, name: &str) -> Result<ExitCode, ProgramFault> {
-    let Ok(file) = File::open(rt, name) else {
+    let Ok(file) = open_to_read(rt, name) else {
         return report_file(rt, name, FileFault::CannotOpen);
     };
-    let mut journal = Journal::new(FileDevice::new(file));
+    let mut journal = journal_of(rt, name, file)?;
     match pana_kept::read(rt.alloc(), &mut journal) {
         Ok(Opened { mut hall, .. }) => {
             let tables = tables_of(rt.alloc(), &mut hall)?;

@@ -3,6 +3,7 @@
 
 mod command;
 mod daemon;
+mod descriptors;
 mod fault;
 mod journal_file;
 mod keeping;

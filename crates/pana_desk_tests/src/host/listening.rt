@@ -1,6 +1,6 @@
 //! What no clause says of connections: that each is taken, and answered where memory is there.
 
-use pana_host::{OpenGate, listen};
+use pana_host::{Entrance, OpenGate, Patience, listen};
 use pana_turn::Desk;
 use std::alloc::AllocError;
 use std::io;
@@ -30,7 +30,15 @@ fn connections_one_after_another(rt: HostRuntime) -> Result<(), Fail> {
     let page = client(&rt, &listener, REQUEST)?;
     let second = client(&rt, &listener, PAIR)?;
     let (desk, passes) = Desk::open(alloc, 1)?;
-    let Ok(mut passes) = listen(&rt, alloc, &desk, &listener, passes, Some(3), &OpenGate) else {
+    let entrance = Entrance {
+        listener,
+        wanted: Some(3),
+        patience: Patience {
+            hurry: 5,
+            idle: 300,
+        },
+    };
+    let Ok(mut passes) = listen(&rt, alloc, &desk, entrance, passes, &OpenGate) else {
         return Err(Fail::from(AllocError));
     };
     let answer = io::read_to_string(alloc, first)?;

@@ -22,7 +22,7 @@ captures name A B C D a b c d =
 
 pub join-requires-send-F : goal.join-requires-send-F
 join-requires-send-F g c κs within =
-    param_send 1 _ (arg_send _ no _ (captures _ _ _ _ _ (shr_send _ _ (param 0 g.row.T) c.type_bounds.sync-T) global.the_send (boxes.the_send _ _ _ (front_send _ _ _ _) global.the_send frees.the_frees) (vecs.the_send _ _ _ pass_send global.the_send frees.the_frees)))
+    param_send 1 _ (arg_send _ no _ (captures _ _ _ _ _ (shr_send _ _ (param 0 g.row.T) c.type_bounds.sync-T) global.the_send (boxes.the_send _ _ _ (front_send _ _ _) global.the_send frees.the_frees) (vecs.the_send _ _ _ pass_send global.the_send frees.the_frees)))
 
 two : (name : Sym) (A B : RattleType) → IsSend A → IsSend B → IsSend (TupleAt name (A ∷ B ∷ []))
 two name A B a b = let made = type_at name (A ∷ B ∷ []) in recorded_send _ _ _ made.to_one (struct_send (shape made) (a, (b, tt)))

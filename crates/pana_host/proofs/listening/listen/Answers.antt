@@ -10,14 +10,14 @@ use denote.Exit.{no}
 use denote.Param.{param}
 use denote.Param.Send.{IsSync, sendable, param_send, arg_send, param_sync, arg_sync, shr_sync, recorded_sync, struct_sync}
 use Rattle.std.proofs.alloc.Global.TheSendSync as global
-use Rattle.std.proofs.net.tcp.TcpListener.TheSendSync as listeners
 use Rattle.std.proofs.sync.Mutex.TheSendSync as mutexes
-use Rattle.std.proofs.option.Option.TheSendSync as options
 use Rattle.pana_turn.specs.Passes.{PassView}
 use Rattle.pana_host.specs.Listen.{HaveGrown}
 use Rattle.pana_host.specs.Session.{GrowsTo}
 use Rattle.pana_host.proofs.Sessions.{all_grown}
 use Rattle.pana_host.proofs.Sending.{session_send}
+use Rattle.pana_host.proofs.door.Door.TheSendSync as doors
+use Rattle.pana_host.proofs.patience.Patience.TheSendSync as patience
 use Rattle.pana_host.proofs.listening.listen.Goals as goal
 
 pub for_each_mut-requires-send-T : goal.for_each_mut-requires-send-T
@@ -30,7 +30,7 @@ captures name A B C D E a b c d e =
 
 pub for_each_mut-requires-sync-F : goal.for_each_mut-requires-sync-F
 for_each_mut-requires-sync-F g c κs within =
-    param_sync 2 _ (arg_sync _ no _ (captures _ _ _ _ _ _ (shr_sync _ _ (param 0 g.row.T) c.type_bounds.sync-T) global.the_sync (shr_sync _ _ _ listeners.the_sync) (shr_sync _ _ _ (mutexes.the_sync u64 (search sendable))) (options.the_sync u64 (search sendable))))
+    param_sync 2 _ (arg_sync _ no _ (captures _ _ _ _ _ _ (shr_sync _ _ (param 0 g.row.T) c.type_bounds.sync-T) global.the_sync (shr_sync _ _ (param 1 g.row.G) c.type_bounds.sync-G) (shr_sync _ _ _ (mutexes.the_sync _ doors.the_send)) patience.the_sync))
 
 -- threads leave as many sessions as there were
 kept : (n : ℕ) (new old : List PassView) → length new ≡ length old → length old ≡ n → take n (new ++ drop (length new) old) ≡ new

@@ -13,7 +13,7 @@ pub returns-in-Ok-clause-step : goal.returns-in-Ok-clause-step
 returns-in-Ok-clause-step g c =
     let still : c.stage.new.self.state ≡ Open = c.in-Ok.ensures.open in
     IfOk-weaker c.finish.result _ _
-    (λ reply k. staged_keeps g.D.Device.is_known g.D.Device.seen g.D.Device.may_leave g.D.Device.is_usable g.D.Device.moment g.D.Device.left_since g.D.Device.has_failed c.args.hall.now c.finish.new.hall c.args.journal.now c.stage.new.self c.finish.new.journal c.args.by.now (calls.Report c.args.report) reply
+    (λ reply k. staged_keeps g.D.Device.is_known g.D.Device.seen g.D.Device.may_leave g.D.Device.is_usable g.D.Device.moment g.D.Device.left_since g.D.Device.has_failed c.args.hall.now c.finish.new.hall c.args.journal.now c.stage.new.self c.finish.new.journal c.args.sealer.now c.finish.new.sealer c.args.by.now (calls.Report c.args.report) reply
     c.requires.open (still ∙ sym c.requires.open) c.stage.ensures.end (λ known. (c.requires.kept known c.requires.open).1) c.stage.ensures.any_moment k)
     c.finish.ensures.step
 
@@ -21,7 +21,7 @@ pub returns-in-Ok-clause-spent : goal.returns-in-Ok-clause-spent
 returns-in-Ok-clause-spent g c =
     let still : c.stage.new.self.state ≡ Open = c.in-Ok.ensures.open in
     on_err_weaker c.finish.result
-    (λ k. staged_breaks g.D.Device.is_known g.D.Device.seen g.D.Device.may_leave g.D.Device.is_usable g.D.Device.moment g.D.Device.left_since g.D.Device.has_failed c.args.hall.now c.finish.new.hall c.args.journal.now c.stage.new.self c.finish.new.journal
+    (λ k. staged_breaks g.D.Device.is_known g.D.Device.seen g.D.Device.may_leave g.D.Device.is_usable g.D.Device.moment g.D.Device.left_since g.D.Device.has_failed c.args.hall.now c.finish.new.hall c.args.journal.now c.stage.new.self c.finish.new.journal c.args.sealer.now c.finish.new.sealer
     c.requires.open still (λ known. (c.requires.kept known c.requires.open).1) c.stage.ensures.any_moment k)
     c.finish.ensures.spent
 
@@ -29,12 +29,12 @@ pub returns-in-Err-Refused-clause-step : goal.returns-in-Err-Refused-clause-step
 returns-in-Err-Refused-clause-step g c =
     let refused : (c.stage.new.self.state ≡ Open) × (IsTrue g.D.Device.is_known → IsSettled g.D.Device.seen g.D.Device.may_leave g.D.Device.is_usable c.stage.new.self) = ⊎_elim (λ is. absurd (cc)) (λ still. still) c.in-Err-Refused.ensures.refused in
     subst (λ (cause : Cause). Keeps g.D.Device.is_known g.D.Device.seen g.D.Device.may_leave g.D.Device.is_usable g.D.Device.moment g.D.Device.left_since g.D.Device.has_failed
-    (record { entries = c.args.hall.now; journal = c.args.journal.now }) c.args.by.now (calls.Report c.args.report) (Refused cause) (record { entries = c.args.hall.now; journal = c.stage.new.self })) (sym c.cause_of.ensures)
-    (not_written g.D.Device.is_known g.D.Device.seen g.D.Device.may_leave g.D.Device.is_usable g.D.Device.moment g.D.Device.left_since g.D.Device.has_failed c.args.hall.now c.args.journal.now c.stage.new.self c.args.by.now c.args.report c.in-Err-Refused.fault
+    (record { entries = c.args.hall.now; journal = c.args.journal.now; sealer = c.args.sealer.now }) c.args.by.now (calls.Report c.args.report) (Refused cause) (record { entries = c.args.hall.now; journal = c.stage.new.self; sealer = c.args.sealer.now })) (sym c.cause_of.ensures)
+    (not_written g.D.Device.is_known g.D.Device.seen g.D.Device.may_leave g.D.Device.is_usable g.D.Device.moment g.D.Device.left_since g.D.Device.has_failed c.args.hall.now c.args.journal.now c.stage.new.self c.args.sealer.now c.args.by.now c.args.report c.in-Err-Refused.fault
     c.requires.open (refused.0 ∙ sym c.requires.open) c.requires.free (λ known. failed_or_full c.args.journal.now.end c.args.line.now c.requires.line.short (c.in-Err-Refused.ensures.cause known))
-    (λ known. (c.requires.kept known c.requires.open).1) refused.1 c.stage.ensures.same c.stage.ensures.any_moment)
+    (λ known. (c.requires.kept known c.requires.open).1) (λ known. (c.requires.kept known c.requires.open).2) refused.1 c.stage.ensures.same c.stage.ensures.any_moment)
 
 pub returns-clause-spent : goal.returns-clause-spent
 returns-clause-spent g c =
-    not_staged g.D.Device.is_known g.D.Device.seen g.D.Device.may_leave g.D.Device.is_usable g.D.Device.moment g.D.Device.left_since g.D.Device.has_failed c.args.hall.now c.args.journal.now c.stage.new.self
+    not_staged g.D.Device.is_known g.D.Device.seen g.D.Device.may_leave g.D.Device.is_usable g.D.Device.moment g.D.Device.left_since g.D.Device.has_failed c.args.hall.now c.args.journal.now c.stage.new.self c.args.sealer.now
     c.requires.open (c.in-Err-Broken.ensures.broken (ap Err c.in-Err-Broken.field-0-is)).0 (c.in-Err-Broken.ensures.failed (ap Err c.in-Err-Broken.field-0-is)) (λ known. (c.requires.kept known c.requires.open).1) c.stage.ensures.any_moment

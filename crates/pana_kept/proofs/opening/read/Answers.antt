@@ -3,6 +3,7 @@ use Rattle.std.proofs.lemmas.Result.{err_from_is_err_and}
 use Rattle.pana_wire.specs.Lines.{lines_of}
 use Rattle.pana_keep.specs.Lines.{recovered, text_of}
 use Rattle.pana_wire.specs.DumpLines.{Say}
+use Rattle.pana_seal.specs.Seal.{Covers, IsIntact}
 use Rattle.pana_kept.specs.Opening.{HaveNoHall}
 use Rattle.pana_kept.proofs.Texts.{lines_again, open_fault}
 use Rattle.pana_kept.proofs.opening.read.Goals as goal
@@ -20,4 +21,11 @@ pub returns-clause-hall : goal.returns-clause-hall
 returns-clause-hall g c known =
     let file = g.D.Device.seen c.args.journal.now.device in
     let text : c.deref.result.now ≡ text_of (recovered file) = search (rules, c.in_ok-text.ensures.text, known) in
-    subst (λ (ls : List (List ℕ)). Say ls c.in_ok-hall.hall) (ap lines_of text ∙ lines_again file) c.in_ok-hall.ensures.ok
+    let same : lines_of c.deref.result.now ≡ recovered file = ap lines_of text ∙ lines_again file in
+    (subst (λ (ls : List (List ℕ)). Say ls c.in_ok-hall.hall) same c.in_ok-hall.ensures.says, subst IsIntact same c.in_ok-hall.ensures.intact)
+
+pub returns-clause-covers : goal.returns-clause-covers
+returns-clause-covers g c known =
+    let file = g.D.Device.seen c.args.journal.now.device in
+    let text : c.deref.result.now ≡ text_of (recovered file) = search (rules, c.in_ok-text.ensures.text, known) in
+    subst (λ (ls : List (List ℕ)). Covers c.in_ok-hall.sealer (text_of ls)) (ap lines_of text ∙ lines_again file) c.in_ok-hall.ensures.covers

@@ -13,11 +13,7 @@ use Rattle.pana_wire.specs.inner.Names.{HasEntryNames}
 use Rattle.pana_wire.proofs.EntriesBack.{reply_back}
 use Rattle.pana_wire.proofs.Whole.{reply_whole}
 use Rattle.pana_wire.proofs.writing.entry_text.Goals as goal
-use Rattle.pana_wire.proofs.Short.{IfOk-both}
-
-on_ok : {X Y : Type 0} (P : Type 0) (r : Result X Y) → IfOk r (λ x. P) → OnOk r P
-on_ok P (Ok x) holds = holds
-on_ok P (Err y) holds = tt
+use Rattle.pana_wire.proofs.Short.{IfOk-both, on_ok}
 
 pub returns-clause-text : goal.returns-clause-text
 unfolding reply_text

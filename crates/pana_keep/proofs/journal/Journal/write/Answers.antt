@@ -12,8 +12,8 @@ on_err : {A E : Type 0} (r : Result A E) (P : Type 0) → P → OnErr r P
 on_err (Ok x) P p = tt
 on_err (Err e) P p = p
 
-pub returns-then-text-gt-MOST_BYTES-clause-any_moment : goal.returns-then-text-gt-MOST_BYTES-clause-any_moment
-returns-then-text-gt-MOST_BYTES-clause-any_moment g c known =
+pub returns-then-text-gt-LONGEST-clause-any_moment : goal.returns-then-text-gt-LONGEST-clause-any_moment
+returns-then-text-gt-LONGEST-clause-any_moment g c known =
     let s = c.requires.settled known in
     let k0 = keeps_start g.D.Device.seen g.D.Device.may_leave g.D.Device.is_usable g.D.Device.moment g.D.Device.left_since c.args.self.now s (g.met.D.Device.only_now c.args.self.now.device) in
     k0.so_far

@@ -9,7 +9,7 @@ use Rattle.pana_kept.proofs.kept_hall.KeptHall.make.Goals as goal
 pub invariant_of-self : goal.invariant_of-self
 invariant_of-self g c known =
     let same : c.apply.new.self ≡ c.self.inside.hall = c.apply.ensures.journal ∙ after_query c.self.inside.hall c.args.by.now c.in-Query.query c.apply.result in
-    subst (λ (es : List Entry). IsKept g.D.Device.seen g.D.Device.may_leave g.D.Device.is_usable (record { entries = es; journal = c.self.inside.journal })) (sym same) (c.self.invariant known)
+    subst (λ (es : List Entry). IsKept g.D.Device.seen g.D.Device.may_leave g.D.Device.is_usable (record { entries = es; journal = c.self.inside.journal; sealer = c.self.inside.sealer })) (sym same) (c.self.invariant known)
 
 pub returns-in-Query-clause-step : goal.returns-in-Query-clause-step
 returns-in-Query-clause-step g c =
@@ -17,10 +17,10 @@ returns-in-Query-clause-step g c =
     let journal = c.self.inside.journal in
     let by = c.args.by.now in
     let reply = c.apply.result in
-    let new : KeptView g.row.D.Denot = record { entries = c.apply.new.self; journal = journal } in
+    let new : KeptView g.row.D.Denot = record { entries = c.apply.new.self; journal = journal; sealer = c.self.inside.sealer } in
     let same : c.apply.new.self ≡ es = c.apply.ensures.journal ∙ after_query es by c.in-Query.query reply in
     let P : KeptView g.row.D.Denot → Type 0 = λ v. Keeps g.D.Device.is_known g.D.Device.seen g.D.Device.may_leave g.D.Device.is_usable g.D.Device.moment g.D.Device.left_since g.D.Device.has_failed v by c.args.call reply new in
-    let Q : Call → Type 0 = λ call. Keeps g.D.Device.is_known g.D.Device.seen g.D.Device.may_leave g.D.Device.is_usable g.D.Device.moment g.D.Device.left_since g.D.Device.has_failed (record { entries = es; journal = journal }) by call reply new in
+    let Q : Call → Type 0 = λ call. Keeps g.D.Device.is_known g.D.Device.seen g.D.Device.may_leave g.D.Device.is_usable g.D.Device.moment g.D.Device.left_since g.D.Device.has_failed (record { entries = es; journal = journal; sealer = c.self.inside.sealer }) by call reply new in
     subst P c.self.view_is (subst Q (sym c.in-Query.is)
-    (answered g.D.Device.is_known g.D.Device.seen g.D.Device.may_leave g.D.Device.is_usable g.D.Device.moment g.D.Device.left_since g.D.Device.has_failed es c.apply.new.self journal by (calls.Query c.in-Query.query) reply same tt c.self.invariant (g.met.D.Device.only_now journal.device)
+    (answered g.D.Device.is_known g.D.Device.seen g.D.Device.may_leave g.D.Device.is_usable g.D.Device.moment g.D.Device.left_since g.D.Device.has_failed es c.apply.new.self journal c.self.inside.sealer by (calls.Query c.in-Query.query) reply same tt c.self.invariant (g.met.D.Device.only_now journal.device)
     (c.apply.ensures.permitted, c.apply.ensures.journal)))

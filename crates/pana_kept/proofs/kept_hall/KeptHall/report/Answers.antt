@@ -19,7 +19,7 @@ returns-in-Some-clause-step g c =
     let works : journal.state ≡ Open = search rules in
     let P : KeptView g.row.D.Denot → Type 0 = λ v. Keeps g.D.Device.is_known g.D.Device.seen g.D.Device.may_leave g.D.Device.is_usable g.D.Device.moment g.D.Device.left_since g.D.Device.has_failed v by (calls.Report report) (replies.Refused cause) v in
     subst P c.self.view_is
-    (answered g.D.Device.is_known g.D.Device.seen g.D.Device.may_leave g.D.Device.is_usable g.D.Device.moment g.D.Device.left_since g.D.Device.has_failed es es journal by (calls.Report report) (replies.Refused cause) refl works c.self.invariant (g.met.D.Device.only_now journal.device)
+    (answered g.D.Device.is_known g.D.Device.seen g.D.Device.may_leave g.D.Device.is_usable g.D.Device.moment g.D.Device.left_since g.D.Device.has_failed es es journal c.self.inside.sealer by (calls.Report report) (replies.Refused cause) refl works c.self.invariant (g.met.D.Device.only_now journal.device)
     (c.in-Some.ensures.permitted, after_refused es by report cause))
 
 pub keep-requires-clause-free : goal.keep-requires-clause-free
@@ -27,8 +27,8 @@ keep-requires-clause-free g c =
     let none : c.refusal.result ≡ None = search rules in
     no_cause c.self.inside.hall c.args.by.now c.args.report (subst (IsCauseOf c.self.inside.hall c.args.by.now c.args.report) none c.refusal.ensures.cause)
 
-pub returns-in-Err-clause-step : goal.returns-in-Err-clause-step
-returns-in-Err-clause-step g c =
+pub returns-in_default-line_of-clause-step : goal.returns-in_default-line_of-clause-step
+returns-in_default-line_of-clause-step g c =
     let es = c.self.inside.hall in
     let journal = c.self.inside.journal in
     let by = c.args.by.now in
@@ -38,5 +38,5 @@ returns-in-Err-clause-step g c =
     let free : refusal es by (calls.Report report) ≡ None = no_cause es by report (subst (IsCauseOf es by report) none c.refusal.ensures.cause) in
     let P : KeptView g.row.D.Denot → Type 0 = λ v. Keeps g.D.Device.is_known g.D.Device.seen g.D.Device.may_leave g.D.Device.is_usable g.D.Device.moment g.D.Device.left_since g.D.Device.has_failed v by (calls.Report report) (replies.Refused causes.OutOfMemory) v in
     subst P c.self.view_is
-    (answered g.D.Device.is_known g.D.Device.seen g.D.Device.may_leave g.D.Device.is_usable g.D.Device.moment g.D.Device.left_since g.D.Device.has_failed es es journal by (calls.Report report) (replies.Refused causes.OutOfMemory) refl works c.self.invariant (g.met.D.Device.only_now journal.device)
+    (answered g.D.Device.is_known g.D.Device.seen g.D.Device.may_leave g.D.Device.is_usable g.D.Device.moment g.D.Device.left_since g.D.Device.has_failed es es journal c.self.inside.sealer by (calls.Report report) (replies.Refused causes.OutOfMemory) refl works c.self.invariant (g.met.D.Device.only_now journal.device)
     (permits_short es by report free, after_refused es by report causes.OutOfMemory))

@@ -1,0 +1,46 @@
+//! Standard input, for as long as it is needed.
+
+use crate::alarm::Alarm;
+use libc::types::pollfd;
+use pana_host::Gate;
+use std::io::{self, Read};
+use std::sync::Wait;
+
+/// For how many milliseconds it is waited for input before the alarm is looked at, where that ends all.
+const PERIOD: i32 = 5000;
+
+/// Standard input, which also ends where all is to end.
+#[derive(Drop)]
+pub struct StandardInput<'a, 'b, T> {
+    pub rt: &'a HostRuntime,
+    pub threads: &'a T,
+    pub alarm: &'a Alarm<'b>,
+}
+
+/// Waits until there is input, or its end, or so many milliseconds have passed, of which -1 are never; and says whether
+/// there may be some.
+fn await_input(milliseconds: i32) -> bool {
+    let mut asked = [pollfd {
+        fd: 0,
+        events: libc::net::POLLIN,
+        revents: 0,
+    }];
+    libc::net::poll(&mut asked, milliseconds) > 0
+}
+
+impl<T: Wait> Read for StandardInput<'_, '_, T> {
+    fn read(&mut self, buffer: &mut [u8]) -> io::Result<usize> {
+        if !self.alarm.ends_all() {
+            return self.rt.reader().read(buffer);
+        }
+        for _ in self.threads.forever() {
+            if self.alarm.is_closing() {
+                return Ok(0);
+            }
+            if await_input(PERIOD) {
+                return self.rt.reader().read(buffer);
+            }
+        }
+        unreachable!()
+    }
+}

@@ -1,0 +1,17 @@
+use Rattle.std.proofs.Common.{◌≡◌, List, ℕ, ◌∷◌, [], ◌++◌, ◌-◌, length, take, sym, ◌∙◌, ap, subst, arith, rules}
+use Rattle.std.specs.Prelude.{string_bytes}
+use Rattle.pana_wire.specs.Seal.{entry_body}
+use Rattle.pana_seal.specs.Seal.{digest_of}
+use Rattle.pana_kept.specs.Entries.{IsLineOf, IsSealedBehind}
+use Rattle.pana_kept.proofs.Lines.{is_line, is_sealed_behind, body_of_line, line_long}
+use Rattle.pana_kept.proofs.entry_line.sealed_line.Goals as goal
+
+pub returns-clause-line : goal.returns-clause-line
+returns-clause-line c =
+    let value : c.into_bytes.result.items ≡ string_bytes c.in_ok-line.line = search rules in
+    subst (IsLineOf c.args.entry.now) (sym value) (is_line c.args.entry.now c.in_ok-digest.digest (string_bytes c.in_ok-line.line) c.in_ok-line.ensures.line)
+
+pub returns-clause-sealed : goal.returns-clause-sealed
+returns-clause-sealed c before covers =
+    let value : c.into_bytes.result.items ≡ string_bytes c.in_ok-line.line = search rules in
+    subst (IsSealedBehind before) (sym value) (is_sealed_behind before c.args.entry.now c.in_ok-digest.digest (string_bytes c.in_ok-line.line) (c.in_ok-digest.ensures before covers ∙ ap (digest_of before) (body_of_line c.args.entry.now c.as_bytes-plain.result.now (c.as_bytes-plain.ensures.value ∙ c.in_ok-plain.ensures.line.text))) c.in_ok-line.ensures.line)

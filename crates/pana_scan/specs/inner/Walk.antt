@@ -1,0 +1,65 @@
+-- Steps of a scan: a folder that is listed, all folders, and the files that are looked at.
+use Rattle.std.specs.Prelude.{◌≡◌, ℕ, ◌+◌, ◌<◌, true, false, List, [], ◌∷◌, ◌++◌, Option, Some, None, Result, Ok, Err, length, map, count_by}
+use Rattle.std.specs.List.{filter_map}
+use Rattle.std.specs.Option.{option_to_list}
+use Rattle.pana_scan.specs.declared.entry.Entry.{Entry}
+use Rattle.pana_scan.specs.declared.entry.Kind.{Kind}
+use Rattle.pana_scan.specs.declared.entry.Kind.TheVariants as kinds
+use Rattle.pana_scan.specs.declared.folder.FolderAt.{FolderAt}
+use Rattle.pana_scan.specs.declared.folder.Gathered.{Gathered}
+use Rattle.pana_scan.specs.declared.listing.FoundRow.{FoundRow}
+use Rattle.pana_scan.specs.declared.scan_fault.ScanFault.{ScanFault}
+use Rattle.pana_scan.specs.declared.scan_fault.ScanFault.TheVariants.{Folder, TooMany, TooNested, OutOfMemory}
+use Rattle.pana_scan.specs.Disk.{Tree}
+use Rattle.pana_scan.specs.Names.{file_in, is_skipped}
+use Rattle.pana_scan.specs.Order.{Path, in_order}
+use Rattle.pana_scan.specs.Scan.{CanBeScanned, HasFault, row_at}
+use Rattle.pana_scan.specs.Tree.{entries_in, fails_at, files_of, folders_of, inner_folder, is_too_deep, skipped_of}
+
+-- the folder that is kept of a path
+abbrev pub kept_folder : Kind → Option Path → ℕ → List FolderAt
+kept_folder kinds.Folder (Some path) levels = record { path = Some path; levels = levels } ∷ []
+kept_folder kinds.Folder None levels = []
+kept_folder kinds.File path levels = []
+kept_folder kinds.Other path levels = []
+kept_folder kinds.Gone path levels = []
+
+-- the file that is kept of a path
+abbrev pub kept_file : Kind → Option Path → List Path
+kept_file kinds.Folder path = []
+kept_file kinds.File path = option_to_list path
+kept_file kinds.Other path = option_to_list path
+kept_file kinds.Gone path = option_to_list path
+
+-- what is kept of these entries of a folder, from which so many levels may be listed
+pub record Keeps (folder : Option Path) (levels : ℕ) (entries : List Entry) (old new : Gathered) : Type 0 where
+  pub folders : new.folders.items ≡ old.folders.items ++ filter_map (inner_folder folder levels) entries
+  pub files : new.files.items ≡ old.files.items ++ filter_map (file_in folder) entries
+  -- a count of 64 bits, which no scan reaches
+  pub skipped : old.skipped + count_by (is_skipped folder) entries < 18446744073709551616 → new.skipped ≡ old.skipped + count_by (is_skipped folder) entries
+
+-- a folder was listed to its end
+pub record IsListedTo (tree : Tree) (root : Path) (folder : FolderAt) (entries : ℕ) (old : Gathered) (after : ℕ) (new : Gathered) : Type 0 where
+  pub levels : ℕ
+  pub is : folder.levels ≡ levels + 1
+  pub keeps : Keeps folder.path levels (entries_in tree root folder.path) old new
+  pub met : after ≡ entries + length (entries_in tree root folder.path)
+  pub listed : fails_at tree root folder ≡ false
+
+-- a folder was listed, or there is a reason why not
+abbrev pub IsFolderRead : {T : Type 0} → Tree → Path → FolderAt → ℕ → Gathered → Result T ScanFault → ℕ → Gathered → Type 0
+IsFolderRead tree root folder entries old (Ok x) after new = IsListedTo tree root folder entries old after new
+IsFolderRead tree root folder entries old (Err Folder) after new = fails_at tree root folder ≡ true
+IsFolderRead tree root folder entries old (Err TooMany) after new = 100000 < entries + length (entries_in tree root folder.path)
+IsFolderRead tree root folder entries old (Err TooNested) after new = is_too_deep folder ≡ true
+IsFolderRead tree root folder entries old (Err OutOfMemory) after new = Unit {0}
+
+-- all folders were listed, or there is a reason why not
+abbrev pub IsGathered : Tree → Path → Result Gathered ScanFault → Type 0
+IsGathered tree root (Ok all) =
+    CanBeScanned tree root × (all.files.items ≡ files_of tree root (folders_of tree root)) × (all.skipped ≡ skipped_of tree root (folders_of tree root))
+IsGathered tree root (Err fault) = HasFault tree root fault
+
+-- each path was looked at, once, in byte order
+abbrev pub IsLookedAt : Tree → Path → List Path → List FoundRow → Type 0
+IsLookedAt tree root files rows = rows ≡ map (row_at tree root) (in_order files)

@@ -1,0 +1,227 @@
+//! The system's files as a disk.
+ghost use Rattle.std.specs.Prelude.{◌≡◌, ◌≢◌, ◌||◌, IsOk, IsErr, IsSome, IfOk, IfErr, IfSome, IfNone, OnOk, OnErr, is_err};
+ghost use Rattle.std.specs.Fs.{IsDir, IsFile};
+ghost use Rattle.std.specs.IoError.{error_kind};
+ghost use Rattle.pana_scan.specs.Disk.{entries_after, faults_after, is_failure};
+ghost use Rattle.pana_scan.specs.Scan.{IsFresh};
+
+use crate::disk::Disk;
+use crate::disk_fault::DiskFault;
+use crate::entry::{Entry, EntryName, Kind};
+use std::alloc::Global;
+use std::fs::{DirEntry, File, FileType, Files, ReadDir};
+use std::io::{Error, ErrorKind, Read};
+use std::{fs, io};
+
+/// The files of the system. Nothing is known of what they hold, so nothing is proved of what its calls give.
+#[derive(Drop)]
+pub struct SystemDisk<'a, R: Files + AllocGlobal + Clone + Drop> {
+    files: &'a R,
+    names: Option<ReadDir<R>>,
+    file: Option<R::File>,
+    has_failed: bool,
+    entries: u64,
+    faults: u64,
+}
+
+impl<'a, R: Files + AllocGlobal + Clone + Drop> SystemDisk<'a, R> {
+    /// The files of the system, before a scan. Takes no memory.
+    pub fn new(files: &'a R) -> SystemDisk<'a, R>
+        ensures { IsFresh result.has_failed result.entries result.faults }
+    {
+        SystemDisk {
+            files,
+            names: None,
+            file: None,
+            has_failed: false,
+            entries: 0,
+            faults: 0,
+        }
+    }
+}
+
+/// Why a call fails, by the system's error.
+fn fault_of(error: &Error) -> DiskFault
+    ensures memory { error_kind error.now ≡ ErrorKind.OutOfMemory → result ≡ DiskFault.OutOfMemory }
+    ensures failed { error_kind error.now ≢ ErrorKind.OutOfMemory → result ≡ DiskFault.Failed }
+{
+    if error.kind() == ErrorKind::OutOfMemory {
+        DiskFault::OutOfMemory
+    } else {
+        DiskFault::Failed
+    }
+}
+
+/// What an entry is, by the system's answer.
+fn kind_of(answer: io::Result<FileType>) -> Result<Kind, DiskFault>
+    ensures file { IfOk answer (λ of. IsFile of → result ≡ Ok Kind.File) }
+    ensures folder { IfOk answer (λ of. IsDir of → result ≡ Ok Kind.Folder) }
+    ensures other { IfOk answer (λ of. ¬ IsFile of → ¬ IsDir of → result ≡ Ok Kind.Other) }
+    ensures gone { IfErr answer (λ error. error_kind error ≡ ErrorKind.NotFound → result ≡ Ok Kind.Gone) }
+    ensures err { IfErr answer (λ error. error_kind error ≢ ErrorKind.NotFound → IsErr result) }
+{
+    match answer {
+        Ok(of) if of.is_file() => Ok(Kind::File),
+        Ok(of) if of.is_dir() => Ok(Kind::Folder),
+        Ok(_) => Ok(Kind::Other),
+        Err(error) if error.kind() == ErrorKind::NotFound => Ok(Kind::Gone),
+        Err(error) => Err(fault_of(&error)),
+    }
+}
+
+/// What is met, by the system's answer. A name that isn't UTF-8 comes as an error.
+fn entry_of<R: Files + Drop>(
+    alloc: Global,
+    answer: io::Result<DirEntry<R>>,
+) -> Result<Entry, DiskFault>
+    ensures no_text { IfErr answer (λ error. error_kind error ≡ ErrorKind.InvalidFilename → result ≡ Ok Entry.NotText) }
+    ensures err { IfErr answer (λ error. error_kind error ≢ ErrorKind.InvalidFilename → IsErr result) }
+{
+    match answer {
+        Ok(entry) => Ok(Entry::Named {
+            name: EntryName::new(alloc, entry.file_name())?,
+            kind: kind_of(entry.file_type())?,
+        }),
+        Err(error) if error.kind() == ErrorKind::InvalidFilename => Ok(Entry::NotText),
+        Err(error) => Err(fault_of(&error)),
+    }
+}
+
+/// What takes the system's answers: a call that has failed is returned as failed, and counted.
+impl<'a, R: Files + AllocGlobal + Clone + Drop> SystemDisk<'a, R> {
+    fn list_failed<T: Drop>(&mut self, fault: DiskFault) -> Result<T, DiskFault>
+        ensures result { result ≡ Err fault }
+        ensures failed { self.new.has_failed ≡ (self.old.has_failed || is_failure result) }
+        ensures entries { self.new.entries ≡ self.old.entries }
+        ensures faults { self.new.faults ≡ self.old.faults }
+    {
+        self.has_failed = self.has_failed || fault == DiskFault::Failed;
+        Err(fault)
+    }
+
+    fn begin(&mut self, answer: io::Result<ReadDir<R>>) -> Result<(), DiskFault>
+        ensures ok { OnOk answer (IsOk result) }
+        ensures err { OnErr answer (IsErr result) }
+        ensures failed { self.new.has_failed ≡ (self.old.has_failed || is_failure result) }
+        ensures entries { self.new.entries ≡ self.old.entries }
+        ensures faults { self.new.faults ≡ self.old.faults }
+    {
+        match answer {
+            Ok(names) => {
+                self.names = Some(names);
+                Ok(())
+            }
+            Err(error) => self.list_failed(fault_of(&error)),
+        }
+    }
+
+    fn give(
+        &mut self,
+        alloc: Global,
+        answer: Option<io::Result<DirEntry<R>>>,
+    ) -> Result<Option<Entry>, DiskFault>
+        ensures end { IfNone answer (result ≡ Ok None) }
+        ensures more { IsSome answer → IfOk result IsSome }
+        ensures err { IfSome answer (λ read. IfErr read (λ error. error_kind error ≢ ErrorKind.InvalidFilename → IsErr result)) }
+        ensures failed { self.new.has_failed ≡ (self.old.has_failed || is_failure result) }
+        ensures entries { self.new.entries ≡ entries_after self.old.entries result }
+        ensures faults { self.new.faults ≡ self.old.faults }
+    {
+        let Some(read) = answer else {
+            return Ok(None);
+        };
+        match entry_of(alloc, read) {
+            Ok(entry) => {
+                self.entries = self.entries.saturating_add(1);
+                Ok(Some(entry))
+            }
+            Err(fault) => self.list_failed(fault),
+        }
+    }
+
+    fn begin_file(&mut self, answer: io::Result<R::File>) -> Result<(), DiskFault>
+        ensures ok { OnOk answer (IsOk result) }
+        ensures err { OnErr answer (IsErr result) }
+        ensures failed { self.new.has_failed ≡ self.old.has_failed }
+        ensures entries { self.new.entries ≡ self.old.entries }
+        ensures faults { self.new.faults ≡ faults_after self.old.faults (is_failure result) }
+    {
+        match answer {
+            Ok(file) => {
+                self.file = Some(file);
+                Ok(())
+            }
+            Err(error) => {
+                let fault = fault_of(&error);
+                if fault == DiskFault::Failed {
+                    self.faults = self.faults.saturating_add(1);
+                }
+                Err(fault)
+            }
+        }
+    }
+
+    fn take(&mut self, answer: io::Result<usize>) -> Result<usize, DiskFault>
+        ensures ok { IfOk answer (λ count. result ≡ Ok count) }
+        ensures err { OnErr answer (IsErr result) }
+        ensures failed { self.new.has_failed ≡ self.old.has_failed }
+        ensures entries { self.new.entries ≡ self.old.entries }
+        ensures faults { self.new.faults ≡ faults_after self.old.faults (is_err result) }
+    {
+        match answer {
+            Ok(count) => Ok(count),
+            Err(error) => {
+                self.faults = self.faults.saturating_add(1);
+                Err(fault_of(&error))
+            }
+        }
+    }
+}
+
+impl<'a, R: Files + AllocGlobal + Clone + Drop> Disk for SystemDisk<'a, R> {
+    ghost use Rattle.std.specs.Prelude.{false, None, [], true};
+
+    ghost is_known = { false };
+
+    ghost tree = { λ _. record { names = λ _. record { entries = []; fails = true }; content = λ _. None } };
+
+    ghost names = { λ _. record { entries = []; fails = true } };
+
+    ghost content = { λ _. record { bytes = []; reads = 0; fails = true } };
+
+    ghost has_failed = { λ disk. disk.has_failed };
+
+    ghost entries = { λ disk. disk.entries };
+
+    ghost faults = { λ disk. disk.faults };
+
+    fn met(&self) -> u64 {
+        self.entries
+    }
+
+    fn list(&mut self, folder: &str) -> Result<(), DiskFault> {
+        let answer = fs::read_dir(self.files, folder);
+        self.begin(answer)
+    }
+
+    fn next(&mut self, alloc: Global) -> Result<Option<Entry>, DiskFault> {
+        let answer = match &mut self.names {
+            Some(names) => names.next(),
+            None => Some(Err(Error::from(ErrorKind::Other))),
+        };
+        self.give(alloc, answer)
+    }
+
+    fn open(&mut self, file: &str) -> Result<(), DiskFault> {
+        let answer = File::open(self.files, file);
+        self.begin_file(answer)
+    }
+
+    fn read(&mut self, piece: &mut [u8]) -> Result<usize, DiskFault> {
+        let answer = match &mut self.file {
+            Some(file) => file.read(piece),
+            None => Err(Error::from(ErrorKind::Other)),
+        };
+        self.take(answer)
+    }
+}

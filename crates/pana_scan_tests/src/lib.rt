@@ -1,0 +1,7 @@
+//! The tests of scans of folders: what no clause says of their calls.
+#![tactic(auto)]
+
+#[cfg(test)]
+mod disks;
+#[cfg(test)]
+mod scan;

@@ -1,0 +1,3 @@
+pub mod Intact
+pub mod Same
+pub mod Sealed

@@ -1,0 +1,11 @@
+//! Digests at the ends of a file's lines, each over all that stands before it.
+#![tactic(auto)]
+
+pub mod laws;
+mod reading;
+mod seal_fault;
+mod sealer;
+
+pub use crate::reading::read_seals;
+pub use crate::seal_fault::SealFault;
+pub use crate::sealer::Sealer;

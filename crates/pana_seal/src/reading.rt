@@ -1,0 +1,54 @@
+//! The seals of a file's lines.
+ghost use Rattle.std.specs.Prelude.{◌≡◌, ◌||◌, not, List, ℕ, IfOk, IfErr, OnOk};
+ghost use Rattle.pana_keep.specs.Lines.{text_of};
+ghost use Rattle.pana_wire.specs.inner.Slices.{texts};
+ghost use Rattle.pana_seal.specs.Seal.{Covers, is_marked, is_sealed, demands_seals, IsIntact, IsSealFault};
+
+use crate::seal_fault::SealFault;
+use crate::sealer::{Sealer, is_marked};
+use pana_keep::is_header;
+use std::alloc::{AllocError, Global};
+
+/// Takes up the lines of a file, and sees that they are as they were sealed: each line that ends with a digest, and each
+/// line behind one, or behind the header of a journal, ends with that of all the bytes before it. Lines without one that
+/// stand before any of these are taken as they are. O(n) in the bytes.
+///
+/// # Errors
+///
+/// `Damaged` with the first line for which that isn't so; `OutOfMemory`.
+pub fn read_seals(alloc: Global, lines: &[&[u8]]) -> Result<Sealer, SealFault>
+    ensures covers { IfOk result (λ sealer. Covers sealer (text_of (texts lines.now))) }
+    ensures intact { OnOk result (IsIntact (texts lines.now)) }
+    ensures fault { IfErr result (IsSealFault (texts lines.now)) }
+{
+    let mut sealer = Sealer::new();
+    let mut is_due = false;
+    for (index, line) in lines.iter().enumerate() {
+        if !is_good(alloc, &sealer, is_due, line)? {
+            let line = index as u64 + 1;
+            return Err(SealFault::Damaged { line });
+        }
+        is_due = is_due || demands_seals(line);
+        sealer.push(line);
+        sealer.push(b"\n");
+    }
+    Ok(sealer)
+}
+
+/// Whether a line is sealed, where it has to be: since lines before it demand it, or it looks so itself.
+fn is_good(alloc: Global, sealer: &Sealer, is_due: bool, line: &[u8]) -> Result<bool, AllocError>
+    ensures { IfOk result (λ good. (before : List ℕ) → Covers sealer.now before → good ≡ (not (is_due || is_marked line.now) || is_sealed before line.now)) }
+{
+    if is_due || is_marked(line) {
+        sealer.is_sealed(alloc, line)
+    } else {
+        Ok(true)
+    }
+}
+
+/// Whether lines behind this one have to be sealed.
+fn demands_seals(line: &[u8]) -> bool
+    ensures { result ≡ demands_seals line.now }
+{
+    is_header(line) || is_marked(line)
+}
