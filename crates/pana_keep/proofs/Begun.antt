@@ -1,5 +1,5 @@
 -- The first line of a new journal.
-use Rattle.std.proofs.Common.{◌≡◌, ◌⊎◌, inl, inr, ℕ, ◌==◌, false, List, drop, [], ◌∷◌, ◌++◌, length, refl, sym, ◌∙◌, ap, subst, ⊎_elim, arith, length-append}
+use Rattle.std.proofs.Common.{◌≡◌, inl, inr, ℕ, ◌==◌, false, List, drop, [], ◌∷◌, ◌++◌, length, refl, sym, ◌∙◌, ap, ⊎_elim, arith, length-append}
 use Rattle.pana_keep.specs.Device.{LeavesOnly}
 use Rattle.pana_keep.specs.Lines.{recovered, text_of, header, kind_new, kind_behind, kind_with, IsBeforeOrAfter}
 use Rattle.pana_keep.proofs.Moments.{then_on}

@@ -1,5 +1,5 @@
 //! The first line of a new journal.
-ghost use Rattle.std.specs.Prelude.{◌≡◌, ◌∷◌, [], is_ok, if◌then◌else◌, IsTrue, OnOk, OnErr, bytes_eq};
+ghost use Rattle.std.specs.Prelude.{◌≡◌, ◌⊎◌, ◌∷◌, [], is_ok, if◌then◌else◌, IsTrue, OnOk, OnErr, bytes_eq};
 ghost use Rattle.pana_keep.specs.Device.{LeavesOnly};
 ghost use Rattle.pana_keep.specs.Lines.{recovered, header, IsBeforeOrAfter};
 ghost use Rattle.pana_keep.specs.Journal.{IsSettled};
@@ -30,15 +30,14 @@ impl<D: Device> Journal<D> {
         requires short { self.old.end ≡ 0 }
 
         ensures state { OnOk result (self.new.state ≡ JournalState.Open) }
+        ensures refused { OnErr result ((self.new.state ≡ JournalState.Broken) ⊎ ((self.new.state ≡ JournalState.Open) × (IsTrue D.is_known → IsSettled D.seen D.may_leave D.is_usable self.new))) }
         ensures settled { OnOk result (IsTrue D.is_known → IsSettled D.seen D.may_leave D.is_usable self.new) }
         ensures begun { OnOk result (IsTrue D.is_known → recovered (D.seen self.new.device) ≡ header ∷ []) }
         ensures cause { OnErr result (IsTrue D.is_known → IsTrue (D.has_failed self.new.device)) }
         ensures any_moment { IsTrue D.is_known → LeavesOnly D.moment D.left_since self.old.device self.new.device
             (IsBeforeOrAfter [] (header ∷ [])) }
     {
-        if self.stage(HEADER).is_err() {
-            return Err(DeviceFault::Failed);
-        }
+        self.stage(HEADER)?;
         self.commit(HEADER)
     }
 }

@@ -11,3 +11,18 @@ pub enum KeepFault {
     #[error("the journal is broken")]
     Broken,
 }
+
+impl From<KeepFault> for DeviceFault {
+    ghost use Rattle.std.specs.Prelude.{◌≡◌, ◌⊎◌};
+    ghost use Rattle.pana_keep.specs.declared.device_fault.DeviceFault.TheVariants.{Failed};
+    ghost use Rattle.pana_keep.specs.declared.keep_fault.KeepFault.TheVariants.{Refused, Broken};
+
+    ghost from_gives = { λ cause fault. (cause ≡ Refused fault) ⊎ ((cause ≡ Broken) × (fault ≡ Failed)) };
+
+    fn from(fault: KeepFault) -> DeviceFault {
+        match fault {
+            KeepFault::Refused(fault) => fault,
+            KeepFault::Broken => DeviceFault::Failed,
+        }
+    }
+}

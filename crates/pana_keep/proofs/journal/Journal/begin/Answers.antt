@@ -1,11 +1,11 @@
-use Rattle.std.proofs.Common.{◌≡◌, ◌∙◌, ℕ, List, [], ◌∷◌, ◌++◌, IsTrue, length, sym, ap, refl}
+use Rattle.std.proofs.Common.{◌∙◌, ℕ, List, [], ◌∷◌, ◌++◌, sym, ap, refl}
 use Rattle.std.proofs.lemmas.Result.{on_ok_weaker}
-use Rattle.pana_keep.specs.Lines.{recovered, text_of, header}
+use Rattle.pana_keep.specs.Lines.{recovered, header}
 use Rattle.pana_keep.proofs.Begun.{no_lines, begins, not_begun}
 use Rattle.pana_keep.proofs.journal.Journal.begin.Goals as goal
 
-pub returns-then-is_err-clause-any_moment : goal.returns-then-is_err-clause-any_moment
-returns-then-is_err-clause-any_moment g c known =
+pub returns-in_err-stage-clause-any_moment : goal.returns-in_err-stage-clause-any_moment
+returns-in_err-stage-clause-any_moment g c known =
     let file = g.D.Device.seen c.args.self.now.device in
     let none = no_lines (recovered file) (sym (c.requires.settled known).is_end ∙ c.requires.short) in
     not_begun g.D.Device.moment g.D.Device.left_since c.args.self.now.device c.stage.new.self.device file none (c.stage.ensures.any_moment known)
