@@ -1,8 +1,8 @@
 #!/usr/bin/env python3
-"""Runs `run --journal` through kills, cuts, full disks, failed syncs and files that are no journals.
+"""Runs `run --journal` through kills, cuts, flipped bits, and files that are no journals.
 
 usage: check_journal.py PROGRAM [quick]
-With quick fewer kills and cuts are made. The last line is 'N passed, M failed'.
+With quick fewer kills, cuts and flips are made. The last line is 'N passed, M failed'.
 """
 from __future__ import annotations
 
@@ -11,24 +11,20 @@ import hashlib
 import json
 import os
 import random
-import resource
 import shutil
-import signal
 import subprocess
 import sys
-import tempfile
 import threading
-import time
+from concurrent.futures import ThreadPoolExecutor
 from dataclasses import dataclass
 from pathlib import Path
 
 import scenario
+from journals import BOARD, EDIT, REGISTER, Session, answers, differs, each_command, entries, line, made, pages, ran, reported, run_checks
 
-SECONDS = 60
 NOBODY = 65534
 MOST_LINES = 3000
-DISKS = 20
-HERE = Path(__file__).resolve().parent
+JOURNALS = 4
 
 
 @dataclass(frozen=True)
@@ -47,50 +43,6 @@ class Setting:
     def bits(self, whole):
         """Which bits are flipped, each by its byte's place and its number: all, or some."""
         return [(at, bit) for at in range(len(whole)) for bit in range(8)][:: self.every]
-
-
-def line(by="laptop", **said):
-    return (json.dumps({"by": by, **said}) + "\n").encode()
-
-
-REGISTER = line(do="register", device="laptop", path="plan.txt")
-EDIT = line(do="edit", copy=1)
-BOARD = line(do="board", family=1)
-
-
-def pages(count):
-    """Lines that ask for so many entries, and for one behind them."""
-    return b"".join(line(do="journal", **{"from": at}) for at in range(1, count + 2, 100))
-
-
-def ran(program, *words, given=b"", **how):
-    """The status of a run, and what it wrote on standard output and standard error."""
-    done = subprocess.run([program, *map(str, words)], input=given, capture_output=True, timeout=SECONDS, **how)
-    return done.returncode, done.stdout, done.stderr
-
-
-def answers(program, file, given, error=b""):
-    """What a run on the journal answers, which ends well."""
-    status, out, err = ran(program, "run", "--journal", file, given=given)
-    if status or (error is not None and err != error):
-        raise ValueError(f"status {status}, standard error {err!r:.300}, wanted {error!r:.300}")
-    return [json.loads(it) for it in out.splitlines()]
-
-
-def entries(program, file, most, error=b""):
-    """The entries that the program finds in a journal, asked for by pages."""
-    return [it for page in answers(program, file, pages(most), error) for it in page["entries"]]
-
-
-def differs(got, wanted):
-    """Says what came that isn't wanted."""
-    if got != wanted:
-        yield f"wanted {wanted!r:.300}, got {got!r:.300}"
-
-
-def reported(out, text):
-    """What a run gives that does nothing but report this."""
-    return 1, out, f"panad: {text}\n".encode()
 
 
 class Reader(threading.Thread):
@@ -128,35 +80,32 @@ def load_until_killed(program, file, first, seconds):
     return first + len(reader.read) - 1
 
 
-def kills(it, room):
-    """Killed at random moments, the file opens each time, and every Done that was read is there."""
+def killed_again_and_again(program, room, count):
+    """Kills runs on one journal at random moments: how often that left bytes behind the last entry, and what is wrong."""
     file = room / "journal"
-    yield from differs(answers(it.program, file, REGISTER), [{"done": 1}])
-    there, torn = 1, 0
-    for number in range(it.kills):
+    room.mkdir()
+    there, torn, faults = len(answers(program, file, REGISTER)), 0, []
+    for number in range(count):
         if there > MOST_LINES:
             file.unlink()
-            there = len(answers(it.program, file, REGISTER))
-        least = load_until_killed(it.program, file, there + 1, random.uniform(0.005, 0.25))
-        status, out, err = ran(it.program, "run", "--journal", file, given=pages(least + 100))
+            there = len(answers(program, file, REGISTER))
+        least = load_until_killed(program, file, there + 1, random.uniform(0.005, 0.25))
+        status, out, err = ran(program, "run", "--journal", file, given=pages(least + 100))
         found = [entry for page in out.splitlines() for entry in json.loads(page)["entries"]]
         torn += b"cut off" in err
         if status or len(found) < least or [entry["number"] for entry in found] != [*range(1, len(found) + 1)]:
-            yield f"kill {number}: {least} were acknowledged, {len(found)} are there; {status} {err!r}"
+            faults.append(f"kill {number}: {least} were acknowledged, {len(found)} are there; {status} {err!r}")
         there = len(found)
-    print(f"  {it.kills} kills, {torn} left bytes behind the last entry")
+    return torn, faults
 
 
-def made(program, file, edits):
-    """Makes a journal with a copy and its edits, and returns its entries."""
-    answers(program, file, REGISTER + EDIT * edits)
-    return entries(program, file, edits + 1)
-
-
-def each_command(program, name):
-    """What `run` and `show` report of a journal that they don't open."""
-    for words in (("run", "--journal", name), ("show", "--journal", name)):
-        yield ran(program, *words, given=REGISTER)
+def kills(it, room):
+    """Killed at random moments, the file opens each time, and every Done that was read is there."""
+    with ThreadPoolExecutor(JOURNALS) as pool:
+        found = list(pool.map(lambda at: killed_again_and_again(it.program, room / str(at), it.kills // JOURNALS), range(JOURNALS)))
+    for _, faults in found:
+        yield from faults
+    print(f"  {it.kills} kills, {sum(torn for torn, _ in found)} left bytes behind the last entry")
 
 
 def cuts(it, room):
@@ -272,162 +221,6 @@ def starts_at_once(it, room):
             yield f"{found!r:.300}"
 
 
-class Session:
-    """A run on a journal that is asked line by line."""
-
-    def __init__(self, program, file, **how):
-        streams = {"stdin": subprocess.PIPE, "stdout": subprocess.PIPE, "stderr": subprocess.PIPE}
-        self.started = subprocess.Popen([program, "run", "--journal", str(file)], **streams, **how)
-
-    def ask(self, given):
-        self.started.stdin.write(given)
-        self.started.stdin.flush()
-        return json.loads(self.started.stdout.readline() or b'"nothing"')
-
-    def end(self):
-        out, err = self.started.communicate(timeout=SECONDS)
-        return self.started.returncode, out, err
-
-
-def ignore_signal():
-    """A write past the limit fails, and doesn't end the program."""
-    signal.signal(signal.SIGXFSZ, signal.SIG_IGN)
-
-
-def full_disk(it, room):
-    """Where there is no room a report is NotKept and nothing has changed; with room again it is Done."""
-    file = room / "journal"
-    all_of = made(it.program, file, 20)
-    size = file.stat().st_size
-    session = Session(it.program, file, restore_signals=False, preexec_fn=ignore_signal)
-    yield from differs(session.ask(EDIT), {"done": 22})
-    process, size = session.started.pid, file.stat().st_size
-    resource.prlimit(process, resource.RLIMIT_FSIZE, (size + 10, resource.RLIM_INFINITY))
-    refused = {"code": 14, "refused": "NotKept"}
-    yield from differs([session.ask(EDIT) for _ in range(3)], [refused] * 3)
-    yield from differs(session.ask(line(do="edit", copy=9)), {"code": 2, "copy": 9, "refused": "UnknownCopy"})
-    yield from differs(len(session.ask(pages(0) or BOARD)["entries"]), 22)
-    resource.prlimit(process, resource.RLIMIT_FSIZE, (resource.RLIM_INFINITY, resource.RLIM_INFINITY))
-    yield from differs([session.ask(EDIT) for _ in range(2)], [{"done": 23}, {"done": 24}])
-    yield from differs(session.end(), (0, b"", b""))
-    found = entries(it.program, file, 24, None)
-    yield from differs((found[:21], len(found)), (all_of, 24))
-
-
-def failed_syncs(it, room):
-    """A sync that fails ends the session with no answer to its line, and the file opens with all that was Done."""
-    library, file = room / "failing.so", room / "journal"
-    subprocess.run(["cc", "-shared", "-fPIC", "-o", library, HERE / "failing_sync.c"], check=True, timeout=SECONDS)
-    for number in range(1, 12):
-        file.unlink(missing_ok=True)
-        made(it.program, file, 1)
-        found = {**os.environ, "LD_PRELOAD": str(library), "FAILING_SYNC": str(number)}
-        status, out, err = ran(it.program, "run", "--journal", file, given=EDIT * 4, env=found)
-        done = max(0, (number - 3) // 2) if number < 11 else 4
-        text = "journal failed" if number > 2 else f"journal {file}: the device failed"
-        wanted = (1, f"panad: {text}\n".encode()) if number < 11 else (0, b"")
-        answered = b"".join(b'{"done":%d}\n' % (at + 3) for at in range(done))
-        yield from differs((status, out, err), (wanted[0], answered, wanted[1]))
-        there = entries(it.program, file, 9, None)
-        if len(there) not in (2 + done, 3 + done):
-            yield f"sync {number}: {done} were acknowledged behind the first 2, {len(there)} are there"
-
-
-def forgetful_disk(it, room):
-    """Behind any sync that fails for one process, what a later one acknowledges is on the disk that a power cut leaves."""
-    library, file, disk_has, cut = room / "forgetful.so", room / "journal", room / "disk", room / "cut"
-    subprocess.run(["cc", "-shared", "-fPIC", "-o", library, HERE / "forgetful_disk.c"], check=True, timeout=SECONDS)
-    for number in range(1, 16):
-        file.unlink(missing_ok=True)
-        made(it.program, file, 1)
-        shutil.copyfile(file, disk_has)
-        loaded = {**os.environ, "LD_PRELOAD": str(library), "FORGETFUL_DISK": str(disk_has)}
-        found = ran(it.program, "run", "--journal", file, given=EDIT * 4, env={**loaded, "FAILING_SYNC": str(number)})
-        first = [json.loads(text)["done"] for text in found[1].splitlines()]
-        status, out, err = ran(it.program, "run", "--journal", file, given=EDIT * 3, env=loaded)
-        later = [json.loads(text)["done"] for text in out.splitlines()]
-        if status or len(later) != 3:
-            yield f"sync {number}: {status} {err!r}"
-        shutil.copyfile(disk_has, cut)
-        there = len(entries(it.program, cut, 20, None))
-        if there < max([2, *first, *later]):
-            yield f"sync {number}: {first} and then {later} were acknowledged, {there} entries are on the disk"
-
-
-def disk(room, size):
-    """A file system of its own over an image on a small one, whose store has no room for all of it."""
-    store, mounted, image = room / "store", room / "mounted", room / "store" / "image"
-    store.mkdir()
-    mounted.mkdir()
-    subprocess.run(["mount", "-t", "tmpfs", "-o", f"size={size}", "tmpfs", store], check=True, timeout=SECONDS)
-    with image.open("wb") as made_:
-        made_.truncate(8 << 20)
-    subprocess.run(["mkfs.ext4", "-q", "-O", "^has_journal", image], check=True, timeout=SECONDS)
-    subprocess.run(["mount", "-o", "loop", image, mounted], check=True, timeout=SECONDS)
-    return store, mounted
-
-
-def failed_disk(it, room):
-    """What was acknowledged behind a sync that failed for an earlier process is on the disk (where root is at hand)."""
-    if os.geteuid() != 0 or not shutil.which("mkfs.ext4"):
-        print("  not checked: it needs root and mkfs.ext4")
-        return
-    for number in range(DISKS):
-        part = room / str(number)
-        part.mkdir()
-        try:
-            store, mounted = disk(part, 3 << 20)
-        except (OSError, subprocess.SubprocessError) as error:
-            print(f"  not checked: no file system can be mounted here ({error})")
-            return
-        try:
-            acknowledged, found = acknowledged_after_a_failed_disk(it, part, store, mounted)
-        finally:
-            for name in (mounted, store):
-                subprocess.run(["umount", name], check=False, timeout=SECONDS)
-        if found is not None:
-            print(f"  disk {number}: {acknowledged} were acknowledged, {found} are on it")
-            if found < acknowledged:
-                yield f"{acknowledged} were acknowledged, {found} are on the disk"
-            return
-    print(f"  not checked: each of {DISKS} disks has lost what it had synced before")
-
-
-def acknowledged_after_a_failed_disk(it, room, store, mounted):
-    """How many entries were acknowledged, and how many a power cut leaves; none where the disk had lost what it had synced.
-
-    A loop device takes a write that its store has cut short for a whole one, so a sync may succeed that wrote nothing.
-    Such a journal is reported, and isn't touched.
-    """
-    file = mounted / "journal"
-    made(it.program, file, 3)
-    session = Session(it.program, file)
-    with contextlib.suppress(OSError), (store / "filler").open("wb", buffering=0) as filler:
-        while filler.write(b"x" * 4096):
-            pass
-    answer = {"done": 5}
-    while answer != "nothing":
-        answer = session.ask(EDIT)
-    if session.end() != reported(b"", "journal failed"):
-        raise ValueError("a failed sync isn't reported")
-    (store / "filler").unlink()
-    status, out, err = ran(it.program, "run", "--journal", file, given=EDIT * 5)
-    if b"the last line has no newline" in err or b"Damaged" in err:
-        return 0, None
-    if status:
-        raise ValueError(f"it isn't opened: {err!r}")
-    # what a power cut leaves is what the store has: it is read by a mount of a copy
-    copy, again, kept = room / "copy", room / "again", room / "kept"
-    shutil.copyfile(store / "image", copy)
-    again.mkdir()
-    subprocess.run(["mount", "-o", "loop,ro", copy, again], check=True, timeout=SECONDS)
-    try:
-        shutil.copyfile(again / "journal", kept)
-    finally:
-        subprocess.run(["umount", again], check=False, timeout=SECONDS)
-    return json.loads(out.splitlines()[-1])["done"], len(entries(it.program, kept, 500, None))
-
-
 def second_process(it, room):
     """A second process is refused while the first goes on, and the lock goes with the first, however it ends."""
     file = room / "journal"
@@ -541,44 +334,16 @@ def same_answers(it, room):
     print(f"  {compared} sessions compared")
 
 
+CHECKS = (new_file, sealed_lines, other_files, permissions, second_process, starts_at_once)
+CHECKS += (names_that_lead_elsewhere, bytes_behind, cuts, flips, dumps, kills, tables, same_answers)
+
+
 def main(words):
     if not words or words[1:] not in ([], ["quick"]):
         print(__doc__, file=sys.stderr)
         return 2
-    program, passed, failed = str(Path(words[0]).resolve()), 0, 0
-    setting = Setting(program, 20, 5, 17) if words[1:] else Setting(program, 200, 30, 1)
-    checks = (
-        new_file,
-        sealed_lines,
-        other_files,
-        permissions,
-        second_process,
-        starts_at_once,
-        full_disk,
-        failed_syncs,
-        forgetful_disk,
-        failed_disk,
-        names_that_lead_elsewhere,
-        bytes_behind,
-        cuts,
-        flips,
-        dumps,
-        kills,
-        tables,
-        same_answers,
-    )
-    for check in checks:
-        room, since = Path(tempfile.mkdtemp()), time.monotonic()
-        try:
-            faults = list(check(setting, room))
-        except (OSError, subprocess.SubprocessError, ValueError, KeyError) as error:
-            faults = [f"{type(error).__name__}: {error}"]
-        finally:
-            shutil.rmtree(room, ignore_errors=True)
-        passed, failed = passed + (not faults), failed + bool(faults)
-        print(f"{'FAILED' if faults else 'passed'} {check.__name__}: {check.__doc__} ({time.monotonic() - since:.1f} s)", *faults[:9], sep="\n  ", flush=True)
-    print(f"{passed} passed, {failed} failed")
-    return int(failed != 0)
+    program = str(Path(words[0]).resolve())
+    return run_checks(CHECKS, Setting(program, 20, 5, 17) if words[1:] else Setting(program, 400, 30, 1))
 
 
 if __name__ == "__main__":

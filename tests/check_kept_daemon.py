@@ -15,13 +15,16 @@ import subprocess
 import sys
 import threading
 import time
+from concurrent.futures import ThreadPoolExecutor
 from pathlib import Path
 
-from daemon import SECONDS, Broken, Daemon, differs, line_of, pages, run_checks, until
+from daemon import SECONDS, Broken, Daemon, differs, line_of, pages, run_checks, times_of, until
 
 HERE = Path(__file__).resolve().parent
-KILLS = 20
+KILLS = 400
+DAEMONS = 4
 CLIENTS = 8
+REPORTERS = 14
 NOT_KEPT = {"code": 14, "refused": "NotKept"}
 
 
@@ -75,24 +78,65 @@ def report(daemon, by, done):
         pass
 
 
+def killed(program, file, seconds):
+    """Kills a daemon under load, and says what differs in its file from what it had acknowledged."""
+    done = {f"c{it}": [] for it in range(CLIENTS)}
+    with kept(program, file) as daemon:
+        threads = [threading.Thread(target=report, args=(daemon, *it)) for it in done.items()]
+        for it in threads:
+            it.start()
+        time.sleep(seconds)
+        daemon.run.send_signal(signal.SIGKILL)
+        for it in threads:
+            it.join()
+    with kept(program, file) as daemon, daemon.client() as client:
+        by = {entry["number"]: entry["by"] for entry in entries(client)}
+    return [
+        *differs(sorted(by), list(range(1, len(by) + 1))),
+        *(fault for name, numbers in done.items() for fault in differs([by.get(it) for it in numbers], [name] * len(numbers))),
+    ]
+
+
 def killed_under_load(program, room):
     """However it is killed while eight clients report, the file opens, and has each report that was acknowledged."""
-    for number in range(KILLS):
-        file = room / str(number)
-        done = {f"c{it}": [] for it in range(CLIENTS)}
-        with kept(program, file) as daemon:
-            threads = [threading.Thread(target=report, args=(daemon, *it)) for it in done.items()]
-            for it in threads:
-                it.start()
-            time.sleep(random.uniform(0, 0.3))
-            daemon.run.send_signal(signal.SIGKILL)
-            for it in threads:
-                it.join()
-        with kept(program, file) as daemon, daemon.client() as client:
-            by = {entry["number"]: entry["by"] for entry in entries(client)}
-        yield from differs(sorted(by), list(range(1, len(by) + 1)))
-        for name, numbers in done.items():
-            yield from differs([by.get(it) for it in numbers], [name] * len(numbers))
+    with ThreadPoolExecutor(DAEMONS) as pool:
+        for faults in pool.map(lambda number: killed(program, room / str(number), random.uniform(0, 0.3)), range(KILLS)):
+            yield from faults
+
+
+def slow_disk(program, room):
+    """Where syncs take 100 ms, reports take turns, a question waits for two of them at most, and who waits sleeps."""
+    library, took = room / "slow.so", [[] for _ in range(REPORTERS)]
+    subprocess.run(["cc", "-shared", "-fPIC", "-o", library, HERE / "slow_sync.c"], check=True, timeout=SECONDS)
+    found, end = {**os.environ, "LD_PRELOAD": str(library), "SLOW_SYNC": "100"}, time.monotonic() + 12
+    with kept(program, room / "journal", env=found) as daemon, daemon.client() as asker:
+        copies = [register(asker, "a", str(it))["done"] for it in range(REPORTERS)]
+        before = times_of(daemon.run.pid)
+        threads = [threading.Thread(target=edit_until, args=(daemon, *it, end)) for it in zip(copies, took)]
+        for it in threads:
+            it.start()
+        time.sleep(0.5)
+        while time.monotonic() < end - 1:
+            took_of(asker, "x", "families", waited := [])
+            yield from differs(waited[0] < 0.8, True)
+        for it in threads:
+            it.join()
+        yield from differs(times_of(daemon.run.pid) - before < 100, True)
+    # A report takes two syncs; each waits for one report of each of the others.
+    yield from differs([max(it) < 0.2 * REPORTERS + 1.5 for it in took], [True] * REPORTERS)
+
+
+def took_of(client, by, do, took, **fields):
+    begun = time.monotonic()
+    client.ask(by, do, **fields)
+    took.append(time.monotonic() - begun)
+
+
+def edit_until(daemon, copy, took, end):
+    """Reports edits until this moment, and notes how long each took."""
+    with daemon.client() as client:
+        while time.monotonic() < end:
+            took_of(client, "a", "edit", took, copy=copy)
 
 
 def full_disk(program, room):
@@ -206,7 +250,7 @@ def other_files(program, room):
     yield from differs((run.returncode, json.loads(run.stdout)), (0, {"families": []}))
 
 
-CHECKS = (two_starts, killed_under_load, full_disk, failed_sync, ends_for_itself, other_files)
+CHECKS = (two_starts, killed_under_load, slow_disk, full_disk, failed_sync, ends_for_itself, other_files)
 
 
 if __name__ == "__main__":

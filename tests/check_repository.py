@@ -202,9 +202,9 @@ def passes(check):
 
 
 def untried_names():
-    """Each cause and each fault in README's tables is in what a scenario, the sweep or the check of journals wants."""
+    """Each cause and each fault in README's tables is in what a scenario, the sweep or the checks of journals and disks want."""
     wanted = [it for it in TOP.glob("tests/scenarios/*/*") if it.name.startswith(("output", "runs"))]
-    wanted = "".join("\n".join(lines_of(it)) for it in [*wanted, TOP / "tests/failed_allocations/sweep.py", TOP / "tests/check_journal.py"])
+    wanted = "".join("\n".join(lines_of(it)) for it in [*wanted, *(TOP / "tests" / it for it in ("failed_allocations/sweep.py", "check_journal.py", "check_disks.py"))])
     names = [it[1] for it in map(NAMED.match, lines_of(TOP / "README.md")) if it]
     if not names:
         yield "README.md names no cause and no fault"

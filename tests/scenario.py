@@ -127,4 +127,5 @@ def read(folder):
     runs = [session_of(folder)] if is_session else [run_of(folder, it) for it in text_of(folder, "runs").splitlines()]
     if not runs:
         raise BadScenario("it has no run")
-    return Scenario(folder.name, about, is_session, runs, text_of(folder, "sweep", b"").splitlines())
+    sweep = words_of(folder, [text_of(folder, "sweep", b"").decode()])[0].encode().splitlines()
+    return Scenario(folder.name, about, is_session, runs, sweep)

@@ -48,6 +48,12 @@ conflict : table_text (record {
 unfolding unicode_width digits cell columns head_line copy_line family_line table_text
 conflict = refl
 
+-- a path that would turn the direction of writing shows its code, which counts in the column
+turned : copy_line (columns (row_of 1 (codes "a") (encode_utf8_all (120 ∷ 0x202E ∷ 121 ∷ [])) 0 0 0 0 ∷ [])) (row_of 1 (codes "a") (encode_utf8_all (120 ∷ 0x202E ∷ 121 ∷ [])) 0 0 0 0)
+    ≡ codes "   1  a:x\u{202e}y  newest        0      0      0         0" ++ newline
+unfolding unicode_width digits cell columns copy_line
+turned = refl
+
 -- a copy that is older than one and in conflict with another is obsolete; a number may be longer than its head
 obsolete : copy_line (columns (row_of 12345 (codes "usb") (codes "p") 1 2 3 4 ∷ [])) (row_of 12345 (codes "usb") (codes "p") 1 2 3 4)
     ≡ codes "12345  usb:p  obsolete      1      2      3         4" ++ newline

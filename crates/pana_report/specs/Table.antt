@@ -2,6 +2,7 @@
 use Rattle.std.specs.Prelude.{ℕ, ◌-◌, ◌==◌, max, Bool, false, not, if◌then◌else◌, List, [], ◌∷◌, ◌++◌, length, map, fold, replicate, codes, chars, decimal}
 use Rattle.std.specs.List.{flat_map}
 use Rattle.unicode_width.specs.Width.{str_width}
+use Rattle.pana_terminal.specs.Shown.{shown}
 use Rattle.pana_hall.specs.declared.board.BoardRow.{BoardRow}
 use Rattle.pana_hall.specs.declared.board.BoardView.{BoardView}
 use Rattle.pana_report.specs.declared.cell.Alignment.{Alignment}
@@ -30,9 +31,9 @@ cell Right column text = blanks (column - width text) ++ text
 abbrev pub copy_text : BoardRow → List ℕ
 copy_text row = decimal row.copy
 
--- its place, as device:path
+-- its place, as device:path, and as a terminal may show it
 abbrev pub place_text : BoardRow → List ℕ
-place_text row = row.place.device ++ (codes ":" ++ row.place.path)
+place_text row = shown (row.place.device ++ (codes ":" ++ row.place.path))
 
 -- its state: obsolete where another is newer, else in conflict where one is, else newest
 abbrev pub state_of : BoardRow → State

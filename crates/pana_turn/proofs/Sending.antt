@@ -50,6 +50,7 @@ use Rattle.pana_keep.specs.contracts.file.FileDeviceDevice.TheImpl as device_imp
 use Rattle.pana_keep.specs.contracts.journal.Journal as file_journal
 use Rattle.pana_kept.specs.contracts.kept_hall.KeptHall as kept_hall
 use Rattle.pana_kept.specs.contracts.kept_hall.KeptHall.TheInside as kept_hall_inside
+use Rattle.pana_turn.proofs.waits.Waits.TheSendSync as waits
 use Rattle.pana_turn.specs.contracts.desk_hall.Kind as kind
 use Rattle.pana_turn.specs.contracts.desk_hall.DeskHall as desk_hall
 use Rattle.pana_turn.specs.contracts.desk_hall.DeskHall.TheInside as desk_hall_inside
@@ -141,4 +142,4 @@ table_sync : IsSync (tables_row.the_row (options_row.the_row desk_hall.the_row) 
 table_sync = tables.the_sync (options_row.the_row desk_hall.the_row) views.the_row key.the_row turns.the_row globals.the_row rule.ghosts heap.ghosts slot_send global.the_send global.the_sync frees.the_frees
 
 pub desk_sync : IsSync desk.the_row
-desk_sync = view_sync _ _ _ _ _ (declared_sync desk_inside.the_type (table_sync, (search sendable, tt)))
+desk_sync = view_sync _ _ _ _ _ (declared_sync desk_inside.the_type (table_sync, (search sendable, (waits.the_sync, tt))))

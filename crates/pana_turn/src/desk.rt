@@ -15,6 +15,7 @@ use crate::plays::{Glance, Noting, Test};
 use crate::turn::{give_turn, take_turn};
 use crate::turns::{DeskKey, Turns};
 use crate::view::View;
+use crate::waits::Waits;
 use atomic_table::Table;
 use pana_copies::DeviceName;
 use pana_hall::{Call, Hall, Reply};
@@ -33,10 +34,15 @@ const MOST_CALLS: u64 = 1 << 62;
 /// again and again. Once it finds the desk free it draws a ticket, and yields until as many calls are finished as its
 /// ticket says; then the hall is its own for one call. So calls are taken one at a time, in the order of the tickets,
 /// which needn't be the order in which the callers came.
+///
+/// Where a file keeps the hall, a report first waits until those that came before it are done, and a caller that has
+/// looked in vain for a while sleeps until a call is finished, and then draws a ticket. So reports are taken in the order
+/// in which they came, and a question waits for two of them at most.
 #[derive(Drop)]
 pub struct Desk {
     table: Table<Option<DeskHall>, View, DeskKey, Turns, Global>,
     seats: u32,
+    waits: Waits,
 }
 
 impl Model for Desk {
@@ -97,12 +103,20 @@ impl Desk {
             seats,
             begun: Snapshot::of(&hall),
         };
+        let waits = Waits::new(hall.is_kept());
         slots.push_reserved(Some(hall));
         let Ok((table, mut seat)) = Table::new(alloc, &[0, 0], slots, &key) else {
             return Err(AllocError);
         };
         deal(&table.shared, &mut seat, seats, &mut passes);
-        Ok((Desk { table, seats }, passes))
+        Ok((
+            Desk {
+                table,
+                seats,
+                waits,
+            },
+            passes,
+        ))
     }
 
     /// Makes one call of a device, in its turn, and returns the hall's reply. It waits while others have the turn.
@@ -130,10 +144,13 @@ impl Desk {
         if floor.load::<Test>(seat, 1) >= MOST_CALLS {
             return Err(CallFault::Spent);
         }
-        let mut hall = take_turn(rt, floor, seat, number);
+        let is_in_line = self.waits.enter(rt, &call);
+        let mut hall = take_turn(rt, floor, &self.waits, seat, number);
         let asked = Snapshot::of(&call);
         let made = hall.make(by, call);
         give_turn::<Brand>(floor, seat, hall, number, by, asked, &made.reply);
+        self.waits.wake(floor);
+        self.waits.leave(is_in_line);
         if !made.is_answered {
             return Err(CallFault::Unanswered);
         }
@@ -195,7 +212,11 @@ impl Desk {
             return Err(CloseRefused { desk: self, passes });
         }
         let Note { mut seat } = self.note(&mut passes[0]);
-        let Desk { table, seats: _ } = self;
+        let Desk {
+            table,
+            seats: _,
+            waits: _,
+        } = self;
         gather(&table.shared, &mut seat, passes);
         let mut closed = table.close_with(seat);
         let calls = closed.word(1);

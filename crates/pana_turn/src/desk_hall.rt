@@ -68,6 +68,13 @@ impl DeskHall {
         }
     }
 
+    /// Whether a file keeps the hall's journal. Takes no memory.
+    pub(crate) fn is_kept(&self) -> bool
+        ensures { result ≡ self.now.keeps }
+    {
+        matches!(self.kind, Kind::Kept(_))
+    }
+
     /// Makes one call of a device. A query is always answered.
     pub(crate) fn make(&mut self, by: &DeviceName, call: Call) -> Made
         ensures replies { Replies self.old.keeps self.old.entries by.now call result.reply }

@@ -7,11 +7,13 @@ mod desk;
 mod desk_hall;
 mod finished_call;
 pub mod laws;
+mod line;
 mod pass;
 mod plays;
 mod turn;
 mod turns;
 mod view;
+mod waits;
 
 pub use crate::desk::{CallFault, CloseRefused, Closed, Desk};
 pub use crate::desk_hall::DeskHall;

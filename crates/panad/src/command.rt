@@ -2,7 +2,7 @@ use crate::daemon::{self, Wishes};
 use crate::descriptors::take_standard_descriptors;
 use crate::fault::ProgramFault;
 use crate::keeping::{run_kept, show_kept};
-use crate::printing::print_answer;
+use crate::printing::{complain, output, print_answer, print_text};
 use crate::progress::Progress;
 use crate::version::VERSION;
 use clap::error::{Error, ErrorKind};
@@ -14,7 +14,7 @@ use pana_kept::before_end;
 use pana_scan::SystemDisk;
 use pana_wire::Tap;
 use std::alloc::{AllocError, Global};
-use std::io::{BufWriter, Read};
+use std::io::Read;
 use std::marker::Sync;
 use std::process::ExitCode;
 use std::sync::Wait;
@@ -296,11 +296,9 @@ fn run(rt: &HostRuntime, words: &ArgMatches) -> Result<ExitCode, ProgramFault> {
     if let Some(name) = words.get_str(JOURNAL) {
         return run_kept(rt, name);
     }
-    let alloc = rt.alloc();
-    let output = BufWriter::new(alloc, io::writer(rt)).map_err(|_| ProgramFault::OutOfMemory)?;
     let mut reader = Tap::new(rt.reader());
-    let mut writer = Tap::new(output);
-    match run_on(alloc, &mut reader, &mut writer, READS) {
+    let mut writer = Tap::new(output(rt)?);
+    match run_on(rt.alloc(), &mut reader, &mut writer, READS) {
         Ok(_) => Ok(ExitCode::SUCCESS),
         Err(fault) => Err(ProgramFault::of_serving(fault)),
     }
@@ -412,10 +410,13 @@ fn explain(rt: &HostRuntime, error: &Error) -> Result<ExitCode, ProgramFault> {
     if matches!(error.kind(), ErrorKind::OutOfMemory) {
         return Err(ProgramFault::OutOfMemory);
     }
-    match error.print(rt) {
-        Ok(()) => Ok(ExitCode::from(error.exit_code() as u8)),
-        Err(_) => Err(ProgramFault::Write),
+    let text = format!(in rt.alloc(); "{error}")?;
+    if error.use_stderr() {
+        complain(rt, &text)?;
+    } else {
+        print_text(rt, &text)?;
     }
+    Ok(ExitCode::from(error.exit_code() as u8))
 }
 
 /// Refuses the words for a reason that `clap` doesn't look at.

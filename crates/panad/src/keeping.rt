@@ -3,13 +3,12 @@
 use crate::command::READS;
 use crate::fault::ProgramFault;
 use crate::journal_file::{FileFault, open_locked, open_to_read};
-use crate::printing::print_answer;
+use crate::printing::{complain, output, print_answer};
 use pana_commands::{Answer, tables_of};
 use pana_keep::{FileDevice, Journal};
 use pana_kept::{KeptHall, OpenFault, Opened, serve_kept};
 use pana_wire::{ServeFault, Tap};
 use std::fs::File;
-use std::io::{self, BufWriter};
 use std::process::ExitCode;
 
 fn report_file(rt: &HostRuntime, name: &str, fault: FileFault) -> Result<ExitCode, ProgramFault> {
@@ -26,12 +25,14 @@ fn report_fault(rt: &HostRuntime, name: &str, fault: OpenFault) -> Result<ExitCo
 }
 
 /// Says how many bytes a crash has left behind the last entry. That standard error can't be written is no fault.
-fn report_torn(rt: &HostRuntime, name: &str, torn: usize) {
+fn report_torn(rt: &HostRuntime, name: &str, torn: usize) -> Result<(), ProgramFault> {
     if torn > 0 {
-        let _ = eprintln!(rt;
-            "panad: journal {name}: {torn} bytes behind the last entry were cut off"
-        );
+        let text = format!(in rt.alloc();
+            "panad: journal {name}: {torn} bytes behind the last entry were cut off\n"
+        )?;
+        let _ = complain(rt, &text);
     }
+    Ok(())
 }
 
 fn serve_input(
@@ -39,9 +40,8 @@ fn serve_input(
     mut session: KeptHall<FileDevice>,
 ) -> Result<ExitCode, ProgramFault> {
     let alloc = rt.alloc();
-    let output = BufWriter::new(alloc, io::writer(rt)).map_err(|_| ProgramFault::OutOfMemory)?;
     let mut reader = Tap::new(rt.reader());
-    let mut writer = Tap::new(output);
+    let mut writer = Tap::new(output(rt)?);
     match serve_kept(alloc, &mut reader, &mut writer, &mut session, READS) {
         Ok(_) => Ok(ExitCode::SUCCESS),
         Err(ServeFault::Spent) => { print_answer(rt, &Answer::reported(alloc, &"journal failed")?) }
@@ -71,7 +71,7 @@ pub fn open_hall(
     let mut journal = journal_of(rt, name, file)?;
     match pana_kept::open(rt.alloc(), &mut journal) {
         Ok(Opened { hall, sealer, torn }) => {
-            report_torn(rt, name, torn);
+            report_torn(rt, name, torn)?;
             Ok(Ok(KeptHall::new(rt.alloc(), hall, journal, sealer)))
         }
         Err(fault) => Ok(Err(report_fault(rt, name, fault)?)),

@@ -1,0 +1,112 @@
+#!/usr/bin/env python3
+"""Has the program write characters that would act on a terminal: to one, and to a pipe.
+
+usage: check_terminal.py PROGRAM
+The last line is 'N passed, M failed'.
+"""
+from __future__ import annotations
+
+import json
+import os
+import pty
+import subprocess
+import sys
+import tty
+
+from daemon import differs, run_checks
+
+SECONDS = 60
+# A control sequence introducer, an override of the direction of writing, and a separator of lines.
+HIDDEN = {"\u009b": "\\u{9b}", "\u202e": "\\u{202e}", "\u2028": "\\u{2028}"}
+RAW = "a" + "".join(HIDDEN) + "é日"
+SHOWN = "a" + "".join(HIDDEN.values()) + "é日"
+REGISTER = json.dumps({"by": "usb", "do": "register", "device": "usb", "path": RAW}, ensure_ascii=False) + "\n"
+HOLDINGS = '{"by":"usb","do":"holdings","device":"usb"}\n'
+
+
+def ran(program, *words, given=""):
+    """The status of a run, and what pipes have of its standard output and standard error."""
+    done = subprocess.run([program, *words], input=given.encode(), capture_output=True, timeout=SECONDS)
+    return done.returncode, done.stdout.decode(), done.stderr.decode()
+
+
+def on_terminal(stream, program, *words, given=""):
+    """What a terminal gets of a run whose standard output or standard error it is."""
+    ours, theirs = pty.openpty()
+    tty.setraw(theirs)
+    streams = {"stdout": subprocess.DEVNULL, "stderr": subprocess.DEVNULL, stream: theirs}
+    with subprocess.Popen([program, *words], stdin=subprocess.PIPE, **streams) as started:
+        os.close(theirs)
+        started.stdin.write(given.encode())
+        started.stdin.close()
+        got, more = b"", True
+        while more:
+            try:
+                more = os.read(ours, 65536)
+            except OSError:
+                more = b""
+            got += more
+        started.wait(timeout=SECONDS)
+    os.close(ours)
+    return got.decode()
+
+
+def tables(program, room):
+    """A table shows codes wherever it goes, and its columns are counted over them."""
+    (room / "lines").write_text(REGISTER)
+    wide = len(SHOWN) + 1  # the last of its letters takes two columns
+    table = (
+        "family 1: copies 1, newest 1, split no\n"
+        f"COPY  {'PLACE':<{wide + 4}}  STATE     NEWER  OLDER  EQUAL  CONFLICT\n"
+        f"   1  usb:{SHOWN}  newest        0      0      0         0\n"
+    )
+    yield from differs(ran(program, "show", str(room / "lines")), (0, table, ""))
+    yield from differs(on_terminal("stdout", program, "show", str(room / "lines")), table)
+
+
+def answers(program, _):
+    """A session's answers are shown on a terminal, and go elsewhere as they are."""
+    held = lambda path: f'{{"done":1}}\n{{"holdings":[{{"copy":1,"family":1,"path":"{path}","touch":1}}]}}\n'
+    given = REGISTER + HOLDINGS
+    yield from differs(ran(program, "run", given=given), (0, held(RAW), ""))
+    yield from differs(on_terminal("stdout", program, "run", given=given), held(SHOWN))
+
+
+def kept_answers(program, room):
+    """So are those of a session with a journal, whose file has the path as it is."""
+    file = room / "journal"
+    shown = on_terminal("stdout", program, "run", "--journal", str(file), given=REGISTER + HOLDINGS)
+    yield from differs(SHOWN in shown and RAW not in shown, True)
+    yield from differs(RAW in file.read_text(), True)
+
+
+def scans(program, room):
+    """So are the lines of a scan."""
+    (room / RAW).write_text("")
+    line = '{{"by":"usb","device":"usb","do":"register","path":"{}"}}\n'
+    yield from differs(ran(program, "scan", "usb", str(room)), (0, line.format(RAW), ""))
+    yield from differs(on_terminal("stdout", program, "scan", "usb", str(room)), line.format(SHOWN))
+
+
+def messages(program, room):
+    """So are messages, and what is wrong with the words of the command line."""
+    text = "panad: cannot read {}\n"
+    name, shown = str(room / RAW), str(room / SHOWN)
+    yield from differs(ran(program, "load", name), (1, "", text.format(name)))
+    yield from differs(on_terminal("stderr", program, "load", name), text.format(shown))
+    for words in (("show", "--journal", name), ("serve", "--port", "0", RAW), ("show", f"--{RAW}")):
+        raw, shown = ran(program, *words)[2], on_terminal("stderr", program, *words)
+        yield from differs(RAW in raw, True)
+        yield from differs(shown, raw.replace(RAW, SHOWN))
+
+
+def help_texts(program, _):
+    """Help is the same on a terminal."""
+    yield from differs(on_terminal("stdout", program, "--help"), ran(program, "--help")[1])
+
+
+CHECKS = (tables, answers, kept_answers, scans, messages, help_texts)
+
+
+if __name__ == "__main__":
+    sys.exit(run_checks(__doc__, CHECKS, sys.argv[1:]))

@@ -1,0 +1,102 @@
+"""A program that keeps a journal, run for a test, and what it answers."""
+from __future__ import annotations
+
+import json
+import shutil
+import subprocess
+import sys
+import tempfile
+import time
+from pathlib import Path
+
+SECONDS = 60
+
+
+def line(by="laptop", **said):
+    return (json.dumps({"by": by, **said}) + "\n").encode()
+
+
+REGISTER = line(do="register", device="laptop", path="plan.txt")
+EDIT = line(do="edit", copy=1)
+BOARD = line(do="board", family=1)
+
+
+def pages(count):
+    """Lines that ask for so many entries, and for one behind them."""
+    return b"".join(line(do="journal", **{"from": at}) for at in range(1, count + 2, 100))
+
+
+def ran(program, *words, given=b"", **how):
+    """The status of a run, and what it wrote on standard output and standard error."""
+    done = subprocess.run([program, *map(str, words)], input=given, capture_output=True, timeout=SECONDS, **how)
+    return done.returncode, done.stdout, done.stderr
+
+
+def answers(program, file, given, error=b""):
+    """What a run on the journal answers, which ends well."""
+    status, out, err = ran(program, "run", "--journal", file, given=given)
+    if status or (error is not None and err != error):
+        raise ValueError(f"status {status}, standard error {err!r:.300}, wanted {error!r:.300}")
+    return [json.loads(it) for it in out.splitlines()]
+
+
+def entries(program, file, most, error=b""):
+    """The entries that the program finds in a journal, asked for by pages."""
+    return [it for page in answers(program, file, pages(most), error) for it in page["entries"]]
+
+
+def differs(got, wanted):
+    """Says what came that isn't wanted."""
+    if got != wanted:
+        yield f"wanted {wanted!r:.300}, got {got!r:.300}"
+
+
+def reported(out, text):
+    """What a run gives that does nothing but report this."""
+    return 1, out, f"panad: {text}\n".encode()
+
+
+def made(program, file, edits):
+    """Makes a journal with a copy and its edits, and returns its entries."""
+    answers(program, file, REGISTER + EDIT * edits)
+    return entries(program, file, edits + 1)
+
+
+def each_command(program, name):
+    """What `run` and `show` report of a journal that they don't open."""
+    for words in (("run", "--journal", name), ("show", "--journal", name)):
+        yield ran(program, *words, given=REGISTER)
+
+
+class Session:
+    """A run on a journal that is asked line by line."""
+
+    def __init__(self, program, file, **how):
+        streams = {"stdin": subprocess.PIPE, "stdout": subprocess.PIPE, "stderr": subprocess.PIPE}
+        self.started = subprocess.Popen([program, "run", "--journal", str(file)], **streams, **how)
+
+    def ask(self, given):
+        self.started.stdin.write(given)
+        self.started.stdin.flush()
+        return json.loads(self.started.stdout.readline() or b'"nothing"')
+
+    def end(self):
+        out, err = self.started.communicate(timeout=SECONDS)
+        return self.started.returncode, out, err
+
+
+def run_checks(checks, setting):
+    """Runs checks, each in a folder of its own, and says which passed, which failed and why."""
+    passed, failed = 0, 0
+    for check in checks:
+        room, since = Path(tempfile.mkdtemp()), time.monotonic()
+        try:
+            faults = list(check(setting, room))
+        except (OSError, subprocess.SubprocessError, ValueError, KeyError) as error:
+            faults = [f"{type(error).__name__}: {error}"]
+        finally:
+            shutil.rmtree(room, ignore_errors=True)
+        passed, failed = passed + (not faults), failed + bool(faults)
+        print(f"{'FAILED' if faults else 'passed'} {check.__name__}: {check.__doc__} ({time.monotonic() - since:.1f} s)", *faults[:9], sep="\n  ", flush=True)
+    print(f"{passed} passed, {failed} failed")
+    return int(failed != 0)
