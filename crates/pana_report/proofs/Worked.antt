@@ -50,7 +50,7 @@ conflict = refl
 
 -- a path that would turn the direction of writing shows its code, which counts in the column
 turned : copy_line (columns (row_of 1 (codes "a") (encode_utf8_all (120 ∷ 0x202E ∷ 121 ∷ [])) 0 0 0 0 ∷ [])) (row_of 1 (codes "a") (encode_utf8_all (120 ∷ 0x202E ∷ 121 ∷ [])) 0 0 0 0)
-    ≡ codes "   1  a:x\u{202e}y  newest        0      0      0         0" ++ newline
+    ≡ codes "   1  a:x\\u{202e}y  newest        0      0      0         0" ++ newline
 unfolding unicode_width digits cell columns copy_line
 turned = refl
 
