@@ -398,7 +398,11 @@ fn load(rt: &HostRuntime, words: &ArgMatches) -> Result<ExitCode, ProgramFault> 
         return cannot_read(rt, name);
     };
     let lines = before_end(&bytes);
-    if !bytes.get(lines.len()..).is_some_and(ends_journal) {
+    let is_journal = match bytes.get(lines.len()..) {
+        Some(behind) => ends_journal(behind),
+        None => false,
+    };
+    if !is_journal {
         let text = format!(in rt.alloc(); "journal {name}: not a journal")?;
         return print_answer(rt, &Answer::reported(rt.alloc(), &text)?);
     }
