@@ -73,7 +73,7 @@ class Session:
     def judge(self, talk):
         kind, done = talk_through(talk, self)
         if self.is_kept:
-            want_kept(self, talk.journal, done, kind == "ended the program after a call")
+            want_kept(self, talk.journal, done, kind.startswith("ended"))
         return kind
 
 

@@ -13,6 +13,16 @@ pub enum FileFault {
     CannotOpen,
     /// Another process has it open.
     InUse,
+    /// Memory ran out.
+    OutOfMemory,
+}
+
+/// Why a file isn't opened, from what the system reports.
+fn fault_of(error: &Error) -> FileFault {
+    match error.kind() {
+        ErrorKind::OutOfMemory => FileFault::OutOfMemory,
+        _ => FileFault::CannotOpen,
+    }
 }
 
 /// The folder of a file's name.
@@ -29,12 +39,19 @@ fn is_regular(rt: &HostRuntime, name: &str) -> io::Result<bool> {
     Ok(fs::metadata(rt, name)?.is_file())
 }
 
-/// The regular file with this name, to be read.
-pub fn open_to_read(rt: &HostRuntime, name: &str) -> io::Result<File> {
+fn find_to_read(rt: &HostRuntime, name: &str) -> io::Result<File> {
     if is_regular(rt, name)? {
         File::open(rt, name)
     } else {
         Err(ErrorKind::InvalidInput.into())
+    }
+}
+
+/// The regular file with this name, to be read.
+pub fn open_to_read(rt: &HostRuntime, name: &str) -> Result<File, FileFault> {
+    match find_to_read(rt, name) {
+        Ok(file) => Ok(file),
+        Err(error) => Err(fault_of(&error)),
     }
 }
 
@@ -109,6 +126,6 @@ fn lock(rt: &HostRuntime, name: &str) -> io::Result<Result<File, FileFault>> {
 pub fn open_locked(rt: &HostRuntime, name: &str) -> Result<File, FileFault> {
     match lock(rt, name) {
         Ok(locked) => locked,
-        Err(_) => Err(FileFault::CannotOpen),
+        Err(error) => Err(fault_of(&error)),
     }
 }

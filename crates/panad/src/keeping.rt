@@ -15,6 +15,7 @@ fn report_file(rt: &HostRuntime, name: &str, fault: FileFault) -> Result<ExitCod
     let text = match fault {
         FileFault::CannotOpen => format!(in rt.alloc(); "cannot open journal {name}")?,
         FileFault::InUse => format!(in rt.alloc(); "journal {name} is in use")?,
+        FileFault::OutOfMemory => return Err(ProgramFault::OutOfMemory),
     };
     print_answer(rt, &Answer::reported(rt.alloc(), &text)?)
 }
@@ -89,8 +90,9 @@ pub fn run_kept(rt: &HostRuntime, name: &str) -> Result<ExitCode, ProgramFault> 
 
 /// Prints the tables of a journal's file, which isn't changed.
 pub fn show_kept(rt: &HostRuntime, name: &str) -> Result<ExitCode, ProgramFault> {
-    let Ok(file) = open_to_read(rt, name) else {
-        return report_file(rt, name, FileFault::CannotOpen);
+    let file = match open_to_read(rt, name) {
+        Ok(file) => file,
+        Err(fault) => return report_file(rt, name, fault),
     };
     let mut journal = journal_of(rt, name, file)?;
     match pana_kept::read(rt.alloc(), &mut journal) {
