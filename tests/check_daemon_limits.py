@@ -25,6 +25,8 @@ SESSIONS = 16
 OPENED, CLOSED, IS_FOLDER = 0x20, 0x10, 0x40000000
 EVENT = struct.Struct("iIII")
 SLOW = 16 << 20
+# How many threads a daemon with one root makes and ends before it listens.
+TRIED = SESSIONS + 3
 DEAF = b"panad: cannot take a connection; trying again\n"
 
 
@@ -260,15 +262,28 @@ def closed_streams(program, _):
         run.stdout.close()
 
 
+def without_threads(program, library, number, *roots):
+    """A daemon to which from this thread on, counted from 1, none is given."""
+    how = {"stdin": subprocess.DEVNULL, "stdout": subprocess.PIPE, "stderr": subprocess.PIPE}
+    found = {**os.environ, "LD_PRELOAD": str(library), "FAILING_THREAD": str(number)}
+    return subprocess.Popen([program, "serve", "--port", "0", *roots], env=found, **how)
+
+
 def no_threads(program, room):
-    """Where not all threads can be made nobody listens, and that is the fault."""
-    library = room / "failing.so"
+    """Where not all threads can be made nobody listens, and that is the fault; also some seconds later, where they are
+    gone after all, and then no folder was read."""
+    library, root = room / "failing.so", room / "root"
     subprocess.run(["cc", "-shared", "-fPIC", "-o", library, HERE / "failing_threads.c"], check=True, timeout=SECONDS)
-    for number in ("1", "2", "17"):
-        found = {**os.environ, "LD_PRELOAD": str(library), "FAILING_THREAD": number}
-        words = [program, "serve", "--port", "0"]
-        done = subprocess.run(words, stdin=subprocess.DEVNULL, capture_output=True, timeout=SECONDS, env=found)
-        yield from differs((done.returncode, done.stdout, done.stderr), (1, b"", b"panad: cannot make threads\n"))
+    root.mkdir()
+    message = b"panad: cannot make threads\n"
+    with Watch(root) as watch, without_threads(program, library, TRIED + 1, f"usb={root}") as late:
+        for number in (1, 2, 17):
+            with without_threads(program, library, number) as early:
+                said = early.communicate(timeout=SECONDS)
+                yield from differs((early.returncode, *said), (1, b"", message))
+        out, said = late.communicate(timeout=SECONDS)
+        yield from differs((late.returncode, bool(LISTENING.fullmatch(out)), said), (1, True, message))
+        yield from differs(watch.opened(root), 0)
 
 
 CHECKS = (scans_counted, slow_roots, silent_clients, slow_clients, idle_sessions, no_descriptors, last_session)

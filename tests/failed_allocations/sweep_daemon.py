@@ -4,11 +4,10 @@ reports and asks, two more files are scanned, and the first is changed and scann
 
 usage: sweep_daemon.py PROGRAM
 
-The daemon may end with 'panad: out of memory' and status 1 before it listens, or say that it cannot make threads. From
-then on it stays. An answer must be the one that a run with no failed allocation gives, or OutOfMemory: the journal is
+The daemon may end with 'panad: out of memory' and status 1 before it listens, or say that it cannot make threads; this
+also later, before it takes a connection, where a thread can't be made after all. From then on it stays. An answer must be the one that a run with no failed allocation gives, or OutOfMemory: the journal is
 then as it was, and the same line, sent again, gets that answer. A session may end in place of an answer; then the next
 one finds the journal as it was, or with the entry of that line. A scan may be left undone, and the next one does it.
-A few allocations, of threads that it has looked for before it listens, may leave it deaf; how many is counted.
 The last line is 'N passed, M failed'.
 """
 from __future__ import annotations
@@ -33,9 +32,9 @@ SHOWN = 5
 MOST = 5000
 PATIENCE = 1
 LONGEST = 8
-DEAF = 8
 OUT_OF_MEMORY = ({"code": 9, "refused": "OutOfMemory"}, {"fault": "OutOfMemory"})
-ENDS = (b"panad: out of memory\n", b"panad: cannot make threads\n")
+NO_THREADS = b"panad: cannot make threads\n"
+ENDS = (b"panad: out of memory\n", NO_THREADS)
 LINES = (
     line_of("desk", "duplicate", copy=1, device="desk", path="a"),
     line_of("desk", "edit", copy=2),
@@ -47,7 +46,7 @@ LINES = (
 
 
 class Deaf(Exception):
-    """The daemon answers nobody, or scans nothing, and an allocation has failed."""
+    """The daemon answers nobody, or scans nothing, and an allocation has failed: it is to end."""
 
 
 @dataclass
@@ -73,12 +72,14 @@ class Run:
             return self.client.answer()
         except socket.timeout as error:
             raise (Deaf if self.has_failed() else Broken)(f"{line!r} is not answered") from error
-        except (Broken, ConnectionError):
+        except (Broken, ConnectionError) as error:
             if self.client:
                 self.client.close()
             self.client = None
-            if not self.has_failed() or self.daemon.poll() is not None:
+            if not self.has_failed():
                 raise
+            if self.daemon.poll() is not None:
+                raise Deaf(f"{line!r} finds no daemon") from error
             return None
 
     def ask_surely(self, line):
@@ -131,6 +132,15 @@ def talked_through(run, room):
     return run.answers, run.journal()
 
 
+def late_fault(daemon, error):
+    """What is wrong with the end of a daemon that answers nobody, or None."""
+    try:
+        ended = daemon.wait(timeout=SECONDS), daemon.stderr.read()
+        return None if ended == (1, NO_THREADS) else f"{error}: it ended with {ended}"
+    except subprocess.TimeoutExpired:
+        return f"{error}: it goes on"
+
+
 def failing_run(program, library, at):
     """A run with allocation number `at` failing: how many failed, what it gave or how it ended, and its fault."""
     pipe = subprocess.PIPE
@@ -150,8 +160,8 @@ def failing_run(program, library, at):
                 ended = (line, daemon.stderr.read(), daemon.wait(timeout=SECONDS))
                 fault = None if ended in ((b"", it, 1) for it in ENDS) else f"it ended with {ended}"
                 return report.counts()[1], "ended", fault
-            except Deaf:
-                return report.counts()[1], "deaf", None
+            except Deaf as error:
+                return report.counts()[1], "ended late", late_fault(daemon, error)
             except (Broken, OSError, ValueError, KeyError) as error:
                 daemon.kill()
                 return report.counts()[1], None, f"{type(error).__name__}: {error}; {daemon.stderr.read()!r:.200}"
@@ -187,8 +197,6 @@ def main(program):
                 faults.append(f"allocation {at} failed: {fault}")
             if len(faults) >= SHOWN:
                 break
-    if kinds["deaf"] > DEAF:
-        faults.append(f"{kinds['deaf']} failed allocations leave it deaf")
     text = ", ".join(f"{count} {kind}" for kind, count in sorted(kinds.items()))
     print(f"{'FAILED' if faults else 'ok'}: of the failed allocations {text}", *faults, sep="\n    ")
     print(f"{int(not faults)} passed, {int(bool(faults))} failed")

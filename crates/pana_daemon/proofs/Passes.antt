@@ -56,14 +56,6 @@ pub new_all : (desk : DeskId) (seats : ℕ) (passes : List PassView) → passes 
 new_all desk seats passes is = subst (HasAll seats) (sym is) (λ number within.
     let same : 0 + number ≡ number = omega arith in subst (λ n. has_pass (new_passes desk seats) n ≡ true) same (numbered_have desk 0 seats number within))
 
--- passes that stayed as they were have grown
-pub stayed : (olds news : List PassView) → news ≡ olds → HaveGrown olds news
-stayed olds news is = subst (HaveGrown olds) (sym is) (themselves olds)
-  where
-    themselves : (passes : List PassView) → HaveGrown passes passes
-    themselves [] = tt
-    themselves (pass ∷ passes) = (grows_same pass pass refl, themselves passes)
-
 -- passes that have grown are of the same desk, and have the same numbers
 pub grown_of : (desk : DeskId) (olds news : List PassView) → HaveGrown olds news → AreOf desk olds → AreOf desk news
 grown_of desk [] [] grown of = tt

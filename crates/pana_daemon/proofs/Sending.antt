@@ -14,11 +14,11 @@ use Rattle.pana_daemon.proofs.alarm.Alarm.TheSendSync as alarms
 use Rattle.pana_daemon.specs.contracts.alarm.Alarm as alarm
 use Rattle.pana_daemon.specs.contracts.daemon.Front as front
 use Rattle.pana_daemon.proofs.root.Root.TheSendSync as roots
-use Rattle.pana_daemon.proofs.ticks.Ticks.TheSendSync as ticks
+use Rattle.pana_daemon.proofs.signals.Signals.TheSendSync as signals
 use Rattle.pana_daemon.specs.contracts.root_folder.RootFolder as folder
 
 pub folder_send : (lft : NamedLft) (T : RattleType) → IsSync T → IsSend (folder.the_row lft T)
-folder_send lft T t = declared_send (folder.the_type lft T) (shr_send _ _ _ runtime.the_sync, (shr_send _ _ T t, (shr_send _ _ _ (roots.the_sync lft), (shr_send _ _ _ ticks.the_sync, (options.the_send u64 (search sendable), tt)))))
+folder_send lft T t = declared_send (folder.the_type lft T) (shr_send _ _ _ runtime.the_sync, (shr_send _ _ T t, (shr_send _ _ _ (roots.the_sync lft), (shr_send _ _ _ signals.the_sync, (options.the_send u64 (search sendable), tt)))))
 
 pub root_scanner_send : (lft rung inner : NamedLft) (T : RattleType) → IsSync T → IsSend (scanner.the_row lft T (alarm.the_row rung) (folder.the_row inner T))
 root_scanner_send lft rung inner T t = scanner_send lft T (alarm.the_row rung) (folder.the_row inner T) t (alarms.the_sync rung) (folder_send inner T t)

@@ -1,5 +1,6 @@
 //! What becomes of faults that aren't a session's own.
 
+use crate::start::Start;
 use pana_host::Gate;
 use std::io;
 use std::net::{Shutdown, TcpListener, TcpStream};
@@ -10,11 +11,12 @@ use std::time::Clock;
 /// How many seconds open sessions have before they are to end.
 const GRACE: u64 = 5;
 
-/// A gate that lets all pass. It prints one line on standard error at the first call that has no answer, and one where a
-/// connection can't be taken for the first time.
+/// A gate that opens with the start, and lets all pass. It prints one line on standard error at the first call that has no
+/// answer, and one where a connection can't be taken for the first time.
 #[derive(Drop)]
 pub struct Alarm<'a> {
     rt: &'a HostRuntime,
+    start: &'a Start,
     has_rung: AtomicBool,
     is_deaf: AtomicBool,
     /// The listener's socket, where no further connection is taken once it has rung.
@@ -32,13 +34,18 @@ impl<'a> Alarm<'a> {
     /// A gate before the first call; once it has rung all is to end where a listener is given.
     ///
     /// Fails only where a listener is given, and no descriptor is left.
-    pub fn new(rt: &'a HostRuntime, listener: Option<&TcpListener>) -> io::Result<Alarm<'a>> {
+    pub fn new(
+        rt: &'a HostRuntime,
+        start: &'a Start,
+        listener: Option<&TcpListener>,
+    ) -> io::Result<Alarm<'a>> {
         let closer = match listener {
             Some(listener) => Some(socket_of(listener)?),
             None => None,
         };
         Ok(Alarm {
             rt,
+            start,
             has_rung: AtomicBool::new(false),
             is_deaf: AtomicBool::new(false),
             closer,
@@ -83,6 +90,10 @@ impl Gate for Alarm<'_> {
             let _ = eprintln!(self.rt; "panad: journal failed");
             self.close();
         }
+    }
+
+    fn opens(&self) -> bool {
+        self.start.wait(self.rt)
     }
 
     fn is_closing(&self) -> bool {

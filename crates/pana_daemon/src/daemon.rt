@@ -7,8 +7,8 @@ use crate::alarm::Alarm;
 use crate::root::Root;
 use crate::root_folder::RootFolder;
 use crate::running::can_run;
+use crate::signals::Signals;
 use crate::standard_input::StandardInput;
-use crate::ticks::Ticks;
 use pana_host::{DeskSession, Entrance, Scanner, listen, scan_all};
 use pana_turn::{Closed, Desk, DeskHall, Pass};
 use std::alloc::{AllocError, Global};
@@ -46,7 +46,7 @@ pub enum DaemonFault {
     Write,
     /// No descriptor is left, before anything is printed.
     NoDescriptor,
-    /// Not as many threads can be made as it takes.
+    /// Not as many threads can be made as it takes; or not all began within ten seconds that are to run at once.
     NoThreads,
     /// The file that keeps the journal has failed, and a call had no answer.
     Unanswered,
@@ -61,12 +61,13 @@ impl From<AllocError> for DaemonFault {
 /// The alarm that ends all where no number of sessions is wanted and it isn't to stay.
 fn alarm_of<'a>(
     rt: &'a HostRuntime,
+    signals: &'a Signals,
     entrance: &Entrance,
     stays: bool,
 ) -> Result<Alarm<'a>, DaemonFault> {
     let ends = entrance.wanted.is_none() && !stays;
     let listener = if ends { Some(&entrance.listener) } else { None };
-    Alarm::new(rt, listener).map_err(|_| DaemonFault::NoDescriptor)
+    Alarm::new(rt, &signals.start, listener).map_err(|_| DaemonFault::NoDescriptor)
 }
 
 /// The scanners of the roots, in order, each by the pass at its place.
@@ -75,7 +76,7 @@ fn scanners<'a, 'b, T>(
     threads: &'a T,
     desk: &'a Desk,
     gate: &'a Alarm<'b>,
-    ticks: &'a Ticks,
+    signals: &'a Signals,
     roots: &'a [Root<'a>],
     passes: Vec<Pass>,
 ) -> Result<Vec<RootScanner<'a, 'b, T>>, AllocError>
@@ -93,7 +94,7 @@ fn scanners<'a, 'b, T>(
         scanners.push_reserved(Scanner {
             session: DeskSession::new(threads, desk, gate, 0, pass),
             device: &root.device,
-            folder: RootFolder::new(rt, threads, root, ticks),
+            folder: RootFolder::new(rt, threads, root, signals),
         });
     }
     Ok(scanners)
@@ -128,12 +129,20 @@ fn scan<T: Threads + Wait + Clock + Sync>(
     back
 }
 
+/// Counts the newlines of standard input until it ends, once all has begun that is to run at once.
+fn count_newlines<T: Wait>(rt: &HostRuntime, threads: &T, signals: &Signals, alarm: &Alarm<'_>) {
+    if signals.start.wait(threads) {
+        let mut input = StandardInput { rt, threads, alarm };
+        signals.ticks.count(threads, &mut input);
+    }
+}
+
 /// Looks for newlines of standard input, and scans all roots after them, until the input has ended. Then it hands the
 /// scanners' passes back, in order, for which there is room. Where there is no root it doesn't read standard input.
 fn scan_by_newlines<T: Threads + Wait + Clock + Sync>(
     rt: &HostRuntime,
     threads: &T,
-    ticks: &Ticks,
+    signals: &Signals,
     alarm: &Alarm<'_>,
     scanners: Vec<RootScanner<'_, '_, T>>,
     back: Vec<Pass>,
@@ -152,7 +161,7 @@ fn scan_by_newlines<T: Threads + Wait + Clock + Sync>(
         move ||
             requires { (length back.items ≡ 0) × (length scanners.items ≤ vec_capacity back) }
         { scan(threads, alloc, scanners, back) },
-        || ticks.count(threads, &mut StandardInput { rt, threads, alarm }),
+        || count_newlines(rt, threads, signals, alarm),
     );
     back
 }
@@ -184,7 +193,7 @@ fn serve_connections<T: Threads + Wait + Clock + Sync>(
 fn serve_and_scan<T: Threads + Wait + Clock + Sync>(
     rt: &HostRuntime,
     threads: &T,
-    ticks: &Ticks,
+    signals: &Signals,
     front: Box<Front<'_, '_, '_>>,
     others: Vec<Pass>,
     scanners: Vec<RootScanner<'_, '_, T>>,
@@ -207,7 +216,7 @@ fn serve_and_scan<T: Threads + Wait + Clock + Sync>(
         { serve_connections(threads, alloc, Box::into_inner(front), others) },
         move ||
             requires { (length back.items ≡ 0) × (length scanners.items ≤ vec_capacity back) }
-        { scan_by_newlines(rt, threads, ticks, alarm, scanners, back) },
+        { scan_by_newlines(rt, threads, signals, alarm, scanners, back) },
     )
 }
 
@@ -224,6 +233,20 @@ fn announce<T: Threads + Wait + Sync>(
     println!(rt; "listening {address}").map_err(|_| DaemonFault::Write)
 }
 
+/// Fails where it has ended early, once all have ended.
+fn look_back(has_listened: bool, signals: &Signals, gate: &Alarm<'_>) -> Result<(), DaemonFault> {
+    if !has_listened {
+        return Err(DaemonFault::OutOfMemory);
+    }
+    if signals.start.is_refused() {
+        return Err(DaemonFault::NoThreads);
+    }
+    if gate.has_rung() {
+        return Err(DaemonFault::Unanswered);
+    }
+    Ok(())
+}
+
 /// Prints where it listens, and then serves the listener's connections at a desk with this hall, 16 at a time, and scans
 /// the roots: each by a thread of its own, at the start and after newlines on standard input. It ends once as many
 /// connections were taken as are wanted, these have ended and, where there is a root, standard input has ended too; where
@@ -233,7 +256,9 @@ fn announce<T: Threads + Wait + Sync>(
 ///
 /// # Errors
 ///
-/// `OutOfMemory`, before a connection is taken; `NoThreads` and `NoDescriptor`, before anything is printed; `Write`;
+/// `OutOfMemory`, before a connection is taken; `NoThreads`, before anything is printed, or where threads can't be made
+/// after all, some ten seconds later, before a connection is taken or a folder is read; `NoDescriptor`, before anything is
+/// printed; `Write`;
 /// `Unanswered` at the end, where the hall's file has failed. That is printed once it has.
 pub fn serve<'a, T: Threads + Wait + Clock + Sync>(
     rt: &'a HostRuntime,
@@ -251,8 +276,9 @@ pub fn serve<'a, T: Threads + Wait + Clock + Sync>(
     let (desk, mut passes) = Desk::open_with(alloc, SESSIONS + roots.len() as u32, hall)?;
     let room = Vec::with_capacity(alloc, passes.len())?;
     let others = passes.split_off(roots.len())?;
-    let (ticks, gate) = (Ticks::new(), alarm_of(rt, &entrance, stays)?);
-    let scanners = scanners(&*rt, &*threads, &desk, &gate, &ticks, &*roots, passes)?;
+    let signals = Signals::new(roots.len());
+    let gate = alarm_of(rt, &signals, &entrance, stays)?;
+    let scanners = scanners(&*rt, &*threads, &desk, &gate, &signals, &*roots, passes)?;
     // In a box, since of a closure that captures it as it stands `join` passes nothing on.
     let front = Front {
         desk: &desk,
@@ -264,14 +290,9 @@ pub fn serve<'a, T: Threads + Wait + Clock + Sync>(
     };
     announce(rt, threads, address, SESSIONS + roots.len() as u32 + OTHERS)?;
     let ((has_listened, mut served), mut back) = serve_and_scan(
-        &*rt, &*threads, &ticks, front, others, scanners, room,
+        &*rt, &*threads, &signals, front, others, scanners, room,
     );
-    if !has_listened {
-        return Err(DaemonFault::OutOfMemory);
-    }
-    if gate.has_rung() {
-        return Err(DaemonFault::Unanswered);
-    }
+    look_back(has_listened, &signals, &gate)?;
     let Ok(()) = back.append(&mut served) else {
         unreachable!()
     };

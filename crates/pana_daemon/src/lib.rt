@@ -6,7 +6,9 @@ mod daemon;
 mod root;
 mod root_folder;
 mod running;
+mod signals;
 mod standard_input;
+mod start;
 mod ticks;
 
 pub use crate::daemon::{DaemonFault, serve};

@@ -1,19 +1,20 @@
 //! A root's folder, as a scanner looks at it.
 
 use crate::root::Root;
-use crate::ticks::Ticks;
+use crate::signals::Signals;
 use pana_host::Folder;
 use pana_scan::{Listing, ScanFault, SystemDisk, Unwatched, read_root};
 use std::sync::Wait;
 
 /// A root's folder, which is scanned at the start, and again once a newline of standard input has come since the last
-/// scan began; so newlines that come during a scan are one more.
+/// scan began; so newlines that come during a scan are one more. Where not all begins that is to run at once, it gives
+/// nothing.
 #[derive(Drop)]
 pub struct RootFolder<'a, T> {
     rt: &'a HostRuntime,
     threads: &'a T,
     root: &'a Root<'a>,
-    ticks: &'a Ticks,
+    signals: &'a Signals,
     /// How many newlines had come when the last scan began; none before the first.
     seen: Option<u64>,
 }
@@ -24,13 +25,13 @@ impl<'a, T> RootFolder<'a, T> {
         rt: &'a HostRuntime,
         threads: &'a T,
         root: &'a Root<'a>,
-        ticks: &'a Ticks,
+        signals: &'a Signals,
     ) -> RootFolder<'a, T> {
         RootFolder {
             rt,
             threads,
             root,
-            ticks,
+            signals,
             seen: None,
         }
     }
@@ -39,8 +40,9 @@ impl<'a, T> RootFolder<'a, T> {
 impl<T: Wait> Folder for RootFolder<'_, T> {
     fn next(&mut self) -> Option<Result<Listing, ScanFault>> {
         self.seen = Some(match self.seen {
-            None => self.ticks.so_far(),
-            Some(seen) => self.ticks.wait_past(self.threads, seen)?,
+            None if !self.signals.start.wait(self.threads) => return None,
+            None => self.signals.ticks.so_far(),
+            Some(seen) => self.signals.ticks.wait_past(self.threads, seen)?,
         });
         let mut disk = SystemDisk::new(self.rt);
         Some(read_root(

@@ -18,6 +18,14 @@ use Rattle.pana_host.specs.Session.{MakesCall, GetsNone, GrowsTo}
 pub grows_same : (old new : PassView) → new ≡ old → GrowsTo old new
 grows_same old new is = subst (GrowsTo old) (sym is) (record { same = (refl, refl); seen = ([], append-nil old.seen) })
 
+-- passes that stayed as they were have grown
+pub stayed : (olds news : List PassView) → news ≡ olds → HaveGrown olds news
+stayed olds news is = subst (HaveGrown olds) (sym is) (themselves olds)
+  where
+    themselves : (passes : List PassView) → HaveGrown passes passes
+    themselves [] = tt
+    themselves (pass ∷ passes) = (grows_same pass pass refl, themselves passes)
+
 pub grows_on : (old mid new : PassView) → GrowsTo old mid → GrowsTo mid new → GrowsTo old new
 grows_on old mid new a b = record {
   same = (b.same.0 ∙ a.same.0, b.same.1 ∙ a.same.1);

@@ -13,6 +13,11 @@ pub trait Gate {
     /// After the caller's nth call has no answer, since the file that keeps the hall has failed.
     fn unanswered(&self, _lane: u32, _nth: u64) {}
 
+    /// Whether connections are to be taken at all: asked once, when all is ready for the first one.
+    fn opens(&self) -> bool {
+        true
+    }
+
     /// After no connection could be taken, for a reason that may pass.
     fn not_taken(&self) {}
 

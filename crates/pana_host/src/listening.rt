@@ -112,7 +112,7 @@ fn take_passes<T, G>(sessions: Vec<DeskSession<'_, T, G>>, passes: &mut Vec<Pass
 /// Serves the listener's connections, as many at a time as there are passes, each in a thread of its own; where no thread
 /// can be made, one worker after another. It closes the listener once as many connections were taken as are wanted, and
 /// then ends with the last of these; where no number is given it ends only where the gate says so. It returns the passes
-/// in order.
+/// in order. Where the gate doesn't open, it takes no connection, and returns them as they came.
 ///
 /// A connection whose first byte that isn't a blank isn't `{` is closed, with no call made and nothing written. So is one
 /// that keeps others waiting for too long, where it stands.
@@ -140,6 +140,9 @@ pub fn listen<T: Threads + Wait + Clock + Sync, G: Gate + Sync>(
     ) else {
         return Err(passes);
     };
+    if !gate.opens() {
+        return Ok(passes);
+    }
     open_sessions(rt, desk, gate, passes, &mut sessions);
     let Entrance {
         listener,

@@ -1,4 +1,4 @@
-use Rattle.pana_daemon.proofs.Passes.{stayed}
+use Rattle.pana_host.proofs.Sessions.{stayed}
 use Rattle.pana_daemon.proofs.daemon.serve_connections.Goals as goal
 
 pub returns-in-Err : goal.returns-in-Err

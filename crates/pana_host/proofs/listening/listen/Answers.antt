@@ -1,4 +1,4 @@
-use Rattle.std.proofs.Common.{◌≡◌, ◌<◌, ℕ, List, length, slice_index_or, ap, sym, subst, ◌∙◌, arith, take, drop, ◌++◌}
+use Rattle.std.proofs.Common.{◌≡◌, ◌<◌, ℕ, List, length, slice_index_or, ap, refl, sym, subst, ◌∙◌, arith, take, drop, ◌++◌}
 use Rattle.std.proofs.Math.Seq.{take-append_seam}
 use mathlib.Core.List.{[], ◌∷◌}
 use mir.Syntax.{Sym, erased}
@@ -14,7 +14,7 @@ use Rattle.std.proofs.sync.Mutex.TheSendSync as mutexes
 use Rattle.pana_turn.specs.Passes.{PassView}
 use Rattle.pana_host.specs.Listen.{HaveGrown}
 use Rattle.pana_host.specs.Session.{GrowsTo}
-use Rattle.pana_host.proofs.Sessions.{all_grown}
+use Rattle.pana_host.proofs.Sessions.{all_grown, stayed}
 use Rattle.pana_host.proofs.Sending.{session_send}
 use Rattle.pana_host.proofs.door.Door.TheSendSync as doors
 use Rattle.pana_host.proofs.patience.Patience.TheSendSync as patience
@@ -53,3 +53,6 @@ returns-clause-grown g c =
     let changed = (c.for_each_mut.ensures i d (subst (λ (ps : List PassView). i < length ps) (sym opened) within)).1 in
     subst (λ (p : PassView). GrowsTo p (slice_index_or left i d)) (changed.argument_is ∙ ap (λ (ps : List PassView). slice_index_or ps i d) opened)
     (subst (λ (p : PassView). GrowsTo changed.argument.now p) changed.left changed.call)))
+
+pub returns-in_if-clause-grown : goal.returns-in_if-clause-grown
+returns-in_if-clause-grown g c = stayed c.args.passes.items c.args.passes.items refl
