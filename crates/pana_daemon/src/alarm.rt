@@ -5,6 +5,7 @@ use pana_host::Gate;
 use std::io;
 use std::net::{Shutdown, TcpListener, TcpStream};
 use std::os::fd::OwnedFd;
+use std::sync::Wait;
 use std::sync::atomic::{AtomicBool, AtomicU64, Ordering};
 use std::time::Clock;
 
@@ -92,8 +93,8 @@ impl Gate for Alarm<'_> {
         }
     }
 
-    fn opens(&self) -> bool {
-        self.start.wait(self.rt)
+    fn opens<T: Wait>(&self, threads: &T) -> bool {
+        self.start.wait(threads)
     }
 
     fn is_closing(&self) -> bool {

@@ -1,5 +1,7 @@
 //! What is asked before and after each call.
 
+use std::sync::Wait;
+
 /// What each caller asks before a call is handed to the desk, and after its reply has come, outside the caller's turn.
 ///
 /// It can hold callers back, and has no part in what they call.
@@ -14,7 +16,7 @@ pub trait Gate {
     fn unanswered(&self, _lane: u32, _nth: u64) {}
 
     /// Whether connections are to be taken at all: asked once, when all is ready for the first one.
-    fn opens(&self) -> bool {
+    fn opens<T: Wait>(&self, _rt: &T) -> bool {
         true
     }
 

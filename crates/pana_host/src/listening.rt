@@ -140,7 +140,7 @@ pub fn listen<T: Threads + Wait + Clock + Sync, G: Gate + Sync>(
     ) else {
         return Err(passes);
     };
-    if !gate.opens() {
+    if !gate.opens(rt) {
         return Ok(passes);
     }
     open_sessions(rt, desk, gate, passes, &mut sessions);
