@@ -54,5 +54,5 @@ returns-clause-grown g c =
     subst (λ (p : PassView). GrowsTo p (slice_index_or left i d)) (changed.argument_is ∙ ap (λ (ps : List PassView). slice_index_or ps i d) opened)
     (subst (λ (p : PassView). GrowsTo changed.argument.now p) changed.left changed.call)))
 
-pub returns-in_if-clause-grown : goal.returns-in_if-clause-grown
-returns-in_if-clause-grown g c = stayed c.args.passes.items c.args.passes.items refl
+pub returns-then-not-opens-clause-grown : goal.returns-then-not-opens-clause-grown
+returns-then-not-opens-clause-grown g c = stayed c.args.passes.items c.args.passes.items refl
