@@ -3,6 +3,8 @@ pub mod Lines
 pub mod Cut
 pub mod Steps
 pub mod Ends
+pub mod Notes
+pub mod Timely
 pub mod Prefixes
 pub mod ReadBack
 pub mod Short
