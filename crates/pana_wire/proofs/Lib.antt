@@ -11,6 +11,7 @@ pub mod Short
 pub mod DumpBack
 pub mod EntriesBack
 pub mod OneLine
+pub mod InLine
 pub mod Sealed
 pub mod SessionRun
 pub mod Said
