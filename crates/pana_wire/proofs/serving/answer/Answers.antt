@@ -25,22 +25,22 @@ returns-in_default-encode-clause-fault g c =
     lost_reply g.S.Session.step g.W.Write.contents g.S.Session.spends c.args.session.now c.args.line.now c.in-Ok.message c.in-Ok-call.reply c.call.new.self c.args.writer.now
     c.in-Ok.ensures.exact c.in-Ok-call.ensures.step c.requires
 
-pub returns-in_err-write_fault-clause-broken : goal.returns-in_err-write_fault-clause-broken
-returns-in_err-write_fault-clause-broken g c =
+pub returns-in_err-write_fault-in-Err-clause-broken : goal.returns-in_err-write_fault-in-Err-clause-broken
+returns-in_err-write_fault-in-Err-clause-broken g c =
     let old = c.args.session.now in
     let fault = c.in-Err.fault in
     let p = err_from_is_err_and c.from_residual.result c.from_residual.ensures.1 in
-    rw p.1 (part_timely g.S.Session.step g.S.Session.spends g.S.Session.moment c.args.writer.now c.write_fault.new.writer old (fault_text fault) old (inl (fault, refl, refl)) c.in_err-write_fault.ensures.err.notes)
+    rw p.1 (part_timely g.S.Session.step g.S.Session.spends g.S.Session.moment c.args.writer.now c.write_fault.new.writer old (fault_text fault) old (inl (fault, refl, refl)) c.in_err-write_fault-in-Err.ensures.err.notes)
 
-pub returns-in_ok-write_fault-clause-timely : goal.returns-in_ok-write_fault-clause-timely
-returns-in_ok-write_fault-clause-timely g c =
+pub returns-in-Err-clause-timely : goal.returns-in-Err-clause-timely
+returns-in-Err-clause-timely g c =
     let old = c.args.session.now in
     let fault = c.in-Err.fault in
-    one_so_far g.S.Session.step g.S.Session.moment c.args.writer.now c.write_fault.new.writer old (fault_text fault) old (inl (fault, refl, refl)) c.in_ok-write_fault.ensures.ok.notes
+    one_so_far g.S.Session.step g.S.Session.moment c.args.writer.now c.write_fault.new.writer old (fault_text fault) old (inl (fault, refl, refl)) c.in_ok-write_fault-in-Err.ensures.ok.notes
 
-pub returns-in_default-call-clause-broken : goal.returns-in_default-call-clause-broken
-returns-in_default-call-clause-broken g c =
-    none_made g.S.Session.step g.S.Session.spends g.S.Session.moment c.args.writer.now c.args.session.now c.call.new.self c.in_default-call.ensures.spent
+pub returns-in_default-clause-broken : goal.returns-in_default-clause-broken
+returns-in_default-clause-broken g c =
+    none_made g.S.Session.step g.S.Session.spends g.S.Session.moment c.args.writer.now c.args.session.now c.call.new.self c.in_default.ensures.spent
 
 pub returns-in_default-encode-clause-broken : goal.returns-in_default-encode-clause-broken
 returns-in_default-encode-clause-broken g c =
