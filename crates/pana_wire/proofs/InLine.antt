@@ -1,12 +1,11 @@
 -- The text of an answer has no newline.
-use Rattle.std.specs.Prelude.{◌≡◌, ℕ, ◌==◌, not, Bool, true, false, List, [], ◌∷◌, map, Option, Some, None}
+use Rattle.std.specs.Prelude.{◌≡◌, ℕ, ◌==◌, ◌&&◌, not, Bool, true, false, List, [], ◌∷◌, map, Option, Some, None}
 use Rattle.std.specs.List.{list_all}
 use Rattle.std.proofs.Common.{refl, sym, subst, ⊎_elim}
 use Rattle.serde_json.specs.View.{items_of}
 use Rattle.pana_family.specs.declared.stamps.CopyStamp.{CopyStamp}
 use Rattle.pana_journal.specs.declared.entry.Entry.{Entry}
 use Rattle.pana_hall.specs.declared.call.Call.{Call}
-use Rattle.pana_hall.specs.declared.cause.Cause.{Cause}
 use Rattle.pana_hall.specs.declared.family_row.FamilyRow.{FamilyRow}
 use Rattle.pana_hall.specs.declared.holding.Holding.{Holding}
 use Rattle.pana_hall.specs.declared.board.BoardRow.{BoardRow}
@@ -70,7 +69,7 @@ reply_in_line : (reply : Reply) → IsInLine (reply_text reply)
 unfolding reply_text
 reply_in_line reply = text_in_line (reply_data reply) (reply_natural reply)
 
-other_byte : (b : Bool) (rest : Bool) → cond (not b) rest false ≡ true → (b ≡ false) × (rest ≡ true)
+other_byte : (b : Bool) (rest : Bool) → (not b && rest) ≡ true → (b ≡ false) × (rest ≡ true)
 other_byte true rest is = absurd (cc)
 other_byte false rest is = (refl, is)
 
