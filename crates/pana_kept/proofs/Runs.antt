@@ -51,7 +51,7 @@ module _ {D : Type 0} (is_known : Bool) (seen : D → List ℕ) (may_leave : D �
       ⊎_elim (λ steps. let after = after_grows old.entries by call reply in (after.0, steps.1 ∙ after.1))
       (λ not. ([], not.1 ∙ sym (append-nil old.entries))) step.answers
 
-  ran_step : (old mid new : KeptView D) (by : List ℕ) (call : Call) (reply : Reply) → Ran old mid → Step mid by call reply new → Ran old new
+  pub ran_step : (old mid new : KeptView D) (by : List ℕ) (call : Call) (reply : Reply) → Ran old mid → Step mid by call reply new → Ran old new
   ran_step old mid new by call reply ran step =
       let some = grows mid by call reply new step in
       record {
@@ -73,7 +73,7 @@ module _ {D : Type 0} (is_known : Bool) (seen : D → List ℕ) (may_leave : D �
   ran_lines old mid new (line ∷ lines) output steps ran (next, text, rest, first, others, answer, more, whole, count) =
       ran_lines old next new lines rest others (ran_line old mid next line text first ran answer) more
 
-  spent : (old mid new : KeptView D) → Ran old mid → Spends mid new → KeepsAll moment left_since old new
+  pub spent : (old mid new : KeptView D) → Ran old mid → Spends mid new → KeepsAll moment left_since old new
   spent old mid new ran breaks =
       let later = breaks.keeps_all known ran.works in
       ⊎_elim

@@ -1,3 +1,4 @@
+pub mod Acknowledged
 pub mod Ending
 pub mod Entries
 pub mod Kept

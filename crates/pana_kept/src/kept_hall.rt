@@ -133,6 +133,8 @@ impl<D: Device> Session for KeptHall<D> {
 
     ghost step = { λ old by call reply new. Keeps D.is_known D.seen D.may_leave D.is_usable D.moment D.left_since D.has_failed old by call reply new };
 
+    ghost moment = { λ kept. D.moment kept.journal.device };
+
     ghost spends = { λ old new. Breaks D.is_known D.moment D.left_since D.has_failed old new };
 
     fn call(&mut self, by: &DeviceName, call: Call) -> Result<Reply, Spent> {

@@ -2,6 +2,7 @@
 ghost use Rattle.std.specs.Prelude.{◌≡◌, ◌≤◌, ◌^◌, ◌⊎◌, false, IsTrue, IfOk, IfErr, IsErrOf};
 ghost use Rattle.pana_wire.specs.Tap.{has_failed, MadeAtMost};
 ghost use Rattle.pana_wire.specs.Session.{Serves, Stops, NeverBegins};
+ghost use Rattle.pana_kept.specs.Acknowledged.{Acknowledges};
 ghost use Rattle.pana_kept.specs.Kept.{Keeps, Breaks, KeepsAll};
 
 use crate::kept_hall::KeptHall;
@@ -39,6 +40,10 @@ pub fn serve_kept<R: Read, W: Write, D: Device>(
     // A crash at any moment of the session leaves a file that loads to the first n entries of now, all that there were
     // at the start among them.
     ensures keeps_all { IsTrue D.is_known → session.old.journal.state ≡ JournalState.Open → KeepsAll D.moment D.left_since session.old session.new }
+
+    // A crash at any moment from that on at which the line that acknowledges an entry was written leaves a file that has
+    // the entry.
+    ensures acknowledges { IsTrue D.is_known → session.old.journal.state ≡ JournalState.Open → Acknowledges D.left_since writer.old writer.new session.new }
 {
     // The contract of this call has what the session's invariant says, which the proof needs of its start.
     let _ = session.is_open();

@@ -67,40 +67,40 @@ end_names : (fault : WireFault) (field : Field) → fault ≡ BadField field →
 unfolding fault_end
 end_names fault field is = rw is refl
 
-module _ {W : Type 0} (contents : W → Option (List ℕ)) (fault : WireFault) where
-  pub broken_opening : (a b : Tap W) (why : ServeFault) → WritesPrefix contents a b opening why → WritesPrefix contents a b (fault_text fault ++ 10 ∷ []) why
-  broken_opening a b why p = subst (λ l. WritesPrefix contents a b l why) (sym (fault_pieces fault)) (breaks_first contents a b opening _ why p)
+module _ {W : Type 0} (contents : W → Option (List ℕ)) (moment : ℕ) (fault : WireFault) where
+  pub broken_opening : (a b : Tap W) (why : ServeFault) → WritesPrefix contents moment a b opening why → WritesPrefix contents moment a b (fault_text fault ++ 10 ∷ []) why
+  broken_opening a b why p = subst (λ l. WritesPrefix contents moment a b l why) (sym (fault_pieces fault)) (breaks_first contents moment a b opening _ why p)
 
-  pub broken_name : (a b c : Tap W) (why : ServeFault) → Writes contents a b opening → WritesPrefix contents b c (fault_name fault) why → WritesPrefix contents a c (fault_text fault ++ 10 ∷ []) why
-  broken_name a b c why p q = breaks_after_text contents a b c opening (fault_name fault) (fault_end fault) _ why (fault_pieces fault) p q
+  pub broken_name : (a b c : Tap W) (why : ServeFault) → Writes contents moment a b opening → WritesPrefix contents moment b c (fault_name fault) why → WritesPrefix contents moment a c (fault_text fault ++ 10 ∷ []) why
+  broken_name a b c why p q = breaks_after_text contents moment a b c opening (fault_name fault) (fault_end fault) _ why (fault_pieces fault) p q
 
-  pub broken_end : (a b c d : Tap W) (why : ServeFault) → Writes contents a b opening → Writes contents b c (fault_name fault) → WritesPrefix contents c d (fault_end fault) why
-      → WritesPrefix contents a d (fault_text fault ++ 10 ∷ []) why
+  pub broken_end : (a b c d : Tap W) (why : ServeFault) → Writes contents moment a b opening → Writes contents moment b c (fault_name fault) → WritesPrefix contents moment c d (fault_end fault) why
+      → WritesPrefix contents moment a d (fault_text fault ++ 10 ∷ []) why
   broken_end a b c d why p q r =
-      subst (λ l. WritesPrefix contents a d l why) (sym (fault_pieces fault))
-      (breaks_second contents a b d opening (fault_name fault ++ fault_end fault) why p (breaks_second contents b c d (fault_name fault) (fault_end fault) why q r))
+      subst (λ l. WritesPrefix contents moment a d l why) (sym (fault_pieces fault))
+      (breaks_second contents moment a b d opening (fault_name fault ++ fault_end fault) why p (breaks_second contents moment b c d (fault_name fault) (fault_end fault) why q r))
 
-  pub whole_line : (a b c d : Tap W) → Writes contents a b opening → Writes contents b c (fault_name fault) → Writes contents c d (fault_end fault)
-      → Writes contents a d (fault_text fault ++ 10 ∷ [])
+  pub whole_line : (a b c d : Tap W) → Writes contents moment a b opening → Writes contents moment b c (fault_name fault) → Writes contents moment c d (fault_end fault)
+      → Writes contents moment a d (fault_text fault ++ 10 ∷ [])
   whole_line a b c d p q r =
-      subst (λ l. Writes contents a d l) (sym (fault_pieces fault))
-      (writes_both contents a b d opening (fault_name fault ++ fault_end fault) p (writes_both contents b c d (fault_name fault) (fault_end fault) q r))
+      subst (λ l. Writes contents moment a d l) (sym (fault_pieces fault))
+      (writes_both contents moment a b d opening (fault_name fault ++ fault_end fault) p (writes_both contents moment b c d (fault_name fault) (fault_end fault) q r))
 
-  pub broken_middle : (field : Field) (a b : Tap W) (why : ServeFault) → fault ≡ BadField field → WritesPrefix contents a b middle why → WritesPrefix contents a b (fault_end fault) why
-  broken_middle field a b why is p = subst (λ l. WritesPrefix contents a b l why) (sym (end_names fault field is)) (breaks_first contents a b middle _ why p)
+  pub broken_middle : (field : Field) (a b : Tap W) (why : ServeFault) → fault ≡ BadField field → WritesPrefix contents moment a b middle why → WritesPrefix contents moment a b (fault_end fault) why
+  broken_middle field a b why is p = subst (λ l. WritesPrefix contents moment a b l why) (sym (end_names fault field is)) (breaks_first contents moment a b middle _ why p)
 
-  pub broken_field : (field : Field) (a b c : Tap W) (why : ServeFault) → fault ≡ BadField field → Writes contents a b middle → WritesPrefix contents b c (field_name field) why
-      → WritesPrefix contents a c (fault_end fault) why
-  broken_field field a b c why is p q = breaks_after_text contents a b c middle (field_name field) closing _ why (end_names fault field is) p q
+  pub broken_field : (field : Field) (a b c : Tap W) (why : ServeFault) → fault ≡ BadField field → Writes contents moment a b middle → WritesPrefix contents moment b c (field_name field) why
+      → WritesPrefix contents moment a c (fault_end fault) why
+  broken_field field a b c why is p q = breaks_after_text contents moment a b c middle (field_name field) closing _ why (end_names fault field is) p q
 
-  pub broken_closing : (field : Field) (a b c d : Tap W) (why : ServeFault) → fault ≡ BadField field → Writes contents a b middle → Writes contents b c (field_name field)
-      → WritesPrefix contents c d closing why → WritesPrefix contents a d (fault_end fault) why
+  pub broken_closing : (field : Field) (a b c d : Tap W) (why : ServeFault) → fault ≡ BadField field → Writes contents moment a b middle → Writes contents moment b c (field_name field)
+      → WritesPrefix contents moment c d closing why → WritesPrefix contents moment a d (fault_end fault) why
   broken_closing field a b c d why is p q r =
-      subst (λ l. WritesPrefix contents a d l why) (sym (end_names fault field is))
-      (breaks_second contents a b d middle (field_name field ++ closing) why p (breaks_second contents b c d (field_name field) closing why q r))
+      subst (λ l. WritesPrefix contents moment a d l why) (sym (end_names fault field is))
+      (breaks_second contents moment a b d middle (field_name field ++ closing) why p (breaks_second contents moment b c d (field_name field) closing why q r))
 
-  pub whole_end : (field : Field) (a b c d : Tap W) → fault ≡ BadField field → Writes contents a b middle → Writes contents b c (field_name field)
-      → Writes contents c d closing → Writes contents a d (fault_end fault)
+  pub whole_end : (field : Field) (a b c d : Tap W) → fault ≡ BadField field → Writes contents moment a b middle → Writes contents moment b c (field_name field)
+      → Writes contents moment c d closing → Writes contents moment a d (fault_end fault)
   whole_end field a b c d is p q r =
-      subst (λ l. Writes contents a d l) (sym (end_names fault field is))
-      (writes_both contents a b d middle (field_name field ++ closing) p (writes_both contents b c d (field_name field) closing q r))
+      subst (λ l. Writes contents moment a d l) (sym (end_names fault field is))
+      (writes_both contents moment a b d middle (field_name field ++ closing) p (writes_both contents moment b c d (field_name field) closing q r))

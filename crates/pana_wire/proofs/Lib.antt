@@ -3,12 +3,15 @@ pub mod Lines
 pub mod Cut
 pub mod Steps
 pub mod Ends
+pub mod Notes
+pub mod Timely
 pub mod Prefixes
 pub mod ReadBack
 pub mod Short
 pub mod DumpBack
 pub mod EntriesBack
 pub mod OneLine
+pub mod InLine
 pub mod Sealed
 pub mod SessionRun
 pub mod Said

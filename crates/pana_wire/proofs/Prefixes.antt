@@ -10,10 +10,11 @@ use Rattle.pana_wire.specs.declared.serving.ServeFault.{ServeFault}
 use Rattle.pana_wire.specs.declared.serving.ServeFault.TheVariants.{OutOfMemory}
 use Rattle.pana_wire.specs.Line.{line_says}
 use Rattle.pana_wire.specs.Reply.{reply_text}
-use Rattle.pana_wire.specs.Tap.{has_failed, AppendsPrefix}
+use Rattle.pana_wire.specs.Tap.{has_failed, noted, AppendsPrefix}
 use Rattle.pana_wire.specs.Session.{AnswersLine}
 use Rattle.pana_wire.specs.inner.Writing.{Writes, WritesPrefix}
 use Rattle.pana_wire.specs.inner.Progress.{Breaks}
+use Rattle.pana_wire.proofs.Notes.{texts_then, first_noted, second_noted}
 
 -- a prefix of the first of two texts
 prefix_of_first : (a b : Option (List ℕ)) (text more : List ℕ) → AppendsPrefix a b text → AppendsPrefix a b (text ++ more)
@@ -30,22 +31,22 @@ prefix_of_second a b c text more p q =
 pub whole_is_prefix : (a b : Option (List ℕ)) (text : List ℕ) → Appends a b text → AppendsPrefix a b text
 whole_is_prefix a b text p = (text, [], p, sym (append-nil text))
 
-module _ {W : Type 0} (contents : W → Option (List ℕ)) where
-  pub writes_both : (a b c : Tap W) (text more : List ℕ) → Writes contents a b text → Writes contents b c more → Writes contents a c (text ++ more)
-  writes_both a b c text more p q = record { written = Appends-trans _ _ _ text more p.written q.written; works = q.works }
+module _ {W : Type 0} (contents : W → Option (List ℕ)) (moment : ℕ) where
+  pub writes_both : (a b c : Tap W) (text more : List ℕ) → Writes contents moment a b text → Writes contents moment b c more → Writes contents moment a c (text ++ more)
+  writes_both a b c text more p q = record { written = Appends-trans _ _ _ text more p.written q.written; works = q.works; notes = texts_then moment (noted a) (noted b) (noted c) text more p.notes q.notes }
 
-  pub breaks_first : (a b : Tap W) (text more : List ℕ) (fault : ServeFault) → WritesPrefix contents a b text fault → WritesPrefix contents a b (text ++ more) fault
-  breaks_first a b text more fault p = record { is_write = p.is_write; failed = p.failed; written = prefix_of_first _ _ text more p.written }
+  pub breaks_first : (a b : Tap W) (text more : List ℕ) (fault : ServeFault) → WritesPrefix contents moment a b text fault → WritesPrefix contents moment a b (text ++ more) fault
+  breaks_first a b text more fault p = record { is_write = p.is_write; failed = p.failed; written = prefix_of_first _ _ text more p.written; notes = first_noted moment a b text more p.notes }
 
-  pub breaks_second : (a b c : Tap W) (text more : List ℕ) (fault : ServeFault) → Writes contents a b text → WritesPrefix contents b c more fault
-      → WritesPrefix contents a c (text ++ more) fault
-  breaks_second a b c text more fault p q = record { is_write = q.is_write; failed = q.failed; written = prefix_of_second _ _ _ text more p.written q.written }
+  pub breaks_second : (a b c : Tap W) (text more : List ℕ) (fault : ServeFault) → Writes contents moment a b text → WritesPrefix contents moment b c more fault
+      → WritesPrefix contents moment a c (text ++ more) fault
+  breaks_second a b c text more fault p q = record { is_write = q.is_write; failed = q.failed; written = prefix_of_second _ _ _ text more p.written q.written; notes = second_noted moment a b c text more p.notes q.notes }
 
   -- what was written whole, and then a prefix of more, which isn't all
-  pub breaks_after_text : (a b c : Tap W) (done more rest whole : List ℕ) (fault : ServeFault) → whole ≡ done ++ (more ++ rest) → Writes contents a b done → WritesPrefix contents b c more fault
-      → WritesPrefix contents a c whole fault
+  pub breaks_after_text : (a b c : Tap W) (done more rest whole : List ℕ) (fault : ServeFault) → whole ≡ done ++ (more ++ rest) → Writes contents moment a b done → WritesPrefix contents moment b c more fault
+      → WritesPrefix contents moment a c whole fault
   breaks_after_text a b c done more rest whole fault e p q =
-      subst (λ l. WritesPrefix contents a c l fault) (sym e) (breaks_second a b c done (more ++ rest) fault p (breaks_first b c more rest fault q))
+      subst (λ l. WritesPrefix contents moment a c l fault) (sym e) (breaks_second a b c done (more ++ rest) fault p (breaks_first b c more rest fault q))
 
 module _ {S : Type 0} (step : S → List ℕ → Call → Reply → S → Type 0) where
   -- a message, and the text of its reply
@@ -64,10 +65,10 @@ module _ {S : Type 0} (step : S → List ℕ → Call → Reply → S → Type 0
   }
 
   -- a write failed in the answer to a line
-  pub broken_write : {W : Type 0} (contents : W → Option (List ℕ)) (spends : S → S → Type 0) (fault : ServeFault) (old : S) (line text : List ℕ) (new : S) (steps : ℕ) (a b : Tap W)
-      → AnswersLine step old line text new steps → WritesPrefix contents a b (text ++ 10 ∷ []) fault
+  pub broken_write : {W : Type 0} (contents : W → Option (List ℕ)) (moment : ℕ) (spends : S → S → Type 0) (fault : ServeFault) (old : S) (line text : List ℕ) (new : S) (steps : ℕ) (a b : Tap W)
+      → AnswersLine step old line text new steps → WritesPrefix contents moment a b (text ++ 10 ∷ []) fault
       → Breaks contents step spends a b old (line ∷ []) new fault
-  broken_write contents spends fault old line text new steps a b answers p =
+  broken_write contents moment spends fault old line text new steps a b answers p =
       let (written, rest, appended, split) = p.written in
       subst (λ f. Breaks contents step spends a b old (line ∷ []) new f) (sym p.is_write) (record {
         output = written;

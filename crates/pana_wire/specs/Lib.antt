@@ -9,6 +9,7 @@ pub mod Reply
 pub mod Lines
 pub mod Tap
 pub mod Session
+pub mod Timely
 pub mod Laws
 pub mod Seal
 pub mod Shown

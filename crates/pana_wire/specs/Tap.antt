@@ -1,5 +1,5 @@
 -- What a tap wraps, and what was done through it.
-use Rattle.std.specs.Prelude.{◌≡◌, ℕ, ◌+◌, ◌-◌, ◌^◌, ◌≤◌, ◌==◌, ◌&&◌, not, min, max, Bool, true, false, List, ◌++◌, length, Option, Result, Ok, Err}
+use Rattle.std.specs.Prelude.{◌≡◌, ℕ, ◌+◌, ◌-◌, ◌^◌, ◌≤◌, ◌==◌, ◌&&◌, not, min, max, Bool, true, false, List, [], ◌∷◌, ◌++◌, length, take, map, Option, Result, Ok, Err}
 use Rattle.std.specs.Io.KnownBytes.{Appends}
 use Rattle.pana_wire.specs.declared.tap.Tap.{Tap}
 
@@ -15,11 +15,39 @@ has_failed tap = tap.failed
 abbrev pub has_ended : {T : Type 0} → Tap T → Bool
 has_ended tap = tap.ended
 
+-- a byte that a writer took, and the moment of the session then
+pub record Note : Type 0 where
+  pub byte : ℕ
+  pub moment : ℕ
+
+-- the notes of bytes that were all taken at one moment
+abbrev pub noted_at : ℕ → List ℕ → List Note
+noted_at moment bytes = map (λ byte. record { byte = byte; moment = moment }) bytes
+
+-- the bytes of notes
+abbrev pub bytes_in : List Note → List ℕ
+bytes_in notes = map (λ note. note.byte) notes
+
+-- how a tag holds notes: for each the byte and the moment, the last one first
+abbrev pub note_all : ℕ → List ℕ → List ℕ → List ℕ
+note_all moment [] numbers = numbers
+note_all moment (byte ∷ bytes) numbers = note_all moment bytes (byte ∷ moment ∷ numbers)
+
+abbrev pub notes_in : List ℕ → List Note
+notes_in [] = []
+notes_in (byte ∷ []) = []
+notes_in (byte ∷ moment ∷ numbers) = notes_in numbers ++ record { byte = byte; moment = moment } ∷ []
+
+-- what was noted through the tap, in order
+abbrev pub noted : {T : Type 0} → Tap T → List Note
+noted tap = notes_in tap.notes.numbers
+
 -- nothing was done through the tap
 pub record IsUnused {T : Type 0} (tap : Tap T) : Type 0 where
   pub failed : tap.failed ≡ false
   pub ended : tap.ended ≡ false
   pub reads : tap.reads ≡ 0
+  pub notes : noted tap ≡ []
 
 -- a read with room for a byte that gave none
 abbrev pub read_none : {E : Type 0} → Result ℕ E → List ℕ → Bool
@@ -30,6 +58,11 @@ read_none (Err e) buffer = false
 abbrev pub write_failed : {E : Type 0} → Result ℕ E → List ℕ → Bool
 write_failed (Ok taken) bytes = (taken == 0) && not (length bytes == 0)
 write_failed (Err e) bytes = true
+
+-- the bytes that a write took
+abbrev pub bytes_taken : {E : Type 0} → Result ℕ E → List ℕ → List ℕ
+bytes_taken (Ok taken) bytes = take taken bytes
+bytes_taken (Err e) bytes = []
 
 -- this many reads were made through the tap; its count stops at the greatest number of 64 bits, and never falls
 abbrev pub MadeReads : {T : Type 0} → ℕ → Tap T → Tap T → Type 0

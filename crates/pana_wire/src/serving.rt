@@ -1,10 +1,11 @@
-ghost use Rattle.std.specs.Prelude.{◌≡◌, ◌+◌, ◌^◌, ◌<◌, ◌≤◌, ◌⊎◌, [], ◌∷◌, ◌++◌, false, IfOk, IfErr, OnOk};
+ghost use Rattle.std.specs.Prelude.{◌≡◌, ◌+◌, ◌^◌, ◌<◌, ◌≤◌, ◌⊎◌, [], ◌∷◌, ◌++◌, false, IfOk, IfErr, OnOk, OnErr};
 ghost use Rattle.pana_wire.specs.Tap.{has_failed, MadeAtMost};
 ghost use Rattle.pana_wire.specs.Fault.{fault_text};
 ghost use Rattle.pana_wire.specs.Lines.{last_line};
 ghost use Rattle.pana_wire.specs.Session.{Serves, Stops, NeverBegins};
+ghost use Rattle.pana_wire.specs.Timely.{IsTimely};
 ghost use Rattle.pana_wire.specs.inner.Kept.{ended_kept};
-ghost use Rattle.pana_wire.specs.inner.Progress.{Answers, Breaks, Takes, both};
+ghost use Rattle.pana_wire.specs.inner.Progress.{Answers, Breaks, Takes, IsTimelySoFar, both};
 ghost use Rattle.pana_wire.specs.inner.Writing.{Writes, WritesPrefix};
 
 use crate::fault::WireFault;
@@ -114,6 +115,7 @@ pub fn serve<R: Read, W: Write, S: Session>(
         ⊎ Stops R.remaining W.contents S.step S.spends reads
         reader.old reader.new writer.old writer.new session.old session.new fault) }
     ensures reads { MadeAtMost reads reader.old reader.new }
+    ensures timely { IsTimely S.step S.spends S.moment writer.old writer.new session.old session.new }
 {
     match LineBuffer::new(alloc) {
         Ok(mut held) => serve_lines(alloc, reader, writer, session, &mut held, reads),
@@ -138,6 +140,7 @@ fn serve_lines<R: Read, W: Write, S: Session>(
     ensures fault { IfErr result (Stops R.remaining W.contents S.step S.spends reads
         reader.old reader.new writer.old writer.new session.old session.new) }
     ensures reads { MadeAtMost reads reader.old reader.new }
+    ensures timely { IsTimely S.step S.spends S.moment writer.old writer.new session.old session.new }
 {
     let mut piece = [0u8; PIECE];
     let mut served = Served::NOTHING;
@@ -169,6 +172,8 @@ fn take_piece<W: Write, S: Session>(
         writer.old writer.new session.old held.old piece.now session.new held.new) }
     ensures fault { IfErr result (Breaks W.contents S.step S.spends
         writer.old writer.new session.old (ended_kept held.old piece.now) session.new) }
+    ensures timely { OnOk result (IsTimelySoFar S.step S.moment writer.old writer.new session.old session.new) }
+    ensures broken { OnErr result (IsTimely S.step S.spends S.moment writer.old writer.new session.old session.new) }
 {
     let mut served = Served::NOTHING;
     for byte in piece {
@@ -194,6 +199,8 @@ fn finish<W: Write, S: Session>(
         writer.old writer.new session.old (last_line held.now) session.new) }
     ensures fault { IfErr result (Breaks W.contents S.step S.spends
         writer.old writer.new session.old (last_line held.now) session.new) }
+    ensures timely { OnOk result (IsTimelySoFar S.step S.moment writer.old writer.new session.old session.new) }
+    ensures broken { OnErr result (IsTimely S.step S.spends S.moment writer.old writer.new session.old session.new) }
 {
     if held.is_empty() {
         return Ok(Served::NOTHING);
@@ -212,11 +219,13 @@ fn answer<W: Write, S: Session>(
         writer.old writer.new session.old (line.now ∷ []) session.new) }
     ensures fault { IfErr result (Breaks W.contents S.step S.spends
         writer.old writer.new session.old (line.now ∷ []) session.new) }
+    ensures timely { OnOk result (IsTimelySoFar S.step S.moment writer.old writer.new session.old session.new) }
+    ensures broken { OnErr result (IsTimely S.step S.spends S.moment writer.old writer.new session.old session.new) }
 {
     let Message { by, call } = match decode(alloc, line) {
         Ok(message) => message,
         Err(fault) => {
-            write_fault(writer, fault)?;
+            write_fault(writer, &*session, fault)?;
             return Ok(Served { lines: 1, calls: 0 });
         }
     };
@@ -226,47 +235,59 @@ fn answer<W: Write, S: Session>(
     let Ok(text) = encode(alloc, &reply) else {
         return Err(ServeFault::OutOfMemory);
     };
-    write_line(writer, text.as_str())?;
+    write_line(writer, &*session, text.as_str())?;
     Ok(Served { lines: 1, calls: 1 })
 }
 
 /// Writes the line that answers a line with this fault, and flushes it. Takes no memory.
-fn write_fault<W: Write>(writer: &mut Tap<W>, fault: WireFault) -> Result<(), ServeFault>
+fn write_fault<W: Write, S: Session>(
+    writer: &mut Tap<W>,
+    session: &S,
+    fault: WireFault,
+) -> Result<(), ServeFault>
     requires { has_failed writer.old ≡ false }
-    ensures ok { OnOk result (Writes W.contents writer.old writer.new (fault_text fault ++ 10 ∷ [])) }
-    ensures err { IfErr result (WritesPrefix W.contents writer.old writer.new (fault_text fault ++ 10 ∷ [])) }
+    ensures ok { OnOk result (Writes W.contents (S.moment session.now) writer.old writer.new (fault_text fault ++ 10 ∷ [])) }
+    ensures err { IfErr result (WritesPrefix W.contents (S.moment session.now) writer.old writer.new (fault_text fault ++ 10 ∷ [])) }
 {
-    write_whole(writer, b"{\"fault\":\"")?;
-    write_whole(writer, fault.name().as_bytes())?;
+    write_whole(writer, session, b"{\"fault\":\"")?;
+    write_whole(writer, session, fault.name().as_bytes())?;
     if let WireFault::BadField(field) = fault {
-        write_whole(writer, b"\",\"field\":\"")?;
-        write_whole(writer, field.name().as_bytes())?;
+        write_whole(writer, session, b"\",\"field\":\"")?;
+        write_whole(writer, session, field.name().as_bytes())?;
     }
-    write_line(writer, "\"}")
+    write_line(writer, session, "\"}")
 }
 
 /// Writes the text and a newline, and flushes them.
-fn write_line<W: Write>(writer: &mut Tap<W>, text: &str) -> Result<(), ServeFault>
+fn write_line<W: Write, S: Session>(
+    writer: &mut Tap<W>,
+    session: &S,
+    text: &str,
+) -> Result<(), ServeFault>
     requires { has_failed writer.old ≡ false }
-    ensures ok { OnOk result (Writes W.contents writer.old writer.new (text.now ++ 10 ∷ [])) }
-    ensures err { IfErr result (WritesPrefix W.contents writer.old writer.new (text.now ++ 10 ∷ [])) }
+    ensures ok { OnOk result (Writes W.contents (S.moment session.now) writer.old writer.new (text.now ++ 10 ∷ [])) }
+    ensures err { IfErr result (WritesPrefix W.contents (S.moment session.now) writer.old writer.new (text.now ++ 10 ∷ [])) }
 {
-    write_whole(writer, text.as_bytes())?;
-    write_whole(writer, b"\n")?;
+    write_whole(writer, session, text.as_bytes())?;
+    write_whole(writer, session, b"\n")?;
     match writer.flush() {
         Ok(()) => Ok(()),
         Err(_) => Err(ServeFault::Write),
     }
 }
 
-fn write_whole<W: Write>(writer: &mut Tap<W>, bytes: &[u8]) -> Result<(), ServeFault>
+fn write_whole<W: Write, S: Session>(
+    writer: &mut Tap<W>,
+    session: &S,
+    bytes: &[u8],
+) -> Result<(), ServeFault>
     requires { has_failed writer.old ≡ false }
-    ensures ok { OnOk result (Writes W.contents writer.old writer.new bytes.now) }
-    ensures err { IfErr result (WritesPrefix W.contents writer.old writer.new bytes.now) }
+    ensures ok { OnOk result (Writes W.contents (S.moment session.now) writer.old writer.new bytes.now) }
+    ensures err { IfErr result (WritesPrefix W.contents (S.moment session.now) writer.old writer.new bytes.now) }
 {
     let mut rest = bytes;
     while !rest.is_empty() {
-        match writer.write(rest) {
+        match writer.write(session, rest) {
             Ok(0) => return Err(ServeFault::Write),
             Ok(taken) => rest = &rest[taken..],
             Err(_) => return Err(ServeFault::Write),

@@ -10,6 +10,9 @@ pub trait Session {
     // What one call does: the state, the device that calls, its call, the reply, and the state after.
     ghost step: { Self → List ℕ → Call → Reply → Self → Type 0 };
 
+    // How many things have happened to what the session keeps its state in.
+    ghost moment: { Self → ℕ } = { λ s. 0 };
+
     // What a call that isn't made leaves: the state, and the state after. An impl may leave it open.
     ghost spends: { Self → Self → Type 0 } = { λ old new. Unit {0} };
 

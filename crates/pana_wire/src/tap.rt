@@ -1,19 +1,40 @@
-ghost use Rattle.std.specs.Prelude.{◌≡◌, ◌||◌, is_err};
+ghost use Rattle.std.specs.Prelude.{◌≡◌, ◌++◌, ◌||◌, is_err};
 ghost use Rattle.std.specs.Io.{ReadsAtMost, WritesAtMost};
 ghost use Rattle.std.specs.Io.KnownBytes.{ReadConsumes, WriteAppends, Keeps};
 
+use crate::session::Session;
+use boxcar::tag::{Names, Tag};
 use std::io;
 use std::io::{Read, Write};
 
 /// A reader or a writer, whether a call on it has failed, and whether it has ended.
 ///
-/// It counts its reads, which no program asks for: by that count a contract says how often it was read.
+/// It counts its reads, which no program asks for: by that count a contract says how often it was read. And it notes each
+/// byte that a writer took, and at which moment of the session: these notes are for contracts alone, and take no memory.
 #[derive(Drop)]
 pub struct Tap<T> {
     inner: T,
     failed: bool,
     ended: bool,
     reads: u64,
+    notes: Tag,
+}
+
+// Bytes that a writer took in a session, and what was noted before.
+#[derive(Drop)]
+struct Taken<'a, S> {
+    notes: &'a Tag,
+    session: &'a S,
+    bytes: &'a [u8],
+}
+
+// The notes with these bytes, each at the moment of the session.
+struct More;
+
+impl<'a, S: Session> Names<Taken<'a, S>> for More {
+    ghost use Rattle.pana_wire.specs.Tap.{note_all};
+
+    ghost numbers = { λ taken. note_all (S.moment taken.session.now) taken.bytes.now taken.notes.now.numbers };
 }
 
 impl<T> Tap<T> {
@@ -29,6 +50,7 @@ impl<T> Tap<T> {
             failed: false,
             ended: false,
             reads: 0,
+            notes: Tag::empty(),
         }
     }
 
@@ -41,6 +63,7 @@ impl<T> Tap<T> {
             failed: _,
             ended: _,
             reads: _,
+            notes: _,
         } = self;
         inner
     }
@@ -62,8 +85,27 @@ impl<T> Tap<T> {
     }
 }
 
+impl<W> Tap<W> {
+    ghost use Rattle.pana_wire.specs.Tap.{inside, has_failed, noted, noted_at, IsUnread};
+
+    #[tactic(auto, using(crate::proofs::Notes::notes_more))]
+    fn note<S: Session>(&mut self, session: &S, bytes: &[u8])
+        ensures inside { inside self.new ≡ inside self.old }
+        ensures failed { has_failed self.new ≡ has_failed self.old }
+        ensures unread { IsUnread self.old self.new }
+        ensures noted { noted self.new ≡ noted self.old ++ noted_at (S.moment session.now) bytes.now }
+    {
+        let taken = Taken {
+            notes: &self.notes,
+            session,
+            bytes,
+        };
+        self.notes = Tag::of::<Taken<S>, More>(&taken);
+    }
+}
+
 impl<R: Read> Tap<R> {
-    ghost use Rattle.pana_wire.specs.Tap.{inside, has_failed, has_ended, read_none, MadeReads};
+    ghost use Rattle.pana_wire.specs.Tap.{inside, has_failed, has_ended, noted, read_none, MadeReads};
 
     /// Reads into the buffer, as the reader does.
     pub fn read(&mut self, buffer: &mut [u8]) -> io::Result<usize>
@@ -72,6 +114,7 @@ impl<R: Read> Tap<R> {
         ensures failed { has_failed self.new ≡ (has_failed self.old || is_err result) }
         ensures ended { has_ended self.new ≡ (has_ended self.old || read_none result buffer.new) }
         ensures count { MadeReads 1 self.old self.new }
+        ensures noted { noted self.new ≡ noted self.old }
     {
         self.reads = self.reads.saturating_add(1);
         let result = self.inner.read(buffer);
@@ -85,19 +128,20 @@ impl<R: Read> Tap<R> {
 }
 
 impl<W: Write> Tap<W> {
-    ghost use Rattle.pana_wire.specs.Tap.{inside, has_failed, write_failed, IsUnread};
+    ghost use Rattle.pana_wire.specs.Tap.{inside, has_failed, noted, noted_at, bytes_taken, write_failed, IsUnread};
 
-    /// Writes some of the bytes, as the writer does.
-    pub fn write(&mut self, bytes: &[u8]) -> io::Result<usize>
+    /// Writes some of the bytes, as the writer does, and notes those that it took at the session's moment.
+    pub fn write<S: Session>(&mut self, session: &S, bytes: &[u8]) -> io::Result<usize>
         ensures bound { WritesAtMost result bytes.now }
         ensures bytes { WriteAppends (W.contents (inside self.old)) (W.contents (inside self.new)) result bytes.now }
         ensures failed { has_failed self.new ≡ (has_failed self.old || write_failed result bytes.now) }
         ensures unread { IsUnread self.old self.new }
+        ensures noted { noted self.new ≡ noted self.old ++ noted_at (S.moment session.now) (bytes_taken result bytes.now) }
     {
         let result = self.inner.write(bytes);
         match &result {
             Ok(0) if !bytes.is_empty() => self.failed = true,
-            Ok(_) => {}
+            Ok(taken) => self.note(session, &bytes[..*taken]),
             Err(_) => self.failed = true,
         }
         result
@@ -108,6 +152,7 @@ impl<W: Write> Tap<W> {
         ensures bytes { Keeps (W.contents (inside self.old)) (W.contents (inside self.new)) }
         ensures failed { has_failed self.new ≡ (has_failed self.old || is_err result) }
         ensures unread { IsUnread self.old self.new }
+        ensures noted { noted self.new ≡ noted self.old }
     {
         let result = self.inner.flush();
         if result.is_err() {

@@ -2,6 +2,7 @@ use Rattle.std.proofs.Common.{⊎_elim, sym, subst}
 use Rattle.pana_wire.specs.declared.serving.ServeFault.TheVariants.{Spent}
 use Rattle.pana_wire.specs.Tap.{has_ended}
 use Rattle.pana_kept.specs.Kept.{KeptView, KeepsAll}
+use Rattle.pana_kept.proofs.Acknowledged.{acknowledges}
 use Rattle.pana_kept.proofs.Runs.{begun, broke, served, stopped, at_err, either_way}
 use Rattle.pana_kept.proofs.serving.serve_kept.Goals as goal
 
@@ -24,3 +25,8 @@ returns-clause-spent g c is known works =
     ⊎_elim (λ never. absurd (let memory = never.memory in cc))
     (λ k. broke g.D.Device.is_known g.D.Device.seen g.D.Device.may_leave g.D.Device.is_usable g.D.Device.moment g.D.Device.left_since g.D.Device.has_failed known old old new _ k.output ran k.ends)
     (at_err c.serve.result Spent _ is c.serve.ensures.fault)
+
+pub returns-clause-acknowledges : goal.returns-clause-acknowledges
+returns-clause-acknowledges g c known works =
+    acknowledges g.D.Device.is_known g.D.Device.seen g.D.Device.may_leave g.D.Device.is_usable g.D.Device.moment g.D.Device.left_since g.D.Device.has_failed known g.met.D.Device.only_now
+    c.args.writer.now c.serve.new.writer c.args.session.now c.serve.new.session works c.serve.ensures.timely

@@ -7,6 +7,7 @@ use Rattle.pana_wire.specs.Tap.{has_failed, has_ended, MadeReads}
 use Rattle.pana_wire.specs.inner.Progress.{Progress}
 use Rattle.pana_wire.proofs.Steps.{IsFew, progress_both, progress_few, few_both, few_more, few_lines, few_calls}
 use Rattle.pana_wire.proofs.Ends.{read_nothing, reads_more, failed_is_no_end, byte_is_no_end, none_is_end, whole_text, ended_text, broken_piece, broken_last, out_cause}
+use Rattle.pana_wire.proofs.Timely.{more_so_far, timely_here, timely_then}
 use Rattle.pana_wire.proofs.serving.serve_lines.Goals as goal
 
 pub returns-in-Err-clause-fault : goal.returns-in-Err-clause-fault
@@ -132,6 +133,7 @@ loop-preserved g c =
         subst (λ s. Progress step c.args.session.now [] (input ++ piece) (output ++ more.output) c.take_piece.new.session c.take_piece.new.held s) (sym c.and-served.ensures)
             (progress_both step c.args.session.now [] input piece output more.output c.loop.session c.take_piece.new.session c.loop.held c.take_piece.new.held c.loop.served c.in_ok-more-in-Ok.more progress more.progress),
       );
+      timely = more_so_far step g.S.Session.moment c.args.writer.now c.loop.writer c.take_piece.new.writer c.args.session.now c.loop.session c.take_piece.new.session c.loop.invariant.timely c.in_ok-more-in-Ok.ensures.timely;
       few = few_more c.and-served.result c.and-served.result _ _ refl most
           (few_both c.loop.served c.in_ok-more-in-Ok.more c.and-served.result (4096 * c.loop.counter) (length (take c.in-Ok.length buffer)) c.and-served.ensures c.loop.invariant.few few);
       reader = search rules;
@@ -152,3 +154,26 @@ returns-clause-fault g c =
       ends = ended_text g.S.Session.step c.args.session.now input output c.loop.session c.loop.held c.loop.served progress;
       cause = (c.loop.invariant.reader, c.loop.invariant.writer, c.loop.invariant.unended, subst (λ n. MadeReads n c.args.reader.now c.loop.reader) all c.loop.invariant.made);
     }
+
+pub returns-in_err-last-in-Ok-eq0-clause-timely : goal.returns-in_err-last-in-Ok-eq0-clause-timely
+returns-in_err-last-in-Ok-eq0-clause-timely g c =
+    timely_then g.S.Session.step g.S.Session.spends g.S.Session.moment c.args.writer.now c.loop.writer c.finish.new.writer c.args.session.now c.loop.session c.finish.new.session
+    c.loop.invariant.timely c.in_err-last-in-Ok-eq0.ensures.broken
+
+pub returns-in-Ok-eq0-clause-timely : goal.returns-in-Ok-eq0-clause-timely
+returns-in-Ok-eq0-clause-timely g c =
+    timely_here g.S.Session.step g.S.Session.spends g.S.Session.moment c.args.writer.now c.finish.new.writer c.args.session.now c.finish.new.session
+    (more_so_far g.S.Session.step g.S.Session.moment c.args.writer.now c.loop.writer c.finish.new.writer c.args.session.now c.loop.session c.finish.new.session c.loop.invariant.timely c.in_ok-last-in-Ok-eq0.ensures.timely)
+
+pub returns-in_err-more-in-Ok-clause-timely : goal.returns-in_err-more-in-Ok-clause-timely
+returns-in_err-more-in-Ok-clause-timely g c =
+    timely_then g.S.Session.step g.S.Session.spends g.S.Session.moment c.args.writer.now c.loop.writer c.take_piece.new.writer c.args.session.now c.loop.session c.take_piece.new.session
+    c.loop.invariant.timely c.in_err-more-in-Ok.ensures.broken
+
+pub returns-in-Err-clause-timely : goal.returns-in-Err-clause-timely
+returns-in-Err-clause-timely g c =
+    timely_here g.S.Session.step g.S.Session.spends g.S.Session.moment c.args.writer.now c.loop.writer c.args.session.now c.loop.session c.loop.invariant.timely
+
+pub returns-clause-timely : goal.returns-clause-timely
+returns-clause-timely g c =
+    timely_here g.S.Session.step g.S.Session.spends g.S.Session.moment c.args.writer.now c.loop.writer c.args.session.now c.loop.session c.loop.invariant.timely

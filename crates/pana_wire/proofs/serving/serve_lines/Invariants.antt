@@ -2,7 +2,7 @@
 use Rattle.std.proofs.Common.{◌≡◌, ℕ, ◌*◌, false, List, []}
 use Rattle.std.specs.Io.KnownBytes.{Consumes, Appends}
 use Rattle.pana_wire.specs.Tap.{inside, has_failed, has_ended, MadeReads}
-use Rattle.pana_wire.specs.inner.Progress.{Progress}
+use Rattle.pana_wire.specs.inner.Progress.{Progress, IsTimelySoFar}
 use Rattle.pana_wire.proofs.Steps.{IsFew}
 use Rattle.pana_wire.proofs.serving.serve_lines.Given as goal
 
@@ -12,6 +12,7 @@ invariant-loop g l = record {
       × Consumes (g.R.Read.remaining (inside l.fn.reader)) (g.R.Read.remaining (inside l.reader)) input
       × Appends (g.W.Write.contents (inside l.fn.writer)) (g.W.Write.contents (inside l.writer)) output
       × Progress g.S.Session.step l.fn.session [] input output l.session l.held l.served;
+  timely : IsTimelySoFar g.S.Session.step g.S.Session.moment l.fn.writer l.writer l.fn.session l.session;
   few : IsFew l.served (4096 * l.counter);
   reader : has_failed l.reader ≡ false;
   writer : has_failed l.writer ≡ false;

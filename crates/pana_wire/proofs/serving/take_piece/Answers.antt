@@ -6,6 +6,7 @@ use Rattle.std.proofs.lemmas.Result.{err_from_is_err_and}
 use Rattle.std.proofs.KnownBytes.{Appends-trans}
 use Rattle.pana_wire.proofs.Steps.{IsFew, step_line, step_byte, answered_few, few_both, few_more}
 use Rattle.pana_wire.proofs.Ends.{broken_at}
+use Rattle.pana_wire.proofs.Timely.{more_so_far, timely_then}
 use Rattle.pana_wire.proofs.serving.take_piece.Goals as goal
 use Rattle.pana_wire.proofs.serving.take_piece.Goals.{then-byte-eq10+in_ok-answered, else-byte-eq10}
 
@@ -28,6 +29,7 @@ loop-byte-preserved g c =
               progress = step_line step c.args.session.now c.args.held.now (take i piece) (take (i + 1) piece) said.output here.output (get_or piece i 0) _ _ c.loop-byte.held _ _
                   c.loop-byte.served _ _ more w.if-byte-eq10.true w.as_slice.ensures w.clear.ensures w.and-served.ensures said.progress here.answered;
             };
+            timely = more_so_far step g.S.Session.moment c.args.writer.now c.loop-byte.writer w.answer.new.writer c.args.session.now c.loop-byte.session w.answer.new.session c.loop-byte.invariant.timely w.in_ok-answered.ensures.timely;
             few = few_both c.loop-byte.served _ _ i 1 w.and-served.ensures c.loop-byte.invariant.few one;
           })
       | else-byte-eq10 w ↦
@@ -39,6 +41,7 @@ loop-byte-preserved g c =
               progress = step_byte step c.args.session.now c.args.held.now (take i piece) (take (i + 1) piece) said.output (get_or piece i 0) _ c.loop-byte.held _ c.loop-byte.served
                   more w.if-byte-eq10.false w.push.ensures said.progress;
             };
+            timely = c.loop-byte.invariant.timely;
             few = few_more c.loop-byte.served _ i (i + 1) refl (omega arith) c.loop-byte.invariant.few;
           })
     ]
@@ -59,3 +62,9 @@ returns-in_err-answered-clause-fault g c =
           (get_or piece i 0) c.loop-byte.session c.answer.new.session c.loop-byte.held c.as_slice.result.now c.loop-byte.served split c.if-byte-eq10.true c.as_slice.ensures said.progress here.breaks;
       is_out = here.is_out;
     })
+
+pub returns-in_err-answered-clause-broken : goal.returns-in_err-answered-clause-broken
+returns-in_err-answered-clause-broken g c =
+    let p = err_from_is_err_and c.from_residual.result c.from_residual.ensures.1 in
+    rw p.1 (timely_then g.S.Session.step g.S.Session.spends g.S.Session.moment c.args.writer.now c.loop-byte.writer c.answer.new.writer c.args.session.now c.loop-byte.session c.answer.new.session
+    c.loop-byte.invariant.timely c.in_err-answered.ensures.broken)

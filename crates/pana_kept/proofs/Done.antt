@@ -1,0 +1,114 @@
+-- A line that acknowledges an entry is the answer to a report that was done.
+use Rattle.std.specs.Prelude.{◌≡◌, ℕ, ◌+◌, ◌<◌, ◌^◌, Bool, true, false, nat_le, codes, List, [], ◌∷◌, ◌++◌, length, drop, get_or, Option, Some, None}
+use Rattle.std.specs.Bool.{then_some}
+use Rattle.std.specs.Fmt.{decimal}
+use Rattle.std.proofs.Common.{refl, sym, ap, subst, ◌∙◌, ⊎_elim, arith, length-append}
+use Rattle.std.proofs.lemmas.Bool.{leb-false}
+use Rattle.std.proofs.lemmas.Fmt.{decimal_injective}
+use Rattle.std.proofs.lemmas.List.{append_cancel_right}
+use Rattle.json.specs.Print.{escape_byte}
+use Rattle.pana_journal.specs.declared.entry.Entry.{Entry}
+use Rattle.pana_journal.specs.declared.report.Report.{Report}
+use Rattle.pana_journal.specs.declared.report.Report.TheVariants as reports
+use Rattle.pana_hall.specs.declared.call.Call.{Call}
+use Rattle.pana_hall.specs.declared.call.Call.TheVariants as calls
+use Rattle.pana_hall.specs.declared.call.Query.{Query}
+use Rattle.pana_hall.specs.declared.call.Query.TheVariants as queries
+use Rattle.pana_hall.specs.declared.cause.Cause.{Cause}
+use Rattle.pana_hall.specs.declared.cause.Cause.TheVariants.{JournalFull}
+use Rattle.pana_hall.specs.declared.reply.Reply.{Reply}
+use Rattle.pana_hall.specs.declared.reply.Reply.TheVariants as replies
+use Rattle.pana_hall.specs.Cause.{code_of, cause_name, cause_copy}
+use Rattle.pana_hall.specs.Permit.{Answers, Grants, PermitsBy, Permits, journal_after}
+use Rattle.pana_hall.specs.Refusal.{first, refusal}
+use Rattle.pana_hall.specs.Step.{Steps}
+use Rattle.serde_json.specs.Written.{compact_text}
+use Rattle.pana_wire.specs.declared.fault.WireFault.{WireFault}
+use Rattle.pana_wire.specs.declared.fault.WireFault.TheVariants.{TooLong, NotUtf8, NotJson, NotObject, BadField, OutOfMemory}
+use Rattle.pana_wire.specs.Fault.{fault_text}
+use Rattle.pana_wire.specs.Reply.{refusal_data, refused_data, reply_data, reply_text}
+use Rattle.pana_kept.specs.Acknowledged.{done_line}
+use Rattle.pana_kept.specs.Kept.{Becomes}
+
+-- its third byte is the first of `done`
+third : (text : List ℕ) (n b : ℕ) → text ≡ done_line n → get_or text 2 0 ≡ b → b ≡ 100
+third text n b is at = sym at ∙ ap (λ (l : List ℕ). get_or l 2 0) is
+
+pub fault_is_other : (fault : WireFault) (n : ℕ) → fault_text fault ≡ done_line n → ⊥
+fault_is_other TooLong n is = let no : 102 ≡ 100 = third _ n 102 is refl in absurd (cc)
+fault_is_other NotUtf8 n is = let no : 102 ≡ 100 = third _ n 102 is refl in absurd (cc)
+fault_is_other NotJson n is = let no : 102 ≡ 100 = third _ n 102 is refl in absurd (cc)
+fault_is_other NotObject n is = let no : 102 ≡ 100 = third _ n 102 is refl in absurd (cc)
+fault_is_other (BadField field) n is = let no : 102 ≡ 100 = third _ n 102 is refl in absurd (cc)
+fault_is_other OutOfMemory n is = let no : 102 ≡ 100 = third _ n 102 is refl in absurd (cc)
+
+refusal_is_other : (code : ℕ) (copy : Option ℕ) (name : List ℕ) (n : ℕ) → compact_text (refusal_data code copy name) ≡ done_line n → ⊥
+unfolding escape_byte
+refusal_is_other code None name n is = let no : 99 ≡ 100 = third _ n 99 is refl in absurd (cc)
+refusal_is_other code (Some copy) name n is = let no : 99 ≡ 100 = third _ n 99 is refl in absurd (cc)
+
+pub reply_is_done : (reply : Reply) (n : ℕ) → reply_text reply ≡ done_line n → (m : ℕ) × (reply ≡ replies.Done m) × (decimal m ≡ decimal n)
+unfolding reply_text reply_data refused_data escape_byte
+reply_is_done (replies.Done m) n is = (m, refl, append_cancel_right (decimal m) (decimal n) (125 ∷ []) (ap (drop 8) is))
+reply_is_done (replies.Families rows) n is = let no : 102 ≡ 100 = third _ n 102 is refl in absurd (cc)
+reply_is_done (replies.Board board) n is = let no : 98 ≡ 100 = third _ n 98 is refl in absurd (cc)
+reply_is_done (replies.Stamps stamps) n is = let no : 115 ≡ 100 = third _ n 115 is refl in absurd (cc)
+reply_is_done (replies.Pair rel) n is = let no : 112 ≡ 100 = third _ n 112 is refl in absurd (cc)
+reply_is_done (replies.Holdings holdings) n is = let no : 104 ≡ 100 = third _ n 104 is refl in absurd (cc)
+reply_is_done (replies.Journal entries) n is = let no : 101 ≡ 100 = third _ n 101 is refl in absurd (cc)
+reply_is_done (replies.Refused cause) n is = absurd (refusal_is_other (code_of cause) (cause_copy cause) (cause_name cause) n is)
+
+-- a journal that takes a report isn't full
+not_full : (full : Bool) (causes : List (Option Cause)) → first (then_some full JournalFull ∷ causes) ≡ None → full ≡ false
+not_full true causes none = absurd (cc)
+not_full false causes none = refl
+
+has_room : (journal : List Entry) (by : List ℕ) (report : Report) → refusal journal by (calls.Report report) ≡ None → nat_le 1000000 (length journal) ≡ false
+unfolding refusal
+has_room journal by (reports.Register place) none = not_full _ _ none
+has_room journal by (reports.Duplicate copy place) none = not_full _ _ none
+has_room journal by (reports.Edit copy) none = not_full _ _ none
+has_room journal by (reports.Reconcile a b) none = not_full _ _ none
+has_room journal by (reports.Merge a b) none = not_full _ _ none
+has_room journal by (reports.Relocate copy place) none = not_full _ _ none
+has_room journal by (reports.Remove copy None) none = not_full _ _ none
+has_room journal by (reports.Remove copy (Some heir)) none = not_full _ _ none
+has_room journal by (reports.Confirm entry) none = not_full _ _ none
+has_room journal by (reports.Withdraw entry) none = not_full _ _ none
+
+no_query : (journal : List Entry) (query : Query) (m : ℕ) → Answers journal query (replies.Done m) → ⊥
+no_query journal queries.Families m is = absurd (cc)
+no_query journal (queries.Board family) m is = absurd (cc)
+no_query journal (queries.Stamps family) m is = let no = is.2 in absurd (cc)
+no_query journal (queries.Pair a b) m is = absurd (cc)
+no_query journal (queries.Holdings device) m is = absurd (cc)
+no_query journal (queries.JournalFrom from) m is = absurd (cc)
+
+by_cause : (cause : Option Cause) (old : List Entry) (by : List ℕ) (report : Report) (m : ℕ) (new : List Entry) → (cause ≡ None → nat_le 1000000 (length old) ≡ false)
+    → PermitsBy cause old (calls.Report report) (replies.Done m) → new ≡ journal_after old by (calls.Report report) (replies.Done m) → (m ≡ length new) × (m < 2 ^ 64)
+unfolding journal_after
+by_cause (Some cause) old by report m new room permits is = absurd (cc)
+by_cause None old by report m new room permits is =
+    ⊎_elim
+    (λ granted.
+    let number : m ≡ length old + 1 = ap (number_of) granted in
+    let few = leb-false 1000000 (length old) (room refl) in
+    let long : length new ≡ length old + 1 = ap length is ∙ length-append old (record { number = m; by = by; report = report } ∷ []) in
+    (omega arith, omega arith))
+    (λ short. let no = short.2 in absurd (cc)) permits
+  where
+    number_of : Reply → ℕ
+    number_of (replies.Done n) = n
+    number_of _ = 0
+
+-- a report that was done is the last entry, and its number says how many there are
+pub done_is_last : (old : List Entry) (by : List ℕ) (call : Call) (m : ℕ) (new : List Entry) → Becomes old by call (replies.Done m) new → (m ≡ length new) × (m < 2 ^ 64)
+unfolding Permits
+done_is_last old by (calls.Report report) m new becomes =
+    ⊎_elim (λ steps. by_cause (refusal old by (calls.Report report)) old by report m new (has_room old by report) steps.0 steps.1) (λ not. let no = not.0.1 in absurd (cc)) becomes
+done_is_last old by (calls.Query query) m new becomes =
+    ⊎_elim (λ steps. by_query (refusal old by (calls.Query query)) steps.0) (λ not. absurd not.0) becomes
+  where
+    by_query : (cause : Option Cause) → PermitsBy cause old (calls.Query query) (replies.Done m) → (m ≡ length new) × (m < 2 ^ 64)
+    by_query (Some cause) permits = absurd (cc)
+    by_query None permits = ⊎_elim (λ granted. absurd (no_query old query m granted)) (λ short. let no = short.2 in absurd (cc)) permits
