@@ -2,10 +2,11 @@
 use Rattle.std.specs.Prelude.{◌≡◌, ◌^◌, ◌⊎◌, ℕ, List, [], ◌∷◌, false, Option, Result, Ok, Err}
 use Rattle.pana_wire.specs.Tap.{has_failed}
 use Rattle.pana_wire.specs.Session.{Serves, Stops, NeverBegins}
+use Rattle.pana_wire.specs.Timely.{IsTimely}
 use Rattle.pana_wire.specs.declared.serving.Served.{Served}
 use Rattle.pana_wire.specs.declared.serving.ServeFault.{ServeFault}
 use Rattle.pana_turn.specs.Passes.{DeskId}
-use Rattle.pana_host.specs.Session.{MakesCall, GetsNone, GrowsTo}
+use Rattle.pana_host.specs.Session.{MakesCall, GetsNone, GrowsTo, calls_seen}
 use Rattle.pana_host.specs.declared.lane.Lane.{Lane}
 use Rattle.pana_host.specs.declared.lane.LaneEnd.{LaneEnd}
 
@@ -21,10 +22,12 @@ EndsWith remaining contents lane end (Ok served) = Serves remaining contents Mak
 EndsWith remaining contents lane end (Err fault) = NeverBegins lane.reader end.reader lane.writer end.writer lane.pass end.pass fault
     ⊎ Stops remaining contents MakesCall GetsNone (2 ^ 40) lane.reader end.reader lane.writer end.writer lane.pass end.pass fault
 
--- the lane's session was served, and this is its end
+-- The lane's session was served, and this is its end. No byte of an answer was written before the pass had seen that the
+-- answer's call was finished.
 pub record IsServed {R W : Type 0} (remaining : R → Option (List ℕ)) (contents : W → Option (List ℕ)) (lane : Lane R W) (end : LaneEnd R W) : Type 0 where
   pub pass : GrowsTo lane.pass end.pass
   pub text : EndsWith remaining contents lane end end.result
+  pub timely : IsTimely MakesCall GetsNone calls_seen lane.writer end.writer lane.pass end.pass
 
 -- each lane is ready
 abbrev pub AreReady : {R W : Type 0} → DeskId → List (Lane R W) → Type 0

@@ -14,6 +14,10 @@ pub record MakesCall (old : PassView) (by : List ℕ) (call : Call) (reply : Rep
   pub run : IsHistory new.desk.begun new.seen
   pub adds : AddsCall old new by call reply
 
+-- how many calls the pass has seen finished: the moment of a session at a desk
+abbrev pub calls_seen : PassView → ℕ
+calls_seen pass = length pass.seen
+
 -- the pass made no call, since 2^62 or more are finished: it may have seen more calls, of other passes
 pub record MakesNone (old new : PassView) : Type 0 where
   pub same : IsSamePass old new

@@ -71,9 +71,11 @@ impl<'a, T, G> DeskSession<'a, T, G> {
 }
 
 impl<T: Wait, G: Gate> Session for DeskSession<'_, T, G> {
-    ghost use Rattle.pana_host.specs.Session.{GetsNone, MakesCall};
+    ghost use Rattle.pana_host.specs.Session.{GetsNone, MakesCall, calls_seen};
 
     ghost step = { MakesCall };
+
+    ghost moment = { calls_seen };
 
     ghost spends = { GetsNone };
 
