@@ -1,5 +1,5 @@
 -- A line that acknowledges an entry is the answer to a report that was done.
-use Rattle.std.specs.Prelude.{◌≡◌, ℕ, ◌+◌, ◌<◌, ◌^◌, Bool, true, false, nat_le, codes, List, [], ◌∷◌, ◌++◌, length, drop, get_or, Option, Some, None}
+use Rattle.std.specs.Prelude.{◌≡◌, ℕ, ◌+◌, ◌<◌, ◌^◌, ◌==◌, Bool, true, false, nat_le, codes, List, [], ◌∷◌, ◌++◌, length, drop, get_or, Option, Some, None}
 use Rattle.std.specs.Bool.{then_some}
 use Rattle.std.specs.Fmt.{decimal}
 use Rattle.std.proofs.Common.{refl, sym, ap, subst, ◌∙◌, ⊎_elim, arith, length-append}
@@ -30,32 +30,37 @@ use Rattle.pana_wire.specs.Reply.{refusal_data, refused_data, reply_data, reply_
 use Rattle.pana_kept.specs.Acknowledged.{done_line}
 use Rattle.pana_kept.specs.Kept.{Becomes}
 
--- its third byte is the first of `done`
-third : (text : List ℕ) (n b : ℕ) → text ≡ done_line n → get_or text 2 0 ≡ b → b ≡ 100
-third text n b is at = sym at ∙ ap (λ (l : List ℕ). get_or l 2 0) is
+true_or_false : true ≡ false → ⊥
+true_or_false e = absurd (cc)
+
+-- another third byte than that of the line of an entry
+other_third : (text : List ℕ) (n b : ℕ) → (b == 100) ≡ false → get_or text 2 0 ≡ b → text ≡ done_line n → ⊥
+other_third text n b other at is =
+    let same : b ≡ 100 = sym at ∙ ap (λ (l : List ℕ). get_or l 2 0) is in
+    true_or_false (subst (λ (k : ℕ). (k == 100) ≡ false) same other)
 
 pub fault_is_other : (fault : WireFault) (n : ℕ) → fault_text fault ≡ done_line n → ⊥
-fault_is_other TooLong n is = let no : 102 ≡ 100 = third _ n 102 is refl in absurd (cc)
-fault_is_other NotUtf8 n is = let no : 102 ≡ 100 = third _ n 102 is refl in absurd (cc)
-fault_is_other NotJson n is = let no : 102 ≡ 100 = third _ n 102 is refl in absurd (cc)
-fault_is_other NotObject n is = let no : 102 ≡ 100 = third _ n 102 is refl in absurd (cc)
-fault_is_other (BadField field) n is = let no : 102 ≡ 100 = third _ n 102 is refl in absurd (cc)
-fault_is_other OutOfMemory n is = let no : 102 ≡ 100 = third _ n 102 is refl in absurd (cc)
+fault_is_other TooLong n is = other_third _ n 102 refl refl is
+fault_is_other NotUtf8 n is = other_third _ n 102 refl refl is
+fault_is_other NotJson n is = other_third _ n 102 refl refl is
+fault_is_other NotObject n is = other_third _ n 102 refl refl is
+fault_is_other (BadField field) n is = other_third _ n 102 refl refl is
+fault_is_other OutOfMemory n is = other_third _ n 102 refl refl is
 
 refusal_is_other : (code : ℕ) (copy : Option ℕ) (name : List ℕ) (n : ℕ) → compact_text (refusal_data code copy name) ≡ done_line n → ⊥
 unfolding escape_byte
-refusal_is_other code None name n is = let no : 99 ≡ 100 = third _ n 99 is refl in absurd (cc)
-refusal_is_other code (Some copy) name n is = let no : 99 ≡ 100 = third _ n 99 is refl in absurd (cc)
+refusal_is_other code None name n is = other_third _ n 99 refl refl is
+refusal_is_other code (Some copy) name n is = other_third _ n 99 refl refl is
 
 pub reply_is_done : (reply : Reply) (n : ℕ) → reply_text reply ≡ done_line n → (m : ℕ) × (reply ≡ replies.Done m) × (decimal m ≡ decimal n)
 unfolding reply_text reply_data refused_data escape_byte
 reply_is_done (replies.Done m) n is = (m, refl, append_cancel_right (decimal m) (decimal n) (125 ∷ []) (ap (drop 8) is))
-reply_is_done (replies.Families rows) n is = let no : 102 ≡ 100 = third _ n 102 is refl in absurd (cc)
-reply_is_done (replies.Board board) n is = let no : 98 ≡ 100 = third _ n 98 is refl in absurd (cc)
-reply_is_done (replies.Stamps stamps) n is = let no : 115 ≡ 100 = third _ n 115 is refl in absurd (cc)
-reply_is_done (replies.Pair rel) n is = let no : 112 ≡ 100 = third _ n 112 is refl in absurd (cc)
-reply_is_done (replies.Holdings holdings) n is = let no : 104 ≡ 100 = third _ n 104 is refl in absurd (cc)
-reply_is_done (replies.Journal entries) n is = let no : 101 ≡ 100 = third _ n 101 is refl in absurd (cc)
+reply_is_done (replies.Families rows) n is = absurd (other_third _ n 102 refl refl is)
+reply_is_done (replies.Board board) n is = absurd (other_third _ n 98 refl refl is)
+reply_is_done (replies.Stamps stamps) n is = absurd (other_third _ n 115 refl refl is)
+reply_is_done (replies.Pair rel) n is = absurd (other_third _ n 112 refl refl is)
+reply_is_done (replies.Holdings holdings) n is = absurd (other_third _ n 104 refl refl is)
+reply_is_done (replies.Journal entries) n is = absurd (other_third _ n 101 refl refl is)
 reply_is_done (replies.Refused cause) n is = absurd (refusal_is_other (code_of cause) (cause_copy cause) (cause_name cause) n is)
 
 -- a journal that takes a report isn't full
