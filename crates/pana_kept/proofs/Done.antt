@@ -1,10 +1,9 @@
 -- A line that acknowledges an entry is the answer to a report that was done.
-use Rattle.std.specs.Prelude.{◌≡◌, ℕ, ◌+◌, ◌<◌, ◌^◌, ◌==◌, Bool, true, false, nat_le, codes, List, [], ◌∷◌, ◌++◌, length, drop, get_or, Option, Some, None}
+use Rattle.std.specs.Prelude.{◌≡◌, ℕ, ◌+◌, ◌<◌, ◌^◌, ◌==◌, Bool, true, false, nat_le, List, [], ◌∷◌, length, drop, get_or, Option, Some, None}
 use Rattle.std.specs.Bool.{then_some}
 use Rattle.std.specs.Fmt.{decimal}
 use Rattle.std.proofs.Common.{refl, sym, ap, subst, ◌∙◌, ⊎_elim, arith, length-append}
 use Rattle.std.proofs.lemmas.Bool.{leb-false}
-use Rattle.std.proofs.lemmas.Fmt.{decimal_injective}
 use Rattle.std.proofs.lemmas.List.{append_cancel_right}
 use Rattle.json.specs.Print.{escape_byte}
 use Rattle.pana_journal.specs.declared.entry.Entry.{Entry}
@@ -19,9 +18,8 @@ use Rattle.pana_hall.specs.declared.cause.Cause.TheVariants.{JournalFull}
 use Rattle.pana_hall.specs.declared.reply.Reply.{Reply}
 use Rattle.pana_hall.specs.declared.reply.Reply.TheVariants as replies
 use Rattle.pana_hall.specs.Cause.{code_of, cause_name, cause_copy}
-use Rattle.pana_hall.specs.Permit.{Answers, Grants, PermitsBy, Permits, journal_after}
+use Rattle.pana_hall.specs.Permit.{Answers, PermitsBy, Permits, journal_after}
 use Rattle.pana_hall.specs.Refusal.{first, refusal}
-use Rattle.pana_hall.specs.Step.{Steps}
 use Rattle.serde_json.specs.Written.{compact_text}
 use Rattle.pana_wire.specs.declared.fault.WireFault.{WireFault}
 use Rattle.pana_wire.specs.declared.fault.WireFault.TheVariants.{TooLong, NotUtf8, NotJson, NotObject, BadField, OutOfMemory}

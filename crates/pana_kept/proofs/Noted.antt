@@ -1,5 +1,5 @@
 -- Where the lines of notes end.
-use Rattle.std.proofs.Common.{◌≡◌, ℕ, ◌==◌, cond, true, false, List, [], ◌∷◌, ◌++◌, ◌⊎◌, inl, inr, refl, sym, ap, ◌∙◌, ⊎_elim, append-nil, append_assoc}
+use Rattle.std.proofs.Common.{◌≡◌, ℕ, cond, List, [], ◌∷◌, ◌++◌, ◌⊎◌, inl, inr, refl, sym, ap, ◌∙◌, ⊎_elim, append-nil, append_assoc}
 use Rattle.pana_wire.specs.Lines.{unended}
 use Rattle.pana_wire.specs.Tap.{Note, noted_at, bytes_in}
 use Rattle.pana_wire.proofs.OneLine.{IsInLine}
