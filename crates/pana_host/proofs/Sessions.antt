@@ -80,25 +80,25 @@ module _ {R W : Type 0} (remaining : R → Option (List ℕ)) (contents : W → 
   stopped_grows most fault (inl n) = grows_same old new n.session
   stopped_grows most fault (inr s) = ends_grow fault _ old new s.input s.output s.ends
 
-same_timely : {W : Type 0} (w w' : Tap W) (begun old new pass : PassView) → old ≡ begun → pass ≡ new
-    → IsTimely MakesCall GetsNone calls_seen w w' old new → IsTimely MakesCall GetsNone calls_seen w w' begun pass
-same_timely w w' begun old new pass begins is timely =
-    subst (λ (p : PassView). IsTimely MakesCall GetsNone calls_seen w w' begun p) (sym is) (subst (λ (p : PassView). IsTimely MakesCall GetsNone calls_seen w w' p new) begins timely)
+same_timely : {W : Type 0} (contents : W → Option (List ℕ)) (w w' : Tap W) (begun old new pass : PassView) → old ≡ begun → pass ≡ new
+    → IsTimely contents MakesCall GetsNone calls_seen w w' old new → IsTimely contents MakesCall GetsNone calls_seen w w' begun pass
+same_timely contents w w' begun old new pass begins is timely =
+    subst (λ (p : PassView). IsTimely contents MakesCall GetsNone calls_seen w w' begun p) (sym is) (subst (λ (p : PassView). IsTimely contents MakesCall GetsNone calls_seen w w' p new) begins timely)
 
 -- so a lane's session was served where serving it ended so
 pub is_served : {R W : Type 0} → (remaining : R → Option (List ℕ)) (contents : W → Option (List ℕ)) (lane : Lane R W) (old new pass : PassView) (r : Tap R) (w : Tap W) (result : Result Served ServeFault)
     → old ≡ lane.pass → pass ≡ new
     → IfOk result (Serves remaining contents MakesCall lane.reader r lane.writer w old new)
     → IfErr result (λ fault. NeverBegins lane.reader r lane.writer w old new fault ⊎ Stops remaining contents MakesCall GetsNone (2 ^ 40) lane.reader r lane.writer w old new fault)
-    → IsTimely MakesCall GetsNone calls_seen lane.writer w old new
+    → IsTimely contents MakesCall GetsNone calls_seen lane.writer w old new
     → IsServed remaining contents lane (record { pass = pass; reader = r; writer = w; result = result })
 is_served {R = R} {W = W} remaining contents lane old new pass r w (Ok served) begins is ok err timely =
     let text : Serves remaining contents MakesCall lane.reader r lane.writer w lane.pass pass served = subst (λ (p : PassView). Serves remaining contents MakesCall lane.reader r lane.writer w lane.pass p served) (sym is) (subst (λ (p : PassView). Serves remaining contents MakesCall lane.reader r lane.writer w p new served) begins ok) in
-    record { pass = served_grows remaining contents lane.reader r lane.writer w lane.pass pass served text; text = text; timely = same_timely lane.writer w lane.pass old new pass begins is timely }
+    record { pass = served_grows remaining contents lane.reader r lane.writer w lane.pass pass served text; text = text; timely = same_timely contents lane.writer w lane.pass old new pass begins is timely }
 is_served {R = R} {W = W} remaining contents lane old new pass r w (Err fault) begins is ok err timely =
     let ends : PassView → PassView → Type 0 = λ p q. NeverBegins lane.reader r lane.writer w p q fault ⊎ Stops remaining contents MakesCall GetsNone (2 ^ 40) lane.reader r lane.writer w p q fault in
     let text : ends lane.pass pass = subst (ends lane.pass) (sym is) (subst (λ (p : PassView). ends p new) begins err) in
-    record { pass = stopped_grows remaining contents lane.reader r lane.writer w lane.pass pass (2 ^ 40) fault text; text = text; timely = same_timely lane.writer w lane.pass old new pass begins is timely }
+    record { pass = stopped_grows remaining contents lane.reader r lane.writer w lane.pass pass (2 ^ 40) fault text; text = text; timely = same_timely contents lane.writer w lane.pass old new pass begins is timely }
 
 -- however serving ends, it leaves the same pass, which has seen what it had seen
 pub any_grows : {R W : Type 0} → (remaining : R → Option (List ℕ)) (contents : W → Option (List ℕ)) (r r' : Tap R) (w w' : Tap W) (old new : PassView) (most : ℕ) (result : Result Served ServeFault)

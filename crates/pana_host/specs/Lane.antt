@@ -27,7 +27,7 @@ EndsWith remaining contents lane end (Err fault) = NeverBegins lane.reader end.r
 pub record IsServed {R W : Type 0} (remaining : R → Option (List ℕ)) (contents : W → Option (List ℕ)) (lane : Lane R W) (end : LaneEnd R W) : Type 0 where
   pub pass : GrowsTo lane.pass end.pass
   pub text : EndsWith remaining contents lane end end.result
-  pub timely : IsTimely MakesCall GetsNone calls_seen lane.writer end.writer lane.pass end.pass
+  pub timely : IsTimely contents MakesCall GetsNone calls_seen lane.writer end.writer lane.pass end.pass
 
 -- each lane is ready
 abbrev pub AreReady : {R W : Type 0} → DeskId → List (Lane R W) → Type 0

@@ -1,5 +1,5 @@
 -- An entry whose line was written is kept from then on.
-use Rattle.std.proofs.Common.{◌≡◌, ℕ, ◌<◌, ◌^◌, Bool, IsTrue, List, [], ◌∷◌, ◌++◌, sym, ap, subst, ◌∙◌, append-nil, append_assoc, ⊎_elim}
+use Rattle.std.proofs.Common.{◌≡◌, ℕ, ◌<◌, ◌^◌, Bool, IsTrue, List, [], ◌∷◌, ◌++◌, Option, sym, ap, subst, ◌∙◌, append-nil, append_assoc, ⊎_elim}
 use Rattle.std.proofs.lemmas.Fmt.{decimal_injective}
 use Rattle.std.proofs.lemmas.List.{append_cancel_left}
 use Rattle.pana_hall.specs.declared.call.Call.{Call}
@@ -77,9 +77,9 @@ module _ {D : Type 0} (is_known : Bool) (seen : D → List ℕ) (may_leave : D �
         find next texts rest later.0 t after n (stays_open old next text works answer) small others later.2 same c left)
         (ends_at (Moment next) text rest before t after alone (sym whole ∙ is))
 
-  pub acknowledges : {W : Type 0} (a b : Tap W) (old new : KeptView D) → old.journal.state ≡ Open → IsTimely Step Spends Moment a b old new → Acknowledges left_since a b new
-  acknowledges a b old new works timely before after n t small is line c left =
-      let ended : timely.whole ++ timely.part ≡ before ++ record { byte = 10; moment = t } ∷ after = append_cancel_left (noted a) _ _ (sym timely.notes ∙ is) in
+  pub acknowledges : {W : Type 0} (contents : W → Option (List ℕ)) (a b : Tap W) (old new : KeptView D) → old.journal.state ≡ Open → IsTimely contents Step Spends Moment a b old new → Acknowledges left_since a b new
+  acknowledges contents a b old new works timely before after n t small is line c left =
+      let ended : timely.whole ++ timely.part ≡ before ++ record { byte = 10; moment = t } ∷ after = append_cancel_left (noted a) _ _ (sym timely.notes.0 ∙ is) in
       let alone : timely.part ≡ [] → timely.whole ≡ before ++ record { byte = 10; moment = t } ∷ after =
       λ none. sym (append-nil timely.whole) ∙ ap (λ (notes : List Note). timely.whole ++ notes) (sym none) ∙ ended in
       ⊎_elim

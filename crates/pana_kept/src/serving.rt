@@ -1,6 +1,6 @@
 //! A session whose entries are kept.
-ghost use Rattle.std.specs.Prelude.{◌≡◌, ◌≤◌, ◌^◌, ◌⊎◌, false, IsTrue, IfOk, IfErr, IsErrOf};
-ghost use Rattle.pana_wire.specs.Tap.{has_failed, MadeAtMost};
+ghost use Rattle.std.specs.Prelude.{◌≡◌, ◌≤◌, ◌^◌, ◌⊎◌, List, false, IsTrue, IfOk, IfErr, IsErrOf};
+ghost use Rattle.pana_wire.specs.Tap.{Note, has_failed, MadeAtMost, IsNoted};
 ghost use Rattle.pana_wire.specs.Session.{Serves, Stops, NeverBegins};
 ghost use Rattle.pana_kept.specs.Acknowledged.{Acknowledges};
 ghost use Rattle.pana_kept.specs.Kept.{Keeps, Breaks, KeepsAll};
@@ -40,6 +40,9 @@ pub fn serve_kept<R: Read, W: Write, D: Device>(
     // A crash at any moment of the session leaves a file that loads to the first n entries of now, all that there were
     // at the start among them.
     ensures keeps_all { IsTrue D.is_known → session.old.journal.state ≡ JournalState.Open → KeepsAll D.moment D.left_since session.old session.new }
+
+    // The notes of the writer are of what it wrote, byte for byte.
+    ensures noted { (since : List Note) × IsNoted W.contents writer.old writer.new since }
 
     // A crash at any moment from that on at which the line that acknowledges an entry was written leaves a file that has
     // the entry.

@@ -36,11 +36,11 @@ module _ {W : Type 0} (contents : W → Option (List ℕ)) (moment : ℕ) where
   writes_both a b c text more p q = record { written = Appends-trans _ _ _ text more p.written q.written; works = q.works; notes = texts_then moment (noted a) (noted b) (noted c) text more p.notes q.notes }
 
   pub breaks_first : (a b : Tap W) (text more : List ℕ) (fault : ServeFault) → WritesPrefix contents moment a b text fault → WritesPrefix contents moment a b (text ++ more) fault
-  breaks_first a b text more fault p = record { is_write = p.is_write; failed = p.failed; written = prefix_of_first _ _ text more p.written; notes = first_noted moment a b text more p.notes }
+  breaks_first a b text more fault p = record { is_write = p.is_write; failed = p.failed; written = prefix_of_first _ _ text more p.written; notes = first_noted contents moment a b text more p.notes }
 
   pub breaks_second : (a b c : Tap W) (text more : List ℕ) (fault : ServeFault) → Writes contents moment a b text → WritesPrefix contents moment b c more fault
       → WritesPrefix contents moment a c (text ++ more) fault
-  breaks_second a b c text more fault p q = record { is_write = q.is_write; failed = q.failed; written = prefix_of_second _ _ _ text more p.written q.written; notes = second_noted moment a b c text more p.notes q.notes }
+  breaks_second a b c text more fault p q = record { is_write = q.is_write; failed = q.failed; written = prefix_of_second _ _ _ text more p.written q.written; notes = second_noted contents moment a b c text more p.notes p.written q.notes }
 
   -- what was written whole, and then a prefix of more, which isn't all
   pub breaks_after_text : (a b c : Tap W) (done more rest whole : List ℕ) (fault : ServeFault) → whole ≡ done ++ (more ++ rest) → Writes contents moment a b done → WritesPrefix contents moment b c more fault

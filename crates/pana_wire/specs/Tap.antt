@@ -77,6 +77,10 @@ pub record IsUnread {T : Type 0} (old new : Tap T) : Type 0 where
 abbrev pub MadeAtMost : {T : Type 0} → ℕ → Tap T → Tap T → Type 0
 MadeAtMost most old new = (made : ℕ) × (made ≤ most) × MadeReads made old new
 
+-- what was noted since is what was written since, byte for byte
+abbrev pub IsNoted : {W : Type 0} → (W → Option (List ℕ)) → Tap W → Tap W → List Note → Type 0
+IsNoted contents old new since = (noted new ≡ noted old ++ since) × Appends (contents (inside old)) (contents (inside new)) (bytes_in since)
+
 -- known bytes grow by a prefix of the text
 abbrev pub AppendsPrefix : Option (List ℕ) → Option (List ℕ) → List ℕ → Type 0
 AppendsPrefix old new text = (written : List ℕ) × (rest : List ℕ) × Appends old new written × (text ≡ written ++ rest)

@@ -1,12 +1,12 @@
 -- When answers are written: each byte of an answer's line is taken at the moment of the state that the answer's call left.
-use Rattle.std.specs.Prelude.{◌≡◌, ℕ, List, [], ◌∷◌, ◌++◌, ◌⊎◌}
+use Rattle.std.specs.Prelude.{◌≡◌, ℕ, List, [], ◌∷◌, ◌++◌, ◌⊎◌, Option}
 use Rattle.pana_hall.specs.declared.call.Call.{Call}
 use Rattle.pana_hall.specs.declared.reply.Reply.{Reply}
 use Rattle.pana_wire.specs.declared.fault.WireFault.{WireFault}
 use Rattle.pana_wire.specs.declared.tap.Tap.{Tap}
 use Rattle.pana_wire.specs.Fault.{fault_text}
 use Rattle.pana_wire.specs.Reply.{reply_text}
-use Rattle.pana_wire.specs.Tap.{Note, noted, noted_at}
+use Rattle.pana_wire.specs.Tap.{Note, noted_at, IsNoted}
 
 -- the text of an answer: a fault, and no call was made, or the reply to a call
 abbrev pub IsAnswer : {S : Type 0} → (S → List ℕ → Call → Reply → S → Type 0) → S → List ℕ → S → Type 0
@@ -24,13 +24,13 @@ abbrev pub MayBreak : {S : Type 0} → (S → List ℕ → Call → Reply → S 
 MayBreak step spends moment old notes new = ((notes ≡ []) × ((new ≡ old) ⊎ spends old new))
     ⊎ ((text : List ℕ) × (rest : List Note) × IsAnswer step old text new × (noted_at (moment new) (text ++ 10 ∷ []) ≡ notes ++ rest))
 
--- what was noted since are the answers, each at its moment, up to where they end
-pub record IsTimely {W S : Type 0} (step : S → List ℕ → Call → Reply → S → Type 0) (spends : S → S → Type 0) (moment : S → ℕ)
+-- what was written since, and noted, are the answers, each at its moment, up to where they end
+pub record IsTimely {W S : Type 0} (contents : W → Option (List ℕ)) (step : S → List ℕ → Call → Reply → S → Type 0) (spends : S → S → Type 0) (moment : S → ℕ)
     (writer_old writer_new : Tap W) (old new : S) : Type 0 where
   pub texts : List (List ℕ)
   pub whole : List Note
   pub part : List Note
   pub last : S
-  pub notes : noted writer_new ≡ noted writer_old ++ (whole ++ part)
+  pub notes : IsNoted contents writer_old writer_new (whole ++ part)
   pub answers : WritesAnswers step moment old texts whole last
   pub breaks : MayBreak step spends moment last part new

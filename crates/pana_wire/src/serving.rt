@@ -115,7 +115,7 @@ pub fn serve<R: Read, W: Write, S: Session>(
         ⊎ Stops R.remaining W.contents S.step S.spends reads
         reader.old reader.new writer.old writer.new session.old session.new fault) }
     ensures reads { MadeAtMost reads reader.old reader.new }
-    ensures timely { IsTimely S.step S.spends S.moment writer.old writer.new session.old session.new }
+    ensures timely { IsTimely W.contents S.step S.spends S.moment writer.old writer.new session.old session.new }
 {
     match LineBuffer::new(alloc) {
         Ok(mut held) => serve_lines(alloc, reader, writer, session, &mut held, reads),
@@ -140,7 +140,7 @@ fn serve_lines<R: Read, W: Write, S: Session>(
     ensures fault { IfErr result (Stops R.remaining W.contents S.step S.spends reads
         reader.old reader.new writer.old writer.new session.old session.new) }
     ensures reads { MadeAtMost reads reader.old reader.new }
-    ensures timely { IsTimely S.step S.spends S.moment writer.old writer.new session.old session.new }
+    ensures timely { IsTimely W.contents S.step S.spends S.moment writer.old writer.new session.old session.new }
 {
     let mut piece = [0u8; PIECE];
     let mut served = Served::NOTHING;
@@ -172,8 +172,8 @@ fn take_piece<W: Write, S: Session>(
         writer.old writer.new session.old held.old piece.now session.new held.new) }
     ensures fault { IfErr result (Breaks W.contents S.step S.spends
         writer.old writer.new session.old (ended_kept held.old piece.now) session.new) }
-    ensures timely { OnOk result (IsTimelySoFar S.step S.moment writer.old writer.new session.old session.new) }
-    ensures broken { OnErr result (IsTimely S.step S.spends S.moment writer.old writer.new session.old session.new) }
+    ensures timely { OnOk result (IsTimelySoFar W.contents S.step S.moment writer.old writer.new session.old session.new) }
+    ensures broken { OnErr result (IsTimely W.contents S.step S.spends S.moment writer.old writer.new session.old session.new) }
 {
     let mut served = Served::NOTHING;
     for byte in piece {
@@ -199,8 +199,8 @@ fn finish<W: Write, S: Session>(
         writer.old writer.new session.old (last_line held.now) session.new) }
     ensures fault { IfErr result (Breaks W.contents S.step S.spends
         writer.old writer.new session.old (last_line held.now) session.new) }
-    ensures timely { OnOk result (IsTimelySoFar S.step S.moment writer.old writer.new session.old session.new) }
-    ensures broken { OnErr result (IsTimely S.step S.spends S.moment writer.old writer.new session.old session.new) }
+    ensures timely { OnOk result (IsTimelySoFar W.contents S.step S.moment writer.old writer.new session.old session.new) }
+    ensures broken { OnErr result (IsTimely W.contents S.step S.spends S.moment writer.old writer.new session.old session.new) }
 {
     if held.is_empty() {
         return Ok(Served::NOTHING);
@@ -219,8 +219,8 @@ fn answer<W: Write, S: Session>(
         writer.old writer.new session.old (line.now ∷ []) session.new) }
     ensures fault { IfErr result (Breaks W.contents S.step S.spends
         writer.old writer.new session.old (line.now ∷ []) session.new) }
-    ensures timely { OnOk result (IsTimelySoFar S.step S.moment writer.old writer.new session.old session.new) }
-    ensures broken { OnErr result (IsTimely S.step S.spends S.moment writer.old writer.new session.old session.new) }
+    ensures timely { OnOk result (IsTimelySoFar W.contents S.step S.moment writer.old writer.new session.old session.new) }
+    ensures broken { OnErr result (IsTimely W.contents S.step S.spends S.moment writer.old writer.new session.old session.new) }
 {
     let Message { by, call } = match decode(alloc, line) {
         Ok(message) => message,

@@ -1,5 +1,5 @@
 -- How far serving has come.
-use Rattle.std.specs.Prelude.{◌≡◌, ℕ, ◌+◌, List, ◌++◌, length, Option, Bool, true, false}
+use Rattle.std.specs.Prelude.{◌≡◌, ℕ, ◌+◌, List, length, Option, Bool, true, false}
 use Rattle.std.specs.Io.KnownBytes.{Appends}
 use Rattle.pana_hall.specs.declared.call.Call.{Call}
 use Rattle.pana_hall.specs.declared.reply.Reply.{Reply}
@@ -7,7 +7,7 @@ use Rattle.pana_wire.specs.declared.tap.Tap.{Tap}
 use Rattle.pana_wire.specs.declared.serving.Served.{Served}
 use Rattle.pana_wire.specs.declared.serving.ServeFault.{ServeFault}
 use Rattle.pana_wire.specs.declared.serving.ServeFault.TheVariants.{Read, Write, OutOfMemory, Spent, Turns}
-use Rattle.pana_wire.specs.Tap.{Note, inside, has_failed, noted}
+use Rattle.pana_wire.specs.Tap.{Note, inside, has_failed, IsNoted}
 use Rattle.pana_wire.specs.inner.Kept.{ended_kept, unended_kept}
 use Rattle.pana_wire.specs.Session.{AnswersLines, BreaksIn}
 use Rattle.pana_wire.specs.Timely.{WritesAnswers}
@@ -58,9 +58,9 @@ pub record Breaks {W S : Type 0} (contents : W → Option (List ℕ)) (step : S 
   pub breaks : BreaksIn step spends fault old lines output new
   pub is_out : IsOutFault (has_failed writer_new) fault
 
--- so far, what was noted since are the answers, each at its moment
-pub record IsTimelySoFar {W S : Type 0} (step : S → List ℕ → Call → Reply → S → Type 0) (moment : S → ℕ) (writer_old writer_new : Tap W) (old new : S) : Type 0 where
+-- so far, what was written since, and noted, are the answers, each at its moment
+pub record IsTimelySoFar {W S : Type 0} (contents : W → Option (List ℕ)) (step : S → List ℕ → Call → Reply → S → Type 0) (moment : S → ℕ) (writer_old writer_new : Tap W) (old new : S) : Type 0 where
   pub texts : List (List ℕ)
   pub whole : List Note
-  pub notes : noted writer_new ≡ noted writer_old ++ whole
+  pub notes : IsNoted contents writer_old writer_new whole
   pub answers : WritesAnswers step moment old texts whole new

@@ -12,13 +12,14 @@ pub record Writes {W : Type 0} (contents : W → Option (List ℕ)) (moment : �
   pub works : has_failed new ≡ false
   pub notes : noted new ≡ noted old ++ noted_at moment text
 
--- a prefix of the text is noted
-abbrev pub NotesPrefix : {W : Type 0} → ℕ → Tap W → Tap W → List ℕ → Type 0
-NotesPrefix moment old new text = (part : List ℕ) × (rest : List ℕ) × (noted new ≡ noted old ++ noted_at moment part) × (text ≡ part ++ rest)
+-- a prefix of the text is written, and noted
+abbrev pub NotesPrefix : {W : Type 0} → (W → Option (List ℕ)) → ℕ → Tap W → Tap W → List ℕ → Type 0
+NotesPrefix contents moment old new text = (part : List ℕ) × (rest : List ℕ) × (noted new ≡ noted old ++ noted_at moment part)
+    × Appends (contents (inside old)) (contents (inside new)) part × (text ≡ part ++ rest)
 
--- a write failed, and a prefix of the text is written, and noted
+-- a write failed, with a prefix of the text written
 pub record WritesPrefix {W : Type 0} (contents : W → Option (List ℕ)) (moment : ℕ) (old new : Tap W) (text : List ℕ) (fault : ServeFault) : Type 0 where
   pub is_write : fault ≡ Write
   pub failed : has_failed new ≡ true
   pub written : AppendsPrefix (contents (inside old)) (contents (inside new)) text
-  pub notes : NotesPrefix moment old new text
+  pub notes : NotesPrefix contents moment old new text

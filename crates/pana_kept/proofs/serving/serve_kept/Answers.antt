@@ -1,4 +1,4 @@
-use Rattle.std.proofs.Common.{⊎_elim, sym, subst}
+use Rattle.std.proofs.Common.{◌++◌, ⊎_elim, sym, subst}
 use Rattle.pana_wire.specs.declared.serving.ServeFault.TheVariants.{Spent}
 use Rattle.pana_wire.specs.Tap.{has_ended}
 use Rattle.pana_kept.specs.Kept.{KeptView, KeepsAll}
@@ -29,4 +29,9 @@ returns-clause-spent g c is known works =
 pub returns-clause-acknowledges : goal.returns-clause-acknowledges
 returns-clause-acknowledges g c known works =
     acknowledges g.D.Device.is_known g.D.Device.seen g.D.Device.may_leave g.D.Device.is_usable g.D.Device.moment g.D.Device.left_since g.D.Device.has_failed known g.met.D.Device.only_now
-    c.args.writer.now c.serve.new.writer c.args.session.now c.serve.new.session works c.serve.ensures.timely
+    g.W.Write.contents c.args.writer.now c.serve.new.writer c.args.session.now c.serve.new.session works c.serve.ensures.timely
+
+pub returns-clause-noted : goal.returns-clause-noted
+returns-clause-noted g c =
+    let timely = c.serve.ensures.timely in
+    (timely.whole ++ timely.part, timely.notes)

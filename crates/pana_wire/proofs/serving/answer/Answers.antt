@@ -30,31 +30,31 @@ returns-in_err-write_fault-in-Err-clause-broken g c =
     let old = c.args.session.now in
     let fault = c.in-Err.fault in
     let p = err_from_is_err_and c.from_residual.result c.from_residual.ensures.1 in
-    rw p.1 (part_timely g.S.Session.step g.S.Session.spends g.S.Session.moment c.args.writer.now c.write_fault.new.writer old (fault_text fault) old (inl (fault, refl, refl)) c.in_err-write_fault-in-Err.ensures.err.notes)
+    rw p.1 (part_timely g.W.Write.contents g.S.Session.step g.S.Session.spends g.S.Session.moment c.args.writer.now c.write_fault.new.writer old (fault_text fault) old (inl (fault, refl, refl)) c.in_err-write_fault-in-Err.ensures.err.notes)
 
 pub returns-in-Err-clause-timely : goal.returns-in-Err-clause-timely
 returns-in-Err-clause-timely g c =
     let old = c.args.session.now in
     let fault = c.in-Err.fault in
-    one_so_far g.S.Session.step g.S.Session.moment c.args.writer.now c.write_fault.new.writer old (fault_text fault) old (inl (fault, refl, refl)) c.in_ok-write_fault-in-Err.ensures.ok.notes
+    one_so_far g.W.Write.contents g.S.Session.step g.S.Session.moment c.args.writer.now c.write_fault.new.writer old (fault_text fault) old (inl (fault, refl, refl)) c.in_ok-write_fault-in-Err.ensures.ok.notes c.in_ok-write_fault-in-Err.ensures.ok.written
 
 pub returns-in_default-clause-broken : goal.returns-in_default-clause-broken
 returns-in_default-clause-broken g c =
-    none_made g.S.Session.step g.S.Session.spends g.S.Session.moment c.args.writer.now c.args.session.now c.call.new.self c.in_default.ensures.spent
+    none_made g.W.Write.contents g.S.Session.step g.S.Session.spends g.S.Session.moment c.args.writer.now c.args.session.now c.call.new.self c.in_default.ensures.spent
 
 pub returns-in_default-encode-clause-broken : goal.returns-in_default-encode-clause-broken
 returns-in_default-encode-clause-broken g c =
     let reply = c.in-Ok-call.reply in
-    lost_timely g.S.Session.step g.S.Session.spends g.S.Session.moment c.args.writer.now c.args.session.now (reply_text reply) c.call.new.self
+    lost_timely g.W.Write.contents g.S.Session.step g.S.Session.spends g.S.Session.moment c.args.writer.now c.args.session.now (reply_text reply) c.call.new.self
     (inr (c.in-Ok.message.by, c.in-Ok.message.call, reply, c.in-Ok-call.ensures.step, refl))
 
 pub returns-in_err-write_line-clause-broken : goal.returns-in_err-write_line-clause-broken
 returns-in_err-write_line-clause-broken g c =
     let p = err_from_is_err_and c.from_residual-in_err-write_line.result c.from_residual-in_err-write_line.ensures.1 in
-    rw p.1 (part_timely g.S.Session.step g.S.Session.spends g.S.Session.moment c.args.writer.now c.write_line.new.writer c.args.session.now c.as_str.result.now c.call.new.self
+    rw p.1 (part_timely g.W.Write.contents g.S.Session.step g.S.Session.spends g.S.Session.moment c.args.writer.now c.write_line.new.writer c.args.session.now c.as_str.result.now c.call.new.self
     (inr (c.in-Ok.message.by, c.in-Ok.message.call, c.in-Ok-call.reply, c.in-Ok-call.ensures.step, c.as_str.ensures.value ∙ c.in-Ok-encode.ensures.text)) c.in_err-write_line.ensures.err.notes)
 
 pub returns-clause-timely : goal.returns-clause-timely
 returns-clause-timely g c =
-    one_so_far g.S.Session.step g.S.Session.moment c.args.writer.now c.write_line.new.writer c.args.session.now c.as_str.result.now c.call.new.self
-    (inr (c.in-Ok.message.by, c.in-Ok.message.call, c.in-Ok-call.reply, c.in-Ok-call.ensures.step, c.as_str.ensures.value ∙ c.in-Ok-encode.ensures.text)) c.in_ok-write_line.ensures.ok.notes
+    one_so_far g.W.Write.contents g.S.Session.step g.S.Session.moment c.args.writer.now c.write_line.new.writer c.args.session.now c.as_str.result.now c.call.new.self
+    (inr (c.in-Ok.message.by, c.in-Ok.message.call, c.in-Ok-call.reply, c.in-Ok-call.ensures.step, c.as_str.ensures.value ∙ c.in-Ok-encode.ensures.text)) c.in_ok-write_line.ensures.ok.notes c.in_ok-write_line.ensures.ok.written

@@ -133,7 +133,7 @@ loop-preserved g c =
         subst (λ s. Progress step c.args.session.now [] (input ++ piece) (output ++ more.output) c.take_piece.new.session c.take_piece.new.held s) (sym c.and-served.ensures)
             (progress_both step c.args.session.now [] input piece output more.output c.loop.session c.take_piece.new.session c.loop.held c.take_piece.new.held c.loop.served c.in_ok-more-in-Ok.more progress more.progress),
       );
-      timely = more_so_far step g.S.Session.moment c.args.writer.now c.loop.writer c.take_piece.new.writer c.args.session.now c.loop.session c.take_piece.new.session c.loop.invariant.timely c.in_ok-more-in-Ok.ensures.timely;
+      timely = more_so_far g.W.Write.contents step g.S.Session.moment c.args.writer.now c.loop.writer c.take_piece.new.writer c.args.session.now c.loop.session c.take_piece.new.session c.loop.invariant.timely c.in_ok-more-in-Ok.ensures.timely;
       few = few_more c.and-served.result c.and-served.result _ _ refl most
           (few_both c.loop.served c.in_ok-more-in-Ok.more c.and-served.result (4096 * c.loop.counter) (length (take c.in-Ok.length buffer)) c.and-served.ensures c.loop.invariant.few few);
       reader = search rules;
@@ -157,23 +157,23 @@ returns-clause-fault g c =
 
 pub returns-in_err-last-in-Ok-eq0-clause-timely : goal.returns-in_err-last-in-Ok-eq0-clause-timely
 returns-in_err-last-in-Ok-eq0-clause-timely g c =
-    timely_then g.S.Session.step g.S.Session.spends g.S.Session.moment c.args.writer.now c.loop.writer c.finish.new.writer c.args.session.now c.loop.session c.finish.new.session
+    timely_then g.W.Write.contents g.S.Session.step g.S.Session.spends g.S.Session.moment c.args.writer.now c.loop.writer c.finish.new.writer c.args.session.now c.loop.session c.finish.new.session
     c.loop.invariant.timely c.in_err-last-in-Ok-eq0.ensures.broken
 
 pub returns-in-Ok-eq0-clause-timely : goal.returns-in-Ok-eq0-clause-timely
 returns-in-Ok-eq0-clause-timely g c =
-    timely_here g.S.Session.step g.S.Session.spends g.S.Session.moment c.args.writer.now c.finish.new.writer c.args.session.now c.finish.new.session
-    (more_so_far g.S.Session.step g.S.Session.moment c.args.writer.now c.loop.writer c.finish.new.writer c.args.session.now c.loop.session c.finish.new.session c.loop.invariant.timely c.in_ok-last-in-Ok-eq0.ensures.timely)
+    timely_here g.W.Write.contents g.S.Session.step g.S.Session.spends g.S.Session.moment c.args.writer.now c.finish.new.writer c.args.session.now c.finish.new.session
+    (more_so_far g.W.Write.contents g.S.Session.step g.S.Session.moment c.args.writer.now c.loop.writer c.finish.new.writer c.args.session.now c.loop.session c.finish.new.session c.loop.invariant.timely c.in_ok-last-in-Ok-eq0.ensures.timely)
 
 pub returns-in_err-more-in-Ok-clause-timely : goal.returns-in_err-more-in-Ok-clause-timely
 returns-in_err-more-in-Ok-clause-timely g c =
-    timely_then g.S.Session.step g.S.Session.spends g.S.Session.moment c.args.writer.now c.loop.writer c.take_piece.new.writer c.args.session.now c.loop.session c.take_piece.new.session
+    timely_then g.W.Write.contents g.S.Session.step g.S.Session.spends g.S.Session.moment c.args.writer.now c.loop.writer c.take_piece.new.writer c.args.session.now c.loop.session c.take_piece.new.session
     c.loop.invariant.timely c.in_err-more-in-Ok.ensures.broken
 
 pub returns-in-Err-clause-timely : goal.returns-in-Err-clause-timely
 returns-in-Err-clause-timely g c =
-    timely_here g.S.Session.step g.S.Session.spends g.S.Session.moment c.args.writer.now c.loop.writer c.args.session.now c.loop.session c.loop.invariant.timely
+    timely_here g.W.Write.contents g.S.Session.step g.S.Session.spends g.S.Session.moment c.args.writer.now c.loop.writer c.args.session.now c.loop.session c.loop.invariant.timely
 
 pub returns-clause-timely : goal.returns-clause-timely
 returns-clause-timely g c =
-    timely_here g.S.Session.step g.S.Session.spends g.S.Session.moment c.args.writer.now c.loop.writer c.args.session.now c.loop.session c.loop.invariant.timely
+    timely_here g.W.Write.contents g.S.Session.step g.S.Session.spends g.S.Session.moment c.args.writer.now c.loop.writer c.args.session.now c.loop.session c.loop.invariant.timely

@@ -12,7 +12,7 @@ invariant-loop g l = record {
       × Consumes (g.R.Read.remaining (inside l.fn.reader)) (g.R.Read.remaining (inside l.reader)) input
       × Appends (g.W.Write.contents (inside l.fn.writer)) (g.W.Write.contents (inside l.writer)) output
       × Progress g.S.Session.step l.fn.session [] input output l.session l.held l.served;
-  timely : IsTimelySoFar g.S.Session.step g.S.Session.moment l.fn.writer l.writer l.fn.session l.session;
+  timely : IsTimelySoFar g.W.Write.contents g.S.Session.step g.S.Session.moment l.fn.writer l.writer l.fn.session l.session;
   few : IsFew l.served (4096 * l.counter);
   reader : has_failed l.reader ≡ false;
   writer : has_failed l.writer ≡ false;

@@ -29,7 +29,7 @@ loop-byte-preserved g c =
               progress = step_line step c.args.session.now c.args.held.now (take i piece) (take (i + 1) piece) said.output here.output (get_or piece i 0) _ _ c.loop-byte.held _ _
                   c.loop-byte.served _ _ more w.if-byte-eq10.true w.as_slice.ensures w.clear.ensures w.and-served.ensures said.progress here.answered;
             };
-            timely = more_so_far step g.S.Session.moment c.args.writer.now c.loop-byte.writer w.answer.new.writer c.args.session.now c.loop-byte.session w.answer.new.session c.loop-byte.invariant.timely w.in_ok-answered.ensures.timely;
+            timely = more_so_far g.W.Write.contents step g.S.Session.moment c.args.writer.now c.loop-byte.writer w.answer.new.writer c.args.session.now c.loop-byte.session w.answer.new.session c.loop-byte.invariant.timely w.in_ok-answered.ensures.timely;
             few = few_both c.loop-byte.served _ _ i 1 w.and-served.ensures c.loop-byte.invariant.few one;
           })
       | else-byte-eq10 w ↦
@@ -66,5 +66,5 @@ returns-in_err-answered-clause-fault g c =
 pub returns-in_err-answered-clause-broken : goal.returns-in_err-answered-clause-broken
 returns-in_err-answered-clause-broken g c =
     let p = err_from_is_err_and c.from_residual.result c.from_residual.ensures.1 in
-    rw p.1 (timely_then g.S.Session.step g.S.Session.spends g.S.Session.moment c.args.writer.now c.loop-byte.writer c.answer.new.writer c.args.session.now c.loop-byte.session c.answer.new.session
+    rw p.1 (timely_then g.W.Write.contents g.S.Session.step g.S.Session.spends g.S.Session.moment c.args.writer.now c.loop-byte.writer c.answer.new.writer c.args.session.now c.loop-byte.session c.answer.new.session
     c.loop-byte.invariant.timely c.in_err-answered.ensures.broken)

@@ -38,7 +38,7 @@ returns-in-Err-clause-err g c =
       is_write = refl;
       failed = search rules;
       written = whole_is_prefix _ _ (c.args.text.now ++ 10 ∷ []) (Appends-kept _ _ _ _ both.written c.in-Err.ensures.bytes);
-      notes = whole_noted moment old c.flush.new.self (c.args.text.now ++ 10 ∷ []) (c.flush.ensures.noted ∙ both.notes);
+      notes = whole_noted contents moment old c.flush.new.self (c.args.text.now ++ 10 ∷ []) (c.flush.ensures.noted ∙ both.notes) (Appends-kept _ _ _ _ both.written c.in-Err.ensures.bytes);
     }
 
 pub returns-in-Ok-clause-ok : goal.returns-in-Ok-clause-ok
