@@ -14,7 +14,10 @@ impl Signals {
     /// No newline so far, and nothing that has begun: sessions, and with so many roots, where there is one, a scanner for
     /// each and the count of newlines.
     pub fn new(roots: usize) -> Signals {
-        let wanted = if roots == 0 { 1 } else { roots as u64 + 2 };
+        let wanted = match roots {
+            0 => 1,
+            _ => (roots as u64).saturating_add(2),
+        };
         Signals {
             ticks: Ticks::new(),
             start: Start::new(wanted),
