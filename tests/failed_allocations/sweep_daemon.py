@@ -4,8 +4,9 @@ reports and asks, two more files are scanned, and the first is changed and scann
 
 usage: sweep_daemon.py PROGRAM
 
-The daemon may end with 'panad: out of memory' and status 1 before it listens, or say that it cannot make threads; this
-also later, before it takes a connection, where a thread can't be made after all. From then on it stays. An answer must be the one that a run with no failed allocation gives, or OutOfMemory: the journal is
+The daemon may end with 'panad: out of memory' and status 1 before it listens, or say that it cannot make threads; also
+some seconds later, before it takes a connection, where what its sessions or threads take isn't there after all. From then
+on it stays. An answer must be the one that a run with no failed allocation gives, or OutOfMemory: the journal is
 then as it was, and the same line, sent again, gets that answer. A session may end in place of an answer; then the next
 one finds the journal as it was, or with the entry of that line. A scan may be left undone, and the next one does it.
 The last line is 'N passed, M failed'.
@@ -33,8 +34,7 @@ MOST = 5000
 PATIENCE = 1
 LONGEST = 8
 OUT_OF_MEMORY = ({"code": 9, "refused": "OutOfMemory"}, {"fault": "OutOfMemory"})
-NO_THREADS = b"panad: cannot make threads\n"
-ENDS = (b"panad: out of memory\n", NO_THREADS)
+ENDS = (b"panad: out of memory\n", b"panad: cannot make threads\n")
 LINES = (
     line_of("desk", "duplicate", copy=1, device="desk", path="a"),
     line_of("desk", "edit", copy=2),
@@ -136,7 +136,7 @@ def late_fault(daemon, error):
     """What is wrong with the end of a daemon that answers nobody, or None."""
     try:
         ended = daemon.wait(timeout=SECONDS), daemon.stderr.read()
-        return None if ended == (1, NO_THREADS) else f"{error}: it ended with {ended}"
+        return None if ended in ((1, it) for it in ENDS) else f"{error}: it ended with {ended}"
     except subprocess.TimeoutExpired:
         return f"{error}: it goes on"
 
