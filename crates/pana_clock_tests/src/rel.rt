@@ -5,7 +5,8 @@ use std::test::Fail;
 #[test]
 fn conflict(rt: HostRuntime) -> Result<(), Fail> {
     let mut table = PairTable::new(rt.alloc(), 1)?;
-    table.insert_like(1, 2)?;
+    table.reserve()?;
+    table.insert_like(1, 2);
     assert_eq!(rt; table.rel(1, 2), Rel::Equal);
     table.edited(1);
     assert_eq!(rt; table.rel(1, 2), Rel::Newer);
@@ -29,8 +30,10 @@ fn conflict(rt: HostRuntime) -> Result<(), Fail> {
 #[test]
 fn puts_in_between(rt: HostRuntime) -> Result<(), Fail> {
     let mut table = PairTable::new(rt.alloc(), 1)?;
-    table.insert_like(1, 3)?;
-    table.insert_row(2, [Rel::Older, Rel::Conflict].as_slice())?;
+    table.reserve()?;
+    table.insert_like(1, 3);
+    table.reserve()?;
+    table.insert_row(2, [Rel::Older, Rel::Conflict].as_slice());
     assert_eq!(rt; table.copies(), [1, 2, 3].as_slice());
     assert_eq!(rt; table.rel(2, 1), Rel::Older);
     assert_eq!(rt; table.rel(3, 2), Rel::Conflict);

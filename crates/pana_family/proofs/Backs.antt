@@ -5,10 +5,8 @@ use Rattle.std.proofs.lemmas.Bool.{cases_Bool, eq-eqb, eqb-true, eqb-false, ltb-
 use Rattle.pana_family.specs.declared.row.StampRow.{StampRow}
 use Rattle.pana_family.specs.Table.{In}
 use Rattle.pana_family.specs.Holders.{is_copy}
-use Rattle.pana_family.specs.Rows.{IsRising, dropped, put_back, put_all, there, copy_rows}
-use Rattle.pana_family.proofs.Members.{in_dropped, above_low, one_row}
-use Rattle.pana_family.proofs.Places.{in_dropped_other, rising_dropped}
-use Rattle.pana_family.proofs.Parcels.{any_some, any_from}
+use Rattle.pana_family.specs.Rows.{IsRising, put_back, put_all, copy_rows}
+use Rattle.pana_family.proofs.Members.{above_low}
 
 -- rising rows are one list where they have the same members
 pub same_rows : (low : ℕ) (xs ys : List StampRow) → IsRising low xs → IsRising low ys → ((r : StampRow) → In r xs → In r ys) → ((r : StampRow) → In r ys → In r xs) → xs ≡ ys
@@ -34,7 +32,7 @@ same_rows low (x ∷ xs) (y ∷ ys) up down to from =
     ]) in
     ap (λ (w : StampRow). w ∷ xs) head ∙ ap (λ (l : List StampRow). y ∷ l) tail
 
-in_put : (x : StampRow) (rows : List StampRow) (y : StampRow) (low : ℕ) → IsRising low rows → In y (put_back x rows) → (y ≡ x) ⊎ (In y rows × (y.copy ≢ x.copy))
+pub in_put : (x : StampRow) (rows : List StampRow) (y : StampRow) (low : ℕ) → IsRising low rows → In y (put_back x rows) → (y ≡ x) ⊎ (In y rows × (y.copy ≢ x.copy))
 in_put x [] y low up i = elim i [ inl e ↦ inl e | inr never ↦ absurd never ]
 in_put x (r ∷ rows) y low up i =
     elim (r.copy == x.copy) as (λ b. (r.copy == x.copy) ≡ b → In y (cond b (x ∷ rows) (cond (nat_lt x.copy r.copy) (x ∷ (r ∷ rows)) (r ∷ put_back x rows))) → (y ≡ x) ⊎ (In y (r ∷ rows) × (y.copy ≢ x.copy))) [
@@ -62,7 +60,7 @@ put_in x (r ∷ rows) =
       | false ↦ elim (nat_lt x.copy r.copy) as (λ b. In x (cond b (x ∷ (r ∷ rows)) (r ∷ put_back x rows))) [ true ↦ inl refl | false ↦ inr (put_in x rows) ]
     ]
 
-put_other : (x : StampRow) (rows : List StampRow) (y : StampRow) → In y rows → y.copy ≢ x.copy → In y (put_back x rows)
+pub put_other : (x : StampRow) (rows : List StampRow) (y : StampRow) → In y rows → y.copy ≢ x.copy → In y (put_back x rows)
 put_other x [] y i ne = absurd i
 put_other x (r ∷ rows) y i ne =
     elim (r.copy == x.copy) as (λ b. (r.copy == x.copy) ≡ b → In y (cond b (x ∷ rows) (cond (nat_lt x.copy r.copy) (x ∷ (r ∷ rows)) (r ∷ put_back x rows)))) [
@@ -115,33 +113,6 @@ all_other (x ∷ old) rows y ne i = put_other x (put_all old rows) y (all_other 
 pub put_last : (xs : List StampRow) (x : StampRow) (rows : List StampRow) → put_all (xs ++ x ∷ []) rows ≡ put_all xs (put_back x rows)
 put_last [] x rows = refl
 put_last (y ∷ xs) x rows = ap (put_back y) (put_last xs x rows)
-
--- the rows from before come back: old has those that are gone or changed, and all that is new has entry n as its number
--- or that of an old one
-pub gives_back : (rows new old : List StampRow) (n : ℕ) → IsRising 0 rows → IsRising 0 new → ((r : StampRow) → In r rows → r.copy ≢ n) → ((x : StampRow) → In x old → In x rows)
-    → ((r : StampRow) → In r rows → In r old ⊎ In r new)
-    → ((q : StampRow) → In q new → (q.copy ≡ n) ⊎ (In q rows ⊎ ((x : StampRow) × In x old × (x.copy ≡ q.copy))))
-    → put_all old (dropped n new) ≡ rows
-gives_back rows new old n up down fresh were left came =
-    same_rows 0 (put_all old (dropped n new)) rows (rising_all old (dropped n new) (rising_dropped 0 n new down)) up
-    (λ y i. elim (in_all old (dropped n new) y (rising_dropped 0 n new down) i) [
-      | inl j ↦ were y j
-      | inr k ↦ let m = in_dropped n new y k.0 in elim (came y m.0) [
-        | inl e ↦ absurd (m.1 e)
-        | inr l ↦ elim l [ inl h ↦ h | inr h ↦ absurd (k.1 h.0 h.1 h.2) ]
-      ]
-    ])
-    (λ y i.
-    let one : (x : StampRow) → In x old → x.copy ≡ y.copy → x ≡ y = λ x j e. one_row 0 rows x y up (were x j) i e in
-    elim (cases_Bool (there old y.copy)) [
-      | inl h ↦ let m = any_some (λ r. r.copy == y.copy) old h in all_old old (dropped n new) y one
-          (subst (λ (w : StampRow). In w old) (one m.0 m.1 (eqb-true m.0.copy y.copy m.2)) m.1)
-      | inr h ↦ let none : (x : StampRow) → In x old → y.copy ≢ x.copy = λ x j e. both_ways (there old y.copy) h (any_from (λ r. r.copy == y.copy) old x j (eq-eqb x.copy y.copy (sym e))) in
-          elim (left y i) [
-            | inl j ↦ absurd (none y j refl)
-            | inr j ↦ all_other old (dropped n new) y none (in_dropped_other n new y j (fresh y i))
-          ]
-    ])
 
 -- How many are copies.
 

@@ -7,11 +7,9 @@ use Rattle.pana_family.specs.declared.row.StampRow.{StampRow}
 use Rattle.pana_family.specs.Updates.{has}
 use Rattle.pana_family.specs.Holders.{leave}
 use Rattle.pana_family.specs.Table.{In}
-use Rattle.pana_family.specs.Rows.{IsRising, dropped, there}
-use Rattle.pana_family.specs.inner.Making.{AreGone, AreTaken}
-use Rattle.pana_family.proofs.Members.{in_append, in_left, one_row}
-use Rattle.pana_family.proofs.Parcels.{in_leave, stays_in, any_from, from_both}
-use Rattle.pana_family.proofs.Owners.{in_right}
+use Rattle.pana_family.specs.Rows.{IsRising, dropped}
+use Rattle.pana_family.proofs.Members.{one_row}
+use Rattle.pana_family.proofs.Parcels.{from_both}
 use Rattle.pana_family.proofs.Keeps.{dropped_is}
 
 pub leave_agree : {A : Type 0} (p q : A → Bool) (xs : List A) → ((x : A) → In x xs → p x ≡ q x) → leave p xs ≡ leave q xs
@@ -50,43 +48,6 @@ pub takes_none : (rows : List StampRow) → leave (λ r. has [] r.copy) rows ≡
 takes_none [] = refl
 takes_none (r ∷ rows) = ap (λ l. r ∷ l) (takes_none rows)
 
-pub none_taken : (rows : List StampRow) → AreTaken rows [] []
-none_taken rows = record { were = λ r i. absurd i; all = λ r i t. absurd (cc t) }
-
-pub some_taken : (rows : List StampRow) (numbers : List ℕ) (taken : List StampRow) (n : ℕ) (x : StampRow) → IsRising 0 rows → AreTaken rows numbers taken
-    → In x (leave (λ r. has numbers r.copy) rows) → x.copy ≡ n → AreTaken rows (numbers ++ n ∷ []) (taken ++ x ∷ [])
-some_taken rows numbers taken n x up are i named = record {
-  were = λ r j. elim (in_append r taken (x ∷ []) j) [
-    | inl k ↦ let m = are.were r k in (m.0, one_more numbers n r.copy ∙ or_left (has numbers r.copy) (r.copy == n) m.1)
-    | inr k ↦ elim k [
-      | inl e ↦ let m = in_leave (λ q. has numbers q.copy) rows x i in
-          (subst (λ (q : StampRow). In q rows) (sym e) m.0, one_more numbers n r.copy ∙ or_right (has numbers r.copy) (r.copy == n) (eq-eqb r.copy n (ap (λ (q : StampRow). q.copy) e ∙ named)))
-      | inr never ↦ absurd never
-    ]
-  ];
-  all = λ r j t. elim (cases_Bool (has numbers r.copy)) [
-    | inl h ↦ in_left r taken (x ∷ []) (are.all r j h)
-    | inr h ↦ elim (or_cases (has numbers r.copy) (r.copy == n) (sym (one_more numbers n r.copy) ∙ t)) [
-      | inl k ↦ absurd (both_ways (has numbers r.copy) h k)
-      | inr e ↦ in_right r taken (x ∷ []) (inl (one_row 0 rows r x up j (in_leave (λ q. has numbers q.copy) rows x i).0 (eqb-true r.copy n e ∙ sym named)))
-    ]
-  ];
-}
-
-pub no_taken : (rows : List StampRow) (numbers : List ℕ) (taken : List StampRow) (n : ℕ) → AreTaken rows numbers taken
-    → there (leave (λ r. has numbers r.copy) rows) n ≡ false → AreTaken rows (numbers ++ n ∷ []) taken
-no_taken rows numbers taken n are gone = record {
-  were = λ r j. let m = are.were r j in (m.0, one_more numbers n r.copy ∙ or_left (has numbers r.copy) (r.copy == n) m.1);
-  all = λ r j t. elim (cases_Bool (has numbers r.copy)) [
-    | inl h ↦ are.all r j h
-    | inr h ↦ elim (or_cases (has numbers r.copy) (r.copy == n) (sym (one_more numbers n r.copy) ∙ t)) [
-      | inl k ↦ absurd (both_ways (has numbers r.copy) h k)
-      | inr e ↦ absurd (both_ways (there (leave (λ q. has numbers q.copy) rows) n) gone
-          (any_from (λ q. q.copy == n) (leave (λ q. has numbers q.copy) rows) r (stays_in (λ q. has numbers q.copy) rows r j h) e))
-    ]
-  ];
-}
-
 -- the numbers of the rows that pass a test are had by these rows alone
 pub numbers_of : (test : StampRow → Bool) (rows : List StampRow) → IsRising 0 rows → (r : StampRow) → In r rows → has (map (λ q. q.copy) (filter test rows)) r.copy ≡ test r
 numbers_of test rows up r i =
@@ -117,9 +78,3 @@ numbers_of test rows up r i =
 -- and so taking these numbers out takes these rows
 pub leave_numbers : (test : StampRow → Bool) (rows : List StampRow) → IsRising 0 rows → leave (λ r. has (map (λ q. q.copy) (filter test rows)) r.copy) rows ≡ leave test rows
 leave_numbers test rows up = leave_agree (λ r. has (map (λ q. q.copy) (filter test rows)) r.copy) test rows (λ r i. numbers_of test rows up r i)
-
-pub gone_numbers : (test : StampRow → Bool) (rows taken : List StampRow) → IsRising 0 rows → AreTaken rows (map (λ q. q.copy) (filter test rows)) taken → AreGone test rows taken
-gone_numbers test rows taken up are = record {
-  were = λ r i. let m = are.were r i in (m.0, sym (numbers_of test rows up r m.0) ∙ m.1);
-  all = λ r i t. are.all r i (numbers_of test rows up r i ∙ t);
-}

@@ -1,5 +1,5 @@
 -- Summing the ids of parcels that end.
-use Rattle.std.specs.Prelude.{◌≡◌, ◌≢◌, ℕ, ◌≤◌, ◌<◌, ◌+◌, Bool, true, false, ◌&&◌, ◌||◌, List, [], ◌∷◌, ◌++◌, length, take, Option}
+use Rattle.std.specs.Prelude.{◌≡◌, ◌≢◌, ℕ, ◌≤◌, ◌<◌, ◌+◌, Bool, true, false, ◌&&◌, ◌||◌, List, [], ◌∷◌, ◌++◌, length, take, cond, Option}
 use Rattle.std.specs.List.{list_any}
 use Rattle.std.proofs.Common.{refl, sym, ap, subst, ◌∙◌, inl, inr, arith, get_or, zero, suc}
 use Rattle.std.proofs.lemmas.Bool.{or_cases, and_parts}
@@ -13,7 +13,7 @@ use Rattle.pana_family.specs.declared.row.StampRow.{StampRow}
 use Rattle.pana_family.specs.Holders.{is_held}
 use Rattle.pana_family.specs.Table.{In}
 use Rattle.pana_stamp.specs.declared.stamp.Stamp.{Stamp}
-use Rattle.pana_family.specs.Rows.{IsRising, deepest}
+use Rattle.pana_family.specs.Rows.{IsRising, deepest, with_ids}
 use Rattle.pana_family.specs.inner.Making.{Gathered, IsGathered, IsSettled, ends_from, AreApart}
 use Rattle.pana_family.proofs.Members.{in_left, above_low}
 use Rattle.pana_family.proofs.Places.{deepest_in}
@@ -23,6 +23,7 @@ use Rattle.pana_family.proofs.Owners.{in_right}
 pub gather_none : (test : StampRow → Bool) (i j : Id) → is_zero i ≡ false → j ≡ i → Gathered test i [] j
 gather_none test i j some same = record {
   points = λ p long. ap (λ (k : Id). owns k p) same ∙ or_false (owns i p);
+  tree = same;
   some = ap is_zero same ∙ some;
   shallow = λ m least all. omega (arith, ap depth same, least);
 }
@@ -54,6 +55,10 @@ or_nothing false = refl
 zero_sum : (w a b : Bool) → w ≡ (a && b) → a ≡ false → w ≡ false
 zero_sum w a b e h = e ∙ ap (λ (v : Bool). v && b) h
 
+with_more : (test : StampRow → Bool) (i : Id) (xs : List StampRow) (q : StampRow) → with_ids test i (xs ++ q ∷ []) ≡ cond (test q) (sum_of (with_ids test i xs) q.stamp.id) (with_ids test i xs)
+with_more test i [] q = refl
+with_more test i (x ∷ xs) q = with_more test (cond (test x) (sum_of i x.stamp.id) i) xs q
+
 pub gather_more : (test : StampRow → Bool) (seen more : List StampRow) (q : StampRow) (i j k : Id) → Gathered test i seen j → more ≡ seen ++ q ∷ [] → test q ≡ true → k ≡ sum_of j q.stamp.id → IsSum k j q.stamp.id
     → Gathered test i more k
 gather_more test seen more q i j k g is over tree summed = record {
@@ -63,6 +68,8 @@ gather_more test seen more q i j k g is over tree summed = record {
       ∙ ap (λ (b : Bool). owns i p || (list_any own seen || (b && owns q.stamp.id p))) (sym over)
       ∙ ap (λ (b : Bool). owns i p || b) (sym (any_append own seen q))
       ∙ ap (λ (l : List StampRow). owns i p || list_any own l) (sym is);
+  tree = tree ∙ ap (λ (w : Id). sum_of w q.stamp.id) g.tree
+      ∙ sym (ap (with_ids test i) is ∙ with_more test i seen q ∙ ap (λ (b : Bool). cond b (sum_of (with_ids test i seen) q.stamp.id) (with_ids test i seen)) over);
   some = zero_sum (is_zero k) (is_zero j) (is_zero q.stamp.id) summed.zero_only g.some;
   shallow = λ m least all.
       let among : (r : StampRow) → In r (seen ++ q ∷ []) → test r ≡ true → depth r.stamp.id ≤ m = λ r l. all r (subst (In r) (sym is) l) in
@@ -75,6 +82,7 @@ gather_skip test seen more q i j g is stays = record {
       let own : StampRow → Bool = λ r. test r && owns r.stamp.id p in
       g.points p long ∙ ap (λ (b : Bool). owns i p || b)
       (sym (or_nothing (list_any own seen)) ∙ ap (λ (b : Bool). list_any own seen || (b && owns q.stamp.id p)) (sym stays) ∙ sym (any_append own seen q) ∙ ap (list_any own) (sym is));
+  tree = g.tree ∙ sym (ap (with_ids test i) is ∙ with_more test i seen q ∙ ap (λ (b : Bool). cond b (sum_of (with_ids test i seen) q.stamp.id) (with_ids test i seen)) stays);
   some = g.some;
   shallow = λ m least all. g.shallow m least (λ r l. all r (subst (In r) (sym is) (in_left r seen (q ∷ []) l)));
 }

@@ -7,10 +7,9 @@ use Rattle.pana_event.specs.Order.{is_leq}
 use Rattle.pana_stamp.specs.declared.stamp.Stamp.{Stamp}
 use Rattle.pana_family.specs.declared.row.StampRow.{StampRow}
 use Rattle.pana_family.specs.Holders.{leave, is_copy, is_held, passed}
-use Rattle.pana_family.specs.Table.{In, bequeathed}
+use Rattle.pana_family.specs.Table.{In}
 use Rattle.pana_family.specs.Rows.{IsRising, AreBefore, lives, dropped, put_all}
-use Rattle.pana_family.specs.inner.Making.{passed_rows, settled_rows, AreGone, is_bound, ends_from, settles, goes, IsWrapped, IsGathered, IsSettled, stays_parcel, parcel_row}
-use Rattle.pana_family.specs.Kept.{IsKept}
+use Rattle.pana_family.specs.inner.Making.{passed_rows, settled_rows, is_bound, ends_from, settles, goes, IsWrapped, IsGathered, IsSettled, stays_parcel, parcel_row}
 use Rattle.pana_family.proofs.Members.{in_append, in_left, in_replaced, in_dropped, one_row}
 use Rattle.pana_family.proofs.Places.{in_replaced_other, in_dropped_other, rising_replaced, rising_pushed, rising_dropped}
 use Rattle.pana_family.proofs.Parcels.{in_leave, stays_in, in_passed_rows, not_held, any_some}
@@ -18,9 +17,7 @@ use Rattle.pana_family.proofs.Owners.{in_new, in_right}
 use Rattle.pana_family.proofs.Keeps.{rising_leave, rising_passed}
 use Rattle.pana_family.proofs.Backs.{same_rows, in_all, all_old, all_other, rising_all}
 use Rattle.pana_family.proofs.Gathers.{settled_in}
-use Rattle.pana_family.proofs.Reports.{Reported, bequeaths}
-use Rattle.pana_family.proofs.Settlements.{Numbered, not_new, exchanged_back, free_stays, ends_same, or_both_false, or_false_left, or_false_right}
-use Rattle.pana_family.proofs.Pairs.{Done}
+use Rattle.pana_family.proofs.Settlements.{Numbered, not_new, free_stays, ends_same, or_both_false, or_false_left, or_false_right}
 
 -- Members.
 
@@ -304,14 +301,6 @@ settled_heir rows c h x n w =
                 all_other news base r (not_new test rows news n w.rising w.before (heir_numbered rows c h x n w) r s.0 out) (stays_in test rows r s.0 out)
           ]
     ])
-
-pub bequeathed_done : (rows new gone : List StampRow) (c h x : StampRow) (n : ℕ) → IsKept rows → IsBequest rows c h x n → new ≡ put_all (x ∷ parcels rows c h n) (leave (goes (Some c.copy) (x ∷ [])) rows)
-    → AreGone (goes (Some c.copy) (x ∷ [])) rows gone → Done rows new gone n (bequeathed n c.copy h.copy) (λ table. Unit {0})
-bequeathed_done rows new gone c h x n k w is are = record {
-  reported = subst (λ l. Reported rows l (bequeathed n c.copy h.copy) (λ table. Unit {0})) (sym (is ∙ settled_heir rows c h x n w))
-      (bequeaths rows c h (parcel_row n c.copy h.copy c) x n (ends_from None h) k w.before w.gone w.heir w.heir_free w.differ (wrapped_row rows c h x n w) (heir_settled rows c h x n w));
-  back = ap (λ l. put_all gone (dropped n l)) is ∙ exchanged_back (goes (Some c.copy) (x ∷ [])) rows (x ∷ parcels rows c h n) gone n w.rising w.before (heir_numbered rows c h x n w) are;
-}
 
 -- a living copy has a row
 pub living_at : (rows : List StampRow) (copy : ℕ) → lives rows copy ≡ true → (r : StampRow) × In r rows × (r.copy ≡ copy) × (r.holder ≡ None)

@@ -1,6 +1,6 @@
--- Copies put into a table of relations and taken out of it, and rows that are put back.
-use Rattle.std.specs.Prelude.{◌≡◌, ◌≢◌, ◌↔◌, ℕ, Bool, true, false, cond, ◌==◌, ◌&&◌, ◌||◌, ◌⊎◌, List, [], ◌∷◌, map, None, Option, take, Contains, slice_index_or, length, ◌<◌, ◌+◌, ◌++◌}
-use Rattle.std.proofs.Common.{refl, sym, ap, subst, ◌∙◌, inl, inr, arith}
+-- Copies put into a table of relations and taken out of it, and rows that are exchanged.
+use Rattle.std.specs.Prelude.{◌≡◌, ◌≢◌, ◌↔◌, ℕ, Bool, true, false, cond, ◌==◌, ◌&&◌, ◌||◌, ◌⊎◌, List, [], ◌∷◌, map, Some, None, Option, take, Contains, slice_index_or, length, ◌<◌, ◌+◌, ◌++◌}
+use Rattle.std.proofs.Common.{refl, sym, ap, subst, ◌∙◌, inl, inr, arith, get_or, zero, suc}
 use Rattle.std.proofs.lemmas.Bool.{cases_Bool, both_ways, eq-eqb, eqb-true, eqb-false, ne_eqb, or_cases, or_left, or_parts, or_right}
 use Rattle.std.proofs.lemmas.List.{take_more}
 use Rattle.pana_event.specs.Event.{Event}
@@ -11,28 +11,17 @@ use Rattle.pana_family.specs.declared.row.StampRow.{StampRow}
 use Rattle.pana_family.specs.Updates.{has}
 use Rattle.pana_family.specs.Holders.{is_copy}
 use Rattle.pana_family.specs.Table.{In}
-use Rattle.pana_family.specs.Rows.{AreBefore, IsRising, copy_rows, dropped, lives, put_all, renewed}
+use Rattle.pana_family.specs.declared.change.Exchange.{Exchange}
+use Rattle.pana_family.specs.declared.change.Exchange.TheVariants.{Put, Take}
+use Rattle.pana_family.specs.Change.{number_of, row_of, exchanged_all}
+use Rattle.pana_family.specs.Rows.{IsRising, copy_rows, dropped, lives, put_back, renewed}
 use Rattle.pana_family.specs.Paired.{ArePaired}
-use Rattle.pana_family.specs.inner.Comparing.{AgreeOn, AreCompared, HasCopies, IsGrown, IsGrownBy, IsShrunk}
-use Rattle.pana_family.proofs.Members.{in_dropped}
+use Rattle.pana_family.specs.inner.Comparing.{AgreeOn, AreCompared, ArePut, HasCopies, IsGrown, IsGrownBy, IsGrownIn, IsShrunk}
+use Rattle.pana_family.proofs.Members.{in_append, in_dropped}
 use Rattle.pana_family.proofs.Places.{in_dropped_other, rising_dropped}
-use Rattle.pana_family.proofs.Backs.{all_other, in_all}
+use Rattle.pana_family.proofs.Backs.{in_put, put_other, rising_put}
 use Rattle.pana_family.proofs.Heirs.{living_at}
 use Rattle.pana_family.proofs.Copies.{has_rows, in_with_copy, in_without_copy, lives_from, with_copy_old, without_other}
-
--- Numbers of rows.
-
-pub has_number : (rows : List StampRow) (r : StampRow) → In r rows → has (map (λ q. q.copy) rows) r.copy ≡ true
-has_number [] r i = absurd i
-has_number (q ∷ rows) r i = elim i [
-  | inl e ↦ or_left (q.copy == r.copy) (has (map (λ s. s.copy) rows) r.copy) (eq-eqb q.copy r.copy (ap (λ (w : StampRow). w.copy) (sym e)))
-  | inr j ↦ or_right (q.copy == r.copy) (has (map (λ s. s.copy) rows) r.copy) (has_number rows r j)
-]
-
-living_number : (old : List StampRow) (n c : ℕ) → lives old c ≡ true → has (n ∷ map (λ q. q.copy) old) c ≡ true
-living_number old n c here =
-    let r = living_at old c here in
-    or_right (n == c) (has (map (λ q. q.copy) old) c) (subst (λ (k : ℕ). has (map (λ q. q.copy) old) k ≡ true) r.2 (has_number old r.0 r.1))
 
 -- Steps.
 
@@ -40,17 +29,25 @@ with_row_rest : (n : ℕ) (row : ℕ → Rel) (rel : ℕ → ℕ → Rel) (a b :
 with_row_rest n row rel a b ne ne' =
     rw (ne_eqb a n ne, ne_eqb b n ne') refl
 
-pub put_one : (n : ℕ) (row : ℕ → Rel) (old new : Table) → ¬ Contains old.copies n → new.copies ≡ with_copy n old.copies → Holds new (with_row n row (rel_of old)) → IsGrownBy n old new
-put_one n row old new gone are holds = record {
+-- a table that got room has the same copies and relations
+pub put_one : (n : ℕ) (row : ℕ → Rel) (old mid new : Table) → mid.copies ≡ old.copies → ((a b : ℕ) → rel_of mid a b ≡ rel_of old a b)
+    → ¬ Contains old.copies n → new.copies ≡ with_copy n mid.copies → Holds new (with_row n row (rel_of mid)) → IsGrownBy n old new
+put_one n row old mid new same rels gone put holds = record {
   more = λ c here. subst (λ (cs : List ℕ). Contains cs c) (sym are) (with_copy_old n c old.copies here);
   from = λ c here. elim (in_with_copy n c old.copies (subst (λ (cs : List ℕ). Contains cs c) are here)) [ inl e ↦ inr e | inr there ↦ inl there ];
   same = λ a b here there.
       holds a b (subst (λ (cs : List ℕ). Contains cs a) (sym are) (with_copy_old n a old.copies here)) (subst (λ (cs : List ℕ). Contains cs b) (sym are) (with_copy_old n b old.copies there))
-      ∙ with_row_rest n row (rel_of old) a b (λ e. gone (subst (Contains old.copies) e here)) (λ e. gone (subst (Contains old.copies) e there));
+      ∙ with_row_rest n row (rel_of mid) a b (λ e. gone (subst (Contains old.copies) e here)) (λ e. gone (subst (Contains old.copies) e there)) ∙ rels a b;
 }
+  where
+    are : new.copies ≡ with_copy n old.copies
+    are = put ∙ ap (with_copy n) same
 
-pub none_grown : (rows : List StampRow) (old : Table) → IsGrown rows old old
-none_grown rows old = record { more = λ c here. here; from = λ c here. inl here; same = λ a b here there. refl }
+pub reserved_paired : (rows : List StampRow) (old new : Table) → ArePaired rows old → new.copies ≡ old.copies → ((a b : ℕ) → rel_of new a b ≡ rel_of old a b) → ArePaired rows new
+reserved_paired rows old new p same rels = record {
+  copies = λ copy. subst (λ (cs : List ℕ). Contains cs copy ↔ (lives rows copy ≡ true)) (sym same) (p.copies copy);
+  rels = λ r q i j free free' ne. subst (IsRelation r.stamp.event q.stamp.event) (sym (rels r.copy q.copy)) (p.rels r q i j free free' ne);
+}
 
 pub more_grown : (rows : List StampRow) (r : StampRow) (old mid new : Table) → In r rows → r.holder ≡ None → IsGrown rows old mid → IsGrownBy r.copy mid new → IsGrown rows old new
 more_grown rows r old mid new i free g h = record {
@@ -58,6 +55,29 @@ more_grown rows r old mid new i free g h = record {
   from = λ c here. elim (h.from c here) [ inl there ↦ g.from c there | inr e ↦ inr (subst (λ (k : ℕ). lives rows k ≡ true) (sym e) (lives_from rows r i free)) ];
   same = λ a b here there. h.same a b (g.more a here) (g.more b there) ∙ g.same a b here there;
 }
+
+pub more_put : (numbers : List ℕ) (n : ℕ) (old mid new : Table) → has numbers n ≡ true → IsGrownIn numbers old mid → IsGrownBy n mid new → IsGrownIn numbers old new
+more_put numbers n old mid new t g h = record {
+  more = λ c here. h.more c (g.more c here);
+  from = λ c here. elim (h.from c here) [ inl there ↦ g.from c there | inr e ↦ inr (ap (has numbers) e ∙ t) ];
+  same = λ a b here there. h.same a b (g.more a here) (g.more b there) ∙ g.same a b here there;
+}
+
+-- the number of an exchange at a position
+pub number_there : (news : List Exchange) (i : ℕ) (x : Exchange) → i < length news → x ≡ get_or news i x → has (map number_of news) (number_of x) ≡ true
+number_there news i x within is = ap (λ (y : Exchange). has (map number_of news) (number_of y)) is ∙ read news i within
+  where
+    read : (l : List Exchange) (k : ℕ) → k < length l → has (map number_of l) (number_of (get_or l k x)) ≡ true
+    read [] k less = absurd (omega (arith, less))
+    read (y ∷ l) zero less = or_left (number_of y == number_of y) (has (map number_of l) (number_of y)) (eq-eqb (number_of y) (number_of y) refl)
+    read (y ∷ l) (suc k) less = or_right (number_of y == number_of (get_or l k x)) (has (map number_of l) (number_of (get_or l k x))) (read l k (omega (arith, less)))
+
+pub more_there : (news : List Exchange) (x : Exchange) (mid new : Table) → ArePut news mid → ((c : ℕ) → Contains mid.copies c → Contains new.copies c)
+    → ((r : StampRow) → row_of x ≡ Some r → r.holder ≡ None → Contains new.copies r.copy) → ArePut (news ++ x ∷ []) new
+more_there news x mid new all more one y r i is free = elim (in_append y news (x ∷ []) i) [
+  | inl j ↦ more r.copy (all y r j is free)
+  | inr l ↦ elim l [ inl e ↦ one r (ap row_of (sym e) ∙ is) free | inr never ↦ absurd never ]
+]
 
 pub taken_lives : (rows : List StampRow) (i c : ℕ) (r : StampRow) → i < length rows → r ≡ slice_index_or rows i r → lives (take (i + 1) rows) c ≡ true → (lives (take i rows) c ≡ true) ⊎ ((r.copy ≡ c) × (is_copy r.holder ≡ true))
 taken_lives rows i c r within is here =
@@ -123,7 +143,7 @@ more_shrunk numbers n rows old mid new g h = record {
   same = λ a b here there. h.same a b here there ∙ g.same a b (h.from a here).0 (h.from b there).0;
 }
 
--- Rows are put back.
+-- Rows are exchanged.
 
 agreeing : (rows : List StampRow) (p0 p1 p2 : Table) (r q : StampRow) → ArePaired rows p0 → ((c : ℕ) → Contains p0.copies c → Contains p1.copies c) → AgreeOn (Contains p0.copies) p0 p1 → AgreeOn (Contains p2.copies) p1 p2
     → In r rows → In q rows → r.holder ≡ None → q.holder ≡ None → r.copy ≢ q.copy → Contains p2.copies r.copy → Contains p2.copies q.copy → IsRelation r.stamp.event q.stamp.event (rel_of p2 r.copy q.copy)
@@ -131,13 +151,43 @@ agreeing rows p0 p1 p2 r q p more first second i j free free' ne here there =
     let was : (x : StampRow) → In x rows → x.holder ≡ None → Contains p0.copies x.copy = λ x l f. (p.copies x.copy).1 (lives_from rows x l f) in
     subst (IsRelation r.stamp.event q.stamp.event) (sym (second r.copy q.copy here there ∙ first r.copy q.copy (was r i free) (was q j free'))) (p.rels r q i j free free' ne)
 
-pub taken_back : (rows old : List StampRow) (n : ℕ) (numbers : List ℕ) (p0 p1 p2 : Table) → ArePaired rows p0 → IsGrown old p0 p1 → numbers ≡ n ∷ map (λ q. q.copy) old → IsShrunk numbers rows p1 p2 → ArePaired rows p2
-taken_back rows old n numbers p0 p1 p2 p g are s =
+-- a row after exchanges was put, or was there before
+pub in_exchanged : (news : List Exchange) (rows : List StampRow) (r : StampRow) → IsRising 0 rows → In r (exchanged_all news rows) → ((x : Exchange) × In x news × (row_of x ≡ Some r)) ⊎ In r rows
+in_exchanged [] rows r up i = inr i
+in_exchanged (Put q ∷ news) rows r up i = elim (in_exchanged news (put_back q rows) r (rising_put 0 q rows up (omega arith)) i) [
+  | inl k ↦ inl (k.0, inr k.1, k.2)
+  | inr j ↦ elim (in_put q rows r 0 up j) [ inl e ↦ inl (Put q, inl refl, ap Some (sym e)) | inr k ↦ inr k.0 ]
+]
+in_exchanged (Take n ∷ news) rows r up i = elim (in_exchanged news (dropped n rows) r (rising_dropped 0 n rows up) i) [
+  | inl k ↦ inl (k.0, inr k.1, k.2)
+  | inr j ↦ inr (in_dropped n rows r j).0
+]
+
+-- a row stays where there is no exchange at its number
+pub stays_in : (news : List Exchange) (rows : List StampRow) (r : StampRow) → has (map number_of news) r.copy ≡ false → In r rows → In r (exchanged_all news rows)
+stays_in [] rows r out i = i
+stays_in (Put q ∷ news) rows r out i =
+    let p = or_parts (q.copy == r.copy) (has (map number_of news) r.copy) out in
+    stays_in news (put_back q rows) r p.1 (put_other q rows r i (λ e. eqb-false q.copy r.copy p.0 (sym e)))
+stays_in (Take n ∷ news) rows r out i =
+    let p = or_parts (n == r.copy) (has (map number_of news) r.copy) out in
+    stays_in news (dropped n rows) r p.1 (in_dropped_other n rows r i (λ e. eqb-false n r.copy p.0 (sym e)))
+
+put_number : (x : Exchange) (r : StampRow) → row_of x ≡ Some r → number_of x ≡ r.copy
+put_number (Put q) r is = let same : q ≡ r = cc is in ap (λ (w : StampRow). w.copy) same
+put_number (Take n) r is = absurd (cc is)
+
+has_number_in : (news : List Exchange) (x : Exchange) (r : StampRow) → In x news → row_of x ≡ Some r → has (map number_of news) r.copy ≡ true
+has_number_in [] x r i is = absurd i
+has_number_in (y ∷ news) x r i is = elim i [
+  | inl e ↦ or_left (number_of y == r.copy) (has (map number_of news) r.copy) (eq-eqb (number_of y) r.copy (ap number_of (sym e) ∙ put_number x r is))
+  | inr j ↦ or_right (number_of y == r.copy) (has (map number_of news) r.copy) (has_number_in news x r j is)
+]
+
+pub taken_back : (rows : List StampRow) (numbers : List ℕ) (p0 p1 p2 : Table) → ArePaired rows p0 → IsGrownIn numbers p0 p1 → IsShrunk numbers rows p1 p2 → ArePaired rows p2
+taken_back rows numbers p0 p1 p2 p g s =
     let copies : (c : ℕ) → Contains p2.copies c ↔ (lives rows c ≡ true) = λ c. (
-      (λ here. let k = s.from c here in elim (g.from c k.0) [
-        | inl was ↦ (p.copies c).0 was
-        | inr back ↦ k.1 (ap (λ (l : List ℕ). has l c) are ∙ living_number old n c back)
-      ]),
+      (λ here. let k = s.from c here in elim (g.from c k.0) [ inl was ↦ (p.copies c).0 was | inr new ↦ k.1 new ]),
       λ here. s.kept c (g.more c ((p.copies c).1 here)) (λ t. here),
     ) in
     record {
@@ -145,48 +195,43 @@ taken_back rows old n numbers p0 p1 p2 p g are s =
       rels = λ r q i j free free' ne. agreeing rows p0 p1 p2 r q p g.more g.same s.same i j free free' ne ((copies r.copy).1 (lives_from rows r i free)) ((copies q.copy).1 (lives_from rows q j free'));
     }
 
--- rows that were put back, and the table that the copies were put into and taken out of
-pub record Back (rows old new : List StampRow) (numbers : List ℕ) (p0 p1 p2 : Table) : Type 0 where
+-- exchanges of rows, and the table that the copies were put into and taken out of
+pub record Crossed (news : List Exchange) (rows : List StampRow) (p0 p1 p2 : Table) : Type 0 where
   pub paired : ArePaired rows p0
-  pub grown : IsGrown old p0 p1
-  pub there : (c : ℕ) → lives old c ≡ true → Contains p1.copies c
-  pub shrunk : IsShrunk numbers new p1 p2
+  pub grown : IsGrownIn (map number_of news) p0 p1
+  pub there : ArePut news p1
+  pub shrunk : IsShrunk (map number_of news) (exchanged_all news rows) p1 p2
 
-pub back_copies : (rows old : List StampRow) (n : ℕ) (p0 p1 p2 : Table) → IsRising 0 rows → Back rows old (put_all old (dropped n rows)) (n ∷ map (λ q. q.copy) old) p0 p1 p2 → HasCopies (put_all old (dropped n rows)) p2
-back_copies rows old n p0 p1 p2 up b c =
-    let new : List StampRow = put_all old (dropped n rows) in (
-      (λ here. let k = b.shrunk.from c here in elim (cases_Bool (has (n ∷ map (λ q. q.copy) old) c)) [
+pub crossed_copies : (news : List Exchange) (rows : List StampRow) (p0 p1 p2 : Table) → IsRising 0 rows → Crossed news rows p0 p1 p2 → HasCopies (exchanged_all news rows) p2
+crossed_copies news rows p0 p1 p2 up b c =
+    let new : List StampRow = exchanged_all news rows in (
+      (λ here. let k = b.shrunk.from c here in elim (cases_Bool (has (map number_of news) c)) [
         | inl t ↦ k.1 t
         | inr f ↦ elim (b.grown.from c k.0) [
           | inl was ↦
               let r = living_at rows c ((b.paired.copies c).0 was) in
-              let p = or_parts (n == c) (has (map (λ q. q.copy) old) c) f in
-              let in_new : In r.0 new = all_other old (dropped n rows) r.0
-              (λ x l e. both_ways (has (map (λ q. q.copy) old) c) p.1 (subst (λ (k : ℕ). has (map (λ q. q.copy) old) k ≡ true) (sym e ∙ r.2) (has_number old x l)))
-              (in_dropped_other n rows r.0 r.1 (λ e. eqb-false n c p.0 (sym e ∙ r.2))) in
-              subst (λ (k : ℕ). lives new k ≡ true) r.2 (lives_from new r.0 in_new r.3)
-          | inr back ↦ absurd (both_ways (has (n ∷ map (λ q. q.copy) old) c) f (living_number old n c back))
+              subst (λ (k : ℕ). lives new k ≡ true) r.2 (lives_from new r.0 (stays_in news rows r.0 (ap (has (map number_of news)) r.2 ∙ f) r.1) r.3)
+          | inr new ↦ absurd (both_ways (has (map number_of news) c) f new)
         ]
       ]),
       λ here.
           let r = living_at new c here in
-          let inside : Contains p1.copies c = elim (in_all old (dropped n rows) r.0 (rising_dropped 0 n rows up) r.1) [
-            | inl i ↦ b.there c (subst (λ (k : ℕ). lives old k ≡ true) r.2 (lives_from old r.0 i r.3))
-            | inr k ↦ b.grown.more c ((b.paired.copies c).1 (subst (λ (k : ℕ). lives rows k ≡ true) r.2 (lives_from rows r.0 (in_dropped n rows r.0 k.0).0 r.3)))
+          let inside : Contains p1.copies c = elim (in_exchanged news rows r.0 up r.1) [
+            | inl k ↦ subst (Contains p1.copies) r.2 (b.there k.0 r.0 k.1 k.2 r.3)
+            | inr i ↦ b.grown.more c ((b.paired.copies c).1 (subst (λ (k : ℕ). lives rows k ≡ true) r.2 (lives_from rows r.0 i r.3)))
           ] in
           b.shrunk.kept c inside (λ t. here),
     )
 
-pub back_compared : (rows old : List StampRow) (n : ℕ) (p0 p1 p2 : Table) → IsRising 0 rows → Back rows old (put_all old (dropped n rows)) (n ∷ map (λ q. q.copy) old) p0 p1 p2
-    → AreCompared (n ∷ map (λ q. q.copy) old) (put_all old (dropped n rows)) p2
-back_compared rows old n p0 p1 p2 up b r q i j free free' ne out out' =
-    let new : List StampRow = put_all old (dropped n rows) in
-    let was : (x : StampRow) → In x new → has (n ∷ map (λ s. s.copy) old) x.copy ≡ false → In x rows = λ x l o. elim (in_all old (dropped n rows) x (rising_dropped 0 n rows up) l) [
-      | inl k ↦ absurd (both_ways (has (n ∷ map (λ s. s.copy) old) x.copy) o (or_right (n == x.copy) (has (map (λ s. s.copy) old) x.copy) (has_number old x k)))
-      | inr k ↦ (in_dropped n rows x k.0).0
+pub crossed_compared : (news : List Exchange) (rows : List StampRow) (p0 p1 p2 : Table) → IsRising 0 rows → Crossed news rows p0 p1 p2 → AreCompared (map number_of news) (exchanged_all news rows) p2
+crossed_compared news rows p0 p1 p2 up b r q i j free free' ne out out' =
+    let new : List StampRow = exchanged_all news rows in
+    let was : (x : StampRow) → In x new → has (map number_of news) x.copy ≡ false → In x rows = λ x l o. elim (in_exchanged news rows x up l) [
+      | inl k ↦ absurd (both_ways (has (map number_of news) x.copy) o (has_number_in news k.0 x k.1 k.2))
+      | inr k ↦ k
     ] in
     agreeing rows p0 p1 p2 r q b.paired b.grown.more b.grown.same b.shrunk.same (was r i out) (was q j out') free free' ne
-    ((back_copies rows old n p0 p1 p2 up b r.copy).1 (lives_from new r i free)) ((back_copies rows old n p0 p1 p2 up b q.copy).1 (lives_from new q j free'))
+    ((crossed_copies news rows p0 p1 p2 up b r.copy).1 (lives_from new r i free)) ((crossed_copies news rows p0 p1 p2 up b q.copy).1 (lives_from new q j free'))
 
 -- A copy's row is changed.
 
@@ -229,26 +274,6 @@ renewed_compared c f rows pairs but keeps events p x y i j free free' ne out out
           (named, ap (λ (w : StampRow). w.holder) here ∙ (keeps r).1, ap (λ (w : StampRow). w.stamp.event) here ∙ events r (eqb-true r.copy c t) (ap (has but) (sym named) ∙ o))
       | inr t ↦ let here : x ≡ r = is ∙ ap (λ (b : Bool). cond b (f r) r) t in (ap (λ (w : StampRow). w.copy) here, ap (λ (w : StampRow). w.holder) here, ap (λ (w : StampRow). w.stamp.event) here)
     ]
-
--- a copy that was put in and taken out again
-pub put_back_out : (rows : List StampRow) (n : ℕ) (row : ℕ → Rel) (p0 p1 p2 : Table) → ArePaired rows p0 → AreBefore n rows → p1.copies ≡ with_copy n p0.copies → Holds p1 (with_row n row (rel_of p0))
-    → p2.copies ≡ without n p1.copies → Holds p2 (rel_of p1) → ArePaired rows p2
-put_back_out rows n row p0 p1 p2 p before are holds less same =
-    let gone : ¬ Contains p0.copies n = λ here. let r = living_at rows n ((p.copies n).0 here) in omega (arith, (before r.0 r.1).0, r.2) in
-    let g : IsGrownBy n p0 p1 = put_one n row p0 p1 gone are holds in
-    let copies : (c : ℕ) → Contains p2.copies c ↔ (lives rows c ≡ true) = λ c. (
-      (λ here. let k = in_without_copy n c p1.copies (subst (λ (cs : List ℕ). Contains cs c) less here) in elim (g.from c k.0) [
-        | inl was ↦ (p.copies c).0 was
-        | inr e ↦ absurd (k.1 e)
-      ]),
-      λ here.
-          let was : Contains p0.copies c = (p.copies c).1 here in
-          subst (λ (cs : List ℕ). Contains cs c) (sym less) (without_other n c p1.copies (g.more c was) (λ e. gone (subst (Contains p0.copies) e was))),
-    ) in
-    record {
-      copies = copies;
-      rels = λ r q i j free free' ne. agreeing rows p0 p1 p2 r q p g.more g.same (λ a b here there. same a b here there) i j free free' ne ((copies r.copy).1 (lives_from rows r i free)) ((copies q.copy).1 (lives_from rows q j free'));
-    }
 
 -- where all copies are to be compared, nothing is asked of the table
 pub none_compared : (rows : List StampRow) (pairs : Table) (numbers : List ℕ) → numbers ≡ map (λ r. r.copy) (copy_rows rows) → AreCompared numbers rows pairs

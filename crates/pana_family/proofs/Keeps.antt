@@ -86,9 +86,6 @@ free_passed : (c h : ℕ) (o : Option ℕ) → is_copy (passed c h o) ≡ is_cop
 free_passed c h None = refl
 free_passed c h (Some k) = elim (k == c) as (λ b. is_copy (cond b (Some h) (Some k)) ≡ false) [ true ↦ refl | false ↦ refl ]
 
-pub pass : ℕ → ℕ → StampRow → StampRow
-pass c h r = record { copy = r.copy; holder = passed c h r.holder; stamp = r.stamp; touch = r.touch }
-
 copies_passed : (c h : ℕ) (rows : List StampRow) → length (copy_rows (passed_rows c h rows)) ≡ length (copy_rows rows)
 copies_passed c h [] = refl
 copies_passed c h (r ∷ rows) =

@@ -9,6 +9,7 @@ pub mod Places
 pub mod Held
 pub mod Owners
 pub mod Backs
+pub mod Inverses
 pub mod Keeps
 pub mod Written
 pub mod BySets
@@ -17,7 +18,6 @@ pub mod Reports
 pub mod Gathers
 pub mod Exchanges
 pub mod Settlements
-pub mod Exchanged
 pub mod Pairs
 pub mod Heirs
 pub mod Searches
@@ -29,3 +29,5 @@ pub mod Joined
 pub mod Texts
 pub mod Depths
 pub mod NewFamily
+pub mod Prepared
+pub mod Sending

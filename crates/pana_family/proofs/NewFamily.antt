@@ -1,11 +1,10 @@
 -- What follows for a family that an entry begins: it has one copy, which the entry touched, and the entry is pending.
-use Rattle.std.specs.Prelude.{◌≡◌, ◌↔◌, ℕ, Bool, true, false, cond, not, ◌==◌, ◌&&◌, ◌||◌, List, [], ◌∷◌, length, None}
+use Rattle.std.specs.Prelude.{◌≡◌, ◌↔◌, ℕ, Bool, true, false, cond, not, ◌==◌, ◌&&◌, ◌||◌, List, [], ◌∷◌, length}
 use Rattle.std.proofs.Common.{refl, sym, ap, subst, ◌∙◌, inl, inr}
 use Rattle.std.proofs.lemmas.Bool.{eqb-true, eq-eqb}
 use Rattle.pana_id.specs.Id.{is_single}
 use Rattle.pana_event.specs.declared.rel.Rel.TheVariants.{Equal}
 use Rattle.pana_family.specs.Relation.{relation}
-use Rattle.pana_family.specs.Holders.{is_copy}
 use Rattle.pana_family.specs.Table.{Known, copies_of, set_in, touch_in}
 use Rattle.pana_family.specs.Stands.{AreSame}
 use Rattle.pana_family.specs.Rows.{seed_row, id_in}

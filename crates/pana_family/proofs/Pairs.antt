@@ -6,9 +6,9 @@ use Rattle.pana_event.specs.Event.{Event, IsNormal, depth as height}
 use Rattle.pana_event.specs.Order.{is_leq}
 use Rattle.pana_family.specs.declared.row.StampRow.{StampRow}
 use Rattle.pana_family.specs.Holders.{leave, is_held}
-use Rattle.pana_family.specs.Table.{Known, In, reconciled, merged, AreBelow}
-use Rattle.pana_family.specs.Rows.{IsRising, AreBefore, dropped, put_all}
-use Rattle.pana_family.specs.inner.Making.{settled_rows, AreGone, ends_from, goes, IsOwn, AreSettled, IsGathered, IsSettled, AreReconciled, AreMerged, AreParts}
+use Rattle.pana_family.specs.Table.{In}
+use Rattle.pana_family.specs.Rows.{IsRising, AreBefore}
+use Rattle.pana_family.specs.inner.Making.{settled_rows, ends_from, IsOwn, IsGathered, IsSettled, AreReconciled, AreMerged, AreParts}
 use Rattle.pana_family.specs.Rows.{replaced}
 use Rattle.pana_family.specs.Kept.{IsKept}
 use Rattle.pana_family.proofs.Members.{in_replaced, one_row}
@@ -17,8 +17,7 @@ use Rattle.pana_family.proofs.Parcels.{in_leave, stays_in, not_held}
 use Rattle.pana_family.proofs.Owners.{in_new}
 use Rattle.pana_family.proofs.Keeps.{KeptBut, reconcile_kept, merge_kept}
 use Rattle.pana_family.proofs.Gathers.{settled_in}
-use Rattle.pana_family.proofs.Reports.{Reported, reconciles, merges}
-use Rattle.pana_family.proofs.Settlements.{settled_two, two_numbered, exchanged_back, free_stays}
+use Rattle.pana_family.proofs.Settlements.{free_stays}
 
 -- the rows with two others in the place of a's and b's
 abbrev pub paired : List StampRow → StampRow → StampRow → StampRow → StampRow → List StampRow
@@ -134,52 +133,6 @@ second_settled rows a b x y p q w one two =
       ]
     ])
 
--- a report, and that the rows from before come back
-pub record Done (rows new gone : List StampRow) (n : ℕ) (change : List Known → List Known) (Fine : List Known → Type 0) : Type 0 where
-  pub reported : Reported rows new change Fine
-  pub back : put_all gone (dropped n new) ≡ rows
-
--- the exchange of a pair is that of settling both in turn
-pair_done : (rows new gone : List StampRow) (a b x y p q : StampRow) (n : ℕ) (change : List Known → List Known) (Fine : List Known → Type 0) → ArePair rows a b x y → AreBefore n rows
-    → IsGathered None rows x p → IsGathered None rows y q → new ≡ put_all (p ∷ q ∷ []) (leave (goes None (p ∷ q ∷ [])) rows) → AreGone (goes None (p ∷ q ∷ [])) rows gone
-    → Reported rows (settled_rows q (ends_from None y) (settled_rows p (ends_from None x) (paired rows a b x y))) change Fine → Done rows new gone n change Fine
-pair_done rows new gone a b x y p q n change Fine w before one two is are all = record {
-  reported = subst (λ l. Reported rows l change Fine)
-      (sym (is ∙ settled_two rows a b x y p q w.rising w.first w.second w.free w.other_free w.differ w.named w.holder w.other_named w.other_holder one two)) all;
-  back = ap (λ l. put_all gone (dropped n l)) is
-      ∙ exchanged_back (goes None (p ∷ q ∷ [])) rows (p ∷ q ∷ []) gone n w.rising before (two_numbered rows a b p q n w.first w.second (one.copy ∙ w.named) (two.copy ∙ w.other_named)) are;
-}
-
-pub reconcile_pair : (rows : List StampRow) (a b x y : StampRow) (n : ℕ) → IsKept rows → In a rows → In b rows → a.holder ≡ None → b.holder ≡ None → a.copy ≢ b.copy → AreReconciled a b x y n
-    → x.holder ≡ a.holder → y.holder ≡ b.holder → ArePair rows a b x y
-reconcile_pair rows a b x y n k i j free free' differ done also also' = record {
-  rising = k.rising;
-  first = i;
-  second = j;
-  free = free;
-  other_free = free';
-  differ = differ;
-  named = done.parts.copy;
-  other_named = done.parts.other_copy;
-  holder = also;
-  other_holder = also';
-}
-
-pub merge_pair : (rows : List StampRow) (a b x y : StampRow) (n : ℕ) → IsKept rows → In a rows → In b rows → a.holder ≡ None → b.holder ≡ None → a.copy ≢ b.copy → AreMerged a b x y n
-    → x.holder ≡ a.holder → y.holder ≡ b.holder → ArePair rows a b x y
-merge_pair rows a b x y n k i j free free' differ done also also' = record {
-  rising = k.rising;
-  first = i;
-  second = j;
-  free = free;
-  other_free = free';
-  differ = differ;
-  named = done.parts.copy;
-  other_named = done.parts.other_copy;
-  holder = also;
-  other_holder = also';
-}
-
 pub reconciled_kept : (rows : List StampRow) (a b x y : StampRow) (n : ℕ) → IsKept rows → AreBefore n rows → ArePair rows a b x y → AreReconciled a b x y n → KeptBut (λ k. (k ≡ a.copy) ⊎ (k ≡ b.copy)) (paired rows a b x y)
 reconciled_kept rows a b x y n k before w done =
     let v : AreParts a b x y n done.whole = done.parts in
@@ -191,17 +144,3 @@ merged_kept rows a b x y n k before w done =
     let v : AreParts a b x y n done.updated = done.parts in
     merge_kept rows a b x y done.whole done.updated n k before w.first w.second w.free w.other_free w.differ v.copy w.holder v.touch v.event v.other_copy w.other_holder v.other_touch v.other_event
     done.joined.summed done.joined.levels done.joined.high done.id done.raised v.parted
-
-pub reconciled_done : (rows new gone : List StampRow) (a b x y : StampRow) (n : ℕ) → IsKept rows → AreBefore n rows → ArePair rows a b x y → AreReconciled a b x y n → AreSettled rows x y new gone
-    → Done rows new gone n (reconciled n a.copy b.copy) (λ table. Unit {0})
-reconciled_done rows new gone a b x y n k before w done s =
-    pair_done rows new gone a b x y s.first s.second n (reconciled n a.copy b.copy) (λ table. Unit {0}) w before s.one s.two s.new_is s.gone_are
-    (reconciles rows a b x y s.first s.second n (ends_from None x) (ends_from None y) k before w.first w.second w.free w.other_free w.differ w.holder w.other_holder done
-    (first_settled rows a b x y s.first s.second w s.one s.two) (second_settled rows a b x y s.first s.second w s.one s.two))
-
-pub merged_done : (rows new gone : List StampRow) (a b x y : StampRow) (n : ℕ) → IsKept rows → AreBefore n rows → ArePair rows a b x y → AreMerged a b x y n → AreSettled rows x y new gone
-    → Done rows new gone n (merged n a.copy b.copy) (AreBelow n)
-merged_done rows new gone a b x y n k before w done s =
-    pair_done rows new gone a b x y s.first s.second n (merged n a.copy b.copy) (AreBelow n) w before s.one s.two s.new_is s.gone_are
-    (merges rows a b x y s.first s.second n (ends_from None x) (ends_from None y) k before w.first w.second w.free w.other_free w.differ w.holder w.other_holder done
-    (first_settled rows a b x y s.first s.second w s.one s.two) (second_settled rows a b x y s.first s.second w s.one s.two))

@@ -153,18 +153,6 @@ renewed_back c f x (q ∷ rows) named one =
 abbrev pub index_from : ℕ → List StampRow → ℕ
 index_from copy rows = position_or_len (λ row. nat_le copy row.copy) rows
 
-pub put_back_set : (x d : StampRow) (rows : List StampRow) → index_from x.copy rows < length rows → (get_or rows (index_from x.copy rows) d).copy ≡ x.copy
-    → set rows (index_from x.copy rows) x ≡ put_back x rows
-put_back_set x d [] within at = absurd (omega arith)
-put_back_set x d (r ∷ rows) within at =
-    let next : 1 + index_from x.copy rows ≡ suc (index_from x.copy rows) = omega arith in
-    elim (nat_le x.copy r.copy) as (λ b. nat_le x.copy r.copy ≡ b → cond (not b) (1 + index_from x.copy rows) 0 < suc (length rows)
-    → (get_or (r ∷ rows) (cond (not b) (1 + index_from x.copy rows) 0) d).copy ≡ x.copy
-    → set (r ∷ rows) (cond (not b) (1 + index_from x.copy rows) 0) x ≡ put_back x (r ∷ rows)) [
-      | true ↦ λ w h e. sym (ap (λ (b : Bool). cond b (x ∷ rows) (cond (nat_lt x.copy r.copy) (x ∷ (r ∷ rows)) (r ∷ put_back x rows))) (eq-eqb r.copy x.copy e))
-      | false ↦ λ w h. rw next (λ e. ap (λ (l : List StampRow). r ∷ l) (put_back_set x d rows (omega arith) e) ∙ sym (put_back_later x r rows (leb-false x.copy r.copy w)))
-    ] refl within at
-
 pub put_back_insert : (x d : StampRow) (rows : List StampRow) → (index_from x.copy rows < length rows → (get_or rows (index_from x.copy rows) d).copy ≢ x.copy)
     → insert rows (index_from x.copy rows) x ≡ put_back x rows
 put_back_insert x d [] other = refl

@@ -1,17 +1,18 @@
 -- A copy's row goes, and its id is added to its source's.
 use Rattle.std.specs.Prelude.{◌≡◌, ℕ, true, false, cond, ◌==◌, List, [], ◌∷◌}
-use Rattle.std.proofs.Common.{refl, sym, ap, ◌∙◌}
+use Rattle.std.proofs.Common.{refl, sym, ap, ◌∙◌, inl, inr}
 use Rattle.std.proofs.lemmas.Bool.{false_from_ne_true, or_parts}
 use Rattle.pana_id.specs.Id.{Id, zero_id, one_id, pair, sum_of}
 use Rattle.pana_rel.specs.Pairs.{Table}
 use Rattle.pana_family.specs.declared.row.StampRow.{StampRow}
 use Rattle.pana_family.specs.Rows.{IsRising, dropped, id_in, lives, rejoined, renewed, summed, there}
+use Rattle.pana_family.specs.declared.change.Exchange.TheVariants.{Take}
 use Rattle.pana_family.specs.Paired.{ArePaired}
 use Rattle.pana_family.specs.inner.Comparing.{AreCompared, IsShrunk}
 use Rattle.pana_family.proofs.Members.{in_dropped}
 use Rattle.pana_family.proofs.Heirs.{living_at}
 use Rattle.pana_family.proofs.Compared.{gone_compared}
-use Rattle.pana_family.proofs.Joined.{Back, back_compared, back_copies, none_grown, renewed_compared, renewed_copies, renewed_lives}
+use Rattle.pana_family.proofs.Joined.{Crossed, crossed_compared, crossed_copies, renewed_compared, renewed_copies, renewed_lives}
 
 sum_zero : (i : Id) → sum_of i zero_id ≡ i
 sum_zero zero_id = refl
@@ -44,10 +45,10 @@ pub rejoined_paired : (rows : List StampRow) (n source : ℕ) (old new : Table) 
 rejoined_paired rows n source old new up p s =
     let less : List StampRow = dropped n rows in
     let f : StampRow → StampRow = summed (id_in rows n) in
-    let b : Back rows [] less (n ∷ []) old old new = record {
+    let b : Crossed (Take n ∷ []) rows old old new = record {
       paired = p;
-      grown = none_grown [] old;
-      there = λ c here. let wrong : false ≡ true = here in absurd (cc wrong);
+      grown = record { more = λ c here. here; from = λ c here. inl here; same = λ a b here there. refl };
+      there = λ x r i is free. elim i [ inl e ↦ absurd (cc (is, e)) | inr never ↦ absurd never ];
       shrunk = record {
         kept = λ c here stays. s.kept c here (λ t. renewed_lives source f less c (λ r. (refl, refl)) ∙ stays t);
         from = λ c here. let k = s.from c here in (k.0, λ t. sym (renewed_lives source f less c (λ r. (refl, refl))) ∙ k.1 t);
@@ -55,9 +56,9 @@ rejoined_paired rows n source old new up p s =
       };
     } in
     let gone : lives less n ≡ false = false_from_ne_true (lives less n) (λ h. let r = living_at less n h in (in_dropped n rows r.0 r.1).1 r.2) in
-    let compared : AreCompared [] less new = gone_compared less new n [] gone (back_compared rows [] n old old new up b) in
+    let compared : AreCompared [] less new = gone_compared less new n [] gone (crossed_compared (Take n ∷ []) rows old old new up b) in
     let paired : ArePaired less new = record {
-      copies = back_copies rows [] n old old new up b;
+      copies = crossed_copies (Take n ∷ []) rows old old new up b;
       rels = λ r q i j free free' ne. compared r q i j free free' ne refl refl;
     } in
     record {

@@ -13,19 +13,13 @@ use Rattle.pana_family.specs.Rows.{dropped, AreBefore, OwnSame, deepest}
 use Rattle.pana_family.specs.inner.Making.{passed_rows, settled_rows, IsWrapped, IsSettled, AreParts, AreReconciled, AreMerged}
 use Rattle.pana_family.specs.Rows.{replaced}
 use Rattle.pana_family.specs.Kept.{IsKept}
+use Rattle.pana_family.specs.inner.Reporting.{Reported}
 use Rattle.pana_family.proofs.Places.{in_replaced_other, in_dropped_other, deepest_in, deepest_replaced, deepest_dropped, deepest_pushed}
 use Rattle.pana_family.proofs.Members.{in_left}
 use Rattle.pana_family.proofs.Parcels.{stays_in, wrap_stands, pass_stands, settle_stands, not_held}
 use Rattle.pana_family.proofs.Owners.{in_new, own_then, own_united, own_wrapped, own_passed, own_settled, deepest_passed, deepest_settled}
 use Rattle.pana_family.proofs.Changes.{reconcile_stands, merge_in_table}
 use Rattle.pana_family.proofs.Keeps.{KeptBut, kept_from, wrap_kept, settle_kept, reconcile_kept, merge_kept}
-
--- what a report leaves, where all tables are fine that it asks for
-pub record Reported (rows new : List StampRow) (change : List Known → List Known) (Fine : List Known → Type 0) : Type 0 where
-  pub kept : IsKept new
-  pub deep : deepest new ≤ deepest rows
-  pub owned : OwnSame rows new
-  pub stands : (table : List Known) → StandsFor rows table → Fine table → StandsFor new (change table)
 
 copy_stays : (rows : List StampRow) (h x r : StampRow) (ending : StampRow → Bool) → IsSettled rows h x ending → In r rows → r.holder ≡ None → ending r ≡ false
 copy_stays rows h x r ending done i free =

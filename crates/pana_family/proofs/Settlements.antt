@@ -7,15 +7,15 @@ use Rattle.pana_event.specs.Event.{Event}
 use Rattle.pana_family.specs.declared.row.StampRow.{StampRow}
 use Rattle.pana_family.specs.Holders.{leave, is_held}
 use Rattle.pana_family.specs.Table.{In}
-use Rattle.pana_family.specs.Rows.{IsRising, AreBefore, dropped, put_all}
-use Rattle.pana_family.specs.inner.Making.{settled_rows, lost_rows, AreGone, is_bound, ends_from, settles, goes, IsGathered}
+use Rattle.pana_family.specs.Rows.{IsRising, AreBefore, put_all}
+use Rattle.pana_family.specs.inner.Making.{settled_rows, lost_rows, is_bound, ends_from, settles, goes, IsGathered}
 use Rattle.pana_family.specs.Rows.{replaced}
 use Rattle.pana_family.proofs.Members.{in_replaced, one_row}
 use Rattle.pana_family.proofs.Places.{in_replaced_other, rising_replaced}
 use Rattle.pana_family.proofs.Parcels.{in_leave, stays_in, not_held}
 use Rattle.pana_family.proofs.Owners.{in_new}
 use Rattle.pana_family.proofs.Keeps.{rising_leave}
-use Rattle.pana_family.proofs.Backs.{same_rows, in_all, all_old, all_other, rising_all, gives_back}
+use Rattle.pana_family.proofs.Backs.{same_rows, in_all, all_old, all_other, rising_all}
 use Rattle.pana_family.proofs.Exchanges.{leave_agree}
 
 -- each new row has number n or that of a row that goes
@@ -29,22 +29,6 @@ not_new test rows news n up before numbered r i stays x j e = elim (numbered x j
   | inl is ↦ omega (arith, (before r i).0, is, e)
   | inr m ↦ both_ways (test r) stays (ap test (one_row 0 rows r m.0 up i m.1 (e ∙ sym m.3)) ∙ m.2)
 ]
-
--- the rows from before come back
-pub exchanged_back : (test : StampRow → Bool) (rows news gone : List StampRow) (n : ℕ) → IsRising 0 rows → AreBefore n rows → Numbered test rows n news → AreGone test rows gone
-    → put_all gone (dropped n (put_all news (leave test rows))) ≡ rows
-exchanged_back test rows news gone n up before numbered are =
-    let down : IsRising 0 (leave test rows) = rising_leave 0 test rows up in
-    gives_back rows (put_all news (leave test rows)) gone n up (rising_all news (leave test rows) down) (λ r i e. omega (arith, (before r i).0, e))
-    (λ x i. (are.were x i).0)
-    (λ r i. elim (cases_Bool (test r)) [
-      | inl t ↦ inl (are.all r i t)
-      | inr t ↦ inr (all_other news (leave test rows) r (not_new test rows news n up before numbered r i t) (stays_in test rows r i t))
-    ])
-    (λ q i. elim (in_all news (leave test rows) q down i) [
-      | inl j ↦ elim (numbered q j) [ inl e ↦ inl e | inr m ↦ inr (inr (m.0, are.all m.0 m.1 m.2, m.3)) ]
-      | inr k ↦ inr (inl (in_leave test rows q k.0).0)
-    ])
 
 -- A settled row ends what the row before ended.
 
@@ -151,15 +135,6 @@ settled_two rows a b x y p q up i j free free' differ named also named' also' on
         | inr never ↦ absurd never
       ]
     ]
-
-pub two_numbered : (rows : List StampRow) (a b p q : StampRow) (n : ℕ) → In a rows → In b rows → p.copy ≡ a.copy → q.copy ≡ b.copy → Numbered (goes None (p ∷ q ∷ [])) rows n (p ∷ q ∷ [])
-two_numbered rows a b p q n i j named named' w h = elim h [
-  | inl e ↦ inr (a, i, or_left (settles None p a) (settles None q a || false) (or_left (a.copy == p.copy) (ends_from None p a) (eq-eqb a.copy p.copy (sym named))), sym named ∙ ap (λ (z : StampRow). z.copy) (sym e))
-  | inr g ↦ elim g [
-    | inl e ↦ inr (b, j, or_right (settles None p b) (settles None q b || false) (or_left (settles None q b) false (or_left (b.copy == q.copy) (ends_from None q b) (eq-eqb b.copy q.copy (sym named')))), sym named' ∙ ap (λ (z : StampRow). z.copy) (sym e))
-    | inr never ↦ absurd never
-  ]
-]
 
 -- A copy is lost.
 

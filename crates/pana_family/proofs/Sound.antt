@@ -326,10 +326,6 @@ edit_keeps P c n r x xs0 sound there same raised new =
 
 -- Two copies that learn all that either knows.
 
-or_assoc : (a b c : Bool) → (a || (b || c)) ≡ ((a || b) || c)
-or_assoc true b c = refl
-or_assoc false b c = refl
-
 reaches : (v m n : ℕ) → v ≤ max m n → (v ≤ m) ⊎ (v ≤ n)
 reaches v m n h = elim (cases_lt m v) [ inl lt ↦ inr (omega arith) | inr le ↦ inl le ]
 

@@ -8,17 +8,17 @@ use Rattle.pana_event.specs.Event.{Event, greatest}
 use Rattle.pana_stamp.specs.Raised.{IsRaised}
 use Rattle.pana_stamp.specs.declared.stamp.Stamp.{Stamp}
 use Rattle.pana_family.specs.declared.row.StampRow.{StampRow}
-use Rattle.pana_family.specs.Table.{Known, In, duplicated, edited, touched, AreBelow}
+use Rattle.pana_family.specs.Table.{Known, In, duplicated, touched}
 use Rattle.pana_family.specs.Stands.{StandsFor}
-use Rattle.pana_family.specs.Rows.{row, row_in, duplicated_rows, IsUpdate, AreEdited, dropped, AreBefore, id_in, rejoined, renewed, retouched, reverted, stamp, summed, deepest, copy_rows, OwnSame}
+use Rattle.pana_family.specs.Rows.{row, row_in, duplicated_rows, dropped, AreBefore, id_in, rejoined, renewed, retouched, stamp, summed, deepest, copy_rows, OwnSame}
 use Rattle.pana_family.specs.inner.Making.{IsShared}
 use Rattle.pana_family.specs.Rows.{replaced}
 use Rattle.pana_family.specs.Kept.{IsKept}
 use Rattle.pana_family.proofs.Members.{in_replaced, one_row}
 use Rattle.pana_family.proofs.Places.{row_found, in_read, dropped_last, id_found, renewed_back, deepest_in, deepest_replaced, deepest_pushed}
-use Rattle.pana_family.proofs.Keeps.{set_here, edit_kept, duplicate_kept, touch_kept}
+use Rattle.pana_family.proofs.Keeps.{set_here, duplicate_kept, touch_kept}
 use Rattle.pana_family.proofs.Owners.{own_replaced, own_shared}
-use Rattle.pana_family.proofs.Changes.{edit_stands, duplicate_stands, touch_stands}
+use Rattle.pana_family.proofs.Changes.{duplicate_stands, touch_stands}
 
 -- the row of a copy at its place
 pub record IsRowAt (rows : List StampRow) (at copy : ℕ) (r : StampRow) : Type 0 where
@@ -40,65 +40,14 @@ row_at rows seen at copy r same within here free read =
       free = ap (λ (q : StampRow). q.holder) read ∙ subst (λ (l : List StampRow). (get_or l at r).holder ≡ None) same (free r);
     }
 
-pub owns_some : (rows : List StampRow) (at copy : ℕ) (r : StampRow) → IsKept rows → IsRowAt rows at copy r → is_zero r.stamp.id ≡ false
-owns_some rows at copy r k here = k.stands.owning r here.row
-
-pub has_room : (rows : List StampRow) (at copy n : ℕ) (r : StampRow) → IsKept rows → AreBefore n rows → IsRowAt rows at copy r → greatest r.stamp.event + 1 ≤ n
-has_room rows at copy n r k before here = omega (arith, k.levels r here.row, (before r here.row).1)
-
 abbrev pub full : ℕ → Option ℕ → Stamp → ℕ → StampRow
 full copy holder stamp touch = record { copy = copy; holder = holder; stamp = stamp; touch = touch }
 
-same_row : (x : StampRow) (copy touch : ℕ) (i : Id) (e : Event) → x.copy ≡ copy → x.holder ≡ None → x.stamp.id ≡ i → x.stamp.event ≡ e → x.touch ≡ touch → x ≡ row copy (stamp i e) touch
+pub same_row : (x : StampRow) (copy touch : ℕ) (i : Id) (e : Event) → x.copy ≡ copy → x.holder ≡ None → x.stamp.id ≡ i → x.stamp.event ≡ e → x.touch ≡ touch → x ≡ row copy (stamp i e) touch
 same_row x copy touch i e named free owner event touched =
     ap (λ (c : ℕ). full c x.holder x.stamp x.touch) named ∙ ap (λ (o : Option ℕ). full copy o x.stamp x.touch) free
     ∙ ap (λ (j : Id). full copy None (stamp j x.stamp.event) x.touch) owner ∙ ap (λ (f : Event). full copy None (stamp i f) x.touch) event
     ∙ ap (λ (t : ℕ). full copy None (stamp i e) t) touched
-
-pub record Edits (rows new : List StampRow) (n copy : ℕ) (event : Event) (touch : ℕ) : Type 0 where
-  pub kept : IsKept new
-  pub deep : deepest new ≤ deepest rows
-  pub owned : OwnSame rows new
-  pub stands : (table : List Known) → StandsFor rows table → AreBelow n table → StandsFor new (edited n copy table)
-  pub exact : AreEdited n copy rows new
-  pub back : reverted copy event touch new ≡ rows
-
-pub edits : (rows value : List StampRow) (at copy n : ℕ) (r x : StampRow) (event : Event) (touch : ℕ) → rows ≡ value → IsKept rows → AreBefore n rows → IsRowAt rows at copy r
-    → x.copy ≡ r.copy → x.holder ≡ r.holder → x.touch ≡ n → x.stamp.id ≡ r.stamp.id → IsRaised r.stamp.id r.stamp.event x.stamp.event → IsUpdate r.stamp.id r.stamp.event x.stamp.event → event ≡ r.stamp.event → touch ≡ r.touch
-    → Edits value (set rows at x) n copy event touch
-edits rows value at copy n r x event touch same k before here named also touched owner raised update event_is touch_is =
-    let written : set rows at x ≡ replaced r.copy x rows = set_here rows at r x k.rising here.within here.read in
-    subst (λ (l : List StampRow). Edits l (set rows at x) n copy event touch) same
-    record {
-      kept = subst IsKept (sym written) (edit_kept rows r x n k before here.row here.free named also touched owner raised);
-      deep = omega (arith, ap deepest written, deepest_replaced r.copy x rows, deepest_in rows r here.row, ap depth owner);
-      stands = λ table st below. subst (λ (l : List StampRow). StandsFor l (edited n copy table)) (sym written)
-          (subst (λ (c : ℕ). StandsFor (replaced r.copy x rows) (edited n c table)) here.named (edit_stands rows table r x n st k.rising here.row named also touched owner raised below));
-      owned = subst (OwnSame rows) (sym written) (own_replaced rows r x k.rising here.row owner);
-      exact =
-          let found : row_in rows copy ≡ r = ap (row_in rows) (sym here.named) ∙ row_found 0 r rows k.rising here.row in
-          record {
-            event = x.stamp.event;
-            update = subst (λ (q : StampRow). IsUpdate q.stamp.id q.stamp.event x.stamp.event) (sym found) update;
-            rows_are = written ∙ ap (λ (c : ℕ). replaced c x rows) here.named
-                ∙ ap (λ (q : StampRow). replaced copy q rows) (same_row x copy n r.stamp.id x.stamp.event (named ∙ here.named) (also ∙ here.free) owner refl touched)
-                ∙ ap (λ (q : StampRow). replaced copy (row copy (stamp q.stamp.id x.stamp.event) n) rows) (sym found);
-          };
-      back = ap (reverted copy event touch) written ∙ ap (λ (c : ℕ). reverted c event touch (replaced r.copy x rows)) (sym here.named)
-          ∙ renewed_back r.copy (λ q. record { copy = q.copy; holder = q.holder; stamp = record { id = q.stamp.id; event = event }; touch = touch }) x rows named
-          (λ q i e. event_back x r event touch named also owner event_is touch_is ∙ one_row 0 rows r q k.rising here.row i (sym e));
-    }
-  where
-    event_back : (x r : StampRow) (event : Event) (touch : ℕ) → x.copy ≡ r.copy → x.holder ≡ r.holder → x.stamp.id ≡ r.stamp.id → event ≡ r.stamp.event → touch ≡ r.touch
-        → ◌≡◌ {A = StampRow} (record { copy = x.copy; holder = x.holder; stamp = record { id = x.stamp.id; event = event }; touch = touch }) r
-    event_back x r event touch named also owner event_is touch_is =
-        ap (λ (c : ℕ). full c x.holder (stamp x.stamp.id event) touch) named ∙ ap (λ (o : Option ℕ). full r.copy o (stamp x.stamp.id event) touch) also
-        ∙ ap (λ (i : Id). full r.copy r.holder (stamp i event) touch) owner ∙ ap (λ (e : Event). full r.copy r.holder (stamp r.stamp.id e) touch) event_is
-        ∙ ap (λ (t : ℕ). full r.copy r.holder r.stamp t) touch_is
-
--- two reads of one place
-pub same_read : (rows : List StampRow) (at : ℕ) (r q : StampRow) → at < length rows → r ≡ get_or rows at r → q ≡ get_or rows at q → r ≡ q
-same_read rows at r q within a b = a ∙ get_or_default rows at r q within ∙ sym b
 
 whole_again : (x r : StampRow) (i : Id) → x.copy ≡ r.copy → x.holder ≡ r.holder → x.stamp.event ≡ r.stamp.event → x.touch ≡ r.touch → sum_of x.stamp.id i ≡ r.stamp.id → summed i x ≡ r
 whole_again x r i named also event touched whole =

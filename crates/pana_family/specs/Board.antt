@@ -1,42 +1,32 @@
 -- The board of a family, from its table of sets.
-use Rattle.std.specs.Prelude.{ℕ, Bool, ◌==◌, ◌&&◌, not, List, map, filter, count_by}
-use Rattle.std.specs.List.{list_any}
+use Rattle.std.specs.Prelude.{ℕ, Bool, List, map}
 use Rattle.pana_event.specs.declared.rel.Rel.{Rel}
-use Rattle.pana_event.specs.declared.rel.Rel.TheVariants.{Equal, Older, Newer, Conflict}
+use Rattle.pana_rel.specs.declared.counts.Counts.{Counts}
+use Rattle.pana_rel.specs.Board.{counts_of, is_split, newest_of}
 use Rattle.pana_family.specs.declared.board.CopyCounts.{CopyCounts}
-use Rattle.pana_family.specs.Relation.{relation, is_rel}
+use Rattle.pana_family.specs.Relation.{relation}
 use Rattle.pana_family.specs.Table.{Known, copies_of}
 
--- whether the other is another copy, and relates to this one so
-abbrev pub relates : Rel → Known → Known → Bool
-relates rel t s = not (s.copy == t.copy) && is_rel (relation s.set t.set) rel
+-- how a copy relates to another, by their sets
+abbrev pub known_relation : Known → Known → Rel
+known_relation t s = relation t.set s.set
 
--- a copy's counts: how many others are newer, older, equal and in conflict
-unfoldable pub counts_of : List Known → Known → CopyCounts
-counts_of copies t = record {
-  copy = t.copy;
-  newer = count_by (relates Newer t) copies;
-  older = count_by (relates Older t) copies;
-  equal = count_by (relates Equal t) copies;
-  conflict = count_by (relates Conflict t) copies;
-}
+-- a copy's number
+abbrev pub number_of : Known → ℕ
+number_of t = t.copy
 
--- the newest copies: those to which none is newer
-abbrev pub newest : List Known → List Known
-newest copies = filter (λ t. not (list_any (relates Newer t) copies)) copies
+-- a copy's row: its number, and how many others are newer, older, equal and in conflict
+abbrev pub row_of : ℕ → Counts → CopyCounts
+row_of copy counts = record { copy = copy; newer = counts.above; older = counts.below; equal = counts.equal; conflict = counts.conflict }
 
--- whether two of these copies are in conflict
-abbrev pub has_conflict : List Known → Bool
-has_conflict copies = list_any (λ t. list_any (relates Conflict t) copies) copies
-
--- the counts of the copies of a table, by rising number
+-- the rows of the copies of a table, by rising number
 unfoldable pub board_rows : List Known → List CopyCounts
-board_rows table = map (counts_of (copies_of table)) (copies_of table)
+board_rows table = map (λ t. row_of t.copy (counts_of number_of known_relation (copies_of table) t)) (copies_of table)
 
 -- the numbers of its newest copies, by rising number
 unfoldable pub board_newest : List Known → List ℕ
-board_newest table = map (λ t. t.copy) (newest (copies_of table))
+board_newest table = map number_of (newest_of number_of known_relation (copies_of table))
 
 -- whether two of its newest copies are in conflict
 unfoldable pub board_split : List Known → Bool
-board_split table = has_conflict (newest (copies_of table))
+board_split table = is_split number_of known_relation (copies_of table)

@@ -3,22 +3,19 @@ use Rattle.std.specs.Prelude.{Bool, true, false, map, ℕ, List, [], ◌∷◌}
 use Rattle.pana_family.specs.declared.row.StampRow.{StampRow}
 use Rattle.pana_family.specs.declared.undo.Undo.{Undo}
 use Rattle.pana_family.specs.declared.undo.Back.{Back}
-use Rattle.pana_family.specs.declared.undo.Back.TheVariants.{Rows, Event, Touch, Divided}
-use Rattle.pana_family.specs.Rows.{dropped, put_all, rejoined, retouched, reverted}
+use Rattle.pana_family.specs.declared.undo.Back.TheVariants.{Changed, Divided}
+use Rattle.pana_family.specs.Rows.{rejoined}
+use Rattle.pana_family.specs.Change.{after, is_light}
 use Rattle.pana_family.specs.View.{Kept, Undone, undone}
 
 -- the rows that a record gives back
 abbrev pub given_back : ℕ → Back → List StampRow → List StampRow
-given_back n (Rows old) rows = put_all old.items (dropped n rows)
-given_back n (Event copy event touch) rows = reverted copy event touch rows
-given_back n (Touch copy touch) rows = retouched copy touch rows
+given_back n (Changed back) rows = after back rows
 given_back n (Divided source) rows = rejoined n source rows
 
 -- whether giving back takes no memory
 abbrev pub is_free : Back → Bool
-is_free (Rows old) = false
-is_free (Event copy event touch) = true
-is_free (Touch copy touch) = true
+is_free (Changed back) = is_light back
 is_free (Divided source) = true
 
 -- the rows that the records give back one after another

@@ -5,7 +5,11 @@ pub mod Holders
 pub mod Table
 pub mod Stands
 pub mod Rows
+pub mod Change
 pub mod Kept
+pub mod Ends
+pub mod Exact
+pub mod Report
 pub mod Paired
 pub mod Sets
 pub mod Fault

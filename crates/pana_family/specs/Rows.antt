@@ -51,6 +51,11 @@ abbrev pub id_in : List StampRow → ℕ → Id
 id_in [] copy = zero_id
 id_in (r ∷ rows) copy = if r.copy == copy then r.stamp.id else id_in rows copy
 
+-- an id with those of the rows that pass the test, added in their order
+abbrev pub with_ids : (StampRow → Bool) → Id → List StampRow → Id
+with_ids test i [] = i
+with_ids test i (r ∷ rows) = with_ids test (if test r then sum_of i r.stamp.id else i) rows
+
 -- the greatest depth of an id
 abbrev pub deepest : List StampRow → ℕ
 deepest [] = 0

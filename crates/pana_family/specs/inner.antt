@@ -1,5 +1,5 @@
 -- Words that only inner functions and proofs need: nobody has to believe them.
 pub mod Comparing
 pub mod Making
-pub mod PairBoard
+pub mod Reporting
 pub mod RowStamps

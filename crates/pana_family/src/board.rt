@@ -1,7 +1,8 @@
 //! Boards: how the copies of a family relate.
-ghost use Rattle.std.specs.Prelude.{◌≡◌, ◌≢◌, ℕ, List, map, IfOk, Contains};
-ghost use Rattle.pana_rel.specs.Pairs.{counts_of, is_split, newest_of, rel_of};
-ghost use Rattle.pana_family.specs.inner.PairBoard.{copy_counts};
+ghost use Rattle.std.specs.Prelude.{◌≡◌, map, IfOk, Contains};
+ghost use Rattle.pana_rel.specs.Board.{counts_of, is_split, newest_of};
+ghost use Rattle.pana_rel.specs.Pairs.{own_number, rel_of};
+ghost use Rattle.pana_family.specs.Board.{row_of};
 
 use pana_list::PlainList;
 use pana_rel::PairTable;
@@ -30,7 +31,7 @@ pub struct FamilyBoard {
 
 fn counts_of(pairs: &PairTable, copy: u64) -> CopyCounts
     requires { Contains pairs.now.copies copy }
-    ensures { result ≡ copy_counts pairs.now copy }
+    ensures { result ≡ row_of copy (counts_of own_number (rel_of pairs.now) pairs.now.copies copy) }
 {
     let counts = pairs.counts(copy);
     CopyCounts {
@@ -43,7 +44,7 @@ fn counts_of(pairs: &PairTable, copy: u64) -> CopyCounts
 }
 
 fn rows_of(alloc: Global, pairs: &PairTable) -> Result<Vec<CopyCounts>, AllocError>
-    ensures { IfOk result (λ rows. rows.items ≡ map (copy_counts pairs.now) pairs.now.copies) }
+    ensures { IfOk result (λ rows. rows.items ≡ map (λ copy. row_of copy (counts_of own_number (rel_of pairs.now) pairs.now.copies copy)) pairs.now.copies) }
 {
     let copies = pairs.copies();
     let mut rows = Vec::with_capacity(alloc, copies.len())?;
@@ -55,9 +56,9 @@ fn rows_of(alloc: Global, pairs: &PairTable) -> Result<Vec<CopyCounts>, AllocErr
 
 /// The board of a table of relations.
 pub fn board_of(alloc: Global, pairs: &PairTable) -> Result<FamilyBoard, AllocError>
-    ensures rows { IfOk result (λ board. board.rows ≡ map (copy_counts pairs.now) pairs.now.copies) }
-    ensures newest { IfOk result (λ board. board.newest ≡ newest_of pairs.now.copies (rel_of pairs.now)) }
-    ensures split { IfOk result (λ board. board.split ≡ is_split pairs.now.copies (rel_of pairs.now)) }
+    ensures rows { IfOk result (λ board. board.rows ≡ map (λ copy. row_of copy (counts_of own_number (rel_of pairs.now) pairs.now.copies copy)) pairs.now.copies) }
+    ensures newest { IfOk result (λ board. board.newest ≡ newest_of own_number (rel_of pairs.now) pairs.now.copies) }
+    ensures split { IfOk result (λ board. board.split ≡ is_split own_number (rel_of pairs.now) pairs.now.copies) }
 {
     Ok(FamilyBoard {
         rows: PlainList::from_vec(rows_of(alloc, pairs)?),

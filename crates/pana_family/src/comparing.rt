@@ -1,11 +1,12 @@
 //! The table of relations follows the rows.
-ghost use Rattle.std.specs.Prelude.{◌≡◌, ◌≤◌, ◌+◌, ◌∷◌, ℕ, [], true, List, length, take, map, filter, Contains, IfOk, OnOk};
-ghost use Rattle.pana_rel.specs.Pairs.{rel_of};
-ghost use Rattle.pana_family.specs.Updates.{has};
+ghost use Rattle.std.specs.Prelude.{◌≡◌, ◌≤◌, ◌+◌, ◌∷◌, ℕ, [], true, List, length, take, map, filter, Contains, OnOk, Some, None};
+ghost use Rattle.pana_family.specs.declared.row.StampRow.{StampRow as RowValue};
+ghost use Rattle.pana_family.specs.Change.{number_of, row_of};
 ghost use Rattle.pana_family.specs.Rows.{IsRising, lives, copy_rows};
 ghost use Rattle.pana_family.specs.Paired.{ArePaired};
-ghost use Rattle.pana_family.specs.inner.Comparing.{AreCompared, HasCopies, IsGrown, IsGrownBy, IsShrunk, is_other, relations, row_relation};
+ghost use Rattle.pana_family.specs.inner.Comparing.{AreCompared, ArePut, HasCopies, IsGrown, IsGrownBy, IsGrownIn, IsShrunk, is_other, relations, row_relation};
 
+use crate::change::Exchange;
 use crate::row::StampRow;
 use crate::searching::{index_of, is_copy, lives};
 use crate::settling::all_sound;
@@ -84,7 +85,8 @@ fn put_in(alloc: Global, pairs: &mut PairTable, copy: u64) -> Result<(), AllocEr
         return Ok(());
     }
     let rels = vec![in alloc; Rel::Equal; pairs.copies().len()]?;
-    pairs.insert_row(copy, &rels)?;
+    pairs.reserve()?;
+    pairs.insert_row(copy, &rels);
     Ok(())
 }
 
@@ -101,6 +103,33 @@ pub fn put_missing(
         if is_copy(row) {
             put_in(alloc, pairs, row.copy)?;
         }
+    }
+    Ok(())
+}
+
+/// Puts in the copy that an exchange puts, if it isn't there.
+fn put_new(alloc: Global, pairs: &mut PairTable, new: &Exchange) -> Result<(), AllocError>
+    ensures grown { IsGrownBy (number_of new.now) pairs.old pairs.new }
+    ensures there { OnOk result ((r : RowValue) → row_of new.now ≡ Some r → r.holder ≡ None → Contains pairs.new.copies r.copy) }
+{
+    match new {
+        Exchange::Put(row) => {
+            if is_copy(row) {
+                put_in(alloc, pairs, row.copy)?;
+            }
+            Ok(())
+        }
+        Exchange::Take(_) => Ok(()),
+    }
+}
+
+/// Puts in the copies that these exchanges put and that aren't there. What fails may have put some in.
+pub fn put_coming(alloc: Global, pairs: &mut PairTable, news: &[Exchange]) -> Result<(), AllocError>
+    ensures grown { IsGrownIn (map number_of news.now) pairs.old pairs.new }
+    ensures there { OnOk result (ArePut news.now pairs.new) }
+{
+    for new in news {
+        put_new(alloc, pairs, new)?;
     }
     Ok(())
 }

@@ -3,12 +3,15 @@
 
 ghost use Rattle.std.specs.Prelude.{ℕ, ◌≡◌, ◌≢◌, ◌↔◌, ◌<◌, ◌≤◌, ◌+◌, true, false, List, [], ◌∷◌, IfOk, OnOk, OnErr, IfErr, IfSome, IsErrOf, ◌⊎◌, Some, None, ◌==◌, take, drop, IsOk, Bool};
 ghost use Rattle.pana_family.specs.Table.{Known, duplicated, edited, reconciled, merged, removed, touched, AreBelow};
-ghost use Rattle.pana_family.specs.Rows.{AreEdited, duplicated_rows};
+ghost use Rattle.pana_family.specs.Rows.{AreEdited, duplicated_rows, retouched};
+ghost use Rattle.pana_family.specs.Exact.{AreMergedRows, IsExact, reconciled_rows};
+ghost use Rattle.pana_family.specs.declared.report.FamilyReport.TheVariants.{Remove};
 ghost use Rattle.pana_family.specs.Kept.{IsKept};
 ghost use Rattle.pana_family.specs.Stands.{StandsFor};
 ghost use Rattle.pana_family.specs.Sets.{Sets, began, settled, after, confirmed, withdrawn};
 ghost use Rattle.pana_family.specs.View.{Means, is_living, IsNew, IsPending, IsLast, copy_count, can_split, OwnsSame, depth_at, Deepens, new_family, undone, more_undo};
 
+use crate::change::{Change, Exchange};
 use crate::fault::FamilyFault;
 use crate::paired::PairedRows;
 use crate::row::StampRow;
@@ -16,6 +19,7 @@ use crate::rows::Rows;
 use crate::undo::{Back, Undo, position_of};
 use circular_buffer::HeapCircularBuffer;
 use pana_list::PlainList;
+use smallvec::SmallVec;
 use std::alloc::{AllocError, Global};
 use std::marker::Model;
 
@@ -58,9 +62,11 @@ impl Family {
     {
         let rows = PairedRows::new(alloc, entry)?;
         let mut undo = HeapCircularBuffer::with_capacity(alloc, 8)?;
+        let mut news = SmallVec::new(alloc);
+        news.push_reserved(Exchange::Take(entry));
         undo.push_front(Undo {
             entry,
-            back: Back::Rows(Vec::new(alloc)),
+            back: Back::Changed(Change::Rows(news)),
         });
         Ok(Family { alloc, rows, undo })
     }
@@ -144,10 +150,10 @@ impl Family {
         ensures deep { OnOk result (Deepens 0 self.old self.new) }
         ensures err { OnErr result (self.new ≡ self.old) }
     {
-        let (event, touch) = self.rows.edit(self.alloc, entry, copy)?;
+        let back = self.rows.edit(self.alloc, entry, copy)?;
         self.undo.push_front(Undo {
             entry,
-            back: Back::Event(copy, event, touch),
+            back: Back::Changed(back),
         });
         Ok(())
     }
@@ -165,6 +171,7 @@ impl Family {
         ensures stands { OnOk result ((sets : Sets) → Means self.old sets → Means self.new (after entry (reconciled entry a b) sets)) }
         ensures same { IsErrOf result FamilyFault.SameCopy ↔ (a ≡ b) }
         ensures never { IfErr result (λ fault. (fault ≡ FamilyFault.SameCopy) ⊎ (fault ≡ FamilyFault.OutOfMemory)) }
+        ensures exact { OnOk result (self.new.rows ≡ reconciled_rows entry a b self.old.rows) }
         ensures back { OnOk result (self.new.undo ≡ more_undo entry self.old) }
         ensures owned { OnOk result (OwnsSame self.old self.new) }
         ensures deep { OnOk result (Deepens 0 self.old self.new) }
@@ -173,10 +180,10 @@ impl Family {
         if a == b {
             return Err(FamilyFault::SameCopy);
         }
-        let rows = self.rows.reconcile(self.alloc, entry, a, b)?;
+        let back = self.rows.reconcile(self.alloc, entry, a, b)?;
         self.undo.push_front(Undo {
             entry,
-            back: Back::Rows(rows),
+            back: Back::Changed(back),
         });
         Ok(())
     }
@@ -193,6 +200,7 @@ impl Family {
         ensures stands { OnOk result ((sets : Sets) → Means self.old sets → AreBelow entry sets.table → Means self.new (after entry (merged entry a b) sets)) }
         ensures same { IsErrOf result FamilyFault.SameCopy ↔ (a ≡ b) }
         ensures never { IfErr result (λ fault. (fault ≡ FamilyFault.SameCopy) ⊎ (fault ≡ FamilyFault.OutOfMemory)) }
+        ensures exact { OnOk result (AreMergedRows entry a b self.old.rows self.new.rows) }
         ensures back { OnOk result (self.new.undo ≡ more_undo entry self.old) }
         ensures owned { OnOk result (OwnsSame self.old self.new) }
         ensures deep { OnOk result (Deepens 0 self.old self.new) }
@@ -201,10 +209,10 @@ impl Family {
         if a == b {
             return Err(FamilyFault::SameCopy);
         }
-        let rows = self.rows.merge(self.alloc, entry, a, b)?;
+        let back = self.rows.merge(self.alloc, entry, a, b)?;
         self.undo.push_front(Undo {
             entry,
-            back: Back::Rows(rows),
+            back: Back::Changed(back),
         });
         Ok(())
     }
@@ -224,6 +232,7 @@ impl Family {
         ensures stands { OnOk result ((sets : Sets) → Means self.old sets → Means self.new (after entry (removed entry copy heir) sets)) }
         ensures same { IsErrOf result FamilyFault.SameCopy ↔ (heir ≡ Some copy) }
         ensures never { IfErr result (λ fault. (fault ≡ FamilyFault.SameCopy) ⊎ (fault ≡ FamilyFault.OutOfMemory)) }
+        ensures exact { OnOk result (IsExact entry (Remove copy heir) self.old.rows self.new.rows) }
         ensures back { OnOk result (self.new.undo ≡ more_undo entry self.old) }
         ensures owned { OnOk result (heir ≢ None → OwnsSame self.old self.new) }
         ensures deep { OnOk result (Deepens 0 self.old self.new) }
@@ -232,10 +241,10 @@ impl Family {
         if heir == Some(copy) {
             return Err(FamilyFault::SameCopy);
         }
-        let rows = self.rows.remove(self.alloc, entry, copy, heir)?;
+        let back = self.rows.remove(self.alloc, entry, copy, heir)?;
         self.undo.push_front(Undo {
             entry,
-            back: Back::Rows(rows),
+            back: Back::Changed(back),
         });
         Ok(())
     }
@@ -245,15 +254,16 @@ impl Family {
         requires living { is_living self.old copy ≡ true }
         requires new { IsNew entry self.old }
         ensures stands { (sets : Sets) → Means self.old sets → Means self.new (after entry (touched entry copy) sets) }
+        ensures exact { self.new.rows ≡ retouched copy entry self.old.rows }
         ensures back { self.new.undo ≡ more_undo entry self.old }
         ensures free { self.new.free ≡ take 8 (true ∷ self.old.free) }
         ensures owned { OwnsSame self.old self.new }
         ensures deep { Deepens 0 self.old self.new }
     {
-        let former = self.rows.touch_place(entry, copy);
+        let back = self.rows.touch_place(entry, copy);
         self.undo.push_front(Undo {
             entry,
-            back: Back::Touch(copy, former),
+            back: Back::Changed(back),
         });
     }
 
@@ -290,24 +300,16 @@ impl Family {
         match self.undo.pop_front() {
             None => unreachable!(),
             Some(Undo { entry, back }) => match back {
-                Back::Touch(copy, touch) => {
-                    self.rows.set_touch(copy, touch);
-                    Ok(())
-                }
-                Back::Event(copy, event, touch) => {
-                    self.rows.revert(copy, event, touch);
-                    Ok(())
-                }
                 Back::Divided(source) => {
                     self.rows.rejoin(entry, source);
                     Ok(())
                 }
-                Back::Rows(rows) => match self.rows.put_all(self.alloc, entry, rows) {
+                Back::Changed(change) => match self.rows.apply(self.alloc, change) {
                     Ok(()) => Ok(()),
-                    Err(rows) => {
+                    Err(change) => {
                         self.undo.push_front(Undo {
                             entry,
-                            back: Back::Rows(rows),
+                            back: Back::Changed(change),
                         });
                         Err(AllocError)
                     }

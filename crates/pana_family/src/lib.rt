@@ -11,6 +11,7 @@
 
 mod asking;
 mod board;
+mod change;
 mod comparing;
 mod exchanging;
 mod family;
@@ -18,6 +19,8 @@ mod fault;
 pub mod laws;
 mod making;
 mod paired;
+mod report;
+mod reporting;
 mod row;
 mod rows;
 mod searching;

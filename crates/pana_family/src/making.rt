@@ -4,6 +4,7 @@ ghost use Rattle.pana_id.specs.Id.{is_zero, is_single, depth, sum_of, SharesNoPo
 ghost use Rattle.pana_event.specs.Event.{greatest};
 ghost use Rattle.pana_stamp.specs.Raised.{IsRaised};
 ghost use Rattle.pana_family.specs.Rows.{IsUpdate};
+ghost use Rattle.pana_family.specs.Change.{with_event};
 ghost use Rattle.pana_family.specs.inner.Making.{PartsWithin, IsShared, IsJoined, AreParts, AreReconciled, AreMerged};
 
 use crate::row::StampRow;
@@ -39,21 +40,11 @@ pub fn renew(row: &mut StampRow, event: EventTree, touch: u64) -> (EventTree, u6
     ensures event { row.new.stamp.event ≡ event }
     ensures touch { row.new.touch ≡ touch }
     ensures old { result ≡ (row.old.stamp.event, row.old.touch) }
+    ensures row { row.new ≡ with_event event touch row.old }
 {
     let former = row.stamp.replace_event(event);
     let since = mem::replace(&mut row.touch, touch);
     (former, since)
-}
-
-/// Gives a row another event and touch. Takes no memory.
-pub fn restore(row: &mut StampRow, event: EventTree, touch: u64)
-    ensures copy { row.new.copy ≡ row.old.copy }
-    ensures holder { row.new.holder ≡ row.old.holder }
-    ensures id { row.new.stamp.id ≡ row.old.stamp.id }
-    ensures event { row.new.stamp.event ≡ event }
-    ensures touch { row.new.touch ≡ touch }
-{
-    let _ = renew(row, event, touch);
 }
 
 /// Divides the copy's id in place, and returns the row of a new copy that has the second part, when the entry duplicates
@@ -76,6 +67,37 @@ pub fn share_row(alloc: Global, row: &mut StampRow, entry: u64) -> Result<StampR
             stamp: Stamp::new(id, event),
             touch: entry,
         }),
+        Err(IdFault::TooDeep) => unreachable!(),
+        Err(IdFault::OutOfMemory) => Err(AllocError),
+    }
+}
+
+/// The rows of a copy and of a new one, which share the copy's stamp, when the entry duplicates the copy.
+pub fn shared_rows(
+    alloc: Global,
+    row: &StampRow,
+    entry: u64,
+) -> Result<(StampRow, StampRow), AllocError>
+    requires { is_single row.now.stamp.id 256 ≡ false }
+    ensures shared { IfOk result (λ two. IsShared row.now two.0 two.1 entry) }
+    ensures holder { IfOk result (λ two. two.0.holder ≡ row.now.holder) }
+    ensures new_holder { IfOk result (λ two. two.1.holder ≡ None) }
+{
+    match row.stamp.fork(alloc) {
+        Ok((kept, given)) => Ok((
+            StampRow {
+                copy: row.copy,
+                holder: row.holder,
+                stamp: kept,
+                touch: row.touch,
+            },
+            StampRow {
+                copy: entry,
+                holder: None,
+                stamp: given,
+                touch: entry,
+            },
+        )),
         Err(IdFault::TooDeep) => unreachable!(),
         Err(IdFault::OutOfMemory) => Err(AllocError),
     }

@@ -1,18 +1,23 @@
 //! The rows of a family, and how its copies relate.
-ghost use Rattle.std.specs.Prelude.{◌≡◌, ◌≢◌, ◌<◌, ◌≤◌, ◌+◌, false, true, length, List, [], ◌∷◌, IfOk, OnOk, OnErr, IfErr, IfSome, Some, None};
+ghost use Rattle.std.specs.Prelude.{◌≡◌, ◌≢◌, ◌<◌, ◌≤◌, ◌+◌, false, true, length, List, [], ◌∷◌, IfOk, OnOk, OnErr, IfErr, IfSome, Some, IsOk};
 ghost use Rattle.pana_id.specs.Id.{is_single};
 ghost use Rattle.pana_family.specs.Relation.{relation};
-ghost use Rattle.pana_family.specs.Table.{Known, set_in, registered, touched, duplicated, edited, reconciled, merged, removed, AreBelow};
+ghost use Rattle.pana_family.specs.Table.{Known, set_in, registered, touched, duplicated, edited, AreBelow};
 ghost use Rattle.pana_family.specs.Board.{board_rows, board_newest, board_split};
 ghost use Rattle.pana_family.specs.Stands.{StandsFor};
-ghost use Rattle.pana_family.specs.Rows.{AreEdited, duplicated_rows, lives, copy_rows, OwnSame, dropped, AreBefore, put_all, id_in, seed_row, rejoined, retouched, reverted, deepest};
+ghost use Rattle.pana_family.specs.Rows.{AreEdited, duplicated_rows, lives, copy_rows, OwnSame, AreBefore, id_in, seed_row, rejoined, retouched, reverted, deepest};
+ghost use Rattle.pana_family.specs.inner.Reporting.{AnyTable, Reported};
 ghost use Rattle.pana_family.specs.Kept.{IsKept};
+ghost use Rattle.pana_family.specs.Change.{after, exchanged_all, exchanges_in, is_light};
+ghost use Rattle.pana_family.specs.Report.{IsReported};
+ghost use Rattle.pana_family.specs.declared.report.FamilyReport.TheVariants.{Reconcile, Merge, Remove};
 
 use crate::board::{FamilyBoard, board_of};
-use crate::comparing::{compare_copies, drop_missing, put_missing};
-use crate::row::StampRow;
+use crate::change::{Change, exchanges_of, numbers_of};
+use crate::comparing::{compare_copies, drop_missing, put_coming, put_missing};
+use crate::report::FamilyReport;
 use crate::rows::Rows;
-use crate::searching::{changed_numbers, copy_numbers};
+use crate::searching::copy_numbers;
 use pana_event::{EventTree, Rel};
 use pana_rel::PairTable;
 use std::alloc::{AllocError, Global};
@@ -101,26 +106,20 @@ impl PairedRows {
         board_of(alloc, &self.pairs)
     }
 
-    /// An update of a copy, with the entry as its number. Returns the event and the touch from before.
-    pub fn edit(
-        &mut self,
-        alloc: Global,
-        entry: u64,
-        copy: u64,
-    ) -> Result<(EventTree, u64), AllocError>
+    /// An update of a copy, with the entry as its number. Returns the change that takes it back.
+    pub fn edit(&mut self, alloc: Global, entry: u64, copy: u64) -> Result<Change, AllocError>
         requires living { lives self.old copy ≡ true }
         requires new { AreBefore entry self.old }
-        ensures stands { OnOk result ((table : List Known) → StandsFor self.old table → AreBelow entry table → StandsFor self.new (edited entry copy table)) }
+        ensures reported { OnOk result (Reported self.old self.new (edited entry copy) (AreBelow entry)) }
         ensures exact { OnOk result (AreEdited entry copy self.old self.new) }
-        ensures back { IfOk result (λ old. reverted copy old.0 old.1 self.new ≡ self.old) }
-        ensures deep { OnOk result (deepest self.new ≤ deepest self.old) }
-        ensures owned { OnOk result (OwnSame self.old self.new) }
-        ensures was { IsKept self.old }
+        ensures back { IfOk result (λ back. after back self.new ≡ self.old) }
+        ensures light { IfOk result (λ back. is_light back ≡ true) }
+        ensures was { OnOk result (IsKept self.old) }
         ensures err { OnErr result (self.new ≡ self.old) }
     {
-        let former = self.rows.edit(alloc, entry, copy)?;
+        let back = self.rows.edit(alloc, entry, copy)?;
         self.pairs.edited(copy);
-        Ok(former)
+        Ok(back)
     }
 
     /// A new copy beside its source, with the entry as its number. Its source's id is divided in place.
@@ -138,98 +137,86 @@ impl PairedRows {
         ensures err { OnErr result (self.new ≡ self.old) }
     {
         let _ = self.rows.as_slice();
+        self.pairs.reserve()?;
         let _ = self.pairs.copies();
-        self.pairs.insert_like(source, entry)?;
-        match self.rows.duplicate(alloc, entry, source) {
-            Ok(()) => Ok(()),
-            Err(fault) => {
-                self.pairs.drop_copy(entry);
-                Err(fault)
-            }
-        }
+        self.rows.duplicate(alloc, entry, source)?;
+        self.pairs.insert_like(source, entry);
+        Ok(())
     }
 
-    /// Two copies learn what either knows, and are settled. Returns the rows from before that went.
+    /// Two copies learn what either knows, and are settled. Returns the change that takes it back.
     pub fn reconcile(
         &mut self,
         alloc: Global,
         entry: u64,
         a: u64,
         b: u64,
-    ) -> Result<Vec<StampRow>, AllocError>
+    ) -> Result<Change, AllocError>
         requires first { lives self.old a ≡ true }
         requires second { lives self.old b ≡ true }
         requires differ { a ≢ b }
         requires new { AreBefore entry self.old }
-        ensures stands { OnOk result ((table : List Known) → StandsFor self.old table → StandsFor self.new (reconciled entry a b table)) }
-        ensures back { IfOk result (λ old. put_all old.items (dropped entry self.new) ≡ self.old) }
-        ensures deep { OnOk result (deepest self.new ≤ deepest self.old) }
-        ensures owned { OnOk result (OwnSame self.old self.new) }
-        ensures was { IsKept self.old }
+        ensures reported { OnOk result (IsReported entry (Reconcile a b) self.old self.new) }
+        ensures back { IfOk result (λ back. after back self.new ≡ self.old) }
+        ensures was { OnOk result (IsKept self.old) }
         ensures err { OnErr result (self.new ≡ self.old) }
     {
-        let gone = self.rows.reconcile(alloc, entry, a, b)?;
+        let back = self
+            .rows
+            .report(alloc, entry, FamilyReport::Reconcile(a, b))?;
         compare_copies(self.rows.as_slice(), &mut self.pairs, &[a, b]);
-        Ok(gone)
+        Ok(back)
     }
 
-    /// Two copies learn what either knows and an update, with the entry as its number, and are settled. Returns the rows
-    /// from before that went.
-    pub fn merge(
-        &mut self,
-        alloc: Global,
-        entry: u64,
-        a: u64,
-        b: u64,
-    ) -> Result<Vec<StampRow>, AllocError>
+    /// Two copies learn what either knows and an update, with the entry as its number, and are settled. Returns the change
+    /// that takes it back.
+    pub fn merge(&mut self, alloc: Global, entry: u64, a: u64, b: u64) -> Result<Change, AllocError>
         requires first { lives self.old a ≡ true }
         requires second { lives self.old b ≡ true }
         requires differ { a ≢ b }
         requires new { AreBefore entry self.old }
-        ensures stands { OnOk result ((table : List Known) → StandsFor self.old table → AreBelow entry table → StandsFor self.new (merged entry a b table)) }
-        ensures back { IfOk result (λ old. put_all old.items (dropped entry self.new) ≡ self.old) }
-        ensures deep { OnOk result (deepest self.new ≤ deepest self.old) }
-        ensures owned { OnOk result (OwnSame self.old self.new) }
-        ensures was { IsKept self.old }
+        ensures reported { OnOk result (IsReported entry (Merge a b) self.old self.new) }
+        ensures back { IfOk result (λ back. after back self.new ≡ self.old) }
+        ensures was { OnOk result (IsKept self.old) }
         ensures err { OnErr result (self.new ≡ self.old) }
     {
-        let gone = self.rows.merge(alloc, entry, a, b)?;
+        let back = self.rows.report(alloc, entry, FamilyReport::Merge(a, b))?;
         compare_copies(self.rows.as_slice(), &mut self.pairs, &[a, b]);
-        Ok(gone)
+        Ok(back)
     }
 
-    /// Removes a copy, with an heir or without. Returns the rows from before that went.
+    /// Removes a copy, with an heir or without. Returns the change that takes it back.
     pub fn remove(
         &mut self,
         alloc: Global,
         entry: u64,
         copy: u64,
         heir: Option<u64>,
-    ) -> Result<Vec<StampRow>, AllocError>
+    ) -> Result<Change, AllocError>
         requires living { lives self.old copy ≡ true }
         requires second { IfSome heir (λ h. lives self.old h ≡ true) }
         requires differ { heir ≢ Some copy }
         requires new { AreBefore entry self.old }
-        ensures stands { OnOk result ((table : List Known) → StandsFor self.old table → StandsFor self.new (removed entry copy heir table)) }
-        ensures back { IfOk result (λ old. put_all old.items (dropped entry self.new) ≡ self.old) }
-        ensures deep { OnOk result (deepest self.new ≤ deepest self.old) }
-        ensures owned { OnOk result (heir ≢ None → OwnSame self.old self.new) }
-        ensures was { IsKept self.old }
+        ensures reported { OnOk result (IsReported entry (Remove copy heir) self.old self.new) }
+        ensures back { IfOk result (λ back. after back self.new ≡ self.old) }
+        ensures was { OnOk result (IsKept self.old) }
         ensures err { OnErr result (self.new ≡ self.old) }
     {
-        let gone = self.rows.remove(alloc, entry, copy, heir)?;
+        let back = self
+            .rows
+            .report(alloc, entry, FamilyReport::Remove(copy, heir))?;
         self.pairs.drop_copy(copy);
-        Ok(gone)
+        Ok(back)
     }
 
-    /// Sets the touch of a copy, and returns the former one. Takes no memory.
-    pub fn touch_place(&mut self, entry: u64, copy: u64) -> u64
+    /// That the entry touched a copy. Returns the change that takes it back. Takes no memory.
+    pub fn touch_place(&mut self, entry: u64, copy: u64) -> Change
         requires living { lives self.old copy ≡ true }
         requires new { AreBefore entry self.old }
-        ensures stands { (table : List Known) → StandsFor self.old table → StandsFor self.new (touched entry copy table) }
-        ensures back { retouched copy result self.new ≡ self.old }
-        ensures deep { deepest self.new ≤ deepest self.old }
-        ensures owned { OwnSame self.old self.new }
+        ensures reported { Reported self.old self.new (touched entry copy) AnyTable }
+        ensures exact { self.new ≡ retouched copy entry self.old }
+        ensures back { after result self.new ≡ self.old }
+        ensures light { is_light result ≡ true }
         ensures was { IsKept self.old }
     {
         self.rows.touch_place(entry, copy)
@@ -240,7 +227,9 @@ impl PairedRows {
         requires { IsKept (retouched copy touch self.old) }
         ensures { self.new ≡ retouched copy touch self.old }
     {
-        self.rows.set_touch(copy, touch);
+        let Ok(_) = self.rows.apply(Change::Touch(copy, touch)) else {
+            unreachable!();
+        };
     }
 
     /// Sets a copy's event and touch, if it has a row. Takes no memory.
@@ -248,7 +237,9 @@ impl PairedRows {
         requires { IsKept (reverted copy event touch self.old) }
         ensures { self.new ≡ reverted copy event touch self.old }
     {
-        self.rows.revert(copy, event, touch);
+        let Ok(_) = self.rows.apply(Change::Event(copy, event, touch)) else {
+            unreachable!();
+        };
         compare_copies(self.rows.as_slice(), &mut self.pairs, &[copy]);
     }
 
@@ -262,36 +253,53 @@ impl PairedRows {
         drop_missing(self.rows.as_slice(), &mut self.pairs, &[entry]);
     }
 
-    /// Takes the entry's own row out, if it has one, and puts rows back, or returns them where memory runs out.
-    pub fn put_all(
-        &mut self,
-        alloc: Global,
-        entry: u64,
-        old: Vec<StampRow>,
-    ) -> Result<(), Vec<StampRow>>
-        requires { IsKept (put_all old.items (dropped entry self.old)) }
-        ensures ok { OnOk result (self.new ≡ put_all old.items (dropped entry self.old)) }
-        ensures given_back { IfErr result (λ rows. rows ≡ old) }
+    /// Exchanges rows, or returns the change where memory runs out.
+    fn exchange(&mut self, alloc: Global, change: Change) -> Result<(), Change>
+        requires kept { IsKept (after change self.old) }
+        requires only { after change self.old ≡ exchanged_all (exchanges_in change) self.old }
+        ensures ok { OnOk result (self.new ≡ after change self.old) }
+        ensures given_back { IfErr result (λ c. c ≡ change) }
         ensures err { OnErr result (self.new ≡ self.old) }
     {
         let _ = self.rows.as_slice();
-        let Ok(changed) = changed_numbers(alloc, entry, &old) else {
-            return Err(old);
+        let Ok(numbers) = numbers_of(alloc, exchanges_of(&change)) else {
+            return Err(change);
         };
-        let Ok(()) = put_missing(alloc, &mut self.pairs, &old) else {
-            drop_missing(self.rows.as_slice(), &mut self.pairs, &changed);
-            return Err(old);
+        let Ok(()) = put_coming(alloc, &mut self.pairs, exchanges_of(&change)) else {
+            drop_missing(self.rows.as_slice(), &mut self.pairs, &numbers);
+            return Err(change);
         };
-        match self.rows.put_all(entry, old) {
-            Ok(()) => {
-                drop_missing(self.rows.as_slice(), &mut self.pairs, &changed);
-                compare_copies(self.rows.as_slice(), &mut self.pairs, &changed);
+        match self.rows.apply(change) {
+            Ok(_) => {
+                drop_missing(self.rows.as_slice(), &mut self.pairs, &numbers);
+                compare_copies(self.rows.as_slice(), &mut self.pairs, &numbers);
                 Ok(())
             }
-            Err(old) => {
-                drop_missing(self.rows.as_slice(), &mut self.pairs, &changed);
-                Err(old)
+            Err(change) => {
+                drop_missing(self.rows.as_slice(), &mut self.pairs, &numbers);
+                Err(change)
             }
+        }
+    }
+
+    /// Makes a change, or returns it where memory runs out.
+    pub fn apply(&mut self, alloc: Global, change: Change) -> Result<(), Change>
+        requires { IsKept (after change self.old) }
+        ensures ok { OnOk result (self.new ≡ after change self.old) }
+        ensures free { is_light change ≡ true → IsOk result }
+        ensures given_back { IfErr result (λ c. c ≡ change) }
+        ensures err { OnErr result (self.new ≡ self.old) }
+    {
+        match change {
+            Change::Event(copy, event, touch) => {
+                self.revert(copy, event, touch);
+                Ok(())
+            }
+            Change::Touch(copy, touch) => {
+                self.set_touch(copy, touch);
+                Ok(())
+            }
+            Change::Rows(news) => self.exchange(alloc, Change::Rows(news)),
         }
     }
 }

@@ -1,22 +1,25 @@
 //! The rows of a family.
-ghost use Rattle.std.specs.Prelude.{◌≡◌, ◌≢◌, ◌↔◌, ◌<◌, ◌≤◌, ◌+◌, false, true, length, not, map, filter, List, [], ◌∷◌, IfOk, OnOk, OnErr, IfErr, IfSome, IsTrue, Some, None};
+ghost use Rattle.std.specs.Prelude.{◌≡◌, ◌↔◌, ◌<◌, ◌≤◌, ◌+◌, false, true, length, not, map, List, [], ◌∷◌, IfOk, OnOk, OnErr, IfErr, IsTrue, IsOk, None};
 ghost use Rattle.pana_id.specs.Id.{is_single};
 ghost use Rattle.pana_event.specs.Event.{greatest};
 ghost use Rattle.pana_family.specs.declared.row.StampRow.{StampRow as RowValue};
-ghost use Rattle.pana_family.specs.Table.{Known, touch_in, registered, In, touched, duplicated, edited, reconciled, merged, lost, bequeathed, removed, copies_of, AreBelow};
+ghost use Rattle.pana_family.specs.Table.{Known, touch_in, registered, In, touched, duplicated, edited, copies_of, AreBelow};
 ghost use Rattle.pana_family.specs.Stamps.{AreStamps, text_of};
 ghost use Rattle.pana_family.specs.Stands.{StandsFor};
-ghost use Rattle.pana_family.specs.Rows.{AreEdited, duplicated_rows, lives, copy_rows, OwnSame, dropped, AreBefore, put_all, id_in, seed_row, rejoined, retouched, reverted, deepest};
+ghost use Rattle.pana_family.specs.Rows.{AreEdited, duplicated_rows, lives, copy_rows, OwnSame, AreBefore, id_in, seed_row, rejoined, retouched, deepest};
 ghost use Rattle.pana_family.specs.inner.Making.{held_rows};
+ghost use Rattle.pana_family.specs.inner.Reporting.{AnyTable, Reported};
 ghost use Rattle.pana_family.specs.Kept.{IsKept};
+ghost use Rattle.pana_family.specs.Report.{CanReport, IsReported};
+ghost use Rattle.pana_family.specs.Change.{after, is_light, room_of};
 
-use crate::exchanging::{put_rows, rejoin_rows, settle_in, take_row};
-use crate::making::{merged_rows, reconciled_rows, renew, restore, share_row, updated_event};
+use crate::change::{Change, apply, room_of};
+use crate::exchanging::rejoin_rows;
+use crate::making::share_row;
+use crate::report::FamilyReport;
+use crate::reporting::{edit_change, report_change, touch_change};
 use crate::row::StampRow;
-use crate::searching::{
-    are_before, copy_numbers, count_copies, held_count, index_of, lives, position_of,
-};
-use crate::settling::{parcels_left, settle_both, settled_row};
+use crate::searching::{are_before, copy_numbers, count_copies, held_count, index_of, lives};
 use crate::stamps::{CopyStamp, all_valid, stamps_of};
 use pana_event::EventTree;
 use pana_list::PlainList;
@@ -155,26 +158,74 @@ impl Rows {
         Ok(PlainList::from_vec(stamps))
     }
 
-    /// An update of a copy, with the entry as its number. Returns the event and the touch from before.
-    pub fn edit(
+    /// What a report changes, with the entry as its number. Nothing is changed yet.
+    pub fn prepare(
+        &self,
+        alloc: Global,
+        entry: u64,
+        report: FamilyReport,
+    ) -> Result<Change, AllocError>
+        requires able { CanReport report self.now }
+        requires new { AreBefore entry self.now }
+        ensures { IfOk result (λ change. IsReported entry report self.now (after change self.now)) }
+    {
+        report_change(alloc, &self.items, entry, report)
+    }
+
+    /// Makes a change, and returns the one that takes it back; or the change where memory runs out.
+    pub fn apply(&mut self, change: Change) -> Result<Change, Change>
+        requires { IsKept (after change self.old) }
+        ensures rows { OnOk result (self.new ≡ after change self.old) }
+        ensures back { IfOk result (λ back. after back self.new ≡ self.old) }
+        ensures light { IfOk result (λ back. is_light back ≡ is_light change) }
+        ensures was { IsKept self.old }
+        ensures free { room_of change ≡ 0 → IsOk result }
+        ensures given_back { IfErr result (λ c. c ≡ change) }
+        ensures err { OnErr result (self.new ≡ self.old) }
+    {
+        if self.items.reserve(room_of(&change)).is_err() {
+            return Err(change);
+        }
+        Ok(apply(&mut self.items, change))
+    }
+
+    /// Makes what a report changes, with the entry as its number, and returns the change that takes it back.
+    pub fn report(
         &mut self,
         alloc: Global,
         entry: u64,
-        copy: u64,
-    ) -> Result<(EventTree, u64), AllocError>
-        requires living { lives self.old copy ≡ true }
+        report: FamilyReport,
+    ) -> Result<Change, AllocError>
+        requires able { CanReport report self.old }
         requires new { AreBefore entry self.old }
-        ensures stands { OnOk result ((table : List Known) → StandsFor self.old table → AreBelow entry table → StandsFor self.new (edited entry copy table)) }
-        ensures exact { OnOk result (AreEdited entry copy self.old self.new) }
-        ensures back { IfOk result (λ old. reverted copy old.0 old.1 self.new ≡ self.old) }
-        ensures deep { OnOk result (deepest self.new ≤ deepest self.old) }
-        ensures owned { OnOk result (OwnSame self.old self.new) }
-        ensures was { IsKept self.old }
+        ensures reported { OnOk result (IsReported entry report self.old self.new) }
+        ensures back { IfOk result (λ back. after back self.new ≡ self.old) }
+        ensures was { OnOk result (IsKept self.old) }
         ensures err { OnErr result (self.new ≡ self.old) }
     {
-        let at = index_of(&self.items, copy);
-        let event = updated_event(alloc, &self.items[at])?;
-        Ok(renew(&mut self.items[at], event, entry))
+        let change = self.prepare(alloc, entry, report)?;
+        match self.apply(change) {
+            Ok(back) => Ok(back),
+            Err(_) => Err(AllocError),
+        }
+    }
+
+    /// An update of a copy, with the entry as its number. Returns the change that takes it back.
+    pub fn edit(&mut self, alloc: Global, entry: u64, copy: u64) -> Result<Change, AllocError>
+        requires living { lives self.old copy ≡ true }
+        requires new { AreBefore entry self.old }
+        ensures reported { OnOk result (Reported self.old self.new (edited entry copy) (AreBelow entry)) }
+        ensures exact { OnOk result (AreEdited entry copy self.old self.new) }
+        ensures back { IfOk result (λ back. after back self.new ≡ self.old) }
+        ensures light { IfOk result (λ back. is_light back ≡ true) }
+        ensures was { OnOk result (IsKept self.old) }
+        ensures err { OnErr result (self.new ≡ self.old) }
+    {
+        let change = edit_change(alloc, &self.items, entry, copy)?;
+        match self.apply(change) {
+            Ok(back) => Ok(back),
+            Err(_) => Err(AllocError),
+        }
     }
 
     /// A new copy beside its source, with the entry as its number. Its source's id is divided in place.
@@ -198,167 +249,21 @@ impl Rows {
         Ok(())
     }
 
-    /// Two copies learn what either knows, and are settled. Returns the rows from before that went.
-    pub fn reconcile(
-        &mut self,
-        alloc: Global,
-        entry: u64,
-        a: u64,
-        b: u64,
-    ) -> Result<Vec<StampRow>, AllocError>
-        requires first { lives self.old a ≡ true }
-        requires second { lives self.old b ≡ true }
-        requires differ { a ≢ b }
-        requires new { AreBefore entry self.old }
-        ensures stands { OnOk result ((table : List Known) → StandsFor self.old table → StandsFor self.new (reconciled entry a b table)) }
-        ensures back { IfOk result (λ old. put_all old.items (dropped entry self.new) ≡ self.old) }
-        ensures deep { OnOk result (deepest self.new ≤ deepest self.old) }
-        ensures owned { OnOk result (OwnSame self.old self.new) }
-        ensures was { IsKept self.old }
-        ensures err { OnErr result (self.new ≡ self.old) }
-    {
-        let first = &self.items[index_of(&self.items, a)];
-        let second = &self.items[index_of(&self.items, b)];
-        let (left, right) = reconciled_rows(alloc, first, second, entry)?;
-        let gone = settle_both(alloc, &mut self.items, &left, &right)?;
-        Ok(gone)
-    }
-
-    /// Two copies learn what either knows and an update, with the entry as its number, and are settled. Returns the rows
-    /// from before that went.
-    pub fn merge(
-        &mut self,
-        alloc: Global,
-        entry: u64,
-        a: u64,
-        b: u64,
-    ) -> Result<Vec<StampRow>, AllocError>
-        requires first { lives self.old a ≡ true }
-        requires second { lives self.old b ≡ true }
-        requires differ { a ≢ b }
-        requires new { AreBefore entry self.old }
-        ensures stands { OnOk result ((table : List Known) → StandsFor self.old table → AreBelow entry table → StandsFor self.new (merged entry a b table)) }
-        ensures back { IfOk result (λ old. put_all old.items (dropped entry self.new) ≡ self.old) }
-        ensures deep { OnOk result (deepest self.new ≤ deepest self.old) }
-        ensures owned { OnOk result (OwnSame self.old self.new) }
-        ensures was { IsKept self.old }
-        ensures err { OnErr result (self.new ≡ self.old) }
-    {
-        let first = &self.items[index_of(&self.items, a)];
-        let second = &self.items[index_of(&self.items, b)];
-        let (left, right) = merged_rows(alloc, first, second, entry)?;
-        let gone = settle_both(alloc, &mut self.items, &left, &right)?;
-        Ok(gone)
-    }
-
-    /// A copy is gone, and the parcels that it held. Returns the rows from before that went.
-    fn lose(&mut self, alloc: Global, entry: u64, copy: u64) -> Result<Vec<StampRow>, AllocError>
+    /// That the entry touched a copy. Returns the change that takes it back. Takes no memory.
+    pub fn touch_place(&mut self, entry: u64, copy: u64) -> Change
         requires living { lives self.old copy ≡ true }
         requires new { AreBefore entry self.old }
-        ensures stands { OnOk result ((table : List Known) → StandsFor self.old table → StandsFor self.new (lost copy table)) }
-        ensures back { IfOk result (λ old. put_all old.items (dropped entry self.new) ≡ self.old) }
-        ensures deep { OnOk result (deepest self.new ≤ deepest self.old) }
-        ensures was { IsKept self.old }
-        ensures err { OnErr result (self.new ≡ self.old) }
-    {
-        let gone = settle_in(
-            alloc,
-            &mut self.items,
-            Some(copy),
-            Vec::new(alloc),
-            Vec::new(alloc),
-        )?;
-        Ok(gone)
-    }
-
-    /// A copy becomes a parcel, numbered like the entry, which the heir holds like those that the copy held, and the heir is
-    /// settled. Returns the rows from before that went.
-    fn bequeath(
-        &mut self,
-        alloc: Global,
-        entry: u64,
-        copy: u64,
-        heir: u64,
-    ) -> Result<Vec<StampRow>, AllocError>
-        requires living { lives self.old copy ≡ true }
-        requires second { lives self.old heir ≡ true }
-        requires differ { heir ≢ copy }
-        requires new { AreBefore entry self.old }
-        ensures stands { OnOk result ((table : List Known) → StandsFor self.old table → StandsFor self.new (bequeathed entry copy heir table)) }
-        ensures back { IfOk result (λ old. put_all old.items (dropped entry self.new) ≡ self.old) }
-        ensures deep { OnOk result (deepest self.new ≤ deepest self.old) }
-        ensures owned { OnOk result (OwnSame self.old self.new) }
-        ensures was { IsKept self.old }
-        ensures err { OnErr result (self.new ≡ self.old) }
-    {
-        let row = &self.items[index_of(&self.items, heir)];
-        let new = settled_row(alloc, &self.items, row, Some(copy))?;
-        let parcels = parcels_left(alloc, &self.items, row, entry, copy)?;
-        let mut settled = Vec::with_capacity(alloc, 1)?;
-        settled.push_reserved(new);
-        let gone = settle_in(alloc, &mut self.items, Some(copy), settled, parcels)?;
-        Ok(gone)
-    }
-
-    /// Removes a copy, with an heir or without. Returns the rows from before that went.
-    pub fn remove(
-        &mut self,
-        alloc: Global,
-        entry: u64,
-        copy: u64,
-        heir: Option<u64>,
-    ) -> Result<Vec<StampRow>, AllocError>
-        requires living { lives self.old copy ≡ true }
-        requires second { IfSome heir (λ h. lives self.old h ≡ true) }
-        requires differ { heir ≢ Some copy }
-        requires new { AreBefore entry self.old }
-        ensures stands { OnOk result ((table : List Known) → StandsFor self.old table → StandsFor self.new (removed entry copy heir table)) }
-        ensures back { IfOk result (λ old. put_all old.items (dropped entry self.new) ≡ self.old) }
-        ensures deep { OnOk result (deepest self.new ≤ deepest self.old) }
-        ensures owned { OnOk result (heir ≢ None → OwnSame self.old self.new) }
-        ensures was { IsKept self.old }
-        ensures err { OnErr result (self.new ≡ self.old) }
-    {
-        match heir {
-            None => self.lose(alloc, entry, copy),
-            Some(heir) => self.bequeath(alloc, entry, copy, heir),
-        }
-    }
-
-    /// Sets the touch of a copy, and returns the former one. Takes no memory.
-    pub fn touch_place(&mut self, entry: u64, copy: u64) -> u64
-        requires living { lives self.old copy ≡ true }
-        requires new { AreBefore entry self.old }
-        ensures stands { (table : List Known) → StandsFor self.old table → StandsFor self.new (touched entry copy table) }
-        ensures back { retouched copy result self.new ≡ self.old }
-        ensures deep { deepest self.new ≤ deepest self.old }
-        ensures owned { OwnSame self.old self.new }
+        ensures reported { Reported self.old self.new (touched entry copy) AnyTable }
+        ensures exact { self.new ≡ retouched copy entry self.old }
+        ensures back { after result self.new ≡ self.old }
+        ensures light { is_light result ≡ true }
         ensures was { IsKept self.old }
     {
-        let at = index_of(&self.items, copy);
-        mem::replace(&mut self.items[at].touch, entry)
-    }
-
-    /// Sets a copy's touch, if it has a row. Takes no memory.
-    pub fn set_touch(&mut self, copy: u64, touch: u64)
-        requires { IsKept (retouched copy touch self.old) }
-        ensures { self.new ≡ retouched copy touch self.old }
-    {
-        match position_of(&self.items, copy) {
-            Some(at) => self.items[at].touch = touch,
-            None => {}
-        }
-    }
-
-    /// Sets a copy's event and touch, if it has a row. Takes no memory.
-    pub fn revert(&mut self, copy: u64, event: EventTree, touch: u64)
-        requires { IsKept (reverted copy event touch self.old) }
-        ensures { self.new ≡ reverted copy event touch self.old }
-    {
-        match position_of(&self.items, copy) {
-            Some(at) => restore(&mut self.items[at], event, touch),
-            None => {}
-        }
+        let change = touch_change(&self.items, entry, copy);
+        let Ok(back) = self.apply(change) else {
+            unreachable!();
+        };
+        back
     }
 
     /// Takes the entry's own row out, and the source's id becomes the sum of both. Takes no memory.
@@ -367,20 +272,5 @@ impl Rows {
         ensures { self.new ≡ rejoined entry source self.old }
     {
         rejoin_rows(&mut self.items, entry, source);
-    }
-
-    /// Takes the entry's own row out, if it has one, and puts rows back, or returns them where memory runs out.
-    pub fn put_all(&mut self, entry: u64, old: Vec<StampRow>) -> Result<(), Vec<StampRow>>
-        requires { IsKept (put_all old.items (dropped entry self.old)) }
-        ensures ok { OnOk result (self.new ≡ put_all old.items (dropped entry self.old)) }
-        ensures given_back { IfErr result (λ rows. rows ≡ old) }
-        ensures err { OnErr result (self.new ≡ self.old) }
-    {
-        if self.items.reserve(old.len()).is_err() {
-            return Err(old);
-        }
-        let _ = take_row(&mut self.items, entry);
-        put_rows(&mut self.items, old);
-        Ok(())
     }
 }

@@ -1,8 +1,10 @@
 //! Finding rows.
-ghost use Rattle.std.specs.Prelude.{◌≡◌, ◌<◌, ◌==◌, ◌&&◌, true, None, length, nat_le, position, slice_index_or, count_by, IsTrue, ◌↔◌, ◌∷◌, IfOk, map};
+ghost use Rattle.std.specs.Prelude.{◌≡◌, ◌<◌, ◌==◌, ◌&&◌, true, Some, None, IfSome, IfNone, length, nat_le, position, slice_index_or, count_by, IsTrue, ◌↔◌, IfOk, map};
 ghost use Rattle.std.specs.List.{position_or_len, list_all};
 ghost use Rattle.pana_family.specs.declared.row.StampRow.{StampRow as RowValue};
-ghost use Rattle.pana_family.specs.Rows.{lives, copy_rows, AreBefore, is_below};
+ghost use Rattle.pana_family.specs.inner.Reporting.{IsRowOf};
+ghost use Rattle.pana_family.specs.Change.{row_at};
+ghost use Rattle.pana_family.specs.Rows.{IsRising, lives, copy_rows, AreBefore, is_below};
 ghost use Rattle.pana_family.specs.inner.Making.{held_rows};
 ghost use Rattle.pana_family.specs.Holders.{is_copy, is_held};
 
@@ -43,6 +45,15 @@ pub fn position_of(rows: &[StampRow], copy: u64) -> Option<usize>
     rows.iter().position(|row| row.copy == copy)
 }
 
+/// The position of the row with this number, if there is one, among rising rows.
+pub fn row_position(rows: &[StampRow], copy: u64) -> Option<usize>
+    requires { IsRising 0 rows.now }
+    ensures some { IfSome result (λ at. (at < length rows.now) × ((d : RowValue) → row_at rows.now copy ≡ Some (slice_index_or rows.now at d))) }
+    ensures none { IfNone result (row_at rows.now copy ≡ None) }
+{
+    position_of(rows, copy)
+}
+
 fn living_position(rows: &[StampRow], copy: u64) -> Option<usize>
     ensures { result ≡ position (λ row. row.copy == copy && is_copy row.holder) rows.now }
 {
@@ -57,6 +68,14 @@ pub fn index_of(rows: &[StampRow], copy: u64) -> usize
     ensures free { (d : RowValue) → (slice_index_or rows.now result d).holder ≡ None }
 {
     living_position(rows, copy).unwrap()
+}
+
+/// A living copy's row.
+pub fn row_of(rows: &[StampRow], copy: u64) -> &StampRow
+    requires { lives rows.now copy ≡ true }
+    ensures { IsRowOf rows.now copy result.now }
+{
+    &rows[index_of(rows, copy)]
 }
 
 fn first_from(rows: &[StampRow], copy: u64) -> Option<usize>
@@ -124,17 +143,6 @@ pub fn copy_numbers(alloc: Global, rows: &[StampRow]) -> Result<Vec<u64>, AllocE
         if is_copy(row) {
             numbers.push(row.copy)?;
         }
-    }
-    Ok(numbers)
-}
-
-/// The entry, and the numbers of these rows.
-pub fn changed_numbers(alloc: Global, entry: u64, rows: &[StampRow]) -> Result<Vec<u64>, AllocError>
-    ensures { IfOk result (λ numbers. numbers.items ≡ entry ∷ map (λ row. row.copy) rows.now) }
-{
-    let mut numbers = vec![in alloc; entry]?;
-    for row in rows {
-        numbers.push(row.copy)?;
     }
     Ok(numbers)
 }

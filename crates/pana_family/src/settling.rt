@@ -1,14 +1,13 @@
 //! Settling a copy: what it owns once the parcels end that it holds and knows.
-ghost use Rattle.std.specs.Prelude.{◌≡◌, ◌≤◌, ◌&&◌, ◌||◌, ◌==◌, true, false, map, filter, IfOk, OnErr, not};
+ghost use Rattle.std.specs.Prelude.{◌≡◌, ◌≤◌, ◌&&◌, ◌||◌, ◌==◌, true, false, map, filter, IfOk};
 ghost use Rattle.pana_id.specs.Id.{is_zero, sum_of, IsSum, SharesNoPoint};
 ghost use Rattle.pana_event.specs.Event.{IsNormal, depth};
 ghost use Rattle.pana_event.specs.Order.{is_leq};
 ghost use Rattle.pana_family.specs.declared.row.StampRow.{StampRow as RowValue};
 ghost use Rattle.pana_family.specs.Table.{In};
 ghost use Rattle.pana_family.specs.Rows.{IsRising};
-ghost use Rattle.pana_family.specs.inner.Making.{AreApart, IsOwn, AreSettled, Gathered, IsGathered, is_bound, ends_from, settles, stays_parcel, parcel_row};
+ghost use Rattle.pana_family.specs.inner.Making.{AreApart, Gathered, IsGathered, is_bound, ends_from, settles, stays_parcel, parcel_row};
 
-use crate::exchanging::settle_in;
 use crate::making::copy_of;
 use crate::row::StampRow;
 use crate::searching::is_held;
@@ -159,28 +158,4 @@ pub fn parcels_left(
         }
     }
     Ok(parcels)
-}
-
-/// Puts two rows that share a stamp in the place of their copies', and settles both copies, the first before the second.
-/// Returns the rows that went.
-pub fn settle_both(
-    alloc: Global,
-    items: &mut Vec<StampRow>,
-    left: &StampRow,
-    right: &StampRow,
-) -> Result<Vec<StampRow>, AllocError>
-    requires rising { IsRising 0 items.old.items }
-    requires apart { AreApart items.old.items }
-    requires left { IsOwn items.old.items left.now }
-    requires right { IsOwn items.old.items right.now }
-    ensures settled { IfOk result (λ gone. AreSettled items.old.items left.now right.now items.new.items gone.items) }
-    ensures err { OnErr result (items.new.items ≡ items.old.items) }
-{
-    let first = settled_row(alloc, items, left, None)?;
-    let second = settled_row(alloc, items, right, None)?;
-    let mut settled = Vec::with_capacity(alloc, 2)?;
-    settled.push_reserved(first);
-    settled.push_reserved(second);
-    let gone = settle_in(alloc, items, None, settled, Vec::new(alloc))?;
-    Ok(gone)
 }

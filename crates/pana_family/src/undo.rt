@@ -2,9 +2,8 @@
 ghost use Rattle.std.specs.Prelude.{◌≡◌, ◌==◌, position};
 ghost use Rattle.std.specs.List.{list_any};
 
-use crate::row::StampRow;
+use crate::change::Change;
 use circular_buffer::HeapCircularBuffer;
-use pana_event::EventTree;
 
 /// What withdrawing an entry does.
 #[derive(Drop)]
@@ -16,12 +15,8 @@ pub struct Undo {
 /// How the rows from before an entry come back.
 #[derive(Drop)]
 pub enum Back {
-    /// The row with the entry's own number goes, if there is one, and these are put back.
-    Rows(Vec<StampRow>),
-    /// The copy's row has this event and touch again.
-    Event(u64, EventTree, u64),
-    /// The copy's row has this touch again.
-    Touch(u64, u64),
+    /// The rows are changed back.
+    Changed(Change),
     /// The row with the entry's own number goes, and the copy named here, its source, has the id of both again.
     Divided(u64),
 }

@@ -30,13 +30,12 @@ pub mod Begun
 pub mod Seen
 pub mod OwnPaths
 pub mod Sorted
-pub mod Chosen
 pub mod Undone
 pub mod Steps
 pub mod Worked
 pub mod Bounds
 pub mod Exchanges
-pub mod FamilyRows
 pub mod Taken
 pub mod Loaded
 pub mod NotKept
+pub mod Sending

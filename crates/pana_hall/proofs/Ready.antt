@@ -1,5 +1,5 @@
 -- What holds where nothing stands against a report: of its family and of the table of copies.
-use Rattle.std.specs.Prelude.{◌≡◌, ◌⊎◌, ℕ, ◌+◌, true, List, [], length, Some, None, IsSome, is_some, option_map}
+use Rattle.std.specs.Prelude.{◌≡◌, ◌⊎◌, ℕ, ◌+◌, true, List, [], length, Some, None, option_map}
 use Rattle.std.proofs.Common.{refl, sym, ap, ◌∙◌, subst, inl, inr}
 use Rattle.pana_copies.specs.declared.place.Place.{Place}
 use Rattle.pana_copies.specs.Spots.{Table, kept, place_of}
@@ -117,9 +117,6 @@ module _ {journal : List Entry} {by : List ℕ} {report : Report} {it : KeptFami
   -- where a copy is kept
   pub kept_there : IsReady journal by report it copies → (c : ℕ) (copy : Copy) → copy_in (living journal) c ≡ Some copy → kept copies c ≡ Some (spot_of copy)
   kept_there ready c copy found = ready.spots c ∙ ap (option_map spot_of) found
-
-  pub is_kept : IsReady journal by report it copies → (c : ℕ) → Names report c → IsSome (kept copies c)
-  is_kept ready c names = let there = named ready c names in ap is_some (kept_there ready c there.copy there.found)
 
   pub place_there : IsReady journal by report it copies → (c : ℕ) → place_of copies c ≡ option_map (λ copy. copy.place) (copy_in (living journal) c)
   place_there ready c = place_spots journal copies ready.spots c

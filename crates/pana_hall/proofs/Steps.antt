@@ -8,7 +8,6 @@ use Rattle.pana_hall.specs.Effective.{effective, left_out}
 use Rattle.pana_hall.specs.Living.{Copy, copy_in, living, copies_of}
 use Rattle.pana_hall.specs.Pending.{pending, is_last}
 use Rattle.pana_hall.specs.Refusal.{brought_back, displaced}
-use Rattle.pana_hall.specs.inner.Places.{place_of}
 use Rattle.pana_hall.specs.Accepted.{Accepts, IsAccepted}
 use Rattle.pana_hall.specs.Laws.{AreRising, IsOrderly}
 use Rattle.pana_hall.proofs.Lists.{each_weaker}
@@ -16,7 +15,7 @@ use Rattle.pana_hall.proofs.Sound.{accepted_is_sound}
 use Rattle.pana_hall.proofs.Tables.{merged}
 use Rattle.pana_hall.proofs.Places.{found_number, accepted_is_apart}
 use Rattle.pana_hall.proofs.Runs.{accepts_on}
-use Rattle.pana_hall.proofs.Undone.{back_lives, place_left}
+use Rattle.pana_hall.proofs.Undone.{back_lives}
 
 -- an accepted journal stays one with an entry more that it accepts
 pub next_accepted : (most : ℕ) (journal : List Entry) (entry : Entry) → IsAccepted most journal → Accepts most journal entry → IsAccepted most (journal ++ entry ∷ [])
@@ -45,16 +44,10 @@ orderly most journal accepted =
       families = each_weaker (λ copy. (copy.family ≡ families journal copy.number) × (copy.number ≤ length journal)) _ (living journal) (λ copy h. h.0) all.families;
     }
 
--- a copy that lives where some entries are left out is at the place that the others give it
-pub placed : (most number : ℕ) (numbers : List ℕ) (journal : List Entry) (copy : Copy) → IsAccepted most journal
-    → copy_in (copies_of (left_out numbers (effective journal))) number ≡ Some copy → place_of number (left_out numbers (effective journal)) ≡ Some copy.place
-placed most number numbers journal copy accepted found = place_left most number numbers journal copy (accepted_is_sound most journal accepted) found
-
--- a Withdraw of a family's last pending entry brings back the copy that the entry moved or removed, at that place
+-- a Withdraw of a family's last pending entry brings back the copy that the entry moved or removed
 pub brought : (most m number : ℕ) (journal : List Entry) (entry : Entry) → IsAccepted most journal → is_last m (pending most (families journal m) journal) ≡ true
     → entry_at journal m ≡ Some entry → displaced entry.report ≡ Some number
     → (copy : Copy) × (brought_back m journal ≡ Some copy) × (copy.number ≡ number) × (copy_in (copies_of (left_out (m ∷ []) (effective journal))) number ≡ Some copy)
-    × (place_of number (left_out (m ∷ []) (effective journal)) ≡ Some copy.place)
 brought most m number journal entry accepted at_end at is =
     let back = back_lives most m number journal entry accepted at_end at is in
-    (back.0, back.1, found_number _ number back.0 back.2, back.2, placed most number (m ∷ []) journal back.0 accepted back.2)
+    (back.0, back.1, found_number _ number back.0 back.2, back.2)

@@ -12,7 +12,7 @@ use Rattle.pana_journal.specs.Entries.{entry_at}
 use Rattle.pana_hall.specs.declared.cause.Cause.TheVariants.{PlaceTaken}
 use Rattle.pana_hall.specs.declared.kept_family.KeptFamily.{KeptFamily}
 use Rattle.pana_hall.specs.Family.{families}
-use Rattle.pana_hall.specs.Effective.{effective, is_of_copies, left_out}
+use Rattle.pana_hall.specs.Effective.{effective, left_out}
 use Rattle.pana_hall.specs.Living.{Copy, copy_in, copies_of, living, after_report, moved}
 use Rattle.pana_hall.specs.Pending.{pending, is_last, last}
 use Rattle.pana_hall.specs.Refusal.{full, unknown_entry, not_yours, settled_or_followed, pending_with, taken_since, taken_from, brought_back, displaced}
@@ -161,7 +161,6 @@ not_taken back copies number x free found here =
 pub record Open (journal : List Entry) (m : ℕ) : Type 0 where
   pub undone : Entry
   pub at : entry_at journal m ≡ Some undone
-  pub of_copies : is_of_copies undone.report ≡ true
   pub at_end : is_last m (pending_with 8 m journal) ≡ true
   pub free : taken_since m journal ≡ None
 
@@ -175,7 +174,6 @@ module _ {journal : List Entry} {by : List ℕ} {m : ℕ} {it : KeptFamily} {cop
       record {
         undone = there.0;
         at = there.1;
-        of_copies = there.2;
         at_end = not-false _ (none_false _ _ at_end.0);
         free = (first_none (taken_since m journal) [] at_end.1).0;
       }

@@ -1,31 +1,25 @@
 -- What a Withdraw brings back: a copy that lives where its entry is left out, at the place that the other entries give it.
-use Rattle.std.specs.Prelude.{◌≡◌, ℕ, ◌<◌, true, false, cond, not, ◌==◌, List, [], ◌∷◌, ◌++◌, length, filter, fold, Option, Some, None, option_map}
-use Rattle.std.specs.List.{AllByRecursion}
-use Rattle.std.specs.Option.{option_to_list}
-use Rattle.std.proofs.Common.{refl, sym, ap, ◌∙◌, subst, inl, inr, arith, append-nil, append_assoc}
-use Rattle.std.proofs.lemmas.Bool.{eqb-true, eqb-false, eq-eqb, ne_eqb}
-use Rattle.pana_copies.specs.declared.place.Place.{Place}
+use Rattle.std.specs.Prelude.{◌≡◌, ℕ, true, false, cond, not, ◌==◌, List, [], ◌∷◌, ◌++◌, length, filter, fold, Option, Some, None}
+use Rattle.std.proofs.Common.{refl, sym, ap, ◌∙◌, subst, append-nil, append_assoc}
+use Rattle.std.proofs.lemmas.Bool.{eqb-true, eqb-false}
 use Rattle.pana_journal.specs.declared.report.Report.{Report}
-use Rattle.pana_journal.specs.declared.report.Report.TheVariants.{Register, Duplicate, Edit, Reconcile, Merge, Relocate, Remove, Confirm, Withdraw}
+use Rattle.pana_journal.specs.declared.report.Report.TheVariants.{Relocate, Remove, Withdraw}
 use Rattle.pana_journal.specs.declared.entry.Entry.{Entry}
 use Rattle.pana_journal.specs.Entries.{entry_at}
 use Rattle.pana_hall.specs.Family.{families, subject}
 use Rattle.pana_hall.specs.Effective.{effective, left_out}
-use Rattle.pana_hall.specs.Living.{Copy, copy_in, living, copies_of, after_entry, after_report, change, registered, duplicated, moved}
+use Rattle.pana_hall.specs.Living.{Copy, copy_in, living, copies_of, after_entry, moved}
 use Rattle.pana_hall.specs.Pending.{pending, last, is_last}
 use Rattle.pana_hall.specs.Refusal.{report_refusal, full, unknown, brought_back, displaced}
 use Rattle.pana_hall.specs.Accepted.{Accepts, AcceptsAll, IsAccepted}
 use Rattle.pana_hall.specs.Tables.{table}
-use Rattle.pana_hall.specs.Laws.{AreRising}
-use Rattle.pana_hall.specs.inner.Places.{place_after, place_of}
-use Rattle.pana_hall.proofs.Lists.{each_filter, each_weaker, last_push}
-use Rattle.pana_hall.proofs.Locality.{IsWell, Fits, found_fits, report_fits}
+use Rattle.pana_hall.proofs.Lists.{last_push}
+use Rattle.pana_hall.proofs.Locality.{found_fits}
 use Rattle.pana_hall.proofs.Grown.{own, own_copies, own_confirm, own_withdraw, own_other}
 use Rattle.pana_hall.proofs.Allowed.{first_none, known}
-use Rattle.pana_hall.proofs.Rising.{rises_filter}
 use Rattle.pana_hall.proofs.Sound.{IsSound, keeps_families, living_fit, accepted_is_sound, sound_grows, empty_is_sound, OfCopies, Confirms, Withdraws, kind_of}
-use Rattle.pana_hall.proofs.Tables.{EndsIn, ends_at, ends_in, table_own, last_none, rises_effective}
-use Rattle.pana_hall.proofs.Places.{EndsInEntry, ends_in_entry, rest_before, last_at, found_own, effective_well, left_out_one, back_is, found_number, found_push, found_changed, stayed_changed, stayed_without}
+use Rattle.pana_hall.proofs.Tables.{EndsIn, ends_at, ends_in, table_own, last_none}
+use Rattle.pana_hall.proofs.Places.{EndsInEntry, ends_in_entry, rest_before, last_at, found_own, effective_well, left_out_one, back_is}
 use Rattle.pana_hall.proofs.More.{family_of_copy, back_in_table}
 
 -- the copy that the report moves or removes is one of these
@@ -164,82 +158,3 @@ back_lives most m number journal entry accepted at_end at is =
     as_found : (number : ℕ) (journal : List Entry) {table_copy found : Option Copy} → (copy : Copy) × (table_copy ≡ Some copy) → brought_back m journal ≡ table_copy → brought_back m journal ≡ found
         → (copy : Copy) × (brought_back m journal ≡ Some copy) × (found ≡ Some copy)
     as_found number journal lives table is = (lives.0, table ∙ lives.1, sym is ∙ table ∙ lives.1)
-
--- the place is that of the copy with this number, if it lives
-abbrev IsPlaceOf : ℕ → List Copy → Option Place → Type 0
-IsPlaceOf number copies place = (copy : Copy) → copy_in copies number ≡ Some copy → place ≡ Some copy.place
-
--- no copy has the number of the next entry
-not_yet : (of : ℕ → ℕ) (low n number : ℕ) (copies : List Copy) (copy : Copy) → low < n → AllByRecursion (Fits of low) copies → copy_in copies number ≡ Some copy → n ≡ number → ⊥
-not_yet of low n number copies copy more fits found same =
-    let here = found_fits of low number copies copy fits found in
-    let is = here.0 in
-    let within = here.1.within in
-    omega arith
-
-place_pushed : (of : ℕ → ℕ) (low number : ℕ) (copies : List Copy) (new : Copy) (place : Option Place) → low < new.number → AllByRecursion (Fits of low) copies → IsPlaceOf number copies place
-    → IsPlaceOf number (copies ++ new ∷ []) (cond (new.number == number) (Some new.place) place)
-place_pushed of low number copies new place more fits placed copy found =
-    elim (found_push copies new number copy found) [
-      | inl old ↦ ap (λ b. cond b (Some new.place) place) (ne_eqb new.number number (not_yet of low new.number number copies copy more fits old)) ∙ placed copy old
-      | inr is ↦ ap (λ b. cond b (Some new.place) place) (eq-eqb new.number number is.0) ∙ ap (λ c. Some c.place) is.1
-    ]
-
-place_changed : (number changed : ℕ) (f : Copy → Copy) → ((copy : Copy) → (f copy).number ≡ copy.number) → ((copy : Copy) → (f copy).place ≡ copy.place)
-    → (copies : List Copy) (place : Option Place) → IsPlaceOf number copies place → IsPlaceOf number (change changed f copies) place
-place_changed number changed f kept still copies place placed copy found =
-    let old = stayed_changed changed f kept still copies number copy found in
-    placed old.0 old.1 ∙ ap (λ p. Some p) old.2
-
-place_report : (of : ℕ → ℕ) (low n number : ℕ) (report : Report) (copies : List Copy) (place : Option Place) → low < n → AllByRecursion (Fits of low) copies → IsPlaceOf number copies place
-    → IsPlaceOf number (after_report n report copies) (place_after number n report place)
-place_report of low n number (Register at) copies place more fits placed = place_pushed of low number copies (registered n at) place more fits placed
-place_report of low n number (Duplicate source at) copies place more fits placed =
-    elim (copy_in copies source) as (λ o. IsPlaceOf number (copies ++ option_to_list (option_map (duplicated n at) o)) (cond (n == number) (Some at) place)) [
-      | None ↦ λ copy found.
-          let old : copy_in copies number ≡ Some copy = ap (λ l. copy_in l number) (sym (append-nil copies)) ∙ found in
-          ap (λ b. cond b (Some at) place) (ne_eqb n number (not_yet of low n number copies copy more fits old)) ∙ placed copy old
-      | Some c ↦ place_pushed of low number copies (duplicated n at c) place more fits placed
-    ]
-place_report of low n number (Edit c) copies place more fits placed = place_changed number c _ (λ x. refl) (λ x. refl) copies place placed
-place_report of low n number (Reconcile a b) copies place more fits placed = place_changed number b _ (λ x. refl) (λ x. refl) _ place (place_changed number a _ (λ x. refl) (λ x. refl) copies place placed)
-place_report of low n number (Merge a b) copies place more fits placed = place_changed number b _ (λ x. refl) (λ x. refl) _ place (place_changed number a _ (λ x. refl) (λ x. refl) copies place placed)
-place_report of low n number (Relocate c at) copies place more fits placed = λ copy found.
-    let old = found_changed c (moved n at) (λ x. refl) copies number copy found in
-    let is : old.0.number ≡ number = found_number copies number old.0 old.1 in
-    elim (c == number) as (λ b. (c == number) ≡ b → cond b (Some at) place ≡ Some copy.place) [
-      | true ↦ λ e.
-          let moved_it : copy ≡ moved n at old.0 = old.2 ∙ ap (λ b. cond b (moved n at old.0) old.0) (eq-eqb old.0.number c (is ∙ sym (eqb-true c number e))) in
-          ap (λ x. Some x.place) (sym moved_it)
-      | false ↦ λ e.
-          let kept : copy ≡ old.0 = old.2 ∙ ap (λ b. cond b (moved n at old.0) old.0) (ne_eqb old.0.number c (λ h. eqb-false c number e (sym h ∙ is))) in
-          placed old.0 old.1 ∙ ap (λ x. Some x.place) (sym kept)
-    ] refl
-place_report of low n number (Remove c heir) copies place more fits placed = λ copy found.
-    let old = stayed_without c copies number copy found in
-    placed old.0 old.1 ∙ ap (λ p. Some p) old.2
-place_report of low n number (Confirm entry) copies place more fits placed = placed
-place_report of low n number (Withdraw entry) copies place more fits placed = placed
-
-place_fold : (of : ℕ → ℕ) (low last number : ℕ) (copies : List Copy) (place : Option Place) (entries : List Entry) → AreRising (λ e. e.number) low entries → AllByRecursion (IsWell of last) entries
-    → AllByRecursion (Fits of low) copies → IsPlaceOf number copies place
-    → IsPlaceOf number (fold after_entry copies entries) (fold (λ before entry. place_after number entry.number entry.report before) place entries)
-place_fold of low last number copies place [] rising well fits placed = placed
-place_fold of low last number copies place (entry ∷ entries) rising well fits placed =
-    let more = rising.0 in
-    place_fold of entry.number last number (after_entry copies entry) (place_after number entry.number entry.report place) entries rising.1 well.1
-    (report_fits of entry.number entry.number entry.report copies well.0.belongs (omega arith)
-    (each_weaker (Fits of low) (Fits of entry.number) copies (λ c fit. let within = fit.within in let bounded = fit.bounded in record { family = fit.family; within = omega arith; bounded = omega arith }) fits))
-    (place_report of low entry.number number entry.report copies place rising.0 fits placed)
-
-place_found : (of : ℕ → ℕ) (last number : ℕ) (entries : List Entry) → AreRising (λ e. e.number) 0 entries → AllByRecursion (IsWell of last) entries → IsPlaceOf number (copies_of entries) (place_of number entries)
-unfolding copies_of
-place_found of last number entries rising well = place_fold of 0 last number [] None entries rising well tt (λ copy found. absurd (cc))
-
--- a copy is where the entries left put it
-pub place_left : (most number : ℕ) (numbers : List ℕ) (journal : List Entry) (copy : Copy) → IsSound most journal
-    → copy_in (copies_of (left_out numbers (effective journal))) number ≡ Some copy → place_of number (left_out numbers (effective journal)) ≡ Some copy.place
-place_left most number numbers journal copy sound found =
-    place_found (families journal) (length journal) number (left_out numbers (effective journal))
-    (rises_filter (λ e. e.number) 0 _ (effective journal) (rises_effective 0 journal sound.rising))
-    (each_filter _ _ (effective journal) (effective_well most journal sound)) copy found

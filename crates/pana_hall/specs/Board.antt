@@ -5,16 +5,25 @@ use Rattle.pana_event.specs.declared.rel.Rel.{Rel}
 use Rattle.pana_event.specs.declared.rel.Rel.TheVariants.{Equal, Older, Newer, Conflict}
 use Rattle.pana_hall.specs.declared.board.BoardRow.{BoardRow}
 use Rattle.pana_hall.specs.declared.board.BoardView.{BoardView}
-use Rattle.pana_family.specs.Relation.{relation, is_rel}
+use Rattle.pana_rel.specs.Board.{relates as relates_so}
+use Rattle.pana_family.specs.Relation.{relation}
 use Rattle.pana_hall.specs.Living.{Copy}
 
 -- whether the copy is of the family
 abbrev pub is_of : ℕ → Copy → Bool
 is_of family copy = copy.family == family
 
+-- a copy's number
+abbrev pub number_of : Copy → ℕ
+number_of copy = copy.number
+
+-- how a copy relates to another, by their updates
+abbrev pub copy_relation : Copy → Copy → Rel
+copy_relation copy other = relation copy.updates other.updates
+
 -- whether the other is another copy of this one's family, and relates to it so
 abbrev pub relates : Rel → Copy → Copy → Bool
-relates rel copy other = is_of copy.family other && not (other.number == copy.number) && is_rel (relation other.updates copy.updates) rel
+relates rel copy other = is_of copy.family other && relates_so number_of copy_relation rel copy other
 
 -- a copy's row: how many others are newer, older, equal and in conflict
 unfoldable pub row_of : List Copy → Copy → BoardRow

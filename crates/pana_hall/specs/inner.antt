@@ -1,6 +1,5 @@
 -- Words that only inner functions and proofs need: nobody has to believe them.
 pub mod Families
-pub mod Places
 pub mod Spots
 pub mod OldPlaces
 pub mod Listed

@@ -2,7 +2,7 @@
 //! A family's last 8 entries are pending; `table 8 k family journal` is the family's living copies with the last k
 //! pending entries left out.
 
-ghost use Rattle.std.specs.Prelude.{◌≡◌, ◌≢◌, ℕ, ◌+◌, ◌≤◌, List, [], ◌∷◌, ◌++◌, ◌==◌, ◌||◌, ◌⊎◌, length, find, count_by, option_and_then, option_map, if◌then◌else◌, Some, true};
+ghost use Rattle.std.specs.Prelude.{◌≡◌, ◌≢◌, ℕ, ◌+◌, ◌≤◌, List, [], ◌∷◌, ◌++◌, ◌==◌, ◌⊎◌, length, find, count_by, option_and_then, option_map, if◌then◌else◌, Some, true};
 ghost use Rattle.std.specs.Bool.{then_some};
 ghost use Rattle.std.specs.List.{AllByRecursion, list_any};
 ghost use Rattle.std.specs.Str.{bytes_eq};
@@ -13,8 +13,7 @@ ghost use Rattle.pana_family.specs.Sets.{IsAbove, after, began, confirmed, withd
 ghost use Rattle.pana_hall.specs.Sets.{reported, sets_of};
 ghost use Rattle.pana_journal.specs.declared.entry.Entry.{Entry};
 ghost use Rattle.pana_journal.specs.Entries.{entry_at};
-ghost use Rattle.pana_family.specs.Updates.{has, union};
-ghost use Rattle.pana_family.specs.Laws.{RelatesSets};
+ghost use Rattle.pana_family.specs.Updates.{has};
 ghost use Rattle.pana_hall.specs.Family.{entries_of, families, is_family, is_register, subject};
 ghost use Rattle.pana_hall.specs.Effective.{effective, is_of_copies, left_out};
 ghost use Rattle.pana_hall.specs.Living.{Copy, copies_of, copy_in, known_to, living};
@@ -38,16 +37,6 @@ ghost use Rattle.pana_hall.specs.Laws.{AddsLayer, AreApart, AreMerged, AreRising
 /// each copy is of its entry's family. Entries that are withdrawn are no exception.
 pub fn every_run_is_orderly()
     ensures { (run : List Exchange) → IsRun run → IsOrderly (journal_from [] run) }
-{}
-
-/// Two copies are equal, one is obsolete, or they are in conflict, by the members of their sets alone.
-pub fn relation_is_that_of_sets()
-    ensures { (a b : List ℕ) → RelatesSets a b }
-{}
-
-/// The members of two sets together are those of either.
-pub fn union_is_of_sets()
-    ensures { (a b : List ℕ) (update : ℕ) → has (union a b) update ≡ (has a update || has b update) }
 {}
 
 /// The journal of a run refuses none of its entries, and each such journal is that of a run.

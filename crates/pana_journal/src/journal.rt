@@ -1,4 +1,4 @@
-ghost use Rattle.std.specs.Prelude.{◌≡◌, ◌+◌, ◌<◌, ◌≤◌, ◌↔◌, [], ◌∷◌, ◌++◌, length, nat_le, option_copied, IfSome, IfOk, OnOk, IsErrOf};
+ghost use Rattle.std.specs.Prelude.{◌≡◌, ◌+◌, ◌<◌, ◌≤◌, ◌↔◌, [], ◌∷◌, ◌++◌, length, nat_le, option_copied, IfSome, IfOk, OnOk, OnErr, IsErrOf};
 
 use crate::entry::Entry;
 use crate::report::Report;
@@ -61,11 +61,12 @@ impl Journal {
     ///
     /// # Errors
     ///
-    /// `JournalFull` at 1,000,000 entries; `OutOfMemory`.
+    /// `JournalFull` at 1,000,000 entries; `OutOfMemory`. The room is then as it was.
     pub fn reserve_one(&mut self) -> Result<(), JournalFault>
         ensures entries { self.new.entries ≡ self.old.entries }
         ensures ok { OnOk result (0 < self.new.room) }
         ensures full { IsErrOf result JournalFault.JournalFull ↔ (1000000 ≤ length self.old.entries) }
+        ensures err { OnErr result (self.new ≡ self.old) }
     {
         if self.is_full() {
             return Err(JournalFault::JournalFull);

@@ -1,6 +1,6 @@
 -- Counts, newest copies and splits, read off the rows.
-use Rattle.std.proofs.Common.{◌≡◌, ℕ, zero, suc, Bool, true, false, ◌+◌, ◌<◌, List, [], ◌∷◌, length, get_or, refl, ap, sym, subst, ◌∙◌, inl, inr, arith}
-use Rattle.std.specs.Prelude.{◌==◌, ◌&&◌, ◌↔◌, not, if◌then◌else◌, Contains, map, filter, count_by}
+use Rattle.std.proofs.Common.{◌≡◌, ℕ, zero, suc, Bool, true, false, ◌+◌, ◌<◌, List, [], ◌∷◌, length, get_or, refl, ap, ap₂, sym, subst, ◌∙◌, inl, inr, arith}
+use Rattle.std.specs.Prelude.{◌==◌, ◌&&◌, ◌||◌, ◌↔◌, not, if◌then◌else◌, Contains, map, filter, count_by}
 use Rattle.std.specs.List.{list_any}
 use Rattle.std.proofs.lemmas.Bool.{cases_Bool, cases_eq, eq-eqb, ne_eqb, both_ways, not-true}
 use Rattle.std.proofs.lemmas.List.Sums.{sum_by-cons}
@@ -9,11 +9,10 @@ use Rattle.std.proofs.lemmas.List.{ext_get_or, get_or-map, length-map, get_or_de
 use Rattle.pana_event.specs.declared.rel.Rel.{Rel}
 use Rattle.pana_event.specs.declared.rel.Rel.TheVariants.{Equal, Older, Newer, Conflict}
 use Rattle.pana_event.specs.Relation.{reverse_of}
-use Rattle.pana_rel.specs.Pairs.{count_of, is_rel, is_split, place_of, rel_of}
-use Rattle.pana_rel.specs.inner.Packed.{Packed}
-use Rattle.pana_rel.specs.inner.Square.{row_in, table_of, IsKept, IsRising, IsTop, IsTorn}
+use Rattle.pana_rel.specs.Board.{is_rel, is_split, newest_of, relates}
+use Rattle.pana_rel.specs.Pairs.{own_number, place_of}
+use Rattle.pana_rel.specs.inner.Square.{Relations, rel_in, row_in, IsKept, IsRising, IsTop, IsTorn}
 use Rattle.pana_rel.proofs.Places.{first_below, place_at, place_reads, place_within, rising_rest}
-use Rattle.pana_rel.proofs.Tables.{rel_is}
 
 -- what is in the rest is in the whole
 pub contains_more : (x : ℕ) (xs : List ℕ) (a : ℕ) → Contains xs a → Contains (x ∷ xs) a
@@ -43,28 +42,15 @@ count_agree p q (x ∷ xs) same =
     let rest = count_agree p q xs (λ a here. same a (contains_more x xs a here)) in
     omega (arith, count_cons p x xs, count_cons q x xs, one, rest)
 
+pub any_agree : (p q : ℕ → Bool) (xs : List ℕ) → ((a : ℕ) → Contains xs a → p a ≡ q a) → list_any p xs ≡ list_any q xs
+any_agree p q [] same = refl
+any_agree p q (x ∷ xs) same =
+    ap₂ (λ s t. s || t) (same x (zero, omega arith, refl)) (any_agree p q xs (λ a here. same a (contains_more x xs a here)))
+
 pub count_map : (p : Rel → Bool) (f : ℕ → Rel) (xs : List ℕ) → count_by p (map f xs) ≡ count_by (λ a. p (f a)) xs
 count_map p f [] = refl
 count_map p f (x ∷ xs) =
     omega (arith, count_cons p (f x) (map f xs), count_cons (λ a. p (f a)) x xs, count_map p f xs)
-
-pub count_none : (p : ℕ → Bool) (xs : List ℕ) → count_by p xs ≡ 0 → (a : ℕ) → Contains xs a → p a ≡ false
-count_none p [] none a here = absurd (omega (arith, here.1))
-count_none p (x ∷ xs) none a here = elim (part x xs a here) [
-  | first same ↦ elim (cases_Bool (p x)) [
-    | inl passes ↦
-        let one : (one_of (p x)) ≡ 1 = rw passes refl in
-        absurd (omega (arith, count_cons p x xs, one, none))
-    | inr fails ↦ ap p (sym same) ∙ fails
-  ]
-  | later rest ↦ count_none p xs (omega (arith, count_cons p x xs, none)) a rest
-]
-
-pub none_count : (p : ℕ → Bool) (xs : List ℕ) → ((a : ℕ) → Contains xs a → p a ≡ false) → count_by p xs ≡ 0
-none_count p [] none = refl
-none_count p (x ∷ xs) none =
-    let zero_here : (one_of (p x)) ≡ 0 = rw (none x (zero, omega arith, refl)) refl in
-    omega (arith, count_cons p x xs, zero_here, none_count p xs (λ a here. none a (contains_more x xs a here)))
 
 -- a copy that passes a test, and the others that do
 pub count_others : (p : ℕ → Bool) (xs : List ℕ) (a : ℕ) → IsRising xs → Contains xs a → p a ≡ true → count_by p xs ≡ count_by (λ x. not (x == a) && p x) xs + 1
@@ -132,21 +118,24 @@ filter_contains p (x ∷ xs) a here = elim (cases_Bool (p x)) [
 ]
 
 -- a copy's row has its relations to all copies in order
-pub row_is : (cs : List ℕ) (rows : List Packed) (a : ℕ) → IsKept cs rows → Contains cs a → (row_in rows (place_of a cs)).items ≡ map (rel_of (table_of cs rows) a) cs
+pub row_is : (cs : List ℕ) (rows : List Relations) (a : ℕ) → IsKept cs rows → Contains cs a → (row_in rows (place_of a cs)).items ≡ map (rel_in cs rows a) cs
 row_is cs rows a kept here =
-    let at = place_of a cs in
-    let row = (row_in rows at).items in
-    let rel = rel_of (table_of cs rows) a in
-    let long : length row ≡ length cs = (kept.wide at (omega (arith, kept.tall, place_within cs a here))) ∙ kept.tall in
+    let row = (row_in rows (place_of a cs)).items in
+    let rel = rel_in cs rows a in
+    let long : length row ≡ length cs = (kept.wide (place_of a cs) (omega (arith, kept.tall, place_within cs a here))) ∙ kept.tall in
     ext_get_or Equal row (map rel cs) (long ∙ sym (length-map cs rel)) (λ j less.
     let within : j < length cs = omega (arith, less, long) in
-    sym (get_or-map rel cs j 0 Equal within ∙ rel_is cs rows a (get_or cs j 0) kept.tall here ∙ ap (λ k. get_or row k Equal) (place_at cs j kept.rising within)))
+    sym (get_or-map rel cs j 0 Equal within ∙ ap (λ k. get_or row k Equal) (place_at cs j kept.rising within)))
 
 -- the count of one kind in a copy's row
-pub row_count : (cs : List ℕ) (rows : List Packed) (a : ℕ) (wanted : Rel) → IsKept cs rows → Contains cs a
-    → count_by (λ rel. is_rel rel wanted) (row_in rows (place_of a cs)).items ≡ count_by (λ other. is_rel (rel_of (table_of cs rows) a other) wanted) cs
+pub row_count : (cs : List ℕ) (rows : List Relations) (a : ℕ) (wanted : Rel) → IsKept cs rows → Contains cs a
+    → count_by (λ rel. is_rel rel wanted) (row_in rows (place_of a cs)).items ≡ count_by (λ other. is_rel (rel_in cs rows a other) wanted) cs
 row_count cs rows a wanted kept here =
-    ap (λ row. count_by (λ rel. is_rel rel wanted) row) (row_is cs rows a kept here) ∙ count_map (λ rel. is_rel rel wanted) (rel_of (table_of cs rows) a) cs
+    ap (λ row. count_by (λ rel. is_rel rel wanted) row) (row_is cs rows a kept here) ∙ count_map (λ rel. is_rel rel wanted) (rel_in cs rows a) cs
+
+any_map : {X : Type 0} (p : X → Bool) (f : ℕ → X) (xs : List ℕ) → list_any p (map f xs) ≡ list_any (λ a. p (f a)) xs
+any_map p f [] = refl
+any_map p f (x ∷ xs) = ap (λ b. p (f x) || b) (any_map p f xs)
 
 is_rel_reversed : (rel wanted : Rel) → is_rel (reverse_of rel) wanted ≡ is_rel rel (reverse_of wanted)
 is_rel_reversed Equal Equal = refl
@@ -185,60 +174,58 @@ is_rel_same Conflict Older h = absurd (cc)
 is_rel_same Conflict Newer h = absurd (cc)
 
 -- how the others relate to a copy, as its own relations say it
-from_own : (cs : List ℕ) (rows : List Packed) (a other : ℕ) (wanted : Rel) → IsKept cs rows → Contains cs a → Contains cs other
-    → is_rel (rel_of (table_of cs rows) a other) (reverse_of wanted) ≡ is_rel (rel_of (table_of cs rows) other a) wanted
+from_own : (cs : List ℕ) (rows : List Relations) (a other : ℕ) (wanted : Rel) → IsKept cs rows → Contains cs a → Contains cs other
+    → is_rel (rel_in cs rows a other) (reverse_of wanted) ≡ is_rel (rel_in cs rows other a) wanted
 from_own cs rows a other wanted kept here there =
-    sym (ap (λ rel. is_rel rel wanted) (kept.mirrored a other here there) ∙ is_rel_reversed (rel_of (table_of cs rows) a other) wanted)
+    sym (ap (λ rel. is_rel rel wanted) (kept.mirrored a other here there) ∙ is_rel_reversed (rel_in cs rows a other) wanted)
 
--- of a kind that isn't Equal the copy itself is none
-pub counted_others : (cs : List ℕ) (rows : List Packed) (a : ℕ) (wanted : Rel) → IsKept cs rows → Contains cs a → is_rel Equal (reverse_of wanted) ≡ false
-    → count_by (λ rel. is_rel rel (reverse_of wanted)) (row_in rows (place_of a cs)).items ≡ count_of wanted a cs (rel_of (table_of cs rows))
+-- how the others relate to it: of a kind that isn't Equal the copy itself is none
+other_is : (cs : List ℕ) (rows : List Relations) (a other : ℕ) (wanted : Rel) → IsKept cs rows → Contains cs a → Contains cs other → is_rel Equal (reverse_of wanted) ≡ false
+    → is_rel (rel_in cs rows a other) (reverse_of wanted) ≡ relates own_number (rel_in cs rows) wanted a other
+other_is cs rows a other wanted kept here there uneven = elim (cases_eq other a) [
+  | inl same ↦
+      let own : rel_in cs rows a other ≡ Equal = ap (λ b. rel_in cs rows a b) same ∙ kept.itself a here in
+      rw (eq-eqb other a same) (ap (λ r. is_rel r (reverse_of wanted)) own ∙ uneven)
+  | inr apart ↦ rw (ne_eqb other a apart) (from_own cs rows a other wanted kept here there)
+]
+
+pub counted_others : (cs : List ℕ) (rows : List Relations) (a : ℕ) (wanted : Rel) → IsKept cs rows → Contains cs a → is_rel Equal (reverse_of wanted) ≡ false
+    → count_by (λ rel. is_rel rel (reverse_of wanted)) (row_in rows (place_of a cs)).items ≡ count_by (relates own_number (rel_in cs rows) wanted a) cs
 counted_others cs rows a wanted kept here uneven =
-    let rel = rel_of (table_of cs rows) in
     row_count cs rows a (reverse_of wanted) kept here
-    ∙ count_agree (λ other. is_rel (rel a other) (reverse_of wanted)) (λ other. not (other == a) && is_rel (rel other a) wanted) cs (λ other there.
-    elim (cases_eq other a) [
-      | inl same ↦
-          let own : rel a other ≡ Equal = ap (λ b. rel a b) same ∙ kept.itself a here in
-          rw (eq-eqb other a same) (ap (λ r. is_rel r (reverse_of wanted)) own ∙ uneven)
-      | inr apart ↦ rw (ne_eqb other a apart) (from_own cs rows a other wanted kept here there)
-    ])
+    ∙ count_agree (λ other. is_rel (rel_in cs rows a other) (reverse_of wanted)) (relates own_number (rel_in cs rows) wanted a) cs (λ other there. other_is cs rows a other wanted kept here there uneven)
 
 -- of those that are Equal the copy itself is one
-pub counted_equal : (cs : List ℕ) (rows : List Packed) (a : ℕ) → IsKept cs rows → Contains cs a
-    → count_by (λ rel. is_rel rel Equal) (row_in rows (place_of a cs)).items ≡ count_of Equal a cs (rel_of (table_of cs rows)) + 1
+pub counted_equal : (cs : List ℕ) (rows : List Relations) (a : ℕ) → IsKept cs rows → Contains cs a
+    → count_by (λ rel. is_rel rel Equal) (row_in rows (place_of a cs)).items ≡ count_by (relates own_number (rel_in cs rows) Equal a) cs + 1
 counted_equal cs rows a kept here =
-    let rel = rel_of (table_of cs rows) in
+    let rel = rel_in cs rows in
     let test : ℕ → Bool = λ other. is_rel (rel other a) Equal in
     row_count cs rows a Equal kept here
     ∙ count_agree (λ other. is_rel (rel a other) Equal) test cs (λ other there. from_own cs rows a other Equal kept here there)
     ∙ count_others test cs a kept.rising here (ap (λ r. is_rel r Equal) (kept.itself a here))
 
 -- whether none is newer than a copy
-pub top_is : (cs : List ℕ) (rows : List Packed) (a : ℕ) → IsKept cs rows → Contains cs a
-    → IsTop (row_in rows (place_of a cs)).items ↔ (not (list_any (λ other. is_rel (rel_of (table_of cs rows) other a) Newer) cs) ≡ true)
+abbrev pub none_newer : (ℕ → ℕ → Rel) → List ℕ → ℕ → Bool
+none_newer rel cs copy = not (list_any (relates own_number rel Newer copy) cs)
+
+pub obsolete_is : (cs : List ℕ) (rows : List Relations) (a : ℕ) → IsKept cs rows → Contains cs a
+    → list_any (λ rel. is_rel rel Older) (row_in rows (place_of a cs)).items ≡ list_any (relates own_number (rel_in cs rows) Newer a) cs
+obsolete_is cs rows a kept here =
+    ap (list_any (λ rel. is_rel rel Older)) (row_is cs rows a kept here) ∙ any_map (λ rel. is_rel rel Older) (rel_in cs rows a) cs
+    ∙ any_agree (λ other. is_rel (rel_in cs rows a other) Older) (relates own_number (rel_in cs rows) Newer a) cs (λ other there. other_is cs rows a other Newer kept here there refl)
+
+pub top_is : (cs : List ℕ) (rows : List Relations) (a : ℕ) → IsKept cs rows → Contains cs a → IsTop (row_in rows (place_of a cs)).items ↔ (none_newer (rel_in cs rows) cs a ≡ true)
 top_is cs rows a kept here =
-    let rel = rel_of (table_of cs rows) in
-    let p : ℕ → Bool = λ other. is_rel (rel other a) Newer in
-    let counted : count_by (λ r. is_rel r Older) (row_in rows (place_of a cs)).items ≡ count_by p cs =
-    row_count cs rows a Older kept here ∙ count_agree (λ other. is_rel (rel a other) Older) p cs (λ other there. from_own cs rows a other Newer kept here there) in (
-      λ top. elim (cases_Bool (list_any p cs)) [
-        | inl some ↦ let one = found p cs some in absurd (both_ways (p one.item) (count_none p cs (sym counted ∙ top) one.item one.here) one.passes)
-        | inr none ↦ rw none refl
-      ],
-      λ test. counted ∙ none_count p cs (λ b there. elim (cases_Bool (p b)) [
-        | inl passes ↦ absurd (both_ways (list_any p cs) (not-true (list_any p cs) test) (any_at p cs b there passes))
-        | inr fails ↦ fails
-      ]),
-    )
+    (λ top. ap not (sym (obsolete_is cs rows a kept here) ∙ top), λ test. obsolete_is cs rows a kept here ∙ not-true (list_any (relates own_number (rel_in cs rows) Newer a) cs) test)
 
 -- the copy at a place
 pub copy_at : (cs : List ℕ) (i : ℕ) → i < length cs → Contains cs (get_or cs i 0)
 copy_at cs i h = (i, h, get_or_default cs i (get_or cs i 0) 0 h)
 
-torn_splits : (cs : List ℕ) (rows : List Packed) → IsKept cs rows → IsTorn rows → is_split cs (rel_of (table_of cs rows)) ≡ true
+torn_splits : (cs : List ℕ) (rows : List Relations) → IsKept cs rows → IsTorn rows → is_split own_number (rel_in cs rows) cs ≡ true
 torn_splits cs rows kept torn =
-    let rel = rel_of (table_of cs rows) in
+    let rel = rel_in cs rows in
     let i = torn.at in
     let j = torn.meets.other in
     let inside : i < length cs = omega (arith, torn.inside, kept.tall) in
@@ -249,24 +236,21 @@ torn_splits cs rows kept torn =
     let there : Contains cs b = copy_at cs j within in
     let at : place_of a cs ≡ i = place_at cs i kept.rising inside in
     let at' : place_of b cs ≡ j = place_at cs j kept.rising within in
-    let newest : ℕ → Bool = λ copy. not (list_any (λ other. is_rel (rel other copy) Newer) cs) in
-    let first : Contains (filter newest cs) a = contains_filter newest cs a here ((top_is cs rows a kept here).0 (subst (λ k. IsTop (row_in rows k).items) (sym at) torn.newest)) in
-    let second : Contains (filter newest cs) b = contains_filter newest cs b there ((top_is cs rows b kept there).0 (subst (λ k. IsTop (row_in rows k).items) (sym at') torn.meets.top)) in
+    let first : Contains (filter (none_newer rel cs) cs) a = contains_filter (none_newer rel cs) cs a here ((top_is cs rows a kept here).0 (subst (λ k. IsTop (row_in rows k).items) (sym at) torn.newest)) in
+    let second : Contains (filter (none_newer rel cs) cs) b = contains_filter (none_newer rel cs) cs b there ((top_is cs rows b kept there).0 (subst (λ k. IsTop (row_in rows k).items) (sym at') torn.meets.top)) in
     let apart : rel a b ≡ Conflict =
-    rel_is cs rows a b kept.tall here ∙ ap (λ k. get_or (row_in rows k).items (place_of b cs) Equal) at ∙ ap (λ k. get_or (row_in rows i).items k Equal) at' ∙ torn.meets.conflict in
-    let test : is_rel (rel b a) Conflict ≡ true = ap (λ r. is_rel r Conflict) (kept.mirrored a b here there ∙ ap reverse_of apart) in
-    let inner : list_any (λ other. is_rel (rel other a) Conflict) (filter newest cs) ≡ true = any_at (λ other. is_rel (rel other a) Conflict) (filter newest cs) b second test in
-    any_at (λ copy. list_any (λ other. is_rel (rel other copy) Conflict) (filter newest cs)) (filter newest cs) a first inner
+    ap (λ k. get_or (row_in rows k).items (place_of b cs) Equal) at ∙ ap (λ k. get_or (row_in rows i).items k Equal) at' ∙ torn.meets.conflict in
+    let test : relates own_number rel Conflict a b ≡ true = sym (other_is cs rows a b Conflict kept here there refl) ∙ ap (λ r. is_rel r Conflict) apart in
+    let inner : list_any (relates own_number rel Conflict a) (newest_of own_number rel cs) ≡ true = any_at (relates own_number rel Conflict a) (newest_of own_number rel cs) b second test in
+    any_at (λ copy. list_any (relates own_number rel Conflict copy) (newest_of own_number rel cs)) (newest_of own_number rel cs) a first inner
 
-split_torn : (cs : List ℕ) (rows : List Packed) → IsKept cs rows → is_split cs (rel_of (table_of cs rows)) ≡ true → IsTorn rows
+split_torn : (cs : List ℕ) (rows : List Relations) → IsKept cs rows → is_split own_number (rel_in cs rows) cs ≡ true → IsTorn rows
 split_torn cs rows kept split =
-    let rel = rel_of (table_of cs rows) in
-    let newest : ℕ → Bool = λ copy. not (list_any (λ other. is_rel (rel other copy) Newer) cs) in
-    let outer = found (λ copy. list_any (λ other. is_rel (rel other copy) Conflict) (filter newest cs)) (filter newest cs) split in
-    let inner = found (λ other. is_rel (rel other outer.item) Conflict) (filter newest cs) outer.passes in
-    let first = filter_contains newest cs outer.item outer.here in
-    let second = filter_contains newest cs inner.item inner.here in
-    let apart : rel inner.item outer.item ≡ Conflict = is_rel_same (rel inner.item outer.item) Conflict inner.passes in
+    let rel = rel_in cs rows in
+    let outer = found (λ copy. list_any (relates own_number rel Conflict copy) (newest_of own_number rel cs)) (newest_of own_number rel cs) split in
+    let inner = found (relates own_number rel Conflict outer.item) (newest_of own_number rel cs) outer.passes in
+    let first = filter_contains (none_newer rel cs) cs outer.item outer.here in
+    let second = filter_contains (none_newer rel cs) cs inner.item inner.here in
     record {
       at = place_of outer.item cs;
       inside = omega (arith, kept.tall, place_within cs outer.item first.0);
@@ -275,16 +259,16 @@ split_torn cs rows kept split =
         other = place_of inner.item cs;
         within = omega (arith, kept.tall, place_within cs inner.item second.0);
         top = (top_is cs rows inner.item kept second.0).1 second.1;
-        conflict = sym (rel_is cs rows outer.item inner.item kept.tall first.0) ∙ kept.mirrored inner.item outer.item second.0 first.0 ∙ ap reverse_of apart;
+        conflict = is_rel_same (rel outer.item inner.item) Conflict (other_is cs rows outer.item inner.item Conflict kept first.0 second.0 refl ∙ inner.passes);
       };
     }
 
 -- a table is split where two of its copies are torn apart: the test of the rows is the one of the pairs
-pub split_is : (cs : List ℕ) (rows : List Packed) (test : Bool) → IsKept cs rows → (test ≡ true) ↔ IsTorn rows → test ≡ is_split cs (rel_of (table_of cs rows))
+pub split_is : (cs : List ℕ) (rows : List Relations) (test : Bool) → IsKept cs rows → (test ≡ true) ↔ IsTorn rows → test ≡ is_split own_number (rel_in cs rows) cs
 split_is cs rows test kept says =
     elim (cases_Bool test) [
       | inl yes' ↦ yes' ∙ sym (torn_splits cs rows kept (says.0 yes'))
-      | inr no' ↦ elim (cases_Bool (is_split cs (rel_of (table_of cs rows)))) [
+      | inr no' ↦ elim (cases_Bool (is_split own_number (rel_in cs rows) cs)) [
         | inl split ↦ absurd (both_ways test no' (says.1 (split_torn cs rows kept split)))
         | inr whole ↦ no' ∙ sym whole
       ]

@@ -1,6 +1,6 @@
 -- What the calls that change a table leave.
-use Rattle.std.proofs.Common.{◌≡◌, ℕ, Bool, true, ◌+◌, ◌<◌, ◌≤◌, List, [], length, get_or, refl, ap, sym, subst, ◌∙◌, inl, inr, arith}
-use Rattle.std.specs.Prelude.{◌↔◌, slice_set, Contains}
+use Rattle.std.proofs.Common.{◌≡◌, ℕ, ◌+◌, ◌<◌, ◌≤◌, List, [], length, get_or, refl, ap, sym, subst, ◌∙◌, inl, inr, arith}
+use Rattle.std.specs.Prelude.{slice_set, Contains, Option, Some, None, IfSome}
 use Rattle.std.specs.List.{insert, remove}
 use Rattle.std.proofs.lemmas.Bool.{cases_eq, eq-eqb, ne_eqb}
 use Rattle.std.proofs.lemmas.List.{get_or_read, get_or-set_same, get_or-set_other, length-set}
@@ -8,24 +8,14 @@ use Rattle.std.proofs.lemmas.List.Edits.{length-insert, length-remove, get_or-in
 use Rattle.pana_event.specs.declared.rel.Rel.{Rel}
 use Rattle.pana_event.specs.declared.rel.Rel.TheVariants.{Equal}
 use Rattle.pana_event.specs.Relation.{reverse_of}
-use Rattle.pana_rel.specs.Pairs.{Table, Holds, edited_rel, edited_row, is_split, place_of, rel_at, rel_of, with_row, without}
-use Rattle.pana_rel.specs.inner.Packed.{Packed}
-use Rattle.pana_rel.specs.inner.Square.{row_in, table_of, IsKept, IsTorn, IsWide}
-use Rattle.pana_rel.proofs.Boards.{split_is}
+use Rattle.pana_rel.specs.Pairs.{Table, edited_rel, edited_row, place_of, rel_at, rel_of, with_row, without}
+use Rattle.pana_rel.specs.inner.Square.{Relations, rel_in, row_in, table_of, up, IsKept, IsSpare, IsWide}
 use Rattle.pana_rel.proofs.Orders.{contains_remove, others_at, rising_remove, without_is}
-use Rattle.pana_rel.proofs.Places.{place_reads, place_within, same_place, up, up_remove, up_within}
-use Rattle.pana_rel.proofs.Tables.{rel_is, with_row_own, with_row_to, with_row_else, with_row_mirrored, with_row_itself, kept_from, AreMirrored, holds_mirrored, AreDropped, holds_dropped}
-
--- what a table keeps beside its rows
-abbrev pub IsSound : List ℕ → List Packed → Bool → Type 0
-IsSound cs rows split = IsKept cs rows × (split ≡ is_split cs (rel_of (table_of cs rows)))
-
--- the split was found anew
-pub sound_from : (cs : List ℕ) (rows slice : List Packed) (test : Bool) → IsKept cs rows → slice ≡ rows → (test ≡ true) ↔ IsTorn slice → IsSound cs rows test
-sound_from cs rows slice test kept same says = (kept, split_is cs rows test kept (subst (λ r. (test ≡ true) ↔ IsTorn r) same says))
+use Rattle.pana_rel.proofs.Places.{place_reads, place_within, same_place, up_remove, up_within}
+use Rattle.pana_rel.proofs.Tables.{HoldsIn, at_table, with_row_own, with_row_to, with_row_else, with_row_mirrored, with_row_itself, kept_from, AreMirrored, holds_mirrored, AreDropped, holds_dropped}
 
 -- one row was written, and then it was mirrored
-pub mirrored_from : (rows slice new : List Packed) (at : ℕ) (row : Packed) → at < length rows → slice ≡ slice_set rows at row → length new ≡ length slice
+pub mirrored_from : (rows slice new : List Relations) (at : ℕ) (row : Relations) → at < length rows → slice ≡ slice_set rows at row → length new ≡ length slice
     → (row_in new at).items ≡ (row_in slice at).items
     → ((i : ℕ) → i < length slice → ¬ (i ≡ at) → (row_in new i).items ≡ slice_set (row_in slice i).items at (reverse_of (get_or (row_in slice at).items i Equal)))
     → AreMirrored rows new at row.items
@@ -41,7 +31,7 @@ mirrored_from rows slice new at row within same tall own others =
           ∙ ap (λ r. slice_set (row_in rows i).items at (reverse_of (get_or r.items i Equal))) here;
     }
 
-wide_mirrored : (rows new : List Packed) (at : ℕ) (given : List Rel) → IsWide rows → length given ≡ length rows → AreMirrored rows new at given → IsWide new
+wide_mirrored : (rows new : List Relations) (at : ℕ) (given : List Rel) → IsWide rows → length given ≡ length rows → AreMirrored rows new at given → IsWide new
 wide_mirrored rows new at given wide long m i h =
     let inside : i < length rows = omega (arith, h, m.tall) in
     elim (cases_eq i at) [
@@ -51,14 +41,14 @@ wide_mirrored rows new at given wide long m i h =
     ]
 
 -- a table whose copy got another row is kept, and holds it
-pub record IsReplaced (cs : List ℕ) (rows new : List Packed) (copy : ℕ) (given : List Rel) : Type 0 where
+pub record IsReplaced (cs : List ℕ) (new : List Relations) (copy : ℕ) (row : ℕ → Rel) (rel : ℕ → ℕ → Rel) : Type 0 where
   pub kept : IsKept cs new
-  pub holds : Holds (table_of cs new) (with_row copy (rel_at cs given) (rel_of (table_of cs rows)))
+  pub holds : HoldsIn cs new (with_row copy row rel)
 
-pub replaced : (cs : List ℕ) (rows new : List Packed) (copy : ℕ) (given : List Rel) → IsKept cs rows → Contains cs copy → length given ≡ length cs
-    → get_or given (place_of copy cs) Equal ≡ Equal → AreMirrored rows new (place_of copy cs) given → IsReplaced cs rows new copy given
+replaced : (cs : List ℕ) (rows new : List Relations) (copy : ℕ) (given : List Rel) → IsKept cs rows → Contains cs copy → length given ≡ length cs
+    → get_or given (place_of copy cs) Equal ≡ Equal → AreMirrored rows new (place_of copy cs) given → IsReplaced cs new copy (rel_at cs given) (rel_in cs rows)
 replaced cs rows new copy given kept here long itself m =
-    let rel = rel_of (table_of cs rows) in
+    let rel = rel_in cs rows in
     let row = rel_at cs given in
     let holds = holds_mirrored cs rows new copy given kept.tall kept.wide here m in
     let wide = wide_mirrored rows new (place_of copy cs) given kept.wide (long ∙ sym kept.tall) m in
@@ -69,10 +59,50 @@ replaced cs rows new copy given kept here long itself m =
       holds = holds;
     }
 
+-- what the next copy needs is there after a row was written
+pub written_spare : (rows slice new final : List Relations) (at : ℕ) (old row spare : Relations) → at < length rows → old ≡ get_or rows at old → row.room ≡ old.room
+    → slice ≡ slice_set rows at row → length new ≡ length slice → ((i : ℕ) → (row_in new i).room ≡ (row_in slice i).room) → final ≡ new → IsSpare rows spare → IsSpare final spare
+written_spare rows slice new final at old row spare within read room same tall rooms end s =
+    let none : Relations = record { items = []; room = 0 } in
+    let long : length final ≡ length rows = ap length end ∙ tall ∙ ap length same ∙ length-set rows at row in
+    record {
+      empty = s.empty;
+      wide = subst (λ n. n < spare.room) (sym long) s.wide;
+      rooms = λ i h. subst (λ n. 0 < n) (sym (ap (λ r. (row_in r i).room) end ∙ rooms i ∙ ap (λ r. (row_in r i).room) same)) (elim (cases_eq i at) [
+        | inl here ↦
+            subst (λ r. 0 < r.room) (sym (ap (λ k. row_in (slice_set rows at row) k) here ∙ get_or-set_same rows at row none within))
+            (subst (λ n. 0 < n) (sym (room ∙ ap (λ r. r.room) (get_or_read rows at old within read none))) (s.rooms at within))
+        | inr apart ↦ subst (λ r. 0 < r.room) (sym (get_or-set_other rows at i row none apart)) (s.rooms i (omega (arith, h, long)))
+      ]);
+    }
+
+-- and after one was taken out
+pub dropped_spare : (rows slice new final : List Relations) (at : ℕ) (spare : Relations) → at < length rows → slice ≡ remove rows at → length new ≡ length slice
+    → ((i : ℕ) → i < length slice → (row_in slice i).room ≤ (row_in new i).room) → final ≡ new → IsSpare rows spare → IsSpare final spare
+dropped_spare rows slice new final at spare within same tall rooms end s =
+    let long : length final + 1 ≡ length rows = omega (arith, ap length end, tall, ap length same, length-remove rows at within) in
+    record {
+      empty = s.empty;
+      wide = omega (arith, long, s.wide);
+      rooms = λ i h.
+          let inside : i < length slice = omega (arith, h, ap length end, tall) in
+          let bound = up_within at i (length final) h in
+          let was : 0 < (row_in rows (up at i)).room = s.rooms (up at i) (omega (arith, bound, long)) in
+          let moved : (row_in slice i).room ≡ (row_in rows (up at i)).room = ap (λ r. (row_in r i).room) same ∙ ap (λ r. r.room) (up_remove rows at i (record { items = []; room = 0 })) in
+          let more = rooms i inside in
+          let is : (row_in final i).room ≡ (row_in new i).room = ap (λ r. (row_in r i).room) end in
+          omega (arith, was, moved, more, is);
+    }
+
+pub still_spare : (P : Relations → Type 0) (rows : List Relations) (m n k l : ℕ) (spare : Option Relations) → IfSome spare P → ((row : Relations) → P row → IsSpare rows row)
+    → ((row : Relations) → P row → m < n) → ((row : Relations) → P row → k < l) → IfSome spare (λ row. IsSpare rows row × (m < n) × (k < l))
+still_spare P rows m n k l None p is less few = tt
+still_spare P rows m n k l (Some row) p is less few = (is row p, less row p, few row p)
+
 -- a row that says the same of all copies is as good
-pub holds_row : (t : Table) (copy : ℕ) (row other : ℕ → Rel) (rel : ℕ → ℕ → Rel) → Holds t (with_row copy row rel)
-    → ((b : ℕ) → Contains t.copies b → row b ≡ other b) → Holds t (with_row copy other rel)
-holds_row t copy row other rel holds same a b ina inb =
+pub holds_row : (cs : List ℕ) (rows : List Relations) (copy : ℕ) (row other : ℕ → Rel) (rel : ℕ → ℕ → Rel) → HoldsIn cs rows (with_row copy row rel)
+    → ((b : ℕ) → Contains cs b → row b ≡ other b) → HoldsIn cs rows (with_row copy other rel)
+holds_row cs rows copy row other rel holds same a b ina inb =
     holds a b ina inb ∙ (elim (cases_eq a copy) [
       | inl own ↦ with_row_own copy row rel a b own ∙ same b inb ∙ sym (with_row_own copy other rel a b own)
       | inr apart ↦ elim (cases_eq b copy) [
@@ -82,28 +112,25 @@ holds_row t copy row other rel holds same a b ina inb =
     ])
 
 -- what an edit leaves
-abbrev pub Edits : List ℕ → List Packed → Bool → ℕ → ℕ → Table → Type 0
-Edits cs final test copy at t =
-    Contains t.copies copy → at ≡ place_of copy t.copies
-    → IsSound cs final test × Holds (table_of cs final) (with_row copy (edited_row copy (rel_of t copy)) (rel_of t))
+abbrev pub Edits : List ℕ → List Relations → ℕ → ℕ → List ℕ → (ℕ → ℕ → Rel) → Type 0
+Edits cs final copy at copies rel = Contains copies copy → at ≡ place_of copy copies → IsReplaced cs final copy (edited_row copy (rel copy)) rel
 
-pub edited_call : (cs : List ℕ) (rows slice new final slice' : List Packed) (now : Table) (copy at : ℕ) (old row : Packed) (test : Bool) → IsKept cs rows → table_of cs rows ≡ now
+pub edited_call : (cs : List ℕ) (rows slice new final : List Relations) (room : ℕ) (now : Table) (copy at : ℕ) (old row : Relations) → IsKept cs rows → table_of cs rows room ≡ now
     → old ≡ get_or rows at old
     → length row.items ≡ length old.items → get_or row.items at Equal ≡ get_or old.items at Equal
     → ((k : ℕ) → k < length old.items → ¬ (k ≡ at) → get_or row.items k Equal ≡ edited_rel (get_or old.items k Equal))
     → slice ≡ slice_set rows at row → length new ≡ length slice → (row_in new at).items ≡ (row_in slice at).items
     → ((i : ℕ) → i < length slice → ¬ (i ≡ at) → (row_in new i).items ≡ slice_set (row_in slice i).items at (reverse_of (get_or (row_in slice at).items i Equal)))
-    → final ≡ new → slice' ≡ final → (test ≡ true) ↔ IsTorn slice' → Edits cs final test copy at now
-edited_call cs rows slice new final slice' now copy at old row test kept view read long itself others same tall own rest end same' says =
-    subst (Edits cs final test copy at) view (λ here place.
-    let rel = rel_of (table_of cs rows) in
+    → final ≡ new → Edits cs final copy at now.copies (rel_of now)
+edited_call cs rows slice new final room now copy at old row kept view read long itself others same tall own rest end =
+    at_table cs rows room now (Edits cs final copy at) view (λ here place.
+    let rel = rel_in cs rows in
     let within : at < length rows = omega (arith, place, kept.tall, place_within cs copy here) in
     let old_is : old ≡ row_in rows (place_of copy cs) = get_or_read rows at old within read _ ∙ ap (λ k. row_in rows k) place in
     let wide : length old.items ≡ length cs = ap (λ r. length r.items) old_is ∙ kept.wide (place_of copy cs) (omega (arith, within, place)) ∙ kept.tall in
     let m : AreMirrored rows final (place_of copy cs) row.items =
     subst (λ k. AreMirrored rows final k row.items) place (subst (λ r. AreMirrored rows r at row.items) (sym end) (mirrored_from rows slice new at row within same tall own rest)) in
-    let old_rel : (b : ℕ) → get_or old.items (place_of b cs) Equal ≡ rel copy b =
-    λ b. ap (λ r. get_or r.items (place_of b cs) Equal) old_is ∙ sym (rel_is cs rows copy b kept.tall here) in
+    let old_rel : (b : ℕ) → get_or old.items (place_of b cs) Equal ≡ rel copy b = λ b. ap (λ r. get_or r.items (place_of b cs) Equal) old_is in
     let equal : get_or row.items (place_of copy cs) Equal ≡ Equal =
     ap (λ k. get_or row.items k Equal) (sym place) ∙ itself ∙ ap (λ k. get_or old.items k Equal) place ∙ old_rel copy ∙ kept.itself copy here in
     let done = replaced cs rows final copy row.items kept here (long ∙ wide) equal m in
@@ -114,22 +141,21 @@ edited_call cs rows slice new final slice' now copy at old row test kept view re
           others (place_of b cs) (omega (arith, wide, place_within cs b there)) (λ p. two (same_place cs b copy there here (p ∙ place)))
           ∙ ap edited_rel (old_rel b) ∙ sym (rw (ne_eqb b copy two) refl)
     ]) in
-    (sound_from cs final slice' test done.kept same' says, holds_row (table_of cs final) copy (rel_at cs row.items) (edited_row copy (rel copy)) rel done.holds alike))
+    record { kept = done.kept; holds = holds_row cs final copy (rel_at cs row.items) (edited_row copy (rel copy)) rel done.holds alike })
 
 -- what other relations of a copy leave
-abbrev pub Fills : List ℕ → List Packed → Bool → ℕ → ℕ → List Rel → Table → Type 0
-Fills cs final test copy at rels t =
-    Contains t.copies copy → length rels + 1 ≡ length t.copies → at ≡ place_of copy t.copies
-    → IsSound cs final test × Holds (table_of cs final) (with_row copy (rel_at (without copy t.copies) rels) (rel_of t))
+abbrev pub Fills : List ℕ → List Relations → ℕ → ℕ → List Rel → List ℕ → (ℕ → ℕ → Rel) → Type 0
+Fills cs final copy at rels copies rel =
+    Contains copies copy → length rels + 1 ≡ length copies → at ≡ place_of copy copies → IsReplaced cs final copy (rel_at (without copy copies) rels) rel
 
-pub filled_call : (cs : List ℕ) (rows slice new final slice' : List Packed) (now : Table) (copy at : ℕ) (rels : List Rel) (row : Packed) (test : Bool) → IsKept cs rows → table_of cs rows ≡ now
+pub filled_call : (cs : List ℕ) (rows slice new final : List Relations) (room : ℕ) (now : Table) (copy at : ℕ) (rels : List Rel) (row : Relations) → IsKept cs rows → table_of cs rows room ≡ now
     → row.items ≡ insert rels at Equal
     → slice ≡ slice_set rows at row → length new ≡ length slice → (row_in new at).items ≡ (row_in slice at).items
     → ((i : ℕ) → i < length slice → ¬ (i ≡ at) → (row_in new i).items ≡ slice_set (row_in slice i).items at (reverse_of (get_or (row_in slice at).items i Equal)))
-    → final ≡ new → slice' ≡ final → (test ≡ true) ↔ IsTorn slice' → Fills cs final test copy at rels now
-filled_call cs rows slice new final slice' now copy at rels row test kept view filled same tall own rest end same' says =
-    subst (Fills cs final test copy at rels) view (λ here long place.
-    let rel = rel_of (table_of cs rows) in
+    → final ≡ new → Fills cs final copy at rels now.copies (rel_of now)
+filled_call cs rows slice new final room now copy at rels row kept view filled same tall own rest end =
+    at_table cs rows room now (Fills cs final copy at rels) view (λ here long place.
+    let rel = rel_in cs rows in
     let within : at < length rows = omega (arith, place, kept.tall, place_within cs copy here) in
     let fits : at ≤ length rels = omega (arith, within, kept.tall, long) in
     let m : AreMirrored rows final (place_of copy cs) row.items =
@@ -141,58 +167,37 @@ filled_call cs rows slice new final slice' now copy at rels row test kept view f
     let alike : (b : ℕ) → Contains cs b → rel_at cs row.items b ≡ rel_at (without copy cs) rels b =
     λ b there. ap (λ r. get_or r (place_of b cs) Equal) filled ∙ ap (λ k. get_or (insert rels k Equal) (place_of b cs) Equal) place
     ∙ sym (others_at cs rels copy b kept.rising here long there) in
-    (sound_from cs final slice' test done.kept same' says, holds_row (table_of cs final) copy (rel_at cs row.items) (rel_at (without copy cs) rels) rel done.holds alike))
+    record { kept = done.kept; holds = holds_row cs final copy (rel_at cs row.items) (rel_at (without copy cs) rels) rel done.holds alike })
 
 -- a copy's row has Equal in its own place
-abbrev pub Owns : ℕ → ℕ → Packed → Table → Type 0
-Owns copy at old t = Contains t.copies copy → at ≡ place_of copy t.copies → get_or old.items at Equal ≡ Equal
+abbrev pub Owns : ℕ → ℕ → Relations → List ℕ → (ℕ → ℕ → Rel) → Type 0
+Owns copy at old copies rel = Contains copies copy → at ≡ place_of copy copies → get_or old.items at Equal ≡ Equal
 
-pub own_equal : (cs : List ℕ) (rows : List Packed) (now : Table) (copy at : ℕ) (old : Packed) → IsKept cs rows → table_of cs rows ≡ now → old ≡ get_or rows at old → Owns copy at old now
-own_equal cs rows now copy at old kept view read =
-    subst (Owns copy at old) view (λ here place.
+pub own_equal : (cs : List ℕ) (rows : List Relations) (room : ℕ) (now : Table) (copy at : ℕ) (old : Relations) → IsKept cs rows → table_of cs rows room ≡ now → old ≡ get_or rows at old
+    → Owns copy at old now.copies (rel_of now)
+own_equal cs rows room now copy at old kept view read =
+    at_table cs rows room now (Owns copy at old) view (λ here place.
     let within : at < length rows = omega (arith, place, kept.tall, place_within cs copy here) in
     let old_is : old ≡ row_in rows (place_of copy cs) = get_or_read rows at old within read _ ∙ ap (λ k. row_in rows k) place in
-    ap (λ k. get_or old.items k Equal) place ∙ ap (λ r. get_or r.items (place_of copy cs) Equal) old_is ∙ sym (rel_is cs rows copy copy kept.tall here) ∙ kept.itself copy here)
-
--- rows stay as wide as they are many
-abbrev pub Wide : ℕ → ℕ → List Rel → List Packed → Table → Type 0
-Wide copy at rels slice' t = Contains t.copies copy → length rels + 1 ≡ length t.copies → at ≡ place_of copy t.copies → IsWide slice'
-
-pub filled_wide : (cs : List ℕ) (rows slice new final slice' : List Packed) (now : Table) (copy at : ℕ) (rels : List Rel) (row : Packed) → IsKept cs rows → table_of cs rows ≡ now
-    → row.items ≡ insert rels at Equal
-    → slice ≡ slice_set rows at row → length new ≡ length slice → (row_in new at).items ≡ (row_in slice at).items
-    → ((i : ℕ) → i < length slice → ¬ (i ≡ at) → (row_in new i).items ≡ slice_set (row_in slice i).items at (reverse_of (get_or (row_in slice at).items i Equal)))
-    → final ≡ new → slice' ≡ final → Wide copy at rels slice' now
-filled_wide cs rows slice new final slice' now copy at rels row kept view filled same tall own rest end same' =
-    subst (Wide copy at rels slice') view (λ here long place.
-    let within : at < length rows = omega (arith, place, kept.tall, place_within cs copy here) in
-    let row_long : length row.items ≡ length rows = ap length filled ∙ length-insert rels at Equal (omega (arith, within, kept.tall, long)) ∙ long ∙ sym kept.tall in
-    subst IsWide (sym (same' ∙ end)) (wide_mirrored rows new at row.items kept.wide row_long (mirrored_from rows slice new at row within same tall own rest)))
+    ap (λ k. get_or old.items k Equal) place ∙ ap (λ r. get_or r.items (place_of copy cs) Equal) old_is ∙ kept.itself copy here)
 
 -- a copy's column and row are gone
-abbrev pub Drops : List ℕ → List Packed → Bool → ℕ → ℕ → Table → Type 0
-Drops cs' final test copy at t =
-    Contains t.copies copy → at ≡ place_of copy t.copies → IsSound cs' final test × (cs' ≡ without copy t.copies) × Holds (table_of cs' final) (rel_of t)
+pub record IsDropped (cs' : List ℕ) (final : List Relations) (copy : ℕ) (copies : List ℕ) (rel : ℕ → ℕ → Rel) : Type 0 where
+  pub kept : IsKept cs' final
+  pub copies_are : cs' ≡ without copy copies
+  pub holds : HoldsIn cs' final rel
 
-pub dropped_wide : (rows slice new final slice' : List Packed) (at : ℕ) → IsWide rows → at < length rows → slice ≡ remove rows at → length new ≡ length slice
-    → ((i : ℕ) → i < length slice → (row_in new i).items ≡ remove (row_in slice i).items at) → final ≡ new → slice' ≡ final → IsWide slice'
-dropped_wide rows slice new final slice' at wide within same tall others end same' =
-    let long : length slice + 1 ≡ length rows = ap (λ r. length r + 1) same ∙ length-remove rows at within in
-    subst IsWide (sym (same' ∙ end)) (λ i h.
-    let inside : i < length slice = omega (arith, h, tall) in
-    let place : up at i < length rows = (let bound = up_within at i (length slice) inside in omega (arith, bound, long)) in
-    let row : row_in slice i ≡ row_in rows (up at i) = ap (λ r. row_in r i) same ∙ up_remove rows at i (record { items = []; room = 0 }) in
-    let old : length (row_in slice i).items ≡ length rows = ap (λ r. length r.items) row ∙ wide (up at i) place in
-    let less = length-remove (row_in slice i).items at (omega (arith, old, within)) in
-    ap length (others i inside) ∙ omega (arith, less, old, long, tall))
+abbrev pub Drops : List ℕ → List Relations → ℕ → ℕ → List ℕ → (ℕ → ℕ → Rel) → Type 0
+Drops cs' final copy at copies rel =
+    Contains copies copy → at ≡ place_of copy copies → IsDropped cs' final copy copies rel
 
-pub dropped_call : (cs cs' : List ℕ) (rows slice new final slice' : List Packed) (now : Table) (copy at : ℕ) (test : Bool) → IsKept cs rows → table_of cs rows ≡ now
+pub dropped_call : (cs cs' : List ℕ) (rows slice new final : List Relations) (room : ℕ) (now : Table) (copy at : ℕ) → IsKept cs rows → table_of cs rows room ≡ now
     → cs' ≡ remove cs at → slice ≡ remove rows at → length new ≡ length slice
     → ((i : ℕ) → i < length slice → (row_in new i).items ≡ remove (row_in slice i).items at)
-    → final ≡ new → slice' ≡ final → (test ≡ true) ↔ IsTorn slice' → Drops cs' final test copy at now
-dropped_call cs cs' rows slice new final slice' now copy at test kept view gone same tall others end same' says =
-    subst (Drops cs' final test copy at) view (λ here place.
-    let rel = rel_of (table_of cs rows) in
+    → final ≡ new → Drops cs' final copy at now.copies (rel_of now)
+dropped_call cs cs' rows slice new final room now copy at kept view gone same tall others end =
+    at_table cs rows room now (Drops cs' final copy at) view (λ here place.
+    let rel = rel_in cs rows in
     let within : at < length cs = omega (arith, place, place_within cs copy here) in
     let inside : at < length rows = omega (arith, within, kept.tall) in
     let long : length slice + 1 ≡ length rows = ap (λ r. length r + 1) same ∙ length-remove rows at inside in
@@ -202,15 +207,19 @@ dropped_call cs cs' rows slice new final slice' now copy at test kept view gone 
       others = λ i h. ap (λ r. (row_in r i).items) end ∙ others i (omega (arith, h, final_long))
           ∙ ap (λ r. remove (row_in r i).items at) same ∙ ap (λ r. remove r.items at) (up_remove rows at i (record { items = []; room = 0 }));
     } in
+    let wide : IsWide final = λ i h.
+    let bound = up_within at i (length final) h in
+    let old : length (row_in rows (up at i)).items ≡ length rows = kept.wide (up at i) (omega (arith, bound, m.tall)) in
+    let less = length-remove (row_in rows (up at i)).items at (omega (arith, old, inside)) in
+    ap length (m.others i h) ∙ omega (arith, less, old, m.tall) in
     let holds = holds_dropped cs rows final at kept.rising kept.tall within m in
-    let rising = rising_remove cs at kept.rising within in
-    let wide = subst IsWide same' (dropped_wide rows slice new final slice' at kept.wide inside same tall others end same') in
     let all : length final ≡ length (remove cs at) = omega (arith, m.tall, kept.tall, length-remove cs at within) in
-    let kept' = kept_from (remove cs at) final rel rising all wide holds
+    let kept' = kept_from (remove cs at) final rel (rising_remove cs at kept.rising within) all wide holds
     (λ a b ina inb. kept.mirrored a b (contains_remove cs at a kept.rising within ina).0 (contains_remove cs at b kept.rising within inb).0)
     (λ a ina. kept.itself a (contains_remove cs at a kept.rising within ina).0) in
-    let copy_is : get_or cs at 0 ≡ copy = ap (λ k. get_or cs k 0) place ∙ place_reads copy cs 0 (place_within cs copy here) in (
-      subst (λ c. IsSound c final test) (sym gone) (sound_from (remove cs at) final slice' test kept' same' says),
-      gone ∙ sym (without_is cs at kept.rising within) ∙ ap (λ c. without c cs) copy_is,
-      subst (λ c. Holds (table_of c final) rel) (sym gone) holds,
-    ))
+    let copy_is : get_or cs at 0 ≡ copy = ap (λ k. get_or cs k 0) place ∙ place_reads copy cs 0 (place_within cs copy here) in
+    record {
+      kept = subst (λ c. IsKept c final) (sym gone) kept';
+      copies_are = gone ∙ sym (without_is cs at kept.rising within) ∙ ap (λ c. without c cs) copy_is;
+      holds = subst (λ c. HoldsIn c final rel) (sym gone) holds;
+    })

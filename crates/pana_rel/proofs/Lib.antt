@@ -1,12 +1,8 @@
-pub mod Agreeing
+pub mod Alike
 pub mod Boards
 pub mod Calls
 pub mod Changes
-pub mod Counted
-pub mod Digits
 pub mod Insertions
 pub mod Orders
 pub mod Places
-pub mod Shifts
 pub mod Tables
-pub mod Unpacked

@@ -13,8 +13,8 @@ use Rattle.std.proofs.lemmas.List.Sorted.{searched}
 use Rattle.pana_event.specs.declared.rel.Rel.{Rel}
 use Rattle.pana_event.specs.declared.rel.Rel.TheVariants.{Equal}
 use Rattle.pana_rel.specs.Pairs.{place_of, rel_at, with_copy, without}
-use Rattle.pana_rel.specs.inner.Square.{IsGap, IsRising}
-use Rattle.pana_rel.proofs.Places.{place_at, rising_rest, first_below, place_reads, up, up_other, up_remove, up_within}
+use Rattle.pana_rel.specs.inner.Square.{IsGap, IsRising, up}
+use Rattle.pana_rel.proofs.Places.{place_at, rising_rest, first_below, place_reads, up_other, up_remove, up_within}
 
 all_below : (cs : List ℕ) (n : ℕ) → ((k : ℕ) → k < length cs → n < get_or cs k 0) → filter (λ c. nat_lt c n) cs ≡ []
 all_below [] n above = refl

@@ -4,13 +4,7 @@ use Rattle.std.specs.Prelude.{◌==◌, if◌then◌else◌, Contains}
 use Rattle.std.specs.List.{insert, remove}
 use Rattle.std.proofs.lemmas.Bool.{cases_Bool, cases_lt, eq-eqb, ne_eqb, eqb-true}
 use Rattle.pana_rel.specs.Pairs.{place_of}
-use Rattle.pana_rel.specs.inner.Square.{IsRising}
-
--- the place of what stood at a place, once there is one more at another
-abbrev pub up : ℕ → ℕ → ℕ
-up zero i = suc i
-up (suc at) zero = zero
-up (suc at) (suc i) = suc (up at i)
+use Rattle.pana_rel.specs.inner.Square.{IsRising, up}
 
 pub up_other : (at i : ℕ) → up at i ≡ at → ⊥
 up_other zero i h = absurd (omega (arith, h))

@@ -1,44 +1,14 @@
 -- Copies, and the relation of each to each.
-use Rattle.std.specs.Prelude.{◌≡◌, ℕ, suc, Bool, true, false, ◌==◌, ◌&&◌, not, if◌then◌else◌, nat_lt, List, [], ◌∷◌, ◌++◌, filter, count_by, slice_index_or, Contains}
-use Rattle.std.specs.List.{list_any}
+use Rattle.std.specs.Prelude.{◌≡◌, ℕ, suc, ◌==◌, not, if◌then◌else◌, nat_lt, List, [], ◌∷◌, ◌++◌, filter, slice_index_or, Contains}
 use Rattle.pana_event.specs.declared.rel.Rel.{Rel}
 use Rattle.pana_event.specs.declared.rel.Rel.TheVariants.{Equal, Older, Newer, Conflict}
 use Rattle.pana_event.specs.Relation.{reverse_of}
-use Rattle.pana_rel.specs.declared.counts.Counts.{Counts}
 
--- whether two relations are one
-abbrev pub is_rel : Rel → Rel → Bool
-is_rel Equal Equal = true
-is_rel Older Older = true
-is_rel Newer Newer = true
-is_rel Conflict Conflict = true
-is_rel _ _ = false
-
--- how many of the others relate so to the copy
-abbrev pub count_of : Rel → ℕ → List ℕ → (ℕ → ℕ → Rel) → ℕ
-count_of wanted copy copies rel = count_by (λ other. not (other == copy) && is_rel (rel other copy) wanted) copies
-
--- how many of the others are newer than the copy, older, equal and in conflict
-abbrev pub counts_of : ℕ → List ℕ → (ℕ → ℕ → Rel) → Counts
-counts_of copy copies rel = record {
-  above = count_of Newer copy copies rel;
-  below = count_of Older copy copies rel;
-  equal = count_of Equal copy copies rel;
-  conflict = count_of Conflict copy copies rel;
-}
-
--- the copies to which none is newer
-abbrev pub newest_of : List ℕ → (ℕ → ℕ → Rel) → List ℕ
-newest_of copies rel = filter (λ copy. not (list_any (λ other. is_rel (rel other copy) Newer) copies)) copies
-
--- whether two of the newest copies are in conflict
-abbrev pub is_split : List ℕ → (ℕ → ℕ → Rel) → Bool
-is_split copies rel = list_any (λ copy. list_any (λ other. is_rel (rel other copy) Conflict) (newest_of copies rel)) (newest_of copies rel)
-
--- a table: its copies, and for each of them its relations to all of them in the same order
+-- a table: its copies, for each of them its relations to all of them in the same order, and how many more copies need no memory
 pub record Table : Type 0 where
   pub copies : List ℕ
   pub rels : List (List Rel)
+  pub room : ℕ
 
 -- how many copies come before one
 abbrev pub place_of : ℕ → List ℕ → ℕ
@@ -79,3 +49,7 @@ without copy copies = filter (λ other. not (other == copy)) copies
 -- rising copies with one more, in its place
 abbrev pub with_copy : ℕ → List ℕ → List ℕ
 with_copy copy copies = filter (λ other. nat_lt other copy) copies ++ copy ∷ filter (λ other. nat_lt copy other) copies
+
+-- copies are their own numbers
+abbrev pub own_number : ℕ → ℕ
+own_number copy = copy

@@ -1,4 +1,2 @@
 -- Words that only inner functions and proofs need: nobody has to believe them.
-pub mod Counted
-pub mod Packed
 pub mod Square

@@ -1,8 +1,8 @@
 //! How many copies relate so or so to one.
 ghost use Rattle.std.specs.Prelude.{◌≡◌, ◌+◌, ◌<◌, ◌^◌, if◌then◌else◌};
 ghost use Rattle.pana_event.specs.declared.rel.Rel.{Rel as AnyRel};
-ghost use Rattle.pana_rel.specs.Pairs.{is_rel};
-ghost use Rattle.pana_rel.specs.inner.Counted.{number_of};
+ghost use Rattle.pana_rel.specs.Board.{is_rel};
+ghost use Rattle.pana_rel.specs.inner.Square.{number_of};
 
 use pana_event::Rel;
 
@@ -40,19 +40,6 @@ impl Counts {
             Rel::Newer => self.below += 1,
             Rel::Equal => self.equal += 1,
             Rel::Conflict => self.conflict += 1,
-        }
-    }
-
-    /// Counts one relation of the copy to another no longer.
-    pub(crate) fn take(&mut self, rel: Rel)
-        requires { 0 < number_of rel self.old }
-        ensures { (wanted : AnyRel) → number_of wanted self.new + (if is_rel rel wanted then 1 else 0) ≡ number_of wanted self.old }
-    {
-        match rel {
-            Rel::Older => self.above -= 1,
-            Rel::Newer => self.below -= 1,
-            Rel::Equal => self.equal -= 1,
-            Rel::Conflict => self.conflict -= 1,
         }
     }
 }

@@ -1,11 +1,9 @@
-//! How the copies of one family relate: the relation of each ordered pair, with counts.
+//! How the copies of one family relate: the relation of each ordered pair.
 #![tactic(auto)]
 
 mod counts;
 pub mod laws;
-mod packed;
 mod pair_table;
-mod rel_list;
 mod row;
 mod rows;
 

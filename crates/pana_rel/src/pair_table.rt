@@ -1,8 +1,9 @@
 //! How each of some copies relates to each.
-ghost use Rattle.std.specs.Prelude.{◌≡◌, ℕ, ◌+◌, ◌<◌, [], ◌∷◌, Contains, IfOk, OnErr, OnOk, length, slice_index_or};
+ghost use Rattle.std.specs.Prelude.{◌≡◌, ℕ, ◌+◌, ◌<◌, ◌≤◌, [], ◌∷◌, Contains, IfOk, OnErr, OnOk, length, slice_index_or};
 ghost use Rattle.pana_event.specs.declared.rel.Rel.TheVariants.{Equal};
 ghost use Rattle.pana_event.specs.Relation.{reverse_of};
-ghost use Rattle.pana_rel.specs.Pairs.{counts_of, edited_row, is_split, newest_of, place_of, rel_at, rel_of, with_copy, with_row, without, Holds};
+ghost use Rattle.pana_rel.specs.Board.{counts_of, is_split, newest_of};
+ghost use Rattle.pana_rel.specs.Pairs.{edited_row, own_number, place_of, rel_at, rel_of, with_copy, with_row, without, Holds};
 ghost use Rattle.pana_rel.specs.inner.Square.{IsGap};
 
 use crate::counts::Counts;
@@ -12,28 +13,29 @@ use pana_event::Rel;
 use std::alloc::{AllocError, Global};
 use std::marker::Model;
 
-/// The relation of each ordered pair of some copies, with counts.
+/// The relation of each ordered pair of some copies.
 ///
 /// A copy is Equal to itself, and the relations of a pair in its two directions are each other's reverse. The
-/// copies are kept by rising number. A relation takes two bits, so 256 copies take 16 KB.
+/// copies are kept by rising number. A relation takes a byte, so 256 copies take 64 KB.
 #[derive(Drop)]
 pub struct PairTable {
     alloc: Global,
     copies: Vec<u64>,
     rows: Vec<Row>,
-    split: bool,
+    // The row of the next copy, where `reserve` made room for it.
+    spare: Option<Row>,
 }
 
 impl Model for PairTable {
-    ghost use Rattle.std.specs.Prelude.{◌≡◌};
-    ghost use Rattle.pana_rel.specs.Pairs.{Table, is_split, rel_of};
-    ghost use Rattle.pana_rel.specs.inner.Square.{IsKept, items_of, table_of};
+    ghost use Rattle.std.specs.Prelude.{◌<◌, IfSome, vec_len, vec_capacity};
+    ghost use Rattle.pana_rel.specs.Pairs.{Table};
+    ghost use Rattle.pana_rel.specs.inner.Square.{IsKept, IsSpare, room_of, table_of};
 
     ghost Value = { Table };
 
-    ghost view = { λ a. table_of a.copies.items a.rows.items };
+    ghost view = { λ a. table_of a.copies.items a.rows.items (room_of a.spare) };
 
-    ghost invariant = { λ a. IsKept a.copies.items a.rows.items × (a.split ≡ is_split a.copies.items (rel_of (table_of a.copies.items a.rows.items))) };
+    ghost invariant = { λ a. IsKept a.copies.items a.rows.items × IfSome a.spare (λ row. IsSpare a.rows.items row × (vec_len a.copies < vec_capacity a.copies) × (vec_len a.rows < vec_capacity a.rows)) };
 }
 
 impl PairTable {
@@ -45,7 +47,8 @@ impl PairTable {
     pub fn new(alloc: Global, first: u64) -> Result<PairTable, AllocError>
         ensures { IfOk result (λ table. table.copies ≡ first ∷ []) }
     {
-        let row = rows::row_of(alloc, &[Rel::Equal])?;
+        let mut row = Row::with_room(alloc, 2)?;
+        row.extend(&[Rel::Equal]);
         let mut copies = Vec::with_capacity(alloc, 1)?;
         copies.push_reserved(first);
         let mut rows = Vec::with_capacity(alloc, 1)?;
@@ -54,7 +57,7 @@ impl PairTable {
             alloc,
             copies,
             rows,
-            split: false,
+            spare: None,
         })
     }
 
@@ -67,38 +70,57 @@ impl PairTable {
         self.copies.as_slice()
     }
 
-    /// Puts in a copy that is Equal to another, and relates to the others as that one does. O(copies) where it has
-    /// the greatest number, else it moves what comes behind it.
+    /// Makes room for one more copy, so that the next `insert_like` or `insert_row` needs no memory.
     ///
     /// # Errors
     ///
     /// `AllocError` where an allocation failed; the table is then as it was.
-    pub fn insert_like(&mut self, source: u64, new: u64) -> Result<(), AllocError>
-        requires source { Contains self.old.copies source }
-        requires new { ¬ Contains self.old.copies new }
-        ensures copies { OnOk result (self.new.copies ≡ with_copy new self.old.copies) }
-        ensures pairs { OnOk result (Holds self.new (with_row new (rel_of self.old source) (rel_of self.old))) }
+    pub fn reserve(&mut self) -> Result<(), AllocError>
+        ensures room { OnOk result (0 < self.new.room) }
+        ensures copies { self.new.copies ≡ self.old.copies }
+        ensures pairs { (a b : ℕ) → rel_of self.new a b ≡ rel_of self.old a b }
         ensures err { OnErr result (self.new ≡ self.old) }
     {
-        let row = self.rows[self.place(source)].copy_of(self.alloc)?;
-        self.insert(new, row)
+        if self.spare.is_some() {
+            return Ok(());
+        }
+        let spare = Row::with_room(self.alloc, self.rows.len() + 1)?;
+        self.copies.reserve(1)?;
+        self.rows.reserve(1)?;
+        rows::reserve(&mut self.rows)?;
+        self.spare = Some(spare);
+        Ok(())
     }
 
-    /// Puts in a copy that has these relations to the others, one for each in order. O(copies) where it has the
-    /// greatest number, else it moves what comes behind it.
-    ///
-    /// # Errors
-    ///
-    /// `AllocError` where an allocation failed; the table is then as it was.
-    pub fn insert_row(&mut self, new: u64, rels: &[Rel]) -> Result<(), AllocError>
+    /// Puts in a copy that is Equal to another, and relates to the others as that one does, in room that was made by
+    /// `reserve`. Takes no memory; O(copies) where it has the greatest number, else it moves what comes behind it.
+    pub fn insert_like(&mut self, source: u64, new: u64)
+        requires room { 0 < self.old.room }
+        requires source { Contains self.old.copies source }
+        requires new { ¬ Contains self.old.copies new }
+        ensures copies { self.new.copies ≡ with_copy new self.old.copies }
+        ensures pairs { Holds self.new (with_row new (rel_of self.old source) (rel_of self.old)) }
+    {
+        let from = self.place(source);
+        let at = self.gap(new);
+        let mut row = self.spare.take().unwrap();
+        row.extend(self.rows[from].as_slice());
+        rows::put(&mut self.copies, &mut self.rows, at, new, row);
+    }
+
+    /// Puts in a copy that has these relations to the others, one for each in order, in room that was made by
+    /// `reserve`. Takes no memory; O(copies) where it has the greatest number, else it moves what comes behind it.
+    pub fn insert_row(&mut self, new: u64, rels: &[Rel])
+        requires room { 0 < self.old.room }
         requires new { ¬ Contains self.old.copies new }
         requires long { length rels.now ≡ length self.old.copies }
-        ensures copies { OnOk result (self.new.copies ≡ with_copy new self.old.copies) }
-        ensures pairs { OnOk result (Holds self.new (with_row new (rel_at self.old.copies rels.now) (rel_of self.old))) }
-        ensures err { OnErr result (self.new ≡ self.old) }
+        ensures copies { self.new.copies ≡ with_copy new self.old.copies }
+        ensures pairs { Holds self.new (with_row new (rel_at self.old.copies rels.now) (rel_of self.old)) }
     {
-        let row = rows::row_of(self.alloc, rels)?;
-        self.insert(new, row)
+        let at = self.gap(new);
+        let mut row = self.spare.take().unwrap();
+        row.extend(rels);
+        rows::put(&mut self.copies, &mut self.rows, at, new, row);
     }
 
     /// Records an edit of a copy: it is Newer than what it was Equal to or Newer than, and in Conflict with the rest.
@@ -107,11 +129,11 @@ impl PairTable {
         requires { Contains self.old.copies copy }
         ensures copies { self.new.copies ≡ self.old.copies }
         ensures pairs { Holds self.new (with_row copy (edited_row copy (rel_of self.old copy)) (rel_of self.old)) }
+        ensures room { self.old.room ≤ self.new.room }
     {
         let at = self.place(copy);
         rows::edit_row(&mut self.rows[at], at);
         rows::mirror(&mut self.rows, at);
-        self.split = rows::is_split(&self.rows);
     }
 
     /// Puts other relations of a copy to the others, one for each other copy in order. Takes no memory; O(copies).
@@ -120,11 +142,11 @@ impl PairTable {
         requires long { length rels.now + 1 ≡ length self.old.copies }
         ensures copies { self.new.copies ≡ self.old.copies }
         ensures pairs { Holds self.new (with_row copy (rel_at (without copy self.old.copies) rels.now) (rel_of self.old)) }
+        ensures room { self.old.room ≤ self.new.room }
     {
         let at = self.place(copy);
         rows::fill_row(&mut self.rows[at], at, rels);
         rows::mirror(&mut self.rows, at);
-        self.split = rows::is_split(&self.rows);
     }
 
     /// Takes a copy out. Takes no memory; O(copies) where it has the greatest number, else it moves what comes
@@ -133,12 +155,12 @@ impl PairTable {
         requires { Contains self.old.copies copy }
         ensures copies { self.new.copies ≡ without copy self.old.copies }
         ensures pairs { Holds self.new (rel_of self.old) }
+        ensures room { self.old.room ≤ self.new.room }
     {
         let at = self.place(copy);
         self.copies.remove(at);
         self.rows.remove(at);
         rows::close_column(&mut self.rows, at);
-        self.split = rows::is_split(&self.rows);
     }
 
     /// The relation of a copy to another. Takes no memory; O(log copies).
@@ -152,11 +174,10 @@ impl PairTable {
         self.rows[self.place(a)].get(self.place(b))
     }
 
-    /// How many other copies are newer than a copy, older, equal and in conflict. Takes no memory; they are kept, so
-    /// it only looks for the copy, O(log copies).
+    /// How many other copies are newer than a copy, older, equal and in conflict. Takes no memory; O(copies).
     pub fn counts(&self, copy: u64) -> Counts
         requires { Contains self.now.copies copy }
-        ensures { result ≡ counts_of copy self.now.copies (rel_of self.now) }
+        ensures { result ≡ counts_of own_number (rel_of self.now) self.now.copies copy }
     {
         let counts = self.rows[self.place(copy)].counts();
         Counts {
@@ -165,20 +186,20 @@ impl PairTable {
         }
     }
 
-    /// Whether two of the newest copies are in conflict. Takes no memory; O(1).
+    /// Whether two of the newest copies are in conflict. Takes no memory; O(copies) for each copy.
     pub fn split(&self) -> bool
-        ensures { result ≡ is_split self.now.copies (rel_of self.now) }
+        ensures { result ≡ is_split own_number (rel_of self.now) self.now.copies }
     {
-        self.split
+        rows::is_split(&self.rows)
     }
 
-    /// The copies to which none is newer, by rising number. O(copies).
+    /// The copies to which none is newer, by rising number. O(copies) for each copy.
     ///
     /// # Errors
     ///
     /// `AllocError` where an allocation failed.
     pub fn newest(&self) -> Result<Vec<u64>, AllocError>
-        ensures { IfOk result (λ newest. newest.items ≡ newest_of self.now.copies (rel_of self.now)) }
+        ensures { IfOk result (λ newest. newest.items ≡ newest_of own_number (rel_of self.now) self.now.copies) }
     {
         let mut newest = Vec::new(self.alloc);
         for at in 0..self.rows.len() {
@@ -187,29 +208,6 @@ impl PairTable {
             }
         }
         Ok(newest)
-    }
-
-    /// Puts in a copy with its relations to the others.
-    fn insert(&mut self, new: u64, row: Row) -> Result<(), AllocError>
-        requires new { ¬ Contains self.old.copies new }
-        requires long { length row.items ≡ length self.old.copies }
-        ensures copies { OnOk result (self.new.copies ≡ with_copy new self.old.copies) }
-        ensures pairs { OnOk result (Holds self.new (with_row new (rel_at self.old.copies row.items) (rel_of self.old))) }
-        ensures err { OnErr result (self.new ≡ self.old) }
-    {
-        let at = self.gap(new);
-        let mut row = row;
-        row.reserve()?;
-        self.copies.reserve(1)?;
-        self.rows.reserve(1)?;
-        rows::reserve(&mut self.rows)?;
-        // From here on nothing takes memory.
-        row.insert(at, Rel::Equal);
-        self.copies.insert(at, new).unwrap();
-        self.rows.insert(at, row).unwrap();
-        rows::open_column(&mut self.rows, at);
-        self.split = rows::is_split(&self.rows);
-        Ok(())
     }
 
     /// The place of a copy. Takes no memory; O(log copies).

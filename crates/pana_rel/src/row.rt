@@ -1,57 +1,53 @@
-//! The relations of one copy to all, counted.
+//! The relations of one copy to all.
 ghost use Rattle.std.specs.Prelude.{◌≡◌, ◌+◌, ◌<◌, ◌≤◌, ◌++◌, [], ◌∷◌, OnOk, IfOk, length, slice_index_or, slice_set};
-ghost use Rattle.std.specs.List.{insert, remove};
-ghost use Rattle.pana_event.specs.declared.rel.Rel.TheVariants.{Equal};
-ghost use Rattle.pana_rel.specs.inner.Counted.{AreCounted};
+ghost use Rattle.std.specs.List.{insert, remove, list_any};
+ghost use Rattle.pana_event.specs.declared.rel.Rel.TheVariants.{Equal, Older};
+ghost use Rattle.pana_rel.specs.Board.{is_rel};
+ghost use Rattle.pana_rel.specs.inner.Square.{AreCounted};
 
 use crate::counts::Counts;
-use crate::rel_list::RelList;
 use pana_event::Rel;
 use std::alloc::{AllocError, Global};
 use std::marker::Model;
 
-/// The relations of a copy to all copies in order, itself among them, with how many there are of each kind.
+/// The relations of a copy to all copies in order, itself among them, a byte each.
 #[derive(Drop)]
 pub(crate) struct Row {
-    rels: RelList,
-    counts: Counts,
+    rels: Vec<Rel>,
 }
 
 impl Model for Row {
-    ghost use Rattle.pana_rel.specs.inner.Packed.{Packed};
-    ghost use Rattle.pana_rel.specs.inner.Counted.{AreCounted};
+    ghost use Rattle.std.specs.Prelude.{◌-◌, vec_len, vec_capacity};
+    ghost use Rattle.pana_rel.specs.inner.Square.{Relations};
 
-    ghost Value = { Packed };
+    ghost Value = { Relations };
 
-    ghost view = { λ row. row.rels };
-
-    ghost invariant = { λ row. AreCounted row.rels.items row.counts };
+    ghost view = { λ row. record { items = row.rels.items; room = vec_capacity row.rels - vec_len row.rels } };
 }
 
 impl Row {
-    /// The row without relations. Takes no memory.
-    pub(crate) fn new(alloc: Global) -> Row
-        ensures { result.items ≡ [] }
+    /// A row without relations, with room for some.
+    pub(crate) fn with_room(alloc: Global, room: usize) -> Result<Row, AllocError>
+        ensures items { IfOk result (λ row. row.items ≡ []) }
+        ensures room { IfOk result (λ row. row.room ≡ room) }
     {
-        Row {
-            rels: RelList::new(alloc),
-            counts: Counts::none(),
-        }
+        Ok(Row {
+            rels: Vec::with_capacity(alloc, room)?,
+        })
     }
 
-    /// How many relations there are of each kind. Takes no memory; O(1).
-    pub(crate) fn counts(&self) -> Counts
-        ensures { AreCounted self.now.items result }
+    /// The relations. Takes no memory; O(1).
+    pub(crate) fn as_slice(&self) -> &[Rel]
+        ensures { result.now ≡ self.now.items }
     {
-        self.counts
+        self.rels.as_slice()
     }
 
     /// How many relations there are. Takes no memory; O(1).
     pub(crate) fn len(&self) -> usize
-        ensures count { result ≡ length self.now.items }
-        ensures few { result ≤ 4294967296 }
+        ensures { result ≡ length self.now.items }
     {
-        self.rels.len()
+        self.as_slice().len()
     }
 
     /// The relation to the copy at a place. Takes no memory; O(1).
@@ -59,7 +55,7 @@ impl Row {
         requires { at < length self.now.items }
         ensures { result ≡ slice_index_or self.now.items at Equal }
     {
-        self.rels.get(at)
+        self.rels[at]
     }
 
     /// Puts another relation to the copy at a place. Takes no memory; O(1).
@@ -68,11 +64,7 @@ impl Row {
         ensures items { self.new.items ≡ slice_set self.old.items at rel }
         ensures room { self.new.room ≡ self.old.room }
     {
-        let old = self.rels.get(at);
-        let _few = self.rels.len();
-        self.rels.set(at, rel);
-        self.counts.add(rel);
-        self.counts.take(old);
+        self.rels[at] = rel;
     }
 
     /// Makes room for one more relation. What fails changes nothing.
@@ -80,47 +72,56 @@ impl Row {
         ensures items { self.new.items ≡ self.old.items }
         ensures room { OnOk result (0 < self.new.room) }
     {
-        self.rels.reserve()
+        self.rels.reserve(1)
     }
 
-    /// Puts a relation at the end, in room that was made. Takes no memory; O(1).
-    pub(crate) fn push(&mut self, rel: Rel)
-        requires { 0 < self.old.room }
-        ensures { self.new.items ≡ self.old.items ++ rel ∷ [] }
+    /// Puts relations at the end, in room that was made. Takes no memory.
+    pub(crate) fn extend(&mut self, rels: &[Rel])
+        requires { length rels.now < self.old.room }
+        ensures items { self.new.items ≡ self.old.items ++ rels.now }
+        ensures room { 0 < self.new.room }
     {
-        let _few = self.rels.len();
-        self.rels.push(rel);
-        self.counts.add(rel);
+        self.rels.extend_from_slice(rels).unwrap();
     }
 
-    /// Puts a relation in before those from a place on, in room that was made. Takes no memory; visits those.
+    /// Puts a relation in before those from a place on, in room that was made. Takes no memory; moves those.
     pub(crate) fn insert(&mut self, at: usize, rel: Rel)
         requires room { 0 < self.old.room }
         requires within { at ≤ length self.old.items }
         ensures { self.new.items ≡ insert self.old.items at rel }
     {
-        let _few = self.rels.len();
-        self.rels.insert(at, rel);
-        self.counts.add(rel);
+        self.rels.insert(at, rel).unwrap();
     }
 
-    /// Takes the relation to the copy at a place out. Takes no memory; visits those behind it.
+    /// Takes the relation to the copy at a place out. Takes no memory; moves those behind it.
     pub(crate) fn remove(&mut self, at: usize)
         requires { at < length self.old.items }
-        ensures { self.new.items ≡ remove self.old.items at }
+        ensures items { self.new.items ≡ remove self.old.items at }
+        ensures room { self.old.room ≤ self.new.room }
     {
-        let gone = self.rels.get(at);
         self.rels.remove(at);
-        self.counts.take(gone);
     }
 
-    /// The same row once more. Takes one allocation.
-    pub(crate) fn copy_of(&self, alloc: Global) -> Result<Row, AllocError>
-        ensures { IfOk result (λ row. row.items ≡ self.now.items) }
+    /// How many relations there are of each kind. Takes no memory; visits them.
+    pub(crate) fn counts(&self) -> Counts
+        ensures { AreCounted self.now.items result }
     {
-        Ok(Row {
-            rels: self.rels.copy_of(alloc)?,
-            counts: self.counts,
-        })
+        let mut counts = Counts::none();
+        for rel in self.as_slice() {
+            counts.add(*rel);
+        }
+        counts
+    }
+
+    /// Whether the copy is older than any. Takes no memory; visits the relations up to the first that is so.
+    pub(crate) fn is_obsolete(&self) -> bool
+        ensures { result ≡ list_any (λ rel. is_rel rel Older) self.now.items }
+    {
+        for rel in self.as_slice() {
+            if *rel == Rel::Older {
+                return true;
+            }
+        }
+        false
     }
 }

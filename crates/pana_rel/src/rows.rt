@@ -1,14 +1,14 @@
 //! The rows of all copies, by their places.
-ghost use Rattle.std.specs.Prelude.{◌≡◌, ℕ, ◌+◌, ◌<◌, ◌↔◌, false, OnOk, IfOk, IsTrue, length, slice_index_or, slice_set};
+ghost use Rattle.std.specs.Prelude.{◌≡◌, ℕ, ◌+◌, ◌<◌, ◌≤◌, ◌↔◌, false, OnOk, IsTrue, length, vec_len, vec_capacity, slice_index_or, slice_set};
 ghost use Rattle.std.specs.List.{insert, remove};
 ghost use Rattle.pana_event.specs.declared.rel.Rel.TheVariants.{Equal};
 ghost use Rattle.pana_event.specs.Relation.{reverse_of};
 ghost use Rattle.pana_rel.specs.Pairs.{edited_rel};
-ghost use Rattle.pana_rel.specs.inner.Square.{row_in, IsTop, IsTorn, IsWide, Meets};
+ghost use Rattle.pana_rel.specs.inner.Square.{row_in, AreInserted, HaveRoom, IsTop, IsTorn, IsWide, Meets};
 
 use crate::row::Row;
 use pana_event::Rel;
-use std::alloc::{AllocError, Global};
+use std::alloc::AllocError;
 
 /// How a copy that was edited relates to another, from how it did before.
 fn edited(rel: Rel) -> Rel
@@ -20,22 +20,11 @@ fn edited(rel: Rel) -> Rel
     }
 }
 
-/// A row of these relations.
-pub(crate) fn row_of(alloc: Global, rels: &[Rel]) -> Result<Row, AllocError>
-    ensures { IfOk result (λ row. row.items ≡ rels.now) }
-{
-    let mut row = Row::new(alloc);
-    for rel in rels {
-        row.reserve()?;
-        row.push(*rel);
-    }
-    Ok(row)
-}
-
 /// Makes a copy's row that of the copy after an edit; the copy is at this place.
 pub(crate) fn edit_row(row: &mut Row, at: usize)
     ensures long { length row.new.items ≡ length row.old.items }
     ensures itself { slice_index_or row.new.items at Equal ≡ slice_index_or row.old.items at Equal }
+    ensures room { row.new.room ≡ row.old.room }
     ensures others { (k : ℕ) → k < length row.old.items → ¬ (k ≡ at) → slice_index_or row.new.items k Equal ≡ edited_rel (slice_index_or row.old.items k Equal) }
 {
     for k in 0..row.len() {
@@ -51,7 +40,8 @@ pub(crate) fn fill_row(row: &mut Row, at: usize, rels: &[Rel])
     requires long { length row.old.items ≡ length rels.now + 1 }
     requires itself { slice_index_or row.old.items at Equal ≡ Equal }
     requires within { at < length row.old.items }
-    ensures { row.new.items ≡ insert rels.now at Equal }
+    ensures items { row.new.items ≡ insert rels.now at Equal }
+    ensures room { row.new.room ≡ row.old.room }
 {
     for k in 0..row.len() {
         if k < at {
@@ -67,6 +57,7 @@ pub(crate) fn mirror(rows: &mut [Row], at: usize)
     requires within { at < length rows.old }
     requires wide { IsWide rows.old }
     ensures tall { length rows.new ≡ length rows.old }
+    ensures rooms { (i : ℕ) → (row_in rows.new i).room ≡ (row_in rows.old i).room }
     ensures own { (row_in rows.new at).items ≡ (row_in rows.old at).items }
     ensures others { (i : ℕ) → i < length rows.old → ¬ (i ≡ at) → (row_in rows.new i).items ≡ slice_set (row_in rows.old i).items at (reverse_of (slice_index_or (row_in rows.old at).items i Equal)) }
 {
@@ -82,7 +73,7 @@ pub(crate) fn mirror(rows: &mut [Row], at: usize)
 pub(crate) fn reserve(rows: &mut [Row]) -> Result<(), AllocError>
     ensures tall { length rows.new ≡ length rows.old }
     ensures same { (i : ℕ) → (row_in rows.new i).items ≡ (row_in rows.old i).items }
-    ensures room { OnOk result ((i : ℕ) → i < length rows.new → 0 < (row_in rows.new i).room) }
+    ensures room { OnOk result (HaveRoom rows.new) }
 {
     for i in 0..rows.len() {
         rows[i].reserve()?;
@@ -90,22 +81,38 @@ pub(crate) fn reserve(rows: &mut [Row]) -> Result<(), AllocError>
     Ok(())
 }
 
-/// Puts into each row but that at this place the relation to its copy, the reverse of that copy's to the row's.
-pub(crate) fn open_column(rows: &mut [Row], at: usize)
-    requires within { at < length rows.old }
-    requires room { (i : ℕ) → i < length rows.old → ¬ (i ≡ at) → 0 < (row_in rows.old i).room }
-    requires long { length (row_in rows.old at).items ≡ length rows.old }
-    requires wide { (i : ℕ) → i < length rows.old → ¬ (i ≡ at) → length (row_in rows.old i).items + 1 ≡ length rows.old }
+/// Puts into each row the relation to one more copy, at its place: the reverse of that copy's to the row's.
+fn open_column(rows: &mut [Row], at: usize, given: &Row)
+    requires long { length given.now.items ≡ length rows.old }
+    requires within { at ≤ length rows.old }
+    requires rooms { HaveRoom rows.old }
+    requires wide { IsWide rows.old }
     ensures tall { length rows.new ≡ length rows.old }
-    ensures own { (row_in rows.new at).items ≡ (row_in rows.old at).items }
-    ensures others { (i : ℕ) → i < length rows.old → ¬ (i ≡ at) → (row_in rows.new i).items ≡ insert (row_in rows.old i).items at (reverse_of (slice_index_or (row_in rows.old at).items i Equal)) }
+    ensures rows { (i : ℕ) → i < length rows.old → (row_in rows.new i).items ≡ insert (row_in rows.old i).items at (reverse_of (slice_index_or given.now.items i Equal)) }
 {
     for i in 0..rows.len() {
-        if i != at {
-            let rel = rows[at].get(i);
-            rows[i].insert(at, rel.reversed());
-        }
+        rows[i].insert(at, given.get(i).reversed());
     }
+}
+
+/// Puts one more copy in at its place, with its relations to the others, in room that was made. Takes no memory.
+pub(crate) fn put(copies: &mut Vec<u64>, rows: &mut Vec<Row>, at: usize, new: u64, given: Row)
+    requires more_copies { vec_len copies.old < vec_capacity copies.old }
+    requires more_rows { vec_len rows.old < vec_capacity rows.old }
+    requires rooms { HaveRoom rows.old.items }
+    requires room { 0 < given.room }
+    requires tall { length rows.old.items ≡ length copies.old.items }
+    requires wide { IsWide rows.old.items }
+    requires long { length given.items ≡ length copies.old.items }
+    requires within { at ≤ length copies.old.items }
+    ensures copies { copies.new.items ≡ insert copies.old.items at new }
+    ensures rows { AreInserted rows.old.items rows.new.items at given.items }
+{
+    open_column(rows, at, &given);
+    let mut row = given;
+    row.insert(at, Rel::Equal);
+    copies.insert(at, new).unwrap();
+    rows.insert(at, row).unwrap();
 }
 
 /// Takes the relation to the copy at this place out of each row.
@@ -113,18 +120,19 @@ pub(crate) fn close_column(rows: &mut [Row], at: usize)
     requires { (i : ℕ) → i < length rows.old → at < length (row_in rows.old i).items }
     ensures tall { length rows.new ≡ length rows.old }
     ensures rows { (i : ℕ) → i < length rows.old → (row_in rows.new i).items ≡ remove (row_in rows.old i).items at }
+    ensures rooms { (i : ℕ) → i < length rows.old → (row_in rows.old i).room ≤ (row_in rows.new i).room }
 {
     for i in 0..rows.len() {
         rows[i].remove(at);
     }
 }
 
-/// Whether no copy is newer than the one at this place. Takes no memory; O(1).
+/// Whether no copy is newer than the one at this place. Takes no memory; visits its relations.
 pub(crate) fn is_newest(rows: &[Row], at: usize) -> bool
     requires { at < length rows.now }
     ensures { IsTrue result ↔ IsTop (row_in rows.now at).items }
 {
-    rows[at].counts().above == 0
+    !rows[at].is_obsolete()
 }
 
 /// Whether the copy at this place is in conflict with one to which none is newer.
@@ -141,15 +149,6 @@ fn meets_newest(rows: &[Row], at: usize) -> bool
     false
 }
 
-/// Whether the copy at this place is in conflict with any. Takes no memory; O(1).
-fn has_conflict(rows: &[Row], at: usize) -> bool
-    requires within { at < length rows.now }
-    requires wide { IsWide rows.now }
-    ensures { result ≡ false → ¬ Meets rows.now at }
-{
-    rows[at].counts().conflict > 0
-}
-
 /// Whether to the copy at this place none is newer, and it is in conflict with another such copy.
 fn is_torn_at(rows: &[Row], at: usize) -> bool
     requires within { at < length rows.now }
@@ -157,11 +156,11 @@ fn is_torn_at(rows: &[Row], at: usize) -> bool
     ensures yes { IsTrue result → IsTop (row_in rows.now at).items × Meets rows.now at }
     ensures no { result ≡ false → IsTop (row_in rows.now at).items → ¬ Meets rows.now at }
 {
-    is_newest(rows, at) && has_conflict(rows, at) && meets_newest(rows, at)
+    is_newest(rows, at) && meets_newest(rows, at)
 }
 
-/// Whether two copies are in conflict to which none is newer. Takes no memory; visits the rows, and the relations
-/// of newest copies that are in conflict with others, up to the first two such copies.
+/// Whether two copies are in conflict to which none is newer. Takes no memory; visits the relations of
+/// the newest copies, up to the first two that are in conflict.
 pub(crate) fn is_split(rows: &[Row]) -> bool
     requires { IsWide rows.now }
     ensures { IsTrue result ↔ IsTorn rows.now }

@@ -1,9 +1,11 @@
 -- A table of relations while it follows the rows that it stands beside.
-use Rattle.std.specs.Prelude.{◌≡◌, ◌≢◌, ◌↔◌, ◌⊎◌, ◌==◌, ◌&&◌, not, ℕ, Bool, true, false, List, None, Contains, filter, map}
+use Rattle.std.specs.Prelude.{◌≡◌, ◌≢◌, ◌↔◌, ◌⊎◌, ◌==◌, ◌&&◌, not, ℕ, Bool, true, false, List, Some, None, Contains, filter, map}
 use Rattle.pana_event.specs.Relation.{IsRelation, tested_relation}
 use Rattle.pana_event.specs.declared.rel.Rel.{Rel}
 use Rattle.pana_rel.specs.Pairs.{Table, rel_of}
 use Rattle.pana_family.specs.declared.row.StampRow.{StampRow}
+use Rattle.pana_family.specs.declared.change.Exchange.{Exchange}
+use Rattle.pana_family.specs.Change.{row_of}
 use Rattle.pana_family.specs.Updates.{has}
 use Rattle.pana_family.specs.Holders.{is_copy}
 use Rattle.pana_family.specs.Table.{In}
@@ -33,13 +35,23 @@ relations row rows = map (row_relation row) (filter (is_other row.copy) rows)
 
 -- the same copies relate as they did
 abbrev pub AgreeOn : (ℕ → Type 0) → Table → Table → Type 0
-AgreeOn Some old new = (a b : ℕ) → Some a → Some b → rel_of new a b ≡ rel_of old a b
+AgreeOn Holds old new = (a b : ℕ) → Holds a → Holds b → rel_of new a b ≡ rel_of old a b
 
 -- some copies were put in, all of them of these rows
 pub record IsGrown (rows : List StampRow) (old new : Table) : Type 0 where
   pub more : (copy : ℕ) → Contains old.copies copy → Contains new.copies copy
   pub from : (copy : ℕ) → Contains new.copies copy → Contains old.copies copy ⊎ (lives rows copy ≡ true)
   pub same : AgreeOn (Contains old.copies) old new
+
+-- some copies were put in, all of them with these numbers
+pub record IsGrownIn (numbers : List ℕ) (old new : Table) : Type 0 where
+  pub more : (copy : ℕ) → Contains old.copies copy → Contains new.copies copy
+  pub from : (copy : ℕ) → Contains new.copies copy → Contains old.copies copy ⊎ (has numbers copy ≡ true)
+  pub same : AgreeOn (Contains old.copies) old new
+
+-- the copies that these exchanges put are there
+abbrev pub ArePut : List Exchange → Table → Type 0
+ArePut news pairs = (x : Exchange) (r : StampRow) → In x news → row_of x ≡ Some r → r.holder ≡ None → Contains pairs.copies r.copy
 
 -- a copy may have been put in
 pub record IsGrownBy (copy : ℕ) (old new : Table) : Type 0 where

@@ -1,17 +1,18 @@
 -- The rows that reports make, and what their making keeps.
-use Rattle.std.specs.Prelude.{◌≡◌, ◌≢◌, ◌↔◌, ◌&&◌, ◌||◌, Option, Some, None, count_by, not, ℕ, ◌+◌, ◌≤◌, Bool, true, false, ◌==◌, List, [], ◌∷◌, if◌then◌else◌, max}
+use Rattle.std.specs.Prelude.{◌≡◌, ◌≢◌, ◌↔◌, ◌&&◌, ◌||◌, Option, Some, None, count_by, ℕ, ◌+◌, ◌≤◌, Bool, true, false, ◌==◌, List, [], ◌∷◌, max}
 use Rattle.std.specs.List.{list_any}
-use Rattle.pana_id.specs.Id.{SharesNoPoint, AtPoints, has as owns, Id, is_zero, depth, parts, IsParted, IsSum}
+use Rattle.pana_id.specs.Id.{SharesNoPoint, AtPoints, has as owns, Id, is_zero, depth, parts, sum_of, IsParted, IsSum}
 use Rattle.pana_event.specs.Event.{greatest, IsNormal, depth as height}
-use Rattle.pana_event.specs.Join.{IsJoin}
-use Rattle.pana_event.specs.Order.{IsBelow, is_leq}
+use Rattle.pana_event.specs.Join.{IsJoin, joined as join_of}
+use Rattle.pana_event.specs.Order.{IsBelow}
 use Rattle.pana_stamp.specs.Raised.{IsRaised}
 use Rattle.pana_stamp.specs.declared.stamp.Stamp.{Stamp}
 use Rattle.pana_family.specs.declared.row.StampRow.{StampRow}
 use Rattle.pana_family.specs.Updates.{has}
 use Rattle.pana_family.specs.Holders.{leave, is_held, passed}
 use Rattle.pana_family.specs.Table.{In}
-use Rattle.pana_family.specs.Rows.{put_all, deepest, row, replaced}
+use Rattle.pana_family.specs.Rows.{deepest, replaced, with_ids, IsUpdate}
+pub use Rattle.pana_family.specs.Ends.{is_bound, ends_from, settles, goes, stays_parcel, parcel_row}
 
 -- the parts of an id aren't deeper than n
 abbrev pub PartsWithin : Id → ℕ → Type 0
@@ -33,6 +34,8 @@ pub record IsShared (row kept given : StampRow) (n : ℕ) : Type 0 where
 
 -- one stamp for two rows: it owns and knows what both do
 pub record IsJoined (a b : StampRow) (joined : Stamp) : Type 0 where
+  pub whole_id : joined.id ≡ sum_of a.stamp.id b.stamp.id
+  pub whole_event : joined.event ≡ join_of a.stamp.event b.stamp.event
   pub summed : IsSum joined.id a.stamp.id b.stamp.id
   pub levels : IsJoin a.stamp.event b.stamp.event joined.event
   pub high : greatest joined.event ≡ max (greatest a.stamp.event) (greatest b.stamp.event)
@@ -46,6 +49,7 @@ pub record AreParts (a b x y : StampRow) (n : ℕ) (whole : Stamp) : Type 0 wher
   pub other_touch : y.touch ≡ n
   pub other_event : y.stamp.event ≡ whole.event
   pub parted : IsParted whole.id x.stamp.id y.stamp.id
+  pub ids : (x.stamp.id, y.stamp.id) ≡ parts whole.id
   pub shallow : depth x.stamp.id ≤ max (depth a.stamp.id) (depth b.stamp.id)
   pub other_shallow : depth y.stamp.id ≤ max (depth a.stamp.id) (depth b.stamp.id)
 
@@ -62,6 +66,7 @@ pub record AreMerged (a b x y : StampRow) (n : ℕ) : Type 0 where
   pub joined : IsJoined a b whole
   pub id : updated.id ≡ whole.id
   pub raised : IsRaised whole.id whole.event updated.event
+  pub update : IsUpdate whole.id whole.event updated.event
   pub parts : AreParts a b x y n updated
 
 -- how many parcels the copy holds
@@ -103,26 +108,10 @@ settled_rows new ending rows = replaced new.copy new (leave ending rows)
 abbrev pub AreApart : List StampRow → Type 0
 AreApart rows = (r q : StampRow) → In r rows → In q rows → r.copy ≢ q.copy → SharesNoPoint r.stamp.id q.stamp.id
 
--- whether the row is that of the copy that is removed, or of a parcel that it holds
-abbrev pub is_bound : Option ℕ → StampRow → Bool
-is_bound None r = false
-is_bound (Some copy) r = r.copy == copy || is_held copy r.holder
-
--- whether a row's id becomes the copy's when that is settled
-abbrev pub ends_from : Option ℕ → StampRow → StampRow → Bool
-ends_from from row r = (is_bound from r || is_held row.copy r.holder) && is_leq r.stamp.event row.stamp.event
-
--- whether the row is the copy's, or ends when the copy is settled
-abbrev pub settles : Option ℕ → StampRow → StampRow → Bool
-settles from row r = r.copy == row.copy || ends_from from row r
-
--- whether a row goes when these copies are settled
-abbrev pub goes : Option ℕ → List StampRow → StampRow → Bool
-goes from settled r = is_bound from r || list_any (λ row. settles from row r) settled
-
 -- an id that owns what i does and what the seen rows own that pass the test; it is no deeper than these
 pub record Gathered (test : StampRow → Bool) (i : Id) (seen : List StampRow) (j : Id) : Type 0 where
   pub points : AtPoints (λ p. owns j p ≡ (owns i p || list_any (λ r. test r && owns r.stamp.id p) seen))
+  pub tree : j ≡ with_ids test i seen
   pub some : is_zero j ≡ false
   pub shallow : (m : ℕ) → depth i ≤ m → ((r : StampRow) → In r seen → test r ≡ true → depth r.stamp.id ≤ m) → depth j ≤ m
 
@@ -137,38 +126,7 @@ pub record IsGathered (from : Option ℕ) (rows : List StampRow) (row new : Stam
   pub within : height row.stamp.event ≤ 256
   pub sound : (r : StampRow) → In r rows → IsNormal r.stamp.event × (height r.stamp.event ≤ 256)
 
--- whether a row becomes, or stays, a parcel once its copy is removed and the heir settled
-abbrev pub stays_parcel : StampRow → ℕ → StampRow → Bool
-stays_parcel heir copy r = is_bound (Some copy) r && not (is_leq r.stamp.event heir.stamp.event)
-
--- the row as a parcel of the heir's, where the removed copy's gets number n
-abbrev pub parcel_row : ℕ → ℕ → ℕ → StampRow → StampRow
-parcel_row n copy heir r = record {
-  copy = if r.copy == copy then n else r.copy;
-  holder = Some heir;
-  stamp = r.stamp;
-  touch = if r.copy == copy then n else r.touch;
-}
-
--- the rows that pass the test
-pub record AreGone (test : StampRow → Bool) (rows gone : List StampRow) : Type 0 where
-  pub were : (r : StampRow) → In r gone → In r rows × (test r ≡ true)
-  pub all : (r : StampRow) → In r rows → test r ≡ true → In r gone
-
--- the rows with these numbers
-abbrev pub AreTaken : List StampRow → List ℕ → List StampRow → Type 0
-AreTaken rows numbers taken = AreGone (λ r. has numbers r.copy) rows taken
-
 -- a new row for a copy: it shares no point with the parcels that the copy holds
 pub record IsOwn (rows : List StampRow) (row : StampRow) : Type 0 where
   pub some : is_zero row.stamp.id ≡ false
   pub apart : (r : StampRow) → In r rows → is_held row.copy r.holder ≡ true → SharesNoPoint row.stamp.id r.stamp.id
-
--- two new rows in the place of their copies', which were then settled; and the rows that went
-pub record AreSettled (rows : List StampRow) (left right : StampRow) (new gone : List StampRow) : Type 0 where
-  pub first : StampRow
-  pub second : StampRow
-  pub one : IsGathered None rows left first
-  pub two : IsGathered None rows right second
-  pub new_is : new ≡ put_all (first ∷ second ∷ []) (leave (goes None (first ∷ second ∷ [])) rows)
-  pub gone_are : AreGone (goes None (first ∷ second ∷ [])) rows gone

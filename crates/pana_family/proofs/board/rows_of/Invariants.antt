@@ -1,6 +1,8 @@
 use Rattle.std.proofs.Common.{◌≡◌, map, take}
-use Rattle.pana_family.specs.inner.PairBoard.{copy_counts}
+use Rattle.pana_rel.specs.Board.{counts_of}
+use Rattle.pana_rel.specs.Pairs.{own_number, rel_of}
+use Rattle.pana_family.specs.Board.{row_of}
 use Rattle.pana_family.proofs.board.rows_of.Given as goal
 
 abbrev pub invariant-loop-copy : goal.invariant-loop-copy
-invariant-loop-copy l = l.rows.items ≡ map (copy_counts l.pairs) (take l.copy-index l.copies)
+invariant-loop-copy l = l.rows.items ≡ map (λ copy. row_of copy (counts_of own_number (rel_of l.pairs) l.pairs.copies copy)) (take l.copy-index l.copies)

@@ -9,3 +9,4 @@ invariant-loop-i l =
     (length l.rows ≡ length l.initial.rows)
     × ((k : ℕ) → k < l.i → (row_in l.rows k).items ≡ remove (row_in l.initial.rows k).items l.fn.at)
     × ((k : ℕ) → l.i ≤ k → row_in l.rows k ≡ row_in l.initial.rows k)
+    × ((k : ℕ) → k < l.i → (row_in l.initial.rows k).room ≤ (row_in l.rows k).room)

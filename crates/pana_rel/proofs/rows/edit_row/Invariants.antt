@@ -11,3 +11,4 @@ invariant-loop-k l =
     × ((j : ℕ) → j < l.k → ¬ (j ≡ l.fn.at) → slice_index_or l.row.items j Equal ≡ edited_rel (slice_index_or l.initial.row.items j Equal))
     × ((j : ℕ) → l.k ≤ j → slice_index_or l.row.items j Equal ≡ slice_index_or l.initial.row.items j Equal)
     × (slice_index_or l.row.items l.fn.at Equal ≡ slice_index_or l.initial.row.items l.fn.at Equal)
+    × (l.row.room ≡ l.initial.row.room)

@@ -10,3 +10,4 @@ invariant-loop-k l =
     (length l.row.items ≡ length l.initial.row.items)
     × ((j : ℕ) → j < l.k → slice_index_or l.row.items j Equal ≡ slice_index_or (insert l.rels l.fn.at Equal) j Equal)
     × ((j : ℕ) → l.k ≤ j → slice_index_or l.row.items j Equal ≡ slice_index_or l.initial.row.items j Equal)
+    × (l.row.room ≡ l.initial.row.room)

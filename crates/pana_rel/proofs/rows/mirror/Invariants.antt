@@ -12,3 +12,4 @@ invariant-loop-i l =
     × ((k : ℕ) → k < l.i → ¬ (k ≡ l.fn.at) → (row_in l.rows k).items ≡ slice_set (row_in l.initial.rows k).items l.fn.at (reverse_of (slice_index_or (row_in l.initial.rows l.fn.at).items k Equal)))
     × ((k : ℕ) → l.i ≤ k → row_in l.rows k ≡ row_in l.initial.rows k)
     × (row_in l.rows l.fn.at ≡ row_in l.initial.rows l.fn.at)
+    × ((k : ℕ) → (row_in l.rows k).room ≡ (row_in l.initial.rows k).room)

@@ -10,6 +10,5 @@ use Rattle.pana_rel.proofs.rows.open_column.Given as goal
 abbrev pub invariant-loop-i : goal.invariant-loop-i
 invariant-loop-i l =
     (length l.rows ≡ length l.initial.rows)
-    × ((k : ℕ) → k < l.i → ¬ (k ≡ l.fn.at) → (row_in l.rows k).items ≡ insert (row_in l.initial.rows k).items l.fn.at (reverse_of (slice_index_or (row_in l.initial.rows l.fn.at).items k Equal)))
+    × ((k : ℕ) → k < l.i → (row_in l.rows k).items ≡ insert (row_in l.initial.rows k).items l.fn.at (reverse_of (slice_index_or l.fn.given.items k Equal)))
     × ((k : ℕ) → l.i ≤ k → row_in l.rows k ≡ row_in l.initial.rows k)
-    × (row_in l.rows l.fn.at ≡ row_in l.initial.rows l.fn.at)

@@ -1,5 +1,5 @@
 use Rattle.std.proofs.Common.{sym, subst, arith}
-use Rattle.pana_family.specs.declared.undo.Back.TheVariants.{Rows}
+use Rattle.pana_family.specs.declared.undo.Back.TheVariants.{Changed}
 use Rattle.pana_family.specs.Rows.{AreBefore}
 use Rattle.pana_family.specs.View.{Kept, Means, Stands, IsNew}
 use Rattle.pana_family.specs.Table.{removed}
@@ -14,13 +14,13 @@ remove-requires-clause-new c = subst (λ (k : Kept). AreBefore c.args.entry k.ro
 
 pub returns-clause-deep : goal.returns-clause-deep
 returns-clause-deep c =
-    pushed_deep c.self.inside.rows c.remove.new.self c.self.inside.undo.items c.push_front.new.self (record_of c.args.entry (Rows c.in_ok-rows.rows)) c.self.inside.undo.capacity 0
-    c.self.invariant.0 c.push_front.ensures.items (c.in_ok-rows.ensures.back) (omega (arith, c.in_ok-rows.ensures.deep)) c.args.self.now c.self.view_is
+    pushed_deep c.self.inside.rows c.remove.new.self c.self.inside.undo.items c.push_front.new.self (record_of c.args.entry (Changed c.in_ok-back.back)) c.self.inside.undo.capacity 0
+    c.self.invariant.0 c.push_front.ensures.items (c.in_ok-back.ensures.back) (omega (arith, c.in_ok-back.ensures.reported.deep)) c.args.self.now c.self.view_is
 
 pub returns-clause-stands : goal.returns-clause-stands
 unfolding Means
 returns-clause-stands c = λ sets m.
     let was : Stands _ sets = subst (λ (k : Kept). Stands k sets) (sym c.self.view_is) m in
     reports (view_of c.self.inside.rows c.self.inside.undo.items) (view_of c.remove.new.self c.push_front.new.self.items) c.args.entry sets (removed c.args.entry c.args.copy c.args.heir)
-    (pushed c.self.inside.rows c.remove.new.self c.self.inside.undo.items c.push_front.new.self (record_of c.args.entry (Rows c.in_ok-rows.rows)) c.self.inside.undo.capacity c.self.invariant.0 c.push_front.ensures.items (c.in_ok-rows.ensures.back))
-    was (c.in_ok-rows.ensures.stands sets.table was.rows)
+    (pushed c.self.inside.rows c.remove.new.self c.self.inside.undo.items c.push_front.new.self (record_of c.args.entry (Changed c.in_ok-back.back)) c.self.inside.undo.capacity c.self.invariant.0 c.push_front.ensures.items (c.in_ok-back.ensures.back))
+    was (c.in_ok-back.ensures.reported.stands sets.table was.rows tt)

@@ -1,16 +1,32 @@
 use Rattle.std.proofs.Common.{sym, subst, arith}
-use Rattle.pana_family.specs.declared.undo.Back.TheVariants.{Touch}
+use Rattle.pana_family.specs.declared.undo.Back.TheVariants.{Changed}
 use Rattle.pana_family.specs.Rows.{AreBefore}
-use Rattle.pana_family.specs.View.{Kept, IsNew}
-use Rattle.pana_family.proofs.Undos.{record_of}
+use Rattle.pana_family.specs.View.{Kept, Means, Stands, IsNew}
+use Rattle.pana_family.specs.Table.{touched}
+use Rattle.pana_family.specs.Family.{view_of}
+use Rattle.pana_family.proofs.Undos.{record_of, pushed, pushed_kept, reports}
 use Rattle.pana_family.proofs.Depths.{pushed_deep}
 use Rattle.pana_family.proofs.family.Family.touch_place.Goals as goal
 
-pub touch_place-former-requires-clause-new : goal.touch_place-former-requires-clause-new
+pub touch_place-back-requires-clause-new : goal.touch_place-back-requires-clause-new
 unfolding IsNew
-touch_place-former-requires-clause-new c = subst (λ (k : Kept). AreBefore c.args.entry k.rows) (sym c.self.view_is) c.requires.new
+touch_place-back-requires-clause-new c = subst (λ (k : Kept). AreBefore c.args.entry k.rows) (sym c.self.view_is) c.requires.new
 
 pub returns-clause-deep : goal.returns-clause-deep
 returns-clause-deep c =
-    pushed_deep c.self.inside.rows c.touch_place-former.new.self c.self.inside.undo.items c.push_front.new.self (record_of c.args.entry (Touch c.args.copy c.touch_place-former.result)) c.self.inside.undo.capacity 0
-    c.self.invariant.0 c.push_front.ensures.items c.touch_place-former.ensures.back (omega (arith, c.touch_place-former.ensures.deep)) c.args.self.now c.self.view_is
+    pushed_deep c.self.inside.rows c.touch_place-back.new.self c.self.inside.undo.items c.push_front.new.self (record_of c.args.entry (Changed c.touch_place-back.result)) c.self.inside.undo.capacity 0
+    c.self.invariant.0 c.push_front.ensures.items c.touch_place-back.ensures.back (omega (arith, c.touch_place-back.ensures.reported.deep)) c.args.self.now c.self.view_is
+
+pub returns-clause-stands : goal.returns-clause-stands
+unfolding Means
+returns-clause-stands c = λ sets m.
+    let was : Stands _ sets = subst (λ (k : Kept). Stands k sets) (sym c.self.view_is) m in
+    reports (view_of c.self.inside.rows c.self.inside.undo.items) (view_of c.touch_place-back.new.self c.push_front.new.self.items) c.args.entry sets (touched c.args.entry c.args.copy)
+    (pushed c.self.inside.rows c.touch_place-back.new.self c.self.inside.undo.items c.push_front.new.self (record_of c.args.entry (Changed c.touch_place-back.result)) c.self.inside.undo.capacity c.self.invariant.0 c.push_front.ensures.items
+    c.touch_place-back.ensures.back)
+    was (c.touch_place-back.ensures.reported.stands sets.table was.rows tt)
+
+pub invariant_of-self : goal.invariant_of-self
+invariant_of-self c =
+    pushed_kept c.self.inside.rows c.touch_place-back.new.self c.self.inside.undo.items c.push_front.new.self (record_of c.args.entry (Changed c.touch_place-back.result)) c.self.inside.undo.capacity c.self.invariant.0 c.push_front.ensures.items
+    c.touch_place-back.ensures.back c.touch_place-back.ensures.was c.self.invariant.1

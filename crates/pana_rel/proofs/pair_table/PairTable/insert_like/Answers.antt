@@ -1,10 +1,20 @@
-use Rattle.pana_rel.specs.Pairs.{rel_at, rel_of}
-use Rattle.pana_rel.proofs.Insertions.{liked, liked_call}
+use Rattle.std.proofs.Common.{◌∙◌, ◌++◌, ap}
+use Rattle.pana_rel.specs.Pairs.{rel_of}
+use Rattle.pana_rel.proofs.Insertions.{liked_call, none_spare, taken_spare, IsPutIn}
+use Rattle.pana_rel.proofs.Tables.{holds_table}
 use Rattle.pana_rel.proofs.pair_table.PairTable.insert_like.Goals as goal
 
+done : (c : goal.After-put) → IsPutIn c.put.new.copies.items c.put.new.rows.items c.args.new (rel_of c.args.self.now c.args.source) c.args.self.now.copies (rel_of c.args.self.now)
+done c =
+    liked_call _ _ _ _ _ c.args.self.now c.args.source c.args.new _ _ _ _ c.self.invariant.0 c.self.view_is c.index.ensures
+    (c.extend.ensures.items ∙ ap (λ xs. xs ++ c.as_slice.result.now) (taken_spare _ _ _ _ c.self.invariant.1 c.take.ensures.value c.unwrap-row.ensures).0.empty ∙ c.as_slice.ensures)
+    c.put.ensures.copies c.put.ensures.rows c.gap-at.ensures c.requires.new c.requires.source c.place-from.ensures.place
+
+pub invariant_of-self : goal.invariant_of-self
+invariant_of-self c = ((done c).kept, none_spare _ _ c.take.ensures.after)
+
+pub returns-clause-copies : goal.returns-clause-copies
+returns-clause-copies c = (done c).copies_are
+
 pub returns-clause-pairs : goal.returns-clause-pairs
-returns-clause-pairs c =
-    let now = c.args.self.now in
-    liked_call c.insert.result c.insert.new.self c.args.new (rel_at now.copies c.in_ok-row.row.items) (rel_of now c.args.source) (rel_of now)
-    (liked _ _ now c.args.source _ _ c.in_ok-row.row c.self.invariant.0 c.self.view_is c.index.ensures c.in_ok-row.ensures c.requires.source c.place.ensures.place)
-    c.insert.ensures.pairs
+returns-clause-pairs c = holds_table _ _ _ _ (done c).holds

@@ -9,8 +9,8 @@ loop-at-preserved c =
     elim c.if-is_newest.branch [
       | then-is_newest+in_ok-push w ↦
           ap (λ v. v.items) w.newest-is ∙ w.in_ok-push.ensures.items
-          ∙ newest_then _ _ _ c.args.self.now c.loop-at.at _ _ _ c.self.invariant.0 c.self.view_is c.deref.ensures.value within c.is_newest.ensures w.if-is_newest.true w.index.ensures c.loop-at.invariant
+          ∙ newest_then _ _ _ _ c.args.self.now c.loop-at.at _ _ _ c.self.invariant.0 c.self.view_is c.deref.ensures.value within c.is_newest.ensures w.if-is_newest.true w.index.ensures c.loop-at.invariant
       | else-is_newest w ↦
           ap (λ v. v.items) w.newest-is
-          ∙ newest_else _ _ _ c.args.self.now c.loop-at.at _ _ c.self.invariant.0 c.self.view_is c.deref.ensures.value within c.is_newest.ensures w.if-is_newest.false c.loop-at.invariant
+          ∙ newest_else _ _ _ _ c.args.self.now c.loop-at.at _ _ c.self.invariant.0 c.self.view_is c.deref.ensures.value within c.is_newest.ensures w.if-is_newest.false c.loop-at.invariant
     ]

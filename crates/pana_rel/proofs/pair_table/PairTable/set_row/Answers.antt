@@ -1,26 +1,24 @@
-use Rattle.std.proofs.Common.{◌∙◌}
+use Rattle.std.proofs.Common.{◌∙◌, ap, arith, length}
 use Rattle.std.proofs.lemmas.List.{take_at}
-use Rattle.pana_rel.proofs.Changes.{filled_call, filled_wide, own_equal}
+use Rattle.pana_rel.proofs.Changes.{filled_call, own_equal, still_spare, written_spare}
+use Rattle.pana_rel.proofs.Tables.{holds_table}
 use Rattle.pana_rel.proofs.pair_table.PairTable.set_row.Goals as goal
 
 pub fill_row-requires-clause-itself : goal.fill_row-requires-clause-itself
 fill_row-requires-clause-itself c =
-    own_equal _ _ c.args.self.now c.args.copy _ _ c.self.invariant.0 c.self.view_is c.index_mut.ensures.value c.requires.lives c.place-at.ensures.place
-
-pub is_split-self-inside-requires : goal.is_split-self-inside-requires
-is_split-self-inside-requires c =
-    filled_wide _ _ _ _ _ _ c.args.self.now c.args.copy _ c.args.rels.now _ c.self.invariant.0 c.self.view_is c.fill_row.ensures
-    c.deref_mut.ensures.value c.mirror.ensures.tall c.mirror.ensures.own c.mirror.ensures.others
-    (take_at _ _ _ (c.mirror.ensures.tall ∙ c.deref_mut.ensures.len)) c.deref.ensures.value c.requires.lives c.requires.long c.place-at.ensures.place
+    own_equal _ _ _ c.args.self.now c.args.copy _ _ c.self.invariant.0 c.self.view_is c.index_mut.ensures.value c.requires.lives c.place-at.ensures.place
 
 pub invariant_of-self : goal.invariant_of-self
-invariant_of-self c =
-    (filled_call _ _ _ _ _ _ c.args.self.now c.args.copy _ c.args.rels.now _ _ c.self.invariant.0 c.self.view_is c.fill_row.ensures
-    c.deref_mut.ensures.value c.mirror.ensures.tall c.mirror.ensures.own c.mirror.ensures.others
-    (take_at _ _ _ (c.mirror.ensures.tall ∙ c.deref_mut.ensures.len)) c.deref.ensures.value c.is_split-self-inside.ensures c.requires.lives c.requires.long c.place-at.ensures.place).0
+invariant_of-self c = (
+  (filled_call _ _ _ _ _ _ c.args.self.now c.args.copy _ c.args.rels.now _ c.self.invariant.0 c.self.view_is c.fill_row.ensures.items
+      c.deref_mut.ensures.value c.mirror.ensures.tall c.mirror.ensures.own c.mirror.ensures.others
+      (take_at _ _ _ (c.mirror.ensures.tall ∙ c.deref_mut.ensures.len)) c.requires.lives c.requires.long c.place-at.ensures.place).kept,
+  still_spare _ _ _ _ _ _ _ c.self.invariant.1 (λ row s. written_spare _ _ _ _ _ _ _ row (omega (arith, c.place-at.ensures.within, c.self.invariant.0.tall, ap (λ t. length t.copies) c.self.view_is)) c.index_mut.ensures.value
+      c.fill_row.ensures.room c.deref_mut.ensures.value c.mirror.ensures.tall c.mirror.ensures.rooms (take_at _ _ _ (c.mirror.ensures.tall ∙ c.deref_mut.ensures.len)) s.0) (λ row s. s.1) (λ row s. s.2),
+)
 
 pub returns-clause-pairs : goal.returns-clause-pairs
 returns-clause-pairs c =
-    (filled_call _ _ _ _ _ _ c.args.self.now c.args.copy _ c.args.rels.now _ _ c.self.invariant.0 c.self.view_is c.fill_row.ensures
+    holds_table _ _ _ _ (filled_call _ _ _ _ _ _ c.args.self.now c.args.copy _ c.args.rels.now _ c.self.invariant.0 c.self.view_is c.fill_row.ensures.items
     c.deref_mut.ensures.value c.mirror.ensures.tall c.mirror.ensures.own c.mirror.ensures.others
-    (take_at _ _ _ (c.mirror.ensures.tall ∙ c.deref_mut.ensures.len)) c.deref.ensures.value c.is_split-self-inside.ensures c.requires.lives c.requires.long c.place-at.ensures.place).1
+    (take_at _ _ _ (c.mirror.ensures.tall ∙ c.deref_mut.ensures.len)) c.requires.lives c.requires.long c.place-at.ensures.place).holds

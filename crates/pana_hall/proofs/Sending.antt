@@ -1,0 +1,40 @@
+-- A hall may go to another thread: what it has names no thread.
+use denote.Param.SendFields.{declared_send, variants_send}
+use denote.Param.Send.{IsSend, sendable, view_send}
+use Rattle.std.proofs.boxed.Box.TheSendSync as boxes
+use Rattle.std.proofs.vec.Vec.TheSendSync as vecs
+use Rattle.std.proofs.option.Option.TheSendSync as options
+use Rattle.std.proofs.alloc.Global.TheSendSync as global
+use Rattle.std.below.std_heap.proofs.GlobalAllocator.TheSendSync as frees
+use Rattle.circular_buffer.proofs.heap.HeapCircularBuffer.TheSendSync as rings
+use Rattle.pana_hall.specs.contracts.kept_family.KeptFamily as kept_family
+use Rattle.pana_hall.specs.contracts.listed_family.Form as form
+use Rattle.pana_hall.specs.contracts.listed_family.ListedFamily as listed_family
+use Rattle.pana_hall.specs.contracts.listed_family.ListedFamily.TheInside as listed_inside
+use Rattle.pana_hall.specs.contracts.families.Families as families
+use Rattle.pana_hall.specs.contracts.hall.Hall as hall
+use Rattle.pana_hall.specs.contracts.hall.Hall.TheInside as hall_inside
+use Rattle.pana_hall.proofs.old_place.OldPlace.TheSendSync as old_places
+use Rattle.pana_hall.specs.contracts.old_places.OldPlaces as places
+use Rattle.pana_hall.specs.contracts.old_places.OldPlaces.TheInside as places_inside
+use Rattle.pana_journal.proofs.journal.Journal.TheSendSync as journals
+use Rattle.pana_copies.proofs.copy_table.CopyTable.TheSendSync as copy_tables
+use Rattle.pana_family.proofs.Sending.{family_send}
+
+places_send : IsSend places.the_row
+places_send = view_send _ _ _ _ _ (declared_send places_inside.the_type (options.the_send _ (boxes.the_send _ _ _ (rings.the_send _ _ _ old_places.the_send global.the_send frees.the_frees) global.the_send frees.the_frees), tt))
+
+kept_family_send : IsSend kept_family.the_row
+kept_family_send = declared_send kept_family.the_type (search sendable, (family_send, (places_send, tt)))
+
+form_send : IsSend form.the_row
+form_send = variants_send form.enum ((search sendable, tt), ((boxes.the_send _ _ _ kept_family_send global.the_send frees.the_frees, tt), tt))
+
+listed_family_send : IsSend listed_family.the_row
+listed_family_send = view_send _ _ _ _ _ (declared_send listed_inside.the_type (form_send, tt))
+
+families_send : IsSend families.the_row
+families_send = declared_send families.the_type (vecs.the_send _ _ _ listed_family_send global.the_send frees.the_frees, (vecs.the_send _ _ _ (search sendable) global.the_send frees.the_frees, tt))
+
+pub hall_send : IsSend hall.the_row
+hall_send = view_send _ _ _ _ _ (declared_send hall_inside.the_type (global.the_send, (journals.the_send, (families_send, (copy_tables.the_send, tt)))))
