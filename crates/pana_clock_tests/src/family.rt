@@ -1,5 +1,5 @@
 use pana_event::Rel;
-use pana_family::{Family, FamilyFault};
+use pana_family::{Family, FamilyFault, FamilyReport};
 use std::alloc::{AllocError, Global};
 use std::test::Fail;
 
@@ -16,43 +16,42 @@ fn texts(alloc: Global, family: &Family) -> Result<String, AllocError> {
 
 fn duplicate(family: &mut Family, entry: u64, source: u64) -> Result<(), FamilyFault> {
     if family.has(source) && family.is_new(entry) {
-        return family.duplicate(entry, source);
+        return family.report(entry, FamilyReport::Duplicate(source));
     }
     Err(FamilyFault::SameCopy)
 }
 
 fn edit(family: &mut Family, entry: u64, copy: u64) -> Result<(), FamilyFault> {
     if family.has(copy) && family.is_new(entry) {
-        family.edit(entry, copy)?;
-        return Ok(());
+        return family.report(entry, FamilyReport::Edit(copy));
     }
     Err(FamilyFault::SameCopy)
 }
 
 fn reconcile(family: &mut Family, entry: u64, a: u64, b: u64) -> Result<(), FamilyFault> {
     if family.has(a) && family.has(b) && family.is_new(entry) {
-        return family.reconcile(entry, a, b);
+        return family.report(entry, FamilyReport::Reconcile(a, b));
     }
     Err(FamilyFault::SameCopy)
 }
 
 fn merge(family: &mut Family, entry: u64, a: u64, b: u64) -> Result<(), FamilyFault> {
     if family.has(a) && family.has(b) && family.is_new(entry) {
-        return family.merge(entry, a, b);
+        return family.report(entry, FamilyReport::Merge(a, b));
     }
     Err(FamilyFault::SameCopy)
 }
 
 fn give(family: &mut Family, entry: u64, copy: u64, heir: u64) -> Result<(), FamilyFault> {
     if family.has(copy) && family.has(heir) && family.is_new(entry) {
-        return family.remove(entry, copy, Some(heir));
+        return family.report(entry, FamilyReport::Remove(copy, Some(heir)));
     }
     Err(FamilyFault::SameCopy)
 }
 
 fn lose(family: &mut Family, entry: u64, copy: u64) -> Result<(), FamilyFault> {
     if family.has(copy) && family.is_new(entry) {
-        return family.remove(entry, copy, None);
+        return family.report(entry, FamilyReport::Remove(copy, None));
     }
     Err(FamilyFault::SameCopy)
 }
@@ -64,7 +63,7 @@ fn withdraw(family: &mut Family, entry: u64) -> Result<(), FamilyFault> {
             if last != entry {
                 return Err(FamilyFault::SameCopy);
             }
-            family.withdraw(last)?;
+            family.withdraw(last);
             Ok(())
         }
         None => Err(FamilyFault::SameCopy),

@@ -17,11 +17,12 @@ use Rattle.pana_family.specs.Table.{Known, In, copies_of, set_in}
 use Rattle.pana_family.specs.Stands.{AreSame, StandsFor}
 use Rattle.pana_family.specs.Paired.{ArePaired}
 use Rattle.pana_family.specs.Board.{board_rows, board_newest, board_split, known_relation, number_of, row_of}
+use Rattle.pana_family.specs.Holders.{is_copy}
 use Rattle.pana_family.proofs.Changes.{relation_is}
+use Rattle.pana_family.proofs.Images.{in_filter}
 use Rattle.pana_family.proofs.BySets.{copy_numbers}
 use Rattle.pana_family.proofs.Held.{One, one_known, set_of}
-use Rattle.pana_family.proofs.Heirs.{living_at}
-use Rattle.pana_family.proofs.Copies.{ByPlaces, copies_are}
+use Rattle.pana_family.proofs.Copies.{ByPlaces, copies_are, living_at}
 use Rattle.pana_family.proofs.Relations.{relates as relates_sets}
 
 -- Lists side by side.
@@ -51,14 +52,6 @@ all_of_one rows table [] [] f g same = tt
 all_of_one rows table [] (t ∷ few) f g same = absurd same
 all_of_one rows table (r ∷ some) [] f g same = absurd same
 all_of_one rows table (r ∷ some) (t ∷ few) f g same = ((f r (inl refl), g t (inl refl), same.0, same.2), all_of_one rows table some few (λ q i. f q (inr i)) (λ s i. g s (inr i)) same.3)
-
-known_filter : (test : Known → Bool) (ts : List Known) (t : Known) → In t (filter test ts) → In t ts
-known_filter test [] t i = absurd i
-known_filter test (s ∷ ts) t i =
-    elim (test s) as (λ b. In t (cond b (s ∷ filter test ts) (filter test ts)) → In t (s ∷ ts)) [
-      | true ↦ λ h. elim h [ inl e ↦ inl e | inr j ↦ inr (known_filter test ts t j) ]
-      | false ↦ λ h. inr (known_filter test ts t h)
-    ] i
 
 -- The two boards.
 
@@ -104,7 +97,7 @@ same_board rows table pairs up st p places itself =
     let copies : List Known = copies_of table in
     let there : Known → Type 0 = λ t. In t copies in
     let one : One table = one_known 0 rows table st.same up in
-    let own : (t : Known) → In t copies → In t table = known_filter _ table in
+    let own : (t : Known) → In t copies → In t table = λ t i. (in_filter (λ t. is_copy t.holder) table t i).0 in
     let are : pairs.copies ≡ map number_of copies = copies_are rows pairs.copies up places p.copies ∙ copy_numbers rows table st.same in
     let holds : HoldsAll pairs (by_sets table) = holds_sets rows table pairs st p itself in
     let has_it : (t : Known) → In t copies → Contains pairs.copies t.copy = λ t i. subst (λ (cs : List ℕ). Contains cs t.copy) (sym are) (in_numbers copies t i) in

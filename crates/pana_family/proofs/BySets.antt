@@ -2,23 +2,23 @@
 use Rattle.std.specs.Prelude.{◌↔◌, ◌+◌, fold, cond, None, Some, ◌≡◌, ℕ, Bool, true, ◌==◌, ◌||◌, ◌&&◌, List, [], ◌∷◌, Option, length, map, slice_get, false}
 use Rattle.std.proofs.Common.{refl, subst, sym, ap, ◌∙◌, inl, inr, arith}
 use Rattle.pana_family.specs.declared.row.StampRow.{StampRow}
-use Rattle.pana_family.specs.declared.family.Family.{Family}
 use Rattle.pana_family.specs.declared.undo.Undo.{Undo}
 use Rattle.pana_family.specs.Family.{history}
 use Rattle.pana_family.specs.Laws.{IsSubset}
 use Rattle.pana_family.specs.Holders.{is_copy, is_held}
 use Rattle.pana_family.specs.Table.{Known, In, is_in, copies_of, set_in, held_by, AreHeld}
 use Rattle.pana_family.specs.Stands.{AreSame, StandsFor}
-use Rattle.pana_family.specs.Rows.{lives, copy_rows}
+use Rattle.pana_family.specs.Rows.{AreBefore, lives, copy_rows}
 use Rattle.pana_family.specs.inner.Making.{held_rows}
 use Rattle.pana_family.specs.Kept.{IsKept}
 use Rattle.pana_family.specs.Sets.{Sets, Before, IsAbove, Pends, PendsLast}
-use Rattle.pana_family.specs.View.{Means, Undone, StandBefore, Undoes, UndoesFirst, is_living, IsNew, IsLast, copy_count}
+use Rattle.pana_family.specs.View.{Kept, Means, Undone, StandBefore, Undoes, UndoesFirst, is_living, IsNew, IsLast, copy_count}
 use Rattle.pana_family.proofs.Members.{of_row, of_known, same_length}
 use Rattle.pana_family.proofs.Changes.{below_is_subset}
 use Rattle.pana_family.proofs.Held.{one_known, set_of}
 
-same_living : (rows : List StampRow) (table : List Known) (copy : ℕ) → AreSame rows table → lives rows copy ≡ is_in table copy
+-- a copy lives in rows as in the table
+pub same_living : (rows : List StampRow) (table : List Known) (copy : ℕ) → AreSame rows table → lives rows copy ≡ is_in table copy
 same_living [] [] copy same = refl
 same_living [] (t ∷ table) copy same = absurd same
 same_living (r ∷ rows) [] copy same = absurd same
@@ -33,15 +33,19 @@ same_last n [] (b ∷ before) stands pends = absurd stands
 same_last n (u ∷ undo) [] stands pends = absurd pends
 same_last n (u ∷ undo) (b ∷ before) stands pends = stands.0 ∙ pends
 
-pub living_by_sets : (f : Family) (sets : Sets) (copy : ℕ) → Means f sets → is_living f copy ≡ is_in sets.table copy
+pub living_by_sets : (f : Kept) (sets : Sets) (copy : ℕ) → Means f sets → is_living f copy ≡ is_in sets.table copy
 unfolding Means is_living
 living_by_sets f sets copy means = same_living f.rows sets.table copy means.rows.same
 
-pub new_by_sets : (f : Family) (sets : Sets) (n : ℕ) → Means f sets → IsAbove n sets.table → IsNew n f
-unfolding Means IsNew
-new_by_sets f sets n means above = λ r i. let t = of_row f.rows sets.table means.rows.same r i in let h = above t.0 t.1 in (omega (arith, t.2, h.0), omega (arith, t.3, h.1))
+-- a number above those of a table is above those of the rows
+pub same_before : (rows : List StampRow) (table : List Known) (n : ℕ) → AreSame rows table → IsAbove n table → AreBefore n rows
+same_before rows table n same above = λ r i. let t = of_row rows table same r i in let h = above t.0 t.1 in (omega (arith, t.2, h.0), omega (arith, t.3, h.1))
 
-pub last_by_sets : (f : Family) (sets : Sets) (n : ℕ) → Means f sets → PendsLast n sets.before → IsLast n f
+pub new_by_sets : (f : Kept) (sets : Sets) (n : ℕ) → Means f sets → IsAbove n sets.table → IsNew n f
+unfolding Means IsNew
+new_by_sets f sets n means above = same_before f.rows sets.table n means.rows.same above
+
+pub last_by_sets : (f : Kept) (sets : Sets) (n : ℕ) → Means f sets → PendsLast n sets.before → IsLast n f
 unfolding Means IsLast
 last_by_sets f sets n means pends = same_last n f.undo sets.before means.undo pends
 
@@ -112,7 +116,7 @@ same_numbers (r ∷ rows) (t ∷ table) same = ap (λ (k : ℕ). k ∷ map (λ q
 pub copy_numbers : (rows : List StampRow) (table : List Known) → AreSame rows table → map (λ r. r.copy) (copy_rows rows) ≡ map (λ t. t.copy) (copies_of table)
 copy_numbers rows table same = same_numbers (copy_rows rows) (copies_of table) (same_copies rows table same)
 
-pub count_by_sets : (f : Family) (sets : Sets) → Means f sets → copy_count f ≡ length (copies_of sets.table)
+pub count_by_sets : (f : Kept) (sets : Sets) → Means f sets → copy_count f ≡ length (copies_of sets.table)
 unfolding Means copy_count
 count_by_sets f sets means = sym (same_length (copy_rows f.rows) (copies_of sets.table) (same_copies f.rows sets.table means.rows.same))
 

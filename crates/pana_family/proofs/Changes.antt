@@ -1,26 +1,25 @@
 -- What each report leaves of rows that stand for a table.
-use Rattle.std.specs.Prelude.{not, ◌≡◌, ◌≢◌, ◌↔◌, ℕ, ◌+◌, Bool, true, false, ◌||◌, ◌==◌, cond, List, [], ◌∷◌, ◌++◌, None}
+use Rattle.std.specs.Prelude.{not, ◌≡◌, ◌↔◌, ℕ, ◌+◌, Bool, true, false, ◌||◌, ◌==◌, cond, List, [], ◌∷◌, ◌++◌, None}
 use Rattle.std.proofs.Common.{refl, sym, ap, subst, ◌∙◌, inl, inr, arith}
-use Rattle.std.proofs.lemmas.Bool.{both_ways, or_from, false_from_ne_true, eq-eqb, ne_eqb}
-use Rattle.pana_id.specs.Id.{is_zero, IsParted, IsSum}
+use Rattle.std.proofs.lemmas.Bool.{or_parts, both_ways, false_from_ne_true, eq-eqb, ne_eqb}
+use Rattle.pana_id.specs.Id.{is_zero, IsParted}
 use Rattle.pana_event.specs.Event.{leaf, level}
 use Rattle.pana_event.specs.Order.{IsBelow}
-use Rattle.pana_event.specs.Join.{IsJoin}
 use Rattle.pana_event.specs.Relation.{IsRelation}
 use Rattle.pana_event.specs.declared.rel.Rel.{Rel}
 use Rattle.pana_event.specs.declared.rel.Rel.TheVariants.{Equal, Older, Newer, Conflict}
 use Rattle.pana_stamp.specs.Raised.{IsRaised}
 use Rattle.pana_stamp.specs.declared.stamp.Stamp.{Stamp}
 use Rattle.pana_family.specs.declared.row.StampRow.{StampRow}
-use Rattle.pana_family.proofs.Unions.{union_members, missing}
+use Rattle.pana_family.proofs.Unions.{missing}
 use Rattle.pana_family.specs.Updates.{has, union}
 use Rattle.pana_family.specs.Relation.{relation}
-use Rattle.pana_family.specs.Laws.{IsSubset}
-use Rattle.pana_family.specs.Table.{Known, known, knowing, In, change, set_in, duplicated, edited, united, registered, touched, touch_in, AreBelow}
+use Rattle.pana_family.specs.Laws.{IsSubset, RelatesSets}
+use Rattle.pana_family.specs.Table.{Known, known, knowing, In, set_in, duplicated, edited, registered, touched, touch_in, AreBelow}
 use Rattle.pana_family.specs.Stands.{top, AreSame, StandsFor}
 use Rattle.pana_family.specs.Rows.{IsRising, AreBefore, seed_row}
 use Rattle.pana_family.specs.Rows.{replaced}
-use Rattle.pana_family.proofs.Sound.{Others, Put, all_put, fewer, Updated, United, all_united, edit_keeps, share_keeps, join_keeps, below_subset, subset_below}
+use Rattle.pana_family.proofs.Sound.{Put, all_put, fewer, Updated, edit_keeps, share_keeps, below_subset, subset_below}
 use Rattle.pana_family.proofs.Members.{found_in, of_row, of_known, same_changed, same_restamped, same_pushed, Holds, held, all_held, to_sound, of_sound, Changed, holds_changed, SetsOf, holds_restamped, holds_pushed, put_more, in_replaced, one_row, above_low}
 use Rattle.pana_family.proofs.Relations.{relates}
 
@@ -38,7 +37,7 @@ holds_any rows table r i ys g = subst (λ (xs : List ℕ). Holds rows table r.co
 pub holder_at : (rows : List StampRow) (r x : StampRow) → IsRising 0 rows → In r rows → x.holder ≡ r.holder → (q : StampRow) → In q rows → q.copy ≡ r.copy → x.holder ≡ q.holder
 holder_at rows r x up i also q j e = also ∙ ap (λ (w : StampRow). w.holder) (one_row 0 rows r q up i j (sym e))
 
-unknown_yet : (rows : List StampRow) (table : List Known) (n : ℕ) → AreBelow n table → (d : ℕ) (s : Stamp) (xs : List ℕ) → Holds rows table d s xs → has xs n ≡ false
+pub unknown_yet : (rows : List StampRow) (table : List Known) (n : ℕ) → AreBelow n table → (d : ℕ) (s : Stamp) (xs : List ℕ) → Holds rows table d s xs → has xs n ≡ false
 unknown_yet rows table n below =
     all_held rows table (λ d s xs. has xs n ≡ false) (λ r t i j e. false_from_ne_true (has t.set n) (λ m. absurd (omega (arith, below t n j m))))
 
@@ -76,105 +75,17 @@ duplicate_stands rows table r x y n st up before i named also touched same_left 
     d s ys h))
     (share_keeps P r.copy n r.stamp x.stamp y.stamp (set_in table r.copy) (to_sound rows table st) (holds_found rows table st.same r i) parted same_left same_right))
 
-pub reconcile_stands : (rows : List StampRow) (table : List Known) (a b x y : StampRow) (m : Stamp) (n : ℕ) → StandsFor rows table → IsRising 0 rows → In a rows → In b rows → a.copy ≢ b.copy
-    → x.copy ≡ a.copy → x.holder ≡ a.holder → x.touch ≡ n → x.stamp.event ≡ m.event → y.copy ≡ b.copy → y.holder ≡ b.holder → y.touch ≡ n → y.stamp.event ≡ m.event
-    → IsSum m.id a.stamp.id b.stamp.id → IsJoin a.stamp.event b.stamp.event m.event → IsParted m.id x.stamp.id y.stamp.id
-    → StandsFor (replaced b.copy y (replaced a.copy x rows)) (united n a.copy b.copy (union (set_in table a.copy) (set_in table b.copy)) table)
-reconcile_stands rows table a b x y m n st up i j differ named free touched same_left also bound now same_right summed joined parted =
-    let P : ℕ → Stamp → List ℕ → Type 0 = Holds rows table in
-    let both : List ℕ = union (set_in table a.copy) (set_in table b.copy) in
-    let f : Known → Known = knowing both n in
-    let U : List ℕ → Type 0 = United (P a.copy a.stamp) (P b.copy b.stamp) in
-    let J : ℕ → Stamp → List ℕ → Type 0 = Put (Others P b.copy) a.copy m U in
-    let first = holds_found rows table st.same a i in
-    let second = holds_found rows table st.same b j in
-    let of_both : (ys : List ℕ) → ys ≡ both → J a.copy m ys = λ ys e. inl (refl, refl, (set_in table a.copy, set_in table b.copy, first, second, e)) in
-    of_sound (replaced b.copy y (replaced a.copy x rows)) (united n a.copy b.copy both table)
-    (same_changed b.copy y f (replaced a.copy x rows) (change a.copy f table)
-    (same_changed a.copy x f rows table st.same named (λ t. refl) (λ t. sym touched) (λ t. refl) (holder_at rows a x up i free)) also (λ t. refl) (λ t. sym now) (λ t. refl)
-    (λ q k e. elim (in_replaced a.copy x rows q k) [
-      | inl is ↦ absurd (differ (sym named ∙ ap (λ (w : StampRow). w.copy) (sym is) ∙ e))
-      | inr o ↦ holder_at rows b y up j bound q o.0 e
-    ]))
-    (fewer (Put (Put J a.copy x.stamp (J a.copy m)) b.copy y.stamp (J a.copy m)) (Holds (replaced b.copy y (replaced a.copy x rows)) (united n a.copy b.copy both table))
-    (λ d s ys h. put_more (Holds (replaced a.copy x rows) (change a.copy f table)) (Put J a.copy x.stamp (J a.copy m)) b.copy y.stamp (Changed (change a.copy f table) b.copy f) (J a.copy m)
-    (λ d s ys h nb. all_put P a.copy x.stamp (Changed table a.copy f) (λ d s ys. d ≢ b.copy → Put J a.copy x.stamp (J a.copy m) d s ys)
-    (λ ys g nb. inl (refl, refl, of_both ys g.3)) (λ d s ys k na nb. inr (inr ((k, nb), na), na)) d s ys
-    (holds_changed a.copy x f rows table named (λ t. refl) d s ys h) nb)
-    (λ ys g. of_both ys g.3) d s ys
-    (holds_changed b.copy y f (replaced a.copy x rows) (change a.copy f table) also (λ t. refl) d s ys h))
-    (share_keeps J a.copy b.copy m x.stamp y.stamp both
-    (join_keeps P a.copy b.copy a.stamp b.stamp m (set_in table a.copy) (set_in table b.copy) (to_sound rows table st) first second differ summed joined)
-    (of_both both refl) parted same_left same_right))
-
-pub merge_stands : (rows : List StampRow) (table : List Known) (a b x y : StampRow) (m e : Stamp) (n : ℕ) → StandsFor rows table → IsRising 0 rows → In a rows → In b rows → a.copy ≢ b.copy
-    → x.copy ≡ a.copy → x.holder ≡ a.holder → x.touch ≡ n → x.stamp.event ≡ e.event → y.copy ≡ b.copy → y.holder ≡ b.holder → y.touch ≡ n → y.stamp.event ≡ e.event
-    → IsSum m.id a.stamp.id b.stamp.id → IsJoin a.stamp.event b.stamp.event m.event → e.id ≡ m.id → IsRaised m.id m.event e.event → IsParted e.id x.stamp.id y.stamp.id
-    → AreBelow n table → StandsFor (replaced b.copy y (replaced a.copy x rows)) (united n a.copy b.copy (n ∷ (union (set_in table a.copy) (set_in table b.copy))) table)
-merge_stands rows table a b x y m e n st up i j differ named free touched same_left also bound now same_right summed joined owner raised parted below =
-    let P : ℕ → Stamp → List ℕ → Type 0 = Holds rows table in
-    let both : List ℕ = union (set_in table a.copy) (set_in table b.copy) in
-    let f : Known → Known = knowing (n ∷ both) n in
-    let U : List ℕ → Type 0 = United (P a.copy a.stamp) (P b.copy b.stamp) in
-    let J : ℕ → Stamp → List ℕ → Type 0 = Put (Others P b.copy) a.copy m U in
-    let E : ℕ → Stamp → List ℕ → Type 0 = Put J a.copy e (Updated (J a.copy m) n) in
-    let first = holds_found rows table st.same a i in
-    let second = holds_found rows table st.same b j in
-    let there : J a.copy m both = inl (refl, refl, (set_in table a.copy, set_in table b.copy, first, second, refl)) in
-    let of_both : (ys : List ℕ) → ys ≡ n ∷ both → E a.copy e ys = λ ys k. inl (refl, refl, (both, there, k)) in
-    let new : (d : ℕ) (s : Stamp) (xs : List ℕ) → P d s xs → has xs n ≡ false = unknown_yet rows table n below in
-    of_sound (replaced b.copy y (replaced a.copy x rows)) (united n a.copy b.copy (n ∷ both) table)
-    (same_changed b.copy y f (replaced a.copy x rows) (change a.copy f table)
-    (same_changed a.copy x f rows table st.same named (λ t. refl) (λ t. sym touched) (λ t. refl) (holder_at rows a x up i free)) also (λ t. refl) (λ t. sym now) (λ t. refl)
-    (λ q k e. elim (in_replaced a.copy x rows q k) [
-      | inl is ↦ absurd (differ (sym named ∙ ap (λ (w : StampRow). w.copy) (sym is) ∙ e))
-      | inr o ↦ holder_at rows b y up j bound q o.0 e
-    ]))
-    (fewer (Put (Put E a.copy x.stamp (E a.copy e)) b.copy y.stamp (E a.copy e)) (Holds (replaced b.copy y (replaced a.copy x rows)) (united n a.copy b.copy (n ∷ both) table))
-    (λ d s ys h. put_more (Holds (replaced a.copy x rows) (change a.copy f table)) (Put E a.copy x.stamp (E a.copy e)) b.copy y.stamp (Changed (change a.copy f table) b.copy f) (E a.copy e)
-    (λ d s ys h nb. all_put P a.copy x.stamp (Changed table a.copy f) (λ d s ys. d ≢ b.copy → Put E a.copy x.stamp (E a.copy e) d s ys)
-    (λ ys g nb. inl (refl, refl, of_both ys g.3)) (λ d s ys k na nb. inr (inr (inr ((k, nb), na), na), na)) d s ys
-    (holds_changed a.copy x f rows table named (λ t. refl) d s ys h) nb)
-    (λ ys g. of_both ys g.3) d s ys
-    (holds_changed b.copy y f (replaced a.copy x rows) (change a.copy f table) also (λ t. refl) d s ys h))
-    (share_keeps E a.copy b.copy e x.stamp y.stamp (n ∷ both)
-    (edit_keeps J a.copy n m e both
-    (join_keeps P a.copy b.copy a.stamp b.stamp m (set_in table a.copy) (set_in table b.copy) (to_sound rows table st) first second differ summed joined)
-    there owner raised
-    (all_put (Others P b.copy) a.copy m U (λ d s xs. has xs n ≡ false)
-    (all_united (P a.copy a.stamp) (P b.copy b.stamp) (λ zs. has zs n ≡ false)
-    (λ xs ys g h. union_members xs ys n ∙ or_from (has xs n) (has ys n) (new a.copy a.stamp xs g) (new b.copy b.stamp ys h)))
-    (λ d s xs h ne. new d s xs h.0)))
-    (of_both (n ∷ both) refl) parted same_left same_right))
-
-or_false_left : (a b : Bool) → (a || b) ≡ false → a ≡ false
-or_false_left true b e = absurd (cc)
-or_false_left false b e = refl
-
-or_false_right : (a b : Bool) → (a || b) ≡ false → b ≡ false
-or_false_right true b e = absurd (cc)
-or_false_right false b e = e
-
 -- an update that the second set lacks goes to the head of both together
-union_fresh : (n : ℕ) (xs ys : List ℕ) → has ys n ≡ false → union (n ∷ xs) ys ≡ n ∷ union xs ys
+pub union_fresh : (n : ℕ) (xs ys : List ℕ) → has ys n ≡ false → union (n ∷ xs) ys ≡ n ∷ union xs ys
 union_fresh n xs ys fresh = ap (λ l. n ∷ (xs ++ l)) (missing_fresh ys fresh)
   where
     missing_fresh : (ys : List ℕ) → has ys n ≡ false → missing (n ∷ xs) ys ≡ missing xs ys
     missing_fresh [] fresh = refl
     missing_fresh (y ∷ ys) fresh =
-        let differ : (n == y) ≡ false = ne_eqb n y (λ e. both_ways (y == n) (or_false_left (y == n) (has ys n) fresh) (eq-eqb y n (sym e))) in
-        let rest : missing (n ∷ xs) ys ≡ missing xs ys = missing_fresh ys (or_false_right (y == n) (has ys n) fresh) in
+        let differ : (n == y) ≡ false = ne_eqb n y (λ e. both_ways (y == n) (or_parts (y == n) (has ys n) fresh).0 (eq-eqb y n (sym e))) in
+        let rest : missing (n ∷ xs) ys ≡ missing xs ys = missing_fresh ys (or_parts (y == n) (has ys n) fresh).1 in
         ap (λ (b : Bool). cond (not (b || has xs y)) (y ∷ missing (n ∷ xs) ys) (missing (n ∷ xs) ys)) differ
         ∙ ap (λ (l : List ℕ). cond (not (has xs y)) (y ∷ l) l) rest
-
-pub merge_in_table : (rows : List StampRow) (table : List Known) (a b x y : StampRow) (m e : Stamp) (n : ℕ) → StandsFor rows table → IsRising 0 rows → In a rows → In b rows → a.copy ≢ b.copy
-    → x.copy ≡ a.copy → x.holder ≡ a.holder → x.touch ≡ n → x.stamp.event ≡ e.event → y.copy ≡ b.copy → y.holder ≡ b.holder → y.touch ≡ n → y.stamp.event ≡ e.event
-    → IsSum m.id a.stamp.id b.stamp.id → IsJoin a.stamp.event b.stamp.event m.event → e.id ≡ m.id → IsRaised m.id m.event e.event → IsParted e.id x.stamp.id y.stamp.id
-    → AreBelow n table → StandsFor (replaced b.copy y (replaced a.copy x rows)) (united n a.copy b.copy (union (n ∷ set_in table a.copy) (set_in table b.copy)) table)
-merge_in_table rows table a b x y m e n st up i j differ named free touched same_left also bound now same_right summed joined owner raised parted below =
-    subst (λ (l : List ℕ). StandsFor (replaced b.copy y (replaced a.copy x rows)) (united n a.copy b.copy l table))
-    (sym (union_fresh n (set_in table a.copy) (set_in table b.copy) (unknown_yet rows table n below b.copy b.stamp (set_in table b.copy) (holds_found rows table st.same b j))))
-    (merge_stands rows table a b x y m e n st up i j differ named free touched same_left also bound now same_right summed joined owner raised parted below)
 
 -- Comparing.
 
@@ -189,22 +100,22 @@ below_is_subset rows table r q st i j =
 
 pub relation_is : (rows : List StampRow) (table : List Known) (r q : StampRow) (rel : Rel) → StandsFor rows table → In r rows → In q rows
     → IsRelation r.stamp.event q.stamp.event rel → rel ≡ relation (set_in table r.copy) (set_in table q.copy)
-relation_is rows table r q Equal st i j is =
-    let up = below_is_subset rows table r q st i j in
-    let down = below_is_subset rows table q r st j i in
-    sym ((relates (set_in table r.copy) (set_in table q.copy)).equal.1 (up.0 is.0, down.0 is.1))
-relation_is rows table r q Older st i j is =
-    let up = below_is_subset rows table r q st i j in
-    let down = below_is_subset rows table q r st j i in
-    sym ((relates (set_in table r.copy) (set_in table q.copy)).older.1 (up.0 is.0, λ h. is.1 (down.1 h)))
-relation_is rows table r q Newer st i j is =
-    let up = below_is_subset rows table r q st i j in
-    let down = below_is_subset rows table q r st j i in
-    sym ((relates (set_in table r.copy) (set_in table q.copy)).newer.1 (down.0 is.0, λ h. is.1 (up.1 h)))
-relation_is rows table r q Conflict st i j is =
-    let up = below_is_subset rows table r q st i j in
-    let down = below_is_subset rows table q r st j i in
-    sym ((relates (set_in table r.copy) (set_in table q.copy)).conflict.1 ((λ h. is.0 (up.1 h)), λ h. is.1 (down.1 h)))
+relation_is rows table r q rel st i j is = sym (by_case rel is)
+  where
+    sets : RelatesSets (set_in table r.copy) (set_in table q.copy)
+    sets = relates (set_in table r.copy) (set_in table q.copy)
+
+    up : IsBelow r.stamp.event q.stamp.event ↔ IsSubset (set_in table r.copy) (set_in table q.copy)
+    up = below_is_subset rows table r q st i j
+
+    down : IsBelow q.stamp.event r.stamp.event ↔ IsSubset (set_in table q.copy) (set_in table r.copy)
+    down = below_is_subset rows table q r st j i
+
+    by_case : (rel : Rel) → IsRelation r.stamp.event q.stamp.event rel → relation (set_in table r.copy) (set_in table q.copy) ≡ rel
+    by_case Equal is = sets.equal.1 (up.0 is.0, down.0 is.1)
+    by_case Older is = sets.older.1 (up.0 is.0, λ h. is.1 (down.1 h))
+    by_case Newer is = sets.newer.1 (down.0 is.0, λ h. is.1 (up.1 h))
+    by_case Conflict is = sets.conflict.1 ((λ h. is.0 (up.1 h)), λ h. is.1 (down.1 h))
 
 -- The first copy.
 

@@ -1,10 +1,10 @@
 -- A copy's relations, set by comparing stamps.
-use Rattle.std.specs.Prelude.{◌≡◌, ◌≢◌, ℕ, ◌+◌, ◌<◌, ◌≤◌, Bool, true, false, cond, ◌==◌, ◌&&◌, ◌||◌, not, List, [], ◌∷◌, ◌++◌, length, map, filter, take, None, Contains, slice_index_or}
+use Rattle.std.specs.Prelude.{◌≡◌, ◌≢◌, ◌↔◌, ◌⊎◌, ℕ, ◌+◌, ◌<◌, ◌≤◌, Bool, true, false, cond, ◌==◌, ◌&&◌, ◌||◌, not, List, [], ◌∷◌, ◌++◌, length, map, filter, take, None, Contains, slice_index_or}
 use Rattle.std.proofs.Common.{refl, sym, ap, subst, ◌∙◌, inl, inr, arith, suc, zero}
-use Rattle.std.proofs.lemmas.Bool.{cases_Bool, both_ways, and_from, eqb-true, eqb-false, ne_eqb, not_from_false, or_from}
+use Rattle.std.proofs.lemmas.Bool.{cases_Bool, eq-eqb, both_ways, and_from, eqb-true, eqb-false, ne_eqb, not_from_false, or_from}
 use Rattle.std.proofs.lemmas.List.{append-nil, length-append}
 use Rattle.std.proofs.lemmas.List.Elements.{filter_more}
-use Rattle.pana_event.specs.Event.{Event, IsNormal, depth}
+use Rattle.pana_event.specs.Event.{Event, IsSound}
 use Rattle.pana_event.specs.Order.{is_leq}
 use Rattle.pana_event.specs.Relation.{IsRelation, reverse_of, tested_relation}
 use Rattle.pana_event.specs.declared.rel.Rel.{Rel}
@@ -16,20 +16,22 @@ use Rattle.pana_family.specs.Updates.{has}
 use Rattle.pana_family.specs.Holders.{is_copy}
 use Rattle.pana_family.specs.Table.{In}
 use Rattle.pana_family.specs.Rows.{IsRising, lives, copy_rows}
+use Rattle.pana_family.specs.inner.Making.{AreSound}
 use Rattle.pana_family.specs.inner.Comparing.{AreCompared, HasCopies, is_other, relations, row_relation}
 use Rattle.pana_family.proofs.Members.{one_row}
+use Rattle.pana_family.proofs.Images.{in_filter, to_filter}
 use Rattle.pana_family.proofs.Copies.{copies_are, lives_from, ByPlaces}
 
 -- what the test of two sound events says
-pub tested : (e f : Event) → IsNormal e × (depth e ≤ 256) → IsNormal f × (depth f ≤ 256) → IsRelation e f (tested_relation e f)
+pub tested : (e f : Event) → IsSound e → IsSound f → IsRelation e f (tested_relation e f)
 tested e f m n = elim (cases_Bool (is_leq e f)) [
   | inl x ↦ elim (cases_Bool (is_leq f e)) [
-    | inl y ↦ by_two x y (leq-is-below e f m.1 n.1 x, leq-is-below f e n.1 m.1 y)
-    | inr y ↦ by_two x y (leq-is-below e f m.1 n.1 x, λ b. both_ways (is_leq f e) y (below-is-leq f e n.1 m.1 m.0 b))
+    | inl y ↦ by_two x y (leq-is-below e f m.shallow n.shallow x, leq-is-below f e n.shallow m.shallow y)
+    | inr y ↦ by_two x y (leq-is-below e f m.shallow n.shallow x, λ b. both_ways (is_leq f e) y (below-is-leq f e n.shallow m.shallow m.normal b))
   ]
   | inr x ↦ elim (cases_Bool (is_leq f e)) [
-    | inl y ↦ by_two x y (leq-is-below f e n.1 m.1 y, λ b. both_ways (is_leq e f) x (below-is-leq e f m.1 n.1 n.0 b))
-    | inr y ↦ by_two x y ((λ b. both_ways (is_leq e f) x (below-is-leq e f m.1 n.1 n.0 b)), λ b. both_ways (is_leq f e) y (below-is-leq f e n.1 m.1 m.0 b))
+    | inl y ↦ by_two x y (leq-is-below f e n.shallow m.shallow y, λ b. both_ways (is_leq e f) x (below-is-leq e f m.shallow n.shallow n.normal b))
+    | inr y ↦ by_two x y ((λ b. both_ways (is_leq e f) x (below-is-leq e f m.shallow n.shallow n.normal b)), λ b. both_ways (is_leq f e) y (below-is-leq f e n.shallow m.shallow m.normal b))
   ]
 ]
   where
@@ -106,65 +108,50 @@ read_beside f (r ∷ others) q i one = elim (cases_Bool (r.copy == q.copy)) [
   ]
 ]
 
-in_filter : (test : StampRow → Bool) (rows : List StampRow) (q : StampRow) → In q (filter test rows) → In q rows
-in_filter test [] q i = absurd i
-in_filter test (r ∷ rows) q i =
-    elim (test r) as (λ b. In q (cond b (r ∷ filter test rows) (filter test rows)) → In q (r ∷ rows)) [
-      | true ↦ λ h. elim h [ inl e ↦ inl e | inr j ↦ inr (in_filter test rows q j) ]
-      | false ↦ λ h. inr (in_filter test rows q h)
-    ] i
-
-to_filter : (test : StampRow → Bool) (rows : List StampRow) (q : StampRow) → In q rows → test q ≡ true → In q (filter test rows)
-to_filter test [] q i passes = absurd i
-to_filter test (r ∷ rows) q i passes = elim i [
-  | inl e ↦ rw (ap test (sym e) ∙ passes) (inl e)
-  | inr j ↦ let later = to_filter test rows q j passes in elim (test r) as (λ b. In q (cond b (r ∷ filter test rows) (filter test rows))) [ true ↦ inr later | false ↦ later ]
-]
-
 pub read_relation : (rows : List StampRow) (cs : List ℕ) (row q : StampRow) → IsRising 0 rows → cs ≡ map (λ r. r.copy) (copy_rows rows) → In q rows → q.holder ≡ None → q.copy ≢ row.copy
     → rel_at (without row.copy cs) (relations row rows) q.copy ≡ row_relation row q
 read_relation rows cs row q up are i free ne =
     ap (λ (l : List ℕ). rel_at l (relations row rows) q.copy) (ap (without row.copy) are ∙ without_rows row.copy rows)
     ∙ read_beside (row_relation row) (filter (is_other row.copy) rows) q
     (to_filter (is_other row.copy) rows q i (and_from (is_copy q.holder) (not (q.copy == row.copy)) (ap is_copy free) (not_from_false (q.copy == row.copy) (ne_eqb q.copy row.copy ne))))
-    (λ r j e. one_row 0 rows r q up (in_filter (is_other row.copy) rows r j) i e)
+    (λ r j e. one_row 0 rows r q up (in_filter (is_other row.copy) rows r j).0 i e)
 
 -- The row of a copy is set.
 
-pub copy_compared : (rows : List StampRow) (old new : Table) (row : StampRow) → IsRising 0 rows → ((r : StampRow) → In r rows → IsNormal r.stamp.event × (depth r.stamp.event ≤ 256))
-    → ByPlaces old.copies → HasCopies rows old → In row rows → row.holder ≡ None → new.copies ≡ old.copies
-    → Holds new (with_row row.copy (rel_at (without row.copy old.copies) (relations row rows)) (rel_of old)) → (but : List ℕ) → AreCompared (row.copy ∷ but) rows old → AreCompared but rows new
-copy_compared rows old new row up sound places has_copies there free kept holds but was r q i j free' free'' ne out out' =
-    let are : old.copies ≡ map (λ r. r.copy) (copy_rows rows) = copies_are rows old.copies up places has_copies in
-    let inside : (x : StampRow) → In x rows → x.holder ≡ None → Contains new.copies x.copy = λ x l f. subst (λ (cs : List ℕ). Contains cs x.copy) (sym kept) ((has_copies x.copy).1 (lives_from rows x l f)) in
-    let given : ℕ → Rel = rel_at (without row.copy old.copies) (relations row rows) in
-    let value : rel_of new r.copy q.copy ≡ with_row row.copy given (rel_of old) r.copy q.copy = holds r.copy q.copy (inside r i free') (inside q j free'') in
-    elim (cases_Bool (r.copy == row.copy)) [
-      | inl e ↦
-          let is : r ≡ row = one_row 0 rows r row up i there (eqb-true r.copy row.copy e) in
-          let other : q.copy ≢ row.copy = λ f. ne (eqb-true r.copy row.copy e ∙ sym f) in
-          subst (λ (w : StampRow). IsRelation w.stamp.event q.stamp.event (rel_of new r.copy q.copy)) (sym is)
-          (subst (IsRelation row.stamp.event q.stamp.event) (sym (value ∙ ap (λ (b : Bool). cond b (given q.copy) (cond (q.copy == row.copy) (reverse_of (given r.copy)) (rel_of old r.copy q.copy))) e ∙ read_relation rows old.copies row q up are j free'' other))
-          (tested row.stamp.event q.stamp.event (sound row there) (sound q j)))
-      | inr n ↦ elim (cases_Bool (q.copy == row.copy)) [
-        | inl e ↦
-            let is : q ≡ row = one_row 0 rows q row up j there (eqb-true q.copy row.copy e) in
-            let other : r.copy ≢ row.copy = eqb-false r.copy row.copy n in
-            subst (λ (w : StampRow). IsRelation r.stamp.event w.stamp.event (rel_of new r.copy q.copy)) (sym is)
-            (subst (IsRelation r.stamp.event row.stamp.event) (sym (value ∙ ap (λ (b : Bool). cond b (given q.copy) (cond (q.copy == row.copy) (reverse_of (given r.copy)) (rel_of old r.copy q.copy))) n
-            ∙ ap (λ (b : Bool). cond b (reverse_of (given r.copy)) (rel_of old r.copy q.copy)) e ∙ ap reverse_of (read_relation rows old.copies row r up are i free' other)))
-            (turned row.stamp.event r.stamp.event (row_relation row r) (tested row.stamp.event r.stamp.event (sound row there) (sound r i))))
-        | inr m ↦
-            subst (IsRelation r.stamp.event q.stamp.event) (sym (value ∙ ap (λ (b : Bool). cond b (given q.copy) (cond (q.copy == row.copy) (reverse_of (given r.copy)) (rel_of old r.copy q.copy))) n
-            ∙ ap (λ (b : Bool). cond b (reverse_of (given r.copy)) (rel_of old r.copy q.copy)) m))
-            (was r q i j free' free'' ne (or_from (row.copy == r.copy) (has but r.copy) (ne_eqb row.copy r.copy (λ e. eqb-false r.copy row.copy n (sym e))) out)
-            (or_from (row.copy == q.copy) (has but q.copy) (ne_eqb row.copy q.copy (λ e. eqb-false q.copy row.copy m (sym e))) out'))
+-- x is the copy's row; those of others relate as they did
+pub row_compared : (c : ℕ) (x : StampRow) (relate : ℕ → Rel) (rows : List StampRow) (old new : Table) (but : List ℕ) → x.copy ≡ c → HasCopies rows new → Holds new (with_row c relate (rel_of old))
+    → ((y : StampRow) → In y rows → y.holder ≡ None → (y ≡ x) ⊎ (y.copy ≢ c)) → ((y : StampRow) → In y rows → y.holder ≡ None → y.copy ≢ c → IsRelation x.stamp.event y.stamp.event (relate y.copy))
+    → AreCompared (c ∷ but) rows old → AreCompared but rows new
+row_compared c x relate rows old new but named copies holds split own rest y z i j free free' ne out out' =
+    let value : (b d : Bool) → (y.copy == c) ≡ b → (z.copy == c) ≡ d → rel_of new y.copy z.copy ≡ cond b (relate z.copy) (cond d (reverse_of (relate y.copy)) (rel_of old y.copy z.copy)) = λ b d e f.
+    holds y.copy z.copy ((copies y.copy).1 (lives_from rows y i free)) ((copies z.copy).1 (lives_from rows z j free'))
+    ∙ ap (λ (v : Bool). cond v (relate z.copy) (cond (z.copy == c) (reverse_of (relate y.copy)) (rel_of old y.copy z.copy))) e ∙ ap (λ (v : Bool). cond b (relate z.copy) (cond v (reverse_of (relate y.copy)) (rel_of old y.copy z.copy))) f in
+    let is_c : (w : StampRow) → w ≡ x → (w.copy == c) ≡ true = λ w is. eq-eqb w.copy c (ap (λ (v : StampRow). v.copy) is ∙ named) in
+    let also : (w : StampRow) → w.copy ≢ c → has but w.copy ≡ false → has (c ∷ but) w.copy ≡ false = λ w nw o. or_from (c == w.copy) (has but w.copy) (ne_eqb c w.copy (λ e. nw (sym e))) o in
+    elim (split y i free) [
+      | inl is ↦ elim (split z j free') [
+        | inl same ↦ absurd (ne (ap (λ (v : StampRow). v.copy) (is ∙ sym same)))
+        | inr nz ↦ subst (IsRelation y.stamp.event z.stamp.event) (sym (value true false (is_c y is) (ne_eqb z.copy c nz))) (subst (λ (v : StampRow). IsRelation v.stamp.event z.stamp.event (relate z.copy)) (sym is) (own z j free' nz))
+      ]
+      | inr ny ↦ elim (split z j free') [
+        | inl is ↦ subst (IsRelation y.stamp.event z.stamp.event) (sym (value false true (ne_eqb y.copy c ny) (is_c z is)))
+            (subst (λ (v : StampRow). IsRelation y.stamp.event v.stamp.event (reverse_of (relate y.copy))) (sym is) (turned x.stamp.event y.stamp.event (relate y.copy) (own y i free ny)))
+        | inr nz ↦ subst (IsRelation y.stamp.event z.stamp.event) (sym (value false false (ne_eqb y.copy c ny) (ne_eqb z.copy c nz))) (rest y z i j free free' ne (also y ny out) (also z nz out'))
       ]
     ]
 
+pub copy_compared : (rows : List StampRow) (old new : Table) (row : StampRow) → IsRising 0 rows → AreSound rows
+    → ByPlaces old.copies → HasCopies rows old → In row rows → row.holder ≡ None → new.copies ≡ old.copies
+    → Holds new (with_row row.copy (rel_at (without row.copy old.copies) (relations row rows)) (rel_of old)) → (but : List ℕ) → AreCompared (row.copy ∷ but) rows old → AreCompared but rows new
+copy_compared rows old new row up sound places has_copies there free kept holds but was =
+    row_compared row.copy row (rel_at (without row.copy old.copies) (relations row rows)) rows old new but refl (λ d. subst (λ (cs : List ℕ). Contains cs d ↔ (lives rows d ≡ true)) (sym kept) (has_copies d)) holds
+    (λ y i f. elim (cases_Bool (y.copy == row.copy)) [ inl e ↦ inl (one_row 0 rows y row up i there (eqb-true y.copy row.copy e)) | inr ne ↦ inr (eqb-false y.copy row.copy ne) ])
+    (λ y i f ne. subst (IsRelation row.stamp.event y.stamp.event) (sym (read_relation rows old.copies row y up (copies_are rows old.copies up places has_copies) i f ne)) (tested row.stamp.event y.stamp.event (sound row there).1 (sound y i).1))
+    was
+
 -- Over the rows.
 
-fewer_taken : (test : StampRow → Bool) (rows : List StampRow) (i : ℕ) → length (filter test (take i rows)) ≤ length (filter test rows)
+pub fewer_taken : (test : StampRow → Bool) (rows : List StampRow) (i : ℕ) → length (filter test (take i rows)) ≤ length (filter test rows)
 fewer_taken test rows zero = omega arith
 fewer_taken test [] (suc i) = omega arith
 fewer_taken test (r ∷ rows) (suc i) =

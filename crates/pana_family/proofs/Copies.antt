@@ -1,8 +1,8 @@
 -- The copies of a table of relations, and those of rows.
 use Rattle.std.specs.Prelude.{◌≡◌, ◌≢◌, ◌↔◌, ℕ, ◌+◌, ◌<◌, ◌≤◌, Bool, true, false, cond, ◌==◌, ◌&&◌, ◌||◌, not, ◌⊎◌, List, [], ◌∷◌, length, map, filter, None, nat_lt, Contains, slice_index_or}
 use Rattle.std.proofs.Common.{refl, sym, ap, subst, ◌∙◌, inl, inr, arith, suc, zero}
-use Rattle.std.proofs.lemmas.Bool.{cases_order, and_from, eq-eqb, eqb-true, eqb-false, ne_eqb, lt-ltb, not-true, not_from_false}
-use Rattle.std.proofs.lemmas.List.{get_or_default}
+use Rattle.std.proofs.lemmas.Bool.{cases_order, and_from, and_parts, eq-eqb, eqb-true, eqb-false, ne_eqb, lt-ltb, not-true, not_from_false}
+use Rattle.std.proofs.lemmas.List.{get_or_default, length-map}
 use Rattle.std.proofs.lemmas.List.Elements.{Contains-append_cases, Contains-append_left, Contains-append_right}
 use Rattle.pana_rel.specs.Pairs.{with_copy, without}
 use Rattle.pana_rel.proofs.Boards.{any_at, contains_filter, contains_more, filter_contains, found}
@@ -11,7 +11,8 @@ use Rattle.pana_family.specs.Updates.{has}
 use Rattle.pana_family.specs.Holders.{is_copy}
 use Rattle.pana_family.specs.Table.{In}
 use Rattle.pana_family.specs.Rows.{IsRising, lives, copy_rows}
-use Rattle.pana_family.proofs.Parcels.{any_from}
+use Rattle.pana_family.proofs.Places.{free_from}
+use Rattle.pana_family.proofs.Parcels.{any_from, any_some}
 
 -- Numbers.
 
@@ -61,6 +62,13 @@ pub lives_from : (rows : List StampRow) (r : StampRow) → In r rows → r.holde
 lives_from rows r i free =
     any_from (λ q. q.copy == r.copy && is_copy q.holder) rows r i (and_from (r.copy == r.copy) (is_copy r.holder) (eq-eqb r.copy r.copy refl) (ap is_copy free))
 
+-- a living copy has a row
+pub living_at : (rows : List StampRow) (copy : ℕ) → lives rows copy ≡ true → (r : StampRow) × In r rows × (r.copy ≡ copy) × (r.holder ≡ None)
+living_at rows copy here =
+    let m = any_some (λ r. r.copy == copy && is_copy r.holder) rows here in
+    let p = and_parts (m.0.copy == copy) (is_copy m.0.holder) m.2 in
+    (m.0, m.1, eqb-true m.0.copy copy p.0, free_from m.0.holder p.1)
+
 pub has_rows : (rows : List StampRow) (c : ℕ) → has (map (λ r. r.copy) (copy_rows rows)) c ≡ lives rows c
 has_rows [] c = refl
 has_rows (r ∷ rows) c =
@@ -101,7 +109,7 @@ rises_rows low (r ∷ rows) up =
 abbrev pub ByPlaces : List ℕ → Type 0
 ByPlaces cs = (i j : ℕ) → i < j → j < length cs → slice_index_or cs i 0 < slice_index_or cs j 0
 
-rises_places : (low : ℕ) (cs : List ℕ) → ByPlaces cs → ((c : ℕ) → Contains cs c → low ≤ c) → Rises low cs
+pub rises_places : (low : ℕ) (cs : List ℕ) → ByPlaces cs → ((c : ℕ) → Contains cs c → low ≤ c) → Rises low cs
 rises_places low [] up least = tt
 rises_places low (c ∷ cs) up least = (
   least c (zero, omega arith, refl),
@@ -109,7 +117,7 @@ rises_places low (c ∷ cs) up least = (
       (λ d here. let e = get_or_default cs here.0 d 0 here.1 in omega (arith, up zero (suc here.0) (omega arith) (omega (arith, here.1)), e, here.2)),
 )
 
-rises_above : (low : ℕ) (cs : List ℕ) (c : ℕ) → Rises low cs → Contains cs c → low ≤ c
+pub rises_above : (low : ℕ) (cs : List ℕ) (c : ℕ) → Rises low cs → Contains cs c → low ≤ c
 rises_above low [] c up here = absurd (omega (arith, here.1))
 rises_above low (x ∷ cs) c up here = elim (first_or_later x cs c here) [
   | inl e ↦ omega (arith, up.0, e)
@@ -145,3 +153,36 @@ copies_are rows cs up places same =
     same_numbers 0 cs (map (λ r. r.copy) (copy_rows rows)) (rises_places 0 cs places (λ c here. omega arith)) (rises_rows 0 rows up)
     (λ c here. has_contains (map (λ r. r.copy) (copy_rows rows)) c (has_rows rows c ∙ (same c).0 here))
     (λ c here. (same c).1 (sym (has_rows rows c) ∙ contains_has (map (λ r. r.copy) (copy_rows rows)) c here))
+
+-- How many they are.
+
+shorter : (low : ℕ) (xs ys : List ℕ) → Rises low xs → Rises low ys → ((c : ℕ) → Contains xs c → Contains ys c) → length xs ≤ length ys
+shorter low [] ys up top f = omega arith
+shorter low (x ∷ xs) [] up top f = absurd (omega (arith, (f x (zero, omega arith, refl)).1))
+shorter low (x ∷ xs) (y ∷ ys) up top f = elim (first_or_later y ys x (f x (zero, omega arith, refl))) [
+  | inl e ↦
+      let rest = shorter (x + 1) xs ys up.1 (subst (λ (k : ℕ). Rises (k + 1) ys) (sym e) top.1) (λ c i. elim (first_or_later y ys c (f c (contains_more x xs c i))) [
+        | inl same ↦ absurd (omega (arith, rises_above (x + 1) xs c up.1 i, e, same))
+        | inr j ↦ j
+      ]) in
+      omega (arith, rest)
+  | inr later ↦
+      let least : y + 1 ≤ x = rises_above (y + 1) ys x top.1 later in
+      let rest = shorter (y + 1) (x ∷ xs) ys (least, up.1) top.1 (λ c i. elim (first_or_later y ys c (f c i)) [
+        | inl same ↦ absurd (omega (arith, rises_above x (x ∷ xs) c (omega arith, up.1) i, least, same))
+        | inr j ↦ j
+      ]) in
+      omega (arith, rest)
+]
+
+-- no more copies live where each lived before
+pub few_lives : (rows new : List StampRow) → IsRising 0 rows → IsRising 0 new → ((c : ℕ) → lives new c ≡ true → lives rows c ≡ true) → length (copy_rows new) ≤ length (copy_rows rows)
+few_lives rows new up up' f =
+    let number : StampRow → ℕ = λ r. r.copy in
+    omega (
+      arith,
+      length-map (copy_rows new) number,
+      length-map (copy_rows rows) number,
+      shorter 0 (map number (copy_rows new)) (map number (copy_rows rows)) (rises_rows 0 new up') (rises_rows 0 rows up)
+          (λ c here. has_contains (map number (copy_rows rows)) c (has_rows rows c ∙ f c (sym (has_rows new c) ∙ contains_has (map number (copy_rows new)) c here))),
+    )

@@ -1,17 +1,16 @@
 -- The table of relations after each report, by the table of sets that the rows stand for.
-use Rattle.std.specs.Prelude.{◌≡◌, ◌≢◌, ◌↔◌, ℕ, ◌<◌, Bool, true, false, cond, ◌==◌, ◌&&◌, ◌||◌, List, [], ◌∷◌, ◌++◌, Option, Some, None, Contains}
+use Rattle.std.specs.Prelude.{◌≡◌, ◌≢◌, ◌↔◌, ℕ, ◌<◌, Bool, true, false, cond, ◌==◌, ◌&&◌, ◌||◌, List, [], ◌∷◌, ◌++◌, None, Contains}
 use Rattle.std.proofs.Common.{refl, sym, ap, ap₂, subst, ◌∙◌, inl, inr, arith}
-use Rattle.std.proofs.lemmas.Bool.{cases_Bool, eq-eqb, eqb-true, eqb-false, false_from_ne_true, ne_eqb, or_from, or_parts}
+use Rattle.std.proofs.lemmas.Bool.{cases_Bool, eq-eqb, eqb-true, eqb-false, false_from_ne_true, ne_eqb, or_parts}
 use Rattle.pana_event.specs.Order.{IsBelow}
 use Rattle.pana_event.specs.Relation.{IsRelation, reverse_of}
 use Rattle.pana_event.specs.declared.rel.Rel.{Rel}
 use Rattle.pana_event.specs.declared.rel.Rel.TheVariants.{Equal, Older, Newer, Conflict}
-use Rattle.pana_rel.specs.Pairs.{Table, Holds, edited_rel, edited_row, rel_of, with_copy, with_row, without as without_number}
+use Rattle.pana_rel.specs.Pairs.{Table, Holds, edited_rel, edited_row, rel_of, with_copy, with_row}
 use Rattle.pana_family.specs.declared.row.StampRow.{StampRow}
 use Rattle.pana_family.specs.Updates.{has, is_within}
 use Rattle.pana_family.specs.Relation.{relation}
-use Rattle.pana_family.specs.Holders.{is_held, passed}
-use Rattle.pana_family.specs.Table.{Known, In, known, knowing, parcel, change, without, set_in, duplicated, edited, touched, united, settled, reconciled, merged, lost, passed_on, wrapped, bequeathed, removed, ends, AreBelow}
+use Rattle.pana_family.specs.Table.{Known, In, known, knowing, change, set_in, duplicated, edited, AreBelow}
 use Rattle.pana_family.specs.Stands.{AreSame, StandsFor}
 use Rattle.pana_family.specs.Rows.{lives}
 use Rattle.pana_family.specs.Laws.{IsSubset}
@@ -20,11 +19,10 @@ use Rattle.pana_family.specs.inner.Comparing.{AreCompared, HasCopies}
 use Rattle.pana_family.proofs.Members.{Holds as HoldsOf, held, in_append, in_change, in_left, of_known, of_row, to_sound}
 use Rattle.pana_family.proofs.Sound.{below_subset, subset_below}
 use Rattle.pana_family.proofs.Held.{One, set_of}
-use Rattle.pana_family.proofs.Heirs.{living_at}
-use Rattle.pana_family.proofs.Parcels.{in_leave, in_passed_on, not_held, stays_in}
+use Rattle.pana_family.proofs.Copies.{living_at}
 use Rattle.pana_family.proofs.Relations.{relates}
 use Rattle.pana_family.proofs.Boards.{same_equal}
-use Rattle.pana_family.proofs.Copies.{in_with_copy, in_without_copy, lives_from, with_copy_new, with_copy_old, without_other}
+use Rattle.pana_family.proofs.Copies.{in_with_copy, lives_from, with_copy_new, with_copy_old}
 
 -- a table has a copy of this number
 abbrev pub Living : List Known → ℕ → Type 0
@@ -117,18 +115,6 @@ of_follow rows table pairs st f = record {
 abbrev Same : List ℕ → List Known → List Known → Type 0
 Same but table new = (s : Known) → In s new → s.holder ≡ None → has but s.copy ≡ false → (t : Known) × In t table × (t.copy ≡ s.copy) × (t.holder ≡ None) × (t.set ≡ s.set)
 
-same_follows : (but : List ℕ) (table new : List Known) (pairs pairs' : Table) → Follows [] table pairs → Same but table new
-    → ((c : ℕ) → Contains pairs'.copies c ↔ Living new c) → ((a b : ℕ) → Contains pairs'.copies a → Contains pairs'.copies b → rel_of pairs' a b ≡ rel_of pairs a b) → Follows but new pairs'
-same_follows but table new pairs pairs' f same copies agree = record {
-  copies = copies;
-  rels = λ t s i j free free' ne out out'.
-      let was = same t i free out in
-      let were = same s j free' out' in
-      agree t.copy s.copy ((copies t.copy).1 (t, i, refl, free)) ((copies s.copy).1 (s, j, refl, free'))
-      ∙ ap (λ (k : ℕ). rel_of pairs k s.copy) (sym was.2) ∙ ap (rel_of pairs was.0.copy) (sym were.2)
-      ∙ f.rels was.0 were.0 was.1 were.1 was.3 were.3 (λ e. ne (sym was.2 ∙ e ∙ were.2)) refl refl ∙ ap₂ relation was.4 were.4;
-}
-
 to_change : (c : ℕ) (g : Known → Known) (table : List Known) (t : Known) → In t table → In (cond (t.copy == c) (g t) t) (change c g table)
 to_change c g [] t i = absurd i
 to_change c g (s ∷ table) t i = elim i [
@@ -151,127 +137,11 @@ living_changed c n set_of table d = (
   ),
 )
 
-pub touch_follows : (n c : ℕ) (table : List Known) (pairs : Table) → Follows [] table pairs → Follows [] (touched n c table) pairs
-touch_follows n c table pairs f =
-    let back = living_changed c n (λ t. t.set) table in
-    same_follows [] table (touched n c table) pairs pairs f
-    (λ s i free out. elim (in_change c (λ t. knowing t.set n t) table s i) [
-      | inl k ↦ (k.0, k.1, ap (λ (w : Known). w.copy) (sym k.3), ap (λ (w : Known). w.holder) (sym k.3) ∙ free, ap (λ (w : Known). w.set) (sym k.3))
-      | inr k ↦ (s, k.0, refl, free, refl)
-    ])
-    (λ d. ((λ here. (back d).1 ((f.copies d).0 here)), λ there. (f.copies d).1 ((back d).0 there))) (λ a b here there. refl)
-
--- Settling takes parcels alone.
-
-free_in : (c : ℕ) (set : List ℕ) (t : Known) → t.holder ≡ None → ends c set t ≡ false
-free_in c set t free = ap (λ (b : Bool). b && is_within t.set set) (not_held c t.holder free)
-
-living_settled : (c : ℕ) (table : List Known) (d : ℕ) → Living (settled c table) d ↔ Living table d
-living_settled c table d = (
-  (λ l. (l.0, (in_leave (ends c (set_in table c)) table l.0 l.1).0, l.2, l.3)),
-  λ l. (l.0, stays_in (ends c (set_in table c)) table l.0 l.1 (free_in c (set_in table c) l.0 l.3), l.2, l.3),
-)
-
-apart_of : (a b d : ℕ) → has (a ∷ b ∷ []) d ≡ false → (d ≢ a) × (d ≢ b)
-apart_of a b d out =
-    let p = or_parts (a == d) ((b == d) || false) out in
-    let q = or_parts (b == d) false p.1 in
-    ((λ e. eqb-false a d p.0 (sym e)), λ e. eqb-false b d q.0 (sym e))
-
-united_follows : (n a b : ℕ) (both : List ℕ) (table : List Known) (pairs : Table) → Follows [] table pairs → Follows (a ∷ b ∷ []) (settled b (settled a (united n a b both table))) pairs
-united_follows n a b both table pairs f =
-    let one : List Known = change a (knowing both n) table in
-    let two : List Known = united n a b both table in
-    let first = living_changed a n (λ t. both) table in
-    let second = living_changed b n (λ t. both) one in
-    let third = living_settled a two in
-    let fourth = living_settled b (settled a two) in
-    same_follows (a ∷ b ∷ []) table (settled b (settled a two)) pairs pairs f
-    (λ s i free out.
-    let ne = apart_of a b s.copy out in
-    let inside : In s two = (in_leave (ends a (set_in two a)) two s (in_leave (ends b (set_in (settled a two) b)) (settled a two) s i).0).0 in
-    elim (in_change b (knowing both n) one s inside) [
-      | inl k ↦ absurd (ne.1 (ap (λ (w : Known). w.copy) k.3 ∙ k.2))
-      | inr k ↦ elim (in_change a (knowing both n) table s k.0) [
-        | inl m ↦ absurd (ne.0 (ap (λ (w : Known). w.copy) m.3 ∙ m.2))
-        | inr m ↦ (s, m.0, refl, free, refl)
-      ]
-    ])
-    (λ d. (
-      (λ here. (fourth d).1 ((third d).1 ((second d).1 ((first d).1 ((f.copies d).0 here))))),
-      λ there. (f.copies d).1 ((first d).0 ((second d).0 ((third d).0 ((fourth d).0 there)))),
-    )) (λ x y here there. refl)
-
-pub reconcile_follows : (n a b : ℕ) (table : List Known) (pairs : Table) → Follows [] table pairs → Follows (a ∷ b ∷ []) (reconciled n a b table) pairs
-reconcile_follows n a b table pairs f = united_follows n a b _ table pairs f
-
-pub merge_follows : (n a b : ℕ) (table : List Known) (pairs : Table) → Follows [] table pairs → Follows (a ∷ b ∷ []) (merged n a b table) pairs
-merge_follows n a b table pairs f = united_follows n a b _ table pairs f
-
 -- A copy is removed.
-
-passed_none : (c h : ℕ) (o : Option ℕ) → passed c h o ≡ None → o ≡ None
-passed_none c h None e = refl
-passed_none c h (Some k) e = elim (k == c) as (λ b. cond b (Some h) (Some k) ≡ None → Some k ≡ None) [ true ↦ λ f. absurd (cc f) | false ↦ λ f. f ] e
-
-to_passed : (c h : ℕ) (table : List Known) (t : Known) → In t table → In (record { copy = t.copy; holder = passed c h t.holder; set = t.set; touch = t.touch }) (passed_on c h table)
-to_passed c h [] t i = absurd i
-to_passed c h (s ∷ table) t i = elim i [
-  | inl e ↦ inl (ap (λ (w : Known). record { copy = w.copy; holder = passed c h w.holder; set = w.set; touch = w.touch }) e)
-  | inr j ↦ inr (to_passed c h table t j)
-]
 
 -- a copy that there was, other than this one
 abbrev Other : ℕ → List Known → Known → Type 0
 Other c table s = (t : Known) × In t table × (t.copy ≡ s.copy) × (t.holder ≡ None) × (t.set ≡ s.set) × (s.copy ≢ c)
-
-lost_other : (c : ℕ) (table : List Known) (s : Known) → In s (lost c table) → s.holder ≡ None → Other c table s
-lost_other c table s i free =
-    let k = in_leave (λ t. t.copy == c || is_held c t.holder) table s i in
-    (s, k.0, refl, free, refl, eqb-false s.copy c (or_parts (s.copy == c) (is_held c s.holder) k.1).0)
-
-lost_stays : (c : ℕ) (table : List Known) (d : ℕ) → d ≢ c → Living table d → Living (lost c table) d
-lost_stays c table d ne l =
-    (l.0, stays_in (λ t. t.copy == c || is_held c t.holder) table l.0 l.1 (or_from (l.0.copy == c) (is_held c l.0.holder) (ne_eqb l.0.copy c (λ e. ne (sym l.2 ∙ e))) (not_held c l.0.holder l.3)), l.2, l.3)
-
-heir_other : (n c h : ℕ) (table : List Known) (s : Known) → In s (bequeathed n c h table) → s.holder ≡ None → Other c table s
-heir_other n c h table s i free =
-    let mid : List Known = passed_on c h (wrapped n c h table) in
-    let k = in_passed_on c h (wrapped n c h table) s (in_leave (ends h (set_in mid h)) mid s i).0 in
-    let none : k.0.holder ≡ None = passed_none c h k.0.holder (sym k.5 ∙ free) in
-    elim (in_append k.0 (without c table) (parcel n h (set_in table c) ∷ []) k.1) [
-      | inl j ↦
-          let m = in_leave (λ t. t.copy == c) table k.0 j in
-          (k.0, m.0, sym k.2, none, sym k.3, λ e. eqb-false k.0.copy c m.1 (sym k.2 ∙ e))
-      | inr j ↦ elim j [
-        | inl e ↦ let wrong : Some h ≡ None = ap (λ (w : Known). w.holder) (sym e) ∙ none in absurd (cc wrong)
-        | inr never ↦ absurd never
-      ]
-    ]
-
-heir_stays : (n c h : ℕ) (table : List Known) (d : ℕ) → d ≢ c → Living table d → Living (bequeathed n c h table) d
-heir_stays n c h table d ne l =
-    let mid : List Known = passed_on c h (wrapped n c h table) in
-    let kept : In l.0 (without c table) = stays_in (λ t. t.copy == c) table l.0 l.1 (ne_eqb l.0.copy c (λ e. ne (sym l.2 ∙ e))) in
-    let there = to_passed c h (wrapped n c h table) l.0 (in_left l.0 (without c table) (parcel n h (set_in table c) ∷ []) kept) in
-    let none : passed c h l.0.holder ≡ None = ap (passed c h) l.3 in
-    (living_settled h mid d).1 (record { copy = l.0.copy; holder = passed c h l.0.holder; set = l.0.set; touch = l.0.touch }, there, l.2, none)
-
-gone_follows : (c : ℕ) (table new : List Known) (pairs pairs' : Table) → Follows [] table pairs → ((s : Known) → In s new → s.holder ≡ None → Other c table s)
-    → ((d : ℕ) → d ≢ c → Living table d → Living new d) → pairs'.copies ≡ without_number c pairs.copies → Holds pairs' (rel_of pairs) → Follows [] new pairs'
-gone_follows c table new pairs pairs' f other stays are holds =
-    same_follows [] table new pairs pairs' f (λ s i free out. let k = other s i free in (k.0, k.1, k.2, k.3, k.4))
-    (λ d. (
-      (λ here. let k = in_without_copy c d pairs.copies (subst (λ (cs : List ℕ). Contains cs d) are here) in stays d k.1 ((f.copies d).0 k.0)),
-      λ l. let k = other l.0 l.1 l.3 in
-          subst (λ (cs : List ℕ). Contains cs d) (sym are) (without_other c d pairs.copies ((f.copies d).1 (k.0, k.1, k.2 ∙ l.2, k.3)) (λ e. k.5 (l.2 ∙ e))),
-    ))
-    (λ a b here there. holds a b here there)
-
-pub remove_follows : (n c : ℕ) (heir : Option ℕ) (table : List Known) (pairs pairs' : Table) → Follows [] table pairs → pairs'.copies ≡ without_number c pairs.copies → Holds pairs' (rel_of pairs)
-    → Follows [] (removed n c heir table) pairs'
-remove_follows n c None table pairs pairs' f are holds = gone_follows c table (lost c table) pairs pairs' f (lost_other c table) (lost_stays c table) are holds
-remove_follows n c (Some h) table pairs pairs' f are holds = gone_follows c table (bequeathed n c h table) pairs pairs' f (heir_other n c h table) (heir_stays n c h table) are holds
 
 -- A copy is edited.
 

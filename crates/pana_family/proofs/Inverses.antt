@@ -16,7 +16,7 @@ use Rattle.pana_family.specs.Rows.{IsRising, there, dropped, put_back, renewed}
 use Rattle.pana_family.proofs.Members.{above_low}
 use Rattle.pana_family.proofs.Backs.{same_rows, rising_put}
 use Rattle.pana_family.proofs.Places.{in_at, is_found, not_found, rising_dropped, rising_replaced, set_is}
-use Rattle.pana_family.specs.Change.{row_at, number_of, row_of, at_number, placed, placed_all, formers, is_put, puts, mapped, with_event, with_touch, changed, event_back, touch_back, inverse, is_light, exchanged_all, after}
+use Rattle.pana_family.specs.Change.{row_at, number_of, row_of, at_number, placed, placed_all, formers, is_put, puts, mapped, with_event, with_touch, changed, event_back, touch_back, inverse, exchanged_all, after}
 
 -- rows by number, each under its own
 abbrev pub AreNamed : (ℕ → Option StampRow) → Type 0
@@ -89,20 +89,6 @@ takes_back (Touch copy touch) rows named = back (rows copy) refl
     back None is = mapped_back copy (with_touch touch) (with_touch touch) rows (λ r e. absurd (cc (is, e)))
     back (Some q) is = mapped_back copy (with_touch touch) (with_touch q.touch) rows (λ r e. let same : q ≡ r = cc (is, e) in ap (λ (k : StampRow). with_touch k.touch r) same)
 takes_back (Rows news) rows named = all_back news.items rows named
-
--- what takes back a change that exchanges no rows exchanges none
-pub light_back : (c : Change) (rows : ℕ → Option StampRow) → is_light (inverse c rows) ≡ is_light c
-light_back (Renew copy event touch) rows = same (rows copy)
-  where
-    same : (o : Option StampRow) → is_light (event_back (Renew copy event touch) copy o) ≡ true
-    same None = refl
-    same (Some r) = refl
-light_back (Touch copy touch) rows = same (rows copy)
-  where
-    same : (o : Option StampRow) → is_light (touch_back (Touch copy touch) copy o) ≡ true
-    same None = refl
-    same (Some r) = refl
-light_back (Rows news) rows = refl
 
 -- Rows in a list.
 
@@ -273,7 +259,7 @@ mapped_at c at f r x rows seen up same within found read is keeps =
 
 -- Lists of rows.
 
-in_from_at : (rows : List StampRow) (n : ℕ) (r : StampRow) → row_at rows n ≡ Some r → In r rows
+pub in_from_at : (rows : List StampRow) (n : ℕ) (r : StampRow) → row_at rows n ≡ Some r → In r rows
 in_from_at [] n r is = absurd (cc is)
 in_from_at (q ∷ rows) n r is =
     elim (q.copy == n) as (λ b. cond b (Some q) (row_at rows n) ≡ Some r → In r (q ∷ rows)) [ true ↦ λ e. let same : q ≡ r = cc e in inl (sym same) | false ↦ λ e. inr (in_from_at rows n r e) ] is

@@ -9,9 +9,9 @@ use Rattle.pana_family.specs.declared.row.StampRow.{StampRow}
 use Rattle.pana_family.specs.Updates.{has}
 use Rattle.pana_family.specs.Table.{Known, In, change, without, set_in}
 use Rattle.pana_family.specs.Stands.{top, AreSame, IsMarked, StandsFor}
-use Rattle.pana_family.specs.Rows.{IsRising, dropped}
+use Rattle.pana_family.specs.Rows.{IsRising}
 use Rattle.pana_family.specs.Rows.{replaced}
-use Rattle.pana_family.proofs.Sound.{Marked, Sound, Others, Put, all_put}
+use Rattle.pana_family.proofs.Sound.{Marked, Sound, Put, all_put}
 
 -- Members.
 
@@ -44,15 +44,6 @@ in_change c f (t ∷ table) s i =
     elim (t.copy == c) as (λ b. (t.copy == c) ≡ b → (s ≡ cond b (f t) t) ⊎ In s (change c f table) → ((k : Known) × In k (t ∷ table) × (k.copy ≡ c) × (s ≡ f k)) ⊎ (In s (t ∷ table) × (s.copy ≢ c))) [
       | true ↦ λ w h. elim h [ inl e ↦ inl (t, inl refl, eqb-true t.copy c w, e) | inr j ↦ later j ]
       | false ↦ λ w h. elim h [ inl e ↦ inr (inl e, λ k. eqb-false t.copy c w (ap (λ (q : Known). q.copy) (sym e) ∙ k)) | inr j ↦ later j ]
-    ] refl i
-
-pub in_dropped : (c : ℕ) (rows : List StampRow) (y : StampRow) → In y (dropped c rows) → In y rows × (y.copy ≢ c)
-in_dropped c [] y i = absurd i
-in_dropped c (r ∷ rows) y i =
-    let later : In y (dropped c rows) → In y (r ∷ rows) × (y.copy ≢ c) = λ j. let k = in_dropped c rows y j in (inr k.0, k.1) in
-    elim (r.copy == c) as (λ b. (r.copy == c) ≡ b → In y (cond b (dropped c rows) (r ∷ dropped c rows)) → In y (r ∷ rows) × (y.copy ≢ c)) [
-      | true ↦ λ t h. later h
-      | false ↦ λ t h. elim h [ inl e ↦ (inl e, λ k. eqb-false r.copy c t (ap (λ (q : StampRow). q.copy) (sym e) ∙ k)) | inr j ↦ later j ]
     ] refl i
 
 pub in_without : (c : ℕ) (table : List Known) (s : Known) → In s (without c table) → In s table × (s.copy ≢ c)
@@ -125,18 +116,6 @@ same_restamped c x (r ∷ rows) (t ∷ table) same named touches =
     elim (r.copy == c) as (λ b. (r.copy == c) ≡ b → AreSame (cond b x r ∷ replaced c x rows) (t ∷ table)) [
       | true ↦ λ w. (named ∙ sym (eqb-true r.copy c w) ∙ same.0, (touches r (inl refl) (eqb-true r.copy c w)).0 ∙ same.1, (touches r (inl refl) (eqb-true r.copy c w)).1 ∙ same.2, rest)
       | false ↦ λ w. (same.0, same.1, same.2, rest)
-    ] refl
-
-pub same_dropped : (c : ℕ) (rows : List StampRow) (table : List Known) → AreSame rows table → AreSame (dropped c rows) (without c table)
-same_dropped c [] [] same = tt
-same_dropped c [] (t ∷ table) same = absurd same
-same_dropped c (r ∷ rows) [] same = absurd same
-same_dropped c (r ∷ rows) (t ∷ table) same =
-    let here : (r.copy == c) ≡ (t.copy == c) = ap (λ (k : ℕ). k == c) same.0 in
-    let rest : AreSame (dropped c rows) (without c table) = same_dropped c rows table same.3 in
-    elim (r.copy == c) as (λ b. (r.copy == c) ≡ b → AreSame (cond b (dropped c rows) (r ∷ dropped c rows)) (without c (t ∷ table))) [
-      | true ↦ λ w. rw (sym here ∙ w) rest
-      | false ↦ λ w. rw (sym here ∙ w) (same.0, same.1, same.2, rest)
     ] refl
 
 pub same_pushed : (x : StampRow) (k : Known) (rows : List StampRow) (table : List Known) → AreSame rows table → x.copy ≡ k.copy → x.touch ≡ k.touch → x.holder ≡ k.holder → AreSame (rows ++ x ∷ []) (table ++ k ∷ [])
@@ -240,11 +219,6 @@ holds_restamped c x rows table named =
       | inl is ↦ let at : r.copy ≡ c = ap (λ (q : StampRow). q.copy) is ∙ named in inl (at, ap (λ (q : StampRow). q.stamp) is, (s, j, sym e ∙ at, refl))
       | inr other ↦ inr (held rows table r s other.0 j e, other.1)
     ])
-
-pub holds_without : (c : ℕ) (rows : List StampRow) (table : List Known) (d : ℕ) (s : Stamp) (ys : List ℕ) → Holds (dropped c rows) (without c table) d s ys → Others (Holds rows table) c d s ys
-holds_without c rows table =
-    all_held (dropped c rows) (without c table) (Others (Holds rows table) c)
-    (λ r s i j e. let k = in_dropped c rows r i in let m = in_without c table s j in (held rows table r s k.0 m.0 e, k.1))
 
 pub holds_pushed : (n : ℕ) (x : StampRow) (k : Known) (rows : List StampRow) (table : List Known) → x.copy ≡ n → k.copy ≡ n
     → ((r : StampRow) → In r rows → r.copy ≢ n) → ((t : Known) → In t table → t.copy ≢ n)

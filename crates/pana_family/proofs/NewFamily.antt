@@ -9,19 +9,15 @@ use Rattle.pana_family.specs.Table.{Known, copies_of, set_in, touch_in}
 use Rattle.pana_family.specs.Stands.{AreSame}
 use Rattle.pana_family.specs.Rows.{seed_row, id_in}
 use Rattle.pana_family.specs.Sets.{Sets, Before, began, Pends, PendsLast}
-use Rattle.pana_family.specs.View.{Means, StandBefore, is_living, can_split, copy_count, depth_at, new_family, undone}
+use Rattle.pana_family.specs.View.{Means, StandBefore, is_living, can_split, copy_count, new_family, undone}
 use Rattle.pana_family.proofs.Relations.{relates}
 use Rattle.pana_family.proofs.Changes.{seed_stands}
 use Rattle.pana_family.proofs.Undos.{empty_stands}
-use Rattle.pana_family.proofs.Depths.{seed_depth}
 use Rattle.pana_family.proofs.BySets.{count_by_sets, same_pends}
 
 pub new_means : (n : ℕ) → Means (new_family n) (began n)
 unfolding Means
 new_means n = record { rows = seed_stands n; undo = (refl, empty_stands, tt) }
-
-pub new_depth : (n k : ℕ) → depth_at k (new_family n) ≡ 0
-new_depth n k = seed_depth (new_family n) n refl refl k
 
 pub new_count : (n : ℕ) (sets : Sets) → Means (new_family n) sets → 1 ≡ length (copies_of sets.table)
 unfolding copy_count

@@ -7,33 +7,9 @@ use Rattle.pana_id.specs.Id.{depth}
 use Rattle.pana_family.specs.declared.row.StampRow.{StampRow}
 use Rattle.pana_family.specs.Table.{In}
 use Rattle.pana_family.specs.Holders.{is_copy}
-use Rattle.pana_family.specs.Rows.{IsRising, dropped, there, put_back, id_in, row_in, renewed, deepest}
+use Rattle.pana_family.specs.Rows.{IsRising, dropped, there, put_back, id_in, row_in, deepest}
 use Rattle.pana_family.specs.Rows.{replaced}
 use Rattle.pana_family.proofs.Members.{above_low}
-
--- where a copy's row stands
-abbrev pub place_in : ℕ → List StampRow → ℕ
-place_in copy rows = position_or_len (λ row. row.copy == copy) rows
-
-pub place_within : (copy : ℕ) (rows : List StampRow) → there rows copy ≡ true → place_in copy rows < length rows
-place_within copy [] here = absurd (cc)
-place_within copy (r ∷ rows) here =
-    elim (r.copy == copy) as (λ b. (b || there rows copy) ≡ true → cond (not b) (1 + place_in copy rows) 0 < suc (length rows)) [
-      | true ↦ λ h. omega arith
-      | false ↦ λ h. let rest : place_in copy rows < length rows = place_within copy rows h in omega arith
-    ] here
-
-pub place_found : (copy : ℕ) (rows : List StampRow) → there rows copy ≡ true → position (λ row. row.copy == copy) rows ≡ Some (place_in copy rows)
-place_found copy rows here = ap (λ b. cond b (Some (place_in copy rows)) None) (lt-ltb (place_in copy rows) (length rows) (place_within copy rows here))
-
-pub place_holds : (copy : ℕ) (rows : List StampRow) (d : StampRow) → there rows copy ≡ true → (get_or rows (place_in copy rows) d).copy ≡ copy
-place_holds copy [] d here = absurd (cc)
-place_holds copy (r ∷ rows) d here =
-    let next : 1 + place_in copy rows ≡ suc (place_in copy rows) = omega arith in
-    elim (r.copy == copy) as (λ b. (r.copy == copy) ≡ b → (b || there rows copy) ≡ true → (get_or (r ∷ rows) (cond (not b) (1 + place_in copy rows) 0) d).copy ≡ copy) [
-      | true ↦ λ w h. eqb-true r.copy copy w
-      | false ↦ λ w h. rw next (place_holds copy rows d h)
-    ] refl here
 
 pub in_at : (rows : List StampRow) (i : ℕ) (d : StampRow) → i < length rows → In (get_or rows i d) rows
 in_at [] i d within = absurd (omega arith)
@@ -102,13 +78,6 @@ rising_pushed low y [] up least less = (least, tt)
 rising_pushed low y (r ∷ rows) up least less =
     (up.0, rising_pushed (r.copy + 1) y rows up.1 (omega (arith, less r (inl refl))) (λ q i. less q (inr i)))
 
--- the last row taken off again
-pub dropped_last : (y : StampRow) (rows : List StampRow) → ((r : StampRow) → In r rows → r.copy ≢ y.copy) → dropped y.copy (rows ++ y ∷ []) ≡ rows
-dropped_last y [] other = ap (λ (b : Bool). cond b [] (y ∷ [])) (eq-eqb y.copy y.copy refl)
-dropped_last y (r ∷ rows) other =
-    ap (λ (b : Bool). cond b (dropped y.copy (rows ++ y ∷ [])) (r ∷ dropped y.copy (rows ++ y ∷ []))) (ne_eqb r.copy y.copy (other r (inl refl)))
-    ∙ ap (λ (l : List StampRow). r ∷ l) (dropped_last y rows (λ q i. other q (inr i)))
-
 pub put_back_later : (x r : StampRow) (rows : List StampRow) → r.copy < x.copy → put_back x (r ∷ rows) ≡ r ∷ put_back x rows
 put_back_later x r rows less =
     ap (λ (b : Bool). cond b (x ∷ rows) (cond (nat_lt x.copy r.copy) (x ∷ (r ∷ rows)) (r ∷ put_back x rows))) (ne_eqb r.copy x.copy (λ e. omega (arith, e)))
@@ -127,27 +96,6 @@ in_replaced_other c x (q ∷ rows) r i ne = elim i [
   | inl e ↦ inl (e ∙ ap (λ (b : Bool). cond b x q) (sym (ne_eqb q.copy c (λ k. ne (ap (λ (w : StampRow). w.copy) e ∙ k)))))
   | inr j ↦ inr (in_replaced_other c x rows r j ne)
 ]
-
-pub in_dropped_other : (c : ℕ) (rows : List StampRow) (r : StampRow) → In r rows → r.copy ≢ c → In r (dropped c rows)
-in_dropped_other c [] r i ne = absurd i
-in_dropped_other c (q ∷ rows) r i ne =
-    elim (q.copy == c) as (λ b. (q.copy == c) ≡ b → In r (cond b (dropped c rows) (q ∷ dropped c rows))) [
-      | true ↦ λ w. elim i [
-        | inl e ↦ absurd (ne (ap (λ (k : StampRow). k.copy) e ∙ eqb-true q.copy c w))
-        | inr j ↦ in_dropped_other c rows r j ne
-      ]
-      | false ↦ λ w. elim i [ inl e ↦ inl e | inr j ↦ inr (in_dropped_other c rows r j ne) ]
-    ] refl
-
-pub renewed_back : (c : ℕ) (f : StampRow → StampRow) (x : StampRow) (rows : List StampRow) → x.copy ≡ c → ((q : StampRow) → In q rows → q.copy ≡ c → f x ≡ q) → renewed c f (replaced c x rows) ≡ rows
-renewed_back c f x [] named one = refl
-renewed_back c f x (q ∷ rows) named one =
-    let rest : renewed c f (replaced c x rows) ≡ rows = renewed_back c f x rows named (λ k i. one k (inr i)) in
-    elim (q.copy == c) as (λ b. (q.copy == c) ≡ b → renewed c f (cond b x q ∷ replaced c x rows) ≡ q ∷ rows) [
-      | true ↦ λ w. ap (λ (b : Bool). cond b (f x) x ∷ renewed c f (replaced c x rows)) (eq-eqb x.copy c named)
-          ∙ ap (λ (l : List StampRow). f x ∷ l) rest ∙ ap (λ (k : StampRow). k ∷ rows) (one q (inl refl) (eqb-true q.copy c w))
-      | false ↦ λ w. ap (λ (b : Bool). cond b (f q) q ∷ renewed c f (replaced c x rows)) w ∙ ap (λ (l : List StampRow). q ∷ l) rest
-    ] refl
 
 -- where a row is or would be
 abbrev pub index_from : ℕ → List StampRow → ℕ
@@ -174,54 +122,53 @@ place_from_within copy (r ∷ rows) =
     let rest : index_from copy rows ≤ length rows = place_from_within copy rows in
     elim (nat_le copy r.copy) as (λ b. cond (not b) (1 + index_from copy rows) 0 ≤ suc (length rows)) [ true ↦ omega arith | false ↦ omega arith ]
 
--- a copy that isn't there
-pub absent_same : (copy : ℕ) (f : StampRow → StampRow) (rows : List StampRow) → there rows copy ≡ false → (dropped copy rows ≡ rows) × (renewed copy f rows ≡ rows)
-absent_same copy f [] none = (refl, refl)
-absent_same copy f (r ∷ rows) none =
-    elim (r.copy == copy) as (λ b. (b || there rows copy) ≡ false → (cond b (dropped copy rows) (r ∷ dropped copy rows) ≡ r ∷ rows) × (cond b (f r) r ∷ renewed copy f rows ≡ r ∷ rows)) [
+-- the first that passes the test
+abbrev pub first_in : (StampRow → Bool) → List StampRow → ℕ
+first_in test rows = position_or_len test rows
+
+pub first_within : (test : StampRow → Bool) (rows : List StampRow) → list_any test rows ≡ true → first_in test rows < length rows
+first_within test [] here = absurd (cc)
+first_within test (r ∷ rows) here =
+    elim (test r) as (λ b. (b || list_any test rows) ≡ true → cond (not b) (1 + first_in test rows) 0 < suc (length rows)) [
+      | true ↦ λ h. omega arith
+      | false ↦ λ h. let rest : first_in test rows < length rows = first_within test rows h in omega arith
+    ] here
+
+pub first_found : (test : StampRow → Bool) (rows : List StampRow) → list_any test rows ≡ true → position test rows ≡ Some (first_in test rows)
+first_found test rows here = ap (λ b. cond b (Some (first_in test rows)) None) (lt-ltb (first_in test rows) (length rows) (first_within test rows here))
+
+pub first_holds : (test : StampRow → Bool) (rows : List StampRow) (d : StampRow) → list_any test rows ≡ true → test (get_or rows (first_in test rows) d) ≡ true
+first_holds test [] d here = absurd (cc)
+first_holds test (r ∷ rows) d here =
+    let next : 1 + first_in test rows ≡ suc (first_in test rows) = omega arith in
+    elim (test r) as (λ b. test r ≡ b → (b || list_any test rows) ≡ true → test (get_or (r ∷ rows) (cond (not b) (1 + first_in test rows) 0) d) ≡ true) [
+      | true ↦ λ w h. w
+      | false ↦ λ w h. rw next (first_holds test rows d h)
+    ] refl here
+
+at_end : (test : StampRow → Bool) (rows : List StampRow) → list_any test rows ≡ false → length rows ≤ first_in test rows
+at_end test [] none = omega arith
+at_end test (r ∷ rows) none =
+    elim (test r) as (λ b. (b || list_any test rows) ≡ false → suc (length rows) ≤ cond (not b) (1 + first_in test rows) 0) [
       | true ↦ λ h. absurd (cc)
-      | false ↦ λ h. let rest = absent_same copy f rows h in (ap (λ (l : List StampRow). r ∷ l) rest.0, ap (λ (l : List StampRow). r ∷ l) rest.1)
+      | false ↦ λ h. let rest : length rows ≤ first_in test rows = at_end test rows h in omega arith
     ] none
 
-pub renewed_none : (low copy : ℕ) (f : StampRow → StampRow) (rows : List StampRow) → IsRising low rows → copy < low → renewed copy f rows ≡ rows
-renewed_none low copy f [] up less = refl
-renewed_none low copy f (r ∷ rows) up less =
-    ap (λ (b : Bool). cond b (f r) r ∷ renewed copy f rows) (ne_eqb r.copy copy (λ e. omega (arith, up.0, e)))
-    ∙ ap (λ (l : List StampRow). r ∷ l) (renewed_none (r.copy + 1) copy f rows up.1 (omega (arith, up.0)))
-
-pub renew_is : (low copy : ℕ) (f : StampRow → StampRow) (i : ℕ) (d : StampRow) (rows : List StampRow) → IsRising low rows → i < length rows → (get_or rows i d).copy ≡ copy
-    → set rows i (f (get_or rows i d)) ≡ renewed copy f rows
-renew_is low copy f i d [] up within at = absurd (omega arith)
-renew_is low copy f zero d (r ∷ rows) up within at =
-    ap (λ (l : List StampRow). f r ∷ l) (sym (renewed_none (r.copy + 1) copy f rows up.1 (omega (arith, at))))
-    ∙ ap (λ (b : Bool). cond b (f r) r ∷ renewed copy f rows) (sym (eq-eqb r.copy copy at))
-renew_is low copy f (suc i) d (r ∷ rows) up within at =
-    let later : r.copy + 1 ≤ copy = omega (arith, at, above_low (r.copy + 1) rows (get_or rows i d) up.1 (in_at rows i d (omega arith))) in
-    ap (λ (l : List StampRow). r ∷ l) (renew_is (r.copy + 1) copy f i d rows up.1 (omega arith) at)
-    ∙ ap (λ (b : Bool). cond b (f r) r ∷ renewed copy f rows) (sym (ne_eqb r.copy copy (λ e. omega (arith, later, e))))
-
--- what a search finds
-at_end : (copy : ℕ) (rows : List StampRow) → there rows copy ≡ false → length rows ≤ place_in copy rows
-at_end copy [] none = omega arith
-at_end copy (r ∷ rows) none =
-    elim (r.copy == copy) as (λ b. (b || there rows copy) ≡ false → suc (length rows) ≤ cond (not b) (1 + place_in copy rows) 0) [
-      | true ↦ λ h. absurd (cc)
-      | false ↦ λ h. let rest : length rows ≤ place_in copy rows = at_end copy rows h in omega arith
-    ] none
-
-nothing : (copy : ℕ) (rows : List StampRow) → there rows copy ≡ false → position (λ row. row.copy == copy) rows ≡ None
-nothing copy rows none = ap (λ b. cond b (Some (place_in copy rows)) None) (le-ltb (place_in copy rows) (length rows) (at_end copy rows none))
-
+-- what a search for a number finds
 pub not_found : (copy : ℕ) (rows : List StampRow) → position (λ row. row.copy == copy) rows ≡ None → there rows copy ≡ false
-not_found copy rows none = elim (cases_Bool (there rows copy)) [ inl h ↦ absurd (cc (place_found copy rows h, none)) | inr h ↦ h ]
+not_found copy rows none = elim (cases_Bool (there rows copy)) [ inl h ↦ absurd (cc (first_found (λ row. row.copy == copy) rows h, none)) | inr h ↦ h ]
 
 pub is_found : (copy at : ℕ) (rows : List StampRow) → position (λ row. row.copy == copy) rows ≡ Some at → (at < length rows) × ((d : StampRow) → (get_or rows at d).copy ≡ copy)
-is_found copy at rows some = elim (cases_Bool (there rows copy)) [
-  | inl h ↦
-      let here : at ≡ place_in copy rows = cc (place_found copy rows h, some) in
-      (omega (arith, here, place_within copy rows h), λ d. ap (λ (k : ℕ). (get_or rows k d).copy) here ∙ place_holds copy rows d h)
-  | inr h ↦ absurd (cc (nothing copy rows h, some))
-]
+is_found copy at rows some =
+    let test : StampRow → Bool = λ row. row.copy == copy in
+    elim (cases_Bool (there rows copy)) [
+      | inl h ↦
+          let here : at ≡ first_in test rows = cc (first_found test rows h, some) in
+          (omega (arith, here, first_within test rows h), λ d. ap (λ (k : ℕ). (get_or rows k d).copy) here ∙ eqb-true (get_or rows (first_in test rows) d).copy copy (first_holds test rows d h))
+      | inr h ↦
+          let nothing : position test rows ≡ None = ap (λ b. cond b (Some (first_in test rows)) None) (le-ltb (first_in test rows) (length rows) (at_end test rows h)) in
+          absurd (cc (nothing, some))
+    ]
 
 pub from_some : (copy at : ℕ) (rows : List StampRow) → position (λ row. nat_le copy row.copy) rows ≡ Some at → at ≡ index_from copy rows
 from_some copy at rows some = elim (cases_Bool (nat_lt (index_from copy rows) (length rows))) [
@@ -247,39 +194,9 @@ deepest_replaced c x (r ∷ rows) =
     let rest = deepest_replaced c x rows in
     elim (r.copy == c) as (λ b. max (depth (cond b x r).stamp.id) (deepest (replaced c x rows)) ≤ max (depth x.stamp.id) (max (depth r.stamp.id) (deepest rows))) [ true ↦ omega (arith, rest) | false ↦ omega (arith, rest) ]
 
-pub deepest_dropped : (c : ℕ) (rows : List StampRow) → deepest (dropped c rows) ≤ deepest rows
-deepest_dropped c [] = omega arith
-deepest_dropped c (r ∷ rows) =
-    let rest = deepest_dropped c rows in
-    elim (r.copy == c) as (λ b. deepest (cond b (dropped c rows) (r ∷ dropped c rows)) ≤ max (depth r.stamp.id) (deepest rows)) [ true ↦ omega (arith, rest) | false ↦ omega (arith, rest) ]
-
 pub deepest_pushed : (y : StampRow) (rows : List StampRow) → deepest (rows ++ y ∷ []) ≤ max (depth y.stamp.id) (deepest rows)
 deepest_pushed y [] = omega arith
 deepest_pushed y (r ∷ rows) = omega (arith, deepest_pushed y rows)
-
--- the first that passes the test
-abbrev pub first_in : (StampRow → Bool) → List StampRow → ℕ
-first_in test rows = position_or_len test rows
-
-pub first_within : (test : StampRow → Bool) (rows : List StampRow) → list_any test rows ≡ true → first_in test rows < length rows
-first_within test [] here = absurd (cc)
-first_within test (r ∷ rows) here =
-    elim (test r) as (λ b. (b || list_any test rows) ≡ true → cond (not b) (1 + first_in test rows) 0 < suc (length rows)) [
-      | true ↦ λ h. omega arith
-      | false ↦ λ h. let rest : first_in test rows < length rows = first_within test rows h in omega arith
-    ] here
-
-pub first_found : (test : StampRow → Bool) (rows : List StampRow) → list_any test rows ≡ true → position test rows ≡ Some (first_in test rows)
-first_found test rows here = ap (λ b. cond b (Some (first_in test rows)) None) (lt-ltb (first_in test rows) (length rows) (first_within test rows here))
-
-pub first_holds : (test : StampRow → Bool) (rows : List StampRow) (d : StampRow) → list_any test rows ≡ true → test (get_or rows (first_in test rows) d) ≡ true
-first_holds test [] d here = absurd (cc)
-first_holds test (r ∷ rows) d here =
-    let next : 1 + first_in test rows ≡ suc (first_in test rows) = omega arith in
-    elim (test r) as (λ b. test r ≡ b → (b || list_any test rows) ≡ true → test (get_or (r ∷ rows) (cond (not b) (1 + first_in test rows) 0) d) ≡ true) [
-      | true ↦ λ w h. w
-      | false ↦ λ w h. rw next (first_holds test rows d h)
-    ] refl here
 
 pub free_from : (o : Option ℕ) → is_copy o ≡ true → o ≡ None
 free_from None e = refl

@@ -21,13 +21,10 @@ use Rattle.pana_stamp.specs.contracts.stamp.Stamp as stamp
 use Rattle.pana_family.specs.contracts.row.StampRow as row
 use Rattle.pana_family.specs.contracts.rows.Rows as rows
 use Rattle.pana_family.specs.contracts.rows.Rows.TheInside as rows_inside
-use Rattle.pana_family.specs.contracts.paired.PairedRows as paired
-use Rattle.pana_family.specs.contracts.paired.PairedRows.TheInside as paired_inside
 use Rattle.pana_rel.proofs.pair_table.PairTable.TheSendSync as pair_tables
 use Rattle.smallvec.proofs.small_vec.SmallVec.TheSendSync as small_vecs
 use Rattle.pana_family.specs.contracts.change.Exchange as exchange
 use Rattle.pana_family.specs.contracts.change.Change as change
-use Rattle.pana_family.specs.contracts.undo.Back as back
 use Rattle.pana_family.specs.contracts.undo.Undo as undo
 use Rattle.pana_family.specs.contracts.family.Family as family
 use Rattle.pana_family.specs.contracts.family.Family.TheInside as family_inside
@@ -56,10 +53,7 @@ row_send : IsSend row.the_row
 row_send = declared_send row.the_type (search sendable, (option_send, (stamp_send, (search sendable, tt))))
 
 rows_send : IsSend rows.the_row
-rows_send = view_send _ _ _ _ _ (declared_send rows_inside.the_type (vecs.the_send _ _ _ row_send global.the_send frees.the_frees, tt))
-
-paired_send : IsSend paired.the_row
-paired_send = view_send _ _ _ _ _ (declared_send paired_inside.the_type (rows_send, (pair_tables.the_send, tt)))
+rows_send = view_send _ _ _ _ _ (declared_send rows_inside.the_type (vecs.the_send _ _ _ row_send global.the_send frees.the_frees, (pair_tables.the_send, tt)))
 
 exchange_send : IsSend exchange.the_row
 exchange_send = variants_send exchange.enum ((row_send, tt), ((search sendable, tt), tt))
@@ -67,11 +61,8 @@ exchange_send = variants_send exchange.enum ((row_send, tt), ((search sendable, 
 change_send : IsSend change.the_row
 change_send = variants_send change.enum ((search sendable, (event_send, (search sendable, tt))), ((search sendable, (search sendable, tt)), ((small_vecs.the_send exchange.the_row (number 2) globals.the_row heap.ghosts exchange_send global.the_send frees.the_frees, tt), tt)))
 
-back_send : IsSend back.the_row
-back_send = variants_send back.enum ((change_send, tt), ((search sendable, tt), tt))
-
 undo_send : IsSend undo.the_row
-undo_send = declared_send undo.the_type (search sendable, (back_send, tt))
+undo_send = declared_send undo.the_type (search sendable, (change_send, tt))
 
 pub family_send : IsSend family.the_row
-family_send = view_send _ _ _ _ _ (declared_send family_inside.the_type (global.the_send, (paired_send, (rings.the_send _ _ _ undo_send global.the_send frees.the_frees, tt))))
+family_send = view_send _ _ _ _ _ (declared_send family_inside.the_type (global.the_send, (rows_send, (rings.the_send _ _ _ undo_send global.the_send frees.the_frees, tt))))

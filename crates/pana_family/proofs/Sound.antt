@@ -78,7 +78,7 @@ pub turned : (i j : Id) → SharesNoPoint i j → SharesNoPoint j i
 turned i j apart p long = and_turn (owns i p) (owns j p) (apart p long)
 
 -- a point that one owns the other doesn't
-not_both : (a b : Bool) → (a && b) ≡ false → b ≡ true → a ≡ false
+pub not_both : (a b : Bool) → (a && b) ≡ false → b ≡ true → a ≡ false
 not_both true true e h = e
 not_both true false e h = sym h
 not_both false b e h = refl
@@ -129,11 +129,11 @@ knows_as P c x G b r same of sound fits =
 
 -- Two copies in place of one.
 
-part_left : (w a b q : Bool) → w ≡ (a || b) → (w && q) ≡ false → (a && q) ≡ false
+pub part_left : (w a b q : Bool) → w ≡ (a || b) → (w && q) ≡ false → (a && q) ≡ false
 part_left w true b q e h = subst (λ (v : Bool). (v && q) ≡ false) e h
 part_left w false b q e h = refl
 
-part_right : (w a b q : Bool) → w ≡ (a || b) → (w && q) ≡ false → (b && q) ≡ false
+pub part_right : (w a b q : Bool) → w ≡ (a || b) → (w && q) ≡ false → (b && q) ≡ false
 part_right w true true q e h = subst (λ (v : Bool). (v && q) ≡ false) e h
 part_right w false true q e h = subst (λ (v : Bool). (v && q) ≡ false) e h
 part_right w a false q e h = refl
@@ -175,7 +175,7 @@ share_keeps P c n r left right xs0 sound there parted same_left same_right =
 or_split : (w a b : Bool) → w ≡ (a || b) → w ≡ true → (a ≡ true) ⊎ (b ≡ true)
 or_split w a b e h = or_cases a b (sym e ∙ h)
 
-sum_apart : (w a b q : Bool) → w ≡ (a || b) → (a && q) ≡ false → (b && q) ≡ false → (w && q) ≡ false
+pub sum_apart : (w a b q : Bool) → w ≡ (a || b) → (a && q) ≡ false → (b && q) ≡ false → (w && q) ≡ false
 sum_apart w true true q e h k = subst (λ (v : Bool). (v && q) ≡ false) (sym e) h
 sum_apart w true false q e h k = subst (λ (v : Bool). (v && q) ≡ false) (sym e) h
 sum_apart w false b q e h k = subst (λ (v : Bool). (v && q) ≡ false) (sym e) k
@@ -183,64 +183,22 @@ sum_apart w false b q e h k = subst (λ (v : Bool). (v && q) ≡ false) (sym e) 
 sum_owns : (w a b : Bool) → w ≡ (a && b) → a ≡ false → w ≡ false
 sum_owns w a b e h = e ∙ ap (λ (v : Bool). v && b) h
 
-either_way : (a b : Bool) → (a ≡ true → b ≡ false) → (a && b) ≡ false
+pub either_way : (a b : Bool) → (a ≡ true → b ≡ false) → (a && b) ≡ false
 either_way true b f = f refl
 either_way false b f = refl
 
--- h gets the ids of all that end, and keeps its event, which theirs are below; Q is what stays of P
-pub gather_keeps : (P Q : ℕ → Stamp → List ℕ → Type 0) (h : ℕ) (r x : Stamp) (xs : List ℕ) (E : ℕ → Stamp → Type 0) → Sound P → P h r xs
-    → ((d : ℕ) (s : Stamp) (zs : List ℕ) → Q d s zs → P d s zs) → ((zs : List ℕ) → P h r zs → Q h r zs)
-    → ((d : ℕ) (s : Stamp) (zs : List ℕ) → Q d s zs → (e : ℕ) (q : Stamp) → E e q → e ≢ d)
-    → ((e : ℕ) (q : Stamp) → E e q → (ys : List ℕ) × P e q ys × IsBelow q.event r.event)
-    → is_zero x.id ≡ false → x.event ≡ r.event
-    → ((p : List Bool) → length p ≡ 256 → owns x.id p ≡ true → (owns r.id p ≡ true) ⊎ ((e : ℕ) × (q : Stamp) × E e q × (owns q.id p ≡ true)))
-    → Sound (Put Q h x (P h r))
-gather_keeps P Q h r x xs E sound there stays here other ending some same gathered =
-    knows_as Q h x (P h r) h r same here (fewer P Q stays sound) record {
-      owning = some;
-      apart = λ d q zs k ne p long. either_way (owns x.id p) (owns q.id p) (λ o. elim (gathered p long o) [
-        | inl mine ↦ not_both (owns q.id p) (owns r.id p) (turned r.id q.id (sound.apart h r xs there d q zs (stays d q zs k) (λ e. ne (sym e))) p long) mine
-        | inr its ↦ let (e, s, ends, o') = its in let (ys, mine, below) = ending e s ends in
-            not_both (owns q.id p) (owns s.id p) (turned s.id q.id (sound.apart e s ys mine d q zs (stays d q zs k) (other d q zs k e s ends)) p long) o'
-      ]);
-      over = λ d q zs k ne p long o. subst (λ (e : Event). level q.event p ≤ level e p) (sym same)
-          (elim (gathered p long o) [
-            | inl mine ↦ sound.owner h r xs there d q zs (stays d q zs k) p long mine
-            | inr its ↦ let (e, s, ends, o') = its in let (ys, mine, below) = ending e s ends in
-                omega (arith, sound.owner e s ys mine d q zs (stays d q zs k) p long o', below.levels p long)
-          ]);
-      under = λ d q zs k ne p long o. subst (λ (e : Event). level e p ≤ level q.event p) (sym same) (sound.owner d q zs (stays d q zs k) h r xs there p long o);
-    }
-
 -- the same under other numbers
-pub renamed : (P Q : ℕ → Stamp → List ℕ → Type 0) → ((d : ℕ) (s : Stamp) (xs : List ℕ) → Q d s xs → (e : ℕ) × P e s xs)
-    → ((d : ℕ) (s : Stamp) (xs : List ℕ) → Q d s xs → (e : ℕ) (q : Stamp) (ys : List ℕ) → Q e q ys → d ≢ e → SharesNoPoint s.id q.id) → Sound P → Sound Q
-renamed P Q f apart sound = record {
-  owning = λ c s xs h. let (e, k) = f c s xs h in sound.owning e s xs k;
-  apart = apart;
-  owner = λ c s xs h d q ys k. let (e, i) = f c s xs h in let (g, j) = f d q ys k in sound.owner e s xs i g q ys j;
-  marked = λ c s xs h u m. let (e, i) = f c s xs h in let t = sound.marked e s xs i u m in record {
-    point = t.point;
-    long = t.long;
-    from = t.from;
-    up = λ d q ys k. let (g, j) = f d q ys k in t.up g q ys j;
-    down = λ d q ys k. let (g, j) = f d q ys k in t.down g q ys j;
-  };
-  made = record { event_of = sound.made.event_of; levels = λ c s xs h. let (e, k) = f c s xs h in sound.made.levels e s xs k };
-}
+abbrev pub Renumbered : (ℕ → Stamp → List ℕ → Type 0) → (ℕ → ℕ) → ℕ → Stamp → List ℕ → Type 0
+Renumbered P number d s xs = (k : ℕ) × P k s xs × (number k ≡ d)
 
--- c's stamp and set are n's from now on
-pub wrap_keeps : (P : ℕ → Stamp → List ℕ → Type 0) (c n : ℕ) (r x : Stamp) (xs : List ℕ) → Sound P → P c r xs → x ≡ r → Sound (Put (Others P c) n x (P c r))
-wrap_keeps P c n r x xs sound there same =
-    renamed P (Put (Others P c) n x (P c r))
-    (all_put (Others P c) n x (P c r) (λ d s ys. (e : ℕ) × P e s ys) (λ ys g. (c, subst (λ (q : Stamp). P c q ys) (sym same) g)) (λ d s ys k ne. (d, k.0)))
-    (all_put (Others P c) n x (P c r) (λ d s ys. (e : ℕ) (q : Stamp) (zs : List ℕ) → Put (Others P c) n x (P c r) e q zs → d ≢ e → SharesNoPoint s.id q.id)
-    (λ ys g. all_put (Others P c) n x (P c r) (λ e q zs. n ≢ e → SharesNoPoint x.id q.id) (λ zs g' ne. absurd (ne refl))
-    (λ e q zs k ne other. subst (λ (w : Stamp). SharesNoPoint w.id q.id) (sym same) (sound.apart c r ys g e q zs k.0 (λ m. k.1 (sym m)))))
-    (λ d s ys k ne. all_put (Others P c) n x (P c r) (λ e q zs. d ≢ e → SharesNoPoint s.id q.id)
-    (λ zs g' other. subst (λ (w : Stamp). SharesNoPoint s.id w.id) (sym same) (sound.apart d s ys k.0 c r zs g' k.1))
-    (λ e q zs k' ne' other. sound.apart d s ys k.0 e q zs k'.0 other)))
-    sound
+pub renumbered : (P : ℕ → Stamp → List ℕ → Type 0) (number : ℕ → ℕ) → Sound P → Sound (Renumbered P number)
+renumbered P number sound = record {
+  owning = λ c s xs h. sound.owning h.0 s xs h.1;
+  apart = λ c s xs h d q ys k ne. sound.apart h.0 s xs h.1 k.0 q ys k.1 (λ e. ne (sym h.2 ∙ ap number e ∙ k.2));
+  owner = λ c s xs h d q ys k. sound.owner h.0 s xs h.1 k.0 q ys k.1;
+  marked = λ c s xs h u m. let t = sound.marked h.0 s xs h.1 u m in record { point = t.point; long = t.long; from = t.from; up = λ d q ys k. t.up k.0 q ys k.1; down = λ d q ys k. t.down k.0 q ys k.1 };
+  made = record { event_of = sound.made.event_of; levels = λ c s xs h. sound.made.levels h.0 s xs h.1 };
+}
 
 -- An update.
 

@@ -1,5 +1,5 @@
 -- The texts of rows' stamps, for the table that the rows stand for.
-use Rattle.std.specs.Prelude.{◌≡◌, ◌↔◌, ℕ, ◌+◌, Bool, true, false, cond, ◌==◌, List, [], ◌∷◌, map, filter}
+use Rattle.std.specs.Prelude.{◌≡◌, ◌↔◌, ℕ, ◌+◌, Bool, cond, ◌==◌, List, [], ◌∷◌, map, filter}
 use Rattle.std.specs.List.{AllZip}
 use Rattle.std.proofs.Common.{refl, sym, ap, subst, ◌∙◌, inl, inr, arith}
 use Rattle.std.proofs.lemmas.Bool.{eq-eqb, ne_eqb}
@@ -17,8 +17,9 @@ use Rattle.pana_family.specs.Laws.{IsSubset}
 use Rattle.pana_family.specs.Table.{Known, In, copies_of}
 use Rattle.pana_family.specs.Stands.{StandsFor}
 use Rattle.pana_family.specs.Stamps.{AreStamps}
-use Rattle.pana_family.specs.inner.RowStamps.{row_text}
+use Rattle.pana_family.specs.Stamps.{row_text}
 use Rattle.pana_family.specs.Rows.{IsRising, id_in}
+use Rattle.pana_family.proofs.Images.{in_filter}
 use Rattle.pana_family.proofs.Sound.{below_subset, subset_below}
 use Rattle.pana_family.proofs.Members.{Holds, held, to_sound, of_known, above_low}
 use Rattle.pana_family.proofs.Places.{id_found}
@@ -37,14 +38,6 @@ event_found low r (q ∷ rows) up i = elim i [
   | inr j ↦ ap (λ (b : Bool). cond b q.stamp.event (event_in rows r.copy)) (ne_eqb q.copy r.copy (λ e. omega (arith, above_low (q.copy + 1) rows r up.1 j, e))) ∙ event_found (q.copy + 1) r rows up.1 j
 ]
 
-in_filter : (p : Known → Bool) (table : List Known) (t : Known) → In t (filter p table) → In t table
-in_filter p [] t i = absurd i
-in_filter p (k ∷ table) t i =
-    elim (p k) as (λ b. In t (cond b (k ∷ filter p table) (filter p table)) → In t (k ∷ table)) [
-      | true ↦ λ j. elim j [ inl e ↦ inl e | inr l ↦ inr (in_filter p table t l) ]
-      | false ↦ λ j. inr (in_filter p table t j)
-    ] i
-
 -- the relation of two sets is that of the events that stand for them
 by_sets : (e f : Event) (xs ys : List ℕ) → IsBelow e f ↔ IsSubset xs ys → IsBelow f e ↔ IsSubset ys xs → (rel : Rel) → rel ≡ relation xs ys → IsRelation e f rel
 by_sets e f xs ys up down Equal is = let w = (relates xs ys).equal.0 (sym is) in (up.1 w.0, down.1 w.1)
@@ -62,7 +55,7 @@ stamps_answer rows table up st valid stamps is =
     let event_of : ℕ → Event = event_in rows in
     let row_of : (t : Known) → In t copies → (r : StampRow) × In r rows × In t table × (r.copy ≡ t.copy) × (id_of t.copy ≡ r.stamp.id) × (event_of t.copy ≡ r.stamp.event) =
     λ t i.
-    let j : In t table = in_filter (λ k. is_copy k.holder) table t i in
+    let j : In t table = (in_filter (λ k. is_copy k.holder) table t i).0 in
     let m = of_known rows table st.same t j in
     (m.0, m.1, j, m.2, ap id_of (sym m.2) ∙ id_found 0 m.0 rows up m.1, ap event_of (sym m.2) ∙ event_found 0 m.0 rows up m.1) in
     record {

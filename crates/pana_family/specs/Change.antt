@@ -1,11 +1,12 @@
 -- Rows as a function from numbers, and what takes them from one state to another and back.
-use Rattle.std.specs.Prelude.{◌==◌, ◌+◌, ◌≤◌, ℕ, Bool, true, false, count_by, Option, Some, None, List, [], ◌∷◌, length, reverse, refl, if◌then◌else◌}
+use Rattle.std.specs.Prelude.{◌==◌, ◌+◌, ◌≤◌, ℕ, Bool, true, false, count_by, map, Option, Some, None, List, [], ◌∷◌, length, reverse, refl, if◌then◌else◌}
 use Rattle.std.specs.Option.{option_map}
 use Rattle.std.specs.Coded.{Coded, code_by, coded×, coded_ℕ, coded_list}
 use Rattle.pana_event.specs.Event.{Event}
+use Rattle.pana_rel.specs.Pairs.{Table}
 use Rattle.pana_family.specs.declared.row.StampRow.{StampRow}
 use Rattle.pana_family.specs.contracts.row.StampRow as stamp_row
-use Rattle.pana_family.specs.Rows.{renewed, dropped, put_back}
+use Rattle.pana_family.specs.Rows.{renewed, dropped, put_back, copy_rows}
 use Rattle.pana_family.specs.declared.change.Exchange.{Exchange}
 use Rattle.pana_family.specs.declared.change.Exchange.TheVariants.{Put, Take}
 use Rattle.pana_family.specs.declared.change.Change.{Change}
@@ -21,11 +22,11 @@ abbrev pub number_of : Exchange → ℕ
 number_of (Put r) = r.copy
 number_of (Take n) = n
 
--- the exchanges of a change
-abbrev pub exchanges_in : Change → List Exchange
-exchanges_in (Renew copy event touch) = []
-exchanges_in (Touch copy touch) = []
-exchanges_in (Rows news) = news.items
+-- the numbers at which a change gives rows another stamp or holder
+abbrev pub numbers_in : Change → List ℕ
+numbers_in (Renew copy event touch) = copy ∷ []
+numbers_in (Touch copy touch) = []
+numbers_in (Rows news) = map number_of news.items
 
 -- the row that stands there afterwards
 abbrev pub row_of : Exchange → Option StampRow
@@ -85,12 +86,6 @@ inverse (Renew copy event touch) rows = event_back (Renew copy event touch) copy
 inverse (Touch copy touch) rows = touch_back (Touch copy touch) copy (rows copy)
 inverse (Rows news) rows = Rows (record { items = reverse (formers news.items rows); capacity = news.capacity })
 
--- whether it exchanges no rows: then it takes no memory
-abbrev pub is_light : Change → Bool
-is_light (Renew copy event touch) = true
-is_light (Touch copy touch) = true
-is_light (Rows news) = false
-
 -- whether a row is put
 abbrev pub is_put : Exchange → Bool
 is_put (Put r) = true
@@ -122,15 +117,30 @@ after (Renew copy event touch) rows = renewed copy (with_event event touch) rows
 after (Touch copy touch) rows = renewed copy (with_touch touch) rows
 after (Rows news) rows = exchanged_all news.items rows
 
--- rows, and how many there is room for
+-- how many rows, and how many copies, take no memory
+pub record Room : Type 0 where
+  pub rows : ℕ
+  pub copies : ℕ
+
+-- rows, and the room that there is
 pub record RowList : Type 0 where
   pub rows : List StampRow
-  pub room : ℕ
+  pub room : Room
+
+-- these rows in a vector of this capacity, beside this table of their copies
+abbrev pub row_list : List StampRow → ℕ → Table → RowList
+row_list rows capacity pairs = record { rows = rows; room = record { rows = capacity; copies = length pairs.copies + pairs.room } }
 
 -- how these are kept as numbers
 abbrev pub row_list_code : Coded RowList
-row_list_code = code_by (List StampRow × ℕ) (coded× (coded_list stamp_row.the_row.coded) coded_ℕ) (λ l. (l.rows, l.room)) (λ p. record { rows = p.0; room = p.1 }) (λ _. refl)
+row_list_code =
+    code_by (List StampRow × (ℕ × ℕ)) (coded× (coded_list stamp_row.the_row.coded) (coded× coded_ℕ coded_ℕ)) (λ l. (l.rows, (l.room.rows, l.room.copies)))
+    (λ p. record { rows = p.0; room = record { rows = p.1.0; copies = p.1.1 } }) (λ _. refl)
 
 -- there is room for what the change adds
-abbrev pub Fits : Change → RowList → Type 0
-Fits c l = length l.rows + room_of c ≤ l.room
+abbrev pub Fits : Change → List StampRow → Room → Type 0
+Fits c rows room = (length rows + room_of c ≤ room.rows) × (length (copy_rows (after c rows)) ≤ room.copies)
+
+-- there is no less room
+abbrev pub IsRoomier : Room → Room → Type 0
+IsRoomier old new = (old.rows ≤ new.rows) × (old.copies ≤ new.copies)

@@ -14,13 +14,9 @@ is_bound (Some copy) r = r.copy == copy || is_held copy r.holder
 abbrev pub ends_from : Option ℕ → StampRow → StampRow → Bool
 ends_from from row r = (is_bound from r || is_held row.copy r.holder) && is_leq r.stamp.event row.stamp.event
 
--- whether the row is the copy's, or ends when the copy is settled
-abbrev pub settles : Option ℕ → StampRow → StampRow → Bool
-settles from row r = r.copy == row.copy || ends_from from row r
-
 -- whether a row goes when these copies are settled
 abbrev pub goes : Option ℕ → List StampRow → StampRow → Bool
-goes from settled r = is_bound from r || list_any (λ row. settles from row r) settled
+goes from settled r = is_bound from r || list_any (λ row. ends_from from row r) settled
 
 -- whether a row becomes, or stays, a parcel once its copy is removed and the heir settled
 abbrev pub stays_parcel : StampRow → ℕ → StampRow → Bool

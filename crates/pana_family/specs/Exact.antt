@@ -23,12 +23,16 @@ restamped n r i e = record { copy = r.copy; holder = r.holder; stamp = stamp i e
 abbrev pub joined_stamp : StampRow → StampRow → Stamp
 joined_stamp r q = stamp (sum_of r.stamp.id q.stamp.id) (joined r.stamp.event q.stamp.event)
 
+-- two rows in place of their copies', which are settled
+abbrev pub settled_pair : StampRow → StampRow → List StampRow → List StampRow
+settled_pair r q rows =
+    let x = settled_row None rows r in
+    let y = settled_row None rows q in
+    put_all (x ∷ y ∷ []) (leave (goes None (x ∷ y ∷ [])) rows)
+
 -- two copies share the stamp, of which the first gets the first part, and are settled
 abbrev pub pair_rows : ℕ → StampRow → StampRow → Stamp → List StampRow → List StampRow
-pair_rows n r q whole rows =
-    let x = settled_row None rows (restamped n r (parts whole.id).0 whole.event) in
-    let y = settled_row None rows (restamped n q (parts whole.id).1 whole.event) in
-    put_all (x ∷ y ∷ []) (leave (goes None (x ∷ y ∷ [])) rows)
+pair_rows n r q whole rows = settled_pair (restamped n r (parts whole.id).0 whole.event) (restamped n q (parts whole.id).1 whole.event) rows
 
 -- Reconcile n: two copies share what they own and know together
 abbrev pub reconciled_rows : ℕ → ℕ → ℕ → List StampRow → List StampRow

@@ -9,6 +9,7 @@ pub mod Change
 pub mod Kept
 pub mod Ends
 pub mod Exact
+pub mod After
 pub mod Report
 pub mod Paired
 pub mod Sets

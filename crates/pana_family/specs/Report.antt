@@ -5,7 +5,7 @@ use Rattle.pana_family.specs.declared.row.StampRow.{StampRow}
 use Rattle.pana_family.specs.declared.report.FamilyReport.{FamilyReport}
 use Rattle.pana_family.specs.declared.report.FamilyReport.TheVariants.{Duplicate, Edit, Reconcile, Merge, Remove, Touch}
 use Rattle.pana_family.specs.Table.{Known, duplicated, edited, reconciled, merged, removed, touched, AreBelow}
-use Rattle.pana_family.specs.Rows.{lives, copy_rows, id_in, OwnSame, deepest}
+use Rattle.pana_family.specs.Rows.{AreBefore, lives, copy_rows, id_in, OwnSame, deepest}
 use Rattle.pana_family.specs.Stands.{StandsFor}
 use Rattle.pana_family.specs.Kept.{IsKept}
 use Rattle.pana_family.specs.Exact.{IsExact}
@@ -63,3 +63,10 @@ pub record IsReported (n : ℕ) (report : FamilyReport) (rows new : List StampRo
   pub deep : deepest new ≤ deepest rows + deeper report
   pub owned : loses report ≡ false → OwnSame rows new
   pub stands : (table : List Known) → StandsFor rows table → Asks n report table → StandsFor new (reported n report table)
+
+-- what report n makes of these rows, of which it asks what it must
+pub record IsMade (n : ℕ) (report : FamilyReport) (rows new : List StampRow) : Type 0 where
+  pub kept : IsKept rows
+  pub able : CanReport report rows
+  pub before : AreBefore n rows
+  pub reported : IsReported n report rows new

@@ -1,7 +1,7 @@
 -- The rows of a family, by rising copy.
-use Rattle.std.specs.Prelude.{◌++◌, filter, ◌≡◌, ◌&&◌, None, ℕ, ◌+◌, ◌<◌, ◌≤◌, Bool, ◌==◌, List, [], ◌∷◌, if◌then◌else◌, nat_lt, max}
+use Rattle.std.specs.Prelude.{◌++◌, filter, ◌≡◌, ◌&&◌, None, ℕ, ◌+◌, ◌<◌, ◌≤◌, Bool, ◌==◌, List, [], ◌∷◌, if◌then◌else◌, nat_lt, max, not}
 use Rattle.std.specs.List.{list_any}
-use Rattle.pana_id.specs.Id.{AtPoints, has as owns, Id, zero_id, one_id, depth, parts, sum_of}
+use Rattle.pana_id.specs.Id.{AtPoints, has as owns, Id, zero_id, one_id, depth, is_single, parts, sum_of}
 use Rattle.pana_event.specs.Event.{Event, leaf}
 use Rattle.pana_stamp.specs.Fill.{fill}
 use Rattle.pana_stamp.specs.Grow.{grow}
@@ -51,6 +51,10 @@ abbrev pub id_in : List StampRow → ℕ → Id
 id_in [] copy = zero_id
 id_in (r ∷ rows) copy = if r.copy == copy then r.stamp.id else id_in rows copy
 
+-- whether the id of a copy can be divided, within the 256 levels that an id may have
+abbrev pub divides : List StampRow → ℕ → Bool
+divides rows copy = not (is_single (id_in rows copy) 256)
+
 -- an id with those of the rows that pass the test, added in their order
 abbrev pub with_ids : (StampRow → Bool) → Id → List StampRow → Id
 with_ids test i [] = i
@@ -69,10 +73,6 @@ renewed copy f (r ∷ rows) = (if r.copy == copy then f r else r) ∷ renewed co
 -- the rows, with another touch for a copy
 abbrev pub retouched : ℕ → ℕ → List StampRow → List StampRow
 retouched copy touch rows = renewed copy (λ r. record r { touch = touch }) rows
-
--- the rows, with another event and touch for a copy
-abbrev pub reverted : ℕ → Event → ℕ → List StampRow → List StampRow
-reverted copy event touch rows = renewed copy (λ r. record { copy = r.copy; holder = r.holder; stamp = record { id = r.stamp.id; event = event }; touch = touch }) rows
 
 -- the row with another id added to its own
 abbrev pub summed : Id → StampRow → StampRow

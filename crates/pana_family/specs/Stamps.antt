@@ -6,7 +6,17 @@ use Rattle.pana_event.specs.Relation.{IsRelation}
 use Rattle.pana_text.specs.Text.{stamp_text}
 use Rattle.pana_family.specs.declared.stamps.CopyStamp.{CopyStamp}
 use Rattle.pana_family.specs.Relation.{relation}
+use Rattle.pana_family.specs.declared.row.StampRow.{StampRow}
+use Rattle.pana_family.specs.Rows.{copy_rows}
 use Rattle.pana_family.specs.Table.{Known, In}
+
+-- the number of a row and the text of its stamp
+abbrev pub row_text : StampRow → ℕ × List ℕ
+row_text r = (r.copy, stamp_text r.stamp.id r.stamp.event)
+
+-- the texts of the copies' stamps among these rows, by rising number
+abbrev pub stamps_in : List StampRow → List (ℕ × List ℕ)
+stamps_in rows = map row_text (copy_rows rows)
 
 -- the number of a copy and the text of its stamp
 abbrev pub text_of : CopyStamp → ℕ × List ℕ

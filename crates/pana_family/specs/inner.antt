@@ -1,5 +1,3 @@
 -- Words that only inner functions and proofs need: nobody has to believe them.
 pub mod Comparing
 pub mod Making
-pub mod Reporting
-pub mod RowStamps

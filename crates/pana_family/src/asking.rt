@@ -5,7 +5,7 @@ ghost use Rattle.std.specs.Prelude.{ℕ, ◌≡◌, ◌↔◌, ◌≤◌, true, 
 ghost use Rattle.pana_family.specs.Relation.{relation};
 ghost use Rattle.pana_family.specs.Table.{In, is_in, copies_of, set_in, touch_in, AreHeld, held_by};
 ghost use Rattle.pana_family.specs.Board.{board_rows, board_newest, board_split};
-ghost use Rattle.pana_family.specs.Stamps.{AreStamps, text_of};
+ghost use Rattle.pana_family.specs.Stamps.{AreStamps, stamps_in, text_of};
 ghost use Rattle.pana_family.specs.declared.row.StampRow.{StampRow as RowValue};
 ghost use Rattle.pana_event.specs.Event.{greatest};
 ghost use Rattle.pana_family.specs.Sets.{Sets, Pends, PendsLast};
@@ -22,26 +22,26 @@ use std::alloc::AllocError;
 impl Family {
     /// Whether the copy lives in the family. Takes no memory.
     pub fn has(&self, copy: u64) -> bool
-        ensures test { result ≡ is_living self.now copy }
-        ensures sets { (sets : Sets) → Means self.now sets → result ≡ is_in sets.table copy }
+        ensures test { result ≡ is_living self.now.kept copy }
+        ensures sets { (sets : Sets) → Means self.now.kept sets → result ≡ is_in sets.table copy }
     {
-        self.rows.list().has(copy)
+        self.rows.has(copy)
     }
 
     /// Whether the entry is greater than each number and touch of copies and parcels, as a report asks. Takes no memory.
     pub fn is_new(&self, entry: u64) -> bool
-        ensures { IsTrue result ↔ IsNew entry self.now }
+        ensures { IsTrue result ↔ IsNew entry self.now.kept }
     {
-        self.rows.list().is_before(entry)
+        self.rows.is_before(entry)
     }
 
     /// How many copies live. Takes no memory.
     pub fn count(&self) -> usize
-        ensures test { result ≡ copy_count self.now }
-        ensures sets { (sets : Sets) → Means self.now sets → result ≡ length (copies_of sets.table) }
+        ensures test { result ≡ copy_count self.now.kept }
+        ensures sets { (sets : Sets) → Means self.now.kept sets → result ≡ length (copies_of sets.table) }
         ensures few { result ≤ 256 }
     {
-        self.rows.list().copies()
+        self.rows.copies()
     }
 
     /// The numbers of the living copies, by rising number.
@@ -50,50 +50,50 @@ impl Family {
     ///
     /// `AllocError` where an allocation failed.
     pub fn living(&self) -> Result<PlainList<u64>, AllocError>
-        ensures sets { IfOk result (λ numbers. (sets : Sets) → Means self.now sets → numbers ≡ map (λ t. t.copy) (copies_of sets.table)) }
+        ensures sets { IfOk result (λ numbers. (sets : Sets) → Means self.now.kept sets → numbers ≡ map (λ t. t.copy) (copies_of sets.table)) }
     {
-        self.rows.list().living(self.alloc)
+        self.rows.living(self.alloc)
     }
 
     /// Whether the copy's id can be divided, so that `duplicate` doesn't find it too deep. Takes no memory.
     pub fn splits(&self, copy: u64) -> bool
-        requires { is_living self.now copy ≡ true }
-        ensures test { result ≡ can_split self.now copy }
-        ensures deep { result ≡ false → 256 ≤ depth_at 0 self.now }
+        requires { is_living self.now.kept copy ≡ true }
+        ensures test { result ≡ can_split self.now.kept copy }
+        ensures deep { result ≡ false → 256 ≤ depth_at 0 self.now.kept }
     {
-        self.rows.list().splits(copy)
+        self.rows.splits(copy)
     }
 
     /// How the first copy relates to the second. Takes no memory; compares no stamps, O(log n) for n copies.
     pub fn rel(&self, a: u64, b: u64) -> Rel
-        requires first { is_living self.now a ≡ true }
-        requires second { is_living self.now b ≡ true }
-        ensures { (sets : Sets) → Means self.now sets → result ≡ relation (set_in sets.table a) (set_in sets.table b) }
+        requires first { is_living self.now.kept a ≡ true }
+        requires second { is_living self.now.kept b ≡ true }
+        ensures { (sets : Sets) → Means self.now.kept sets → result ≡ relation (set_in sets.table a) (set_in sets.table b) }
     {
         self.rows.rel(a, b)
     }
 
     /// The entry that last touched a copy. Takes no memory.
     pub fn touch(&self, copy: u64) -> u64
-        requires { is_living self.now copy ≡ true }
-        ensures levels { (row : RowValue) → In row self.now.rows → row.copy ≡ copy → greatest row.stamp.event ≤ result }
-        ensures sets { (sets : Sets) → Means self.now sets → result ≡ touch_in sets.table copy }
+        requires { is_living self.now.kept copy ≡ true }
+        ensures levels { (row : RowValue) → In row self.now.kept.rows → row.copy ≡ copy → greatest row.stamp.event ≤ result }
+        ensures sets { (sets : Sets) → Means self.now.kept sets → result ≡ touch_in sets.table copy }
     {
-        self.rows.list().touch(copy)
+        self.rows.touch(copy)
     }
 
     /// How many parcels the copy holds. Takes no memory.
     pub fn held(&self, copy: u64) -> usize
-        ensures sets { (sets : Sets) → Means self.now sets → result ≡ held_by copy sets.table }
-        ensures held { (sets : Sets) → Means self.now sets → AreHeld sets.table }
+        ensures sets { (sets : Sets) → Means self.now.kept sets → result ≡ held_by copy sets.table }
+        ensures held { (sets : Sets) → Means self.now.kept sets → AreHeld sets.table }
     {
-        self.rows.list().held(copy)
+        self.rows.held(copy)
     }
 
     /// The last pending entry, which can be withdrawn. Takes no memory.
     pub fn pending(&self) -> Option<u64>
-        ensures last { (entry : ℕ) → result ≡ Some entry → IsLast entry self.now }
-        ensures sets { (sets : Sets) (entry : ℕ) → Means self.now sets → (result ≡ Some entry) ↔ PendsLast entry sets.before }
+        ensures last { (entry : ℕ) → result ≡ Some entry → IsLast entry self.now.kept }
+        ensures sets { (sets : Sets) (entry : ℕ) → Means self.now.kept sets → (result ≡ Some entry) ↔ PendsLast entry sets.before }
     {
         match self.undo.front() {
             Some(undo) => Some(undo.entry),
@@ -103,7 +103,7 @@ impl Family {
 
     /// Whether the entry is pending, so that it can be confirmed. Takes no memory.
     pub fn is_pending(&self, entry: u64) -> bool
-        ensures sets { (sets : Sets) → Means self.now sets → IsTrue result ↔ Pends entry sets.before }
+        ensures sets { (sets : Sets) → Means self.now.kept sets → IsTrue result ↔ Pends entry sets.before }
     {
         has_entry(&self.undo, entry)
     }
@@ -114,9 +114,9 @@ impl Family {
     ///
     /// `AllocError` where an allocation failed.
     pub fn board(&self) -> Result<FamilyBoard, AllocError>
-        ensures rows { IfOk result (λ board. (sets : Sets) → Means self.now sets → board.rows ≡ board_rows sets.table) }
-        ensures newest { IfOk result (λ board. (sets : Sets) → Means self.now sets → board.newest ≡ board_newest sets.table) }
-        ensures split { IfOk result (λ board. (sets : Sets) → Means self.now sets → board.split ≡ board_split sets.table) }
+        ensures rows { IfOk result (λ board. (sets : Sets) → Means self.now.kept sets → board.rows ≡ board_rows sets.table) }
+        ensures newest { IfOk result (λ board. (sets : Sets) → Means self.now.kept sets → board.newest ≡ board_newest sets.table) }
+        ensures split { IfOk result (λ board. (sets : Sets) → Means self.now.kept sets → board.split ≡ board_split sets.table) }
     {
         self.rows.board(self.alloc)
     }
@@ -127,8 +127,9 @@ impl Family {
     ///
     /// `AllocError` where an allocation failed.
     pub fn stamps(&self) -> Result<PlainList<CopyStamp>, AllocError>
-        ensures sets { IfOk result (λ stamps. (sets : Sets) → Means self.now sets → AreStamps (map text_of stamps) (copies_of sets.table)) }
+        ensures sets { IfOk result (λ stamps. (sets : Sets) → Means self.now.kept sets → AreStamps (map text_of stamps) (copies_of sets.table)) }
+        ensures exact { IfOk result (λ stamps. map text_of stamps ≡ stamps_in self.now.kept.rows) }
     {
-        self.rows.list().stamps(self.alloc)
+        self.rows.stamps(self.alloc)
     }
 }

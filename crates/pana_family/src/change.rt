@@ -1,15 +1,14 @@
 //! Changes of rows, each of which has an inverse.
-ghost use Rattle.std.specs.Prelude.{◌≡◌, ◌+◌, ◌<◌, ◌≤◌, None, IfOk, map, count_by, length, reverse, vec_len, vec_capacity, [], ◌∷◌};
+ghost use Rattle.std.specs.Prelude.{◌≡◌, ◌+◌, ◌<◌, ◌≤◌, None, count_by, length, reverse, vec_len, vec_capacity, [], ◌∷◌};
 ghost use Rattle.std.specs.Option.{option_len};
 ghost use Rattle.pana_family.specs.Rows.{IsRising, dropped, put_back};
-ghost use Rattle.pana_family.specs.Change.{row_at, number_of, at_number, placed, placed_all, formers, is_put, puts, changed, inverse, exchanges_in, room_of};
+ghost use Rattle.pana_family.specs.Change.{row_at, number_of, at_number, placed, placed_all, formers, is_put, puts, changed, inverse, room_of};
 
 use crate::making::renew;
 use crate::row::StampRow;
 use crate::searching::{index_from, row_position};
 use pana_event::EventTree;
 use smallvec::SmallVec;
-use std::alloc::{AllocError, Global};
 use std::mem;
 
 /// What becomes of the row at one number.
@@ -55,16 +54,6 @@ fn puts(news: &[Exchange]) -> usize
     news.iter().filter(|new| is_put(new)).count()
 }
 
-/// What the change exchanges.
-pub fn exchanges_of(change: &Change) -> &[Exchange]
-    ensures { result.now ≡ exchanges_in change.now }
-{
-    match change {
-        Change::Rows(news) => news.as_slice(),
-        _ => &[],
-    }
-}
-
 /// The number at which rows are exchanged.
 pub fn number_of(new: &Exchange) -> u64
     ensures { result ≡ number_of new.now }
@@ -73,17 +62,6 @@ pub fn number_of(new: &Exchange) -> u64
         Exchange::Put(row) => row.copy,
         Exchange::Take(number) => *number,
     }
-}
-
-/// The numbers at which rows are exchanged.
-pub fn numbers_of(alloc: Global, news: &[Exchange]) -> Result<Vec<u64>, AllocError>
-    ensures { IfOk result (λ numbers. numbers.items ≡ map number_of news.now) }
-{
-    let mut numbers = Vec::new(alloc);
-    for new in news {
-        numbers.push(number_of(new))?;
-    }
-    Ok(numbers)
 }
 
 /// How many rows the change may add.

@@ -1,11 +1,11 @@
 //! The rows that reports make.
-ghost use Rattle.std.specs.Prelude.{◌≡◌, ◌+◌, ◌^◌, ◌<◌, false, max, None, IfOk, OnErr};
-ghost use Rattle.pana_id.specs.Id.{is_zero, is_single, depth, sum_of, SharesNoPoint};
+ghost use Rattle.std.specs.Prelude.{◌≡◌, ◌+◌, ◌^◌, ◌<◌, false, max, IfOk, OnErr};
+ghost use Rattle.pana_id.specs.Id.{is_zero, is_single, parts, sum_of, IsParted};
 ghost use Rattle.pana_event.specs.Event.{greatest};
-ghost use Rattle.pana_stamp.specs.Raised.{IsRaised};
 ghost use Rattle.pana_family.specs.Rows.{IsUpdate};
 ghost use Rattle.pana_family.specs.Change.{with_event};
-ghost use Rattle.pana_family.specs.inner.Making.{PartsWithin, IsShared, IsJoined, AreParts, AreReconciled, AreMerged};
+ghost use Rattle.pana_family.specs.Exact.{joined_stamp};
+ghost use Rattle.pana_family.specs.inner.Making.{AreMerged, CanJoin, part_pair, shared_pair};
 
 use crate::row::StampRow;
 use pana_event::EventTree;
@@ -26,8 +26,7 @@ pub fn copy_of(alloc: Global, id: &IdTree) -> Result<IdTree, AllocError>
 pub fn updated_event(alloc: Global, row: &StampRow) -> Result<EventTree, AllocError>
     requires owner { is_zero row.now.stamp.id ≡ false }
     requires room { greatest row.now.stamp.event + 1 < 2 ^ 64 }
-    ensures raised { IfOk result (λ event. IsRaised row.now.stamp.id row.now.stamp.event event) }
-    ensures update { IfOk result (λ event. IsUpdate row.now.stamp.id row.now.stamp.event event) }
+    ensures { IfOk result (λ event. IsUpdate row.now.stamp.id row.now.stamp.event event) }
 {
     row.stamp.event(alloc)
 }
@@ -47,31 +46,6 @@ pub fn renew(row: &mut StampRow, event: EventTree, touch: u64) -> (EventTree, u6
     (former, since)
 }
 
-/// Divides the copy's id in place, and returns the row of a new copy that has the second part, when the entry duplicates
-/// the copy. The parts add up to the id again.
-pub fn share_row(alloc: Global, row: &mut StampRow, entry: u64) -> Result<StampRow, AllocError>
-    requires { is_single row.old.stamp.id 256 ≡ false }
-    ensures shared { IfOk result (λ given. IsShared row.old row.new given entry) }
-    ensures holder { row.new.holder ≡ row.old.holder }
-    ensures new_holder { IfOk result (λ given. given.holder ≡ None) }
-    ensures sum { IfOk result (λ given. sum_of row.new.stamp.id given.stamp.id ≡ row.old.stamp.id) }
-    ensures err { OnErr result (row.new ≡ row.old) }
-{
-    // whose contract says that the id is valid
-    let _ = row.stamp.id().node();
-    let event = row.stamp.event_tree().copy_of(alloc)?;
-    match row.stamp.split_off(alloc) {
-        Ok(id) => Ok(StampRow {
-            copy: entry,
-            holder: None,
-            stamp: Stamp::new(id, event),
-            touch: entry,
-        }),
-        Err(IdFault::TooDeep) => unreachable!(),
-        Err(IdFault::OutOfMemory) => Err(AllocError),
-    }
-}
-
 /// The rows of a copy and of a new one, which share the copy's stamp, when the entry duplicates the copy.
 pub fn shared_rows(
     alloc: Global,
@@ -79,9 +53,7 @@ pub fn shared_rows(
     entry: u64,
 ) -> Result<(StampRow, StampRow), AllocError>
     requires { is_single row.now.stamp.id 256 ≡ false }
-    ensures shared { IfOk result (λ two. IsShared row.now two.0 two.1 entry) }
-    ensures holder { IfOk result (λ two. two.0.holder ≡ row.now.holder) }
-    ensures new_holder { IfOk result (λ two. two.1.holder ≡ None) }
+    ensures { IfOk result (λ two. two ≡ shared_pair entry row.now) }
 {
     match row.stamp.fork(alloc) {
         Ok((kept, given)) => Ok((
@@ -105,17 +77,16 @@ pub fn shared_rows(
 
 /// The stamp that owns and knows what two rows do.
 fn joined_stamp(alloc: Global, a: &StampRow, b: &StampRow) -> Result<Stamp, AllocError>
-    requires apart { SharesNoPoint a.now.stamp.id b.now.stamp.id }
-    requires first { is_zero a.now.stamp.id ≡ false }
-    requires second { is_zero b.now.stamp.id ≡ false }
-    ensures joined { IfOk result (λ stamp. IsJoined a.now b.now stamp) }
+    requires { CanJoin a.now b.now }
+    ensures joined { IfOk result (λ stamp. stamp ≡ joined_stamp a.now b.now) }
     ensures divides { IfOk result (λ stamp. is_single stamp.id 256 ≡ false) }
-    ensures shallow { IfOk result (λ stamp. PartsWithin stamp.id (max (depth a.now.stamp.id) (depth b.now.stamp.id))) }
+    ensures some { IfOk result (λ stamp. is_zero stamp.id ≡ false) }
 {
     // whose contracts say that both are valid
     let _ = a.stamp.id().node();
     let _ = b.stamp.id().node();
-    Stamp::join(alloc, &a.stamp, &b.stamp)
+    let stamp = Stamp::join(alloc, &a.stamp, &b.stamp)?;
+    Ok(stamp)
 }
 
 /// Two rows that share a stamp in place of those of two copies.
@@ -126,11 +97,8 @@ fn part_rows(
     entry: u64,
     whole: &Stamp,
 ) -> Result<(StampRow, StampRow), AllocError>
-    requires divides { is_single whole.now.id 256 ≡ false }
-    requires shallow { PartsWithin whole.now.id (max (depth a.now.stamp.id) (depth b.now.stamp.id)) }
-    ensures parts { IfOk result (λ two. AreParts a.now b.now two.0 two.1 entry whole.now) }
-    ensures holder { IfOk result (λ two. two.0.holder ≡ a.now.holder) }
-    ensures other_holder { IfOk result (λ two. two.1.holder ≡ b.now.holder) }
+    requires { is_single whole.now.id 256 ≡ false }
+    ensures { IfOk result (λ two. two ≡ part_pair entry a.now b.now whole.now) }
 {
     match whole.fork(alloc) {
         Ok((first, second)) => Ok((
@@ -159,12 +127,8 @@ pub fn reconciled_rows(
     b: &StampRow,
     entry: u64,
 ) -> Result<(StampRow, StampRow), AllocError>
-    requires apart { SharesNoPoint a.now.stamp.id b.now.stamp.id }
-    requires first { is_zero a.now.stamp.id ≡ false }
-    requires second { is_zero b.now.stamp.id ≡ false }
-    ensures rows { IfOk result (λ two. AreReconciled a.now b.now two.0 two.1 entry) }
-    ensures holder { IfOk result (λ two. two.0.holder ≡ a.now.holder) }
-    ensures other_holder { IfOk result (λ two. two.1.holder ≡ b.now.holder) }
+    requires { CanJoin a.now b.now }
+    ensures { IfOk result (λ two. two ≡ part_pair entry a.now b.now (joined_stamp a.now b.now)) }
 {
     let whole = joined_stamp(alloc, a, b)?;
     part_rows(alloc, a, b, entry, &whole)
@@ -177,13 +141,9 @@ pub fn merged_rows(
     b: &StampRow,
     entry: u64,
 ) -> Result<(StampRow, StampRow), AllocError>
-    requires apart { SharesNoPoint a.now.stamp.id b.now.stamp.id }
-    requires first { is_zero a.now.stamp.id ≡ false }
-    requires second { is_zero b.now.stamp.id ≡ false }
+    requires join { CanJoin a.now b.now }
     requires room { max (greatest a.now.stamp.event) (greatest b.now.stamp.event) + 1 < 2 ^ 64 }
-    ensures rows { IfOk result (λ two. AreMerged a.now b.now two.0 two.1 entry) }
-    ensures holder { IfOk result (λ two. two.0.holder ≡ a.now.holder) }
-    ensures other_holder { IfOk result (λ two. two.1.holder ≡ b.now.holder) }
+    ensures { IfOk result (λ two. AreMerged entry a.now b.now two) }
 {
     let whole = joined_stamp(alloc, a, b)?;
     let event = whole.event(alloc)?;

@@ -1,29 +1,36 @@
 //! What the reports change. Nothing is changed here: each call makes a change, and takes all memory that it needs.
-ghost use Rattle.std.specs.Prelude.{◌≡◌, ◌≢◌, ◌+◌, ◌<◌, ◌++◌, ◌==◌, false, true, List, map, filter, length, Some, None, IfOk};
-ghost use Rattle.std.specs.List.{list_any};
+ghost use Rattle.std.specs.Prelude.{◌≡◌, ◌≢◌, ◌<◌, ◌++◌, false, true, List, map, filter, Some, None, IfOk};
 ghost use Rattle.pana_id.specs.Id.{is_single};
 ghost use Rattle.pana_family.specs.declared.row.StampRow.{StampRow as RowValue};
 ghost use Rattle.pana_family.specs.Updates.{has};
 ghost use Rattle.pana_family.specs.Holders.{leave};
-ghost use Rattle.pana_family.specs.Table.{duplicated, edited, reconciled, merged, lost, bequeathed, touched, AreBelow};
-ghost use Rattle.pana_family.specs.Rows.{AreEdited, duplicated_rows, lives, copy_rows, AreBefore, IsRising, put_all, id_in, retouched};
-ghost use Rattle.pana_family.specs.Change.{after, exchanged_all, is_light, room_of};
-ghost use Rattle.pana_family.specs.inner.Making.{AreApart, IsOwn, goes};
-ghost use Rattle.pana_family.specs.inner.Reporting.{Reported, Divided, Lost, AnyTable, BothSettled, Ready, goes_out};
+ghost use Rattle.pana_family.specs.Rows.{AreEdited, duplicated_rows, lives, AreBefore, IsRising, put_all, id_in};
+ghost use Rattle.pana_family.specs.Change.{after, exchanged_all};
+ghost use Rattle.pana_family.specs.inner.Making.{AreSound, CanGather, goes};
 ghost use Rattle.pana_family.specs.Kept.{IsKept};
-ghost use Rattle.pana_family.specs.Exact.{AreMergedRows, reconciled_rows, lost_rows, bequeathed_rows};
+ghost use Rattle.pana_family.specs.Exact.{AreMergedRows, IsExact, bequeathed_rows, lost_rows, reconciled_rows, settled_pair};
 ghost use Rattle.pana_family.specs.Report.{CanReport, IsReported};
-ghost use Rattle.pana_family.specs.declared.report.FamilyReport.TheVariants.{Remove};
+ghost use Rattle.pana_family.specs.declared.report.FamilyReport.TheVariants.{Edit, Remove, Touch};
 
 use crate::change::{Change, Exchange};
-use crate::exchanging::goes;
 use crate::making::{merged_rows, reconciled_rows, shared_rows, updated_event};
 use crate::report::FamilyReport;
 use crate::row::StampRow;
 use crate::searching::row_of;
-use crate::settling::{parcels_left, settled_row};
+use crate::settling::{goes, parcels_left, settled_row};
+use crate::stamps::all_valid;
 use smallvec::SmallVec;
 use std::alloc::{AllocError, Global};
+
+fn edited(alloc: Global, rows: &[StampRow], entry: u64, copy: u64) -> Result<Change, AllocError>
+    requires kept { IsKept rows.now }
+    requires living { lives rows.now copy ≡ true }
+    requires new { AreBefore entry rows.now }
+    ensures { IfOk result (λ change. AreEdited entry copy rows.now (after change rows.now)) }
+{
+    let event = updated_event(alloc, row_of(rows, copy))?;
+    Ok(Change::Event(copy, event, entry))
+}
 
 /// An update of a copy, with the entry as its number.
 pub fn edit_change(
@@ -35,12 +42,10 @@ pub fn edit_change(
     requires kept { IsKept rows.now }
     requires living { lives rows.now copy ≡ true }
     requires new { AreBefore entry rows.now }
-    ensures reported { IfOk result (λ change. Reported rows.now (after change rows.now) (edited entry copy) (AreBelow entry)) }
-    ensures exact { IfOk result (λ change. AreEdited entry copy rows.now (after change rows.now)) }
-    ensures light { IfOk result (λ change. is_light change ≡ true) }
+    ensures { IfOk result (λ change. IsReported entry (Edit copy) rows.now (after change rows.now)) }
 {
-    let event = updated_event(alloc, row_of(rows, copy))?;
-    Ok(Change::Event(copy, event, entry))
+    all_valid(rows);
+    edited(alloc, rows, entry, copy)
 }
 
 /// That the entry touched a copy.
@@ -48,12 +53,9 @@ pub fn touch_change(rows: &[StampRow], entry: u64, copy: u64) -> Change
     requires kept { IsKept rows.now }
     requires living { lives rows.now copy ≡ true }
     requires new { AreBefore entry rows.now }
-    ensures reported { Reported rows.now (after result rows.now) (touched entry copy) AnyTable }
-    ensures exact { after result rows.now ≡ retouched copy entry rows.now }
-    ensures light { is_light result ≡ true }
-    ensures room { room_of result ≡ 0 }
+    ensures { IsReported entry (Touch copy) rows.now (after result rows.now) }
 {
-    let _row = row_of(rows, copy);
+    all_valid(rows);
     Change::Touch(copy, entry)
 }
 
@@ -67,10 +69,8 @@ fn duplicate_change(
     requires kept { IsKept rows.now }
     requires living { lives rows.now source ≡ true }
     requires new { AreBefore entry rows.now }
-    requires room { length (copy_rows rows.now) < 256 }
     requires splits { is_single (id_in rows.now source) 256 ≡ false }
-    ensures reported { IfOk result (λ change. Divided rows.now (after change rows.now) (duplicated entry source)) }
-    ensures exact { IfOk result (λ change. after change rows.now ≡ duplicated_rows entry source rows.now) }
+    ensures { IfOk result (λ change. after change rows.now ≡ duplicated_rows entry source rows.now) }
 {
     let (kept, given) = shared_rows(alloc, row_of(rows, source), entry)?;
     let mut news = SmallVec::new(alloc);
@@ -97,38 +97,25 @@ fn exchanges(
     Ok(list)
 }
 
-fn is_put_again(row: &StampRow, settled: &[StampRow]) -> bool
-    ensures { result ≡ list_any (λ copy. copy.copy == row.now.copy) settled.now }
-{
-    settled.iter().any(|copy| copy.copy == row.copy)
-}
-
-/// Whether the row goes when these copies are settled, and no other takes its place.
-fn goes_out(row: &StampRow, from: Option<u64>, settled: &[StampRow]) -> bool
-    ensures { result ≡ goes_out from settled.now row.now }
-{
-    goes(row, from, settled) && !is_put_again(row, settled)
-}
-
-/// The numbers of the rows that go when these copies are settled, but for those that others take the place of.
+/// The numbers of the rows that go when these copies are settled.
 fn numbers_out(
     alloc: Global,
     rows: &[StampRow],
     from: Option<u64>,
     settled: &[StampRow],
 ) -> Result<Vec<u64>, AllocError>
-    ensures { IfOk result (λ gone. gone.items ≡ map (λ row. row.copy) (filter (goes_out from settled.now) rows.now)) }
+    ensures { IfOk result (λ gone. gone.items ≡ map (λ row. row.copy) (filter (goes from settled.now) rows.now)) }
 {
     let mut gone = Vec::new(alloc);
     for row in rows {
-        if goes_out(row, from, settled) {
+        if goes(row, from, settled) {
             gone.push(row.copy)?;
         }
     }
     Ok(gone)
 }
 
-/// Puts the rows of copies that were settled in the place of those that go then, and other rows beside them.
+/// Takes out the rows that go when copies are settled, and puts the settled copies' and other rows in.
 fn settle_change(
     alloc: Global,
     rows: &[StampRow],
@@ -153,11 +140,11 @@ fn settle_two(
     left: &StampRow,
     right: &StampRow,
 ) -> Result<Change, AllocError>
-    requires rising { IsRising 0 rows.now }
-    requires apart { AreApart rows.now }
-    requires left { IsOwn rows.now left.now }
-    requires right { IsOwn rows.now right.now }
-    ensures { IfOk result (λ change. BothSettled rows.now left.now right.now (after change rows.now)) }
+    requires kept { IsKept rows.now }
+    requires sound { AreSound rows.now }
+    requires left { CanGather None rows.now left.now }
+    requires right { CanGather None rows.now right.now }
+    ensures { IfOk result (λ change. after change rows.now ≡ settled_pair left.now right.now rows.now) }
 {
     let first = settled_row(alloc, rows, left, None)?;
     let second = settled_row(alloc, rows, right, None)?;
@@ -166,48 +153,6 @@ fn settle_two(
     settled.push_reserved(second);
     let change = settle_change(alloc, rows, None, settled, Vec::new(alloc))?;
     Ok(change)
-}
-
-/// The rows of two copies that learn what either knows and an update, before they are settled.
-fn merged_pair(
-    alloc: Global,
-    rows: &[StampRow],
-    entry: u64,
-    a: u64,
-    b: u64,
-) -> Result<(StampRow, StampRow), AllocError>
-    requires kept { IsKept rows.now }
-    requires first { lives rows.now a ≡ true }
-    requires second { lives rows.now b ≡ true }
-    requires differ { a ≢ b }
-    requires new { AreBefore entry rows.now }
-    ensures { IfOk result (λ two. Ready rows.now two.0 two.1 (merged entry a b) (AreBelow entry) (AreMergedRows entry a b rows.now)) }
-{
-    let first = row_of(rows, a);
-    let second = row_of(rows, b);
-    let (left, right) = merged_rows(alloc, first, second, entry)?;
-    Ok((left, right))
-}
-
-/// The rows of two copies that learn what either knows, before they are settled.
-fn reconciled_pair(
-    alloc: Global,
-    rows: &[StampRow],
-    entry: u64,
-    a: u64,
-    b: u64,
-) -> Result<(StampRow, StampRow), AllocError>
-    requires kept { IsKept rows.now }
-    requires first { lives rows.now a ≡ true }
-    requires second { lives rows.now b ≡ true }
-    requires differ { a ≢ b }
-    requires new { AreBefore entry rows.now }
-    ensures { IfOk result (λ two. Ready rows.now two.0 two.1 (reconciled entry a b) AnyTable (λ new. new ≡ reconciled_rows entry a b rows.now)) }
-{
-    let first = row_of(rows, a);
-    let second = row_of(rows, b);
-    let (left, right) = reconciled_rows(alloc, first, second, entry)?;
-    Ok((left, right))
 }
 
 /// Two copies learn what either knows and an update, with the entry as its number, and are settled.
@@ -219,15 +164,18 @@ fn merge_change(
     b: u64,
 ) -> Result<Change, AllocError>
     requires kept { IsKept rows.now }
+    requires sound { AreSound rows.now }
     requires first { lives rows.now a ≡ true }
     requires second { lives rows.now b ≡ true }
     requires differ { a ≢ b }
     requires new { AreBefore entry rows.now }
-    ensures reported { IfOk result (λ change. Reported rows.now (after change rows.now) (merged entry a b) (AreBelow entry)) }
-    ensures exact { IfOk result (λ change. AreMergedRows entry a b rows.now (after change rows.now)) }
+    ensures { IfOk result (λ change. AreMergedRows entry a b rows.now (after change rows.now)) }
 {
-    let (left, right) = merged_pair(alloc, rows, entry, a, b)?;
-    settle_two(alloc, rows, &left, &right)
+    let first = row_of(rows, a);
+    let second = row_of(rows, b);
+    let (left, right) = merged_rows(alloc, first, second, entry)?;
+    let change = settle_two(alloc, rows, &left, &right)?;
+    Ok(change)
 }
 
 /// Two copies learn what either knows, and are settled.
@@ -239,22 +187,23 @@ fn reconcile_change(
     b: u64,
 ) -> Result<Change, AllocError>
     requires kept { IsKept rows.now }
+    requires sound { AreSound rows.now }
     requires first { lives rows.now a ≡ true }
     requires second { lives rows.now b ≡ true }
     requires differ { a ≢ b }
-    requires new { AreBefore entry rows.now }
-    ensures reported { IfOk result (λ change. Reported rows.now (after change rows.now) (reconciled entry a b) AnyTable) }
-    ensures exact { IfOk result (λ change. after change rows.now ≡ reconciled_rows entry a b rows.now) }
+    ensures { IfOk result (λ change. after change rows.now ≡ reconciled_rows entry a b rows.now) }
 {
-    let (left, right) = reconciled_pair(alloc, rows, entry, a, b)?;
-    settle_two(alloc, rows, &left, &right)
+    let first = row_of(rows, a);
+    let second = row_of(rows, b);
+    let (left, right) = reconciled_rows(alloc, first, second, entry)?;
+    let change = settle_two(alloc, rows, &left, &right)?;
+    Ok(change)
 }
 
 /// A copy is gone, and the parcels that it held.
 fn lose_change(alloc: Global, rows: &[StampRow], copy: u64) -> Result<Change, AllocError>
     requires kept { IsKept rows.now }
-    ensures reported { IfOk result (λ change. Lost rows.now (after change rows.now) (lost copy)) }
-    ensures exact { IfOk result (λ change. after change rows.now ≡ lost_rows copy rows.now) }
+    ensures { IfOk result (λ change. after change rows.now ≡ lost_rows copy rows.now) }
 {
     let change = settle_change(alloc, rows, Some(copy), Vec::new(alloc), Vec::new(alloc))?;
     Ok(change)
@@ -270,14 +219,13 @@ fn bequeath_change(
     heir: u64,
 ) -> Result<Change, AllocError>
     requires kept { IsKept rows.now }
+    requires sound { AreSound rows.now }
     requires living { lives rows.now copy ≡ true }
     requires heir { lives rows.now heir ≡ true }
     requires differ { heir ≢ copy }
     requires new { AreBefore entry rows.now }
-    ensures reported { IfOk result (λ change. Reported rows.now (after change rows.now) (bequeathed entry copy heir) AnyTable) }
-    ensures exact { IfOk result (λ change. after change rows.now ≡ bequeathed_rows entry copy heir rows.now) }
+    ensures { IfOk result (λ change. after change rows.now ≡ bequeathed_rows entry copy heir rows.now) }
 {
-    let _gone = row_of(rows, copy);
     let row = row_of(rows, heir);
     let new = settled_row(alloc, rows, row, Some(copy))?;
     let parcels = parcels_left(alloc, rows, row, entry, copy)?;
@@ -296,13 +244,36 @@ fn remove_change(
     heir: Option<u64>,
 ) -> Result<Change, AllocError>
     requires kept { IsKept rows.now }
+    requires sound { AreSound rows.now }
     requires able { CanReport (Remove copy heir) rows.now }
     requires new { AreBefore entry rows.now }
-    ensures { IfOk result (λ change. IsReported entry (Remove copy heir) rows.now (after change rows.now)) }
+    ensures { IfOk result (λ change. IsExact entry (Remove copy heir) rows.now (after change rows.now)) }
 {
     match heir {
         None => lose_change(alloc, rows, copy),
         Some(heir) => bequeath_change(alloc, rows, entry, copy, heir),
+    }
+}
+
+fn exact_change(
+    alloc: Global,
+    rows: &[StampRow],
+    entry: u64,
+    report: FamilyReport,
+) -> Result<Change, AllocError>
+    requires kept { IsKept rows.now }
+    requires sound { AreSound rows.now }
+    requires able { CanReport report rows.now }
+    requires new { AreBefore entry rows.now }
+    ensures { IfOk result (λ change. IsExact entry report rows.now (after change rows.now)) }
+{
+    match report {
+        FamilyReport::Duplicate(source) => duplicate_change(alloc, rows, entry, source),
+        FamilyReport::Edit(copy) => edited(alloc, rows, entry, copy),
+        FamilyReport::Reconcile(a, b) => reconcile_change(alloc, rows, entry, a, b),
+        FamilyReport::Merge(a, b) => merge_change(alloc, rows, entry, a, b),
+        FamilyReport::Remove(copy, heir) => remove_change(alloc, rows, entry, copy, heir),
+        FamilyReport::Touch(copy) => Ok(Change::Touch(copy, entry)),
     }
 }
 
@@ -318,12 +289,6 @@ pub fn report_change(
     requires new { AreBefore entry rows.now }
     ensures { IfOk result (λ change. IsReported entry report rows.now (after change rows.now)) }
 {
-    match report {
-        FamilyReport::Duplicate(source) => duplicate_change(alloc, rows, entry, source),
-        FamilyReport::Edit(copy) => edit_change(alloc, rows, entry, copy),
-        FamilyReport::Reconcile(a, b) => reconcile_change(alloc, rows, entry, a, b),
-        FamilyReport::Merge(a, b) => merge_change(alloc, rows, entry, a, b),
-        FamilyReport::Remove(copy, heir) => remove_change(alloc, rows, entry, copy, heir),
-        FamilyReport::Touch(copy) => Ok(touch_change(rows, entry, copy)),
-    }
+    all_valid(rows);
+    exact_change(alloc, rows, entry, report)
 }

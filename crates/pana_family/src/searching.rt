@@ -2,10 +2,9 @@
 ghost use Rattle.std.specs.Prelude.{◌≡◌, ◌<◌, ◌==◌, ◌&&◌, true, Some, None, IfSome, IfNone, length, nat_le, position, slice_index_or, count_by, IsTrue, ◌↔◌, IfOk, map};
 ghost use Rattle.std.specs.List.{position_or_len, list_all};
 ghost use Rattle.pana_family.specs.declared.row.StampRow.{StampRow as RowValue};
-ghost use Rattle.pana_family.specs.inner.Reporting.{IsRowOf};
 ghost use Rattle.pana_family.specs.Change.{row_at};
 ghost use Rattle.pana_family.specs.Rows.{IsRising, lives, copy_rows, AreBefore, is_below};
-ghost use Rattle.pana_family.specs.inner.Making.{held_rows};
+ghost use Rattle.pana_family.specs.inner.Making.{IsRowOf, held_rows};
 ghost use Rattle.pana_family.specs.Holders.{is_copy, is_held};
 
 use crate::row::StampRow;
@@ -72,7 +71,8 @@ pub fn index_of(rows: &[StampRow], copy: u64) -> usize
 
 /// A living copy's row.
 pub fn row_of(rows: &[StampRow], copy: u64) -> &StampRow
-    requires { lives rows.now copy ≡ true }
+    requires living { lives rows.now copy ≡ true }
+    requires rising { IsRising 0 rows.now }
     ensures { IsRowOf rows.now copy result.now }
 {
     &rows[index_of(rows, copy)]

@@ -1,12 +1,12 @@
 //! Settling a copy: what it owns once the parcels end that it holds and knows.
-ghost use Rattle.std.specs.Prelude.{◌≡◌, ◌≤◌, ◌&&◌, ◌||◌, ◌==◌, true, false, map, filter, IfOk};
-ghost use Rattle.pana_id.specs.Id.{is_zero, sum_of, IsSum, SharesNoPoint};
-ghost use Rattle.pana_event.specs.Event.{IsNormal, depth};
+ghost use Rattle.std.specs.Prelude.{◌≡◌, ◌&&◌, ◌||◌, ◌==◌, true, false, map, filter, IfOk};
+ghost use Rattle.std.specs.List.{list_any};
+ghost use Rattle.pana_id.specs.Id.{sum_of, SharesNoPoint};
 ghost use Rattle.pana_event.specs.Order.{is_leq};
-ghost use Rattle.pana_family.specs.declared.row.StampRow.{StampRow as RowValue};
-ghost use Rattle.pana_family.specs.Table.{In};
-ghost use Rattle.pana_family.specs.Rows.{IsRising};
-ghost use Rattle.pana_family.specs.inner.Making.{AreApart, Gathered, IsGathered, is_bound, ends_from, settles, stays_parcel, parcel_row};
+ghost use Rattle.pana_family.specs.Rows.{with_ids};
+ghost use Rattle.pana_family.specs.Kept.{IsKept};
+ghost use Rattle.pana_family.specs.Exact.{settled_row};
+ghost use Rattle.pana_family.specs.inner.Making.{AreSound, CanGather, is_bound, ends_from, goes, stays_parcel, parcel_row};
 
 use crate::making::copy_of;
 use crate::row::StampRow;
@@ -15,17 +15,8 @@ use pana_id::IdTree;
 use pana_stamp::Stamp;
 use std::alloc::{AllocError, Global};
 
-/// The events of rows are within the limits, which their types say.
-pub fn all_sound(rows: &[StampRow])
-    ensures { (r : RowValue) → In r rows.now → IsNormal r.stamp.event × (depth r.stamp.event ≤ 256) }
-{
-    for row in rows {
-        let _ = row.stamp.event_tree().node();
-    }
-}
-
 /// Whether the row is that of the copy that is removed, or of a parcel that it holds.
-pub fn is_bound(row: &StampRow, from: Option<u64>) -> bool
+fn is_bound(row: &StampRow, from: Option<u64>) -> bool
     ensures { result ≡ is_bound from row.now }
 {
     match from {
@@ -48,17 +39,22 @@ fn ends(row: &StampRow, from: Option<u64>, other: &StampRow) -> bool
     (is_bound(other, from) || is_held(other, row.copy)) && is_known(row, other)
 }
 
-/// Whether the other row is the copy's, or ends when the copy is settled.
-pub fn settles(row: &StampRow, from: Option<u64>, other: &StampRow) -> bool
-    ensures { result ≡ settles from row.now other.now }
+fn ends_any(row: &StampRow, from: Option<u64>, settled: &[StampRow]) -> bool
+    ensures { result ≡ list_any (λ copy. ends_from from copy row.now) settled.now }
 {
-    other.copy == row.copy || ends(row, from, other)
+    settled.iter().any(|copy| ends(copy, from, row))
+}
+
+/// Whether the row goes when these copies are settled.
+pub fn goes(row: &StampRow, from: Option<u64>, settled: &[StampRow]) -> bool
+    ensures { result ≡ goes from settled.now row.now }
+{
+    is_bound(row, from) || ends_any(row, from, settled)
 }
 
 fn sum(alloc: Global, first: &IdTree, second: &IdTree) -> Result<IdTree, AllocError>
     requires { SharesNoPoint first.now second.now }
-    ensures tree { IfOk result (λ whole. whole ≡ sum_of first.now second.now) }
-    ensures summed { IfOk result (λ whole. IsSum whole first.now second.now) }
+    ensures { IfOk result (λ whole. whole ≡ sum_of first.now second.now) }
 {
     match IdTree::sum(alloc, first, second) {
         Ok(id) => Ok(id),
@@ -73,11 +69,10 @@ fn gathered(
     row: &StampRow,
     from: Option<u64>,
 ) -> Result<IdTree, AllocError>
-    requires rising { IsRising 0 rows.now }
-    requires apart { AreApart rows.now }
-    requires other { (r : RowValue) → In r rows.now → ends_from from row.now r ≡ true → SharesNoPoint row.now.stamp.id r.stamp.id }
-    requires some { is_zero row.now.stamp.id ≡ false }
-    ensures { IfOk result (λ id. Gathered (ends_from from row.now) row.now.stamp.id rows.now id) }
+    requires kept { IsKept rows.now }
+    requires sound { AreSound rows.now }
+    requires own { CanGather from rows.now row.now }
+    ensures { IfOk result (λ id. id ≡ with_ids (ends_from from row.now) row.now.stamp.id rows.now) }
 {
     let mut id = copy_of(alloc, row.stamp.id())?;
     for other in rows {
@@ -95,14 +90,11 @@ pub fn settled_row(
     row: &StampRow,
     from: Option<u64>,
 ) -> Result<StampRow, AllocError>
-    requires rising { IsRising 0 rows.now }
-    requires apart { AreApart rows.now }
-    requires other { (r : RowValue) → In r rows.now → ends_from from row.now r ≡ true → SharesNoPoint row.now.stamp.id r.stamp.id }
-    requires some { is_zero row.now.stamp.id ≡ false }
-    ensures { IfOk result (λ new. IsGathered from rows.now row.now new) }
+    requires kept { IsKept rows.now }
+    requires sound { AreSound rows.now }
+    requires own { CanGather from rows.now row.now }
+    ensures { IfOk result (λ new. new ≡ settled_row from rows.now row.now) }
 {
-    all_sound(rows);
-    let _ = row.stamp.event_tree().node();
     let id = gathered(alloc, rows, row, from)?;
     let event = row.stamp.event_tree().copy_of(alloc)?;
     Ok(StampRow {

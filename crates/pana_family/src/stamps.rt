@@ -1,11 +1,8 @@
 //! The stamps of copies, as texts.
 ghost use Rattle.std.specs.Prelude.{◌≡◌, IfOk, map, filter};
-ghost use Rattle.pana_id.specs.Id.{IsValid};
-ghost use Rattle.pana_event.specs.Event.{IsSound};
-ghost use Rattle.pana_family.specs.declared.row.StampRow.{StampRow as RowValue};
-ghost use Rattle.pana_family.specs.Table.{In};
 ghost use Rattle.pana_family.specs.Stamps.{text_of};
-ghost use Rattle.pana_family.specs.inner.RowStamps.{row_text};
+ghost use Rattle.pana_family.specs.Stamps.{row_text};
+ghost use Rattle.pana_family.specs.inner.Making.{AreSound};
 ghost use Rattle.pana_family.specs.Holders.{is_copy};
 
 use crate::row::StampRow;
@@ -22,7 +19,7 @@ pub struct CopyStamp {
 
 /// The trees of rows are within the limits, which their types say.
 pub fn all_valid(rows: &[StampRow])
-    ensures { (r : RowValue) → In r rows.now → IsValid r.stamp.id × IsSound r.stamp.event }
+    ensures { AreSound rows.now }
 {
     for row in rows {
         let _ = row.stamp.id().node();

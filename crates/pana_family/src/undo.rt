@@ -5,20 +5,11 @@ ghost use Rattle.std.specs.List.{list_any};
 use crate::change::Change;
 use circular_buffer::HeapCircularBuffer;
 
-/// What withdrawing an entry does.
+/// What withdrawing an entry does: the rows are changed back.
 #[derive(Drop)]
 pub struct Undo {
     pub entry: u64,
-    pub back: Back,
-}
-
-/// How the rows from before an entry come back.
-#[derive(Drop)]
-pub enum Back {
-    /// The rows are changed back.
-    Changed(Change),
-    /// The row with the entry's own number goes, and the copy named here, its source, has the id of both again.
-    Divided(u64),
+    pub back: Change,
 }
 
 /// The position of an entry's record, if there is one.

@@ -1,16 +1,16 @@
 -- Answers read off the families.
-use Rattle.std.specs.Prelude.{◌≡◌, ℕ, zero, suc, Bool, ◌-◌, ◌||◌, nat_lt, slice_index_or, ◌+◌, ◌<◌, ◌≤◌, true, false, cond, List, [], ◌∷◌, ◌++◌, length, map, filter, Some, None, is_some, option_and_then, slice_get}
+use Rattle.std.specs.Prelude.{◌≡◌, ℕ, zero, suc, Bool, ◌-◌, ◌||◌, nat_lt, slice_index_or, ◌+◌, ◌<◌, ◌≤◌, true, false, cond, List, [], ◌∷◌, ◌++◌, length, map, filter, Some, None, option_and_then, slice_get}
 use Rattle.std.specs.List.{AllByRecursion, list_any}
 use Rattle.std.proofs.Common.{refl, sym, ap, ◌∙◌, subst, arith}
 use Rattle.std.proofs.lemmas.Bool.{not-false, lt-ltb}
 use Rattle.std.proofs.lemmas.List.{length-map, map-append}
 use Rattle.std.proofs.lemmas.List.Elements.{filter-append}
 use Rattle.pana_copies.specs.Spots.{Table}
-use Rattle.pana_family.specs.Table.{Known, is_in, set_in, touch_in}
+use Rattle.pana_family.specs.Table.{touch_in, Known, set_in}
 use Rattle.pana_family.specs.Table as table
 use Rattle.pana_family.specs.View.{Means}
 use Rattle.pana_family.specs.declared.stamps.CopyStamp.{CopyStamp}
-use Rattle.pana_family.specs.Stamps.{AreStamps, text_of}
+use Rattle.pana_family.specs.Stamps.{AreStamps, stamps_in, text_of}
 use Rattle.pana_hall.specs.declared.kept_family.KeptFamily.{KeptFamily}
 use Rattle.pana_hall.specs.Family.{families, is_family, has_report, is_register}
 use Rattle.pana_hall.specs.Living.{Copy, copy_in, known_to, living}
@@ -22,38 +22,40 @@ use Rattle.pana_hall.specs.Refusal.{unknown_family, unknown, other_family, first
 use Rattle.pana_hall.specs.Accepted.{IsAccepted}
 use Rattle.pana_hall.specs.Tables as tables
 use Rattle.pana_hall.specs.Sets.{sets_of}
+use Rattle.pana_hall.specs.StampRows.{stamp_rows}
+use Rattle.pana_family.specs.declared.row.StampRow.{StampRow}
 use Rattle.pana_hall.specs.inner.Families.{family_at}
 use Rattle.pana_hall.specs.inner.Kept.{IsFamilyKept, IsKept}
-use Rattle.pana_journal.specs.declared.report.Report.{Report}
-use Rattle.pana_journal.specs.declared.report.Report.TheVariants.{Register, Duplicate, Edit, Reconcile, Merge, Relocate, Remove, Confirm, Withdraw}
 use Rattle.pana_journal.specs.declared.entry.Entry.{Entry}
 use Rattle.pana_journal.specs.Entries.{entry_at}
-use Rattle.pana_hall.proofs.Locality.{Belongs, IsWell}
+use Rattle.pana_hall.proofs.Locality.{IsWell}
 use Rattle.pana_hall.proofs.Rising.{entry_at_place, slice_get-each}
 use Rattle.pana_hall.proofs.Records.{found_at, entry_within}
 use Rattle.pana_hall.proofs.Allowed.{first_none, known, none_false, one_family}
 use Rattle.pana_hall.proofs.Sound.{accepted_is_sound}
 use Rattle.pana_hall.proofs.Tables.{merged, table_living}
 use Rattle.pana_hall.specs.Stamps.{AreStampsOf, as_known}
-use Rattle.pana_hall.proofs.Knowns.{set_in-known, set_in-copies}
-use Rattle.pana_hall.proofs.Mirrors.{layers_mirrored}
-use Rattle.pana_hall.proofs.KeptFamilies.{copies_sets, lives_in_sets}
+use Rattle.pana_hall.proofs.Knowns.{row_in, row_of, set_at, touch_at}
+use Rattle.pana_hall.proofs.Mirrors.{sets_old}
+use Rattle.pana_hall.proofs.KeptFamilies.{copies_sets, rows_kept}
 use Rattle.pana_hall.proofs.Ready.{family_of}
 use Rattle.pana_hall.proofs.Refusals.{has_family}
 
-known_same : (number : ℕ) (xs ys : List Copy) → copy_in xs number ≡ copy_in ys number → known_to xs number ≡ known_to ys number
-known_same number xs ys e = rw (e) refl
+-- a living copy's row is found in its family's table
+row_of_copy : (journal : List Entry) (family n : ℕ) (copy : Copy) → IsAccepted 8 journal → copy_in (living journal) n ≡ Some copy → families journal n ≡ family
+    → row_in (sets_of family journal).table n ≡ Some (as_known copy)
+row_of_copy journal family n copy accepted found of =
+    row_of (sets_of family journal).table (tables.table 8 0 family journal) n copy (copies_sets journal family accepted) (sets_old journal 0 family accepted).rising
+    (ap (λ f. copy_in (tables.table 8 0 f journal) n) (sym of) ∙ sym ((merged 8 journal (accepted_is_sound 8 journal accepted)).found n) ∙ found)
 
--- what a living copy knows is read off its family's table
+-- what it knows is read there, and the entry that touched it last
 pub set_of_copy : (journal : List Entry) (family n : ℕ) (copy : Copy) → IsAccepted 8 journal → copy_in (living journal) n ≡ Some copy → families journal n ≡ family
     → set_in (sets_of family journal).table n ≡ known_to (living journal) n
-set_of_copy journal family n copy accepted found of =
-    let lives : is_in (sets_of family journal).table n ≡ true = ap (λ f. is_in (sets_of f journal).table n) (sym of) ∙ lives_in_sets journal n accepted ∙ ap is_some found in
-    set_in-copies 0 n (sets_of family journal).table (layers_mirrored journal accepted 0 family).rising lives
-    ∙ ap (λ l. set_in l n) (copies_sets journal family accepted)
-    ∙ set_in-known (tables.table 8 0 family journal) n
-    ∙ ap (λ f. known_to (tables.table 8 0 f journal) n) (sym of)
-    ∙ sym (known_same n (living journal) (tables.table 8 0 (families journal n) journal) ((merged 8 journal (accepted_is_sound 8 journal accepted)).found n))
+set_of_copy journal family n copy accepted found of = set_at (sets_of family journal).table n (as_known copy) (row_of_copy journal family n copy accepted found of) ∙ (rw found refl)
+
+pub touch_of_copy : (journal : List Entry) (family n : ℕ) (copy : Copy) → IsAccepted 8 journal → copy_in (living journal) n ≡ Some copy → families journal n ≡ family
+    → touch_in (sets_of family journal).table n ≡ copy.touch
+touch_of_copy journal family n copy accepted found of = touch_at (sets_of family journal).table n (as_known copy) (row_of_copy journal family n copy accepted found of)
 
 -- two copies that may be compared live in one family
 pub record Pair (journal : List Entry) (a b : ℕ) : Type 0 where
@@ -93,19 +95,8 @@ begun_at journal family accepted free =
           let here = slice_get-each (IsWell (families journal) (length journal)) journal (family - 1) entry sound.well place.1 in
           let numbered : entry.number ≡ family - 1 + 1 = sound.numbered (family - 1) entry place.1 in
           let is_it : entry.number ≡ family = omega arith in
-          (within.0, within.1, ap (families journal) (sym is_it) ∙ its_own (families journal) entry.number entry.report here.belongs f ∙ is_it)
+          (within.0, within.1, ap (families journal) (sym is_it) ∙ here.belongs.own f ∙ is_it)
     ] refl begun
-  where
-    its_own : (of : ℕ → ℕ) (n : ℕ) (report : Report) → Belongs of n report → is_register report ≡ true → of n ≡ n
-    its_own of n (Register place) belongs is = belongs
-    its_own of n (Duplicate c place) belongs is = absurd (cc)
-    its_own of n (Edit c) belongs is = absurd (cc)
-    its_own of n (Reconcile a b) belongs is = absurd (cc)
-    its_own of n (Merge a b) belongs is = absurd (cc)
-    its_own of n (Relocate c place) belongs is = absurd (cc)
-    its_own of n (Remove c heir) belongs is = absurd (cc)
-    its_own of n (Confirm m) belongs is = absurd (cc)
-    its_own of n (Withdraw m) belongs is = absurd (cc)
 
 pub family_there : (journal : List Entry) (list : List KeptFamily) (positions : List ℕ) (copies : Table) (family : ℕ) → IsKept journal list positions copies → first (unknown_family family journal ∷ []) ≡ None
     → (it : KeptFamily) × (family_at list positions family ≡ Some it) × (it.number ≡ family) × IsFamilyKept journal it
@@ -148,10 +139,21 @@ known_family journal list positions copies family it all free at =
     let same : there.0 ≡ it = cc in
     subst (λ (k : KeptFamily). Means k.family (sets_of family journal)) same (subst (λ f. Means there.0.family (sets_of f journal)) there.2 there.3.means)
 
+-- and its rows are those that the journal gives
+pub known_rows : (journal : List Entry) (list : List KeptFamily) (positions : List ℕ) (copies : Table) (family : ℕ) (it : KeptFamily) → IsKept journal list positions copies → first (unknown_family family journal ∷ []) ≡ None
+    → family_at list positions family ≡ Some it → it.family.rows ≡ stamp_rows family journal
+known_rows journal list positions copies family it all free at =
+    let there = family_there journal list positions copies family all free in
+    let both : Some there.0 ≡ Some it = sym there.1 ∙ at in
+    let same : there.0 ≡ it = cc in
+    subst (λ (k : KeptFamily). k.family.rows ≡ stamp_rows family journal) same (rows_kept journal there.0 there.3 ∙ ap (λ f. stamp_rows f journal) there.2)
+
 -- the stamps of a family's copies are those of the copies that live
-pub stamps_are : (journal : List Entry) (family : ℕ) (stamps : List CopyStamp) → IsAccepted 8 journal
-    → AreStamps (map text_of stamps) (table.copies_of (sets_of family journal).table) → AreStampsOf family (living journal) stamps
+pub stamps_are : (journal : List Entry) (family : ℕ) (rows : List StampRow) (stamps : List CopyStamp) → IsAccepted 8 journal → rows ≡ stamp_rows family journal → map text_of stamps ≡ stamps_in rows
+    → AreStamps (map text_of stamps) (table.copies_of (sets_of family journal).table) → AreStampsOf family journal stamps
 unfolding AreStampsOf
-stamps_are journal family stamps accepted are =
-    subst (λ (copies : List Known). AreStamps (map text_of stamps) copies)
-    (copies_sets journal family accepted ∙ ap (map as_known) (sym ((merged 8 journal (accepted_is_sound 8 journal accepted)).tables family))) are
+stamps_are journal family rows stamps accepted rows_is texts are = (
+  texts ∙ ap stamps_in rows_is,
+  subst (λ (copies : List Known). AreStamps (map text_of stamps) copies)
+      (copies_sets journal family accepted ∙ ap (map as_known) (sym ((merged 8 journal (accepted_is_sound 8 journal accepted)).tables family))) are,
+)

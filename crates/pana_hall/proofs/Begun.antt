@@ -1,8 +1,9 @@
 -- The families that a journal has begun.
-use Rattle.std.specs.Prelude.{◌≡◌, ◌≢◌, ℕ, zero, suc, ◌+◌, ◌-◌, Bool, true, false, cond, ◌||◌, ◌==◌, List, [], ◌∷◌, ◌++◌, length, map, filter, None, slice_get}
-use Rattle.std.proofs.Common.{refl, sym, ap, ◌∙◌, subst, arith, append-nil, append_assoc}
+use Rattle.std.specs.Prelude.{◌≡◌, ◌≢◌, ℕ, zero, suc, ◌+◌, ◌-◌, true, false, cond, ◌||◌, ◌==◌, List, [], ◌∷◌, ◌++◌, length, map, filter, None, slice_get}
+use Rattle.std.proofs.Common.{refl, sym, ap, ◌∙◌, arith, append-nil}
 use Rattle.std.proofs.lemmas.Bool.{ne_eqb, eqb-true, eqb-false}
 use Rattle.std.proofs.lemmas.Option.{slice_get_past}
+use Rattle.std.proofs.Math.Bool.{or-false}
 use Rattle.std.proofs.lemmas.List.{map-append}
 use Rattle.std.proofs.lemmas.List.Elements.{filter-append}
 use Rattle.pana_journal.specs.declared.entry.Entry.{Entry}
@@ -10,9 +11,10 @@ use Rattle.pana_journal.specs.Entries.{entry_at}
 use Rattle.pana_family.specs.Updates.{has}
 use Rattle.pana_hall.specs.Family.{is_register, has_report, is_family}
 use Rattle.pana_hall.specs.Queries.{begun}
-use Rattle.pana_hall.specs.Accepted.{Accepts, AcceptsAll, IsAccepted}
+use Rattle.pana_hall.specs.Accepted.{Accepts, IsAccepted}
 use Rattle.pana_hall.proofs.Lists.{any_push}
 use Rattle.pana_hall.proofs.Rising.{entry_at-push}
+use Rattle.pana_hall.proofs.Sound.{in_accepted}
 
 slice_get-other : {X : Type 0} (xs : List X) (y : X) (i : ℕ) → i ≢ length xs → slice_get (xs ++ y ∷ []) i ≡ slice_get xs i
 slice_get-other [] y zero other = absurd (other refl)
@@ -32,16 +34,12 @@ entry_at-past journal =
     ap (λ b. cond b None (slice_get journal (length journal + 1 - 1))) (ne_eqb (length journal + 1) 0 (λ h. omega arith))
     ∙ slice_get_past journal (length journal + 1 - 1) (omega arith)
 
-or_false : (b : Bool) → (b || false) ≡ b
-or_false true = refl
-or_false false = refl
-
 begun-push : (journal : List Entry) (entry : Entry) (n : ℕ) → has (begun (journal ++ entry ∷ [])) n ≡ (has (begun journal) n || cond (is_register entry.report) (entry.number == n) false)
 begun-push journal entry n =
     ap (λ l. has l n) (ap (map (λ e. e.number)) (filter-append (λ e. is_register e.report) journal (entry ∷ [])) ∙ map-append (λ e. e.number) (filter (λ e. is_register e.report) journal) _)
     ∙ elim (is_register entry.report) as (λ b. has (begun journal ++ map (λ e. e.number) (cond b (entry ∷ []) [])) n ≡ (has (begun journal) n || cond b (entry.number == n) false)) [
       | true ↦ any_push (λ k. k == n) (begun journal) entry.number
-      | false ↦ ap (λ l. has l n) (append-nil (begun journal)) ∙ sym (or_false (has (begun journal) n))
+      | false ↦ ap (λ l. has l n) (append-nil (begun journal)) ∙ sym (or-false (has (begun journal) n))
     ]
 
 abbrev pub AreKnown : List Entry → Type 0
@@ -59,15 +57,11 @@ known_grows most journal entry accepts known n =
           ∙ ap (λ t. t || cond (is_register entry.report) true false) (sym none)
       | false ↦ λ e.
           ap (has_report is_register) (entry_at-other journal entry n (λ h. eqb-false entry.number n e (next ∙ sym h)))
-          ∙ known n ∙ sym (or_false (has (begun journal) n))
+          ∙ known n ∙ sym (or-false (has (begun journal) n))
           ∙ ap (λ t. has (begun journal) n || t) (elim (is_register entry.report) as (λ r. false ≡ cond r false false) [ true ↦ refl | false ↦ refl ])
     ] refl ∙ sym (begun-push journal entry n)
 
-known_from : (most : ℕ) (journal entries : List Entry) → AcceptsAll most journal entries → AreKnown journal → AreKnown (journal ++ entries)
-known_from most journal [] all known = rw (append-nil journal) known
-known_from most journal (entry ∷ entries) all known =
-    subst AreKnown (append_assoc journal (entry ∷ []) entries) (known_from most (journal ++ entry ∷ []) entries all.1 (known_grows most journal entry all.0 known))
-
 -- the known families are those that were begun
 pub accepted_known : (most : ℕ) (journal : List Entry) → IsAccepted most journal → AreKnown journal
-accepted_known most journal accepted = known_from most [] journal accepted (λ n. elim (n == 0) as (λ b. has_report is_register (cond b None None) ≡ false) [ true ↦ refl | false ↦ refl ])
+accepted_known most journal accepted =
+    in_accepted most AreKnown (λ n. elim (n == 0) as (λ b. has_report is_register (cond b None None) ≡ false) [ true ↦ refl | false ↦ refl ]) (λ j entry sound accepts known. known_grows most j entry accepts known) journal accepted

@@ -2,6 +2,7 @@
 use Rattle.std.specs.Prelude.{◌≡◌, ◌≢◌, ◌⊎◌, ℕ, zero, suc, ◌+◌, ◌-◌, ◌<◌, ◌≤◌, true, false, cond, ◌||◌, ◌==◌, List, [], ◌∷◌, ◌++◌, length, take, drop, reverse, fold, None}
 use Rattle.std.specs.List.{AllByRecursion}
 use Rattle.std.proofs.Common.{refl, sym, ap, ◌∙◌, subst, inl, inr, arith, append_assoc}
+use Rattle.std.proofs.Math.Bool.{or-true}
 use Rattle.std.proofs.lemmas.Bool.{eqb-true, eq-eqb, ne_eqb, not-false, cases_lt}
 use Rattle.std.proofs.lemmas.List.{length-drop, length-take, length-reverse, reverse-append, take-append-drop, take_at, take_all}
 use Rattle.pana_copies.specs.declared.place.Place.{Place}
@@ -20,13 +21,13 @@ use Rattle.pana_hall.specs.Tables.{layer}
 use Rattle.pana_hall.specs.Laws.{family_of_next, AreRising}
 use Rattle.pana_hall.specs.Sets.{reported, knowns_of, of_each, of_pending, before_entry, sets_of}
 use Rattle.pana_hall.proofs.Lists.{each_append, each_weaker}
-use Rattle.pana_hall.proofs.Grown.{own, family_new, pending_is}
+use Rattle.pana_hall.proofs.Grown.{own, family_new}
 use Rattle.pana_hall.proofs.Allowed.{first_none, none_false}
-use Rattle.pana_hall.proofs.Sound.{IsSound, keeps_families, family_named}
-use Rattle.pana_hall.proofs.Tables.{EndsIn, ends_in, pending_report, pending_other, pending_withdrawn, pending_rises, layer_report, layer_undone, layer_confirm, layer_withdraw, layer_other}
+use Rattle.pana_hall.proofs.Sound.{IsSound, family_named}
+use Rattle.pana_hall.proofs.Tables.{pending_report, pending_other, pending_rises, layer_report, layer_undone, layer_confirm, layer_withdraw, layer_other, pends, pending_withdraw}
 use Rattle.pana_hall.proofs.More.{none_of}
-use Rattle.pana_hall.proofs.Places.{effective_well}
 use Rattle.pana_hall.proofs.Knowns.{knowns_of-push}
+use Rattle.pana_hall.proofs.Undone.{effective_well}
 
 -- the last ones of a list, the other way round
 reverse-last : (k : ℕ) (numbers : List ℕ) → reverse (last k numbers) ≡ take k (reverse numbers)
@@ -105,14 +106,11 @@ pub pending_undone : {X : Type 0} (make : ℕ → List Entry → X) (m : ℕ) (j
 pending_undone make m journal entry sound accepts is =
     let family = family_of_next journal entry in
     let drops : (k : ℕ) → layer 8 k family (journal ++ entry ∷ []) ≡ layer 8 (k + 1) family journal = λ k. layer_withdraw 8 m k journal entry sound accepts is in
-    let named : family ≡ families journal m = family_named 8 journal entry m (inr is) in
-    let ends = subst (λ f. EndsIn 8 f m journal) (sym named) (ends_in 8 m journal entry.by entry.report sound is accepts.free) in
-    let pending' = pending_withdrawn 8 family m journal entry ends.before (keeps_families 8 journal entry sound accepts.next) is refl ends.pending ends.below_pending in
-    let turned : reverse (pending 8 family journal) ≡ m ∷ reverse ends.before = ap reverse ends.pending ∙ reverse-push ends.before m in
+    let rest = pending 8 family (journal ++ entry ∷ []) in
+    let turned : reverse (pending 8 family journal) ≡ m ∷ reverse rest = ap reverse (pending_withdraw 8 m journal entry sound accepts is) ∙ reverse-push rest m in
     ap (of_each make family journal 1) turned
     ∙ ap (λ l. make m (layer 8 1 family journal) ∷ l)
-    (sym (ap (λ l. of_each make family (journal ++ entry ∷ []) 1 (reverse l)) pending'
-    ∙ each_same make family journal (journal ++ entry ∷ []) 1 2 (reverse ends.before) (λ j within.
+    (sym (each_same make family journal (journal ++ entry ∷ []) 1 2 (reverse rest) (λ j within.
     let k_is : 1 + j + 1 ≡ 2 + j = omega arith in drops (1 + j) ∙ ap (λ k. layer 8 k family journal) k_is)))
 
 -- after an entry of another family
@@ -200,8 +198,7 @@ pending_confirmed make key keyed m journal entry sound accepts is =
     let family = family_of_next journal entry in
     let numbers = pending 8 family journal in
     let rest = behind m numbers in
-    let rest_is : pending 8 family (journal ++ entry ∷ []) ≡ rest =
-    pending_is 8 family journal entry (Confirm m) (keeps_families 8 journal entry sound accepts.next) is ∙ ap (λ b. cond b (behind m numbers) numbers) (eq-eqb family family refl) in
+    let rest_is : pending 8 family (journal ++ entry ∷ []) ≡ rest = pends 8 journal entry (Confirm m) sound accepts is in
     let alone : report_refusal 8 journal (living journal) entry.by (Confirm m) ≡ None = ap (report_refusal 8 journal (living journal) entry.by) (sym is) ∙ accepts.free in
     let none = (first_none (settled 8 m journal) [] (first_none (not_yours entry.by m journal) _ (first_none (unknown_entry m journal) _ (first_none (full journal) _ alone).1).1).1).0 in
     let in_it : has numbers m ≡ true = ap (λ f. has (pending 8 f journal) m) (family_named 8 journal entry m (inl is)) ∙ not-false _ (none_false _ _ none) in
@@ -235,13 +232,17 @@ pending_begun make journal sound =
     let no_pending : pending 8 (length journal + 1) journal ≡ [] = ap (λ l. fold (λ numbers e. pend 8 e.number e.report numbers) [] l) (none_of (length journal + 1) (length journal) (families journal) journal sound.well (omega arith)) in
     ap (λ l. of_each make (length journal + 1) journal 1 (reverse l)) no_pending
 
--- and it stands for nothing
+-- it has no entry
+pub layer_new : (journal : List Entry) → IsSound 8 journal → layer 8 0 (length journal + 1) journal ≡ []
+layer_new journal sound =
+    let family = length journal + 1 in
+    ap (left_out (last 0 (pending 8 family journal))) (none_of family (length journal) (families journal) (effective journal) (effective_well 8 journal sound) (omega arith))
+
+-- and stands for nothing
 pub sets_new : (journal : List Entry) → IsSound 8 journal → sets_of (length journal + 1) journal ≡ sets [] []
 sets_new journal sound =
     let family = length journal + 1 in
-    let of = families journal in
-    let no_own : own family journal ≡ [] = none_of family (length journal) of (effective journal) (effective_well 8 journal sound) (omega arith) in
-    ap (λ l. sets (knowns_of (left_out (last 0 (pending 8 family journal)) l)) (of_pending before_entry family journal)) no_own
+    ap (λ l. sets (knowns_of l) (of_pending before_entry family journal)) (layer_new journal sound)
     ∙ ap (λ t. sets t (of_pending before_entry family journal)) knowns_of_none
     ∙ ap (sets []) (pending_begun before_entry journal sound)
 
@@ -270,9 +271,5 @@ in_pends family journal k n [] pends = absurd pends
 in_pends family journal k n (i ∷ numbers) pends =
     elim pends [
       | inl e ↦ ap (λ b. b || has numbers n) (eq-eqb i n e)
-      | inr rest ↦ let there = in_pends family journal (k + 1) n numbers rest in ap (λ b. (i == n) || b) there ∙ or_true (i == n)
+      | inr rest ↦ let there = in_pends family journal (k + 1) n numbers rest in ap (λ b. (i == n) || b) there ∙ or-true (i == n)
     ]
-  where
-    or_true : (b : _) → (b || true) ≡ true
-    or_true true = refl
-    or_true false = refl

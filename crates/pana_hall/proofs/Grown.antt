@@ -3,7 +3,7 @@ use Rattle.std.specs.Prelude.{◌≡◌, ◌≢◌, ℕ, ◌<◌, true, false, c
 use Rattle.std.specs.List.{AllByRecursion}
 use Rattle.std.proofs.Common.{refl, ap, ◌∙◌, arith, append-nil}
 use Rattle.std.proofs.lemmas.Bool.{eqb-true, eq-eqb, ne_eqb}
-use Rattle.std.proofs.lemmas.List.Elements.{filter-append}
+use Rattle.std.proofs.lemmas.List.Elements.{filter-append, filter_agree}
 use Rattle.std.proofs.lemmas.List.Sums.{fold-append}
 use Rattle.pana_journal.specs.declared.report.Report.{Report}
 use Rattle.pana_journal.specs.declared.report.Report.TheVariants.{Confirm, Withdraw}
@@ -11,7 +11,7 @@ use Rattle.pana_journal.specs.declared.entry.Entry.{Entry}
 use Rattle.pana_hall.specs.Family.{families, with_entry, begun_or_joined, subject, entries_of}
 use Rattle.pana_hall.specs.Effective.{effective, is_of_copies, withdraws, is_withdrawn}
 use Rattle.pana_hall.specs.Pending.{pending, pend}
-use Rattle.pana_hall.proofs.Lists.{each_filter, each_weaker, filter_same, filter_all, filter_swap, any_push}
+use Rattle.pana_hall.proofs.Lists.{filter_true, each_filter, each_weaker, filter_same, filter_all, filter_swap, any_push}
 
 -- the entry, where it is a report of copies
 abbrev pub counted : Entry → List Entry
@@ -57,12 +57,17 @@ withdraws_nothing report n e = refl
 pub effective-copies : (journal : List Entry) (entry : Entry) → is_of_copies entry.report ≡ true → effective (journal ++ entry ∷ []) ≡ effective journal ++ entry ∷ []
 effective-copies journal entry of_copies =
     effective-push journal entry
-    ∙ ap (λ l. l ++ counted entry) (filter_all _ (effective journal) (each_all (λ e. ap not (withdraws_nothing entry.report e.number of_copies)) (effective journal)))
+    ∙ ap (λ l. l ++ counted entry) (filter_agree _ (λ e. true) (λ e. ap not (withdraws_nothing entry.report e.number of_copies)) (effective journal) ∙ filter_true (effective journal))
     ∙ ap (λ b. effective journal ++ cond b (entry ∷ []) []) of_copies
-  where
-    each_all : {P : Entry → Type 0} → ((e : Entry) → P e) → (es : List Entry) → AllByRecursion P es
-    each_all f [] = tt
-    each_all f (e ∷ es) = (f e, each_all f es)
+
+pub effective-confirm : (journal : List Entry) (entry : Entry) (m : ℕ) → entry.report ≡ Confirm m → effective (journal ++ entry ∷ []) ≡ effective journal
+effective-confirm journal entry m is =
+    effective-push journal entry
+    ∙ ap (λ r. filter (λ e. not (withdraws e.number r)) (effective journal) ++ cond (is_of_copies r) (entry ∷ []) []) is ∙ append-nil _ ∙ filter_true (effective journal)
+
+pub effective-withdraw : (journal : List Entry) (entry : Entry) (m : ℕ) → entry.report ≡ Withdraw m → effective (journal ++ entry ∷ []) ≡ filter (λ e. not (m == e.number)) (effective journal)
+effective-withdraw journal entry m is =
+    effective-push journal entry ∙ ap (λ r. filter (λ e. not (withdraws e.number r)) (effective journal) ++ cond (is_of_copies r) (entry ∷ []) []) is ∙ append-nil _
 
 pub families-push : (journal : List Entry) (entry : Entry) (n : ℕ)
     → families (journal ++ entry ∷ []) n ≡ cond (n == entry.number) (begun_or_joined (families journal) entry.number (subject entry.report)) (families journal n)
@@ -109,23 +114,13 @@ own_copies family journal entry same of_copies =
 pub own_confirm : (family : ℕ) (journal : List Entry) (entry : Entry) (m : ℕ) → KeepsFamilies journal entry → entry.report ≡ Confirm m
     → own family (journal ++ entry ∷ []) ≡ own family journal
 own_confirm family journal entry m same is =
-    ap (entries_of family (families (journal ++ entry ∷ [])))
-    (effective-push journal entry
-    ∙ ap (λ r. filter (λ e. not (withdraws e.number r)) (effective journal) ++ cond (is_of_copies r) (entry ∷ []) []) is
-    ∙ append-nil _ ∙ filter_all _ (effective journal) (all_true (effective journal)))
+    ap (entries_of family (families (journal ++ entry ∷ []))) (effective-confirm journal entry m is)
     ∙ entries_of-same family (families journal) (families (journal ++ entry ∷ [])) (effective journal) (each_effective _ journal same)
-  where
-    all_true : (es : List Entry) → AllByRecursion (λ e. true ≡ true) es
-    all_true [] = tt
-    all_true (e ∷ es) = (refl, all_true es)
 
 pub own_withdraw : (family : ℕ) (journal : List Entry) (entry : Entry) (m : ℕ) → KeepsFamilies journal entry → entry.report ≡ Withdraw m
     → own family (journal ++ entry ∷ []) ≡ filter (λ e. not (m == e.number)) (own family journal)
 own_withdraw family journal entry m same is =
-    ap (entries_of family (families (journal ++ entry ∷ [])))
-    (effective-push journal entry
-    ∙ ap (λ r. filter (λ e. not (withdraws e.number r)) (effective journal) ++ cond (is_of_copies r) (entry ∷ []) []) is
-    ∙ append-nil _)
+    ap (entries_of family (families (journal ++ entry ∷ []))) (effective-withdraw journal entry m is)
     ∙ entries_of-same family (families journal) (families (journal ++ entry ∷ [])) _ (each_filter _ _ (effective journal) (each_effective _ journal same))
     ∙ filter_swap _ _ (effective journal)
 

@@ -1,6 +1,7 @@
 pub mod Lists
 pub mod Rising
 pub mod Allowed
+pub mod Moves
 pub mod Grown
 pub mod Locality
 pub mod Sound
@@ -39,3 +40,4 @@ pub mod Taken
 pub mod Loaded
 pub mod NotKept
 pub mod Sending
+pub mod Stood

@@ -2,6 +2,7 @@
 use Rattle.std.specs.Prelude.{◌≡◌, ℕ, ◌+◌, Bool, true, false, cond, not, ◌||◌, ◌==◌, List, [], ◌∷◌, ◌++◌, filter, Some, None, ◌⊎◌}
 use Rattle.std.specs.Bool.{then_some}
 use Rattle.std.proofs.Common.{refl, sym, ap, ◌∙◌, inl, inr}
+use Rattle.std.proofs.Math.Bool.{or-true}
 use Rattle.std.proofs.lemmas.Bool.{eqb-true, eq-eqb, not-false}
 use Rattle.pana_journal.specs.declared.report.Report.{Report}
 use Rattle.pana_journal.specs.declared.report.Report.TheVariants.{Remove, Confirm, Withdraw}
@@ -14,7 +15,7 @@ use Rattle.pana_hall.specs.Living.{living}
 use Rattle.pana_hall.specs.Pending.{pending, pend, last, behind, is_last}
 use Rattle.pana_hall.specs.Refusal.{report_refusal, full, unknown_entry, not_yours, settled, settled_or_followed, taken_since, first, pending_with}
 use Rattle.pana_hall.specs.Accepted.{Accepts, AcceptsAll, IsAccepted}
-use Rattle.pana_hall.proofs.Lists.{any_push, last_push}
+use Rattle.pana_hall.proofs.Lists.{any_push, last_push, is_last-push}
 use Rattle.pana_hall.proofs.Grown.{pending-push, pending_is}
 use Rattle.pana_hall.proofs.Allowed.{first_none, none_false}
 use Rattle.pana_hall.proofs.Sound.{IsSound, keeps_families, family_named, sound_grows, empty_is_sound, OfCopies, Confirms, Withdraws, kind_of, pend_copies}
@@ -27,27 +28,18 @@ EndsIt short long = (short ≡ []) ⊎ ((prefix : List ℕ) × (n : ℕ) × (sho
 abbrev pub EndsEach : ℕ → List Entry → Type 0
 EndsEach most journal = (family : ℕ) → EndsIt (pending 1 family journal) (pending most family journal)
 
-is_last-push : (n : ℕ) (prefix : List ℕ) → is_last n (prefix ++ n ∷ []) ≡ true
-is_last-push n [] = eq-eqb n n refl
-is_last-push n (x ∷ []) = eq-eqb n n refl
-is_last-push n (x ∷ y ∷ prefix) = is_last-push n (y ∷ prefix)
-
 -- what is last of the short list is last of the long one, and what is in it is in it
 is_last-long : (m : ℕ) (short long : List ℕ) → EndsIt short long → is_last m short ≡ true → is_last m long ≡ true
 is_last-long m short long (inl none) is = let odd : is_last m [] ≡ true = rw none at is in absurd (cc)
 is_last-long m short long (inr end) is =
     let same : (end.1 == m) ≡ true = rw end.2 at is in
-    ap (is_last m) end.3 ∙ ap (λ k. is_last m (end.0 ++ k ∷ [])) (eqb-true end.1 m same) ∙ is_last-push m end.0
-
-or_true : (b : Bool) → (b || true) ≡ true
-or_true true = refl
-or_true false = refl
+    ap (is_last m) end.3 ∙ ap (λ k. is_last m (end.0 ++ k ∷ [])) (eqb-true end.1 m same) ∙ is_last-push end.0 m m ∙ eq-eqb m m refl
 
 has-long : (m : ℕ) (short long : List ℕ) → EndsIt short long → has short m ≡ true → has long m ≡ true
 has-long m short long (inl none) is = let odd : has [] m ≡ true = rw none at is in absurd (cc)
 has-long m short long (inr end) is =
     let same : (end.1 == m) ≡ true = elim (end.1 == m) as (λ b. (b || false) ≡ true → b ≡ true) [ true ↦ λ h. refl | false ↦ λ h. h ] (rw end.2 at is) in
-    ap (λ l. has l m) end.3 ∙ any_push (λ k. k == m) end.0 end.1 ∙ ap (λ b. has end.0 m || b) same ∙ or_true (has end.0 m)
+    ap (λ l. has l m) end.3 ∙ any_push (λ k. k == m) end.0 end.1 ∙ ap (λ b. has end.0 m || b) same ∙ or-true (has end.0 m)
 
 not_refused : (b : Bool) (cause : Cause) → b ≡ true → then_some (not b) cause ≡ None
 not_refused b cause is = ap (λ t. then_some (not t) cause) is

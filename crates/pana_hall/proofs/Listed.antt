@@ -8,8 +8,8 @@ use Rattle.pana_copies.specs.Spots.{Table, kept}
 use Rattle.pana_journal.specs.declared.report.Report.{Report}
 use Rattle.pana_journal.specs.declared.report.Report.TheVariants.{Register}
 use Rattle.pana_journal.specs.declared.entry.Entry.{Entry}
-use Rattle.pana_family.specs.View.{Means, can_split}
-use Rattle.pana_family.proofs.NewFamily.{new_means, new_depth}
+use Rattle.pana_family.specs.View.{Means}
+use Rattle.pana_family.proofs.NewFamily.{new_means}
 use Rattle.pana_hall.specs.declared.kept_family.KeptFamily.{KeptFamily}
 use Rattle.pana_hall.specs.Family.{families, is_register}
 use Rattle.pana_hall.specs.Living.{living}
@@ -22,18 +22,19 @@ use Rattle.pana_hall.specs.inner.Spots.{IsFree}
 use Rattle.pana_hall.specs.inner.Listed.{new_kept}
 use Rattle.pana_hall.specs.inner.Steps.{Begins}
 use Rattle.pana_hall.specs.inner.Kept.{next_entry, AreListed, AreSpots, IsFamilyKept, IsReady, IsReadyAt}
-use Rattle.pana_hall.proofs.Lists.{each_append, each_weaker}
+use Rattle.pana_hall.proofs.Lists.{each_append, each_weaker, each_two}
 use Rattle.pana_hall.proofs.Allowed.{first_none}
 use Rattle.pana_hall.proofs.Grown.{family_new}
 use Rattle.pana_hall.proofs.Locality.{IsWell}
 use Rattle.pana_hall.proofs.Rising.{slice_get-each}
 use Rattle.pana_hall.proofs.Sound.{accepted_is_sound}
 use Rattle.pana_hall.proofs.Sorted.{begun-next, begun_rises}
-use Rattle.pana_hall.proofs.Spots.{none_below, living_below, spots_next}
+use Rattle.pana_hall.proofs.Spots.{living_below, spots_next}
 use Rattle.pana_hall.proofs.FamilySets.{sets_begun}
 use Rattle.pana_hall.proofs.OldPlaces.{places_report, places_begun}
-use Rattle.pana_hall.proofs.KeptFamilies.{kept_other}
+use Rattle.pana_hall.proofs.KeptFamilies.{Follow, begun_rows, follow_report, kept_other}
 use Rattle.pana_hall.proofs.Ready.{accepts_next, free_spots}
+use Rattle.pana_hall.proofs.Moves.{none_below}
 
 pub get_at : {X : Type 0} (xs : List X) (p : ℕ) (x d : X) → slice_get xs p ≡ Some x → slice_index_or xs p d ≡ x
 get_at [] p x d at = absurd (cc)
@@ -116,7 +117,6 @@ module _ {journal : List Entry} {by : List ℕ} {report : Report} {list : List K
         own = ap (λ k. k.number) same ∙ there.number;
         kept = subst (IsFamilyKept journal) (sym same) (slice_get-each (IsFamilyKept journal) list position there.it ready.listed.each there.found);
         spots = ready.spots;
-        splits = λ copy place about. subst (λ k. can_split k.family copy ≡ true) (sym same) (ready.splits copy place there.it about there.found);
       }
 
   -- the list, with that family changed
@@ -142,12 +142,8 @@ module _ {journal : List Entry} {by : List ℕ} {report : Report} {list : List K
   pub position_within : IsReadyAt journal by report list position copies → is_register report ≡ false → position < length list
   position_within ready later = let there = ready.at later in within_length list position there.it there.found
 
-each_two : {X : Type 0} (P Q R : X → Type 0) (xs : List X) → ((x : X) → P x → Q x → R x) → AllByRecursion P xs → AllByRecursion Q xs → AllByRecursion R xs
-each_two P Q R [] f ps qs = tt
-each_two P Q R (x ∷ xs) f ps qs = (f x ps.0 qs.0, each_two P Q R xs f ps.1 qs.1)
-
 pub new_begins : (n : ℕ) → Begins n (new_kept n)
-new_begins n = record { number = refl; stands = new_means n; places = (refl, tt); deep = new_depth n }
+new_begins n = record { number = refl; stands = new_means n; rows = refl; undo = refl; places = (refl, tt) }
 
 -- a family that a Register began
 kept_begun : (journal : List Entry) (by : List ℕ) (place : Place) (it : KeptFamily) → IsAccepted 8 journal → Accepts 8 journal (next_entry journal by (Register place)) → Begins (length journal + 1) it
@@ -157,6 +153,10 @@ kept_begun journal by place it accepted accepts begins =
     let entry = next_entry journal by (Register place) in
     let journal' = journal ++ entry ∷ [] in
     let own : family_of_next journal entry ≡ length journal + 1 = family_new journal entry in
+    let nothing : Follow journal (family_of_next journal entry) (record { rows = []; undo = []; free = [] }) =
+    subst (λ f. Follow journal f (record { rows = []; undo = []; free = [] })) (sym own) (begun_rows journal sound) in
+    let follow = subst (λ f. Follow journal' f it.family) (own ∙ sym begins.number)
+    (follow_report journal entry (record { rows = []; undo = []; free = [] }) it.family sound accepts refl nothing begins.rows begins.undo) in
     record {
       means = subst (Means it.family) (sym (sets_begun journal entry sound accepts it.number place refl begins.number)) begins.stands;
       places = subst (Keeps it.old_places)
@@ -165,7 +165,8 @@ kept_begun journal by place it accepted accepts begins =
           ∙ sym (places_report journal entry sound accepts refl)
           ∙ ap (λ f. old_places f journal') (own ∙ sym begins.number))
           begins.places;
-      depths = λ k within. let none = begins.deep k in omega arith;
+      rows = follow.0;
+      undo = follow.1;
     }
 
 module _ {journal : List Entry} {by : List ℕ} {place : Place} {list : List KeptFamily} {position : ℕ} {copies : Table} where

@@ -12,9 +12,24 @@ pub each_append : {X : Type 0} (P : X → Type 0) (xs ys : List X) → AllByRecu
 each_append P [] ys a b = b
 each_append P (x ∷ xs) ys a b = (a.0, each_append P xs ys a.1 b)
 
+pub each_left : {X : Type 0} (P : X → Type 0) (xs ys : List X) → AllByRecursion P (xs ++ ys) → AllByRecursion P xs
+each_left P [] ys all = tt
+each_left P (x ∷ xs) ys all = (all.0, each_left P xs ys all.1)
+
+pub each_right : {X : Type 0} (P : X → Type 0) (xs ys : List X) → AllByRecursion P (xs ++ ys) → AllByRecursion P ys
+each_right P [] ys all = all
+each_right P (x ∷ xs) ys all = each_right P xs ys all.1
+
+pub each_last : {X : Type 0} (P : X → Type 0) (xs : List X) (x : X) → AllByRecursion P (xs ++ x ∷ []) → P x
+each_last P xs x all = (each_right P xs (x ∷ []) all).0
+
 pub each_weaker : {X : Type 0} (P Q : X → Type 0) (xs : List X) → ((x : X) → P x → Q x) → AllByRecursion P xs → AllByRecursion Q xs
 each_weaker P Q [] f a = tt
 each_weaker P Q (x ∷ xs) f a = (f x a.0, each_weaker P Q xs f a.1)
+
+pub each_two : {X : Type 0} (P Q R : X → Type 0) (xs : List X) → ((x : X) → P x → Q x → R x) → AllByRecursion P xs → AllByRecursion Q xs → AllByRecursion R xs
+each_two P Q R [] f ps qs = tt
+each_two P Q R (x ∷ xs) f ps qs = (f x ps.0 qs.0, each_two P Q R xs f ps.1 qs.1)
 
 pub each_filter : {X : Type 0} (P : X → Type 0) (q : X → Bool) (xs : List X) → AllByRecursion P xs → AllByRecursion P (filter q xs)
 each_filter P q [] a = tt
@@ -24,6 +39,10 @@ each_filter P q (x ∷ xs) a =
       | false ↦ each_filter P q xs a.1
     ]
 
+pub map_map : {X Y Z : Type 0} (f : X → Y) (g : Y → Z) (xs : List X) → map g (map f xs) ≡ map (λ x. g (f x)) xs
+map_map f g [] = refl
+map_map f g (x ∷ xs) = ap (λ l. g (f x) ∷ l) (map_map f g xs)
+
 pub filter_same : {X : Type 0} (p q : X → Bool) (xs : List X) → AllByRecursion (λ x. p x ≡ q x) xs → filter p xs ≡ filter q xs
 filter_same p q [] a = refl
 filter_same p q (x ∷ xs) a = ap (λ b. cond b (x ∷ filter p xs) (filter p xs)) a.0 ∙ ap (λ l. cond (q x) (x ∷ l) l) (filter_same p q xs a.1)
@@ -31,6 +50,10 @@ filter_same p q (x ∷ xs) a = ap (λ b. cond b (x ∷ filter p xs) (filter p xs
 pub filter_all : {X : Type 0} (p : X → Bool) (xs : List X) → AllByRecursion (λ x. p x ≡ true) xs → filter p xs ≡ xs
 filter_all p [] a = refl
 filter_all p (x ∷ xs) a = ap (λ b. cond b (x ∷ filter p xs) (filter p xs)) a.0 ∙ ap (λ l. x ∷ l) (filter_all p xs a.1)
+
+pub filter_true : {X : Type 0} (xs : List X) → filter (λ x. true) xs ≡ xs
+filter_true [] = refl
+filter_true (x ∷ xs) = ap (λ l. x ∷ l) (filter_true xs)
 
 pub filter_filter : {X : Type 0} (p q : X → Bool) (xs : List X) → filter p (filter q xs) ≡ filter (λ x. q x && p x) xs
 filter_filter p q [] = refl
@@ -88,3 +111,9 @@ pub is_last_push : (number : ℕ) (numbers : List ℕ) → is_last number number
 is_last_push number [] e = absurd (cc)
 is_last_push number (n ∷ []) e = ([], ap (λ k. k ∷ []) (eqb-true n number e))
 is_last_push number (n ∷ m ∷ numbers) e = let rest = is_last_push number (m ∷ numbers) e in (n ∷ rest.0, ap (λ l. n ∷ l) rest.1)
+
+-- what is last of a list is what was put there
+pub is_last-push : (numbers : List ℕ) (x n : ℕ) → is_last n (numbers ++ x ∷ []) ≡ (x == n)
+is_last-push [] x n = refl
+is_last-push (a ∷ []) x n = refl
+is_last-push (a ∷ b ∷ numbers) x n = is_last-push (b ∷ numbers) x n

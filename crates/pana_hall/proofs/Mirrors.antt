@@ -1,31 +1,28 @@
 -- The tables of sets that a journal gives its families: their copies are the families' living copies.
-use Rattle.std.specs.Prelude.{◌≡◌, ℕ, zero, suc, ◌+◌, ◌-◌, ◌≤◌, true, List, [], ◌∷◌, ◌++◌, length, map, drop, None}
+use Rattle.std.specs.Prelude.{◌≡◌, ℕ, zero, suc, ◌+◌, ◌-◌, ◌≤◌, true, List, [], ◌∷◌, ◌++◌, length, map, drop, ◌<◌}
 use Rattle.std.specs.List.{AllByRecursion}
-use Rattle.std.proofs.Common.{refl, sym, ap, ◌∙◌, subst, inl, inr, arith, append-nil, append_assoc}
+use Rattle.std.proofs.Common.{refl, sym, ap, ◌∙◌, subst, inl, inr, arith}
 use Rattle.std.proofs.lemmas.Bool.{cases_eq, cases_lt}
-use Rattle.std.proofs.lemmas.List.{length-drop}
-use Rattle.pana_journal.specs.declared.report.Report.{Report}
-use Rattle.pana_journal.specs.declared.report.Report.TheVariants.{Register, Duplicate, Edit, Reconcile, Merge, Relocate, Remove, Confirm, Withdraw}
+use Rattle.std.proofs.lemmas.List.{length-drop, same_from_push}
+use Rattle.pana_journal.specs.declared.report.Report.TheVariants.{Confirm}
 use Rattle.pana_journal.specs.declared.entry.Entry.{Entry}
-use Rattle.pana_family.specs.Table.{Known}
 use Rattle.pana_family.specs.Table as table
 use Rattle.pana_hall.specs.Family.{families}
 use Rattle.pana_hall.specs.Effective.{effective, is_of_copies, left_out}
-use Rattle.pana_hall.specs.Living.{copy_in, copies_of, living}
+use Rattle.pana_hall.specs.Living.{copy_in, copies_of}
 use Rattle.pana_hall.specs.Pending.{pending, last}
-use Rattle.pana_hall.specs.Refusal.{report_refusal, full, unknown}
-use Rattle.pana_hall.specs.Accepted.{Accepts, AcceptsAll, IsAccepted}
+use Rattle.pana_hall.specs.Accepted.{Accepts, IsAccepted}
 use Rattle.pana_hall.specs.Tables.{table as table_of, layer}
-use Rattle.pana_hall.specs.Laws.{family_of_next, AreRising}
+use Rattle.pana_hall.specs.Laws.{family_of_next}
 use Rattle.pana_hall.specs.Sets.{knowns_of}
-use Rattle.pana_hall.proofs.Lists.{each_filter, each_weaker}
-use Rattle.pana_hall.proofs.Locality.{Belongs, Joins, IsWell, copies_of-push}
-use Rattle.pana_hall.proofs.Grown.{each_effective, family_old, own}
-use Rattle.pana_hall.proofs.Allowed.{first_none, known}
-use Rattle.pana_hall.proofs.Sound.{IsSound, sound_grows, empty_is_sound, OfCopies, Confirms, Withdraws, kind_of}
-use Rattle.pana_hall.proofs.Tables.{table_own, pending_report, layer_report, layer_undone, layer_confirm, layer_withdraw, layer_other, each_right, merged}
+use Rattle.pana_hall.proofs.Lists.{each_filter, each_weaker, each_last, each_left}
+use Rattle.pana_hall.proofs.Moves.{Names, Lives}
+use Rattle.pana_hall.proofs.Locality.{IsWell, copies_of-push}
+use Rattle.pana_hall.proofs.Grown.{each_effective, family_new, own}
+use Rattle.pana_hall.proofs.Sound.{IsSound, living_fit, named_report, in_accepted, OfCopies, Confirms, Withdraws, kind_of, accepted_is_sound}
+use Rattle.pana_hall.proofs.Tables.{table_own, pending_report, layer_report, layer_undone, layer_confirm, layer_withdraw, layer_other, merged}
 use Rattle.pana_hall.specs.Stamps.{as_known}
-use Rattle.pana_hall.proofs.Knowns.{Reads, Lives, mirrors, knowns_of-push, rises_reported, knowns_old, AreOldKnown}
+use Rattle.pana_hall.proofs.Knowns.{IsOldKnown, AreOld, Mirrors, mirrors, knowns_of-push, reported_old}
 
 last_all : (k : ℕ) (numbers : List ℕ) → length numbers ≤ k → last k numbers ≡ numbers
 last_all k numbers within = let none : length numbers - k ≡ 0 = omega arith in ap (λ i. drop i numbers) none
@@ -80,93 +77,74 @@ hold_next P grows journal entry sound accepts all k family =
       ])
     ]
 
-hold_from : (P : List Entry → Type 0) → Grows P → (journal entries : List Entry) → IsSound 8 journal → AcceptsAll 8 journal entries
-    → ((k family : ℕ) → P (layer 8 k family journal)) → (k family : ℕ) → P (layer 8 k family (journal ++ entries))
-hold_from P grows journal [] sound all hold k family = subst (λ j. P (layer 8 k family j)) (sym (append-nil journal)) (hold k family)
-hold_from P grows journal (entry ∷ entries) sound all hold k family =
-    subst (λ j. P (layer 8 k family j)) (append_assoc journal (entry ∷ []) entries)
-    (hold_from P grows (journal ++ entry ∷ []) entries (sound_grows 8 journal entry sound all.0) all.1 (hold_next P grows journal entry sound all.0 hold) k family)
-
 -- so it holds of each layer of each accepted journal
 pub layers_hold : (P : List Entry → Type 0) → Grows P → (journal : List Entry) → IsAccepted 8 journal → (k family : ℕ) → P (layer 8 k family journal)
-layers_hold P grows journal accepted k family = hold_from P grows [] journal (empty_is_sound 8) accepted (λ i f. grows.none) k family
+layers_hold P grows journal accepted =
+    in_accepted 8 (λ j. (k family : ℕ) → P (layer 8 k family j)) (λ k family. grows.none) (λ j entry sound accepts all. hold_next P grows j entry sound accepts all) journal accepted
 
--- the copies of the table of sets are those of the entries, and its numbers rise
-pub record IsMirrored (entries : List Entry) : Type 0 where
-  pub copies : table.copies_of (knowns_of entries) ≡ map as_known (copies_of entries)
-  pub rising : AreRising (λ t. t.copy) 0 (knowns_of entries)
-
-lives_named : (journal : List Entry) (by : List ℕ) (report : Report) (c : ℕ) → report_refusal 8 journal (living journal) by report ≡ None → Reads report c → Lives (living journal) c
-lives_named journal by (Duplicate source place) c free reads = subst (Lives (living journal)) reads (known source (living journal) (first_none (unknown source (living journal)) _ (first_none (full journal) _ free).1).0)
-lives_named journal by (Reconcile a b) c free reads =
-    let first_known = first_none (unknown a (living journal)) _ (first_none (full journal) _ free).1 in
-    elim reads [
-      | inl e ↦ subst (Lives (living journal)) e (known a (living journal) first_known.0)
-      | inr e ↦ subst (Lives (living journal)) e (known b (living journal) (first_none (unknown b (living journal)) _ first_known.1).0)
-    ]
-lives_named journal by (Merge a b) c free reads =
-    let first_known = first_none (unknown a (living journal)) _ (first_none (full journal) _ free).1 in
-    elim reads [
-      | inl e ↦ subst (Lives (living journal)) e (known a (living journal) first_known.0)
-      | inr e ↦ subst (Lives (living journal)) e (known b (living journal) (first_none (unknown b (living journal)) _ first_known.1).0)
-    ]
-lives_named journal by (Register place) c free reads = absurd reads
-lives_named journal by (Edit x) c free reads = absurd reads
-lives_named journal by (Relocate x place) c free reads = absurd reads
-lives_named journal by (Remove x heir) c free reads = absurd reads
-lives_named journal by (Confirm m) c free reads = absurd reads
-lives_named journal by (Withdraw m) c free reads = absurd reads
-
-joins_named : (of : ℕ → ℕ) (n : ℕ) (report : Report) (c : ℕ) → Belongs of n report → Reads report c → Joins of n c
-joins_named of n (Duplicate source place) c belongs reads = subst (Joins of n) reads belongs
-joins_named of n (Reconcile a b) c belongs reads = elim reads [ inl e ↦ subst (Joins of n) e belongs.0 | inr e ↦ subst (Joins of n) e belongs.1 ]
-joins_named of n (Merge a b) c belongs reads = elim reads [ inl e ↦ subst (Joins of n) e belongs.0 | inr e ↦ subst (Joins of n) e belongs.1 ]
-joins_named of n (Register place) c belongs reads = absurd reads
-joins_named of n (Edit x) c belongs reads = absurd reads
-joins_named of n (Relocate x place) c belongs reads = absurd reads
-joins_named of n (Remove x heir) c belongs reads = absurd reads
-joins_named of n (Confirm m) c belongs reads = absurd reads
-joins_named of n (Withdraw m) c belongs reads = absurd reads
-
--- the copies whose sets an accepted report reads live among those that the family's entries make
-pub read_lives : (journal : List Entry) (entry : Entry) → IsSound 8 journal → Accepts 8 journal entry → (c : ℕ) → Reads entry.report c
+-- the copies that an accepted report is about live among those that the family's entries make
+pub read_lives : (journal : List Entry) (entry : Entry) → IsSound 8 journal → Accepts 8 journal entry → (c : ℕ) → Names entry.report c
     → Lives (copies_of (layer 8 0 (family_of_next journal entry) journal)) c
-read_lives journal entry sound accepts c reads =
+read_lives journal entry sound accepts c names =
     let own = family_of_next journal entry in
-    let there = lives_named journal entry.by entry.report c accepts.free reads in
-    let of' = families (journal ++ entry ∷ []) in
-    let belongs = (each_right _ journal (entry ∷ []) (sound_grows 8 journal entry sound accepts).well).0.belongs in
-    let joined = joins_named of' entry.number entry.report c belongs reads in
-    let family : own ≡ families journal c = sym joined.family ∙ family_old journal entry c joined.earlier in
-    (there.0, ap (λ l. copy_in l c) (sym (table_own 8 0 own journal sound)) ∙ ap (λ f. copy_in (table_of 8 0 f journal) c) family ∙ sym ((merged 8 journal sound).found c) ∙ there.1)
+    let there = named_report 8 entry.number journal entry.by entry.report c (living_fit 8 journal sound) accepts.free names in
+    let family : own ≡ families journal c = family_new journal entry ∙ sym there.of in
+    (there.copy, ap (λ l. copy_in l c) (sym (table_own 8 0 own journal sound)) ∙ ap (λ f. copy_in (table_of 8 0 f journal) c) family ∙ sym ((merged 8 journal sound).found c) ∙ there.found)
 
-layer_within : (journal : List Entry) (k family : ℕ) → IsSound 8 journal → AllByRecursion (λ e. e.number ≤ length journal) (layer 8 k family journal)
+-- each of the entries is about copies that those before it make
+abbrev AreFounded : List Entry → Type 0
+AreFounded entries = (before : List Entry) (e : Entry) → entries ≡ before ++ e ∷ [] → (c : ℕ) → Names e.report c → Lives (copies_of before) c
+
+founded_grow : Grows AreFounded
+founded_grow = record {
+  none = λ before e is. absurd (never before e is);
+  step = λ journal entry sound accepts of_copies founded before e is c names.
+      let both = same_from_push (layer 8 0 (family_of_next journal entry) journal) before entry e is in
+      subst (λ l. Lives (copies_of l) c) both.0 (read_lives journal entry sound accepts c (subst (λ x. Names x.report c) (sym both.1) names));
+}
+  where
+    never : (before : List Entry) (e : Entry) → [] ≡ before ++ e ∷ [] → ⊥
+    never [] e is = absurd (cc)
+    never (x ∷ before) e is = absurd (cc)
+
+pub layer_founded : (journal : List Entry) → IsAccepted 8 journal → (k family : ℕ) → AreFounded (layer 8 k family journal)
+layer_founded journal accepted k family = layers_hold AreFounded founded_grow journal accepted k family
+
+pub layer_within : (journal : List Entry) (k family : ℕ) → IsSound 8 journal → AllByRecursion (λ e. e.number ≤ length journal) (layer 8 k family journal)
 layer_within journal k family sound =
     each_filter _ _ _ (each_filter _ _ (effective journal) (each_effective _ journal (each_weaker (IsWell (families journal) (length journal)) _ journal (λ e well. well.within) sound.well)))
 
--- all numbers in the tables of sets are those of entries
-pub sets_old : (journal : List Entry) (k family : ℕ) → IsSound 8 journal → AreOldKnown (length journal) (knowns_of (layer 8 k family journal))
-sets_old journal k family sound = knowns_old (length journal) (layer 8 k family journal) (layer_within journal k family sound)
+-- the copies of the table of sets are those of the entries, its numbers rise, and none is above those of the entries
+pub record IsMirrored (entries : List Entry) : Type 0 where
+  pub copies : Mirrors (knowns_of entries) (copies_of entries)
+  pub old : (last : ℕ) → AllByRecursion (λ e. e.number ≤ last) entries → AreOld last (knowns_of entries)
 
 none_mirrored : IsMirrored []
 unfolding copies_of knowns_of
-none_mirrored = record { copies = refl; rising = tt }
+none_mirrored = record { copies = refl; old = λ last within. record { rising = tt; each = tt } }
 
-mirrored_grows : Grows IsMirrored
+pub mirrored_grows : Grows IsMirrored
 mirrored_grows = record {
   none = none_mirrored;
   step = λ journal entry sound accepts is mirrored.
       let own = family_of_next journal entry in
       let entries = layer 8 0 own journal in
-      let old = sets_old journal 0 own sound in
+      let old = mirrored.old (length journal) (layer_within journal 0 own sound) in
       let next = accepts.next in
       record {
         copies = ap table.copies_of (knowns_of-push entries entry)
-            ∙ mirrors entry.number entry.report (knowns_of entries) (copies_of entries) mirrored.copies mirrored.rising (read_lives journal entry sound accepts)
+            ∙ mirrors entry.number entry.report (knowns_of entries) (copies_of entries) mirrored.copies old.rising (read_lives journal entry sound accepts)
             ∙ ap (map as_known) (sym (copies_of-push entries entry));
-        rising = subst (AreRising (λ t. t.copy) 0) (sym (knowns_of-push entries entry)) (rises_reported (length journal) entry.number entry.report (knowns_of entries) (omega arith) old mirrored.rising);
+        old = λ last within. subst (AreOld last) (sym (knowns_of-push entries entry))
+            (reported_old last entry.number entry.report (knowns_of entries) (omega arith) (each_last (λ e. e.number ≤ last) entries entry within)
+            (each_weaker (IsOldKnown (length journal)) (λ t. t.copy < entry.number) (knowns_of entries) (λ t is. let below = is.copy in omega arith) old.each)
+            (mirrored.old last (each_left (λ e. e.number ≤ last) entries (entry ∷ []) within)));
       };
 }
 
 pub layers_mirrored : (journal : List Entry) → IsAccepted 8 journal → (k family : ℕ) → IsMirrored (layer 8 k family journal)
 layers_mirrored journal accepted k family = layers_hold IsMirrored mirrored_grows journal accepted k family
+
+-- all numbers in the tables of sets are those of entries
+pub sets_old : (journal : List Entry) (k family : ℕ) → IsAccepted 8 journal → AreOld (length journal) (knowns_of (layer 8 k family journal))
+sets_old journal k family accepted = (layers_mirrored journal accepted k family).old (length journal) (layer_within journal k family (accepted_is_sound 8 journal accepted))

@@ -10,14 +10,14 @@ use Rattle.pana_journal.specs.declared.report.Report.TheVariants.{Register, Dupl
 use Rattle.pana_journal.specs.declared.entry.Entry.{Entry}
 use Rattle.pana_journal.specs.Entries.{entry_at}
 use Rattle.pana_hall.specs.declared.call.Query.{Query}
-use Rattle.pana_hall.specs.declared.call.Query.TheVariants.{Families, Board, Stamps, Pair, Holdings, JournalFrom}
+use Rattle.pana_hall.specs.declared.call.Query.TheVariants.{Board, Stamps, Pair}
 use Rattle.pana_hall.specs.declared.call.Call.{Call}
 use Rattle.pana_hall.specs.declared.call.Call.TheVariants as calls
 use Rattle.pana_hall.specs.declared.cause.Cause.{Cause}
-use Rattle.pana_hall.specs.declared.cause.Cause.TheVariants.{JournalFull, UnknownCopy, SameCopy, OtherFamily, PlaceTaken, FamilyFull, UnknownEntry, NotYours, Settled, UnknownFamily, NotKept}
+use Rattle.pana_hall.specs.declared.cause.Cause.TheVariants.{JournalFull, UnknownCopy, SameCopy, OtherFamily, PlaceTaken, FamilyFull, TooDeep, UnknownEntry, NotYours, Settled, UnknownFamily, NotKept}
 use Rattle.pana_hall.specs.declared.reply.Reply.TheVariants as replies
 use Rattle.pana_hall.specs.Living.{Copy, copy_in, living}
-use Rattle.pana_hall.specs.Refusal.{first, full, unknown, other_family, against_two, taken, family_full, unknown_entry, not_yours, settled, settled_or_followed, brought_back, taken_from, taken_since, unknown_family, report_refusal, query_refusal, refusal}
+use Rattle.pana_hall.specs.Refusal.{first, full, unknown, other_family, against_two, taken, family_full, too_deep, unknown_entry, not_yours, settled, settled_or_followed, brought_back, taken_from, taken_since, unknown_family, report_refusal, query_refusal, refusal}
 use Rattle.pana_hall.specs.Permit.{Permits, PermitsBy, Grants, IsShortage}
 
 abbrev is_not_kept : Option Cause → Bool
@@ -59,6 +59,9 @@ taken_other place copies = map_other (λ (copy : Copy). PlaceTaken copy.number) 
 family_full_other : (c : ℕ) (copies : List Copy) → is_not_kept (family_full c copies) ≡ false
 family_full_other c copies = then_other _ (copy_in copies c) (λ copy. some_other _ FamilyFull refl)
 
+too_deep_other : (c : ℕ) (journal : List Entry) (copies : List Copy) → is_not_kept (too_deep c journal copies) ≡ false
+too_deep_other c journal copies = then_other _ (copy_in copies c) (λ copy. some_other _ TooDeep refl)
+
 full_other : (journal : List Entry) → is_not_kept (full journal) ≡ false
 full_other journal = some_other _ JournalFull refl
 
@@ -76,7 +79,8 @@ yours_other by m journal = then_other _ (entry_at journal m) (λ entry. some_oth
 report_other : (journal : List Entry) (copies : List Copy) (by : List ℕ) (report : Report) → is_not_kept (report_refusal 8 journal copies by report) ≡ false
 report_other journal copies by (Register place) = first_other (full journal ∷ taken place copies ∷ []) (full_other journal, (taken_other place copies, tt))
 report_other journal copies by (Duplicate c place) =
-    first_other (full journal ∷ unknown c copies ∷ taken place copies ∷ family_full c copies ∷ []) (full_other journal, (unknown_other c copies, (taken_other place copies, (family_full_other c copies, tt))))
+    first_other (full journal ∷ unknown c copies ∷ taken place copies ∷ family_full c copies ∷ too_deep c journal copies ∷ [])
+    (full_other journal, (unknown_other c copies, (taken_other place copies, (family_full_other c copies, (too_deep_other c journal copies, tt)))))
 report_other journal copies by (Edit c) = first_other (full journal ∷ unknown c copies ∷ []) (full_other journal, (unknown_other c copies, tt))
 report_other journal copies by (Reconcile a b) = first_other (full journal ∷ against_two a b copies) (full_other journal, two_other a b copies)
 report_other journal copies by (Merge a b) = first_other (full journal ∷ against_two a b copies) (full_other journal, two_other a b copies)
@@ -90,12 +94,10 @@ report_other journal copies by (Withdraw m) =
     (full_other journal, (entry_other m journal, (yours_other by m journal, (some_other _ Settled refl, (since_other m journal, tt)))))
 
 query_other : (journal : List Entry) (copies : List Copy) (query : Query) → is_not_kept (query_refusal journal copies query) ≡ false
-query_other journal copies Families = refl
 query_other journal copies (Board family) = first_other (unknown_family family journal ∷ []) (some_other _ UnknownFamily refl, tt)
 query_other journal copies (Stamps family) = first_other (unknown_family family journal ∷ []) (some_other _ UnknownFamily refl, tt)
 query_other journal copies (Pair a b) = first_other (unknown a copies ∷ unknown b copies ∷ other_family a b copies ∷ []) (unknown_other a copies, (unknown_other b copies, (other_family_other a b copies, tt)))
-query_other journal copies (Holdings device) = refl
-query_other journal copies (JournalFrom n) = refl
+query_other journal copies query = refl
 
 refusal_other : (journal : List Entry) (by : List ℕ) (call : Call) → is_not_kept (refusal journal by call) ≡ false
 unfolding refusal
@@ -103,30 +105,12 @@ refusal_other journal by (calls.Report report) = report_other journal (living jo
 refusal_other journal by (calls.Query query) = query_other journal (living journal) query
 
 shortage_other : (journal : List Entry) (call : Call) → IsShortage journal call NotKept → ⊥
-shortage_other journal (calls.Query Families) short = absurd (cc)
-shortage_other journal (calls.Query (Board family)) short = absurd (cc)
-shortage_other journal (calls.Query (Stamps family)) short = absurd (cc)
 shortage_other journal (calls.Query (Pair a b)) short = short
-shortage_other journal (calls.Query (Holdings device)) short = absurd (cc)
-shortage_other journal (calls.Query (JournalFrom n)) short = absurd (cc)
-shortage_other journal (calls.Report (Register place)) short = absurd (cc)
-shortage_other journal (calls.Report (Duplicate c place)) short = elim short [ inl e ↦ absurd (cc) | inr deep ↦ let odd = deep.0 in absurd (cc) ]
-shortage_other journal (calls.Report (Edit c)) short = absurd (cc)
-shortage_other journal (calls.Report (Reconcile a b)) short = absurd (cc)
-shortage_other journal (calls.Report (Merge a b)) short = absurd (cc)
-shortage_other journal (calls.Report (Relocate c place)) short = absurd (cc)
-shortage_other journal (calls.Report (Remove c heir)) short = absurd (cc)
-shortage_other journal (calls.Report (Confirm m)) short = absurd (cc)
-shortage_other journal (calls.Report (Withdraw m)) short = absurd (cc)
+shortage_other journal call short = absurd (cc)
 
 grants_other : (journal : List Entry) (call : Call) → Grants journal call (replies.Refused NotKept) → ⊥
-grants_other journal (calls.Query Families) grants = absurd (cc)
-grants_other journal (calls.Query (Board family)) grants = absurd (cc)
 grants_other journal (calls.Query (Stamps family)) grants = let odd = grants.2 in absurd (cc)
-grants_other journal (calls.Query (Pair a b)) grants = absurd (cc)
-grants_other journal (calls.Query (Holdings device)) grants = absurd (cc)
-grants_other journal (calls.Query (JournalFrom n)) grants = absurd (cc)
-grants_other journal (calls.Report report) grants = absurd (cc)
+grants_other journal call grants = absurd (cc)
 
 permits_other : (cause : Option Cause) (journal : List Entry) (call : Call) → is_not_kept cause ≡ false → PermitsBy cause journal call (replies.Refused NotKept) → ⊥
 permits_other None journal call other (inl grants) = grants_other journal call grants

@@ -15,13 +15,12 @@ use Rattle.pana_hall.specs.Tables.{layer}
 use Rattle.pana_hall.specs.Laws.{family_of_next}
 use Rattle.pana_hall.specs.Sets.{of_pending}
 use Rattle.pana_hall.specs.inner.OldPlaces.{Old, old, old_of, old_places, place_before, later}
-use Rattle.pana_hall.proofs.Lists.{each_weaker, each_filter}
+use Rattle.pana_hall.proofs.Lists.{each_weaker, each_filter, each_right}
 use Rattle.pana_hall.proofs.Locality.{IsWell}
 use Rattle.pana_hall.proofs.Rising.{entry_at-push, entry_at-append}
 use Rattle.pana_hall.proofs.Begun.{entry_at-other}
 use Rattle.pana_hall.proofs.Sound.{IsSound}
 use Rattle.pana_hall.proofs.Grown.{own, each_effective}
-use Rattle.pana_hall.proofs.Tables.{each_right}
 use Rattle.pana_hall.proofs.FamilySets as sets
 
 taken_is : (n : ℕ) (items : List Old) → take (position_or_len (λ o. o.entry == n) items) items ≡ later n items

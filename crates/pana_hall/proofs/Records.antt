@@ -1,12 +1,11 @@
 -- What a hall keeps of its journal, as entries come.
-use Rattle.std.specs.Prelude.{◌≡◌, ◌⊎◌, ℕ, zero, suc, ◌+◌, ◌-◌, ◌<◌, ◌≤◌, true, false, cond, ◌==◌, List, [], ◌∷◌, ◌++◌, length, map, Some, None, slice_get, option_and_then}
+use Rattle.std.specs.Prelude.{◌≡◌, ℕ, zero, suc, ◌+◌, ◌-◌, ◌<◌, ◌≤◌, true, false, cond, ◌==◌, List, [], ◌∷◌, ◌++◌, length, map, Some, None, slice_get, option_and_then, is_none}
 use Rattle.std.specs.List.{AllByRecursion}
 use Rattle.std.proofs.Common.{refl, sym, ap, ◌∙◌, subst, inl, inr, arith}
 use Rattle.std.proofs.lemmas.Bool.{eqb-true, ne_eqb, cases_lt}
 use Rattle.std.proofs.lemmas.List.{length-append, length-map}
 use Rattle.pana_copies.specs.Spots.{Table}
 use Rattle.pana_journal.specs.declared.report.Report.{Report}
-use Rattle.pana_journal.specs.declared.report.Report.TheVariants.{Register, Duplicate, Edit, Reconcile, Merge, Relocate, Remove, Confirm, Withdraw}
 use Rattle.pana_journal.specs.declared.entry.Entry.{Entry}
 use Rattle.pana_journal.specs.Entries.{entry_at}
 use Rattle.pana_hall.specs.declared.kept_family.KeptFamily.{KeptFamily}
@@ -17,14 +16,15 @@ use Rattle.pana_hall.specs.Refusal.{report_refusal}
 use Rattle.pana_hall.specs.Accepted.{IsAccepted}
 use Rattle.pana_hall.specs.Laws.{AreRising}
 use Rattle.pana_hall.specs.inner.Families.{position_at}
-use Rattle.pana_hall.specs.inner.Kept.{next_entry, ArePlaced, AreListed, AreSpots, IsAt, IsKept, IsReadyAt, Splits, position_for, position_of_subject}
+use Rattle.pana_hall.specs.inner.Kept.{next_entry, ArePlaced, AreListed, AreSpots, IsAt, IsKept, IsReadyAt, position_for, position_of_subject}
 use Rattle.pana_hall.proofs.Rising.{entry_at_place, slice_get-append, slice_get-push}
 use Rattle.pana_hall.proofs.Grown.{family_new, family_old}
-use Rattle.pana_hall.proofs.Sound.{accepted_is_sound, named_by}
+use Rattle.pana_hall.proofs.Sound.{accepted_is_sound, named_by, living_fit, LivesIn, named_report}
 use Rattle.pana_hall.proofs.Sorted.{begun-next}
 use Rattle.pana_hall.proofs.Steps.{next_accepted, rising}
 use Rattle.pana_hall.proofs.Listed.{within_length}
-use Rattle.pana_hall.proofs.Ready.{Names, LivesIn, named_report, accepts_next}
+use Rattle.pana_hall.proofs.Ready.{accepts_next}
+use Rattle.pana_hall.proofs.Moves.{subject_none, subject_named}
 
 slice_get-map : {X : Type 0} (f : X → ℕ) (xs : List X) (p y : ℕ) → slice_get (map f xs) p ≡ Some y → (x : X) × (slice_get xs p ≡ Some x) × (f x ≡ y)
 slice_get-map f [] p y at = absurd (cc)
@@ -59,20 +59,10 @@ entry_within journal m entry at =
 pub subject_within : (journal : List Entry) (by : List ℕ) (report : Report) (n : ℕ) → IsAccepted 8 journal → report_refusal 8 journal (living journal) by report ≡ None → subject report ≡ Some n → IsWithin journal n
 subject_within journal by report n accepted free about =
     let sound = accepted_is_sound 8 journal accepted in
-    let copy : (c : ℕ) → Names report c → c ≡ n → IsWithin journal n = λ c names same. subst (IsWithin journal) same (lives_within journal _ c accepted (named_report journal 0 by report c sound free names)) in
-    let entry : (m : ℕ) → (report ≡ Confirm m) ⊎ (report ≡ Withdraw m) → m ≡ n → IsWithin journal n = λ m is same. let there = named_by 8 journal by report m is free in subst (IsWithin journal) same (entry_within journal m there.0 there.1) in
-    elim report as (λ r. report ≡ r → subject r ≡ Some n → IsWithin journal n) [
-      | Register place ↦ λ e a. absurd (cc)
-      | Duplicate c place ↦ λ e a. copy c (subst (λ r. Names r c) (sym e) refl) (cc)
-      | Edit c ↦ λ e a. copy c (subst (λ r. Names r c) (sym e) refl) (cc)
-      | Reconcile a b ↦ λ e s. copy a (subst (λ r. Names r a) (sym e) (inl refl)) (cc)
-      | Merge a b ↦ λ e s. copy a (subst (λ r. Names r a) (sym e) (inl refl)) (cc)
-      | Relocate c place ↦ λ e a. copy c (subst (λ r. Names r c) (sym e) refl) (cc)
-      | Remove c None ↦ λ e a. copy c (subst (λ r. Names r c) (sym e) refl) (cc)
-      | Remove c (Some heir) ↦ λ e a. copy c (subst (λ r. Names r c) (sym e) (inl refl)) (cc)
-      | Confirm m ↦ λ e a. entry m (inl e) (cc)
-      | Withdraw m ↦ λ e a. entry m (inr e) (cc)
-    ] refl about
+    elim (subject_named report n about) [
+      | inl names ↦ lives_within journal _ n accepted (named_report 8 0 journal by report n (living_fit 8 journal sound) free names)
+      | inr is ↦ let there = named_by 8 journal by report n is free in entry_within journal n there.0 there.1
+    ]
 
 -- the family of an entry is found at its position
 pub found_at : (journal : List Entry) (list : List KeptFamily) (positions : List ℕ) (n : ℕ) → AreListed journal list → ArePlaced journal positions → 0 < n → n ≤ length journal
@@ -84,15 +74,7 @@ found_at journal list positions n listed placed some within =
 
 -- a report without a subject is a Register
 registers : (report : Report) → subject report ≡ None → is_register report ≡ true
-registers (Register place) e = refl
-registers (Duplicate c place) e = absurd (cc)
-registers (Edit c) e = absurd (cc)
-registers (Reconcile a b) e = absurd (cc)
-registers (Merge a b) e = absurd (cc)
-registers (Relocate c place) e = absurd (cc)
-registers (Remove c heir) e = absurd (cc)
-registers (Confirm m) e = absurd (cc)
-registers (Withdraw m) e = absurd (cc)
+registers report e = subject_none report ∙ ap is_none e
 
 none_registers : (report : Report) → subject report ≡ None → is_register report ≡ false → ⊥
 none_registers report e f = let yes = registers report e in absurd (cc)
@@ -123,9 +105,9 @@ module _ (journal : List Entry) (by : List ℕ) (report : Report) (list : List K
       ] refl
 
   -- and its family is there
-  pub ready_for : IsKept journal list positions copies → report_refusal 8 journal (living journal) by report ≡ None → Splits list positions report → (p : ℕ) → position_for list positions report ≡ Some p
+  pub ready_for : IsKept journal list positions copies → report_refusal 8 journal (living journal) by report ≡ None → (p : ℕ) → position_for list positions report ≡ Some p
       → IsReadyAt journal by report list p copies
-  ready_for all free splits p at = record {
+  ready_for all free p at = record {
     accepted = all.accepted;
     free = free;
     listed = all.listed;
@@ -142,8 +124,6 @@ module _ (journal : List Entry) (by : List ℕ) (report : Report) (list : List K
               let same : there.0 ≡ p = cc in
               subst (λ k. IsAt list k (families (journal ++ next_entry journal by report ∷ []) (length journal + 1))) same (subst (IsAt list there.0) (sym g) there.2)
         ] refl at named;
-    splits = λ copy place it about found. splits copy place it about
-        (let e : position_at positions copy ≡ Some p = ap (λ r. position_for list positions r) (sym about) ∙ at in ap (option_and_then (slice_get list)) e ∙ found);
   }
 
   -- what is kept then

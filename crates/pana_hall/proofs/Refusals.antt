@@ -5,6 +5,7 @@ use Rattle.std.specs.Str.{bytes_eq}
 use Rattle.std.proofs.lemmas.Slice.Eq.{bytes_eq-Decides}
 use Rattle.std.specs.List.{AllByRecursion}
 use Rattle.std.proofs.Common.{refl, sym, ap, ◌∙◌, subst, inl, inr, arith}
+use Rattle.std.proofs.Math.Bool.{or-true, or_comm}
 use Rattle.std.proofs.lemmas.Bool.{eq-eqb, ne_eqb, cases_lt, cases_Bool}
 use Rattle.std.proofs.lemmas.Option.{slice_get_past}
 use Rattle.std.proofs.lemmas.List.{reverse-append, length-map}
@@ -15,19 +16,16 @@ use Rattle.pana_copies.specs.Spots.{Spot, Table, kept, place_of}
 use Rattle.pana_journal.specs.declared.entry.Entry.{Entry}
 use Rattle.pana_journal.specs.Entries.{entry_at}
 use Rattle.pana_family.specs.Updates.{has}
-use Rattle.pana_family.specs.Sets.{Pends, PendsLast}
+use Rattle.pana_family.specs.Sets.{Sets, Pends, PendsLast}
 use Rattle.pana_family.specs.Table as table
 use Rattle.pana_hall.specs.declared.cause.Cause.TheVariants.{PlaceTaken, FamilyFull}
 use Rattle.pana_hall.specs.declared.kept_family.KeptFamily.{KeptFamily}
-use Rattle.pana_hall.specs.Family.{families, is_duplicate}
+use Rattle.pana_hall.specs.Family.{families}
 use Rattle.pana_hall.specs.Living.{Copy, copy_in, copies_of, living}
 use Rattle.pana_hall.specs.Pending.{pending, is_last}
-use Rattle.pana_hall.specs.Refusal.{displaced, report_refusal, full, unknown, taken, taken_from, taken_since, family_full, pending_with}
+use Rattle.pana_hall.specs.Refusal.{displaced, taken, taken_from, taken_since, family_full, pending_with}
 use Rattle.pana_hall.specs.Board.{is_of}
-use Rattle.pana_hall.specs.Permit.{duplicates_in}
-use Rattle.pana_family.specs.View.{is_living, depth_at}
-use Rattle.pana_journal.specs.declared.report.Report.TheVariants.{Duplicate}
-use Rattle.pana_hall.proofs.Allowed.{first_none, known}
+use Rattle.pana_family.specs.View.{Means}
 use Rattle.pana_hall.specs.Accepted.{IsAccepted}
 use Rattle.pana_hall.specs.Laws.{AreRising}
 use Rattle.pana_hall.specs.Tables.{layer}
@@ -36,37 +34,30 @@ use Rattle.pana_hall.specs.Sets.{of_each, before_entry, sets_of}
 use Rattle.pana_hall.specs.inner.Families.{family_at, old_place}
 use Rattle.pana_hall.specs.inner.OldPlaces.{Old, old_of, old_places, place_before}
 use Rattle.pana_hall.specs.inner.Spots.{spot_of, IsThere, other_there}
-use Rattle.pana_hall.specs.inner.Kept.{duplicates, AreSpots, IsFamilyKept, IsKept}
-use Rattle.pana_hall.proofs.Lists.{is_last_push, each_weaker}
+use Rattle.pana_hall.specs.inner.Kept.{AreSpots, IsFamilyKept, IsKept}
+use Rattle.pana_hall.proofs.Lists.{is_last_push, each_weaker, any_push, is_last-push}
 use Rattle.pana_hall.proofs.Sound.{accepted_is_sound}
-use Rattle.pana_hall.proofs.Tables.{ends_at, layer_now, pending_rises, table_living}
-use Rattle.pana_hall.proofs.Places.{same_place-itself, none_passes, found_number}
+use Rattle.pana_hall.proofs.Tables.{ends_at, pending_rises, table_living}
+use Rattle.pana_hall.proofs.Places.{same_place-itself, none_passes, living_found}
 use Rattle.pana_hall.proofs.Rising.{slice_get-each}
-use Rattle.pana_hall.proofs.Steps.{rising}
 use Rattle.pana_hall.proofs.FamilySets.{pends_in, in_pends}
 use Rattle.pana_hall.proofs.More.{each_has}
 use Rattle.pana_hall.proofs.KeptPlaces.{front, first_front}
 use Rattle.pana_hall.proofs.OldPlaces.{pending_within}
 use Rattle.pana_hall.specs.Stamps.{as_known}
-use Rattle.pana_hall.proofs.KeptFamilies.{copies_sets, is_living_kept}
+use Rattle.pana_hall.proofs.KeptFamilies.{copies_sets}
 use Rattle.pana_hall.proofs.Ready.{place_spots, at_spots, family_of}
-use Rattle.pana_hall.proofs.Undoing.{back_at}
 use Rattle.pana_hall.proofs.Records.{found_at, lives_within, entry_within}
+use Rattle.pana_hall.proofs.Moves.{found_number}
+use Rattle.pana_hall.proofs.Undone.{back_at}
 
--- what is found by a test is found by its number, too
-found_itself : (p : Copy → Bool) (low : ℕ) (copies : List Copy) (x : Copy) → AreRising (λ c. c.number) low copies → find p copies ≡ Some x → (low < x.number) × (p x ≡ true) × (copy_in copies x.number ≡ Some x)
-found_itself p low [] x rises found = absurd (cc)
-found_itself p low (c ∷ copies) x rises found =
-    let first = rises.0 in
-    elim (p c) as (λ b. p c ≡ b → cond b (Some c) (find p copies) ≡ Some x → (low < x.number) × (p x ≡ true) × (copy_in (c ∷ copies) x.number ≡ Some x)) [
-      | true ↦ λ e f.
-          let same : c ≡ x = cc in
-          subst (λ y. (low < y.number) × (p y ≡ true) × (copy_in (c ∷ copies) y.number ≡ Some y)) same
-          (first, e, ap (λ b. cond b (Some c) (copy_in copies c.number)) (eq-eqb c.number c.number refl))
-      | false ↦ λ e f.
-          let rest = found_itself p c.number copies x rises.1 f in
-          let above = rest.0 in
-          (omega arith, rest.1, ap (λ b. cond b (Some c) (copy_in copies x.number)) (ne_eqb c.number x.number (λ h. omega arith)) ∙ rest.2)
+-- what is found by a test passes it
+found_by : (p : Copy → Bool) (P : Copy → Type 0) (copies : List Copy) (x : Copy) → AllByRecursion P copies → find p copies ≡ Some x → (p x ≡ true) × P x
+found_by p P [] x each found = absurd (cc)
+found_by p P (c ∷ copies) x each found =
+    elim (p c) as (λ b. p c ≡ b → cond b (Some c) (find p copies) ≡ Some x → (p x ≡ true) × P x) [
+      | true ↦ λ e f. let same : c ≡ x = cc in subst (λ y. (p y ≡ true) × P y) same (e, each.0)
+      | false ↦ λ e f. found_by p P copies x each.1 f
     ] refl found
 
 -- a place that tests the same is the same
@@ -85,11 +76,10 @@ same_is a b e =
 pub taken_is : (journal : List Entry) (copies : Table) (place : Place) (found : Option ℕ) → IsAccepted 8 journal → AreSpots journal copies → IsThere copies place found
     → option_map PlaceTaken found ≡ taken place (living journal)
 taken_is journal copies place found accepted spots there =
-    let up = (rising 8 journal accepted).0 in
     elim (find (λ copy. same_place copy.place place) (living journal)) as (λ o. find (λ copy. same_place copy.place place) (living journal) ≡ o → option_map PlaceTaken found ≡ option_map (λ copy. PlaceTaken copy.number) o) [
       | Some x ↦ λ e.
-          let here = found_itself (λ copy. same_place copy.place place) 0 (living journal) x up e in
-          let at : place_of copies x.number ≡ Some place = place_spots journal copies spots x.number ∙ ap (option_map (λ copy. copy.place)) here.2 ∙ ap (λ p. Some p) (same_is x.place place here.1) in
+          let here = found_by (λ copy. same_place copy.place place) (λ c. copy_in (living journal) c.number ≡ Some c) (living journal) x (living_found 8 journal accepted) e in
+          let at : place_of copies x.number ≡ Some place = place_spots journal copies spots x.number ∙ ap (option_map (λ copy. copy.place)) here.1 ∙ ap (λ p. Some p) (same_is x.place place here.0) in
           ap (option_map PlaceTaken) ((there x.number).1 at)
       | None ↦ λ e. elim found as (λ o. found ≡ o → option_map PlaceTaken o ≡ None) [
         | None ↦ λ f. refl
@@ -104,13 +94,12 @@ taken_is journal copies place found accepted spots there =
 pub taken_from_is : (journal : List Entry) (copies : Table) (back : Copy) (found : Option ℕ) → IsAccepted 8 journal → AreSpots journal copies → IsThere copies back.place found
     → other_there back.number found ≡ taken_from back (living journal)
 taken_from_is journal copies back found accepted spots there =
-    let up = (rising 8 journal accepted).0 in
     let test : Copy → Bool = λ other. not (other.number == back.number) && same_place other.place back.place in
     elim (find test (living journal)) as (λ o. find test (living journal) ≡ o → other_there back.number found ≡ option_map (λ other. PlaceTaken other.number) o) [
       | Some x ↦ λ e.
-          let here = found_itself test 0 (living journal) x up e in
-          let both = parts (x.number == back.number) (same_place x.place back.place) here.1 in
-          let at : place_of copies x.number ≡ Some back.place = place_spots journal copies spots x.number ∙ ap (option_map (λ copy. copy.place)) here.2 ∙ ap (λ p. Some p) (same_is x.place back.place both.1) in
+          let here = found_by test (λ c. copy_in (living journal) c.number ≡ Some c) (living journal) x (living_found 8 journal accepted) e in
+          let both = parts (x.number == back.number) (same_place x.place back.place) here.0 in
+          let at : place_of copies x.number ≡ Some back.place = place_spots journal copies spots x.number ∙ ap (option_map (λ copy. copy.place)) here.1 ∙ ap (λ p. Some p) (same_is x.place back.place both.1) in
           ap (other_there back.number) ((there x.number).1 at) ∙ ap (λ b. cond b None (Some (PlaceTaken x.number))) both.0
       | None ↦ λ e. elim found as (λ o. found ≡ o → other_there back.number o ≡ None) [
         | None ↦ λ f. refl
@@ -133,21 +122,11 @@ taken_from_is journal copies back found accepted spots there =
     must false b e f = absurd (cc)
 
 -- an entry is pending, or is the last
-has-append : (xs ys : List ℕ) (n : ℕ) → has (xs ++ ys) n ≡ (has xs n || has ys n)
-has-append [] ys n = refl
-has-append (x ∷ xs) ys n = elim (x == n) as (λ b. (b || has (xs ++ ys) n) ≡ ((b || has xs n) || has ys n)) [ true ↦ refl | false ↦ has-append xs ys n ]
-
-or_swap : (a b : Bool) → (a || (b || false)) ≡ (b || a)
-or_swap true true = refl
-or_swap true false = refl
-or_swap false true = refl
-or_swap false false = refl
-
 has-reverse : (xs : List ℕ) (n : ℕ) → has (reverse xs) n ≡ has xs n
 has-reverse [] n = refl
-has-reverse (x ∷ xs) n = ap (λ l. has l n) (reverse-append (x ∷ []) xs) ∙ has-append (reverse xs) (x ∷ []) n ∙ or_swap (has (reverse xs) n) (x == n) ∙ ap (λ b. (x == n) || b) (has-reverse xs n)
+has-reverse (x ∷ xs) n = ap (λ l. has l n) (reverse-append (x ∷ []) xs) ∙ any_push (λ k. k == n) (reverse xs) x ∙ or_comm (has (reverse xs) n) (x == n) ∙ ap (λ b. (x == n) || b) (has-reverse xs n)
 
-pub pends_is : (journal : List Entry) (family n : ℕ) (b : Bool) → (IsTrue b ↔ Pends n (sets_of family journal).before) → b ≡ has (pending 8 family journal) n
+pends_is : (journal : List Entry) (family n : ℕ) (b : Bool) → (IsTrue b ↔ Pends n (sets_of family journal).before) → b ≡ has (pending 8 family journal) n
 pends_is journal family n b both_ways =
     elim (cases_Bool b) [
       | inl holds ↦ holds ∙ sym (sym (has-reverse (pending 8 family journal) n) ∙ in_pends family journal 1 n (reverse (pending 8 family journal)) (both_ways.0 holds))
@@ -157,11 +136,6 @@ pends_is journal family n b both_ways =
       ])
     ]
 
-is_last-push : (numbers : List ℕ) (x n : ℕ) → is_last n (numbers ++ x ∷ []) ≡ (x == n)
-is_last-push [] x n = refl
-is_last-push (a ∷ []) x n = refl
-is_last-push (a ∷ b ∷ numbers) x n = is_last-push (b ∷ numbers) x n
-
 -- the last of a list that is written the other way round is its first
 reversed : (numbers : List ℕ) → (numbers ≡ []) ⊎ ((prefix : List ℕ) × (x : ℕ) × (numbers ≡ prefix ++ x ∷ []))
 reversed [] = inl refl
@@ -170,7 +144,7 @@ reversed (a ∷ numbers) = elim (reversed numbers) [
   | inr some ↦ inr (a ∷ some.0, some.1, ap (λ l. a ∷ l) some.2)
 ]
 
-pub lasts_is : (journal : List Entry) (family n : ℕ) (b : Bool) → (IsTrue b ↔ PendsLast n (sets_of family journal).before) → b ≡ is_last n (pending 8 family journal)
+lasts_is : (journal : List Entry) (family n : ℕ) (b : Bool) → (IsTrue b ↔ PendsLast n (sets_of family journal).before) → b ≡ is_last n (pending 8 family journal)
 lasts_is journal family n b both_ways =
     elim (reversed (pending 8 family journal)) [
       | inl none ↦
@@ -214,6 +188,17 @@ has_family journal list positions copies n all it found =
       ]
     ]
 
+-- whether an entry is pending, or the last that is, as its family has it
+pub kept_pends : (journal : List Entry) (list : List KeptFamily) (positions : List ℕ) (copies : Table) (n : ℕ) → IsKept journal list positions copies → (it : KeptFamily) → family_at list positions n ≡ Some it
+    → (b : Bool) → ((sets : Sets) → Means it.family sets → IsTrue b ↔ Pends n sets.before) → b ≡ has (pending_with 8 n journal) n
+kept_pends journal list positions copies n all it at b says =
+    let its = has_family journal list positions copies n all it at in pends_is journal it.number n b (says _ its.0.means) ∙ ap (λ f. has (pending 8 f journal) n) its.1
+
+pub kept_lasts : (journal : List Entry) (list : List KeptFamily) (positions : List ℕ) (copies : Table) (n : ℕ) → IsKept journal list positions copies → (it : KeptFamily) → family_at list positions n ≡ Some it
+    → (b : Bool) → ((sets : Sets) → Means it.family sets → IsTrue b ↔ PendsLast n sets.before) → b ≡ is_last n (pending_with 8 n journal)
+kept_lasts journal list positions copies n all it at b says =
+    let its = has_family journal list positions copies n all it at in lasts_is journal it.number n b (says _ its.0.means) ∙ ap (λ f. is_last n (pending 8 f journal)) its.1
+
 -- nothing is pending under a number without a family
 pub none_pending : (journal : List Entry) (list : List KeptFamily) (positions : List ℕ) (copies : Table) (n : ℕ) → IsKept journal list positions copies → family_at list positions n ≡ None
     → has (pending_with 8 n journal) n ≡ false
@@ -240,13 +225,9 @@ none_last numbers n out =
       | inr never ↦ never
       | inl ends ↦
           let cut = is_last_push n numbers ends in
-          let in_it : has numbers n ≡ true = ap (λ l. has l n) cut.1 ∙ has-append cut.0 (n ∷ []) n ∙ ap (λ b. has cut.0 n || (b || false)) (eq-eqb n n refl) ∙ or_true (has cut.0 n) in
+          let in_it : has numbers n ≡ true = ap (λ l. has l n) cut.1 ∙ any_push (λ k. k == n) cut.0 n ∙ ap (λ b. has cut.0 n || b) (eq-eqb n n refl) ∙ or-true (has cut.0 n) in
           absurd (cc)
     ]
-  where
-    or_true : (b : Bool) → (b || true) ≡ true
-    or_true true = refl
-    or_true false = refl
 
 -- the family of a living copy has all the copies that it takes
 pub full_is : (journal : List Entry) (list : List KeptFamily) (positions : List ℕ) (copies : Table) (n : ℕ) (copy : Copy) (it : KeptFamily) (count : ℕ) → IsKept journal list positions copies
@@ -276,13 +257,14 @@ pub back_place : (journal : List Entry) (list : List KeptFamily) (positions : Li
 back_place journal list positions copies m c undone all at_end at moves =
     let sound = accepted_is_sound 8 journal all.accepted in
     let family = families journal m in
-    let back = back_at journal m c undone all.accepted at_end at moves in
+    let ends = ends_at 8 m journal sound at_end in
+    let same : undone ≡ ends.last = let here = ends.at in cc in
+    let back = back_at journal m c all.accepted ends (ap (λ (e : Entry). displaced e.report) (sym same) ∙ moves) in
     let within = entry_within journal m undone at in
     let there = found_at journal list positions m all.listed all.placed within.0 within.1 in
     let found : family_at list positions m ≡ Some there.2.it = ap (option_and_then (slice_get list)) there.1 ∙ there.2.found in
     let kept_it = has_family journal list positions copies m all there.2.it found in
-    let ends = ends_at 8 m journal sound at_end in
-    let turned : reverse (pending 8 family journal) ≡ m ∷ reverse ends.before = ap reverse ends.pending ∙ reverse-append ends.before (m ∷ []) in (
+    let turned : reverse (pending 8 family journal) ≡ m ∷ reverse ends.numbers = ap reverse ends.pending ∙ reverse-append ends.numbers (m ∷ []) in (
       back.copy,
       ap (option_and_then (λ it. option_and_then (λ (o : Old). o.place) (slice_get it.old_places.items 0))) found
           ∙ first_front there.2.it.old_places.items (old_places there.2.it.number journal) kept_it.0.places
@@ -302,19 +284,3 @@ found_spot journal copies n spot spots at =
       | None ↦ λ e. absurd (cc)
       | Some copy ↦ λ e. (copy, refl, cc)
     ] (sym (spots n) ∙ at)
-
--- the source of a Duplicate lives in its family
-pub source_lives : (journal : List Entry) (by : List ℕ) (source : ℕ) (place : Place) (it : KeptFamily) → IsAccepted 8 journal → report_refusal 8 journal (living journal) by (Duplicate source place) ≡ None
-    → IsFamilyKept journal it → it.number ≡ families journal source → is_living it.family source ≡ true
-source_lives journal by source place it accepted free kept_it of =
-    let there = known source (living journal) (first_none (unknown source (living journal)) _ (first_none (full journal) _ free).1).0 in
-    is_living_kept journal it source there.0 accepted kept_it of there.1
-
--- a family whose ids are as deep as they may be counts as many Duplicates
-pub deep_enough : (journal : List Entry) (source : ℕ) (it : KeptFamily) → IsFamilyKept journal it → it.number ≡ families journal source → 256 ≤ depth_at 0 it.family
-    → 256 ≤ duplicates_in (families journal source) journal
-deep_enough journal source it kept_it of whole =
-    let most = kept_it.depths 0 (omega arith) in
-    let counted : duplicates 0 it.number journal ≡ duplicates_in (families journal source) journal =
-    ap (count_by (λ e. is_duplicate e.report)) (layer_now 8 it.number journal) ∙ ap (λ f. duplicates_in f journal) of in
-    omega arith

@@ -37,7 +37,7 @@ count_both : {X : Type 0} (p q r : X → Bool) (xs : List X) → ((x : X) → r 
 count_both p q r xs both =
     sym (length-filter r xs) ∙ ap length (filter_agree r (λ x. q x && p x) both xs ∙ sym (filter_filter p q xs)) ∙ length-filter p (filter q xs)
 
-any_both : {X : Type 0} (p q r : X → Bool) (xs : List X) → ((x : X) → r x ≡ (q x && p x)) → list_any r xs ≡ list_any p (filter q xs)
+pub any_both : {X : Type 0} (p q r : X → Bool) (xs : List X) → ((x : X) → r x ≡ (q x && p x)) → list_any r xs ≡ list_any p (filter q xs)
 any_both p q r [] both = refl
 any_both p q r (x ∷ xs) both =
     ap₂ (λ a b. a || b) (both x) (any_both p q r xs both)

@@ -1,8 +1,7 @@
 -- A family's board from its table of sets: the one of its copies.
-use Rattle.std.specs.Prelude.{◌≡◌, ℕ, Bool, true, cond, List, [], ◌∷◌, length, map, filter, count_by, Option, Some, IsSome, is_some, option_map, unwrap_or}
+use Rattle.std.specs.Prelude.{◌≡◌, ℕ, Bool, true, List, [], ◌∷◌, length, map, filter, count_by, Option, Some, IsSome, is_some, option_map, unwrap_or}
 use Rattle.std.specs.List.{AllByRecursion}
-use Rattle.std.proofs.Common.{refl, sym, ap, ◌∙◌, subst, arith}
-use Rattle.std.proofs.lemmas.Bool.{eq-eqb, ne_eqb}
+use Rattle.std.proofs.Common.{refl, sym, ap, ◌∙◌, subst}
 use Rattle.std.proofs.lemmas.List.{length-map}
 use Rattle.std.proofs.lemmas.List.Sums.{length-filter}
 use Rattle.pana_copies.specs.declared.place.Place.{Place}
@@ -21,23 +20,17 @@ use Rattle.pana_hall.specs.Living.{Copy, copy_in, living}
 use Rattle.pana_hall.specs.Board.{copy_relation, is_of, number_of, row_of, newest, has_conflict, board_of}
 use Rattle.pana_hall.specs.Queries.{family_row}
 use Rattle.pana_hall.specs.Accepted.{IsAccepted}
-use Rattle.pana_hall.specs.Laws.{AreRising}
 use Rattle.pana_hall.specs.Sets.{sets_of}
 use Rattle.pana_hall.specs.inner.Spots.{spot_of}
 use Rattle.pana_hall.specs.inner.Kept.{AreSpots}
 use Rattle.pana_hall.specs.inner.Rows.{placed_row, row_of_sets}
-use Rattle.pana_hall.proofs.Lists.{each_filter}
-use Rattle.pana_hall.proofs.Rising.{rises_lower}
+use Rattle.pana_hall.proofs.Lists.{each_filter, map_map}
 use Rattle.pana_hall.proofs.Tables.{table_living}
-use Rattle.pana_hall.proofs.Steps.{rising}
 use Rattle.pana_hall.proofs.Seen.{each_passes, map_same, row_own, newest_own, split_own}
 use Rattle.pana_hall.specs.Stamps.{as_known}
 use Rattle.pana_hall.proofs.KeptFamilies.{copies_sets}
 use Rattle.pana_hall.proofs.Ready.{place_spots}
-
-map_map : {X Y Z : Type 0} (f : X → Y) (g : Y → Z) (xs : List X) → map g (map f xs) ≡ map (λ x. g (f x)) xs
-map_map f g [] = refl
-map_map f g (x ∷ xs) = ap (λ l. g (f x) ∷ l) (map_map f g xs)
+use Rattle.pana_hall.proofs.Places.{living_found}
 
 -- the copies of a family are as its table of sets has them
 alike : (family : ℕ) → AreAlike (λ c. is_of family c ≡ true) number_of copy_relation board.number_of board.known_relation as_known
@@ -45,21 +38,6 @@ alike family = record { numbers = λ c here. refl; rels = λ c d here there. ref
 
 known_own : (journal : List Entry) (family : ℕ) → IsAccepted 8 journal → table.copies_of (sets_of family journal).table ≡ map as_known (filter (is_of family) (living journal))
 known_own journal family accepted = copies_sets journal family accepted ∙ ap (map as_known) (sym (table_living 8 family journal))
-
--- each member of a list that rises is found in it
-each_found : (low : ℕ) (copies : List Copy) → AreRising (λ c. c.number) low copies → AllByRecursion (λ c. copy_in copies c.number ≡ Some c) copies
-each_found low [] rises = tt
-each_found low (c ∷ copies) rises =
-    (ap (λ b. cond b (Some c) (copy_in copies c.number)) (eq-eqb c.number c.number refl), each_later c.number c copies copies rises.1 (each_found c.number copies rises.1))
-  where
-    each_later : (bound : ℕ) (first : Copy) (cs all : List Copy) → AreRising (λ x. x.number) first.number cs → AllByRecursion (λ x. copy_in all x.number ≡ Some x) cs
-        → AllByRecursion (λ x. copy_in (first ∷ all) x.number ≡ Some x) cs
-    each_later bound first [] all up found = tt
-    each_later bound first (x ∷ cs) all up found =
-        let above = up.0 in (
-          ap (λ b. cond b (Some first) (copy_in all x.number)) (ne_eqb first.number x.number (λ h. omega arith)) ∙ found.0,
-          each_later bound first cs all (rises_lower (λ y. y.number) x.number first.number cs (omega arith) up.1) found.1,
-        )
 
 each_both : {X : Type 0} (P Q : X → Type 0) (xs : List X) → AllByRecursion P xs → AllByRecursion Q xs → AllByRecursion (λ x. P x × Q x) xs
 each_both P Q [] ps qs = tt
@@ -81,7 +59,7 @@ rows_placed journal family copies accepted spots =
     let place : place_of copies c.number ≡ Some c.place = place_spots journal copies spots c.number ∙ ap (option_map (λ x. x.place)) both.1 in
     ap (λ k. placed_with (board.row_of c.number k) (place_of copies c.number)) (counts_alike (alike family) own c all both.0)
     ∙ ap (placed_with (board.row_of c.number (counts_of number_of copy_relation own c))) place ∙ sym (row_own family (living journal) c both.0))
-    (each_both _ _ own all (each_filter _ (is_of family) (living journal) (each_found 0 (living journal) (rising 8 journal accepted).0)))
+    (each_both _ _ own all (each_filter _ (is_of family) (living journal) (living_found 8 journal accepted)))
   where
     placed_with : CopyCounts → Option Place → BoardRow
     placed_with row at = record { copy = row.copy; place = unwrap_or at (record { device = []; path = [] }); newer = row.newer; older = row.older; equal = row.equal; conflict = row.conflict }
@@ -93,7 +71,7 @@ unfolding board.board_rows
 rows_kept journal family copies accepted spots =
     let own = filter (is_of family) (living journal) in
     subst (λ l. AllByRecursion (λ row. IsSome (kept copies row.copy)) (map (λ t. board.row_of t.copy (counts_of board.number_of board.known_relation l t)) l)) (sym (known_own journal family accepted))
-    (each_kept (map as_known own) own (each_filter _ (is_of family) (living journal) (each_found 0 (living journal) (rising 8 journal accepted).0)))
+    (each_kept (map as_known own) own (each_filter _ (is_of family) (living journal) (living_found 8 journal accepted)))
   where
     each_kept : (all : List Known) (cs : List Copy) → AllByRecursion (λ c. copy_in (living journal) c.number ≡ Some c) cs
         → AllByRecursion (λ row. IsSome (kept copies row.copy)) (map (λ t. board.row_of t.copy (counts_of board.number_of board.known_relation all t)) (map as_known cs))

@@ -12,6 +12,7 @@ use Rattle.pana_hall.specs.contracts.listed_family.Form as form
 use Rattle.pana_hall.specs.contracts.listed_family.ListedFamily as listed_family
 use Rattle.pana_hall.specs.contracts.listed_family.ListedFamily.TheInside as listed_inside
 use Rattle.pana_hall.specs.contracts.families.Families as families
+use Rattle.pana_hall.specs.contracts.state.State as state
 use Rattle.pana_hall.specs.contracts.hall.Hall as hall
 use Rattle.pana_hall.specs.contracts.hall.Hall.TheInside as hall_inside
 use Rattle.pana_hall.proofs.old_place.OldPlace.TheSendSync as old_places
@@ -36,5 +37,8 @@ listed_family_send = view_send _ _ _ _ _ (declared_send listed_inside.the_type (
 families_send : IsSend families.the_row
 families_send = declared_send families.the_type (vecs.the_send _ _ _ listed_family_send global.the_send frees.the_frees, (vecs.the_send _ _ _ (search sendable) global.the_send frees.the_frees, tt))
 
+state_send : IsSend state.the_row
+state_send = declared_send state.the_type (journals.the_send, (families_send, (copy_tables.the_send, tt)))
+
 pub hall_send : IsSend hall.the_row
-hall_send = view_send _ _ _ _ _ (declared_send hall_inside.the_type (global.the_send, (journals.the_send, (families_send, (copy_tables.the_send, tt)))))
+hall_send = view_send _ _ _ _ _ (declared_send hall_inside.the_type (global.the_send, (state_send, tt)))

@@ -1,23 +1,23 @@
 -- What holds of each journal that refuses none of its entries.
-use Rattle.std.specs.Prelude.{◌≡◌, ℕ, ◌+◌, ◌<◌, ◌≤◌, true, false, cond, not, ◌==◌, List, [], ◌∷◌, ◌++◌, length, map, filter, Option, Some, None, slice_get, ◌-◌, ◌⊎◌}
+use Rattle.std.specs.Prelude.{◌≡◌, ℕ, ◌+◌, ◌<◌, ◌≤◌, true, false, cond, not, ◌==◌, List, [], ◌∷◌, ◌++◌, length, map, filter, Some, None, is_none, slice_get, ◌-◌, ◌⊎◌}
 use Rattle.std.specs.List.{AllByRecursion}
 use Rattle.std.proofs.Common.{refl, sym, ap, ◌∙◌, subst, inl, inr, arith, append-nil, append_assoc}
 use Rattle.std.proofs.lemmas.Bool.{eqb-false}
 use Rattle.std.proofs.lemmas.List.{length-append, map-append}
 use Rattle.std.proofs.lemmas.List.Elements.{filter-append}
 use Rattle.pana_journal.specs.declared.report.Report.{Report}
-use Rattle.pana_journal.specs.declared.report.Report.TheVariants.{Register, Duplicate, Edit, Reconcile, Merge, Relocate, Remove, Confirm, Withdraw}
+use Rattle.pana_journal.specs.declared.report.Report.TheVariants.{Duplicate, Edit, Reconcile, Merge, Relocate, Remove, Confirm, Withdraw}
 use Rattle.pana_journal.specs.declared.entry.Entry.{Entry}
 use Rattle.pana_journal.specs.Entries.{entry_at}
-use Rattle.pana_hall.specs.declared.cause.Cause.{Cause}
 use Rattle.pana_hall.specs.Family.{families, begun_or_joined, subject}
 use Rattle.pana_hall.specs.Effective.{effective, is_of_copies}
 use Rattle.pana_hall.specs.Living.{Copy, copy_in, living}
 use Rattle.pana_hall.specs.Pending.{pending, pend, last, behind}
-use Rattle.pana_hall.specs.Refusal.{report_refusal, full, unknown, same, other_family, unknown_entry, first}
+use Rattle.pana_hall.specs.Refusal.{report_refusal, full, unknown, same, other_family, against_two, unknown_entry, first}
 use Rattle.pana_hall.specs.Accepted.{Accepts, AcceptsAll, IsAccepted}
 use Rattle.pana_hall.specs.Laws.{AreRising}
 use Rattle.pana_hall.proofs.Lists.{each_append, each_weaker, last_is_end, behind_is_end, map_filter}
+use Rattle.pana_hall.proofs.Moves.{Names, subject_none, subject_named}
 use Rattle.pana_hall.proofs.Locality.{Joins, Belongs, IsWell, Fits, found_fits, copies_fit}
 use Rattle.pana_hall.proofs.Grown.{KeepsFamilies, own, each_effective, family_new, family_old, own_copies, own_confirm, own_withdraw, own_other, pending-push, pending_is}
 use Rattle.pana_hall.proofs.Allowed.{first_none, known, one_family, known_entry}
@@ -37,79 +37,67 @@ pub record IsSound (most : ℕ) (journal : List Entry) : Type 0 where
 pub living_fit : (most : ℕ) (journal : List Entry) → IsSound most journal → AllByRecursion (Fits (families journal) (length journal)) (living journal)
 living_fit most journal sound = copies_fit (families journal) (length journal) (effective journal) (each_effective _ journal sound.well)
 
--- a living copy that the next entry names first
-joins : (of of' : ℕ → ℕ) (last n c : ℕ) (copies : List Copy) (copy : Copy) → AllByRecursion (Fits of last) copies → n ≡ last + 1
-    → ((k : ℕ) → k < n → of' k ≡ of k) → of c ≡ of' n → copy_in copies c ≡ Some copy → Joins of' n c
-joins of of' last n c copies copy fits next old new found =
-    let here = found_fits of last c copies copy fits found in
-    let number = here.0 in
-    let within = here.1.within in
-    let earlier : c < n = omega arith in
-    record { earlier = earlier; family = old c earlier ∙ new }
+-- the copy lives, and is of the family
+pub record LivesIn (journal : List Entry) (family c : ℕ) : Type 0 where
+  pub copy : Copy
+  pub found : copy_in (living journal) c ≡ Some copy
+  pub of : families journal c ≡ family
 
--- the two copies that the next entry names
-both_join : (journal : List Entry) (of' : ℕ → ℕ) (n a b : ℕ) → AllByRecursion (Fits (families journal) (length journal)) (living journal)
-    → n ≡ length journal + 1 → ((k : ℕ) → k < n → of' k ≡ families journal k) → of' n ≡ families journal a
-    → first (unknown a (living journal) ∷ unknown b (living journal) ∷ same a b ∷ other_family a b (living journal) ∷ []) ≡ None → Joins of' n a × Joins of' n b
-both_join journal of' n a b fits next old new free =
-    let of = families journal in
+abbrev AllFit : List Entry → Type 0
+AllFit journal = AllByRecursion (Fits (families journal) (length journal)) (living journal)
+
+pub found_family : (journal : List Entry) (c : ℕ) (copy : Copy) → AllFit journal → copy_in (living journal) c ≡ Some copy → copy.family ≡ families journal c
+found_family journal c copy fits found = let here = found_fits (families journal) (length journal) c (living journal) copy fits found in here.1.family ∙ ap (families journal) here.0
+
+one : (journal : List Entry) (c d : ℕ) → unknown c (living journal) ≡ None → c ≡ d → LivesIn journal (families journal c) d
+one journal c d open_ e = let copy = known c (living journal) open_ in subst (LivesIn journal (families journal c)) e (record { copy = copy.0; found = copy.1; of = refl })
+
+two : (journal : List Entry) (a b c : ℕ) → AllFit journal → first (against_two a b (living journal)) ≡ None → (a ≡ c) ⊎ (b ≡ c) → LivesIn journal (families journal a) c
+two journal a b c fits free names =
     let known_a = first_none (unknown a (living journal)) _ free in
     let known_b = first_none (unknown b (living journal)) _ known_a.1 in
     let alike = first_none (other_family a b (living journal)) [] (first_none (same a b) _ known_b.1).1 in
     let x = known a (living journal) known_a.0 in
     let y = known b (living journal) known_b.0 in
-    let one = one_family a b (living journal) x.0 y.0 alike.0 x.1 y.1 in
-    let here = found_fits of (length journal) a (living journal) x.0 fits x.1 in
-    let there = found_fits of (length journal) b (living journal) y.0 fits y.1 in
-    let of_both : of b ≡ of a = ap of (sym there.0) ∙ sym there.1.family ∙ one ∙ here.1.family ∙ ap of here.0 in (
-      joins of of' (length journal) n a (living journal) x.0 fits next old (sym new) x.1,
-      joins of of' (length journal) n b (living journal) y.0 fits next old (of_both ∙ sym new) y.1,
-    )
+    elim names [
+      | inl e ↦ one journal a c known_a.0 e
+      | inr e ↦ subst (λ f. LivesIn journal f c) (sym (found_family journal b y.0 fits y.1) ∙ one_family a b (living journal) x.0 y.0 alike.0 x.1 y.1 ∙ found_family journal a x.0 fits x.1) (one journal b c known_b.0 e)
+    ]
+
+-- the copies that a report is about live, in its family
+pub named_report : (most n : ℕ) (journal : List Entry) (by : List ℕ) (report : Report) (c : ℕ) → AllFit journal → report_refusal most journal (living journal) by report ≡ None → Names report c
+    → LivesIn journal (begun_or_joined (families journal) n (subject report)) c
+named_report most n journal by (Duplicate source place) c fits free names = one journal source c (first_none (unknown source (living journal)) _ (first_none (full journal) _ free).1).0 names
+named_report most n journal by (Edit x) c fits free names = one journal x c (first_none (unknown x (living journal)) _ (first_none (full journal) _ free).1).0 names
+named_report most n journal by (Reconcile a b) c fits free names = two journal a b c fits (first_none (full journal) _ free).1 names
+named_report most n journal by (Merge a b) c fits free names = two journal a b c fits (first_none (full journal) _ free).1 names
+named_report most n journal by (Relocate x place) c fits free names = one journal x c (first_none (unknown x (living journal)) _ (first_none (full journal) _ free).1).0 names
+named_report most n journal by (Remove x None) c fits free names = one journal x c (first_none (unknown x (living journal)) _ (first_none (full journal) _ free).1).0 names
+named_report most n journal by (Remove x (Some heir)) c fits free names = two journal x heir c fits (first_none (full journal) _ free).1 names
+named_report most n journal by report c fits free names = absurd names
 
 -- the report of the next entry is about copies of its family
-pub belongs_new : (most : ℕ) (journal : List Entry) (of' : ℕ → ℕ) (n : ℕ) (by : List ℕ) (report : Report) → AllByRecursion (Fits (families journal) (length journal)) (living journal)
+belongs_new : (most : ℕ) (journal : List Entry) (of' : ℕ → ℕ) (n : ℕ) (by : List ℕ) (report : Report) → AllFit journal
     → n ≡ length journal + 1 → ((k : ℕ) → k < n → of' k ≡ families journal k) → of' n ≡ begun_or_joined (families journal) n (subject report)
     → report_refusal most journal (living journal) by report ≡ None → Belongs of' n report
-belongs_new most journal of' n by (Register place) fits next old new free = new
-belongs_new most journal of' n by (Duplicate c place) fits next old new free =
-    let known_c = first_none (unknown c (living journal)) _ (first_none (full journal) _ free).1 in
-    let copy = known c (living journal) known_c.0 in
-    joins (families journal) of' (length journal) n c (living journal) copy.0 fits next old (sym new) copy.1
-belongs_new most journal of' n by (Edit c) fits next old new free =
-    let known_c = first_none (unknown c (living journal)) _ (first_none (full journal) _ free).1 in
-    let copy = known c (living journal) known_c.0 in
-    joins (families journal) of' (length journal) n c (living journal) copy.0 fits next old (sym new) copy.1
-belongs_new most journal of' n by (Reconcile a b) fits next old new free = both_join journal of' n a b fits next old new (first_none (full journal) _ free).1
-belongs_new most journal of' n by (Merge a b) fits next old new free = both_join journal of' n a b fits next old new (first_none (full journal) _ free).1
-belongs_new most journal of' n by (Relocate c place) fits next old new free =
-    let known_c = first_none (unknown c (living journal)) _ (first_none (full journal) _ free).1 in
-    let copy = known c (living journal) known_c.0 in
-    joins (families journal) of' (length journal) n c (living journal) copy.0 fits next old (sym new) copy.1
-belongs_new most journal of' n by (Remove c None) fits next old new free =
-    let known_c = first_none (unknown c (living journal)) _ (first_none (full journal) _ free).1 in
-    let copy = known c (living journal) known_c.0 in
-    joins (families journal) of' (length journal) n c (living journal) copy.0 fits next old (sym new) copy.1
-belongs_new most journal of' n by (Remove c (Some heir)) fits next old new free =
-    let known_c = first_none (unknown c (living journal)) _ (first_none (full journal) _ free).1 in
-    let copy = known c (living journal) known_c.0 in
-    joins (families journal) of' (length journal) n c (living journal) copy.0 fits next old (sym new) copy.1
-belongs_new most journal of' n by (Confirm entry) fits next old new free = tt
-belongs_new most journal of' n by (Withdraw entry) fits next old new free = tt
+belongs_new most journal of' n by report fits next old new free = record {
+  own = λ is. new ∙ elim (subject report) as (λ s. is_none s ≡ true → begun_or_joined (families journal) n s ≡ n) [ None ↦ λ e. refl | Some c ↦ λ e. absurd (cc) ] (sym (subject_none report) ∙ is);
+  joins = λ c names.
+      let there = named_report most n journal by report c fits free names in
+      let here = found_fits (families journal) (length journal) c (living journal) there.copy fits there.found in
+      let number = here.0 in
+      let within = here.1.within in
+      let earlier : c < n = omega arith in
+      record { earlier = earlier; family = old c earlier ∙ there.of ∙ sym new };
+}
 
 joins_kept : (of of' : ℕ → ℕ) (m n c : ℕ) → Joins of n c → n < m → ((k : ℕ) → k < m → of' k ≡ of k) → Joins of' n c
 joins_kept of of' m n c joined before old = let earlier = joined.earlier in record { earlier = joined.earlier; family = old c (omega arith) ∙ joined.family ∙ sym (old n before) }
 
 -- and stays so
 belongs_kept : (of of' : ℕ → ℕ) (m n : ℕ) (report : Report) → Belongs of n report → n < m → ((k : ℕ) → k < m → of' k ≡ of k) → Belongs of' n report
-belongs_kept of of' m n (Register place) belongs before old = old n before ∙ belongs
-belongs_kept of of' m n (Duplicate copy place) belongs before old = joins_kept of of' m n copy belongs before old
-belongs_kept of of' m n (Edit copy) belongs before old = joins_kept of of' m n copy belongs before old
-belongs_kept of of' m n (Reconcile a b) belongs before old = (joins_kept of of' m n a belongs.0 before old, joins_kept of of' m n b belongs.1 before old)
-belongs_kept of of' m n (Merge a b) belongs before old = (joins_kept of of' m n a belongs.0 before old, joins_kept of of' m n b belongs.1 before old)
-belongs_kept of of' m n (Relocate copy place) belongs before old = joins_kept of of' m n copy belongs before old
-belongs_kept of of' m n (Remove copy heir) belongs before old = joins_kept of of' m n copy belongs before old
-belongs_kept of of' m n (Confirm entry) belongs before old = tt
-belongs_kept of of' m n (Withdraw entry) belongs before old = tt
+belongs_kept of of' m n report belongs before old =
+    record { own = λ is. old n before ∙ belongs.own is; joins = λ c names. joins_kept of of' m n c (belongs.joins c names) before old }
 
 -- the entries before the next one stay in their families
 pub keeps_families : (most : ℕ) (journal : List Entry) (entry : Entry) → IsSound most journal → entry.number ≡ length journal + 1 → KeepsFamilies journal entry
@@ -200,43 +188,31 @@ ends_withdraw most family journal entry m sound keeps is =
     ] refl)
 
 -- the family of the next entry is its own number, or an earlier one
-bounded_copy : (of : ℕ → ℕ) (last c : ℕ) (copies : List Copy) → AllByRecursion (Fits of last) copies → unknown c copies ≡ None → of c ≤ last
-bounded_copy of last c copies fits open_ =
-    let copy = known c copies open_ in
-    let here = found_fits of last c copies copy.0 fits copy.1 in
-    let bounded = here.1.bounded in
-    let same : copy.0.family ≡ of c = here.1.family ∙ ap of here.0 in
-    omega arith
-
 bounded_new : (most : ℕ) (journal : List Entry) (n : ℕ) (by : List ℕ) (report : Report) → IsSound most journal → n ≡ length journal + 1
     → report_refusal most journal (living journal) by report ≡ None → begun_or_joined (families journal) n (subject report) ≤ n
 bounded_new most journal n by report sound next free =
     let fits = living_fit most journal sound in
     let of = families journal in
-    let one : (c : ℕ) (causes : List (Option Cause)) → first (full journal ∷ unknown c (living journal) ∷ causes) ≡ None → of c ≤ n =
-    λ c causes open_. let bounded = bounded_copy of (length journal) c (living journal) fits (first_none (unknown c (living journal)) causes (first_none (full journal) _ open_).1).0 in omega arith in
-    let of_entry : (m : ℕ) → (report ≡ Confirm m) ⊎ (report ≡ Withdraw m) → of m ≤ n =
-    λ m is.
-    let found = named_by most journal by report m is free in
-    let place = entry_at_place journal m found.0 found.1 in
-    let not_zero = place.0 in
-    let named : found.0.number ≡ m - 1 + 1 = sound.numbered (m - 1) found.0 place.1 in
-    let same : found.0.number ≡ m = omega arith in
-    let bounded = (slice_get-each (IsWell of (length journal)) journal (m - 1) found.0 sound.well place.1).bounded in
-    let of_same : of found.0.number ≡ of m = ap of same in
-    omega arith in
-    elim report as (λ r. report ≡ r → report_refusal most journal (living journal) by r ≡ None → begun_or_joined of n (subject r) ≤ n) [
-      | Register place ↦ λ is open_. omega arith
-      | Duplicate c place ↦ λ is open_. one c _ open_
-      | Edit c ↦ λ is open_. one c _ open_
-      | Reconcile a b ↦ λ is open_. one a _ open_
-      | Merge a b ↦ λ is open_. one a _ open_
-      | Relocate c place ↦ λ is open_. one c _ open_
-      | Remove c None ↦ λ is open_. one c _ open_
-      | Remove c (Some heir) ↦ λ is open_. one c _ open_
-      | Confirm m ↦ λ is open_. of_entry m (inl is)
-      | Withdraw m ↦ λ is open_. of_entry m (inr is)
-    ] refl free
+    elim (subject report) as (λ s. subject report ≡ s → begun_or_joined of n s ≤ n) [
+      | None ↦ λ e. omega arith
+      | Some c ↦ λ e. elim (subject_named report c e) [
+        | inl names ↦
+            let there = named_report most n journal by report c fits free names in
+            let here = found_fits of (length journal) c (living journal) there.copy fits there.found in
+            let bounded = here.1.bounded in
+            let same_family = found_family journal c there.copy fits there.found in
+            omega arith
+        | inr names ↦
+            let found = named_by most journal by report c names free in
+            let place = entry_at_place journal c found.0 found.1 in
+            let not_zero = place.0 in
+            let numbered : found.0.number ≡ c - 1 + 1 = sound.numbered (c - 1) found.0 place.1 in
+            let is_c : found.0.number ≡ c = omega arith in
+            let bounded = (slice_get-each (IsWell of (length journal)) journal (c - 1) found.0 sound.well place.1).bounded in
+            let of_same : of found.0.number ≡ of c = ap of is_c in
+            omega arith
+      ]
+    ] refl
 
 -- one entry more that isn't refused
 pub sound_grows : (most : ℕ) (journal : List Entry) (entry : Entry) → IsSound most journal → Accepts most journal entry → IsSound most (journal ++ entry ∷ [])
@@ -283,11 +259,16 @@ sound_grows most journal entry sound accepts =
 pub empty_is_sound : (most : ℕ) → IsSound most []
 empty_is_sound most = record { well = tt; found = tt; numbered = λ i e at. absurd (cc); rising = tt; ends = λ family. ([], refl) }
 
--- each accepted journal is sound
-pub accepted_grows : (most : ℕ) (journal entries : List Entry) → IsSound most journal → AcceptsAll most journal entries → IsSound most (journal ++ entries)
-accepted_grows most journal [] sound all = rw (append-nil journal) sound
-accepted_grows most journal (entry ∷ entries) sound all =
-    subst (IsSound most) (append_assoc journal (entry ∷ []) entries) (accepted_grows most (journal ++ entry ∷ []) entries (sound_grows most journal entry sound all.0) all.1)
+-- what one entry more keeps holds of each accepted journal
+accepted_from : (most : ℕ) (P : List Entry → Type 0) → ((journal : List Entry) (entry : Entry) → Accepts most journal entry → P journal → P (journal ++ entry ∷ [])) → (journal entries : List Entry)
+    → AcceptsAll most journal entries → P journal → P (journal ++ entries)
+accepted_from most P step journal [] all holds = subst P (sym (append-nil journal)) holds
+accepted_from most P step journal (entry ∷ entries) all holds = subst P (append_assoc journal (entry ∷ []) entries) (accepted_from most P step (journal ++ entry ∷ []) entries all.1 (step journal entry all.0 holds))
 
 pub accepted_is_sound : (most : ℕ) (journal : List Entry) → IsAccepted most journal → IsSound most journal
-accepted_is_sound most journal accepted = accepted_grows most [] journal (empty_is_sound most) accepted
+accepted_is_sound most journal accepted = accepted_from most (IsSound most) (λ j e accepts sound. sound_grows most j e sound accepts) [] journal accepted (empty_is_sound most)
+
+pub in_accepted : (most : ℕ) (P : List Entry → Type 0) → P [] → ((journal : List Entry) (entry : Entry) → IsSound most journal → Accepts most journal entry → P journal → P (journal ++ entry ∷ []))
+    → (journal : List Entry) → IsAccepted most journal → P journal
+in_accepted most P none step journal accepted =
+    (accepted_from most (λ j. IsSound most j × P j) (λ j e accepts both. (sound_grows most j e both.0 accepts, step j e both.0 accepts both.1)) [] journal accepted (empty_is_sound most, none)).1

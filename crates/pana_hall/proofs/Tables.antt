@@ -1,29 +1,30 @@
 -- The tables of the families, as entries come.
-use Rattle.std.specs.Prelude.{◌≡◌, ◌≢◌, ℕ, ◌+◌, ◌-◌, ◌<◌, ◌≤◌, Bool, true, false, cond, not, ◌&&◌, ◌||◌, ◌==◌, List, [], ◌∷◌, ◌++◌, length, map, filter, fold, drop, Some, None, option_map}
+use Rattle.std.specs.Prelude.{◌≡◌, ◌≢◌, ℕ, ◌+◌, ◌-◌, ◌<◌, ◌≤◌, Bool, true, false, cond, not, ◌&&◌, ◌||◌, ◌==◌, List, [], ◌∷◌, ◌++◌, length, map, filter, fold, drop, Some, None}
 use Rattle.std.specs.List.{AllByRecursion}
-use Rattle.std.specs.Option.{option_to_list}
 use Rattle.std.proofs.Common.{refl, sym, ap, ◌∙◌, subst, inr, arith, append-nil, append_assoc}
 use Rattle.std.proofs.lemmas.Bool.{eq-eqb, ne_eqb, not-false}
-use Rattle.std.proofs.lemmas.List.{length-drop, drop-drop, drop_all}
+use Rattle.std.proofs.lemmas.List.{length-drop, drop-drop, drop_all, same_from_push}
 use Rattle.std.proofs.lemmas.List.Elements.{filter_agree, filter-append}
 use Rattle.pana_journal.specs.declared.report.Report.{Report}
-use Rattle.pana_journal.specs.declared.report.Report.TheVariants.{Register, Duplicate, Edit, Reconcile, Merge, Relocate, Remove, Confirm, Withdraw}
+use Rattle.pana_journal.specs.declared.report.Report.TheVariants.{Confirm, Withdraw}
 use Rattle.pana_journal.specs.declared.entry.Entry.{Entry}
 use Rattle.pana_family.specs.Updates.{has}
 use Rattle.pana_hall.specs.Family.{families}
 use Rattle.pana_hall.specs.Effective.{effective, is_of_copies, is_withdrawn, left_out}
-use Rattle.pana_hall.specs.Living.{Copy, copy_in, living, copies_of, after_entry, after_report, change, registered, duplicated}
+use Rattle.pana_hall.specs.Living.{copy_in, living, copies_of, after_entry, Copy}
 use Rattle.pana_hall.specs.Pending.{pending, pend, last, behind, is_last}
 use Rattle.pana_hall.specs.Board.{is_of}
-use Rattle.pana_hall.specs.Refusal.{report_refusal, full, unknown_entry, not_yours, settled_or_followed, pending_with}
+use Rattle.pana_journal.specs.Entries.{entry_at}
+use Rattle.pana_hall.specs.Refusal.{report_refusal, full, unknown_entry, not_yours, settled_or_followed, pending_with, taken_since}
 use Rattle.pana_hall.specs.Accepted.{Accepts}
 use Rattle.pana_hall.specs.Tables.{table, layer}
 use Rattle.pana_hall.specs.Laws.{family_of_next, AddsLayer, DropsLayer, KeepsLayers, LeavesAlone, AreRising, AreMerged}
-use Rattle.pana_hall.proofs.Lists.{each_filter, each_weaker, filter_all, filter_swap, filter_filter, any_push, last_push, last_end, behind_is_end, is_last_push}
+use Rattle.pana_hall.proofs.Lists.{each_filter, each_weaker, filter_all, filter_swap, filter_filter, any_push, last_push, last_end, behind_is_end, is_last_push, each_last}
 use Rattle.pana_hall.proofs.Locality.{IsWell, Fits, copies_of-family, copies_of-push, copy_in-family, report_fits}
-use Rattle.pana_hall.proofs.Grown.{KeepsFamilies, own, each_effective, own_copies, own_confirm, own_withdraw, own_other, pending-push, pending_is}
+use Rattle.pana_hall.proofs.Grown.{own, each_effective, own_copies, own_confirm, own_withdraw, own_other, pending-push, pending_is}
 use Rattle.pana_hall.proofs.Allowed.{first_none, none_false}
-use Rattle.pana_hall.proofs.Rising.{rises_lower, rises_filter, rises_push, rises_last}
+use Rattle.pana_hall.proofs.Moves.{rises_after}
+use Rattle.pana_hall.proofs.Rising.{rises_lower, rises_filter, rises_last}
 use Rattle.pana_hall.proofs.Sound.{IsSound, keeps_families, living_fit, family_named, OfCopies, Confirms, Withdraws, kind_of, pend_copies}
 
 -- nothing is left out
@@ -73,13 +74,17 @@ own_report most journal entry sound accepts of_copies =
     let family = family_of_next journal entry in
     own_copies family journal entry (keeps_families most journal entry sound accepts.next) of_copies ∙ ap (λ b. own family journal ++ cond b (entry ∷ []) []) (eq-eqb family family refl)
 
+-- the family's pending list after its next entry
+pub pends : (most : ℕ) (journal : List Entry) (entry : Entry) (report : Report) → IsSound most journal → Accepts most journal entry → entry.report ≡ report
+    → pending most (family_of_next journal entry) (journal ++ entry ∷ []) ≡ pend most entry.number report (pending most (family_of_next journal entry) journal)
+pends most journal entry report sound accepts is =
+    let family = family_of_next journal entry in
+    pending_is most family journal entry report (keeps_families most journal entry sound accepts.next) is
+    ∙ ap (λ b. cond b (pend most entry.number report (pending most family journal)) (pending most family journal)) (eq-eqb family family refl)
+
 pub pending_report : (most : ℕ) (journal : List Entry) (entry : Entry) → IsSound most journal → Accepts most journal entry → is_of_copies entry.report ≡ true
     → pending most (family_of_next journal entry) (journal ++ entry ∷ []) ≡ last most (pending most (family_of_next journal entry) journal ++ entry.number ∷ [])
-pending_report most journal entry sound accepts of_copies =
-    let family = family_of_next journal entry in
-    let numbers = pending most family journal in
-    pending-push most family journal entry (keeps_families most journal entry sound accepts.next)
-    ∙ ap (λ b. cond b (pend most entry.number entry.report numbers) numbers) (eq-eqb family family refl) ∙ pend_copies most entry.number entry.report numbers of_copies
+pending_report most journal entry sound accepts of_copies = pends most journal entry entry.report sound accepts refl ∙ pend_copies most entry.number entry.report _ of_copies
 
 pub layer_now : (most family : ℕ) (journal : List Entry) → layer most 0 family journal ≡ own family journal
 layer_now most family journal = left_out_now (pending most family journal) (own family journal)
@@ -113,8 +118,7 @@ layer_confirm most m k journal entry sound accepts is within =
     let family = family_of_next journal entry in
     let keeps = keeps_families most journal entry sound accepts.next in
     let numbers = pending most family journal in
-    let pending' : pending most family (journal ++ entry ∷ []) ≡ behind m numbers =
-    pending_is most family journal entry (Confirm m) keeps is ∙ ap (λ b. cond b (behind m numbers) numbers) (eq-eqb family family refl) in
+    let pending' : pending most family (journal ++ entry ∷ []) ≡ behind m numbers = pends most journal entry (Confirm m) sound accepts is in
     let cut = behind_is_end m numbers in
     ap (λ l. left_out (last k l) (own family (journal ++ entry ∷ []))) pending'
     ∙ ap (λ l. left_out (last k (behind m numbers)) l) (own_confirm family journal entry m keeps is)
@@ -178,74 +182,98 @@ rises_numbers : (low : ℕ) (entries : List Entry) → AreRising (λ e. e.number
 rises_numbers low [] rises = tt
 rises_numbers low (e ∷ entries) rises = (rises.0, rises_numbers e.number entries rises.1)
 
-pub each_right : {X : Type 0} (P : X → Type 0) (xs ys : List X) → AllByRecursion P (xs ++ ys) → AllByRecursion P ys
-each_right P [] ys all = all
-each_right P (x ∷ xs) ys all = each_right P xs ys all.1
-
 rises_end : (low : ℕ) (prefix numbers : List ℕ) → AreRising (λ n. n) low (prefix ++ numbers) → AreRising (λ n. n) low numbers
 rises_end low [] numbers rises = rises
 rises_end low (n ∷ prefix) numbers rises = let first = rises.0 in rises_lower (λ k. k) n low numbers (omega arith) (rises_end n prefix numbers rises.1)
+
+own_rises : (family : ℕ) (journal : List Entry) → AreRising (λ e. e.number) 0 journal → AreRising (λ e. e.number) 0 (own family journal)
+own_rises family journal rises = rises_filter (λ e. e.number) 0 _ (effective journal) (rises_effective 0 journal rises)
 
 -- the pending numbers of a family rise
 pub pending_rises : (most family : ℕ) (journal : List Entry) → IsSound most journal → AreRising (λ n. n) 0 (pending most family journal)
 pending_rises most family journal sound =
     let ends = sound.ends family in
-    rises_end 0 ends.0 (pending most family journal)
-    (subst (AreRising (λ n. n) 0) ends.1 (rises_numbers 0 (own family journal) (rises_filter (λ e. e.number) 0 _ (effective journal) (rises_effective 0 journal sound.rising))))
+    rises_end 0 ends.0 (pending most family journal) (subst (AreRising (λ n. n) 0) ends.1 (rises_numbers 0 (own family journal) (own_rises family journal sound.rising)))
 
--- a family whose last pending entry is m: the numbers of its effective entries end in m, and all others are below it
-pub record EndsIn (most family m : ℕ) (journal : List Entry) : Type 0 where
-  pub before : List ℕ
-  pub pending : pending most family journal ≡ before ++ m ∷ []
-  pub prefix : List ℕ
-  pub own : map (λ e. e.number) (own family journal) ≡ prefix ++ m ∷ []
-  pub below_pending : AllByRecursion (λ n. n < m) before
-  pub below : AllByRecursion (λ n. n < m) prefix
+-- a family whose last pending entry is m: it is the last of the family's effective entries, and all others are below it
+pub record EndsIn (most m : ℕ) (journal : List Entry) : Type 0 where
+  pub numbers : List ℕ
+  pub pending : pending most (families journal m) journal ≡ numbers ++ m ∷ []
+  pub entries : List Entry
+  pub last : Entry
+  pub own : own (families journal m) journal ≡ entries ++ last ∷ []
+  pub number : last.number ≡ m
+  pub at : entry_at journal m ≡ Some last
+  pub well : IsWell (families journal) (length journal) last
+  pub below : AllByRecursion (λ e. e.number < m) entries
 
-pub ends_at : (most m : ℕ) (journal : List Entry) → IsSound most journal → is_last m (pending_with most m journal) ≡ true → EndsIn most (families journal m) m journal
+split_map : (n : ℕ) (entries : List Entry) (prefix : List ℕ) → map (λ e. e.number) entries ≡ prefix ++ n ∷ [] → (before : List Entry) × (last : Entry) × (entries ≡ before ++ last ∷ []) × (last.number ≡ n)
+split_map n [] [] e = absurd (cc)
+split_map n [] (k ∷ prefix) e = absurd (cc)
+split_map n (x ∷ []) prefix e = ([], x, refl, (same_from_push [] prefix x.number n e).1)
+split_map n (x ∷ y ∷ entries) [] e = absurd (cc)
+split_map n (x ∷ y ∷ entries) (k ∷ prefix) e =
+    let rest_is : map (λ e. e.number) (y ∷ entries) ≡ prefix ++ n ∷ [] = cc in
+    let rest = split_map n (y ∷ entries) prefix rest_is in (x ∷ rest.0, rest.1, ap (λ l. x ∷ l) rest.2, rest.3)
+
+pub ends_at : (most m : ℕ) (journal : List Entry) → IsSound most journal → is_last m (pending_with most m journal) ≡ true → EndsIn most m journal
 ends_at most m journal sound at_end =
-    let cut = is_last_push m (pending_with most m journal) at_end in
-    let ends = sound.ends (families journal m) in
-    let whole : map (λ e. e.number) (own (families journal m) journal) ≡ (ends.0 ++ cut.0) ++ m ∷ [] = ends.1 ∙ ap (λ l. ends.0 ++ l) cut.1 ∙ sym (append_assoc ends.0 cut.0 (m ∷ [])) in
-    let below : AllByRecursion (λ n. n < m) (ends.0 ++ cut.0) = rises_last (λ n. n) 0 (ends.0 ++ cut.0) m
-    (subst (AreRising (λ n. n) 0) whole (rises_numbers 0 (own (families journal m) journal) (rises_filter (λ e. e.number) 0 _ (effective journal) (rises_effective 0 journal sound.rising)))) in
-    record { before = cut.0; pending = cut.1; prefix = ends.0 ++ cut.0; own = whole; below_pending = each_right (λ n. n < m) ends.0 cut.0 below; below = below }
+    let family = families journal m in
+    let cut = is_last_push m (pending most family journal) at_end in
+    let ends = sound.ends family in
+    let split = split_map m (own family journal) (ends.0 ++ cut.0) (ends.1 ∙ ap (λ l. ends.0 ++ l) cut.1 ∙ sym (append_assoc ends.0 cut.0 (m ∷ []))) in
+    let of_last : (P : Entry → Type 0) → AllByRecursion P journal → P split.1 = λ P all. each_last P split.0 split.1 (subst (AllByRecursion P) split.2 (each_filter P _ (effective journal) (each_effective P journal all))) in
+    record {
+      numbers = cut.0;
+      pending = cut.1;
+      entries = split.0;
+      last = split.1;
+      own = split.2;
+      number = split.3;
+      at = ap (entry_at journal) (sym split.3) ∙ of_last (λ e. entry_at journal e.number ≡ Some e) sound.found;
+      well = of_last (IsWell (families journal) (length journal)) sound.well;
+      below = subst (λ n. AllByRecursion (λ e. e.number < n) split.0) split.3
+          (rises_last (λ e. e.number) 0 split.0 split.1 (subst (AreRising (λ e. e.number) 0) split.2 (own_rises family journal sound.rising)));
+    }
 
-pub ends_in : (most m : ℕ) (journal : List Entry) (by : List ℕ) (report : Report) → IsSound most journal → report ≡ Withdraw m
-    → report_refusal most journal (living journal) by report ≡ None → EndsIn most (families journal m) m journal
-ends_in most m journal by report sound is free =
+-- what a Withdraw of m says where it isn't refused
+pub record Open (most m : ℕ) (journal : List Entry) : Type 0 where
+  pub ends : EndsIn most m journal
+  pub free : taken_since m journal ≡ None
+
+pub open_withdraw : (most m : ℕ) (journal : List Entry) (by : List ℕ) (report : Report) → IsSound most journal → report ≡ Withdraw m → report_refusal most journal (living journal) by report ≡ None → Open most m journal
+open_withdraw most m journal by report sound is free =
     let alone : report_refusal most journal (living journal) by (Withdraw m) ≡ None = rw is at free in
-    let open_ = first_none (settled_or_followed most m journal) _ (first_none (not_yours by m journal) _ (first_none (unknown_entry m journal) _ (first_none (full journal) _ alone).1).1).1 in
-    ends_at most m journal sound (not-false _ (none_false _ _ open_.0))
+    let at_end = first_none (settled_or_followed most m journal) _ (first_none (not_yours by m journal) _ (first_none (unknown_entry m journal) _ (first_none (full journal) _ alone).1).1).1 in
+    record { ends = ends_at most m journal sound (not-false _ (none_false _ _ at_end.0)); free = (first_none (taken_since m journal) [] at_end.1).0 }
 
-pub filter_below : (m : ℕ) (numbers : List ℕ) → AllByRecursion (λ n. n < m) numbers → filter (λ n. not (m == n)) (numbers ++ m ∷ []) ≡ numbers
-filter_below m numbers below =
-    filter-append _ numbers (m ∷ [])
-    ∙ ap (λ l. l ++ cond (not (m == m)) (m ∷ []) []) (filter_all _ numbers (each_weaker (λ n. n < m) _ numbers (λ n h. ap not (ne_eqb m n (λ d. omega arith))) below))
-    ∙ ap (λ b. numbers ++ cond (not b) (m ∷ []) []) (eq-eqb m m refl)
-    ∙ append-nil numbers
+-- such a last one is taken out, and the others stay
+pub all_but_last : {X : Type 0} (key : X → ℕ) (m : ℕ) (xs : List X) (x : X) → AllByRecursion (λ y. key y < m) xs → key x ≡ m → filter (λ y. not (m == key y)) (xs ++ x ∷ []) ≡ xs
+all_but_last key m xs x below is =
+    filter-append _ xs (x ∷ [])
+    ∙ ap (λ l. l ++ cond (not (m == key x)) (x ∷ []) []) (filter_all _ xs (each_weaker (λ y. key y < m) _ xs (λ y h. ap not (ne_eqb m (key y) (λ d. omega arith))) below))
+    ∙ ap (λ b. xs ++ cond (not b) (x ∷ []) []) (eq-eqb m (key x) (sym is))
+    ∙ append-nil xs
 
--- such an entry is taken out, and the others stay
-pub pending_withdrawn : (most family m : ℕ) (journal : List Entry) (entry : Entry) (before : List ℕ) → KeepsFamilies journal entry → entry.report ≡ Withdraw m → family_of_next journal entry ≡ family
-    → pending most family journal ≡ before ++ m ∷ [] → AllByRecursion (λ n. n < m) before → pending most family (journal ++ entry ∷ []) ≡ before
-pending_withdrawn most family m journal entry before keeps is here ends below =
-    let numbers = pending most family journal in
-    pending_is most family journal entry (Withdraw m) keeps is
-    ∙ ap (λ b. cond b (filter (λ n. not (m == n)) numbers) numbers) (eq-eqb (family_of_next journal entry) family here)
-    ∙ ap (filter (λ n. not (m == n))) ends ∙ filter_below m before below
+-- what is pending before a Withdraw: what is after it, and the entry
+pub pending_withdraw : (most m : ℕ) (journal : List Entry) (entry : Entry) → IsSound most journal → Accepts most journal entry → entry.report ≡ Withdraw m
+    → pending most (family_of_next journal entry) journal ≡ pending most (family_of_next journal entry) (journal ++ entry ∷ []) ++ m ∷ []
+pending_withdraw most m journal entry sound accepts is =
+    let family = family_of_next journal entry in
+    let ends = (open_withdraw most m journal entry.by entry.report sound is accepts.free).ends in
+    let whole : pending most family journal ≡ ends.numbers ++ m ∷ [] = ap (λ f. pending most f journal) (family_named most journal entry m (inr is)) ∙ ends.pending in
+    let below = rises_last (λ n. n) 0 ends.numbers m (subst (AreRising (λ n. n) 0) whole (pending_rises most family journal sound)) in
+    whole ∙ ap (λ l. l ++ m ∷ [])
+    (sym (pends most journal entry (Withdraw m) sound accepts is ∙ ap (filter (λ n. not (m == n))) whole ∙ all_but_last (λ n. n) m ends.numbers m below refl))
 
 pub layer_withdraw : (most m k : ℕ) (journal : List Entry) (entry : Entry) → IsSound most journal → Accepts most journal entry → entry.report ≡ Withdraw m
     → layer most k (family_of_next journal entry) (journal ++ entry ∷ []) ≡ layer most (k + 1) (family_of_next journal entry) journal
 layer_withdraw most m k journal entry sound accepts is =
     let family = family_of_next journal entry in
-    let keeps = keeps_families most journal entry sound accepts.next in
-    let named : family ≡ families journal m = family_named most journal entry m (inr is) in
-    let ends = subst (λ f. EndsIn most f m journal) (sym named) (ends_in most m journal entry.by entry.report sound is accepts.free) in
-    let pending' = pending_withdrawn most family m journal entry ends.before keeps is refl ends.pending ends.below_pending in
-    ap (λ l. left_out (last k l) (own family (journal ++ entry ∷ []))) pending'
-    ∙ ap (λ l. left_out (last k ends.before) l) (own_withdraw family journal entry m keeps is)
-    ∙ sym (left_out_push (last k ends.before) m (own family journal))
-    ∙ ap (λ l. left_out l (own family journal)) (sym (last_push k ends.before m) ∙ ap (last (k + 1)) (sym ends.pending))
+    let rest = pending most family (journal ++ entry ∷ []) in
+    ap (left_out (last k rest)) (own_withdraw family journal entry m (keeps_families most journal entry sound accepts.next) is)
+    ∙ sym (left_out_push (last k rest) m (own family journal))
+    ∙ ap (λ l. left_out l (own family journal)) (sym (last_push k rest m) ∙ ap (last (k + 1)) (sym (pending_withdraw most m journal entry sound accepts is)))
 
 pub drops_layer : (most m : ℕ) (journal : List Entry) (entry : Entry) → IsSound most journal → IsSound most (journal ++ entry ∷ []) → Accepts most journal entry
     → entry.report ≡ Withdraw m → DropsLayer most (family_of_next journal entry) journal entry
@@ -254,31 +282,6 @@ drops_layer most m journal entry sound sound' accepts is k =
     table_own most k family (journal ++ entry ∷ []) sound' ∙ ap copies_of (layer_withdraw most m k journal entry sound accepts is) ∙ sym (table_own most (k + 1) family journal sound)
 
 -- rising numbers
-rises_changed : (low number : ℕ) (f : Copy → Copy) → ((copy : Copy) → (f copy).number ≡ copy.number) → (copies : List Copy)
-    → AreRising (λ c. c.number) low copies → AreRising (λ c. c.number) low (change number f copies)
-rises_changed low number f kept [] rises = tt
-rises_changed low number f kept (copy ∷ copies) rises =
-    let same : (cond (copy.number == number) (f copy) copy).number ≡ copy.number =
-    elim (copy.number == number) as (λ b. (cond b (f copy) copy).number ≡ copy.number) [ true ↦ kept copy | false ↦ refl ] in
-    (subst (λ n. low < n) (sym same) rises.0, subst (λ n. AreRising (λ c. c.number) n (change number f copies)) (sym same) (rises_changed copy.number number f kept copies rises.1))
-
-rises_report : (last n : ℕ) (of : ℕ → ℕ) (report : Report) (copies : List Copy) → last < n → AllByRecursion (Fits of last) copies
-    → AreRising (λ c. c.number) 0 copies → AreRising (λ c. c.number) 0 (after_report n report copies)
-rises_report last n of (Register place) copies more fits rises =
-    rises_push (λ c. c.number) 0 copies (registered n place) rises (each_weaker (Fits of last) _ copies (λ c fit. let within = fit.within in omega arith) fits) (omega arith)
-rises_report last n of (Duplicate source place) copies more fits rises =
-    elim (copy_in copies source) as (λ o. AreRising (λ c. c.number) 0 (copies ++ option_to_list (option_map (duplicated n place) o))) [
-      | None ↦ rw (append-nil copies) rises
-      | Some c ↦ rises_push (λ c. c.number) 0 copies (duplicated n place c) rises (each_weaker (Fits of last) _ copies (λ c fit. let within = fit.within in omega arith) fits) (omega arith)
-    ]
-rises_report last n of (Edit copy) copies more fits rises = rises_changed 0 copy _ (λ c. refl) copies rises
-rises_report last n of (Reconcile a b) copies more fits rises = rises_changed 0 b _ (λ c. refl) _ (rises_changed 0 a _ (λ c. refl) copies rises)
-rises_report last n of (Merge a b) copies more fits rises = rises_changed 0 b _ (λ c. refl) _ (rises_changed 0 a _ (λ c. refl) copies rises)
-rises_report last n of (Relocate copy place) copies more fits rises = rises_changed 0 copy _ (λ c. refl) copies rises
-rises_report last n of (Remove copy heir) copies more fits rises = rises_filter (λ c. c.number) 0 _ copies rises
-rises_report last n of (Confirm entry) copies more fits rises = rises
-rises_report last n of (Withdraw entry) copies more fits rises = rises
-
 rises_fold : (low last : ℕ) (of : ℕ → ℕ) (copies : List Copy) (entries : List Entry) → AreRising (λ e. e.number) low entries → AllByRecursion (IsWell of last) entries
     → AllByRecursion (Fits of low) copies → AreRising (λ c. c.number) 0 copies → AreRising (λ c. c.number) 0 (fold after_entry copies entries)
 rises_fold low last of copies [] rising well fits rises = rises
@@ -287,7 +290,7 @@ rises_fold low last of copies (entry ∷ entries) rising well fits rises =
     rises_fold entry.number last of (after_entry copies entry) entries rising.1 well.1
     (report_fits of entry.number entry.number entry.report copies well.0.belongs (omega arith)
     (each_weaker (Fits of low) (Fits of entry.number) copies (λ c fit. let within = fit.within in let bounded = fit.bounded in record { family = fit.family; within = omega arith; bounded = omega arith }) fits))
-    (rises_report low entry.number of entry.report copies rising.0 fits rises)
+    (rises_after entry.number entry.report copies (omega arith) (each_weaker (Fits of low) _ copies (λ c fit. let within = fit.within in omega arith) fits) rises)
 
 copies_rise : (last : ℕ) (of : ℕ → ℕ) (entries : List Entry) → AreRising (λ e. e.number) 0 entries → AllByRecursion (IsWell of last) entries → AreRising (λ c. c.number) 0 (copies_of entries)
 unfolding copies_of

@@ -15,6 +15,7 @@ use Rattle.pana_hall.specs.declared.board.BoardRow.{BoardRow}
 use Rattle.pana_journal.specs.Entries.{page}
 use Rattle.pana_hall.specs.Family.{families}
 use Rattle.pana_hall.specs.Living.{living, copies_of, known_to}
+use Rattle.pana_hall.specs.StampRows.{rows_of}
 use Rattle.pana_hall.specs.Pending.{pending}
 use Rattle.pana_hall.specs.Board.{board_of, row_of}
 use Rattle.pana_hall.specs.Queries.{family_rows, pair_of, holdings}
@@ -56,7 +57,7 @@ on_board copy device newer older equal conflict =
 
 -- the empty hall
 empty_hall : (family_rows [] (living []) ≡ []) × (asked [] (Board 1) ≡ Some UnknownFamily) × (page [] 1 ≡ [])
-unfolding copies_of refusal
+unfolding copies_of refusal rows_of
 empty_hall = (refl, refl, refl)
 
 -- a file on a laptop, its duplicate on a stick, and an edit of the first
@@ -64,17 +65,17 @@ abbrev first_path : List Entry
 first_path = entry 1 (Register plan) ∷ entry 2 (Duplicate 1 usb_plan) ∷ entry 3 (Edit 1) ∷ []
 
 first_path_done : reported [] (Register plan ∷ Duplicate 1 usb_plan ∷ Edit 1 ∷ []) ≡ first_path
-unfolding copies_of
+unfolding copies_of rows_of
 first_path_done = refl
 
 first_path_board : board_of 1 (living first_path)
     ≡ record { family = 1; rows = on_board 1 (codes "laptop") 0 1 0 0 ∷ on_board 2 (codes "usb") 1 0 0 0 ∷ []; newest = 1 ∷ []; split = false }
-unfolding copies_of board_of row_of
+unfolding copies_of board_of row_of rows_of
 first_path_board = refl
 
 first_path_answers : (holdings (living first_path) (codes "usb") ≡ record { copy = 2; family = 1; path = codes "plan.txt"; touch = 2 } ∷ [])
     × (page first_path 2 ≡ entry 2 (Duplicate 1 usb_plan) ∷ entry 3 (Edit 1) ∷ []) × (page first_path 0 ≡ first_path) × (page first_path 4 ≡ [])
-unfolding copies_of
+unfolding copies_of rows_of
 first_path_answers = (refl, refl, refl, refl)
 
 -- and an edit of the second
@@ -83,18 +84,18 @@ conflict = reported first_path (Edit 2 ∷ [])
 
 conflict_board : board_of 1 (living conflict)
     ≡ record { family = 1; rows = on_board 1 (codes "laptop") 0 0 0 1 ∷ on_board 2 (codes "usb") 0 0 0 1 ∷ []; newest = 1 ∷ 2 ∷ []; split = true }
-unfolding copies_of board_of row_of
+unfolding copies_of board_of row_of rows_of
 conflict_board = refl
 
 conflict_answers : (pair_of (living conflict) 1 2 ≡ Conflict) × (pair_of (living conflict) 1 1 ≡ Equal)
     × (family_rows conflict (living conflict) ≡ record { family = 1; copies = 2; newest = 2; split = true } ∷ [])
-unfolding copies_of
+unfolding copies_of rows_of
 conflict_answers = (refl, refl, refl)
 
 -- both ways to settle it
 reconcile_and_merge : (pair_of (living (reported conflict (Reconcile 1 2 ∷ []))) 1 2 ≡ Equal) × (pair_of (living (reported conflict (Merge 1 2 ∷ []))) 1 2 ≡ Equal)
     × (known_to (living (reported conflict (Merge 1 2 ∷ []))) 2 ≡ 5 ∷ 3 ∷ 4 ∷ []) × (length (reported conflict (Merge 1 2 ∷ [])) ≡ 5)
-unfolding copies_of
+unfolding copies_of rows_of
 reconcile_and_merge = (refl, refl, refl, refl)
 
 abbrev numbers : List Entry → List ℕ
@@ -106,7 +107,7 @@ heir = reported [] (Register plan ∷ Duplicate 1 usb_plan ∷ Edit 2 ∷ Remove
 
 remove_with_heir : (numbers heir ≡ 2 ∷ []) × (known_to (living (reported heir (Edit 2 ∷ []))) 2 ≡ 5 ∷ 3 ∷ [])
     × (numbers (reported heir (Withdraw 4 ∷ [])) ≡ 1 ∷ 2 ∷ []) × (known_to (living (reported heir (Withdraw 4 ∷ []))) 1 ≡ []) × (known_to (living (reported heir (Withdraw 4 ∷ []))) 2 ≡ 3 ∷ [])
-unfolding copies_of
+unfolding copies_of rows_of
 remove_with_heir = (refl, refl, refl, refl, refl)
 
 -- two files on one laptop
@@ -122,7 +123,7 @@ refusals_in_order : (from_laptop two_files (Reconcile 1 1) ≡ Some SameCopy) ×
     × (from_laptop two_files (Duplicate 1 plan) ≡ Some (PlaceTaken 1))
     × (from_laptop two_files (Remove 1 (Some 99)) ≡ Some (UnknownCopy 99)) × (from_laptop two_files (Remove 1 (Some 4)) ≡ Some OtherFamily)
     × (map (families two_files) (1 ∷ 2 ∷ 3 ∷ 4 ∷ []) ≡ 1 ∷ 1 ∷ 1 ∷ 4 ∷ [])
-unfolding refusal copies_of
+unfolding refusal copies_of rows_of
 refusals_in_order = (refl, refl, refl, refl, refl, refl, refl, refl, refl, refl)
 
 abbrev relocated : List Entry
@@ -132,7 +133,7 @@ relocated_and_back : (length relocated ≡ 5) × (from_laptop relocated (Relocat
     × (holdings (living relocated) (codes "usb") ≡ record { copy = 2; family = 1; path = codes "b"; touch = 5 } ∷ [])
     × (holdings (living (reported relocated (Withdraw 5 ∷ []))) (codes "usb") ≡ record { copy = 2; family = 1; path = codes "plan.txt"; touch = 2 } ∷ [])
     × (from_laptop (reported relocated (Withdraw 5 ∷ Remove 2 None ∷ [])) (Edit 2) ≡ Some (UnknownCopy 2))
-unfolding refusal copies_of
+unfolding refusal copies_of rows_of
 relocated_and_back = (refl, refl, refl, refl, refl)
 
 -- an heir that is behind is accepted, and knows no more than before
@@ -141,7 +142,7 @@ behind = reported [] (Register plan ∷ Duplicate 1 usb_plan ∷ Edit 1 ∷ Dupl
 
 heir_behind : (length behind ≡ 5) × (known_to (living behind) 2 ≡ []) × (known_to (living behind) 4 ≡ 3 ∷ [])
     × (numbers (reported behind (Remove 2 (Some 4) ∷ [])) ≡ 4 ∷ [])
-unfolding copies_of
+unfolding copies_of rows_of
 heir_behind = (refl, refl, refl, refl)
 
 abbrev in_trust : List Entry
@@ -149,7 +150,7 @@ in_trust = reported behind (Duplicate 2 (place (codes "phone") (codes "p")) ∷ 
 
 parcel_settles : (pair_of (living in_trust) 2 4 ≡ Conflict) × (pair_of (living (reported in_trust (Reconcile 2 4 ∷ []))) 6 2 ≡ Older)
     × (living (reported in_trust (Reconcile 2 4 ∷ Withdraw 8 ∷ [])) ≡ living in_trust) × (length (reported in_trust (Reconcile 2 4 ∷ Withdraw 8 ∷ [])) ≡ 9)
-unfolding copies_of
+unfolding copies_of rows_of
 parcel_settles = (refl, refl, refl, refl)
 
 -- four copies, two edits and three reconciliations
@@ -159,12 +160,12 @@ four = reported [] (Register plan ∷ Duplicate 1 usb_plan ∷ Duplicate 1 (plac
 
 reconcile_recomputes : (pair_of (living four) 3 1 ≡ Older) × (pair_of (living four) 4 1 ≡ Older) × (pair_of (living four) 3 4 ≡ Conflict)
     × (pair_of (living (reported four (Reconcile 3 4 ∷ []))) 3 1 ≡ Equal)
-unfolding copies_of
+unfolding copies_of rows_of
 reconcile_recomputes = (refl, refl, refl, refl)
 
 -- an update that is withdrawn keeps its number to itself
 withdraw_keeps_numbers : known_to (living (reported first_path (Withdraw 3 ∷ Edit 1 ∷ []))) 1 ≡ 5 ∷ []
-unfolding copies_of
+unfolding copies_of rows_of
 withdraw_keeps_numbers = refl
 
 -- a copy is removed, and another file comes to its place
@@ -177,7 +178,7 @@ freed = reported_by (codes "desk") removed (Remove 6 None ∷ [])
 withdraw_of_remove : (from_laptop removed (Withdraw 5) ≡ Some (PlaceTaken 6)) × (length freed ≡ 7) × (from_laptop freed (Withdraw 5) ≡ None)
     × (holdings (living (reported freed (Withdraw 5 ∷ []))) (codes "usb") ≡ record { copy = 2; family = 1; path = codes "plan.txt"; touch = 4 } ∷ [])
     × (known_to (living (reported freed (Withdraw 5 ∷ []))) 2 ≡ 4 ∷ [])
-unfolding refusal copies_of
+unfolding refusal copies_of rows_of
 withdraw_of_remove = (refl, refl, refl, refl, refl)
 
 -- what can't be withdrawn
@@ -187,7 +188,7 @@ confirmed = reported first_path (Confirm 3 ∷ [])
 settled_and_not_yours : (refusal first_path (codes "usb") (calls.Report (Withdraw 3)) ≡ Some NotYours) × (from_laptop first_path (Withdraw 2) ≡ Some Settled)
     × (from_laptop first_path (Withdraw 9) ≡ Some UnknownEntry) × (length confirmed ≡ 4) × (from_laptop confirmed (Withdraw 3) ≡ Some Settled)
     × (from_laptop confirmed (Withdraw 4) ≡ Some UnknownEntry) × (from_laptop confirmed (Withdraw 0) ≡ Some UnknownEntry)
-unfolding refusal copies_of
+unfolding refusal copies_of rows_of
 settled_and_not_yours = (refl, refl, refl, refl, refl, refl, refl)
 
 -- a file that is withdrawn: its number stays a family's
@@ -196,7 +197,7 @@ forgotten = reported [] (Register plan ∷ Withdraw 1 ∷ [])
 
 withdraw_of_register : (length forgotten ≡ 2) × (family_rows forgotten (living forgotten) ≡ []) × (asked forgotten (Board 1) ≡ None)
     × (board_of 1 (living forgotten) ≡ record { family = 1; rows = []; newest = []; split = false }) × (from_laptop forgotten (Register plan) ≡ None)
-unfolding refusal copies_of board_of row_of
+unfolding refusal copies_of board_of row_of rows_of
 withdraw_of_register = (refl, refl, refl, refl, refl)
 
 -- eight entries are pending, and no more
@@ -209,28 +210,21 @@ half_undone = eight ++ entry 10 (Withdraw 9) ∷ entry 11 (Withdraw 8) ∷ entry
 abbrev undone : List Entry
 undone = half_undone ++ entry 14 (Withdraw 5) ∷ entry 15 (Withdraw 4) ∷ entry 16 (Withdraw 3) ∷ entry 17 (Withdraw 2) ∷ []
 
-eight_done : reported [] (Register plan ∷ Edit 1 ∷ Edit 1 ∷ Edit 1 ∷ Edit 1 ∷ Edit 1 ∷ Edit 1 ∷ Edit 1 ∷ Edit 1 ∷ []) ≡ eight
-unfolding copies_of
-eight_done = refl
-
-half_undone_done : reported eight (Withdraw 9 ∷ Withdraw 8 ∷ Withdraw 7 ∷ Withdraw 6 ∷ []) ≡ half_undone
-unfolding copies_of
-half_undone_done = refl
-
-undone_done : reported half_undone (Withdraw 5 ∷ Withdraw 4 ∷ Withdraw 3 ∷ Withdraw 2 ∷ []) ≡ undone
-unfolding copies_of
-undone_done = refl
+eight_done : (reported [] (Register plan ∷ Edit 1 ∷ Edit 1 ∷ Edit 1 ∷ Edit 1 ∷ Edit 1 ∷ Edit 1 ∷ Edit 1 ∷ Edit 1 ∷ []) ≡ eight)
+    × (reported eight (Withdraw 9 ∷ Withdraw 8 ∷ Withdraw 7 ∷ Withdraw 6 ∷ []) ≡ half_undone) × (reported half_undone (Withdraw 5 ∷ Withdraw 4 ∷ Withdraw 3 ∷ Withdraw 2 ∷ []) ≡ undone)
+unfolding copies_of rows_of
+eight_done = (refl, refl, refl)
 
 eight_pending : (pending 8 1 eight ≡ 2 ∷ 3 ∷ 4 ∷ 5 ∷ 6 ∷ 7 ∷ 8 ∷ 9 ∷ []) × (pending 8 1 undone ≡ [])
 eight_pending = (refl, refl)
 
 eight_withdrawals : (known_to (living undone) 1 ≡ []) × (from_laptop undone (Withdraw 1) ≡ Some Settled)
-unfolding refusal copies_of
+unfolding refusal copies_of rows_of
 eight_withdrawals = (refl, refl)
 
 withdrawn_to_nothing : (numbers (reported first_path (Withdraw 3 ∷ Withdraw 2 ∷ [])) ≡ 1 ∷ []) × (length (reported first_path (Withdraw 3 ∷ Withdraw 2 ∷ Withdraw 1 ∷ [])) ≡ 6)
     × (living (reported first_path (Withdraw 3 ∷ Withdraw 2 ∷ Withdraw 1 ∷ [])) ≡ [])
-unfolding copies_of
+unfolding copies_of rows_of
 withdrawn_to_nothing = (refl, refl, refl)
 
 -- a Confirm settles all before it
@@ -239,7 +233,7 @@ three_edits = reported [] (Register plan ∷ Edit 1 ∷ Edit 1 ∷ Edit 1 ∷ Co
 
 confirm_settles_older : (length three_edits ≡ 5) × (from_laptop three_edits (Withdraw 3) ≡ Some Settled) × (from_laptop three_edits (Confirm 2) ≡ Some Settled)
     × (known_to (living (reported three_edits (Withdraw 4 ∷ []))) 1 ≡ 3 ∷ 2 ∷ []) × (from_laptop (reported three_edits (Withdraw 4 ∷ [])) (Withdraw 3) ≡ Some Settled)
-unfolding refusal copies_of
+unfolding refusal copies_of rows_of
 confirm_settles_older = (refl, refl, refl, refl, refl)
 
 -- a family with all the copies that it takes
@@ -251,12 +245,12 @@ abbrev full_family : List Entry
 full_family = entry 1 (Register plan) ∷ duplicates 255 2
 
 full_family_refuses : (length (living full_family) ≡ 256) × (from_laptop full_family (Duplicate 1 usb_plan) ≡ Some FamilyFull) × (from_laptop full_family (Duplicate 1 plan) ≡ Some (PlaceTaken 1))
-unfolding refusal copies_of
+unfolding refusal copies_of rows_of
 full_family_refuses = (refl, refl, refl)
 
 -- a duplicate has its own touch, and its source and an heir keep theirs
 touches : (map {B = ℕ × ℕ × List ℕ} (λ copy. (copy.number, copy.touch, copy.updates)) (living (reported first_path (Duplicate 1 usb_b ∷ []))) ≡ (1, 3, 3 ∷ []) ∷ (2, 2, []) ∷ (4, 4, 3 ∷ []) ∷ [])
     × (map (λ copy. copy.touch) (living heir) ≡ 3 ∷ [])
     × (map {B = ℕ × ℕ} (λ copy. (copy.number, copy.touch)) (living relocated) ≡ (1, 3) ∷ (2, 5) ∷ (4, 4) ∷ [])
-unfolding copies_of
+unfolding copies_of rows_of
 touches = (refl, refl, refl)

@@ -4,6 +4,8 @@ use Rattle.pana_journal.specs.declared.report.Report.{Report}
 use Rattle.pana_journal.specs.declared.report.Report.TheVariants.{Register, Duplicate, Edit, Reconcile, Merge, Relocate, Remove, Confirm, Withdraw}
 use Rattle.pana_journal.specs.declared.entry.Entry.{Entry}
 use Rattle.pana_journal.specs.Entries.{entry_at}
+use Rattle.pana_family.specs.declared.report.FamilyReport.{FamilyReport}
+use Rattle.pana_family.specs.declared.report.FamilyReport.TheVariants as family
 
 -- the copy, or the entry, to whose family a report belongs. A Register names none: it begins a family of its own
 abbrev pub subject : Report → Option ℕ
@@ -29,6 +31,18 @@ with_entry family_of entry n = if n == entry.number then begun_or_joined family_
 -- the family of each entry of a journal, by its number; a copy is of the family of the entry that made it
 abbrev pub families : List Entry → ℕ → ℕ
 families journal = fold with_entry (λ n. n) journal
+
+-- what a report says of copies of a family that has begun, if it does
+abbrev pub family_report : Report → Option FamilyReport
+family_report (Register place) = None
+family_report (Duplicate source place) = Some (family.Duplicate source)
+family_report (Edit copy) = Some (family.Edit copy)
+family_report (Reconcile a b) = Some (family.Reconcile a b)
+family_report (Merge a b) = Some (family.Merge a b)
+family_report (Relocate copy place) = Some (family.Touch copy)
+family_report (Remove copy heir) = Some (family.Remove copy heir)
+family_report (Confirm entry) = None
+family_report (Withdraw entry) = None
 
 -- the entries of a family
 abbrev pub entries_of : ℕ → (ℕ → ℕ) → List Entry → List Entry

@@ -1,8 +1,9 @@
 -- What follows of every run: for the tables of the families, and for the places of the copies.
-use Rattle.std.specs.Prelude.{◌≡◌, ◌≢◌, ℕ, ◌+◌, ◌<◌, ◌≤◌, List, [], ◌∷◌, ◌++◌, length, filter}
+use Rattle.std.specs.Prelude.{◌≡◌, ◌≢◌, ℕ, ◌+◌, ◌<◌, ◌≤◌, List, [], ◌∷◌, ◌++◌, length, filter, count_by}
 use Rattle.std.specs.List.{AllByRecursion}
 use Rattle.pana_journal.specs.declared.entry.Entry.{Entry}
-use Rattle.pana_hall.specs.Family.{families}
+use Rattle.pana_hall.specs.Family.{families, entries_of, is_duplicate}
+use Rattle.pana_hall.specs.Effective.{effective}
 use Rattle.pana_hall.specs.Living.{Copy, copy_in, living, after_entry}
 use Rattle.pana_hall.specs.Pending.{pending}
 use Rattle.pana_hall.specs.Board.{is_of}
@@ -54,3 +55,7 @@ pub record IsOrderly (journal : List Entry) : Type 0 where
   pub rising : AreRising (λ copy. copy.number) 0 (living journal)
   pub numbers : AllByRecursion (λ copy. copy.number ≤ length journal) (living journal)
   pub families : AllByRecursion (λ copy. copy.family ≡ families journal copy.number) (living journal)
+
+-- how many entries of a family that count are Duplicates
+abbrev pub duplicates_in : ℕ → List Entry → ℕ
+duplicates_in family journal = count_by (λ entry. is_duplicate entry.report) (entries_of family (families journal) (effective journal))

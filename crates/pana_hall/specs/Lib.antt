@@ -4,6 +4,7 @@ pub mod Effective
 pub mod Living
 pub mod Pending
 pub mod Board
+pub mod StampRows
 pub mod Stamps
 pub mod Holdings
 pub mod Queries

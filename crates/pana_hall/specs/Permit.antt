@@ -1,5 +1,5 @@
 -- The replies that are permitted, and the journal that each leaves.
-use Rattle.std.specs.Prelude.{◌≡◌, ℕ, ◌+◌, ◌≤◌, count_by, List, [], ◌∷◌, ◌++◌, length, Option, Some, None, ◌⊎◌}
+use Rattle.std.specs.Prelude.{◌≡◌, ℕ, ◌+◌, List, [], ◌∷◌, ◌++◌, length, Option, Some, None, ◌⊎◌}
 use Rattle.pana_journal.specs.declared.entry.Entry.{Entry}
 use Rattle.pana_hall.specs.declared.call.Query.{Query}
 use Rattle.pana_hall.specs.declared.call.Query.TheVariants as queries
@@ -9,10 +9,6 @@ use Rattle.pana_hall.specs.declared.cause.Cause.{Cause}
 use Rattle.pana_hall.specs.declared.cause.Cause.TheVariants as causes
 use Rattle.pana_hall.specs.declared.reply.Reply.{Reply}
 use Rattle.pana_hall.specs.declared.reply.Reply.TheVariants as replies
-use Rattle.pana_journal.specs.declared.report.Report.{Report}
-use Rattle.pana_journal.specs.declared.report.Report.TheVariants as reports
-use Rattle.pana_hall.specs.Family.{families, entries_of, is_duplicate}
-use Rattle.pana_hall.specs.Effective.{effective}
 use Rattle.pana_hall.specs.Living.{living}
 use Rattle.pana_hall.specs.Board.{board_of}
 use Rattle.pana_family.specs.declared.stamps.CopyStamp.{CopyStamp}
@@ -25,7 +21,7 @@ use Rattle.pana_hall.specs.Refusal.{refusal}
 abbrev pub Answers : List Entry → Query → Reply → Type 0
 Answers journal queries.Families reply = reply ≡ replies.Families (family_rows journal (living journal))
 Answers journal (queries.Board family) reply = reply ≡ replies.Board (board_of family (living journal))
-Answers journal (queries.Stamps family) reply = (stamps : List CopyStamp) × AreStampsOf family (living journal) stamps × (reply ≡ replies.Stamps stamps)
+Answers journal (queries.Stamps family) reply = (stamps : List CopyStamp) × AreStampsOf family journal stamps × (reply ≡ replies.Stamps stamps)
 Answers journal (queries.Pair a b) reply = reply ≡ replies.Pair (pair_of (living journal) a b)
 Answers journal (queries.Holdings device) reply = reply ≡ replies.Holdings (holdings (living journal) device)
 Answers journal (queries.JournalFrom n) reply = reply ≡ replies.Journal (page journal n)
@@ -35,15 +31,9 @@ abbrev pub Grants : List Entry → Call → Reply → Type 0
 Grants journal (calls.Report report) reply = reply ≡ replies.Done (length journal + 1)
 Grants journal (calls.Query query) reply = Answers journal query reply
 
--- how many entries of a family that count are Duplicates
-abbrev pub duplicates_in : ℕ → List Entry → ℕ
-duplicates_in family journal = count_by (λ entry. is_duplicate entry.report) (entries_of family (families journal) (effective journal))
-
--- the call may be refused so for a shortage, although nothing stands against it: memory may run out, but for a Pair; and
--- a Duplicate may be too deep, in a family that counts 256 of them
+-- the call may be refused so for a shortage, although nothing stands against it: memory may run out, but for a Pair
 abbrev pub IsShortage : List Entry → Call → Cause → Type 0
 IsShortage journal (calls.Query (queries.Pair a b)) cause = ⊥
-IsShortage journal (calls.Report (reports.Duplicate copy place)) cause = (cause ≡ causes.OutOfMemory) ⊎ ((cause ≡ causes.TooDeep) × (256 ≤ duplicates_in (families journal copy) journal))
 IsShortage journal call cause = cause ≡ causes.OutOfMemory
 
 -- the reply to a call, given why it is refused: that cause and no other; else what is granted, or a shortage
@@ -59,10 +49,3 @@ Permits journal by call reply = PermitsBy (refusal journal by call) journal call
 unfoldable pub journal_after : List Entry → List ℕ → Call → Reply → List Entry
 journal_after journal by (calls.Report report) (replies.Done n) = journal ++ record { number = n; by = by; report = report } ∷ []
 journal_after journal by _ _ = journal
-
--- the cause for which a device's report is refused whatever memory there is, if there is one: what stands against it, or
--- that it is too deep
-abbrev pub IsCauseOf : List Entry → List ℕ → Report → Option Cause → Type 0
-IsCauseOf journal by report cause =
-    (cause ≡ refusal journal by (calls.Report report))
-    ⊎ ((refusal journal by (calls.Report report) ≡ None) × (cause ≡ Some causes.TooDeep) × IsShortage journal (calls.Report report) causes.TooDeep)

@@ -13,12 +13,14 @@ use Rattle.pana_hall.specs.declared.call.Query.TheVariants as queries
 use Rattle.pana_hall.specs.declared.call.Call.{Call}
 use Rattle.pana_hall.specs.declared.call.Call.TheVariants as calls
 use Rattle.pana_hall.specs.declared.cause.Cause.{Cause}
-use Rattle.pana_hall.specs.declared.cause.Cause.TheVariants.{JournalFull, UnknownCopy, SameCopy, OtherFamily, PlaceTaken, FamilyFull, UnknownEntry, NotYours, Settled, UnknownFamily}
+use Rattle.pana_hall.specs.declared.cause.Cause.TheVariants.{JournalFull, UnknownCopy, SameCopy, OtherFamily, PlaceTaken, FamilyFull, TooDeep, UnknownEntry, NotYours, Settled, UnknownFamily}
 use Rattle.pana_family.specs.Updates.{has}
+use Rattle.pana_family.specs.Rows.{divides}
 use Rattle.pana_hall.specs.Family.{families, has_report, is_family}
 use Rattle.pana_hall.specs.Effective.{effective, is_of_copies, left_out}
 use Rattle.pana_hall.specs.Living.{Copy, copy_in, copies_of, living}
 use Rattle.pana_hall.specs.Pending.{pending, is_last}
+use Rattle.pana_hall.specs.StampRows.{stamp_rows}
 use Rattle.pana_hall.specs.Board.{is_of}
 
 -- the journal has all the entries that it takes
@@ -48,6 +50,10 @@ taken place copies = option_map (λ copy. PlaceTaken copy.number) (find (λ copy
 -- the family of the copy has all the living copies that it takes
 abbrev pub family_full : ℕ → List Copy → Option Cause
 family_full number copies = option_and_then (λ copy. then_some (nat_le 256 (count_by (is_of copy.family) copies)) FamilyFull) (copy_in copies number)
+
+-- the id of the copy can't be divided
+abbrev pub too_deep : ℕ → List Entry → List Copy → Option Cause
+too_deep number journal copies = option_and_then (λ copy. then_some (not (divides (stamp_rows copy.family journal) number)) TooDeep) (copy_in copies number)
 
 -- no entry that is a report of copies has the number
 abbrev pub unknown_entry : ℕ → List Entry → Option Cause
@@ -100,7 +106,7 @@ first (Some cause ∷ causes) = Some cause
 -- why a device's report is refused, on a journal and its living copies
 abbrev pub report_refusal : ℕ → List Entry → List Copy → List ℕ → Report → Option Cause
 report_refusal most journal copies by (Register place) = first (full journal ∷ taken place copies ∷ [])
-report_refusal most journal copies by (Duplicate copy place) = first (full journal ∷ unknown copy copies ∷ taken place copies ∷ family_full copy copies ∷ [])
+report_refusal most journal copies by (Duplicate copy place) = first (full journal ∷ unknown copy copies ∷ taken place copies ∷ family_full copy copies ∷ too_deep copy journal copies ∷ [])
 report_refusal most journal copies by (Edit copy) = first (full journal ∷ unknown copy copies ∷ [])
 report_refusal most journal copies by (Reconcile a b) = first (full journal ∷ against_two a b copies)
 report_refusal most journal copies by (Merge a b) = first (full journal ∷ against_two a b copies)
@@ -117,7 +123,7 @@ query_refusal journal copies (queries.Stamps family) = first (unknown_family fam
 query_refusal journal copies (queries.Pair a b) = first (unknown a copies ∷ unknown b copies ∷ other_family a b copies ∷ [])
 query_refusal journal copies _ = None
 
--- why a call by the device is refused, shortages aside; a family's last 8 entries are pending
+-- why a call by the device is refused, memory aside; a family's last 8 entries are pending
 unfoldable pub refusal : List Entry → List ℕ → Call → Option Cause
 refusal journal by (calls.Report report) = report_refusal 8 journal (living journal) by report
 refusal journal by (calls.Query query) = query_refusal journal (living journal) query

@@ -5,4 +5,5 @@ pub mod OldPlaces
 pub mod Listed
 pub mod Steps
 pub mod Kept
+pub mod State
 pub mod Rows

@@ -12,84 +12,123 @@ ghost use Rattle.pana_hall.specs.Queries.{family_rows, holdings, pair_of};
 ghost use Rattle.pana_hall.specs.inner.Rows.{holding_in, placed_row, row_of_sets};
 ghost use Rattle.pana_hall.specs.Refusal.{query_refusal};
 ghost use Rattle.pana_hall.specs.Permit.{Answers, IsShortage};
-ghost use Rattle.pana_hall.specs.inner.Kept.{IsKept};
+ghost use Rattle.pana_hall.specs.inner.State.{IsHeld};
 
 use crate::board::{BoardRow, BoardView};
 use crate::call::{Call, Query};
 use crate::cause::Cause;
-use crate::families::Families;
 use crate::family_row::FamilyRow;
 use crate::holding::{Holding, HoldingList};
 use crate::listed_family::ListedFamily;
 use crate::reply::Reply;
+use crate::state::State;
 use pana_copies::{CopyTable, DeviceName, Place};
 use pana_event::Rel;
 use pana_family::{CopyCounts, CopyStamp};
-use pana_journal::Journal;
 use pana_list::PlainList;
 use std::alloc::{AllocError, Global};
 
-fn pair_of(journal: &Journal, families: &Families, copies: &CopyTable, a: u64, b: u64) -> Rel
-    requires kept { IsKept journal.now.entries families.now.list.items families.now.positions.items copies.now }
-    requires free { query_refusal journal.now.entries (living journal.now.entries) (Query.Pair a b) ≡ None }
-    ensures { result ≡ pair_of (living journal.now.entries) a b }
-{
-    let _ = journal;
-    let _ = copies;
-    families.of_entry(a).unwrap().rel(a, b)
-}
-
-/// The answer to a query that nothing stands against. Fails only where memory runs out; a Pair takes none.
-pub fn answer(
-    alloc: Global,
-    journal: &Journal,
-    families: &Families,
-    copies: &CopyTable,
-    query: Query,
-) -> Result<Reply, AllocError>
-    requires kept { IsKept journal.now.entries families.now.list.items families.now.positions.items copies.now }
-    requires free { query_refusal journal.now.entries (living journal.now.entries) query ≡ None }
-    ensures ok { IfOk result (λ reply. Answers journal.now.entries query reply) }
-    ensures shortage { IfErr result (λ _. IsShortage journal.now.entries (Call.Query query) Cause.OutOfMemory) }
-{
-    match query {
-        Query::Families => {
-            let rows = family_rows(alloc, journal, families, copies)?;
-            Ok(Reply::Families(PlainList::from_vec(rows)))
-        }
-        Query::Board { family } => {
-            Ok(Reply::Board(board_of(alloc, family, journal, families, copies)?))
-        }
-        Query::Stamps { family } => {
-            Ok(Reply::Stamps(stamps_of(alloc, family, journal, families, copies)?))
-        }
-        Query::Pair { a, b } => Ok(Reply::Pair(pair_of(journal, families, copies, a, b))),
-        Query::Holdings { device } => {
-            let made = holdings(alloc, journal, families, copies, &device)?;
-            Ok(Reply::Holdings(HoldingList::from_vec(made)))
-        }
-        Query::JournalFrom { entry } => Ok(Reply::Journal(journal.slice(entry)?)),
+impl State {
+    fn pair_of(&self, a: u64, b: u64) -> Rel
+        requires kept { IsHeld self.now }
+        requires free { query_refusal self.now.journal.entries (living self.now.journal.entries) (Query.Pair a b) ≡ None }
+        ensures { result ≡ pair_of (living self.now.journal.entries) a b }
+    {
+        self.families.of_entry(a).unwrap().rel(a, b)
     }
-}
 
-fn family_rows(
-    alloc: Global,
-    journal: &Journal,
-    families: &Families,
-    copies: &CopyTable,
-) -> Result<Vec<FamilyRow>, AllocError>
-    requires kept { IsKept journal.now.entries families.now.list.items families.now.positions.items copies.now }
-    ensures { IfOk result (λ rows. rows.items ≡ family_rows journal.now.entries (living journal.now.entries)) }
-{
-    let _ = journal;
-    let _ = copies;
-    let mut rows = Vec::new(alloc);
-    for it in families.as_slice() {
-        if it.has_copies() {
-            rows.push(family_row(alloc, it)?)?;
+    /// The answer to a query that nothing stands against. Fails only where memory runs out; a Pair takes none.
+    pub fn answer(&self, alloc: Global, query: Query) -> Result<Reply, AllocError>
+        requires kept { IsHeld self.now }
+        requires free { query_refusal self.now.journal.entries (living self.now.journal.entries) query ≡ None }
+        ensures ok { IfOk result (λ reply. Answers self.now.journal.entries query reply) }
+        ensures shortage { IfErr result (λ _. IsShortage self.now.journal.entries (Call.Query query) Cause.OutOfMemory) }
+    {
+        match query {
+            Query::Families => Ok(Reply::Families(PlainList::from_vec(self.family_rows(alloc)?))),
+            Query::Board { family } => Ok(Reply::Board(self.board_of(alloc, family)?)),
+            Query::Stamps { family } => Ok(Reply::Stamps(self.stamps_of(alloc, family)?)),
+            Query::Pair { a, b } => Ok(Reply::Pair(self.pair_of(a, b))),
+            Query::Holdings { device } => {
+                let made = self.holdings(alloc, &device)?;
+                Ok(Reply::Holdings(HoldingList::from_vec(made)))
+            }
+            Query::JournalFrom { entry } => Ok(Reply::Journal(self.journal.slice(entry)?)),
         }
     }
-    Ok(rows)
+
+    fn family_rows(&self, alloc: Global) -> Result<Vec<FamilyRow>, AllocError>
+        requires kept { IsHeld self.now }
+        ensures { IfOk result (λ rows. rows.items ≡ family_rows self.now.journal.entries (living self.now.journal.entries)) }
+    {
+        let mut rows = Vec::new(alloc);
+        for it in self.families.as_slice() {
+            if it.has_copies() {
+                rows.push(family_row(alloc, it)?)?;
+            }
+        }
+        Ok(rows)
+    }
+
+    /// The board of a family: its rows with their places.
+    fn board_of(&self, alloc: Global, family: u64) -> Result<BoardView, AllocError>
+        requires kept { IsHeld self.now }
+        requires free { query_refusal self.now.journal.entries (living self.now.journal.entries) (Query.Board family) ≡ None }
+        ensures { IfOk result (λ view. view ≡ board_of family (living self.now.journal.entries)) }
+    {
+        let board = self.families.of_entry(family).unwrap().board(alloc)?;
+        let rows = board_rows(alloc, &self.copies, board.rows.as_slice())?;
+        Ok(BoardView {
+            family,
+            rows: PlainList::from_vec(rows),
+            newest: board.newest,
+            split: board.split,
+        })
+    }
+
+    /// The stamps of a family's copies.
+    fn stamps_of(&self, alloc: Global, family: u64) -> Result<PlainList<CopyStamp>, AllocError>
+        requires kept { IsHeld self.now }
+        requires free { query_refusal self.now.journal.entries (living self.now.journal.entries) (Query.Stamps family) ≡ None }
+        ensures { IfOk result (AreStampsOf family self.now.journal.entries) }
+    {
+        self.families.of_entry(family).unwrap().stamps(alloc)
+    }
+
+    /// The living copy with this number as a holding, if it is on the device.
+    fn holding_at(&self, device: &DeviceName, number: u64) -> Result<Option<Holding>, AllocError>
+        requires kept { IsHeld self.now }
+        ensures { IfOk result (λ made. made ≡ holding_in (living self.now.journal.entries) device.now number) }
+    {
+        let Some(found) = self.copies.get(number) else {
+            return Ok(None);
+        };
+        if !is_on(device, found.place) {
+            return Ok(None);
+        }
+        let path = found.place.path.copy_of()?;
+        let it = self.families.of_entry(number).unwrap();
+        Ok(Some(Holding {
+            copy: number,
+            family: found.family,
+            path,
+            touch: it.touch(number),
+        }))
+    }
+
+    /// The living copies on a device, by rising number.
+    fn holdings(&self, alloc: Global, device: &DeviceName) -> Result<Vec<Holding>, AllocError>
+        requires kept { IsHeld self.now }
+        ensures { IfOk result (λ made. made.items ≡ holdings (living self.now.journal.entries) device.now) }
+    {
+        let mut made = Vec::new(alloc);
+        for earlier in 0..self.journal.length() {
+            if let Some(holding) = self.holding_at(device, earlier + 1)? {
+                made.push(holding)?;
+            }
+        }
+        Ok(made)
+    }
 }
 
 /// A family's row, read off its board.
@@ -103,46 +142,6 @@ fn family_row(alloc: Global, it: &ListedFamily) -> Result<FamilyRow, AllocError>
         newest: board.newest.as_slice().len() as u64,
         split: board.split,
     })
-}
-
-/// The board of a family: its rows with their places.
-fn board_of(
-    alloc: Global,
-    family: u64,
-    journal: &Journal,
-    families: &Families,
-    copies: &CopyTable,
-) -> Result<BoardView, AllocError>
-    requires kept { IsKept journal.now.entries families.now.list.items families.now.positions.items copies.now }
-    requires free { query_refusal journal.now.entries (living journal.now.entries) (Query.Board family) ≡ None }
-    ensures { IfOk result (λ view. view ≡ board_of family (living journal.now.entries)) }
-{
-    let _ = journal;
-    let board = families.of_entry(family).unwrap().board(alloc)?;
-    let rows = board_rows(alloc, copies, board.rows.as_slice())?;
-    Ok(BoardView {
-        family,
-        rows: PlainList::from_vec(rows),
-        newest: board.newest,
-        split: board.split,
-    })
-}
-
-/// The stamps of a family's copies.
-fn stamps_of(
-    alloc: Global,
-    family: u64,
-    journal: &Journal,
-    families: &Families,
-    copies: &CopyTable,
-) -> Result<PlainList<CopyStamp>, AllocError>
-    requires kept { IsKept journal.now.entries families.now.list.items families.now.positions.items copies.now }
-    requires free { query_refusal journal.now.entries (living journal.now.entries) (Query.Stamps family) ≡ None }
-    ensures { IfOk result (AreStampsOf family (living journal.now.entries)) }
-{
-    let _ = journal;
-    let _ = copies;
-    families.of_entry(family).unwrap().stamps(alloc)
 }
 
 /// The rows of a board, each with the place of its copy.
@@ -180,52 +179,4 @@ fn is_on(device: &DeviceName, place: &Place) -> bool
     ensures { result ≡ bytes_eq place.now.device device.now }
 {
     place.device == *device
-}
-
-/// The living copy with this number as a holding, if it is on the device.
-fn holding_at(
-    journal: &Journal,
-    families: &Families,
-    copies: &CopyTable,
-    device: &DeviceName,
-    number: u64,
-) -> Result<Option<Holding>, AllocError>
-    requires kept { IsKept journal.now.entries families.now.list.items families.now.positions.items copies.now }
-    ensures { IfOk result (λ made. made ≡ holding_in (living journal.now.entries) device.now number) }
-{
-    let _ = journal;
-    let Some(found) = copies.get(number) else {
-        return Ok(None);
-    };
-    if !is_on(device, found.place) {
-        return Ok(None);
-    }
-    let path = found.place.path.copy_of()?;
-    let it = families.of_entry(number).unwrap();
-    Ok(Some(Holding {
-        copy: number,
-        family: found.family,
-        path,
-        touch: it.touch(number),
-    }))
-}
-
-/// The living copies on a device, by rising number.
-fn holdings(
-    alloc: Global,
-    journal: &Journal,
-    families: &Families,
-    copies: &CopyTable,
-    device: &DeviceName,
-) -> Result<Vec<Holding>, AllocError>
-    requires kept { IsKept journal.now.entries families.now.list.items families.now.positions.items copies.now }
-    ensures { IfOk result (λ made. made.items ≡ holdings (living journal.now.entries) device.now) }
-{
-    let mut made = Vec::new(alloc);
-    for earlier in 0..journal.length() {
-        if let Some(holding) = holding_at(journal, families, copies, device, earlier + 1)? {
-            made.push(holding)?;
-        }
-    }
-    Ok(made)
 }

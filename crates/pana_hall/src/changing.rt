@@ -1,9 +1,10 @@
 //! What reports do to a family and to the table of copies. None of these changes anything where memory runs out.
-ghost use Rattle.std.specs.Prelude.{◌≡◌, ◌≢◌, ℕ, ◌+◌, ◌<◌, ◌==◌, true, Some, None, IsSome, IfSome, List, OnOk, OnErr, drop, length, slice_get, IfOk, option_map, option_and_then, if◌then◌else◌};
+ghost use Rattle.std.specs.Prelude.{◌≡◌, ◌≢◌, ℕ, ◌∷◌, ◌<◌, ◌==◌, true, Some, None, IsSome, IfSome, List, OnOk, OnErr, drop, length, slice_get, IfOk, option_map, option_and_then, if◌then◌else◌};
 ghost use Rattle.pana_copies.specs.Spots.{kept, place_of, placed};
-ghost use Rattle.pana_family.specs.Table.{copies_of, duplicated, removed, touched};
+ghost use Rattle.pana_family.specs.Table.{copies_of};
+ghost use Rattle.pana_family.specs.declared.report.FamilyReport.TheVariants as reports;
 ghost use Rattle.pana_family.specs.Sets.{Sets, began, withdrawn};
-ghost use Rattle.pana_family.specs.View.{Means, is_living, IsNew, IsLast, can_split, depth_at};
+ghost use Rattle.pana_family.specs.View.{Means, is_living, IsNew, IsLast, can_split, undone};
 ghost use Rattle.pana_hall.specs.inner.Spots.{SameSpots, IsFree, IsFreeFor, CanUndo, undone_spot};
 ghost use Rattle.pana_hall.specs.inner.OldPlaces.{Old, Keeps};
 ghost use Rattle.pana_hall.specs.inner.Steps.{Reports};
@@ -27,7 +28,7 @@ pub fn duplicate(
     requires room { (sets : Sets) × Means it.old.family sets × (length (copies_of sets.table) < 256) }
     requires fresh { kept copies.old entry ≡ None }
     requires free { IsFree place.now copies.old }
-    ensures family { OnOk result (Reports entry (duplicated entry source) 1 None it.old it.new) }
+    ensures family { OnOk result (Reports entry (reports.Duplicate source) None it.old it.new) }
     ensures spots { OnOk result ((number : ℕ) → kept copies.new number
         ≡ (if number == entry then Some (record { family = it.old.number; place = place.now }) else kept copies.old number)) }
     ensures same { OnErr result (it.new ≡ it.old) }
@@ -64,7 +65,7 @@ pub fn relocate(
     requires new { IsNew entry it.old.family }
     requires lives { IsSome (kept copies.old copy) }
     requires free { IsFreeFor copy place.now copies.old }
-    ensures family { OnOk result (Reports entry (touched entry copy) 0 (place_of copies.old copy) it.old it.new) }
+    ensures family { OnOk result (Reports entry (reports.Touch copy) (place_of copies.old copy) it.old it.new) }
     ensures spots { OnOk result ((number : ℕ) → kept copies.new number
         ≡ (if number == copy then placed place.now (kept copies.old copy) else kept copies.old number)) }
     ensures same { OnErr result (it.new ≡ it.old) }
@@ -92,7 +93,7 @@ pub fn remove(
     requires heir { IfSome heir (λ h. is_living it.old.family h ≡ true) }
     requires new { IsNew entry it.old.family }
     requires lives { IsSome (kept copies.old copy) }
-    ensures family { OnOk result (Reports entry (removed entry copy heir) 0 (place_of copies.old copy) it.old it.new) }
+    ensures family { OnOk result (Reports entry (reports.Remove copy heir) (place_of copies.old copy) it.old it.new) }
     ensures spots { OnOk result ((number : ℕ) → kept copies.new number ≡ (if number == copy then None else kept copies.old number)) }
     ensures same { OnErr result (it.new ≡ it.old) }
     ensures still { OnErr result (SameSpots copies.old copies.new) }
@@ -116,7 +117,7 @@ pub fn withdraw(
     ensures number { it.new.number ≡ it.old.number }
     ensures stands { OnOk result ((sets : Sets) → Means it.old.family sets → Means it.new.family (withdrawn sets)) }
     ensures places { OnOk result ((places : List Old) → Keeps it.old.old_places places → Keeps it.new.old_places (drop 1 places)) }
-    ensures deep { OnOk result ((k : ℕ) → depth_at k it.new.family ≡ depth_at (k + 1) it.old.family) }
+    ensures undo { OnOk result (it.old.family.undo ≡ undone entry it.new.family.rows ∷ it.new.family.undo) }
     ensures spots { OnOk result ((number : ℕ) → kept copies.new number
         ≡ undone_spot entry report.now it.old.number (option_and_then (λ kept. kept.place) (slice_get it.old.old_places.items 0)) copies.old number) }
     ensures same { OnErr result (it.new ≡ it.old) }

@@ -1,16 +1,14 @@
-ghost use Rattle.std.specs.Prelude.{◌≡◌, ◌≤◌, [], length, IfOk, IfSome, OnErr};
+ghost use Rattle.std.specs.Prelude.{◌≡◌, ◌≤◌, [], length, IfOk, OnErr};
 ghost use Rattle.pana_hall.specs.Accepted.{IsAccepted};
-ghost use Rattle.pana_hall.specs.Permit.{IsCauseOf, Permits, journal_after};
+ghost use Rattle.pana_hall.specs.Permit.{Permits, journal_after};
+ghost use Rattle.pana_hall.specs.Refusal.{refusal};
 ghost use Rattle.pana_hall.specs.Run.{RunsTo};
 
-use crate::answering::answer;
 use crate::call::{Call, Query};
 use crate::cause::Cause;
 use crate::families::Families;
-use crate::recording::record;
-use crate::refusal::query_refusal;
-use crate::refusing::cause_of;
 use crate::reply::Reply;
+use crate::state::State;
 use pana_copies::{CopyTable, DeviceName};
 use pana_journal::{Journal, Report};
 use std::alloc::{AllocError, Global};
@@ -23,21 +21,19 @@ use std::marker::Model;
 #[derive(Drop)]
 pub struct Hall {
     alloc: Global,
-    journal: Journal,
-    families: Families,
-    copies: CopyTable,
+    state: State,
 }
 
 impl Model for Hall {
     ghost use Rattle.std.specs.Prelude.{List};
     ghost use Rattle.pana_journal.specs.declared.entry.Entry.{Entry};
-    ghost use Rattle.pana_hall.specs.inner.Kept.{IsKept};
+    ghost use Rattle.pana_hall.specs.inner.State.{IsHeld};
 
     ghost Value = { List Entry };
 
-    ghost view = { λ hall. hall.journal.entries };
+    ghost view = { λ hall. hall.state.journal.entries };
 
-    ghost invariant = { λ hall. IsKept hall.journal.entries hall.families.list.items hall.families.positions.items hall.copies };
+    ghost invariant = { λ hall. IsHeld hall.state };
 }
 
 impl Hall {
@@ -51,9 +47,11 @@ impl Hall {
     {
         Ok(Hall {
             alloc,
-            journal: Journal::new(alloc),
-            families: Families::new(alloc),
-            copies: CopyTable::new(alloc),
+            state: State {
+                journal: Journal::new(alloc),
+                families: Families::new(alloc),
+                copies: CopyTable::new(alloc),
+            },
         })
     }
 
@@ -71,11 +69,11 @@ impl Hall {
 
     /// Why a device's report is refused whatever memory there is: `apply` refuses it for this cause. Where there is none,
     /// `apply` takes the report, unless memory runs out. Changes nothing, and takes no memory.
+    #[tactic(auto, unfolding(crate::specs::Refusal::refusal))]
     pub fn refusal(&self, by: &DeviceName, report: &Report) -> Option<Cause>
-        ensures cause { IsCauseOf self.now by.now report.now result }
-        ensures permitted { IfSome result (λ cause. Permits self.now by.now (calls.Report report.now) (replies.Refused cause)) }
+        ensures { result ≡ refusal self.now by.now (calls.Report report.now) }
     {
-        cause_of(&self.journal, &self.families, &self.copies, by, report)
+        self.state.report_refusal(by, report)
     }
 
     /// How many entries the journal has, at most 1,000,000. Takes no memory.
@@ -84,7 +82,7 @@ impl Hall {
         ensures within { length self.now ≤ 1000000 }
         ensures accepted { IsAccepted 8 self.now }
     {
-        self.journal.length()
+        self.state.journal.length()
     }
 
     /// Takes calls of devices in order, and returns their replies: a run, where the hall was new. Fails only where
@@ -108,12 +106,10 @@ impl Hall {
         ensures permitted { Permits self.old by.now (calls.Report report) result }
         ensures journal { self.new ≡ journal_after self.old by.now (calls.Report report) result }
     {
-        let alloc = self.alloc;
-        let (journal, families, copies) = (&mut self.journal, &mut self.families, &mut self.copies);
-        if let Some(cause) = cause_of(journal, families, copies, by, &report) {
+        if let Some(cause) = self.state.report_refusal(by, &report) {
             return Reply::Refused(cause);
         }
-        match record(alloc, journal, families, copies, by, report) {
+        match self.state.record(self.alloc, by, report) {
             Ok(entry) => Reply::Done { entry },
             Err(_) => Reply::Refused(Cause::OutOfMemory),
         }
@@ -124,16 +120,10 @@ impl Hall {
         ensures permitted { Permits self.now by.now (calls.Query query) result }
         ensures journal { self.now ≡ journal_after self.now by.now (calls.Query query) result }
     {
-        if let Some(cause) = query_refusal(&self.journal, &self.copies, &query) {
+        if let Some(cause) = self.state.query_refusal(&query) {
             return Reply::Refused(cause);
         }
-        match answer(
-            self.alloc,
-            &self.journal,
-            &self.families,
-            &self.copies,
-            query,
-        ) {
+        match self.state.answer(self.alloc, query) {
             Ok(reply) => reply,
             Err(_) => Reply::Refused(Cause::OutOfMemory),
         }

@@ -1,8 +1,9 @@
 //! A family as the hall keeps it.
-ghost use Rattle.std.specs.Prelude.{◌≡◌, ℕ, ◌+◌, ◌≤◌, ◌==◌, ◌<◌, ◌↔◌, List, true, IsTrue, Some, None, IfOk, OnOk, OnErr, IfSome, option_map, option_and_then, option_copied, length, nat_lt, drop, slice_get};
-ghost use Rattle.pana_family.specs.Table.{copies_of, duplicated, edited, reconciled, merged, removed, touched};
+ghost use Rattle.std.specs.Prelude.{◌≡◌, ℕ, ◌∷◌, ◌==◌, ◌<◌, ◌↔◌, List, true, IsTrue, Some, None, IfOk, OnOk, OnErr, IfSome, option_map, option_and_then, option_copied, length, drop, slice_get};
+ghost use Rattle.pana_family.specs.Table.{copies_of};
+ghost use Rattle.pana_family.specs.declared.report.FamilyReport.TheVariants as reports;
 ghost use Rattle.pana_family.specs.Sets.{Sets, confirmed, withdrawn, Pends, PendsLast};
-ghost use Rattle.pana_family.specs.View.{Means, is_living, IsNew, IsLast, can_split, depth_at};
+ghost use Rattle.pana_family.specs.View.{Means, is_living, IsNew, IsLast, can_split, undone, undone_since};
 ghost use Rattle.pana_hall.specs.inner.OldPlaces.{Old, later, Keeps, IsRoom};
 ghost use Rattle.pana_hall.specs.inner.Listed.{new_kept};
 ghost use Rattle.pana_hall.specs.inner.Steps.{Reports};
@@ -47,13 +48,6 @@ impl KeptFamily {
         &self.family
     }
 
-    /// Whether it has a living copy. Takes no memory.
-    pub fn has_copies(&self) -> bool
-        ensures { (sets : Sets) → Means self.now.family sets → result ≡ nat_lt 0 (length (copies_of sets.table)) }
-    {
-        self.family.count() > 0
-    }
-
     /// The place where the copy was that the last pending entry moved or removed, if it did. Takes no memory.
     pub fn last_place(&self) -> Option<&Place>
         ensures { option_copied result ≡ option_and_then (λ kept. kept.place) (slice_get self.now.old_places.items 0) }
@@ -85,7 +79,7 @@ impl KeptFamily {
         requires new { IsNew entry self.old.family }
         requires splits { can_split self.old.family source ≡ true }
         requires room { (sets : Sets) × Means self.old.family sets × (length (copies_of sets.table) < 256) }
-        ensures ok { OnOk result (Reports entry (duplicated entry source) 1 None self.old self.new) }
+        ensures ok { OnOk result (Reports entry (reports.Duplicate source) None self.old self.new) }
         ensures err { OnErr result (self.new ≡ self.old) }
     {
         match self.family.duplicate(entry, source) {
@@ -101,7 +95,7 @@ impl KeptFamily {
     pub fn edit(&mut self, entry: u64, copy: u64) -> Result<(), AllocError>
         requires living { is_living self.old.family copy ≡ true }
         requires new { IsNew entry self.old.family }
-        ensures ok { OnOk result (Reports entry (edited entry copy) 0 None self.old self.new) }
+        ensures ok { OnOk result (Reports entry (reports.Edit copy) None self.old self.new) }
         ensures err { OnErr result (self.new ≡ self.old) }
     {
         self.family.edit(entry, copy)?;
@@ -114,7 +108,7 @@ impl KeptFamily {
         requires first { is_living self.old.family a ≡ true }
         requires second { is_living self.old.family b ≡ true }
         requires new { IsNew entry self.old.family }
-        ensures ok { OnOk result (Reports entry (reconciled entry a b) 0 None self.old self.new) }
+        ensures ok { OnOk result (Reports entry (reports.Reconcile a b) None self.old self.new) }
         ensures err { OnErr result (self.new ≡ self.old) }
     {
         match self.family.reconcile(entry, a, b) {
@@ -131,7 +125,7 @@ impl KeptFamily {
         requires first { is_living self.old.family a ≡ true }
         requires second { is_living self.old.family b ≡ true }
         requires new { IsNew entry self.old.family }
-        ensures ok { OnOk result (Reports entry (merged entry a b) 0 None self.old self.new) }
+        ensures ok { OnOk result (Reports entry (reports.Merge a b) None self.old self.new) }
         ensures err { OnErr result (self.new ≡ self.old) }
     {
         match self.family.merge(entry, a, b) {
@@ -163,7 +157,7 @@ impl KeptFamily {
         requires heir { IfSome heir (λ h. is_living self.old.family h ≡ true) }
         requires new { IsNew entry self.old.family }
         requires room { IsRoom self.old.old_places (option_map (λ ring. ring.value) room) }
-        ensures ok { OnOk result (Reports entry (removed entry copy heir) 0 (Some place.value) self.old self.new) }
+        ensures ok { OnOk result (Reports entry (reports.Remove copy heir) (Some place.value) self.old self.new) }
         ensures err { OnErr result (self.new ≡ self.old) }
     {
         match self.family.remove(entry, copy, heir) {
@@ -180,7 +174,7 @@ impl KeptFamily {
         requires living { is_living self.old.family copy ≡ true }
         requires new { IsNew entry self.old.family }
         requires room { IsRoom self.old.old_places (option_map (λ ring. ring.value) room) }
-        ensures { Reports entry (touched entry copy) 0 (Some place.value) self.old self.new }
+        ensures { Reports entry (reports.Touch copy) (Some place.value) self.old self.new }
     {
         self.family.touch_place(entry, copy);
         self.old_places.push_place(entry, place, room);
@@ -191,7 +185,8 @@ impl KeptFamily {
         ensures number { self.new.number ≡ self.old.number }
         ensures stands { (sets : Sets) → Means self.old.family sets → Means self.new.family (confirmed entry sets) }
         ensures places { (places : List Old) → Keeps self.old.old_places places → Keeps self.new.old_places (later entry places) }
-        ensures deep { (k : ℕ) → depth_at k self.new.family ≤ depth_at k self.old.family }
+        ensures rows { self.new.family.rows ≡ self.old.family.rows }
+        ensures undo { self.new.family.undo ≡ undone_since entry self.old.family.undo }
     {
         self.family.confirm(entry);
         self.old_places.settle(entry);
@@ -203,7 +198,7 @@ impl KeptFamily {
         ensures number { OnOk result (self.new.number ≡ self.old.number) }
         ensures stands { OnOk result ((sets : Sets) → Means self.old.family sets → Means self.new.family (withdrawn sets)) }
         ensures places { OnOk result ((places : List Old) → Keeps self.old.old_places places → Keeps self.new.old_places (drop 1 places)) }
-        ensures deep { OnOk result ((k : ℕ) → depth_at k self.new.family ≡ depth_at (k + 1) self.old.family) }
+        ensures undo { OnOk result (self.old.family.undo ≡ undone entry self.new.family.rows ∷ self.new.family.undo) }
         ensures place { IfOk result (λ place. place ≡ option_and_then (λ kept. kept.place) (slice_get self.old.old_places.items 0)) }
         ensures err { OnErr result (self.new ≡ self.old) }
     {

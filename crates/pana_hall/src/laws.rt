@@ -2,7 +2,7 @@
 //! A family's last 8 entries are pending; `table 8 k family journal` is the family's living copies with the last k
 //! pending entries left out.
 
-ghost use Rattle.std.specs.Prelude.{◌≡◌, ◌≢◌, ℕ, ◌+◌, ◌≤◌, List, [], ◌∷◌, ◌++◌, ◌==◌, ◌⊎◌, length, find, count_by, option_and_then, option_map, if◌then◌else◌, Some, true};
+ghost use Rattle.std.specs.Prelude.{◌≡◌, ◌≢◌, ℕ, ◌+◌, ◌≤◌, List, [], ◌∷◌, ◌++◌, ◌==◌, length, find, count_by, option_and_then, option_map, if◌then◌else◌, Some, true};
 ghost use Rattle.std.specs.Bool.{then_some};
 ghost use Rattle.std.specs.List.{AllByRecursion, list_any};
 ghost use Rattle.std.specs.Str.{bytes_eq};
@@ -10,7 +10,9 @@ ghost use Rattle.pana_copies.specs.declared.place.Place.{Place};
 ghost use Rattle.pana_journal.specs.declared.report.Report.TheVariants.{Register, Confirm, Withdraw};
 ghost use Rattle.pana_family.specs.Table.{AreBelow};
 ghost use Rattle.pana_family.specs.Sets.{IsAbove, after, began, confirmed, withdrawn};
-ghost use Rattle.pana_hall.specs.Sets.{reported, sets_of};
+ghost use Rattle.pana_hall.specs.Sets.{knowns_of, reported, sets_of};
+ghost use Rattle.pana_hall.specs.StampRows.{stamp_rows};
+ghost use Rattle.pana_family.specs.Stands.{StandsFor};
 ghost use Rattle.pana_journal.specs.declared.entry.Entry.{Entry};
 ghost use Rattle.pana_journal.specs.Entries.{entry_at};
 ghost use Rattle.pana_family.specs.Updates.{has};
@@ -20,7 +22,7 @@ ghost use Rattle.pana_hall.specs.Living.{Copy, copies_of, copy_in, known_to, liv
 ghost use Rattle.pana_hall.specs.Pending.{is_last, last, pend, pending};
 ghost use Rattle.pana_hall.specs.Board.{board_of, is_of};
 ghost use Rattle.pana_hall.specs.Queries.{begun, family_row, holding, holdings};
-ghost use Rattle.pana_hall.specs.Refusal.{brought_back, displaced};
+ghost use Rattle.pana_hall.specs.Refusal.{brought_back, displaced, too_deep};
 ghost use Rattle.pana_hall.specs.Run.{Exchange, IsRun, journal_from};
 ghost use Rattle.pana_hall.specs.Tables.{table, tables};
 ghost use Rattle.pana_hall.specs.Accepted.{Accepts, IsAccepted};
@@ -31,7 +33,7 @@ ghost use Rattle.pana_hall.specs.declared.loading.LoadFault.{LoadFault};
 ghost use Rattle.pana_hall.specs.declared.loading.LoadCause.TheVariants.{Refused};
 ghost use Rattle.pana_hall.specs.Permit.{Permits};
 ghost use Rattle.pana_hall.specs.Load.{IsLoadFault};
-ghost use Rattle.pana_hall.specs.Laws.{AddsLayer, AreApart, AreMerged, AreRising, DropsLayer, IsOrderly, KeepsLayers, LeavesAlone, family_of_next};
+ghost use Rattle.pana_hall.specs.Laws.{AddsLayer, duplicates_in, AreApart, AreMerged, AreRising, DropsLayer, IsOrderly, KeepsLayers, LeavesAlone, family_of_next};
 
 /// After every run no two living copies have one place, their numbers rise, none is above that of the last entry, and
 /// each copy is of its entry's family. Entries that are withdrawn are no exception.
@@ -45,10 +47,9 @@ pub fn accepted_are_those_of_runs()
     ensures of_run { (journal : List Entry) → IsAccepted 8 journal → (run : List Exchange) × IsRun run × (journal_from [] run ≡ journal) }
 {}
 
-/// The entries of a hall's journal load: nothing but a shortage stops them.
+/// The entries of a hall's journal load, unless memory runs out.
 pub fn own_entries_load()
-    ensures { (entries : List Entry) (fault : LoadFault) → IsAccepted 8 entries → IsLoadFault entries fault
-        → (fault.cause ≡ Refused OutOfMemory) ⊎ (fault.cause ≡ Refused TooDeep) }
+    ensures { (entries : List Entry) (fault : LoadFault) → IsAccepted 8 entries → IsLoadFault entries fault → fault.cause ≡ Refused OutOfMemory }
 {}
 
 /// A hall keeps nothing on a disk: it refuses no call as not kept.
@@ -98,6 +99,15 @@ pub fn sets_go_by_report()
         → sets_of entry.number (journal ++ entry ∷ []) ≡ began entry.number }
     ensures above { (journal : List Entry) (family : ℕ) → IsAccepted 8 journal → IsAbove (length journal + 1) (sets_of family journal).table }
     ensures below { (journal : List Entry) (family : ℕ) → IsAccepted 8 journal → AreBelow (length journal + 1) (sets_of family journal).table }
+{}
+
+/// The rows that a family's entries make stand for the sets that they make, so a copy is obsolete, equal or in conflict by its
+/// stamp as it is by what it knows; and an id can't be divided only where 256 of the entries that count are Duplicates.
+pub fn rows_stand_for_sets()
+    ensures stands { (journal : List Entry) (family : ℕ) → IsAccepted 8 journal
+        → StandsFor (stamp_rows family journal) (knowns_of (entries_of family (families journal) (effective journal))) }
+    ensures deep { (journal : List Entry) (number : ℕ) → IsAccepted 8 journal → too_deep number journal (living journal) ≡ Some TooDeep
+        → 256 ≤ duplicates_in (families journal number) journal }
 {}
 
 /// No entry changes a family but its own.

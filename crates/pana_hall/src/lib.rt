@@ -6,7 +6,6 @@ mod board;
 mod call;
 mod cause;
 mod changing;
-mod depth;
 mod families;
 mod family_row;
 mod hall;
@@ -19,8 +18,8 @@ mod old_place;
 mod old_places;
 mod recording;
 mod refusal;
-mod refusing;
 mod reply;
+mod state;
 mod taking;
 
 pub use crate::board::{BoardRow, BoardView};

@@ -3,7 +3,7 @@ ghost use Rattle.std.specs.Prelude.{◌≡◌, ◌↔◌, ◌≤◌, List, IsTru
 ghost use Rattle.pana_family.specs.Board.{board_rows, board_newest, board_split};
 ghost use Rattle.pana_family.specs.Relation.{relation};
 ghost use Rattle.pana_family.specs.Sets.{Sets, Pends, PendsLast};
-ghost use Rattle.pana_family.specs.Stamps.{AreStamps, text_of};
+ghost use Rattle.pana_family.specs.Stamps.{AreStamps, stamps_in, text_of};
 ghost use Rattle.pana_family.specs.Table.{copies_of, set_in, touch_in};
 ghost use Rattle.pana_family.specs.View.{Means, is_living, can_split, depth_at};
 ghost use Rattle.pana_hall.specs.inner.Listed.{new_kept};
@@ -66,10 +66,7 @@ impl ListedFamily {
     pub fn has_copies(&self) -> bool
         ensures { (sets : Sets) → Means self.now.family sets → result ≡ nat_lt 0 (length (copies_of sets.table)) }
     {
-        match &self.form {
-            Form::New(_) => true,
-            Form::Changed(it) => it.has_copies(),
-        }
+        self.count() > 0
     }
 
     /// How many copies live. Takes no memory.
@@ -85,8 +82,7 @@ impl ListedFamily {
     /// Whether the copy's id can be divided. Takes no memory.
     pub fn splits(&self, copy: u64) -> bool
         requires { is_living self.now.family copy ≡ true }
-        ensures test { result ≡ can_split self.now.family copy }
-        ensures deep { result ≡ false → 256 ≤ depth_at 0 self.now.family }
+        ensures { result ≡ can_split self.now.family copy }
     {
         match &self.form {
             Form::New(_) => true,
@@ -131,7 +127,8 @@ impl ListedFamily {
 
     /// The text of each living copy's stamp, by rising number. Fails only where memory runs out.
     pub fn stamps(&self, alloc: Global) -> Result<PlainList<CopyStamp>, AllocError>
-        ensures { IfOk result (λ stamps. (sets : Sets) → Means self.now.family sets → AreStamps (map text_of stamps) (copies_of sets.table)) }
+        ensures sets { IfOk result (λ stamps. (sets : Sets) → Means self.now.family sets → AreStamps (map text_of stamps) (copies_of sets.table)) }
+        ensures exact { IfOk result (λ stamps. map text_of stamps ≡ stamps_in self.now.family.rows) }
     {
         match &self.form {
             Form::New(entry) => Family::new(alloc, *entry)?.stamps(),

@@ -3,14 +3,15 @@ ghost use Rattle.std.specs.Prelude.{◌≡◌, ℕ, ◌+◌, ◌<◌, List, [], 
 ghost use Rattle.pana_copies.specs.Spots.{kept};
 ghost use Rattle.pana_hall.specs.inner.Spots.{SameSpots, IsFree};
 ghost use Rattle.pana_hall.specs.inner.Listed.{new_kept};
-ghost use Rattle.pana_hall.specs.inner.Kept.{next_entry, AreListed, AreSpots, IsFamilyKept, IsReady, IsReadyAt, IsKept, Records, Splits};
+ghost use Rattle.pana_hall.specs.inner.Kept.{next_entry, AreListed, AreSpots, IsFamilyKept, IsReady, IsReadyAt};
+ghost use Rattle.pana_hall.specs.inner.State.{IsHeld, Records};
 ghost use Rattle.pana_hall.specs.Living.{living};
 ghost use Rattle.pana_hall.specs.Refusal.{report_refusal};
 
 use crate::changing::{duplicate, relocate, remove, withdraw};
-use crate::families::Families;
 use crate::kept_family::KeptFamily;
 use crate::listed_family::{Form, ListedFamily};
+use crate::state::State;
 use pana_copies::{CopyTable, DeviceName, Place};
 use pana_journal::{Journal, Report};
 use std::alloc::{AllocError, Global};
@@ -100,14 +101,6 @@ fn begin(
     Ok(())
 }
 
-/// Reserves room for one entry.
-fn reserve(journal: &mut Journal) -> Result<(), AllocError>
-    ensures entries { journal.new.entries ≡ journal.old.entries }
-    ensures ok { OnOk result (0 < journal.new.room) }
-{
-    journal.reserve_one().map_err(|_| AllocError)
-}
-
 /// Does what the report of the next entry says to the families, of which the report's is at this position, and to the
 /// table of copies. Fails only where memory runs out, and then changes nothing.
 fn change_at(
@@ -135,37 +128,36 @@ fn change_at(
     }
 }
 
-/// Makes a report that nothing stands against the next entry of the journal, and keeps all of the journal that is kept.
-/// Fails only where memory runs out, and then the journal is as it was.
-pub fn record(
-    alloc: Global,
-    journal: &mut Journal,
-    families: &mut Families,
-    copies: &mut CopyTable,
-    by: &DeviceName,
-    report: Report,
-) -> Result<u64, AllocError>
-    requires kept { IsKept journal.old.entries families.old.list.items families.old.positions.items copies.old }
-    requires free { report_refusal 8 journal.old.entries (living journal.old.entries) by.now report ≡ None }
-    requires splits { Splits families.old.list.items families.old.positions.items report }
-    ensures { Records journal.old.entries by.now report result journal.new.entries families.new.list.items families.new.positions.items copies.new }
-{
-    let by = by.copy_of();
-    reserve(journal)?;
-    let position = families.position_for(&report).unwrap();
-    families.push_position(position)?;
-    let changed = change_at(
-        alloc,
-        journal,
-        &by,
-        &mut families.list,
-        position,
-        copies,
-        &report,
-    );
-    if let Err(error) = changed {
-        families.pop_position();
-        return Err(error);
+impl State {
+    /// Makes a report that nothing stands against the next entry of the journal, and keeps all of the journal that is
+    /// kept. Fails only where memory runs out, and then the journal is as it was.
+    pub fn record(
+        &mut self,
+        alloc: Global,
+        by: &DeviceName,
+        report: Report,
+    ) -> Result<u64, AllocError>
+        requires kept { IsHeld self.old }
+        requires free { report_refusal 8 self.old.journal.entries (living self.old.journal.entries) by.now report ≡ None }
+        ensures { Records self.old.journal.entries by.now report result self.new }
+    {
+        let by = by.copy_of();
+        self.journal.reserve_one().map_err(|_| AllocError)?;
+        let position = self.families.position_for(&report).unwrap();
+        self.families.push_position(position)?;
+        let changed = change_at(
+            alloc,
+            &self.journal,
+            &by,
+            &mut self.families.list,
+            position,
+            &mut self.copies,
+            &report,
+        );
+        if let Err(error) = changed {
+            self.families.pop_position();
+            return Err(error);
+        }
+        Ok(self.journal.append(by, report))
     }
-    Ok(journal.append(by, report))
 }

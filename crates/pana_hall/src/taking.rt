@@ -18,8 +18,7 @@ impl Hall {
     /// # Errors
     ///
     /// The first entry that isn't the next one: `OutOfOrder` where its number isn't its position, or else the cause
-    /// with which its report is refused. The entries of a hall's own journal have none but `OutOfMemory` and, as far as
-    /// contracts say, `TooDeep`.
+    /// with which its report is refused. The entries of a hall's own journal have none but `OutOfMemory`.
     pub fn load(alloc: Global, entries: EntryList) -> Result<Hall, LoadFault>
         ensures ok { IfOk result (λ hall. hall ≡ entries) }
         ensures fault { IfErr result (IsLoadFault entries) }

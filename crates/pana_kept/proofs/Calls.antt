@@ -12,7 +12,7 @@ use Rattle.pana_hall.specs.declared.cause.Cause.{Cause}
 use Rattle.pana_hall.specs.declared.cause.Cause.TheVariants as causes
 use Rattle.pana_hall.specs.declared.reply.Reply.{Reply}
 use Rattle.pana_hall.specs.declared.reply.Reply.TheVariants as replies
-use Rattle.pana_hall.specs.Permit.{Permits, PermitsBy, IsCauseOf, journal_after}
+use Rattle.pana_hall.specs.Permit.{Permits, PermitsBy, journal_after}
 use Rattle.pana_hall.specs.Refusal.{refusal}
 use Rattle.pana_hall.specs.Step.{Steps}
 use Rattle.pana_hall.proofs.NotKept.{never_not_kept}
@@ -59,17 +59,14 @@ not_done_same journal by report reply not = refl
 never : {P : Type 0} (old : List Entry) (by : List ℕ) (call : Call) (reply : Reply) (new : List Entry) → Steps old by call reply new → reply ≡ replies.Refused causes.NotKept → P
 never old by call reply new steps is = absurd (never_not_kept old by call (subst (λ (r : Reply). Permits old by call r) is steps.0))
 
--- nothing stands against a report that has no cause
-pub no_cause : (journal : List Entry) (by : List ℕ) (report : Report) → IsCauseOf journal by report None → refusal journal by (calls.Report report) ≡ None
-no_cause journal by report is = ⊎_elim (λ none. sym none) (λ deep. absurd (let none = deep.1 in cc)) is
-
-short_of : (journal : List Entry) (report : Report) → PermitsBy None journal (calls.Report report) (replies.Refused causes.OutOfMemory)
-short_of journal (reports.Duplicate copy place) = inr (causes.OutOfMemory, inl refl, refl)
-short_of journal report = inr (causes.OutOfMemory, refl, refl)
+-- what stands against a report refuses it
+pub permits_cause : (journal : List Entry) (by : List ℕ) (report : Report) (cause : Cause) → Some cause ≡ refusal journal by (calls.Report report) → Permits journal by (calls.Report report) (replies.Refused cause)
+unfolding Permits
+permits_cause journal by report cause is = subst (λ o. PermitsBy o journal (calls.Report report) (replies.Refused cause)) is refl
 
 pub permits_short : (journal : List Entry) (by : List ℕ) (report : Report) → refusal journal by (calls.Report report) ≡ None → Permits journal by (calls.Report report) (replies.Refused causes.OutOfMemory)
 unfolding Permits
-permits_short journal by report is = subst (λ o. PermitsBy o journal (calls.Report report) (replies.Refused causes.OutOfMemory)) (sym is) (short_of journal report)
+permits_short journal by report is = subst (λ o. PermitsBy o journal (calls.Report report) (replies.Refused causes.OutOfMemory)) (sym is) (inr (causes.OutOfMemory, refl, refl))
 
 pub after_refused : (journal : List Entry) (by : List ℕ) (report : Report) (cause : Cause) → journal ≡ journal_after journal by (calls.Report report) (replies.Refused cause)
 unfolding journal_after

@@ -1,6 +1,6 @@
 -- What the calls that change a table leave.
 use Rattle.std.proofs.Common.{◌≡◌, ℕ, ◌+◌, ◌<◌, ◌≤◌, List, [], length, get_or, refl, ap, sym, subst, ◌∙◌, inl, inr, arith}
-use Rattle.std.specs.Prelude.{slice_set, Contains, Option, Some, None, IfSome}
+use Rattle.std.specs.Prelude.{slice_set, Contains}
 use Rattle.std.specs.List.{insert, remove}
 use Rattle.std.proofs.lemmas.Bool.{cases_eq, eq-eqb, ne_eqb}
 use Rattle.std.proofs.lemmas.List.{get_or_read, get_or-set_same, get_or-set_other, length-set}
@@ -9,7 +9,7 @@ use Rattle.pana_event.specs.declared.rel.Rel.{Rel}
 use Rattle.pana_event.specs.declared.rel.Rel.TheVariants.{Equal}
 use Rattle.pana_event.specs.Relation.{reverse_of}
 use Rattle.pana_rel.specs.Pairs.{Table, edited_rel, edited_row, place_of, rel_at, rel_of, with_row, without}
-use Rattle.pana_rel.specs.inner.Square.{Relations, rel_in, row_in, table_of, up, IsKept, IsSpare, IsWide}
+use Rattle.pana_rel.specs.inner.Square.{Relations, rel_in, row_in, table_of, up, IsKept, IsWide}
 use Rattle.pana_rel.proofs.Orders.{contains_remove, others_at, rising_remove, without_is}
 use Rattle.pana_rel.proofs.Places.{place_reads, place_within, same_place, up_remove, up_within}
 use Rattle.pana_rel.proofs.Tables.{HoldsIn, at_table, with_row_own, with_row_to, with_row_else, with_row_mirrored, with_row_itself, kept_from, AreMirrored, holds_mirrored, AreDropped, holds_dropped}
@@ -58,46 +58,6 @@ replaced cs rows new copy given kept here long itself m =
           (λ a ina. with_row_itself copy row rel cs itself kept.itself a (λ other. ina));
       holds = holds;
     }
-
--- what the next copy needs is there after a row was written
-pub written_spare : (rows slice new final : List Relations) (at : ℕ) (old row spare : Relations) → at < length rows → old ≡ get_or rows at old → row.room ≡ old.room
-    → slice ≡ slice_set rows at row → length new ≡ length slice → ((i : ℕ) → (row_in new i).room ≡ (row_in slice i).room) → final ≡ new → IsSpare rows spare → IsSpare final spare
-written_spare rows slice new final at old row spare within read room same tall rooms end s =
-    let none : Relations = record { items = []; room = 0 } in
-    let long : length final ≡ length rows = ap length end ∙ tall ∙ ap length same ∙ length-set rows at row in
-    record {
-      empty = s.empty;
-      wide = subst (λ n. n < spare.room) (sym long) s.wide;
-      rooms = λ i h. subst (λ n. 0 < n) (sym (ap (λ r. (row_in r i).room) end ∙ rooms i ∙ ap (λ r. (row_in r i).room) same)) (elim (cases_eq i at) [
-        | inl here ↦
-            subst (λ r. 0 < r.room) (sym (ap (λ k. row_in (slice_set rows at row) k) here ∙ get_or-set_same rows at row none within))
-            (subst (λ n. 0 < n) (sym (room ∙ ap (λ r. r.room) (get_or_read rows at old within read none))) (s.rooms at within))
-        | inr apart ↦ subst (λ r. 0 < r.room) (sym (get_or-set_other rows at i row none apart)) (s.rooms i (omega (arith, h, long)))
-      ]);
-    }
-
--- and after one was taken out
-pub dropped_spare : (rows slice new final : List Relations) (at : ℕ) (spare : Relations) → at < length rows → slice ≡ remove rows at → length new ≡ length slice
-    → ((i : ℕ) → i < length slice → (row_in slice i).room ≤ (row_in new i).room) → final ≡ new → IsSpare rows spare → IsSpare final spare
-dropped_spare rows slice new final at spare within same tall rooms end s =
-    let long : length final + 1 ≡ length rows = omega (arith, ap length end, tall, ap length same, length-remove rows at within) in
-    record {
-      empty = s.empty;
-      wide = omega (arith, long, s.wide);
-      rooms = λ i h.
-          let inside : i < length slice = omega (arith, h, ap length end, tall) in
-          let bound = up_within at i (length final) h in
-          let was : 0 < (row_in rows (up at i)).room = s.rooms (up at i) (omega (arith, bound, long)) in
-          let moved : (row_in slice i).room ≡ (row_in rows (up at i)).room = ap (λ r. (row_in r i).room) same ∙ ap (λ r. r.room) (up_remove rows at i (record { items = []; room = 0 })) in
-          let more = rooms i inside in
-          let is : (row_in final i).room ≡ (row_in new i).room = ap (λ r. (row_in r i).room) end in
-          omega (arith, was, moved, more, is);
-    }
-
-pub still_spare : (P : Relations → Type 0) (rows : List Relations) (m n k l : ℕ) (spare : Option Relations) → IfSome spare P → ((row : Relations) → P row → IsSpare rows row)
-    → ((row : Relations) → P row → m < n) → ((row : Relations) → P row → k < l) → IfSome spare (λ row. IsSpare rows row × (m < n) × (k < l))
-still_spare P rows m n k l None p is less few = tt
-still_spare P rows m n k l (Some row) p is less few = (is row p, less row p, few row p)
 
 -- a row that says the same of all copies is as good
 pub holds_row : (cs : List ℕ) (rows : List Relations) (copy : ℕ) (row other : ℕ → Rel) (rel : ℕ → ℕ → Rel) → HoldsIn cs rows (with_row copy row rel)

@@ -1,6 +1,6 @@
 -- What a table is once a copy was put in.
 use Rattle.std.proofs.Common.{◌≡◌, ℕ, zero, suc, ◌+◌, ◌<◌, ◌≤◌, List, [], ◌∷◌, length, get_or, refl, ap, ap₂, sym, subst, ◌∙◌, inl, inr, arith, Result, Ok, Err}
-use Rattle.std.specs.Prelude.{if◌then◌else◌, Contains, Option, Some, None, IfSome, OnErr, is_ok}
+use Rattle.std.specs.Prelude.{if◌then◌else◌, Contains, OnErr, is_ok}
 use Rattle.std.specs.List.{insert}
 use Rattle.std.proofs.lemmas.List.{ext_get_or, get_or_past, get_or_read, length-map}
 use Rattle.std.proofs.lemmas.List.Edits.{length-insert, get_or-insert_at}
@@ -15,7 +15,7 @@ use Rattle.pana_rel.proofs.Places.{place_past, place_within, up_insert}
 use Rattle.pana_rel.proofs.Tables.{HoldsIn, at_table, kept_from, rels_are, row_item, with_row_mirrored, with_row_itself, holds_inserted}
 
 -- what each place has, each place has once one more is there that has it
-all_insert : {X : Type 0} (P : X → Type 0) (xs : List X) (at : ℕ) (y d : X) → at ≤ length xs → ((i : ℕ) → i < length xs → P (get_or xs i d)) → P y
+pub all_insert : {X : Type 0} (P : X → Type 0) (xs : List X) (at : ℕ) (y d : X) → at ≤ length xs → ((i : ℕ) → i < length xs → P (get_or xs i d)) → P y
     → (i : ℕ) → i < length (insert xs at y) → P (get_or (insert xs at y) i d)
 all_insert P xs zero y d fits all here zero h = here
 all_insert P xs zero y d fits all here (suc i) h = all i (omega (arith, h))
@@ -97,13 +97,6 @@ liked_call cs cs' rows final room now source n at p row given kept view read sam
 -- what a call that succeeded left
 pub ok_left : {T E X : Type 0} (r : Result T E) (u : T) (new a b : X) → r ≡ Ok u → new ≡ (if is_ok r then a else b) → new ≡ a
 ok_left r u new a b good left = left ∙ ap (λ q. if is_ok q then a else b) good
-
--- what holds of what was there holds of what was taken
-pub taken_spare : (P : Relations → Type 0) (spare taken : Option Relations) (row : Relations) → IfSome spare P → taken ≡ spare → taken ≡ Some row → P row
-taken_spare P spare taken row all same is = subst (λ o. IfSome o P) (sym same ∙ is) all
-
-pub none_spare : (P : Relations → Type 0) (spare : Option Relations) → spare ≡ None → IfSome spare P
-none_spare P spare none = subst (λ o. IfSome o P) (sym none) tt
 
 -- a fact holds after an error too
 pub on_err : {T E : Type 0} (r : Result T E) (P : Type 0) → P → OnErr r P

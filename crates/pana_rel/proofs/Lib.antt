@@ -6,3 +6,4 @@ pub mod Insertions
 pub mod Orders
 pub mod Places
 pub mod Tables
+pub mod Spares

@@ -22,20 +22,20 @@ pub struct PairTable {
     alloc: Global,
     copies: Vec<u64>,
     rows: Vec<Row>,
-    // The row of the next copy, where `reserve` made room for it.
-    spare: Option<Row>,
+    // The rows of the next copies, for which there is room.
+    spare: Vec<Row>,
 }
 
 impl Model for PairTable {
-    ghost use Rattle.std.specs.Prelude.{◌<◌, IfSome, vec_len, vec_capacity};
+    ghost use Rattle.std.specs.Prelude.{◌+◌, ◌≤◌, length, vec_len, vec_capacity};
     ghost use Rattle.pana_rel.specs.Pairs.{Table};
-    ghost use Rattle.pana_rel.specs.inner.Square.{IsKept, IsSpare, room_of, table_of};
+    ghost use Rattle.pana_rel.specs.inner.Square.{IsKept, AreSpare, table_of};
 
     ghost Value = { Table };
 
-    ghost view = { λ a. table_of a.copies.items a.rows.items (room_of a.spare) };
+    ghost view = { λ a. table_of a.copies.items a.rows.items (length a.spare.items) };
 
-    ghost invariant = { λ a. IsKept a.copies.items a.rows.items × IfSome a.spare (λ row. IsSpare a.rows.items row × (vec_len a.copies < vec_capacity a.copies) × (vec_len a.rows < vec_capacity a.rows)) };
+    ghost invariant = { λ a. IsKept a.copies.items a.rows.items × AreSpare a.rows.items a.spare.items × (vec_len a.copies + vec_len a.spare ≤ vec_capacity a.copies) × (vec_len a.rows + vec_len a.spare ≤ vec_capacity a.rows) × (vec_len a.rows + vec_len a.spare ≤ vec_capacity a.spare) };
 }
 
 impl PairTable {
@@ -53,11 +53,12 @@ impl PairTable {
         copies.push_reserved(first);
         let mut rows = Vec::with_capacity(alloc, 1)?;
         rows.push_reserved(row);
+        let spare = Vec::with_capacity(alloc, 1)?;
         Ok(PairTable {
             alloc,
             copies,
             rows,
-            spare: None,
+            spare,
         })
     }
 
@@ -77,18 +78,20 @@ impl PairTable {
     /// `AllocError` where an allocation failed; the table is then as it was.
     pub fn reserve(&mut self) -> Result<(), AllocError>
         ensures room { OnOk result (0 < self.new.room) }
+        ensures more { self.old.room ≤ self.new.room }
         ensures copies { self.new.copies ≡ self.old.copies }
         ensures pairs { (a b : ℕ) → rel_of self.new a b ≡ rel_of self.old a b }
         ensures err { OnErr result (self.new ≡ self.old) }
     {
-        if self.spare.is_some() {
+        if self.spare.len() > 0 {
             return Ok(());
         }
         let spare = Row::with_room(self.alloc, self.rows.len() + 1)?;
         self.copies.reserve(1)?;
         self.rows.reserve(1)?;
+        self.spare.reserve(self.rows.len() + 1)?;
         rows::reserve(&mut self.rows)?;
-        self.spare = Some(spare);
+        self.spare.push_reserved(spare);
         Ok(())
     }
 
@@ -100,10 +103,12 @@ impl PairTable {
         requires new { ¬ Contains self.old.copies new }
         ensures copies { self.new.copies ≡ with_copy new self.old.copies }
         ensures pairs { Holds self.new (with_row new (rel_of self.old source) (rel_of self.old)) }
+        ensures room { self.new.room + 1 ≡ self.old.room }
+        ensures count { length self.new.copies ≡ length self.old.copies + 1 }
     {
         let from = self.place(source);
         let at = self.gap(new);
-        let mut row = self.spare.take().unwrap();
+        let mut row = self.spare.pop().unwrap();
         row.extend(self.rows[from].as_slice());
         rows::put(&mut self.copies, &mut self.rows, at, new, row);
     }
@@ -116,9 +121,11 @@ impl PairTable {
         requires long { length rels.now ≡ length self.old.copies }
         ensures copies { self.new.copies ≡ with_copy new self.old.copies }
         ensures pairs { Holds self.new (with_row new (rel_at self.old.copies rels.now) (rel_of self.old)) }
+        ensures room { self.new.room + 1 ≡ self.old.room }
+        ensures count { length self.new.copies ≡ length self.old.copies + 1 }
     {
         let at = self.gap(new);
-        let mut row = self.spare.take().unwrap();
+        let mut row = self.spare.pop().unwrap();
         row.extend(rels);
         rows::put(&mut self.copies, &mut self.rows, at, new, row);
     }
@@ -129,7 +136,7 @@ impl PairTable {
         requires { Contains self.old.copies copy }
         ensures copies { self.new.copies ≡ self.old.copies }
         ensures pairs { Holds self.new (with_row copy (edited_row copy (rel_of self.old copy)) (rel_of self.old)) }
-        ensures room { self.old.room ≤ self.new.room }
+        ensures room { self.new.room ≡ self.old.room }
     {
         let at = self.place(copy);
         rows::edit_row(&mut self.rows[at], at);
@@ -142,24 +149,27 @@ impl PairTable {
         requires long { length rels.now + 1 ≡ length self.old.copies }
         ensures copies { self.new.copies ≡ self.old.copies }
         ensures pairs { Holds self.new (with_row copy (rel_at (without copy self.old.copies) rels.now) (rel_of self.old)) }
-        ensures room { self.old.room ≤ self.new.room }
+        ensures room { self.new.room ≡ self.old.room }
     {
         let at = self.place(copy);
         rows::fill_row(&mut self.rows[at], at, rels);
         rows::mirror(&mut self.rows, at);
     }
 
-    /// Takes a copy out. Takes no memory; O(copies) where it has the greatest number, else it moves what comes
-    /// behind it.
+    /// Takes a copy out, and leaves room for one more. Takes no memory; O(copies) where it has the greatest number,
+    /// else it moves what comes behind it.
     pub fn drop_copy(&mut self, copy: u64)
         requires { Contains self.old.copies copy }
         ensures copies { self.new.copies ≡ without copy self.old.copies }
         ensures pairs { Holds self.new (rel_of self.old) }
-        ensures room { self.old.room ≤ self.new.room }
+        ensures room { self.new.room ≡ self.old.room + 1 }
+        ensures count { length self.new.copies + 1 ≡ length self.old.copies }
     {
         let at = self.place(copy);
         self.copies.remove(at);
-        self.rows.remove(at);
+        let mut row = self.rows.remove(at);
+        row.clear();
+        self.spare.push_reserved(row);
         rows::close_column(&mut self.rows, at);
     }
 

@@ -17,12 +17,12 @@ pub(crate) struct Row {
 }
 
 impl Model for Row {
-    ghost use Rattle.std.specs.Prelude.{◌-◌, vec_len, vec_capacity};
+    ghost use Rattle.std.specs.Prelude.{vec_capacity};
     ghost use Rattle.pana_rel.specs.inner.Square.{Relations};
 
     ghost Value = { Relations };
 
-    ghost view = { λ row. record { items = row.rels.items; room = vec_capacity row.rels - vec_len row.rels } };
+    ghost view = { λ row. record { items = row.rels.items; room = vec_capacity row.rels } };
 }
 
 impl Row {
@@ -67,28 +67,30 @@ impl Row {
         self.rels[at] = rel;
     }
 
-    /// Makes room for one more relation. What fails changes nothing.
+    /// Makes room for one more relation. What fails changes no relation.
     pub(crate) fn reserve(&mut self) -> Result<(), AllocError>
         ensures items { self.new.items ≡ self.old.items }
-        ensures room { OnOk result (0 < self.new.room) }
+        ensures room { OnOk result (length self.new.items < self.new.room) }
+        ensures more { self.old.room ≤ self.new.room }
     {
         self.rels.reserve(1)
     }
 
     /// Puts relations at the end, in room that was made. Takes no memory.
     pub(crate) fn extend(&mut self, rels: &[Rel])
-        requires { length rels.now < self.old.room }
+        requires { length self.old.items + length rels.now ≤ self.old.room }
         ensures items { self.new.items ≡ self.old.items ++ rels.now }
-        ensures room { 0 < self.new.room }
+        ensures room { self.old.room ≤ self.new.room }
     {
         self.rels.extend_from_slice(rels).unwrap();
     }
 
     /// Puts a relation in before those from a place on, in room that was made. Takes no memory; moves those.
     pub(crate) fn insert(&mut self, at: usize, rel: Rel)
-        requires room { 0 < self.old.room }
+        requires room { length self.old.items < self.old.room }
         requires within { at ≤ length self.old.items }
-        ensures { self.new.items ≡ insert self.old.items at rel }
+        ensures items { self.new.items ≡ insert self.old.items at rel }
+        ensures room { self.old.room ≤ self.new.room }
     {
         self.rels.insert(at, rel).unwrap();
     }
@@ -100,6 +102,14 @@ impl Row {
         ensures room { self.old.room ≤ self.new.room }
     {
         self.rels.remove(at);
+    }
+
+    /// Takes all relations out. Takes no memory.
+    pub(crate) fn clear(&mut self)
+        ensures items { self.new.items ≡ [] }
+        ensures room { self.old.room ≤ self.new.room }
+    {
+        self.rels.clear();
     }
 
     /// How many relations there are of each kind. Takes no memory; visits them.

@@ -69,11 +69,13 @@ pub(crate) fn mirror(rows: &mut [Row], at: usize)
     }
 }
 
-/// Makes room in each row for one more relation. What fails changes nothing.
+/// Makes room in each row for one more relation. What fails changes no relation.
 pub(crate) fn reserve(rows: &mut [Row]) -> Result<(), AllocError>
+    requires { IsWide rows.old }
     ensures tall { length rows.new ≡ length rows.old }
     ensures same { (i : ℕ) → (row_in rows.new i).items ≡ (row_in rows.old i).items }
-    ensures room { OnOk result (HaveRoom rows.new) }
+    ensures more { (i : ℕ) → (row_in rows.old i).room ≤ (row_in rows.new i).room }
+    ensures room { OnOk result (HaveRoom (length rows.new + 1) rows.new) }
 {
     for i in 0..rows.len() {
         rows[i].reserve()?;
@@ -85,10 +87,11 @@ pub(crate) fn reserve(rows: &mut [Row]) -> Result<(), AllocError>
 fn open_column(rows: &mut [Row], at: usize, given: &Row)
     requires long { length given.now.items ≡ length rows.old }
     requires within { at ≤ length rows.old }
-    requires rooms { HaveRoom rows.old }
+    requires rooms { HaveRoom (length rows.old + 1) rows.old }
     requires wide { IsWide rows.old }
     ensures tall { length rows.new ≡ length rows.old }
     ensures rows { (i : ℕ) → i < length rows.old → (row_in rows.new i).items ≡ insert (row_in rows.old i).items at (reverse_of (slice_index_or given.now.items i Equal)) }
+    ensures more { (i : ℕ) → (row_in rows.old i).room ≤ (row_in rows.new i).room }
 {
     for i in 0..rows.len() {
         rows[i].insert(at, given.get(i).reversed());
@@ -99,14 +102,19 @@ fn open_column(rows: &mut [Row], at: usize, given: &Row)
 pub(crate) fn put(copies: &mut Vec<u64>, rows: &mut Vec<Row>, at: usize, new: u64, given: Row)
     requires more_copies { vec_len copies.old < vec_capacity copies.old }
     requires more_rows { vec_len rows.old < vec_capacity rows.old }
-    requires rooms { HaveRoom rows.old.items }
-    requires room { 0 < given.room }
+    requires rooms { HaveRoom (length rows.old.items + 1) rows.old.items }
+    requires room { length given.items < given.room }
     requires tall { length rows.old.items ≡ length copies.old.items }
     requires wide { IsWide rows.old.items }
     requires long { length given.items ≡ length copies.old.items }
     requires within { at ≤ length copies.old.items }
     ensures copies { copies.new.items ≡ insert copies.old.items at new }
     ensures rows { AreInserted rows.old.items rows.new.items at given.items }
+    ensures rooms { (n : ℕ) → HaveRoom n rows.old.items → n ≤ given.room → HaveRoom n rows.new.items }
+    ensures copies_len { vec_len copies.new ≡ vec_len copies.old + 1 }
+    ensures rows_len { vec_len rows.new ≡ vec_len rows.old + 1 }
+    ensures copies_room { vec_capacity copies.old ≤ vec_capacity copies.new }
+    ensures rows_room { vec_capacity rows.old ≤ vec_capacity rows.new }
 {
     open_column(rows, at, &given);
     let mut row = given;

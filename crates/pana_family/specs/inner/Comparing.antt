@@ -1,11 +1,9 @@
 -- A table of relations while it follows the rows that it stands beside.
-use Rattle.std.specs.Prelude.{◌≡◌, ◌≢◌, ◌↔◌, ◌⊎◌, ◌==◌, ◌&&◌, not, ℕ, Bool, true, false, List, Some, None, Contains, filter, map}
+use Rattle.std.specs.Prelude.{◌≡◌, ◌≢◌, ◌↔◌, ◌+◌, ◌==◌, ◌&&◌, not, ℕ, Bool, true, false, List, None, Contains, filter, length, map}
 use Rattle.pana_event.specs.Relation.{IsRelation, tested_relation}
 use Rattle.pana_event.specs.declared.rel.Rel.{Rel}
 use Rattle.pana_rel.specs.Pairs.{Table, rel_of}
 use Rattle.pana_family.specs.declared.row.StampRow.{StampRow}
-use Rattle.pana_family.specs.declared.change.Exchange.{Exchange}
-use Rattle.pana_family.specs.Change.{row_of}
 use Rattle.pana_family.specs.Updates.{has}
 use Rattle.pana_family.specs.Holders.{is_copy}
 use Rattle.pana_family.specs.Table.{In}
@@ -33,34 +31,13 @@ is_other copy r = is_copy r.holder && not (r.copy == copy)
 abbrev pub relations : StampRow → List StampRow → List Rel
 relations row rows = map (row_relation row) (filter (is_other row.copy) rows)
 
--- the same copies relate as they did
-abbrev pub AgreeOn : (ℕ → Type 0) → Table → Table → Type 0
-AgreeOn Holds old new = (a b : ℕ) → Holds a → Holds b → rel_of new a b ≡ rel_of old a b
+-- the table follows the rows, but for copies that are gone, or are to come, or are to be compared
+pub record IsFollowed (gone coming but : List ℕ) (rows : List StampRow) (pairs : Table) : Type 0 where
+  pub inside : (copy : ℕ) → has gone copy ≡ false → Contains pairs.copies copy → lives rows copy ≡ true
+  pub there : (copy : ℕ) → has coming copy ≡ false → lives rows copy ≡ true → Contains pairs.copies copy
+  pub later : (copy : ℕ) → has but copy ≡ false → has coming copy ≡ false
+  pub rels : AreCompared but rows pairs
 
--- some copies were put in, all of them of these rows
-pub record IsGrown (rows : List StampRow) (old new : Table) : Type 0 where
-  pub more : (copy : ℕ) → Contains old.copies copy → Contains new.copies copy
-  pub from : (copy : ℕ) → Contains new.copies copy → Contains old.copies copy ⊎ (lives rows copy ≡ true)
-  pub same : AgreeOn (Contains old.copies) old new
-
--- some copies were put in, all of them with these numbers
-pub record IsGrownIn (numbers : List ℕ) (old new : Table) : Type 0 where
-  pub more : (copy : ℕ) → Contains old.copies copy → Contains new.copies copy
-  pub from : (copy : ℕ) → Contains new.copies copy → Contains old.copies copy ⊎ (has numbers copy ≡ true)
-  pub same : AgreeOn (Contains old.copies) old new
-
--- the copies that these exchanges put are there
-abbrev pub ArePut : List Exchange → Table → Type 0
-ArePut news pairs = (x : Exchange) (r : StampRow) → In x news → row_of x ≡ Some r → r.holder ≡ None → Contains pairs.copies r.copy
-
--- a copy may have been put in
-pub record IsGrownBy (copy : ℕ) (old new : Table) : Type 0 where
-  pub more : (c : ℕ) → Contains old.copies c → Contains new.copies c
-  pub from : (c : ℕ) → Contains new.copies c → Contains old.copies c ⊎ (c ≡ copy)
-  pub same : AgreeOn (Contains old.copies) old new
-
--- those of these copies were taken out that don't live
-pub record IsShrunk (numbers : List ℕ) (rows : List StampRow) (old new : Table) : Type 0 where
-  pub kept : (copy : ℕ) → Contains old.copies copy → (has numbers copy ≡ true → lives rows copy ≡ true) → Contains new.copies copy
-  pub from : (copy : ℕ) → Contains new.copies copy → Contains old.copies copy × (has numbers copy ≡ true → lives rows copy ≡ true)
-  pub same : AgreeOn (Contains new.copies) old new
+-- how many copies the table has room for, those that it has among them
+abbrev pub most : Table → ℕ
+most pairs = length pairs.copies + pairs.room

@@ -1,22 +1,20 @@
 -- What a hall keeps of its journal.
-use Rattle.std.specs.Prelude.{◌≡◌, ℕ, ◌+◌, ◌<◌, ◌≤◌, List, [], ◌∷◌, ◌++◌, length, map, count_by, slice_get, Option, Some, None, Result, Ok, Err, true, false}
+use Rattle.std.specs.Prelude.{◌≡◌, ℕ, ◌+◌, ◌<◌, ◌≤◌, List, [], ◌∷◌, ◌++◌, length, map, slice_get, Option, Some, None, false}
 use Rattle.std.specs.List.{AllByRecursion}
 use Rattle.pana_copies.specs.Spots.{Table, kept}
-use Rattle.pana_copies.specs.declared.place.Place.{Place}
 use Rattle.pana_journal.specs.declared.report.Report.{Report}
-use Rattle.pana_journal.specs.declared.report.Report.TheVariants.{Duplicate}
 use Rattle.pana_journal.specs.declared.entry.Entry.{Entry}
-use Rattle.pana_family.specs.View.{Means, can_split, depth_at}
+use Rattle.pana_family.specs.View.{Means, Undone, undone}
 use Rattle.pana_hall.specs.declared.kept_family.KeptFamily.{KeptFamily}
-use Rattle.pana_hall.specs.Family.{families, subject, is_duplicate, is_register}
+use Rattle.pana_hall.specs.Family.{families, subject, is_register}
 use Rattle.pana_hall.specs.Refusal.{report_refusal}
 use Rattle.pana_hall.specs.Living.{living}
-use Rattle.pana_hall.specs.Pending.{pending}
 use Rattle.pana_hall.specs.Accepted.{IsAccepted}
 use Rattle.pana_hall.specs.Queries.{begun}
 use Rattle.pana_hall.specs.Tables.{layer}
-use Rattle.pana_hall.specs.Sets.{sets_of}
-use Rattle.pana_hall.specs.inner.Families.{position_at, family_at}
+use Rattle.pana_hall.specs.Sets.{of_pending, sets_of}
+use Rattle.pana_hall.specs.StampRows.{rows_of}
+use Rattle.pana_hall.specs.inner.Families.{position_at}
 use Rattle.pana_hall.specs.inner.OldPlaces.{old_places, Keeps}
 use Rattle.pana_hall.specs.inner.Spots.{spot_in}
 
@@ -24,16 +22,17 @@ use Rattle.pana_hall.specs.inner.Spots.{spot_in}
 abbrev pub next_entry : List Entry → List ℕ → Report → Entry
 next_entry journal by report = record { number = length journal + 1; by = by; report = report }
 
--- how many entries of a family are Duplicates, the last k pending ones left out
-abbrev pub duplicates : ℕ → ℕ → List Entry → ℕ
-duplicates k family journal = count_by (λ entry. is_duplicate entry.report) (layer 8 k family journal)
+-- a pending entry, and the rows from before it
+abbrev pub undone_of : ℕ → List Entry → Undone
+undone_of n entries = undone n (rows_of entries)
 
--- the family stands for what the journal gives it, the old places are those of its pending entries, and no id is deeper
--- than there are Duplicates
+-- the family stands for what the journal gives it, its rows are those that its entries make, also before each pending entry, and
+-- the old places are those of its pending entries
 pub record IsFamilyKept (journal : List Entry) (it : KeptFamily) : Type 0 where
   pub means : Means it.family (sets_of it.number journal)
+  pub rows : it.family.rows ≡ rows_of (layer 8 0 it.number journal)
+  pub undo : it.family.undo ≡ of_pending undone_of it.number journal
   pub places : Keeps it.old_places (old_places it.number journal)
-  pub depths : (k : ℕ) → k ≤ length (pending 8 it.number journal) → depth_at k it.family ≤ duplicates k it.number journal
 
 -- the table has the living copies, each where it is kept
 abbrev pub AreSpots : List Entry → Table → Type 0
@@ -65,15 +64,6 @@ position_of_subject list positions (Some number) = position_at positions number
 abbrev pub position_for : List KeptFamily → List ℕ → Report → Option ℕ
 position_for list positions report = position_of_subject list positions (subject report)
 
--- the family of the copy that is duplicated can divide its id
-abbrev pub Splits : List KeptFamily → List ℕ → Report → Type 0
-Splits list positions report = (copy : ℕ) (place : Place) (it : KeptFamily) → report ≡ Duplicate copy place → family_at list positions copy ≡ Some it → can_split it.family copy ≡ true
-
--- the report is the journal's next entry, and all is kept of it; or memory ran out, and the journal is as it was
-abbrev pub Records : {E : Type 0} → List Entry → List ℕ → Report → Result ℕ E → List Entry → List KeptFamily → List ℕ → Table → Type 0
-Records journal by report (Ok n) journal' list positions copies = (n ≡ length journal + 1) × (journal' ≡ journal ++ next_entry journal by report ∷ []) × IsKept journal' list positions copies
-Records journal by report (Err e) journal' list positions copies = (journal' ≡ journal) × IsKept journal' list positions copies
-
 -- the family of this number is at the position
 pub record IsAt (list : List KeptFamily) (position family : ℕ) : Type 0 where
   pub it : KeptFamily
@@ -88,7 +78,6 @@ pub record IsReady (journal : List Entry) (by : List ℕ) (report : Report) (it 
   pub own : it.number ≡ families (journal ++ next_entry journal by report ∷ []) (length journal + 1)
   pub kept : IsFamilyKept journal it
   pub spots : AreSpots journal copies
-  pub splits : (copy : ℕ) (place : Place) → report ≡ Duplicate copy place → can_split it.family copy ≡ true
 
 -- nothing stands against the device's report, and its family is at this position; a Register's will be at the next
 pub record IsReadyAt (journal : List Entry) (by : List ℕ) (report : Report) (list : List KeptFamily) (position : ℕ) (copies : Table) : Type 0 where
@@ -97,4 +86,3 @@ pub record IsReadyAt (journal : List Entry) (by : List ℕ) (report : Report) (l
   pub listed : AreListed journal list
   pub spots : AreSpots journal copies
   pub at : is_register report ≡ false → IsAt list position (families (journal ++ next_entry journal by report ∷ []) (length journal + 1))
-  pub splits : (copy : ℕ) (place : Place) (it : KeptFamily) → report ≡ Duplicate copy place → slice_get list position ≡ Some it → can_split it.family copy ≡ true

@@ -7,6 +7,7 @@ use Rattle.pana_journal.specs.declared.report.Report.TheVariants.{Register, Dupl
 use Rattle.pana_hall.specs.declared.cause.Cause.{Cause}
 use Rattle.pana_hall.specs.declared.cause.Cause.TheVariants.{PlaceTaken}
 use Rattle.pana_hall.specs.Living.{Copy, copy_in}
+use Rattle.pana_hall.specs.Refusal.{displaced}
 
 abbrev pub spot_of : Copy → Spot
 spot_of copy = record { family = copy.family; place = copy.place }
@@ -15,21 +16,27 @@ spot_of copy = record { family = copy.family; place = copy.place }
 abbrev pub spot_in : List Copy → ℕ → Option Spot
 spot_in copies number = option_map spot_of (copy_in copies number)
 
--- where each copy is kept once entry n's report is accepted
-abbrev pub spot_after : ℕ → Report → List Copy → ℕ → Option Spot
-spot_after n (Register place) copies number = if number == n then Some (record { family = n; place = place }) else spot_in copies number
-spot_after n (Duplicate source place) copies number = if number == n then placed place (spot_in copies source) else spot_in copies number
-spot_after n (Relocate copy place) copies number = if number == copy then placed place (spot_in copies copy) else spot_in copies number
-spot_after n (Remove copy heir) copies number = if number == copy then None else spot_in copies number
-spot_after n _ copies number = spot_in copies number
+-- the number of the copy that entry n's report makes, moves or removes
+abbrev pub mover : ℕ → Report → Option ℕ
+mover n (Register place) = Some n
+mover n (Duplicate source place) = Some n
+mover n report = displaced report
 
--- where each copy is kept once entry n's report is undone, which brings this copy back
-abbrev pub spot_undone : ℕ → Report → Option Copy → List Copy → ℕ → Option Spot
-spot_undone n (Register place) back copies number = if number == n then None else spot_in copies number
-spot_undone n (Duplicate source place) back copies number = if number == n then None else spot_in copies number
-spot_undone n (Relocate copy place) back copies number = if number == copy then option_map spot_of back else spot_in copies number
-spot_undone n (Remove copy heir) back copies number = if number == copy then option_map spot_of back else spot_in copies number
-spot_undone n _ back copies number = spot_in copies number
+-- where the report puts it, where it puts it somewhere
+abbrev pub spot_to : ℕ → Report → (ℕ → Option Spot) → Option Spot
+spot_to n (Register place) spots = Some (record { family = n; place = place })
+spot_to n (Duplicate source place) spots = placed place (spots source)
+spot_to n (Relocate copy place) spots = placed place (spots copy)
+spot_to n _ spots = None
+
+-- the spots, with another one for this number, if there is one
+abbrev pub put : Option ℕ → Option Spot → (ℕ → Option Spot) → ℕ → Option Spot
+put None spot spots number = spots number
+put (Some copy) spot spots number = if number == copy then spot else spots number
+
+-- where each copy is kept once entry n's report is accepted
+abbrev pub spot_after : ℕ → Report → (ℕ → Option Spot) → ℕ → Option Spot
+spot_after n report spots = put (mover n report) (spot_to n report spots) spots
 
 -- nothing moved
 abbrev pub SameSpots : Table → Table → Type 0
@@ -45,11 +52,7 @@ IsFreeFor copy place table = (number : ℕ) → place_of table number ≡ Some p
 
 -- where each copy is kept once entry n's report is undone: its copy goes back to the old place, in its family
 abbrev pub undone_spot : ℕ → Report → ℕ → Option Place → Table → ℕ → Option Spot
-undone_spot n (Register place) family back table number = if number == n then None else kept table number
-undone_spot n (Duplicate source place) family back table number = if number == n then None else kept table number
-undone_spot n (Relocate copy place) family back table number = if number == copy then option_map (λ p. record { family = family; place = p }) back else kept table number
-undone_spot n (Remove copy heir) family back table number = if number == copy then option_map (λ p. record { family = family; place = p }) back else kept table number
-undone_spot n _ family back table number = kept table number
+undone_spot n report family back table = put (mover n report) (option_map (λ p. record { family = family; place = p }) back) (kept table)
 
 -- a copy that is moved back: it is kept in the family, and no other copy has the old place
 pub record CanMove (family : ℕ) (copy : ℕ) (back : Option Place) (table : Table) : Type 0 where
@@ -68,8 +71,8 @@ pub record CanReturn (copy : ℕ) (back : Option Place) (table : Table) : Type 0
 
 -- entry n's report can be undone
 abbrev pub CanUndo : ℕ → Report → ℕ → Option Place → Table → Type 0
-CanUndo n (Register place) family back table = IsSome (kept table n)
-CanUndo n (Duplicate source place) family back table = IsSome (kept table n)
+CanUndo n (Register place) family back table = (back ≡ None) × IsSome (kept table n)
+CanUndo n (Duplicate source place) family back table = (back ≡ None) × IsSome (kept table n)
 CanUndo n (Relocate copy place) family back table = CanMove family copy back table
 CanUndo n (Remove copy heir) family back table = CanReturn copy back table
 CanUndo n _ family back table = Unit {0}

@@ -1,5 +1,5 @@
 -- The rows of a table, by the places of its copies.
-use Rattle.std.specs.Prelude.{◌≡◌, ℕ, zero, suc, ◌<◌, ◌≤◌, ◌+◌, false, if◌then◌else◌, Option, is_some, List, [], length, map, slice_index_or, count_by, Contains}
+use Rattle.std.specs.Prelude.{◌≡◌, ℕ, zero, suc, ◌<◌, ◌≤◌, ◌+◌, false, List, [], length, map, slice_index_or, count_by, Contains}
 use Rattle.std.specs.List.{insert, list_any}
 use Rattle.pana_event.specs.declared.rel.Rel.{Rel}
 use Rattle.pana_event.specs.declared.rel.Rel.TheVariants.{Equal, Older, Newer, Conflict}
@@ -8,7 +8,7 @@ use Rattle.pana_rel.specs.declared.counts.Counts.{Counts}
 use Rattle.pana_rel.specs.Board.{is_rel}
 use Rattle.pana_rel.specs.Pairs.{Table, place_of}
 
--- the relations of a copy to all, and how many more fit without memory
+-- the relations of a copy to all, and how many fit without memory
 pub record Relations : Type 0 where
   pub items : List Rel
   pub room : ℕ
@@ -28,10 +28,6 @@ table_of copies rows room = record { copies = copies; rels = items_of rows; room
 -- the relation that the rows have of a copy to another
 abbrev pub rel_in : List ℕ → List Relations → ℕ → ℕ → Rel
 rel_in copies rows a b = slice_index_or (row_in rows (place_of a copies)).items (place_of b copies) Equal
-
--- how many more copies have room, where this is what the next one needs
-abbrev pub room_of : Option Relations → ℕ
-room_of spare = if is_some spare then 1 else 0
 
 -- each row has a relation for each row
 abbrev pub IsWide : List Relations → Type 0
@@ -55,15 +51,19 @@ pub record IsKept (copies : List ℕ) (rows : List Relations) : Type 0 where
   pub mirrored : (a b : ℕ) → Contains copies a → Contains copies b → rel_in copies rows b a ≡ reverse_of (rel_in copies rows a b)
   pub itself : (a : ℕ) → Contains copies a → rel_in copies rows a a ≡ Equal
 
--- each row has room for one more relation
-abbrev pub HaveRoom : List Relations → Type 0
-HaveRoom rows = (i : ℕ) → i < length rows → 0 < (row_in rows i).room
+-- each row has room for n relations
+abbrev pub HaveRoom : ℕ → List Relations → Type 0
+HaveRoom n rows = (i : ℕ) → i < length rows → n ≤ (row_in rows i).room
 
--- what the next copy needs: an empty row with room for its relations and one more, and room in each row
-pub record IsSpare (rows : List Relations) (row : Relations) : Type 0 where
-  pub empty : row.items ≡ []
-  pub wide : length rows < row.room
-  pub rooms : HaveRoom rows
+-- rows without relations
+abbrev pub AreEmpty : List Relations → Type 0
+AreEmpty rows = (i : ℕ) → i < length rows → (row_in rows i).items ≡ []
+
+-- what more copies need, one for each spare row: these have no relations, and each row has room for a relation to all
+pub record AreSpare (rows spare : List Relations) : Type 0 where
+  pub empty : AreEmpty spare
+  pub rooms : HaveRoom (length rows + length spare) rows
+  pub own : HaveRoom (length rows + length spare) spare
 
 -- how many copies there are to which the copy relates so: those above it are the ones than which it is older
 abbrev pub number_of : Rel → Counts → ℕ

@@ -1,28 +1,35 @@
-use Rattle.std.proofs.Common.{ap, sym, subst, ◌∙◌, ◌≡◌, ◌∷◌, ◌+◌, List, ℕ, drop, suc, arith}
-use Rattle.std.proofs.Math.Seq.{drop-cons}
-use Rattle.std.specs.Prelude.{slice_index_or}
+use Rattle.std.proofs.Common.{ap, sym, subst, ◌∙◌, ◌≡◌, ◌∷◌, ◌+◌, List, ℕ, drop, length, map, true, arith}
+use Rattle.std.specs.Prelude.{◌↔◌, Contains}
 use Rattle.pana_rel.specs.Pairs.{Table}
-use Rattle.pana_family.specs.inner.Comparing.{AreCompared}
+use Rattle.pana_family.specs.Change.{number_of}
+use Rattle.pana_family.specs.Rows.{lives}
+use Rattle.pana_family.specs.inner.Comparing.{AreCompared, HasCopies, most}
 use Rattle.pana_family.proofs.Compared.{gone_compared}
+use Rattle.pana_family.proofs.Following.{all_followed, none_left, numbers_left}
 use Rattle.pana_family.proofs.comparing.compare_copies.Goals as goal
 use Rattle.pana_family.proofs.comparing.compare_copies.Goals.{then-lives, else-lives}
 
-pub loop-copy-preserved : goal.loop-copy-preserved
-loop-copy-preserved c =
-    let list : List ℕ = c.args.changed.now in
-    let i : ℕ = c.loop-copy.copy-index in
-    let copy : ℕ = slice_index_or list i 0 in
-    let next : suc i ≡ i + 1 = omega arith in
-    let split : drop i list ≡ copy ∷ drop (i + 1) list = drop-cons list i 0 c.loop-copy-test.true ∙ ap (λ (k : ℕ). copy ∷ drop k list) next in
-    let rest : AreCompared (copy ∷ drop (i + 1) list) c.args.rows.now c.loop-copy.pairs = subst (λ (l : List ℕ). AreCompared l c.args.rows.now c.loop-copy.pairs) split c.loop-copy.invariant.rest in
+pub loop-new-preserved : goal.loop-new-preserved
+loop-new-preserved c =
+    let was = c.loop-new.invariant in
+    let left : List ℕ = drop (c.loop-new.new-index + 1) (map number_of c.args.news.now) in
+    let rest : AreCompared (c.number_of-copy.result ∷ left) c.args.rows.now c.loop-new.pairs = subst (λ (l : List ℕ). AreCompared l c.args.rows.now c.loop-new.pairs)
+    (numbers_left c.args.news.now c.loop-new.new-index c.new-item.result c.loop-new-test.true c.new-item.is ∙ ap (λ (k : ℕ). k ∷ left) (sym c.number_of-copy.ensures)) was.rest in
     elim c.if-lives.branch [
       | then-lives w ↦ record {
-        copies = ap (λ (t : Table). t.copies) w.pairs-is ∙ w.compare_copy.ensures.copies ∙ c.loop-copy.invariant.copies;
-        rest = subst (λ (t : Table). AreCompared (drop (i + 1) list) c.args.rows.now t) (sym w.pairs-is) (w.compare_copy.ensures.rels (drop (i + 1) list) rest);
+        copies = subst (λ (t : Table). HasCopies c.args.rows.now t) (sym w.pairs-is) (λ n. subst (λ (cs : List ℕ). Contains cs n ↔ (lives c.args.rows.now n ≡ true)) (sym w.compare_copy.ensures.copies) (was.copies n));
+        rest = subst (λ (t : Table). AreCompared left c.args.rows.now t) (sym w.pairs-is) (w.compare_copy.ensures.rels left rest);
+        room = ap most w.pairs-is ∙ omega (arith, ap length w.compare_copy.ensures.copies, w.compare_copy.ensures.room, was.room);
       }
       | else-lives w ↦ record {
-        copies = ap (λ (t : Table). t.copies) w.pairs-is ∙ c.loop-copy.invariant.copies;
-        rest = subst (λ (t : Table). AreCompared (drop (i + 1) list) c.args.rows.now t) (sym w.pairs-is)
-            (gone_compared c.args.rows.now c.loop-copy.pairs copy (drop (i + 1) list) (sym c.lives.ensures ∙ w.if-lives.false) rest);
+        copies = subst (λ (t : Table). HasCopies c.args.rows.now t) (sym w.pairs-is) was.copies;
+        rest = subst (λ (t : Table). AreCompared left c.args.rows.now t) (sym w.pairs-is)
+            (gone_compared c.args.rows.now c.loop-new.pairs c.number_of-copy.result left (sym c.lives.ensures ∙ w.if-lives.false) rest);
+        room = ap most w.pairs-is ∙ was.room;
       }
     ]
+
+pub returns-clause-paired : goal.returns-clause-paired
+returns-clause-paired c =
+    all_followed c.args.rows.now c.loop-new.pairs c.loop-new.invariant.copies
+    (subst (λ (l : List ℕ). AreCompared l c.args.rows.now c.loop-new.pairs) (none_left c.args.news.now c.loop-new.new-index (omega arith)) c.loop-new.invariant.rest)

@@ -1,9 +1,11 @@
-use Rattle.std.proofs.Common.{◌≡◌, drop}
-use Rattle.pana_family.specs.inner.Comparing.{AreCompared}
+use Rattle.std.proofs.Common.{◌≡◌, drop, map}
+use Rattle.pana_family.specs.Change.{number_of}
+use Rattle.pana_family.specs.inner.Comparing.{AreCompared, HasCopies, most}
 use Rattle.pana_family.proofs.comparing.compare_copies.Given as goal
 
-abbrev pub invariant-loop-copy : goal.invariant-loop-copy
-invariant-loop-copy l = record {
-  copies : l.pairs.copies ≡ l.initial.pairs.copies;
-  rest : AreCompared (drop l.copy-index l.changed) l.rows l.pairs;
+abbrev pub invariant-loop-new : goal.invariant-loop-new
+invariant-loop-new l = record {
+  copies : HasCopies l.rows l.pairs;
+  rest : AreCompared (drop l.new-index (map number_of l.news)) l.rows l.pairs;
+  room : most l.pairs ≡ most l.initial.pairs;
 }

@@ -38,7 +38,7 @@ returns-clause-rels c = λ but was.
     let old = c.args.pairs.now in
     let new = c.set_row.new.self in
     let here : IsRowAt rows c.index_of.result c.args.copy row = row_at rows rows _ _ row refl c.index_of.ensures.within c.index_of.ensures.here c.index_of.ensures.free c.index-rows-index_of.is in
-    copy_compared rows old new row c.requires.rising c.all_sound.ensures c.copies.ensures.rising c.requires.copies here.row here.free c.set_row.ensures.copies
+    copy_compared rows old new row c.requires.rising c.all_valid.ensures c.copies.ensures.rising c.requires.copies here.row here.free c.set_row.ensures.copies
     (subst (λ (l : List Rel). Holds new (with_row row.copy (rel_at (without row.copy old.copies) l) (rel_of old))) c.write_relations-count.ensures.rels
     (subst (λ (k : ℕ). Holds new (with_row k (rel_at (without k old.copies) (take c.write_relations-count.result c.write_relations-count.new.rels)) (rel_of old))) (sym here.named) c.set_row.ensures.pairs))
     but (subst (λ (k : ℕ). AreCompared (k ∷ but) rows old) (sym here.named) was)

@@ -1,20 +1,24 @@
-use Rattle.std.proofs.Common.{ap, sym, subst, ◌∙◌, List, ◌∷◌, ◌++◌, [], map, take}
-use Rattle.std.proofs.lemmas.List.{take_more}
-use Rattle.pana_family.specs.declared.change.Exchange.{Exchange}
+use Rattle.std.proofs.Common.{◌∙◌, ◌∷◌, ◌+◌, [], List, ℕ, ap, drop, subst, sym, map, arith, refl}
 use Rattle.pana_family.specs.Change.{number_of}
-use Rattle.pana_family.specs.inner.Comparing.{ArePut}
-use Rattle.pana_family.proofs.Joined.{more_put, more_there, number_there}
+use Rattle.pana_family.specs.inner.Comparing.{IsFollowed}
+use Rattle.pana_family.proofs.Following.{none_left, numbers_left}
 use Rattle.pana_family.proofs.comparing.put_coming.Goals as goal
 
-pub returns-in_err-put_new-clause-grown : goal.returns-in_err-put_new-clause-grown
-returns-in_err-put_new-clause-grown c =
-    more_put (map number_of c.args.news.now) (number_of c.new-item.result) c.args.pairs.now c.loop-new.pairs c.put_new.new.pairs (number_there c.args.news.now c.loop-new.new-index c.new-item.result c.loop-new-test.true c.new-item.is)
-    c.loop-new.invariant.grown c.put_new.ensures.grown
+pub put_in-requires-clause-room : goal.put_in-requires-clause-room
+put_in-requires-clause-room c = omega (arith, c.loop-new.invariant.room, c.requires.room)
+
+pub put_in-requires-clause-inside : goal.put_in-requires-clause-inside
+put_in-requires-clause-inside c = λ copy here. c.loop-new.invariant.followed.inside copy refl here
 
 pub loop-new-preserved : goal.loop-new-preserved
 loop-new-preserved c = record {
-  grown = more_put (map number_of c.args.news.now) (number_of c.new-item.result) c.args.pairs.now c.loop-new.pairs c.put_new.new.pairs (number_there c.args.news.now c.loop-new.new-index c.new-item.result c.loop-new-test.true c.new-item.is)
-      c.loop-new.invariant.grown c.put_new.ensures.grown;
-  there = subst (λ (l : List Exchange). ArePut l c.put_new.new.pairs) (sym (take_more c.args.news.now c.loop-new.new-index c.new-item.result c.loop-new-test.true ∙ ap (λ (x : Exchange). take c.loop-new.new-index c.args.news.now ++ x ∷ []) (sym c.new-item.is)))
-      (more_there (take c.loop-new.new-index c.args.news.now) c.new-item.result c.loop-new.pairs c.put_new.new.pairs c.loop-new.invariant.there c.put_new.ensures.grown.more c.in_ok-put_new.ensures.there);
+  followed = c.put_in.ensures.followed _ (map number_of c.args.news.now)
+      (subst (λ (l : List ℕ). IsFollowed [] l (map number_of c.args.news.now) c.args.rows.now c.loop-new.pairs)
+      (numbers_left c.args.news.now c.loop-new.new-index c.new-item.result c.loop-new-test.true c.new-item.is ∙ ap (λ (k : ℕ). k ∷ drop (c.loop-new.new-index + 1) (map number_of c.args.news.now)) (sym c.number_of.ensures))
+      c.loop-new.invariant.followed);
+  room = c.put_in.ensures.room ∙ c.loop-new.invariant.room;
 }
+
+pub returns-clause-followed : goal.returns-clause-followed
+returns-clause-followed c =
+    subst (λ (l : List ℕ). IsFollowed [] l (map number_of c.args.news.now) c.args.rows.now c.loop-new.pairs) (none_left c.args.news.now c.loop-new.new-index (omega arith)) c.loop-new.invariant.followed

@@ -1,16 +1,29 @@
-use Rattle.std.proofs.Common.{ap, sym, subst, ◌∙◌, List, ℕ}
-use Rattle.std.proofs.lemmas.Bool.{both_ways}
-use Rattle.std.specs.Prelude.{Contains}
-use Rattle.pana_family.specs.Updates.{has}
-use Rattle.pana_family.proofs.Copies.{contains_has, with_copy_new}
-use Rattle.pana_family.proofs.Joined.{put_one}
+use Rattle.std.proofs.Common.{◌∙◌, sym, arith}
+use Rattle.pana_family.proofs.Following.{not_had, room_for, was_put}
 use Rattle.pana_family.proofs.comparing.put_in.Goals as goal
 
-pub returns-clause-grown : goal.returns-clause-grown
-returns-clause-grown c =
-    put_one c.args.copy _ c.args.pairs.now c.reserve.new.self c.insert_row.new.self c.in_ok-reserve.ensures.copies c.in_ok-reserve.ensures.pairs
-    (λ here. both_ways c.contains.result c.if-contains.false (c.contains.ensures.value ∙ ap (λ (l : List ℕ). has l c.args.copy) c.copies.ensures.copies ∙ contains_has c.args.pairs.now.copies c.args.copy here))
-    c.insert_row.ensures.copies c.insert_row.ensures.pairs
+pub put_row-requires-clause-new : goal.put_row-requires-clause-new
+put_row-requires-clause-new c = not_had c.args.pairs.now c.args.copy c.copies.ensures.copies c.contains.ensures.value c.if-contains.false
 
-pub returns-clause-there : goal.returns-clause-there
-returns-clause-there c = subst (λ (cs : List ℕ). Contains cs c.args.copy) (sym c.insert_row.ensures.copies) (with_copy_new c.args.copy c.reserve.new.self.copies)
+pub put_row-requires-clause-room : goal.put_row-requires-clause-room
+put_row-requires-clause-room c =
+    omega (
+      arith,
+      room_for c.args.rows.now c.args.pairs.now.copies c.args.copy c.copies.ensures.rising c.requires.inside (not_had c.args.pairs.now c.args.copy c.copies.ensures.copies c.contains.ensures.value c.if-contains.false)
+          (sym c.lives.ensures ∙ c.if-not-lives.false),
+      c.requires.room,
+    )
+
+pub put_row-requires-clause-long : goal.put_row-requires-clause-long
+put_row-requires-clause-long c =
+    omega (
+      arith,
+      room_for c.args.rows.now c.args.pairs.now.copies c.args.copy c.copies.ensures.rising c.requires.inside (not_had c.args.pairs.now c.args.copy c.copies.ensures.copies c.contains.ensures.value c.if-contains.false)
+          (sym c.lives.ensures ∙ c.if-not-lives.false),
+      c.requires.few,
+    )
+
+pub returns-clause-followed : goal.returns-clause-followed
+returns-clause-followed c =
+    was_put c.args.copy c.args.rows.now _ c.args.pairs.now c.put_row.new.pairs (sym c.lives.ensures ∙ c.if-not-lives.false)
+    (not_had c.args.pairs.now c.args.copy c.copies.ensures.copies c.contains.ensures.value c.if-contains.false) c.put_row.ensures.copies c.put_row.ensures.pairs

@@ -1,17 +1,8 @@
-use Rattle.std.proofs.Common.{arith}
-use Rattle.pana_family.proofs.Prepared.{edit_reported, edit_exact}
+use Rattle.std.proofs.lemmas.Result.{IfOk-weaker}
+use Rattle.pana_family.specs.declared.report.FamilyReport.TheVariants.{Edit}
+use Rattle.pana_family.specs.Change.{after}
+use Rattle.pana_family.proofs.Exacts.{reported_of_exact}
 use Rattle.pana_family.proofs.reporting.edit_change.Goals as goal
 
-pub updated_event-requires-clause-owner : goal.updated_event-requires-clause-owner
-updated_event-requires-clause-owner c = c.requires.kept.stands.owning c.row_of.result.now c.row_of.ensures.there
-
-pub updated_event-requires-clause-room : goal.updated_event-requires-clause-room
-updated_event-requires-clause-room c =
-    omega (arith, c.requires.kept.levels c.row_of.result.now c.row_of.ensures.there, (c.requires.new c.row_of.result.now c.row_of.ensures.there).1, c.ranges.entry.fits)
-
-pub returns-clause-reported : goal.returns-clause-reported
-returns-clause-reported c =
-    edit_reported c.args.rows.now c.args.copy c.args.entry c.row_of.result.now c.in_ok-event.event c.requires.kept c.requires.new c.row_of.ensures c.in_ok-event.ensures.raised
-
-pub returns-clause-exact : goal.returns-clause-exact
-returns-clause-exact c = edit_exact c.args.rows.now c.args.copy c.args.entry c.row_of.result.now c.in_ok-event.event c.requires.kept c.row_of.ensures c.in_ok-event.ensures.update
+pub returns : goal.returns
+returns c = IfOk-weaker c.edited.result _ _ (λ change exact. reported_of_exact c.args.entry (Edit c.args.copy) c.args.rows.now (after change c.args.rows.now) c.ranges.entry.fits c.requires.kept c.all_valid.ensures c.requires.living c.requires.new exact) c.edited.ensures

@@ -1,5 +1,9 @@
-use Rattle.pana_family.proofs.Prepared.{touch_reported}
+use Rattle.std.proofs.Common.{refl}
+use Rattle.pana_family.specs.declared.report.FamilyReport.TheVariants.{Touch as Touched}
+use Rattle.pana_family.specs.declared.change.Change.TheVariants.{Touch}
+use Rattle.pana_family.specs.Change.{after}
+use Rattle.pana_family.proofs.Exacts.{reported_of_exact}
 use Rattle.pana_family.proofs.reporting.touch_change.Goals as goal
 
-pub returns-clause-reported : goal.returns-clause-reported
-returns-clause-reported c = touch_reported c.args.rows.now c.args.copy c.args.entry c.row_of-row.result.now c.requires.kept c.requires.new c.row_of-row.ensures
+pub returns : goal.returns
+returns c = reported_of_exact c.args.entry (Touched c.args.copy) c.args.rows.now (after (Touch c.args.copy c.args.entry) c.args.rows.now) c.ranges.entry.fits c.requires.kept c.all_valid.ensures c.requires.living c.requires.new refl

@@ -11,6 +11,6 @@ returns c = record {
   confirm = λ journal entry m accepted accepts is. sets_confirm m journal entry (accepted_is_sound 8 journal accepted) accepts is;
   other = λ journal entry family accepted accepts is. sets_other family journal entry (accepted_is_sound 8 journal accepted) accepts is;
   begun = λ journal entry place accepted accepts is. sets_begun journal entry (accepted_is_sound 8 journal accepted) accepts entry.number place is refl;
-  above = λ journal family accepted. above_sets journal family _ (accepted_is_sound 8 journal accepted) refl;
-  below = λ journal family accepted. below_sets journal family _ (accepted_is_sound 8 journal accepted) refl;
+  above = λ journal family accepted. above_sets journal family _ accepted refl;
+  below = λ journal family accepted. below_sets journal family _ accepted refl;
 }

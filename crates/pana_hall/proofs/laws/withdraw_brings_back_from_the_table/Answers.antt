@@ -1,10 +1,21 @@
+use Rattle.std.specs.Prelude.{◌≡◌}
+use Rattle.std.proofs.Common.{sym, ap, ◌∙◌}
+use Rattle.pana_journal.specs.declared.entry.Entry.{Entry}
+use Rattle.pana_hall.specs.Refusal.{displaced}
 use Rattle.pana_hall.proofs.Sound.{accepted_is_sound}
-use Rattle.pana_hall.proofs.More.{back_in_table}
-use Rattle.pana_hall.proofs.Steps.{brought}
+use Rattle.pana_hall.proofs.Tables.{ends_at}
+use Rattle.pana_hall.proofs.Undone.{back_in_table, back_at}
 use Rattle.pana_hall.proofs.laws.withdraw_brings_back_from_the_table.Goals as goal
 
 pub returns : goal.returns
 returns c = record {
-  table = λ journal entry number copy accepted last_one at moves. back_in_table 8 number copy journal entry (accepted_is_sound 8 journal accepted) last_one at moves;
-  lives = λ journal entry number copy accepted last_one at moves. let back = brought 8 number copy journal entry accepted last_one at moves in (back.0, back.1, back.2);
+  table = λ journal entry number copy accepted last_one at moves.
+      let sound = accepted_is_sound 8 journal accepted in
+      let ends = ends_at 8 number journal sound last_one in
+      let same : entry ≡ ends.last = let here = ends.at in cc in
+      back_in_table sound ends copy (ap (λ (e : Entry). displaced e.report) (sym same) ∙ moves);
+  lives = λ journal entry number copy accepted last_one at moves.
+      let ends = ends_at 8 number journal (accepted_is_sound 8 journal accepted) last_one in
+      let same : entry ≡ ends.last = let here = ends.at in cc in
+      let back = back_at journal number copy accepted ends (ap (λ (e : Entry). displaced e.report) (sym same) ∙ moves) in (back.copy, back.is, back.number);
 }

@@ -12,3 +12,4 @@ invariant-loop-i l =
     (length l.rows ≡ length l.initial.rows)
     × ((k : ℕ) → k < l.i → (row_in l.rows k).items ≡ insert (row_in l.initial.rows k).items l.fn.at (reverse_of (slice_index_or l.fn.given.items k Equal)))
     × ((k : ℕ) → l.i ≤ k → row_in l.rows k ≡ row_in l.initial.rows k)
+    × ((k : ℕ) → (row_in l.initial.rows k).room ≤ (row_in l.rows k).room)

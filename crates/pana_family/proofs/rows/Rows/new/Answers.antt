@@ -1,4 +1,4 @@
-use Rattle.std.proofs.Common.{sym, subst, ◌≡◌, ◌∙◌, ap, List, [], ◌∷◌, ◌++◌}
+use Rattle.std.proofs.Common.{sym, subst, ◌≡◌, ◌∙◌, ap, ℕ, List, [], ◌∷◌, ◌++◌}
 use Rattle.pana_id.specs.Id.{Id, one_id}
 use Rattle.pana_event.specs.Event.{leaf}
 use Rattle.pana_stamp.specs.declared.stamp.Stamp.{Stamp}
@@ -11,14 +11,17 @@ use Rattle.pana_family.proofs.Keeps.{seed_kept}
 use Rattle.pana_family.proofs.Changes.{seed_stands}
 use Rattle.pana_family.proofs.rows.Rows.new.Goals as goal
 
-done : (c : goal.After-push_reserved) → c.push_reserved.new.self.items ≡ seed_row c.args.entry ∷ []
-done c =
-    let seed : c.seed.result ≡ stamp one_id (leaf 0) = ap (λ (i : Id). stamp i c.seed.result.event) c.seed.ensures.owner ∙ ap (stamp one_id) c.seed.ensures.event in
-    c.push_reserved.ensures.items ∙ ap (λ (l : List StampRow). l ++ row c.args.entry c.seed.result c.args.entry ∷ []) c.in_ok-items.ensures.items
-    ∙ ap (λ (s : Stamp). row c.args.entry s c.args.entry ∷ []) seed
+seeded : (entry : ℕ) (s : Stamp) (old new : List StampRow) → s.id ≡ one_id → s.event ≡ leaf 0 → old ≡ [] → new ≡ old ++ row entry s entry ∷ [] → new ≡ seed_row entry ∷ []
+seeded entry s old new owner event none is =
+    is ∙ ap (λ (l : List StampRow). l ++ row entry s entry ∷ []) none ∙ ap (λ (i : Id). row entry (stamp i s.event) entry ∷ []) owner ∙ ap (λ e. row entry (stamp one_id e) entry ∷ []) event
 
-pub invariant_of-result : goal.invariant_of-result
-invariant_of-result c = subst IsKept (sym (done c)) (seed_kept c.args.entry)
+pub of_vec-requires : goal.of_vec-requires
+of_vec-requires c = subst IsKept (sym (seeded c.args.entry c.seed.result _ _ c.seed.ensures.owner c.seed.ensures.event c.in_ok-items.ensures.items c.push_reserved.ensures.items)) (seed_kept c.args.entry)
+
+pub returns-clause-seed : goal.returns-clause-seed
+returns-clause-seed c = c.in_ok-rows.ensures.rows ∙ seeded c.args.entry c.seed.result _ _ c.seed.ensures.owner c.seed.ensures.event c.in_ok-items.ensures.items c.push_reserved.ensures.items
 
 pub returns-clause-stands : goal.returns-clause-stands
-returns-clause-stands c = subst (λ (l : List StampRow). StandsFor l (registered c.args.entry)) (sym (done c)) (seed_stands c.args.entry)
+returns-clause-stands c =
+    subst (λ (l : List StampRow). StandsFor l (registered c.args.entry)) (sym (c.in_ok-rows.ensures.rows ∙ seeded c.args.entry c.seed.result _ _ c.seed.ensures.owner c.seed.ensures.event c.in_ok-items.ensures.items c.push_reserved.ensures.items))
+    (seed_stands c.args.entry)

@@ -1,10 +1,9 @@
-use Rattle.std.proofs.Common.{◌≡◌, None, inl, inr, refl, sym, subst, rules}
+use Rattle.std.proofs.Common.{◌≡◌, ◌∙◌, None, inl, inr, refl, sym, subst, rules}
 use Rattle.pana_hall.specs.declared.call.Call.TheVariants as calls
 use Rattle.pana_hall.specs.declared.cause.Cause.{Cause}
 use Rattle.pana_hall.specs.declared.reply.Reply.TheVariants.{Refused}
-use Rattle.pana_hall.specs.Permit.{IsCauseOf}
 use Rattle.pana_kept.specs.Kept.{KeptView, Becomes}
-use Rattle.pana_kept.proofs.Calls.{no_cause, after_refused}
+use Rattle.pana_kept.proofs.Calls.{permits_cause, after_refused}
 use Rattle.pana_kept.proofs.kept_hall.KeptHall.shut.Goals.{in-Some, in-None}
 use Rattle.pana_kept.proofs.kept_hall.KeptHall.shut.Goals as goal
 
@@ -17,8 +16,8 @@ returns g c =
     let Q : Cause → Type 0 = λ cause. Becomes es by (calls.Report report) (Refused cause) es in
     subst P c.self.view_is
     (elim c.match-refusal.branch [
-      | in-Some w ↦ subst Q (sym w.cause-is) (inl (w.in-Some.ensures.permitted, after_refused es by report w.in-Some.cause))
+      | in-Some w ↦ subst Q (sym w.cause-is) (inl (permits_cause es by report w.in-Some.cause (sym w.in-Some.is ∙ c.refusal.ensures), after_refused es by report w.in-Some.cause))
       | in-None w ↦
           let none : c.refusal.result ≡ None = search rules in
-          subst Q (sym w.cause-is) (inr ((no_cause es by report (subst (IsCauseOf es by report) none c.refusal.ensures.cause), refl), refl))
+          subst Q (sym w.cause-is) (inr ((sym c.refusal.ensures ∙ none, refl), refl))
     ])

@@ -1,6 +1,7 @@
 use Rattle.std.proofs.Common.{◌∙◌, ap, arith, length}
-use Rattle.std.proofs.lemmas.List.{take_at}
-use Rattle.pana_rel.proofs.Changes.{edited_call, still_spare, written_spare}
+use Rattle.std.proofs.lemmas.List.{length-set, take_at}
+use Rattle.pana_rel.proofs.Changes.{edited_call}
+use Rattle.pana_rel.proofs.Spares.{still_spare, written_room}
 use Rattle.pana_rel.proofs.Tables.{holds_table}
 use Rattle.pana_rel.proofs.pair_table.PairTable.edited.Goals as goal
 
@@ -9,8 +10,11 @@ invariant_of-self c = (
   (edited_call _ _ _ _ _ _ c.args.self.now c.args.copy _ _ _ c.self.invariant.0 c.self.view_is c.index_mut.ensures.value
       c.edit_row.ensures.long c.edit_row.ensures.itself c.edit_row.ensures.others c.deref_mut.ensures.value c.mirror.ensures.tall c.mirror.ensures.own c.mirror.ensures.others
       (take_at _ _ _ (c.mirror.ensures.tall ∙ c.deref_mut.ensures.len)) c.requires c.place-at.ensures.place).kept,
-  still_spare _ _ _ _ _ _ _ c.self.invariant.1 (λ row s. written_spare _ _ _ _ _ _ _ row (omega (arith, c.place-at.ensures.within, c.self.invariant.0.tall, ap (λ t. length t.copies) c.self.view_is)) c.index_mut.ensures.value
-      c.edit_row.ensures.room c.deref_mut.ensures.value c.mirror.ensures.tall c.mirror.ensures.rooms (take_at _ _ _ (c.mirror.ensures.tall ∙ c.deref_mut.ensures.len)) s.0) (λ row s. s.1) (λ row s. s.2),
+  still_spare _ _ _ (ap length (take_at _ _ _ (c.mirror.ensures.tall ∙ c.deref_mut.ensures.len)) ∙ c.mirror.ensures.tall ∙ ap length c.deref_mut.ensures.value ∙ length-set _ _ _) (λ n. written_room n _ _ _ _ _ _ _ (omega (arith, c.place-at.ensures.within, c.self.invariant.0.tall, ap (λ t. length t.copies) c.self.view_is)) c.index_mut.ensures.value
+      c.edit_row.ensures.room c.deref_mut.ensures.value c.mirror.ensures.rooms (take_at _ _ _ (c.mirror.ensures.tall ∙ c.deref_mut.ensures.len)) (ap length (take_at _ _ _ (c.mirror.ensures.tall ∙ c.deref_mut.ensures.len)) ∙ c.mirror.ensures.tall ∙ ap length c.deref_mut.ensures.value ∙ length-set _ _ _)) c.self.invariant.1,
+  omega arith,
+  omega arith,
+  omega arith,
 )
 
 pub returns-clause-pairs : goal.returns-clause-pairs

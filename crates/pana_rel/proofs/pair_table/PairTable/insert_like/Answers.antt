@@ -1,17 +1,20 @@
-use Rattle.std.proofs.Common.{◌∙◌, ◌++◌, ap}
+use Rattle.std.proofs.Common.{◌∙◌, ◌++◌, ap, arith}
 use Rattle.pana_rel.specs.Pairs.{rel_of}
-use Rattle.pana_rel.proofs.Insertions.{liked_call, none_spare, taken_spare, IsPutIn}
+use Rattle.pana_rel.proofs.Insertions.{liked_call, IsPutIn}
+use Rattle.pana_rel.proofs.Spares.{put_spare, taken_spare}
 use Rattle.pana_rel.proofs.Tables.{holds_table}
 use Rattle.pana_rel.proofs.pair_table.PairTable.insert_like.Goals as goal
 
 done : (c : goal.After-put) → IsPutIn c.put.new.copies.items c.put.new.rows.items c.args.new (rel_of c.args.self.now c.args.source) c.args.self.now.copies (rel_of c.args.self.now)
 done c =
     liked_call _ _ _ _ _ c.args.self.now c.args.source c.args.new _ _ _ _ c.self.invariant.0 c.self.view_is c.index.ensures
-    (c.extend.ensures.items ∙ ap (λ xs. xs ++ c.as_slice.result.now) (taken_spare _ _ _ _ c.self.invariant.1 c.take.ensures.value c.unwrap-row.ensures).0.empty ∙ c.as_slice.ensures)
+    (c.extend.ensures.items ∙ ap (λ xs. xs ++ c.as_slice.result.now) (taken_spare _ _ _ _ _ c.self.invariant.1 c.pop.ensures.items c.unwrap-row.ensures).bare ∙ c.as_slice.ensures)
     c.put.ensures.copies c.put.ensures.rows c.gap-at.ensures c.requires.new c.requires.source c.place-from.ensures.place
 
 pub invariant_of-self : goal.invariant_of-self
-invariant_of-self c = ((done c).kept, none_spare _ _ c.take.ensures.after)
+invariant_of-self c =
+    let t = taken_spare _ _ _ _ _ c.self.invariant.1 c.pop.ensures.items c.unwrap-row.ensures in
+    ((done c).kept, put_spare _ _ _ _ _ c.extend.new.self t c.extend.ensures.room c.put.ensures.rows.tall c.put.ensures.rooms c.self.invariant.1, omega arith, omega arith, omega arith)
 
 pub returns-clause-copies : goal.returns-clause-copies
 returns-clause-copies c = (done c).copies_are

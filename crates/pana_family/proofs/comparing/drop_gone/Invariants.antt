@@ -1,0 +1,10 @@
+use Rattle.std.proofs.Common.{◌≡◌, List, ℕ, drop, map}
+use Rattle.pana_family.specs.Change.{number_of}
+use Rattle.pana_family.specs.inner.Comparing.{IsFollowed, most}
+use Rattle.pana_family.proofs.comparing.drop_gone.Given as goal
+
+abbrev pub invariant-loop-new : goal.invariant-loop-new
+invariant-loop-new l = record {
+  followed : (coming but : List ℕ) → IsFollowed (map number_of l.news) coming but l.rows l.initial.pairs → IsFollowed (drop l.new-index (map number_of l.news)) coming but l.rows l.pairs;
+  room : most l.pairs ≡ most l.initial.pairs;
+}

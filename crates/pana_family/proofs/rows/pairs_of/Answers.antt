@@ -1,0 +1,39 @@
+use Rattle.std.proofs.Common.{◌≡◌, ◌∷◌, ◌++◌, ◌+◌, [], List, ap, arith, get_or, length, subst, sym, take}
+use Rattle.std.proofs.lemmas.List.{take_more}
+use Rattle.pana_family.specs.declared.row.StampRow.{StampRow}
+use Rattle.pana_family.specs.Holders.{is_copy}
+use Rattle.pana_family.specs.Rows.{IsRising, copy_rows}
+use Rattle.pana_family.specs.inner.Comparing.{IsFollowed}
+use Rattle.pana_family.proofs.Compared.{fewer_taken}
+use Rattle.pana_family.proofs.Sums.{rising_take}
+use Rattle.pana_family.proofs.Following.{as_many, at_most_one, pushed_followed, reserved_paired}
+use Rattle.pana_family.proofs.rows.pairs_of.Goals as goal
+
+pub follow-requires-clause-few : goal.follow-requires-clause-few
+follow-requires-clause-few c = omega (arith, fewer_taken (λ r. is_copy r.holder) c.args.items.now (c.loop-at.at + 1), c.requires.few)
+
+pub follow-requires-clause-rising : goal.follow-requires-clause-rising
+follow-requires-clause-rising c = rising_take 0 (c.loop-at.at + 1) c.args.items.now c.requires.rising
+
+pub follow-requires-clause-room : goal.follow-requires-clause-room
+follow-requires-clause-room c =
+    let rows : List StampRow = take c.loop-at.at c.args.items.now in
+    let r : StampRow = get_or c.args.items.now c.loop-at.at c.index-items-at.result in
+    let more : take (c.loop-at.at + 1) c.args.items.now ≡ rows ++ r ∷ [] = take_more c.args.items.now c.loop-at.at c.index-items-at.result c.loop-at-test.true in
+    let p = reserved_paired rows c.loop-at.pairs c.reserve.new.self c.loop-at.invariant c.reserve.ensures.copies c.reserve.ensures.pairs in
+    omega (
+      arith,
+      at_most_one rows r,
+      ap (λ (l : List StampRow). length (copy_rows l)) more,
+      as_many rows c.reserve.new.self.copies (rising_take 0 c.loop-at.at c.args.items.now c.requires.rising) c.copies.ensures.rising p.copies,
+      c.in_ok-reserve.ensures.room,
+    )
+
+pub follow-requires-clause-followed : goal.follow-requires-clause-followed
+follow-requires-clause-followed c =
+    let rows : List StampRow = take c.loop-at.at c.args.items.now in
+    let r : StampRow = get_or c.args.items.now c.loop-at.at c.index-items-at.result in
+    let more : take (c.loop-at.at + 1) c.args.items.now ≡ rows ++ r ∷ [] = take_more c.args.items.now c.loop-at.at c.index-items-at.result c.loop-at-test.true in
+    subst (λ (l : List StampRow). IsFollowed (r.copy ∷ []) (r.copy ∷ []) (r.copy ∷ []) l c.reserve.new.self) (sym more)
+    (pushed_followed rows r c.reserve.new.self (rising_take 0 c.loop-at.at c.args.items.now c.requires.rising) (subst (IsRising 0) more (rising_take 0 (c.loop-at.at + 1) c.args.items.now c.requires.rising))
+    (reserved_paired rows c.loop-at.pairs c.reserve.new.self c.loop-at.invariant c.reserve.ensures.copies c.reserve.ensures.pairs))

@@ -1,7 +1,0 @@
-use Rattle.std.proofs.Common.{◌≡◌}
-use Rattle.pana_hall.specs.Living.{living}
-use Rattle.pana_hall.proofs.Held.{holdings_to}
-use Rattle.pana_hall.proofs.answering.holdings.Given as goal
-
-abbrev pub invariant-loop-earlier : goal.invariant-loop-earlier
-invariant-loop-earlier l = l.made.items ≡ holdings_to (living l.journal.entries) l.device l.earlier

@@ -1,0 +1,54 @@
+use Rattle.std.specs.Prelude.{◌≡◌, ℕ, true, cond, Some, None, IsSome, List, option_map, option_copied, option_and_then}
+use Rattle.std.specs.Str.{bytes_eq}
+use Rattle.std.proofs.Common.{refl, sym, ap, ◌∙◌}
+use Rattle.pana_copies.specs.declared.place.Place.{Place}
+use Rattle.pana_copies.specs.Spots.{Spot}
+use Rattle.pana_hall.specs.Queries.{holding}
+use Rattle.pana_family.specs.View.{Means}
+use Rattle.pana_hall.specs.Living.{Copy, living}
+use Rattle.pana_hall.specs.Sets.{sets_of}
+use Rattle.pana_hall.specs.inner.Families.{family_at}
+use Rattle.pana_hall.proofs.Refusals.{found_spot, copy_has_family, has_family}
+use Rattle.pana_hall.proofs.KeptFamilies.{is_living_kept}
+use Rattle.pana_hall.proofs.state.State.holding_at.Goals as goal
+use Rattle.pana_hall.proofs.Moves.{found_number}
+use Rattle.pana_hall.proofs.Answered.{touch_of_copy}
+
+pub unwrap-it-requires : goal.unwrap-it-requires
+unwrap-it-requires c =
+    let journal = c.args.self.now.journal.entries in
+    let fs = c.args.self.now.families in
+    let copy = found_spot journal c.args.self.now.copies c.args.number _ c.requires.kept.spots (sym c.get.ensures ∙ ap (option_map _) c.in-Some.is) in
+    let it = copy_has_family journal fs.list.items fs.positions.items c.args.self.now.copies c.args.number copy.0 c.requires.kept copy.1 in
+    elim c.of_entry.result as (λ o. option_copied o ≡ Some it.0 → IsSome o) [ None ↦ λ e. absurd (cc) | Some x ↦ λ e. refl ] (c.of_entry.ensures ∙ it.1)
+
+pub touch-requires : goal.touch-requires
+touch-requires c =
+    let journal = c.args.self.now.journal.entries in
+    let fs = c.args.self.now.families in
+    let copy = found_spot journal c.args.self.now.copies c.args.number _ c.requires.kept.spots (sym c.get.ensures ∙ ap (option_map _) c.in-Some.is) in
+    let at : family_at fs.list.items fs.positions.items c.args.number ≡ Some c.unwrap-it.result.now = sym c.of_entry.ensures ∙ ap option_copied c.unwrap-it.ensures in
+    let kept_it = has_family journal fs.list.items fs.positions.items c.args.self.now.copies c.args.number c.requires.kept c.unwrap-it.result.now at in
+    (is_living_kept journal c.unwrap-it.result.now c.args.number copy.0 c.requires.kept.accepted kept_it.0 kept_it.1 copy.1)
+
+pub returns : goal.returns
+returns c =
+    let journal = c.args.self.now.journal.entries in
+    let fs = c.args.self.now.families in
+    let copy = found_spot journal c.args.self.now.copies c.args.number _ c.requires.kept.spots (sym c.get.ensures ∙ ap (option_map _) c.in-Some.is) in
+    let at : family_at fs.list.items fs.positions.items c.args.number ≡ Some c.unwrap-it.result.now = sym c.of_entry.ensures ∙ ap option_copied c.unwrap-it.ensures in
+    let kept_it = has_family journal fs.list.items fs.positions.items c.args.self.now.copies c.args.number c.requires.kept c.unwrap-it.result.now at in
+    let family = c.unwrap-it.result.now.number in
+    let means : Means c.unwrap-it.result.now.family (sets_of family journal) = kept_it.0.means in
+    let touch : c.touch.result ≡ copy.0.touch = c.touch.ensures _ means ∙ touch_of_copy journal family c.args.number copy.0 c.requires.kept.accepted copy.1 (sym kept_it.1) in
+    let number : copy.0.number ≡ c.args.number = found_number (living journal) c.args.number copy.0 copy.1 in
+    let there : copy.0.place ≡ c.in-Some.found.place.now = ap (λ (s : Spot). s.place) copy.2 in
+    let own : copy.0.family ≡ c.in-Some.found.family = ap (λ (s : Spot). s.family) copy.2 in
+    let path : c.in_ok-path.path ≡ copy.0.place.path = c.in_ok-path.ensures ∙ ap (λ (p : Place). p.path) (sym there) in
+    let shown : bytes_eq copy.0.place.device c.args.device.now ≡ true = ap (λ (p : Place). bytes_eq p.device c.args.device.now) there ∙ sym c.is_on.ensures ∙ c.if-not-is_on.false in
+    sym (ap (option_and_then (λ x. cond (bytes_eq x.place.device c.args.device.now) (Some (holding x)) None)) copy.1
+    ∙ ap (λ b. cond b (Some (holding copy.0)) None) shown
+    ∙ held_is copy.0 c.args.number c.in-Some.found.family c.in_ok-path.path c.touch.result number own (sym path) (sym touch))
+  where
+    held_is : (x : Copy) (n f : ℕ) (p : List ℕ) (t : ℕ) → x.number ≡ n → x.family ≡ f → x.place.path ≡ p → x.touch ≡ t → Some (holding x) ≡ Some (record { copy = n; family = f; path = p; touch = t })
+    held_is x n f p t a b d e = cc

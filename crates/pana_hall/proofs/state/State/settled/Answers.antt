@@ -1,0 +1,26 @@
+use Rattle.std.specs.Prelude.{◌≡◌, not, Some, option_copied}
+use Rattle.std.specs.Bool.{then_some}
+use Rattle.std.proofs.Common.{sym, ap, ◌∙◌}
+use Rattle.pana_hall.specs.declared.cause.Cause.TheVariants.{Settled}
+use Rattle.pana_hall.specs.inner.Families.{family_at}
+use Rattle.pana_hall.proofs.Refusals.{kept_pends, none_pending}
+use Rattle.pana_hall.proofs.state.State.settled.Goals as goal
+
+pub returns-in-Some : goal.returns-in-Some
+returns-in-Some c =
+    let fs = c.args.self.now.families in
+    let found : family_at fs.list.items fs.positions.items c.args.number ≡ Some c.in-Some.it.now = sym c.of_entry.ensures ∙ ap option_copied c.in-Some.is in
+    ap (λ b. then_some (not b) Settled) (sym c.if-has_pending.true ∙ kept_pends _ _ _ _ c.args.number c.requires c.in-Some.it.now found c.has_pending.result c.has_pending.ensures)
+
+pub returns-in_default : goal.returns-in_default
+returns-in_default c =
+    let fs = c.args.self.now.families in
+    let found : family_at fs.list.items fs.positions.items c.args.number ≡ Some c.in-Some.it.now = sym c.of_entry.ensures ∙ ap option_copied c.in-Some.is in
+    ap (λ b. then_some (not b) Settled) (sym c.if-has_pending.false ∙ kept_pends _ _ _ _ c.args.number c.requires c.in-Some.it.now found c.has_pending.result c.has_pending.ensures)
+
+pub returns-in_default-2 : goal.returns-in_default-2
+returns-in_default-2 c =
+    let journal = c.args.self.now.journal.entries in
+    let families = c.args.self.now.families in
+    let none = none_pending journal families.list.items families.positions.items c.args.self.now.copies c.args.number c.requires (sym c.of_entry.ensures ∙ ap option_copied c.in_default.is) in
+    ap (λ b. then_some (not b) Settled) (sym none)

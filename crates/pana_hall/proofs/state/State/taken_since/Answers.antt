@@ -1,0 +1,33 @@
+use Rattle.std.specs.Prelude.{◌≡◌, Some, None, option_copied}
+use Rattle.std.proofs.Common.{sym, ap, ◌∙◌, subst}
+use Rattle.pana_copies.specs.declared.place.Place.{Place}
+use Rattle.pana_journal.specs.Entries.{entry_at}
+use Rattle.pana_hall.specs.inner.Families.{old_place}
+use Rattle.pana_hall.specs.inner.Spots.{IsThere, other_there}
+use Rattle.pana_hall.proofs.Refusals.{back_place, taken_from_is}
+use Rattle.pana_hall.proofs.state.State.taken_since.Goals as goal
+
+pub returns-in_err-old_place : goal.returns-in_err-old_place
+returns-in_err-old_place c =
+    let journal = c.args.self.now.journal.entries in
+    let families = c.args.self.now.families in
+    let at : entry_at journal c.args.number ≡ Some c.in_ok-entry.field-0.now = sym c.entry.ensures.entry ∙ ap option_copied c.in_ok-entry.was in
+    let back = back_place journal families.list.items families.positions.items c.args.self.now.copies c.args.number c.in_ok-copy.copy c.in_ok-entry.field-0.now c.requires.kept c.requires.last at (sym c.displaced.ensures ∙ c.in_ok-copy.was) in
+    let none : old_place families.list.items families.positions.items c.args.number ≡ None = sym c.old_place.ensures ∙ ap option_copied c.in_err-old_place.was in
+    let odd : None ≡ Some back.0.place = sym none ∙ back.1 in
+    absurd (cc)
+
+pub returns : goal.returns
+returns c =
+    let journal = c.args.self.now.journal.entries in
+    let families = c.args.self.now.families in
+    let at : entry_at journal c.args.number ≡ Some c.in_ok-entry.field-0.now = sym c.entry.ensures.entry ∙ ap option_copied c.in_ok-entry.was in
+    let back = back_place journal families.list.items families.positions.items c.args.self.now.copies c.args.number c.in_ok-copy.copy c.in_ok-entry.field-0.now c.requires.kept c.requires.last at (sym c.displaced.ensures ∙ c.in_ok-copy.was) in
+    let there : old_place families.list.items families.positions.items c.args.number ≡ Some c.in_ok-old_place.field-0.now = sym c.old_place.ensures ∙ ap option_copied c.in_ok-old_place.was in
+    let both : Some c.in_ok-old_place.field-0.now ≡ Some back.0.place = sym there ∙ back.1 in
+    let same : c.in_ok-old_place.field-0.now ≡ back.0.place = cc in
+    let found = c.taken_from.ensures in
+    found.2
+    ∙ ap (λ n. other_there n found.0) (sym back.3)
+    ∙ taken_from_is journal c.args.self.now.copies back.0 found.0 c.requires.kept.accepted c.requires.kept.spots (subst (λ (p : Place). IsThere c.args.self.now.copies p found.0) same found.1)
+    ∙ sym back.2
