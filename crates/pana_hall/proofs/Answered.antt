@@ -8,24 +8,27 @@ use Rattle.std.proofs.lemmas.List.Elements.{filter-append}
 use Rattle.pana_copies.specs.Spots.{Table}
 use Rattle.pana_family.specs.Table.{touch_in, Known, set_in}
 use Rattle.pana_family.specs.Table as table
-use Rattle.pana_family.specs.View.{Means}
+use Rattle.pana_family.specs.Rows.{copy_rows}
+use Rattle.pana_family.specs.Stands.{StandsFor}
 use Rattle.pana_family.specs.declared.stamps.CopyStamp.{CopyStamp}
 use Rattle.pana_family.specs.Stamps.{AreStamps, stamps_in, text_of}
-use Rattle.pana_hall.specs.declared.kept_family.KeptFamily.{KeptFamily}
+use Rattle.pana_hall.specs.inner.Undo.{KeptRows}
 use Rattle.pana_hall.specs.Family.{families, is_family, has_report, is_register}
 use Rattle.pana_hall.specs.Living.{Copy, copy_in, known_to, living}
 use Rattle.pana_hall.specs.declared.cause.Cause.TheVariants.{UnknownFamily}
 use Rattle.pana_hall.specs.declared.family_row.FamilyRow.{FamilyRow}
 use Rattle.pana_hall.specs.Board.{is_of}
-use Rattle.pana_hall.specs.Queries.{family_row}
+use Rattle.pana_hall.specs.Queries.{begun, family_row}
 use Rattle.pana_hall.specs.Refusal.{unknown_family, unknown, other_family, first}
 use Rattle.pana_hall.specs.Accepted.{IsAccepted}
 use Rattle.pana_hall.specs.Tables as tables
 use Rattle.pana_hall.specs.Sets.{sets_of}
 use Rattle.pana_hall.specs.StampRows.{stamp_rows}
+use Rattle.pana_hall.specs.StampRows as rows
+use Rattle.pana_hall.specs.Tables.{layer}
 use Rattle.pana_family.specs.declared.row.StampRow.{StampRow}
 use Rattle.pana_hall.specs.inner.Families.{family_at}
-use Rattle.pana_hall.specs.inner.Kept.{IsFamilyKept, IsKept}
+use Rattle.pana_hall.specs.inner.Kept.{IsKept, families_of, family_of}
 use Rattle.pana_journal.specs.declared.entry.Entry.{Entry}
 use Rattle.pana_journal.specs.Entries.{entry_at}
 use Rattle.pana_hall.proofs.Locality.{IsWell}
@@ -37,9 +40,8 @@ use Rattle.pana_hall.proofs.Tables.{merged, table_living}
 use Rattle.pana_hall.specs.Stamps.{AreStampsOf, as_known}
 use Rattle.pana_hall.proofs.Knowns.{row_in, row_of, set_at, touch_at}
 use Rattle.pana_hall.proofs.Mirrors.{sets_old}
-use Rattle.pana_hall.proofs.KeptFamilies.{copies_sets, rows_kept}
-use Rattle.pana_hall.proofs.Ready.{family_of}
-use Rattle.pana_hall.proofs.Refusals.{has_family}
+use Rattle.pana_hall.proofs.Stood.{copies_sets, count_rows, layers_stand}
+use Rattle.pana_hall.proofs.Ready.{family_of as family_of_copy}
 
 -- a living copy's row is found in its family's table
 row_of_copy : (journal : List Entry) (family n : ℕ) (copy : Copy) → IsAccepted 8 journal → copy_in (living journal) n ≡ Some copy → families journal n ≡ family
@@ -78,7 +80,7 @@ pair_at journal a b accepted free =
       second = y.0;
       found_first = x.1;
       found_second = y.1;
-      of = sym (family_of journal b y.0 sound y.1) ∙ one_family a b (living journal) x.0 y.0 alike.0 x.1 y.1 ∙ family_of journal a x.0 sound x.1;
+      of = sym (family_of_copy journal b y.0 sound y.1) ∙ one_family a b (living journal) x.0 y.0 alike.0 x.1 y.1 ∙ family_of_copy journal a x.0 sound x.1;
     }
 
 -- a family that has begun is its own
@@ -98,13 +100,11 @@ begun_at journal family accepted free =
           (within.0, within.1, ap (families journal) (sym is_it) ∙ here.belongs.own f ∙ is_it)
     ] refl begun
 
-pub family_there : (journal : List Entry) (list : List KeptFamily) (positions : List ℕ) (copies : Table) (family : ℕ) → IsKept journal list positions copies → first (unknown_family family journal ∷ []) ≡ None
-    → (it : KeptFamily) × (family_at list positions family ≡ Some it) × (it.number ≡ family) × IsFamilyKept journal it
+pub family_there : (journal : List Entry) (list : List KeptRows) (positions : List ℕ) (copies : Table) (family : ℕ) → IsKept journal list positions copies → first (unknown_family family journal ∷ []) ≡ None
+    → family_at list positions family ≡ Some (family_of journal family)
 family_there journal list positions copies family all free =
     let begun = begun_at journal family all.accepted free in
-    let there = found_at journal list positions family all.listed all.placed begun.0 begun.1 in
-    let at : family_at list positions family ≡ Some there.2.it = ap (option_and_then (slice_get list)) there.1 ∙ there.2.found in
-    (there.2.it, at, there.2.number ∙ begun.2, (has_family journal list positions copies family all there.2.it at).0)
+    found_at journal list positions family all.listed all.placed begun.0 begun.1 ∙ ap (λ f. Some (family_of journal f)) begun.2
 
 -- the families of a list, one after another
 abbrev pub rows_of : List Copy → List ℕ → List FamilyRow
@@ -121,32 +121,39 @@ any_count p [] = refl
 any_count p (x ∷ xs) = elim (p x) as (λ b. (b || list_any p xs) ≡ nat_lt 0 (length (cond b (x ∷ filter p xs) (filter p xs)))) [ true ↦ sym (lt-ltb 0 (suc (length (filter p xs))) (omega arith)) | false ↦ any_count p xs ]
 
 -- a family has a living copy where it counts one
-pub lives_is : (journal : List Entry) (it : KeptFamily) (count : ℕ) → IsAccepted 8 journal → count ≡ length (table.copies_of (sets_of it.number journal).table) → nat_lt 0 count ≡ list_any (is_of it.number) (living journal)
-lives_is journal it count accepted is =
-    ap (nat_lt 0) (is ∙ ap length (copies_sets journal it.number accepted) ∙ length-map (tables.table 8 0 it.number journal) as_known ∙ ap length (sym (table_living 8 it.number journal)))
-    ∙ sym (any_count (is_of it.number) (living journal))
+pub lives_is : (journal : List Entry) (family : ℕ) → IsAccepted 8 journal → nat_lt 0 (length (copy_rows (rows.rows_of (layer 8 0 family journal)))) ≡ list_any (is_of family) (living journal)
+lives_is journal family accepted = ap (nat_lt 0) (count_rows journal family accepted) ∙ sym (any_count (is_of family) (living journal))
+
+-- each family of the list is the one of its number
+pub each_own : (journal : List Entry) (list : List KeptRows) → list ≡ families_of journal → AllByRecursion (λ it. it ≡ family_of journal it.number) list
+each_own journal list listed = subst (AllByRecursion (λ it. it ≡ family_of journal it.number)) (sym listed) (each (begun journal))
+  where
+    each : (numbers : List ℕ) → AllByRecursion (λ it. it ≡ family_of journal it.number) (map (family_of journal) numbers)
+    each [] = tt
+    each (n ∷ numbers) = (refl, each numbers)
+
+-- and their numbers are those of the families that have begun
+pub numbers_own : (journal : List Entry) (list : List KeptRows) → list ≡ families_of journal → map (λ it. it.number) list ≡ begun journal
+numbers_own journal list listed = ap (map (λ it. it.number)) listed ∙ each (begun journal)
+  where
+    each : (numbers : List ℕ) → map (λ (it : KeptRows). it.number) (map (family_of journal) numbers) ≡ numbers
+    each [] = refl
+    each (n ∷ numbers) = ap (λ l. n ∷ l) (each numbers)
 
 pub each_get : {X : Type 0} (P : X → Type 0) (xs : List X) (i : ℕ) (d : X) → AllByRecursion P xs → i < length xs → P (slice_index_or xs i d)
 each_get P [] i d each within = absurd (omega arith)
 each_get P (x ∷ xs) zero d each within = each.0
 each_get P (x ∷ xs) (suc i) d each within = each_get P xs i d each.1 (omega arith)
 
-pub known_family : (journal : List Entry) (list : List KeptFamily) (positions : List ℕ) (copies : Table) (family : ℕ) (it : KeptFamily) → IsKept journal list positions copies → first (unknown_family family journal ∷ []) ≡ None
-    → family_at list positions family ≡ Some it → Means it.family (sets_of family journal)
-known_family journal list positions copies family it all free at =
-    let there = family_there journal list positions copies family all free in
-    let both : Some there.0 ≡ Some it = sym there.1 ∙ at in
-    let same : there.0 ≡ it = cc in
-    subst (λ (k : KeptFamily). Means k.family (sets_of family journal)) same (subst (λ f. Means there.0.family (sets_of f journal)) there.2 there.3.means)
+-- a family's rows stand for its sets
+pub stands_of : (journal : List Entry) (family : ℕ) (it : KeptRows) → IsAccepted 8 journal → it ≡ family_of journal family → StandsFor it.rows (sets_of family journal).table
+stands_of journal family it accepted is = subst (λ (k : KeptRows). StandsFor k.rows (sets_of family journal).table) (sym is) (layers_stand journal accepted 0 family).stands
 
--- and its rows are those that the journal gives
-pub known_rows : (journal : List Entry) (list : List KeptFamily) (positions : List ℕ) (copies : Table) (family : ℕ) (it : KeptFamily) → IsKept journal list positions copies → first (unknown_family family journal ∷ []) ≡ None
-    → family_at list positions family ≡ Some it → it.family.rows ≡ stamp_rows family journal
-known_rows journal list positions copies family it all free at =
-    let there = family_there journal list positions copies family all free in
-    let both : Some there.0 ≡ Some it = sym there.1 ∙ at in
-    let same : there.0 ≡ it = cc in
-    subst (λ (k : KeptFamily). k.family.rows ≡ stamp_rows family journal) same (rows_kept journal there.0 there.3 ∙ ap (λ f. stamp_rows f journal) there.2)
+-- what a question finds under a family's number
+pub found_is : (journal : List Entry) (list : List KeptRows) (positions : List ℕ) (copies : Table) (family : ℕ) (it : KeptRows) → IsKept journal list positions copies → first (unknown_family family journal ∷ []) ≡ None
+    → family_at list positions family ≡ Some it → it ≡ family_of journal family
+found_is journal list positions copies family it all free at =
+    let both : Some (family_of journal family) ≡ Some it = sym (family_there journal list positions copies family all free) ∙ at in cc
 
 -- the stamps of a family's copies are those of the copies that live
 pub stamps_are : (journal : List Entry) (family : ℕ) (rows : List StampRow) (stamps : List CopyStamp) → IsAccepted 8 journal → rows ≡ stamp_rows family journal → map text_of stamps ≡ stamps_in rows

@@ -12,8 +12,7 @@ pub mod Places
 pub mod More
 pub mod FamilySets
 pub mod Spots
-pub mod OldPlaces
-pub mod KeptPlaces
+pub mod Histories
 pub mod KeptFamilies
 pub mod Ready
 pub mod Undoing

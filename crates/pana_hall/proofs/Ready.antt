@@ -5,22 +5,25 @@ use Rattle.pana_copies.specs.declared.place.Place.{Place}
 use Rattle.pana_copies.specs.Spots.{Table, kept, place_of}
 use Rattle.pana_journal.specs.declared.report.Report.{Report}
 use Rattle.pana_journal.specs.declared.entry.Entry.{Entry}
-use Rattle.pana_family.specs.View.{is_living, IsNew}
-use Rattle.pana_hall.specs.declared.kept_family.KeptFamily.{KeptFamily}
-use Rattle.pana_hall.specs.Family.{families, begun_or_joined, subject}
+use Rattle.pana_family.specs.Rows.{AreBefore}
+use Rattle.pana_family.specs.Report.{CanReport}
+use Rattle.pana_family.specs.declared.report.FamilyReport.{FamilyReport}
+use Rattle.pana_hall.specs.Family.{families, family_report, begun_or_joined, subject}
 use Rattle.pana_hall.specs.Living.{Copy, copy_in, copies_of, living}
 use Rattle.pana_hall.specs.Refusal.{report_refusal, taken}
 use Rattle.pana_hall.specs.Accepted.{Accepts}
 use Rattle.pana_hall.specs.Tables.{layer}
 use Rattle.pana_hall.specs.Tables as tables
+use Rattle.pana_hall.specs.Laws.{family_of_next}
+use Rattle.pana_hall.specs.inner.Undo.{KeptRows}
 use Rattle.pana_hall.specs.inner.Spots.{spot_of, IsFree}
-use Rattle.pana_hall.specs.inner.Kept.{next_entry, AreSpots, IsReady}
+use Rattle.pana_hall.specs.inner.Kept.{next_entry, AreSpots, IsReady, family_of as family_kept}
 use Rattle.pana_hall.proofs.Grown.{family_new}
 use Rattle.pana_hall.proofs.Sound.{IsSound, accepted_is_sound, living_fit, LivesIn, found_family, named_report}
 use Rattle.pana_hall.proofs.Tables.{table_own, merged}
 use Rattle.pana_hall.proofs.Places.{free_of}
 use Rattle.pana_hall.proofs.Spots.{living_below}
-use Rattle.pana_hall.proofs.KeptFamilies.{is_living_kept, is_new_kept}
+use Rattle.pana_hall.proofs.Stood.{IsStood, can_report, layers_stand, next_above}
 use Rattle.pana_hall.proofs.Moves.{Names, none_below}
 
 pub family_of : (journal : List Entry) (c : ℕ) (copy : Copy) → IsSound 8 journal → copy_in (living journal) c ≡ Some copy → copy.family ≡ families journal c
@@ -47,23 +50,30 @@ at_spots journal copies spots c place at =
 pub free_spots : (journal : List Entry) (copies : Table) → AreSpots journal copies → (place : Place) → taken place (living journal) ≡ None → IsFree place copies
 free_spots journal copies spots place free number at = let there = at_spots journal copies spots number place at in free_of place (living journal) number there.0 free there.1 there.2
 
-module _ {journal : List Entry} {by : List ℕ} {report : Report} {it : KeptFamily} {copies : Table} where
+module _ {journal : List Entry} {by : List ℕ} {report : Report} {it : KeptRows} {copies : Table} where
   -- and the report is this one
   pub as_is : IsReady journal by report it copies → {r : Report} → report ≡ r → IsReady journal by r it copies
   as_is ready is = subst (λ r. IsReady journal by r it copies) is ready
 
   pub own_is : IsReady journal by report it copies → it.number ≡ begun_or_joined (families journal) (length journal + 1) (subject report)
-  own_is ready = ready.own ∙ family_new journal (next_entry journal by report)
+  own_is ready = ap (λ k. k.number) ready.kept ∙ family_new journal (next_entry journal by report)
 
   -- the copies that the report names live, in its family
   pub named : IsReady journal by report it copies → (c : ℕ) → Names report c → LivesIn journal it.number c
   named ready c names = subst (λ f. LivesIn journal f c) (sym (own_is ready)) (named_report 8 (length journal + 1) journal by report c (living_fit 8 journal (accepted_is_sound 8 journal ready.accepted)) ready.free names)
 
-  pub living_there : IsReady journal by report it copies → {r : Report} → report ≡ r → (c : ℕ) → Names r c → is_living it.family c ≡ true
-  living_there ready is c names = let there = named ready c (subst (λ x. Names x c) (sym is) names) in is_living_kept journal it c there.copy ready.accepted ready.kept (sym there.of) there.found
+  -- the family can take the report
+  pub able_there : IsReady journal by report it copies → {of : FamilyReport} → family_report report ≡ Some of → CanReport of it.rows
+  able_there ready {of} about =
+      let entry = next_entry journal by report in
+      subst (λ (k : KeptRows). CanReport of k.rows) (sym ready.kept)
+      (can_report journal entry report of (accepted_is_sound 8 journal ready.accepted) (accepts_next journal by report ready.free) refl about (layers_stand journal ready.accepted 0 (family_of_next journal entry)))
 
-  pub new_there : IsReady journal by report it copies → (n : ℕ) → n ≡ length journal → IsNew (n + 1) it.family
-  new_there ready n is = is_new_kept journal it (n + 1) ready.accepted ready.kept (ap (λ k. k + 1) is)
+  pub new_there : IsReady journal by report it copies → (n : ℕ) → n ≡ length journal → AreBefore (n + 1) it.rows
+  new_there ready n is =
+      let entry = next_entry journal by report in
+      let above = next_above journal entry (accepted_is_sound 8 journal ready.accepted) (accepts_next journal by report ready.free) (layers_stand journal ready.accepted 0 (family_of_next journal entry)) in
+      subst (λ k. AreBefore (k + 1) it.rows) (sym is) (subst (λ (k : KeptRows). AreBefore (length journal + 1) k.rows) (sym ready.kept) above.0)
 
   -- where a copy is kept
   pub place_there : IsReady journal by report it copies → (c : ℕ) → place_of copies c ≡ option_map (λ copy. copy.place) (copy_in (living journal) c)

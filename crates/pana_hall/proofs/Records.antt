@@ -8,28 +8,24 @@ use Rattle.pana_copies.specs.Spots.{Table}
 use Rattle.pana_journal.specs.declared.report.Report.{Report}
 use Rattle.pana_journal.specs.declared.entry.Entry.{Entry}
 use Rattle.pana_journal.specs.Entries.{entry_at}
-use Rattle.pana_hall.specs.declared.kept_family.KeptFamily.{KeptFamily}
+use Rattle.pana_hall.specs.inner.Undo.{KeptRows}
 use Rattle.pana_hall.specs.Family.{families, begun_or_joined, subject, is_register}
 use Rattle.pana_hall.specs.Living.{Copy, copy_in, living}
 use Rattle.pana_hall.specs.Queries.{begun}
 use Rattle.pana_hall.specs.Refusal.{report_refusal}
 use Rattle.pana_hall.specs.Accepted.{IsAccepted}
 use Rattle.pana_hall.specs.Laws.{AreRising}
-use Rattle.pana_hall.specs.inner.Families.{position_at}
-use Rattle.pana_hall.specs.inner.Kept.{next_entry, ArePlaced, AreListed, AreSpots, IsAt, IsKept, IsReadyAt, position_for, position_of_subject}
+use Rattle.pana_hall.specs.inner.Kept.{next_entry, ArePlaced, AreSpots, IsKept, IsReadyAt, families_of, family_of, position_for, position_of_subject}
+use Rattle.pana_hall.specs.inner.Families.{family_at, position_at}
+use Rattle.pana_hall.specs.Laws.{family_of_next}
 use Rattle.pana_hall.proofs.Rising.{entry_at_place, slice_get-append, slice_get-push}
 use Rattle.pana_hall.proofs.Grown.{family_new, family_old}
 use Rattle.pana_hall.proofs.Sound.{accepted_is_sound, named_by, living_fit, LivesIn, named_report}
 use Rattle.pana_hall.proofs.Sorted.{begun-next}
 use Rattle.pana_hall.proofs.Steps.{next_accepted, rising}
-use Rattle.pana_hall.proofs.Listed.{within_length}
+use Rattle.pana_hall.proofs.Listed.{get_map, within_length}
 use Rattle.pana_hall.proofs.Ready.{accepts_next}
 use Rattle.pana_hall.proofs.Moves.{subject_none, subject_named}
-
-slice_get-map : {X : Type 0} (f : X → ℕ) (xs : List X) (p y : ℕ) → slice_get (map f xs) p ≡ Some y → (x : X) × (slice_get xs p ≡ Some x) × (f x ≡ y)
-slice_get-map f [] p y at = absurd (cc)
-slice_get-map f (x ∷ xs) zero y at = (x, refl, cc)
-slice_get-map f (x ∷ xs) (suc p) y at = slice_get-map f xs p y at
 
 -- a living copy's number is that of an entry
 found_within : (low last n : ℕ) (copies : List Copy) (copy : Copy) → AreRising (λ c. c.number) low copies → AllByRecursion (λ c. c.number ≤ last) copies → copy_in copies n ≡ Some copy → (low < n) × (n ≤ last)
@@ -64,13 +60,12 @@ subject_within journal by report n accepted free about =
       | inr is ↦ let there = named_by 8 journal by report n is free in entry_within journal n there.0 there.1
     ]
 
--- the family of an entry is found at its position
-pub found_at : (journal : List Entry) (list : List KeptFamily) (positions : List ℕ) (n : ℕ) → AreListed journal list → ArePlaced journal positions → 0 < n → n ≤ length journal
-    → (p : ℕ) × (position_at positions n ≡ Some p) × IsAt list p (families journal n)
+-- the family of an entry is found
+pub found_at : (journal : List Entry) (list : List KeptRows) (positions : List ℕ) (n : ℕ) → list ≡ families_of journal → ArePlaced journal positions → 0 < n → n ≤ length journal
+    → family_at list positions n ≡ Some (family_of journal (families journal n))
 found_at journal list positions n listed placed some within =
     let at = placed.at n some within in
-    let there = slice_get-map (λ it. it.number) list at.0 (families journal n) (ap (λ l. slice_get l at.0) listed.begun ∙ at.2) in
-    (at.0, at.1, record { it = there.0; found = there.1; number = there.2 })
+    ap (option_and_then (slice_get list)) at.1 ∙ ap (λ l. slice_get l at.0) listed ∙ get_map (family_of journal) (begun journal) at.0 (families journal n) at.2
 
 -- a report without a subject is a Register
 registers : (report : Report) → subject report ≡ None → is_register report ≡ true
@@ -92,7 +87,7 @@ position_push positions p =
     ap (λ b. cond b None (slice_get (positions ++ p ∷ []) (length positions + 1 - 1))) (ne_eqb (length positions + 1) 0 (λ h. omega arith))
     ∙ ap (slice_get (positions ++ p ∷ [])) place ∙ slice_get-push positions p
 
-module _ (journal : List Entry) (by : List ℕ) (report : Report) (list : List KeptFamily) (positions : List ℕ) (copies : Table) where
+module _ (journal : List Entry) (by : List ℕ) (report : Report) (list : List KeptRows) (positions : List ℕ) (copies : Table) where
   -- a report has a position for its family
   pub has_position : IsKept journal list positions copies → report_refusal 8 journal (living journal) by report ≡ None → (p : ℕ) × (position_for list positions report ≡ Some p)
   has_position all free =
@@ -113,27 +108,26 @@ module _ (journal : List Entry) (by : List ℕ) (report : Report) (list : List K
     listed = all.listed;
     spots = all.spots;
     at = λ later.
-        let named : families (journal ++ next_entry journal by report ∷ []) (length journal + 1) ≡ begun_or_joined (families journal) (length journal + 1) (subject report) = family_new journal (next_entry journal by report) in
-        elim (subject report) as (λ s. subject report ≡ s → position_of_subject list positions s ≡ Some p → families (journal ++ next_entry journal by report ∷ []) (length journal + 1) ≡ begun_or_joined (families journal) (length journal + 1) s
-        → IsAt list p (families (journal ++ next_entry journal by report ∷ []) (length journal + 1))) [
+        let next = family_of_next journal (next_entry journal by report) in
+        elim (subject report) as (λ s. subject report ≡ s → position_of_subject list positions s ≡ Some p → next ≡ begun_or_joined (families journal) (length journal + 1) s → slice_get (begun journal) p ≡ Some next) [
           | None ↦ λ e f g. absurd (none_registers report e later)
           | Some n ↦ λ e f g.
               let within = subject_within journal by report n all.accepted free e in
-              let there = found_at journal list positions n all.listed all.placed within.0 within.1 in
+              let there = all.placed.at n within.0 within.1 in
               let both : Some there.0 ≡ Some p = sym there.1 ∙ f in
               let same : there.0 ≡ p = cc in
-              subst (λ k. IsAt list k (families (journal ++ next_entry journal by report ∷ []) (length journal + 1))) same (subst (IsAt list there.0) (sym g) there.2)
-        ] refl at named;
+              ap (slice_get (begun journal)) (sym same) ∙ there.2 ∙ ap (λ k. Some k) (sym g)
+        ] refl at (family_new journal (next_entry journal by report));
   }
 
   -- what is kept then
   pub kept_next : IsKept journal list positions copies → report_refusal 8 journal (living journal) by report ≡ None → (p : ℕ) → position_for list positions report ≡ Some p
-      → (list' : List KeptFamily) (copies' : Table) → AreListed (journal ++ next_entry journal by report ∷ []) list' → AreSpots (journal ++ next_entry journal by report ∷ []) copies'
+      → (list' : List KeptRows) (copies' : Table) → list' ≡ families_of (journal ++ next_entry journal by report ∷ []) → AreSpots (journal ++ next_entry journal by report ∷ []) copies'
       → IsKept (journal ++ next_entry journal by report ∷ []) list' (positions ++ p ∷ []) copies'
   kept_next all free p at list' copies' listed spots =
       let entry = next_entry journal by report in
       let journal' = journal ++ entry ∷ [] in
-      let long : length list ≡ length (begun journal) = sym (length-map list (λ it. it.number)) ∙ ap length all.listed.begun in
+      let long : length list ≡ length (begun journal) = ap length all.listed ∙ length-map (begun journal) (family_of journal) in
       record {
         accepted = next_accepted 8 journal entry all.accepted (accepts_next journal by report free);
         listed = listed;

@@ -3,7 +3,7 @@ use Rattle.std.specs.Prelude.{◌≡◌, ◌↔◌, ◌⊎◌, ℕ, ◌-◌, ◌
 use Rattle.std.specs.Bool.{then_some}
 use Rattle.std.specs.Str.{bytes_eq}
 use Rattle.std.proofs.lemmas.Slice.Eq.{bytes_eq-Decides}
-use Rattle.std.specs.List.{AllByRecursion}
+use Rattle.std.specs.List.{AllByRecursion, list_any}
 use Rattle.std.proofs.Common.{refl, sym, ap, ◌∙◌, subst, inl, inr, arith}
 use Rattle.std.proofs.Math.Bool.{or-true, or_comm}
 use Rattle.std.proofs.lemmas.Bool.{eq-eqb, ne_eqb, cases_lt, cases_Bool}
@@ -16,37 +16,30 @@ use Rattle.pana_copies.specs.Spots.{Spot, Table, kept, place_of}
 use Rattle.pana_journal.specs.declared.entry.Entry.{Entry}
 use Rattle.pana_journal.specs.Entries.{entry_at}
 use Rattle.pana_family.specs.Updates.{has}
-use Rattle.pana_family.specs.Sets.{Sets, Pends, PendsLast}
-use Rattle.pana_family.specs.Table as table
-use Rattle.pana_hall.specs.declared.cause.Cause.TheVariants.{PlaceTaken, FamilyFull}
-use Rattle.pana_hall.specs.declared.kept_family.KeptFamily.{KeptFamily}
+use Rattle.pana_family.specs.Rows.{copy_rows, divides, lives}
+use Rattle.pana_hall.specs.declared.cause.Cause.TheVariants.{PlaceTaken, FamilyFull, TooDeep}
+use Rattle.pana_hall.specs.inner.Undo.{KeptRows, ends_in, last_place}
 use Rattle.pana_hall.specs.Family.{families}
 use Rattle.pana_hall.specs.Living.{Copy, copy_in, copies_of, living}
 use Rattle.pana_hall.specs.Pending.{pending, is_last}
-use Rattle.pana_hall.specs.Refusal.{displaced, taken, taken_from, taken_since, family_full, pending_with}
+use Rattle.pana_hall.specs.Refusal.{displaced, taken, taken_from, taken_since, family_full, too_deep, pending_with}
 use Rattle.pana_hall.specs.Board.{is_of}
-use Rattle.pana_family.specs.View.{Means}
 use Rattle.pana_hall.specs.Accepted.{IsAccepted}
 use Rattle.pana_hall.specs.Laws.{AreRising}
 use Rattle.pana_hall.specs.Tables.{layer}
-use Rattle.pana_hall.specs.Tables as tables
-use Rattle.pana_hall.specs.Sets.{of_each, before_entry, sets_of}
+use Rattle.pana_hall.specs.Sets.{of_each}
+use Rattle.pana_hall.specs.StampRows.{rows_of, stamp_rows}
 use Rattle.pana_hall.specs.inner.Families.{family_at, old_place}
-use Rattle.pana_hall.specs.inner.OldPlaces.{Old, old_of, old_places, place_before}
 use Rattle.pana_hall.specs.inner.Spots.{spot_of, IsThere, other_there}
-use Rattle.pana_hall.specs.inner.Kept.{AreSpots, IsFamilyKept, IsKept}
+use Rattle.pana_hall.specs.inner.Kept.{AreSpots, IsKept, family_of, place_before, undone_of}
 use Rattle.pana_hall.proofs.Lists.{is_last_push, each_weaker, any_push, is_last-push}
 use Rattle.pana_hall.proofs.Sound.{accepted_is_sound}
-use Rattle.pana_hall.proofs.Tables.{ends_at, pending_rises, table_living}
+use Rattle.pana_hall.proofs.Tables.{ends_at, layer_now, pending_rises}
 use Rattle.pana_hall.proofs.Places.{same_place-itself, none_passes, living_found}
-use Rattle.pana_hall.proofs.Rising.{slice_get-each}
-use Rattle.pana_hall.proofs.FamilySets.{pends_in, in_pends}
 use Rattle.pana_hall.proofs.More.{each_has}
-use Rattle.pana_hall.proofs.KeptPlaces.{front, first_front}
-use Rattle.pana_hall.proofs.OldPlaces.{pending_within}
-use Rattle.pana_hall.specs.Stamps.{as_known}
-use Rattle.pana_hall.proofs.KeptFamilies.{copies_sets}
-use Rattle.pana_hall.proofs.Ready.{place_spots, at_spots, family_of}
+use Rattle.pana_hall.proofs.KeptFamilies.{pending_within}
+use Rattle.pana_hall.proofs.Stood.{count_rows, lives_rows}
+use Rattle.pana_hall.proofs.Ready.{place_spots, at_spots, family_of as family_of_copy}
 use Rattle.pana_hall.proofs.Records.{found_at, lives_within, entry_within}
 use Rattle.pana_hall.proofs.Moves.{found_number}
 use Rattle.pana_hall.proofs.Undone.{back_at}
@@ -126,15 +119,12 @@ has-reverse : (xs : List ℕ) (n : ℕ) → has (reverse xs) n ≡ has xs n
 has-reverse [] n = refl
 has-reverse (x ∷ xs) n = ap (λ l. has l n) (reverse-append (x ∷ []) xs) ∙ any_push (λ k. k == n) (reverse xs) x ∙ or_comm (has (reverse xs) n) (x == n) ∙ ap (λ b. (x == n) || b) (has-reverse xs n)
 
-pends_is : (journal : List Entry) (family n : ℕ) (b : Bool) → (IsTrue b ↔ Pends n (sets_of family journal).before) → b ≡ has (pending 8 family journal) n
-pends_is journal family n b both_ways =
-    elim (cases_Bool b) [
-      | inl holds ↦ holds ∙ sym (sym (has-reverse (pending 8 family journal) n) ∙ in_pends family journal 1 n (reverse (pending 8 family journal)) (both_ways.0 holds))
-      | inr never ↦ never ∙ sym (elim (cases_Bool (has (pending 8 family journal) n)) [
-        | inl in_it ↦ let holds = both_ways.1 (pends_in family journal 1 n (reverse (pending 8 family journal)) (has-reverse (pending 8 family journal) n ∙ in_it)) in absurd (cc)
-        | inr out ↦ out
-      ])
-    ]
+pends_each : (journal : List Entry) (family n k : ℕ) (numbers : List ℕ) → list_any (λ u. u.entry == n) (of_each (undone_of journal) family journal k numbers) ≡ has numbers n
+pends_each journal family n k [] = refl
+pends_each journal family n k (m ∷ numbers) = ap (λ b. (m == n) || b) (pends_each journal family n (k + 1) numbers)
+
+pends_is : (journal : List Entry) (family n : ℕ) → list_any (λ u. u.entry == n) (family_of journal family).undo ≡ has (pending 8 family journal) n
+pends_is journal family n = pends_each journal family n 1 (reverse (pending 8 family journal)) ∙ has-reverse (pending 8 family journal) n
 
 -- the last of a list that is written the other way round is its first
 reversed : (numbers : List ℕ) → (numbers ≡ []) ⊎ ((prefix : List ℕ) × (x : ℕ) × (numbers ≡ prefix ++ x ∷ []))
@@ -144,28 +134,21 @@ reversed (a ∷ numbers) = elim (reversed numbers) [
   | inr some ↦ inr (a ∷ some.0, some.1, ap (λ l. a ∷ l) some.2)
 ]
 
-lasts_is : (journal : List Entry) (family n : ℕ) (b : Bool) → (IsTrue b ↔ PendsLast n (sets_of family journal).before) → b ≡ is_last n (pending 8 family journal)
-lasts_is journal family n b both_ways =
-    elim (reversed (pending 8 family journal)) [
-      | inl none ↦
-          let no_last : (sets_of family journal).before ≡ [] = ap (λ l. of_each before_entry family journal 1 (reverse l)) none in
-          elim (cases_Bool b) [
-            | inl holds ↦ absurd (subst (PendsLast n) no_last (both_ways.0 holds))
-            | inr never ↦ never ∙ ap (is_last n) (sym none)
-          ]
+ends_each : (journal : List Entry) (family n k : ℕ) (numbers : List ℕ) → ends_in n (of_each (undone_of journal) family journal k (reverse numbers)) ≡ is_last n numbers
+ends_each journal family n k numbers =
+    elim (reversed numbers) [
+      | inl none ↦ ap (λ l. ends_in n (of_each (undone_of journal) family journal k (reverse l))) none ∙ ap (is_last n) (sym none)
       | inr some ↦
-          let first : (sets_of family journal).before ≡ of_each before_entry family journal 1 (some.1 ∷ reverse some.0) =
-          ap (of_each before_entry family journal 1) (ap reverse some.2 ∙ reverse-append some.0 (some.1 ∷ [])) in
-          let value : is_last n (pending 8 family journal) ≡ (some.1 == n) = ap (is_last n) some.2 ∙ is_last-push some.0 some.1 n in
-          elim (cases_Bool b) [
-            | inl holds ↦ let same : some.1 ≡ n = subst (PendsLast n) first (both_ways.0 holds) in holds ∙ sym (value ∙ eq-eqb some.1 n same)
-            | inr never ↦ never ∙ sym (value ∙ ne_eqb some.1 n (λ h. let holds = both_ways.1 (subst (PendsLast n) (sym first) h) in absurd (cc)))
-          ]
+          ap (λ l. ends_in n (of_each (undone_of journal) family journal k l)) (ap reverse some.2 ∙ reverse-append some.0 (some.1 ∷ []))
+          ∙ sym (ap (is_last n) some.2 ∙ is_last-push some.0 some.1 n)
     ]
 
+lasts_is : (journal : List Entry) (family n : ℕ) → ends_in n (family_of journal family).undo ≡ is_last n (pending 8 family journal)
+lasts_is journal family n = ends_each journal family n 1 (pending 8 family journal)
+
 -- the family of an entry, as a hall keeps it, or no entry has the number
-pub has_family : (journal : List Entry) (list : List KeptFamily) (positions : List ℕ) (copies : Table) (n : ℕ) → IsKept journal list positions copies → (it : KeptFamily) → family_at list positions n ≡ Some it
-    → IsFamilyKept journal it × (it.number ≡ families journal n)
+pub has_family : (journal : List Entry) (list : List KeptRows) (positions : List ℕ) (copies : Table) (n : ℕ) → IsKept journal list positions copies → (it : KeptRows) → family_at list positions n ≡ Some it
+    → it ≡ family_of journal (families journal n)
 has_family journal list positions copies n all it found =
     elim (cases_lt n 1) [
       | inl none ↦
@@ -180,27 +163,24 @@ has_family journal list positions copies n all it found =
             ap (λ b. option_and_then (slice_get list) (cond b None (slice_get positions (n - 1)))) (ne_eqb n 0 (λ h. omega arith)) ∙ ap (option_and_then (slice_get list)) beyond in
             let odd : None ≡ Some it = sym nothing ∙ found in absurd (cc)
         | inr within ↦
-            let there = found_at journal list positions n all.listed all.placed (omega arith) (omega arith) in
-            let at : family_at list positions n ≡ Some there.2.it = ap (option_and_then (slice_get list)) there.1 ∙ there.2.found in
-            let both : Some there.2.it ≡ Some it = sym at ∙ found in
-            let same : there.2.it ≡ it = cc in
-            (subst (IsFamilyKept journal) same (slice_get-each (IsFamilyKept journal) list there.0 there.2.it all.listed.each there.2.found), ap (λ k. k.number) (sym same) ∙ there.2.number)
+            let both : Some (family_of journal (families journal n)) ≡ Some it = sym (found_at journal list positions n all.listed all.placed (omega arith) (omega arith)) ∙ found in
+            cc
       ]
     ]
 
 -- whether an entry is pending, or the last that is, as its family has it
-pub kept_pends : (journal : List Entry) (list : List KeptFamily) (positions : List ℕ) (copies : Table) (n : ℕ) → IsKept journal list positions copies → (it : KeptFamily) → family_at list positions n ≡ Some it
-    → (b : Bool) → ((sets : Sets) → Means it.family sets → IsTrue b ↔ Pends n sets.before) → b ≡ has (pending_with 8 n journal) n
-kept_pends journal list positions copies n all it at b says =
-    let its = has_family journal list positions copies n all it at in pends_is journal it.number n b (says _ its.0.means) ∙ ap (λ f. has (pending 8 f journal) n) its.1
+pub kept_pends : (journal : List Entry) (list : List KeptRows) (positions : List ℕ) (copies : Table) (n : ℕ) → IsKept journal list positions copies → (it : KeptRows) → family_at list positions n ≡ Some it
+    → list_any (λ u. u.entry == n) it.undo ≡ has (pending_with 8 n journal) n
+kept_pends journal list positions copies n all it at =
+    ap (λ (k : KeptRows). list_any (λ u. u.entry == n) k.undo) (has_family journal list positions copies n all it at) ∙ pends_is journal (families journal n) n
 
-pub kept_lasts : (journal : List Entry) (list : List KeptFamily) (positions : List ℕ) (copies : Table) (n : ℕ) → IsKept journal list positions copies → (it : KeptFamily) → family_at list positions n ≡ Some it
-    → (b : Bool) → ((sets : Sets) → Means it.family sets → IsTrue b ↔ PendsLast n sets.before) → b ≡ is_last n (pending_with 8 n journal)
-kept_lasts journal list positions copies n all it at b says =
-    let its = has_family journal list positions copies n all it at in lasts_is journal it.number n b (says _ its.0.means) ∙ ap (λ f. is_last n (pending 8 f journal)) its.1
+pub kept_lasts : (journal : List Entry) (list : List KeptRows) (positions : List ℕ) (copies : Table) (n : ℕ) → IsKept journal list positions copies → (it : KeptRows) → family_at list positions n ≡ Some it
+    → ends_in n it.undo ≡ is_last n (pending_with 8 n journal)
+kept_lasts journal list positions copies n all it at =
+    ap (λ (k : KeptRows). ends_in n k.undo) (has_family journal list positions copies n all it at) ∙ lasts_is journal (families journal n) n
 
 -- nothing is pending under a number without a family
-pub none_pending : (journal : List Entry) (list : List KeptFamily) (positions : List ℕ) (copies : Table) (n : ℕ) → IsKept journal list positions copies → family_at list positions n ≡ None
+pub none_pending : (journal : List Entry) (list : List KeptRows) (positions : List ℕ) (copies : Table) (n : ℕ) → IsKept journal list positions copies → family_at list positions n ≡ None
     → has (pending_with 8 n journal) n ≡ false
 none_pending journal list positions copies n all none =
     let sound = accepted_is_sound 8 journal all.accepted in
@@ -209,9 +189,7 @@ none_pending journal list positions copies n all none =
       | inl in_it ↦
           let within : n ≤ length journal = each_has (λ k. k ≤ length journal) (pending_with 8 n journal) n (pending_within journal (families journal n) sound) in_it in
           let some : 0 < n = each_has (λ k. 0 < k) (pending_with 8 n journal) n (all_rise 0 (pending_with 8 n journal) (pending_rises 8 (families journal n) journal sound)) in_it in
-          let there = found_at journal list positions n all.listed all.placed some within in
-          let at : family_at list positions n ≡ Some there.2.it = ap (option_and_then (slice_get list)) there.1 ∙ there.2.found in
-          let odd : None ≡ Some there.2.it = sym none ∙ at in absurd (cc)
+          let odd : None ≡ Some (family_of journal (families journal n)) = sym none ∙ found_at journal list positions n all.listed all.placed some within in absurd (cc)
     ]
   where
     all_rise : (low : ℕ) (numbers : List ℕ) → AreRising (λ k. k) low numbers → AllByRecursion (λ k. low < k) numbers
@@ -230,28 +208,38 @@ none_last numbers n out =
     ]
 
 -- the family of a living copy has all the copies that it takes
-pub full_is : (journal : List Entry) (list : List KeptFamily) (positions : List ℕ) (copies : Table) (n : ℕ) (copy : Copy) (it : KeptFamily) (count : ℕ) → IsKept journal list positions copies
-    → copy_in (living journal) n ≡ Some copy → family_at list positions n ≡ Some it → count ≡ length (table.copies_of (sets_of it.number journal).table)
-    → then_some (nat_le 256 count) FamilyFull ≡ family_full n (living journal)
-full_is journal list positions copies n copy it count all found at is =
+pub full_is : (journal : List Entry) (list : List KeptRows) (positions : List ℕ) (copies : Table) (n : ℕ) (copy : Copy) (it : KeptRows) → IsKept journal list positions copies
+    → copy_in (living journal) n ≡ Some copy → family_at list positions n ≡ Some it → then_some (nat_le 256 (length (copy_rows it.rows))) FamilyFull ≡ family_full n (living journal)
+full_is journal list positions copies n copy it all found at =
     let sound = accepted_is_sound 8 journal all.accepted in
-    let family : it.number ≡ copy.family = (has_family journal list positions copies n all it at).1 ∙ sym (family_of journal n copy sound found) in
-    let long : count ≡ count_by (is_of copy.family) (living journal) =
-    is ∙ ap length (copies_sets journal it.number all.accepted) ∙ length-map (tables.table 8 0 it.number journal) as_known
-    ∙ ap length (sym (table_living 8 it.number journal)) ∙ ap (λ f. length (filter (is_of f) (living journal))) family ∙ length-filter (is_of copy.family) (living journal) in
+    let long : length (copy_rows it.rows) ≡ count_by (is_of copy.family) (living journal) =
+    ap (λ (k : KeptRows). length (copy_rows k.rows)) (has_family journal list positions copies n all it at) ∙ count_rows journal (families journal n) all.accepted
+    ∙ ap (λ f. length (filter (is_of f) (living journal))) (sym (family_of_copy journal n copy sound found)) ∙ length-filter (is_of copy.family) (living journal) in
     ap (λ k. then_some (nat_le 256 k) FamilyFull) long
     ∙ ap (option_and_then (λ x. then_some (nat_le 256 (count_by (is_of x.family) (living journal))) FamilyFull)) (sym found)
 
--- a living copy has a family
-pub copy_has_family : (journal : List Entry) (list : List KeptFamily) (positions : List ℕ) (copies : Table) (n : ℕ) (copy : Copy) → IsKept journal list positions copies → copy_in (living journal) n ≡ Some copy
-    → (it : KeptFamily) × (family_at list positions n ≡ Some it)
+-- whether a living copy's id can be divided
+pub deep_is : (journal : List Entry) (list : List KeptRows) (positions : List ℕ) (copies : Table) (n : ℕ) (copy : Copy) (it : KeptRows) → IsKept journal list positions copies
+    → copy_in (living journal) n ≡ Some copy → family_at list positions n ≡ Some it → then_some (not (divides it.rows n)) TooDeep ≡ too_deep n journal (living journal)
+deep_is journal list positions copies n copy it all found at =
+    let own = family_of_copy journal n copy (accepted_is_sound 8 journal all.accepted) found in
+    ap (λ r. then_some (not (divides r n)) TooDeep)
+    (ap (λ (k : KeptRows). k.rows) (has_family journal list positions copies n all it at) ∙ ap rows_of (layer_now 8 (families journal n) journal) ∙ ap (λ f. stamp_rows f journal) (sym own))
+    ∙ ap (option_and_then (λ c. then_some (not (divides (stamp_rows c.family journal) n)) TooDeep)) (sym found)
+
+-- a living copy has a family, in whose rows it lives
+pub copy_has_family : (journal : List Entry) (list : List KeptRows) (positions : List ℕ) (copies : Table) (n : ℕ) (copy : Copy) → IsKept journal list positions copies → copy_in (living journal) n ≡ Some copy
+    → family_at list positions n ≡ Some (family_of journal (families journal n))
 copy_has_family journal list positions copies n copy all found =
-    let within = lives_within journal (families journal n) n all.accepted (record { copy = copy; found = found; of = refl }) in
-    let there = found_at journal list positions n all.listed all.placed within.0 within.1 in
-    (there.2.it, ap (option_and_then (slice_get list)) there.1 ∙ there.2.found)
+    let within = lives_within journal (families journal n) n all.accepted (record { copy = copy; found = found; of = refl }) in found_at journal list positions n all.listed all.placed within.0 within.1
+
+pub copy_lives : (journal : List Entry) (list : List KeptRows) (positions : List ℕ) (copies : Table) (n : ℕ) (copy : Copy) (it : KeptRows) → IsKept journal list positions copies
+    → copy_in (living journal) n ≡ Some copy → family_at list positions n ≡ Some it → lives it.rows n ≡ true
+copy_lives journal list positions copies n copy it all found at =
+    subst (λ (k : KeptRows). lives k.rows n ≡ true) (sym (has_family journal list positions copies n all it at)) (lives_rows journal (families journal n) n copy all.accepted found refl)
 
 -- what the last pending entry's copy gets back, and what stands against that
-pub back_place : (journal : List Entry) (list : List KeptFamily) (positions : List ℕ) (copies : Table) (m c : ℕ) (undone : Entry) → IsKept journal list positions copies → is_last m (pending_with 8 m journal) ≡ true
+pub back_place : (journal : List Entry) (list : List KeptRows) (positions : List ℕ) (copies : Table) (m c : ℕ) (undone : Entry) → IsKept journal list positions copies → is_last m (pending_with 8 m journal) ≡ true
     → entry_at journal m ≡ Some undone → displaced undone.report ≡ Some c
     → (back : Copy) × (old_place list positions m ≡ Some back.place) × (taken_since m journal ≡ taken_from back (living journal)) × (back.number ≡ c)
 back_place journal list positions copies m c undone all at_end at moves =
@@ -261,15 +249,10 @@ back_place journal list positions copies m c undone all at_end at moves =
     let same : undone ≡ ends.last = let here = ends.at in cc in
     let back = back_at journal m c all.accepted ends (ap (λ (e : Entry). displaced e.report) (sym same) ∙ moves) in
     let within = entry_within journal m undone at in
-    let there = found_at journal list positions m all.listed all.placed within.0 within.1 in
-    let found : family_at list positions m ≡ Some there.2.it = ap (option_and_then (slice_get list)) there.1 ∙ there.2.found in
-    let kept_it = has_family journal list positions copies m all there.2.it found in
     let turned : reverse (pending 8 family journal) ≡ m ∷ reverse ends.numbers = ap reverse ends.pending ∙ reverse-append ends.numbers (m ∷ []) in (
       back.copy,
-      ap (option_and_then (λ it. option_and_then (λ (o : Old). o.place) (slice_get it.old_places.items 0))) found
-          ∙ first_front there.2.it.old_places.items (old_places there.2.it.number journal) kept_it.0.places
-          ∙ ap (λ f. front (old_places f journal)) kept_it.1
-          ∙ ap (λ l. option_and_then (λ (o : Old). o.place) (slice_get (of_each (old_of journal) family journal 1 l) 0)) turned
+      ap (option_and_then (λ (it : KeptRows). last_place it.undo)) (found_at journal list positions m all.listed all.placed within.0 within.1)
+          ∙ ap (λ l. last_place (of_each (undone_of journal) family journal 1 l)) turned
           ∙ ap (λ e. place_before e (copies_of (layer 8 1 family journal))) at
           ∙ ap (λ d. option_and_then (λ k. option_map (λ copy. copy.place) (copy_in (copies_of (layer 8 1 family journal)) k)) d) moves
           ∙ ap (option_map (λ copy. copy.place)) back.found,

@@ -28,7 +28,7 @@ use Rattle.pana_hall.proofs.Lists.{each_filter, map_map}
 use Rattle.pana_hall.proofs.Tables.{table_living}
 use Rattle.pana_hall.proofs.Seen.{each_passes, map_same, row_own, newest_own, split_own}
 use Rattle.pana_hall.specs.Stamps.{as_known}
-use Rattle.pana_hall.proofs.KeptFamilies.{copies_sets}
+use Rattle.pana_hall.proofs.Stood.{copies_sets}
 use Rattle.pana_hall.proofs.Ready.{place_spots}
 use Rattle.pana_hall.proofs.Places.{living_found}
 

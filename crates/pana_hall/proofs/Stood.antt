@@ -13,11 +13,12 @@ use Rattle.pana_family.specs.declared.row.StampRow.{StampRow}
 use Rattle.pana_family.specs.declared.report.FamilyReport.{FamilyReport}
 use Rattle.pana_family.specs.declared.report.FamilyReport.TheVariants as family
 use Rattle.pana_family.specs.Kept.{IsKept}
+use Rattle.pana_family.specs.Sets.{IsAbove}
 use Rattle.pana_family.specs.Stands.{StandsFor}
 use Rattle.pana_family.specs.Rows.{AreBefore, copy_rows, deepest, divides, lives, seed_row}
 use Rattle.pana_family.specs.Report.{Asks, CanReport, IsReported, deeper}
 use Rattle.pana_family.specs.Report as by_family
-use Rattle.pana_family.specs.Table.{AreBelow, is_in}
+use Rattle.pana_family.specs.Table.{AreBelow, In, Known, is_in}
 use Rattle.pana_family.specs.Table as table
 use Rattle.pana_family.specs.After.{reported_rows}
 use Rattle.pana_family.specs.inner.Making.{AreSound}
@@ -28,32 +29,40 @@ use Rattle.pana_family.proofs.Exacts.{asked, reported_of_exact}
 use Rattle.pana_family.proofs.Within.{divides_is, seed_sound, sound_of_exact, undivided_deep}
 use Rattle.pana_family.proofs.Keeps.{seed_kept}
 use Rattle.pana_family.proofs.Changes.{seed_stands}
-use Rattle.pana_family.proofs.Undos.{empty_kept, empty_stands}
+use Rattle.pana_family.proofs.Keeps.{empty_kept, empty_stands}
 use Rattle.pana_hall.specs.Family.{begun_or_joined, entries_of, families, family_report, is_duplicate, is_register, subject}
 use Rattle.pana_hall.specs.Effective.{effective, is_of_copies}
-use Rattle.pana_hall.specs.Living.{copies_of, copy_in, living}
+use Rattle.pana_hall.specs.Living.{Copy, copies_of, copy_in, living}
 use Rattle.pana_hall.specs.Refusal.{against_two, family_full, first, full, report_refusal, same, taken, too_deep, unknown}
 use Rattle.pana_hall.specs.Accepted.{Accepts, IsAccepted}
 use Rattle.pana_hall.specs.Tables.{layer}
+use Rattle.pana_hall.specs.Tables as tables
 use Rattle.pana_hall.specs.Laws.{duplicates_in, family_of_next}
-use Rattle.pana_hall.specs.Sets.{knowns_of, reported}
-use Rattle.pana_hall.specs.StampRows.{changed_rows, rows_after, rows_of, stamp_rows}
+use Rattle.pana_hall.specs.Sets.{knowns_of, reported, sets_of}
+use Rattle.pana_hall.specs.StampRows.{changed_rows, rows_after, rows_by, rows_of, stamp_rows}
 use Rattle.pana_hall.specs.Stamps.{as_known}
 use Rattle.pana_hall.proofs.Allowed.{first_none, none_false}
 use Rattle.pana_hall.proofs.Knowns.{IsOldKnown, knowns_of-push, lives_known}
-use Rattle.pana_hall.proofs.KeptFamilies.{rows_of-push}
 use Rattle.pana_hall.proofs.Moves.{Lives, Names}
-use Rattle.pana_hall.proofs.Sound.{IsSound, accepted_is_sound}
+use Rattle.pana_hall.proofs.Sound.{IsSound, accepted_is_sound, found_family, living_fit}
 use Rattle.pana_hall.proofs.Tables.{layer_now, merged, table_living, table_own}
 use Rattle.pana_hall.proofs.Layers.{room_for}
-use Rattle.pana_hall.proofs.Ready.{family_of}
 use Rattle.pana_hall.proofs.Grown.{family_new}
 use Rattle.pana_hall.proofs.FamilySets.{layer_new}
 use Rattle.pana_hall.proofs.More.{family_of_copy}
 use Rattle.pana_hall.specs.Board.{is_of}
 use Rattle.pana_hall.specs.declared.cause.Cause.TheVariants.{TooDeep}
-use Rattle.pana_hall.proofs.Mirrors.{Grows, IsMirrored, layer_within, layers_hold, mirrored_grows, read_lives}
-use Rattle.pana_hall.proofs.KeptFamilies.{each_in}
+use Rattle.pana_hall.proofs.Mirrors.{Grows, IsMirrored, layer_within, layers_hold, layers_mirrored, mirrored_grows, read_lives, sets_old}
+
+-- members of a table
+pub each_in : (P : Known → Type 0) (table : List Known) (t : Known) → AllByRecursion P table → In t table → P t
+each_in P [] t each at = absurd at
+each_in P (x ∷ table) t each at = elim at [ inl e ↦ subst P (sym e) each.0 | inr rest ↦ each_in P table t each.1 rest ]
+
+-- the rows, as entries come
+pub rows_of-push : (entries : List Entry) (entry : Entry) → rows_of (entries ++ entry ∷ []) ≡ rows_after entry.number entry.report (rows_of entries)
+unfolding rows_of
+rows_of-push entries entry = fold-append rows_by [] entries (entry ∷ [])
 
 -- what the rows of these entries keep, and what they stand for
 pub record IsStood (entries : List Entry) : Type 0 where
@@ -83,13 +92,13 @@ number_fits journal entry accepts =
     omega arith
 
 -- a copy that lives among those that the entries make lives in their rows
-lives_there : (entries : List Entry) (c : ℕ) → IsStood entries → Lives (copies_of entries) c → lives (rows_of entries) c ≡ true
+pub lives_there : (entries : List Entry) (c : ℕ) → IsStood entries → Lives (copies_of entries) c → lives (rows_of entries) c ≡ true
 lives_there entries c stood there =
     same_living (rows_of entries) (knowns_of entries) c stood.stands.same
     ∙ lives_known (knowns_of entries) (copies_of entries) c stood.mirrored.copies
     ∙ ap is_some there.1
 
-rows_none : rows_of [] ≡ []
+pub rows_none : rows_of [] ≡ []
 unfolding rows_of
 rows_none = refl
 
@@ -130,7 +139,7 @@ step_report journal entry report accepts stood can before asks table_is rows_are
     }
 
 -- all numbers in the rows and sets of a family are below that of the next entry
-next_above : (journal : List Entry) (entry : Entry) → IsSound 8 journal → Accepts 8 journal entry → IsStood (layer 8 0 (family_of_next journal entry) journal)
+pub next_above : (journal : List Entry) (entry : Entry) → IsSound 8 journal → Accepts 8 journal entry → IsStood (layer 8 0 (family_of_next journal entry) journal)
     → AreBefore entry.number (rows_of (layer 8 0 (family_of_next journal entry) journal)) × AreBelow entry.number (knowns_of (layer 8 0 (family_of_next journal entry) journal))
 next_above journal entry sound accepts stood =
     let entries = layer 8 0 (family_of_next journal entry) journal in
@@ -150,7 +159,7 @@ differ journal a b free same_ =
     absurd (cc)
 
 -- a report that isn't refused can be made
-can_report : (journal : List Entry) (entry : Entry) (r : Report) (report : FamilyReport) → IsSound 8 journal → Accepts 8 journal entry → entry.report ≡ r → family_report r ≡ Some report
+pub can_report : (journal : List Entry) (entry : Entry) (r : Report) (report : FamilyReport) → IsSound 8 journal → Accepts 8 journal entry → entry.report ≡ r → family_report r ≡ Some report
     → IsStood (layer 8 0 (family_of_next journal entry) journal) → CanReport report (rows_of (layer 8 0 (family_of_next journal entry) journal))
 can_report journal entry (Edit c) report sound accepts is about stood =
     let same : family.Edit c ≡ report = cc in
@@ -282,7 +291,7 @@ too_deep_duplicates journal number accepted is =
       | None ↦ λ e f. absurd (cc)
       | Some copy ↦ λ e f.
           let sound = accepted_is_sound 8 journal accepted in
-          let own : copy.family ≡ families journal number = family_of journal number copy sound e in
+          let own : copy.family ≡ families journal number = found_family journal number copy (living_fit 8 journal sound) e in
           let family = families journal number in
           let stood = layers_stand journal accepted 0 family in
           let shown : stamp_rows copy.family journal ≡ rows_of (layer 8 0 family journal) = ap (λ g. stamp_rows g journal) own ∙ ap rows_of (sym (layer_now 8 family journal)) in
@@ -298,3 +307,36 @@ too_deep_duplicates journal number accepted is =
     must : (b : Bool) → then_some (not b) TooDeep ≡ Some TooDeep → b ≡ false
     must true e = absurd (cc)
     must false e = refl
+
+-- the copies of a family's table of sets are its living copies
+pub copies_sets : (journal : List Entry) (family : ℕ) → IsAccepted 8 journal → table.copies_of (sets_of family journal).table ≡ map as_known (tables.table 8 0 family journal)
+copies_sets journal family accepted =
+    (layers_mirrored journal accepted 0 family).copies ∙ ap (map as_known) (sym (table_own 8 0 family journal (accepted_is_sound 8 journal accepted)))
+
+-- the next number is above all those of a family's table
+pub above_sets : (journal : List Entry) (family n : ℕ) → IsAccepted 8 journal → n ≡ length journal + 1 → IsAbove n (sets_of family journal).table
+above_sets journal family n accepted next t at =
+    let is = each_in (IsOldKnown (length journal)) _ t (sets_old journal 0 family accepted).each at in
+    let copy = is.copy in
+    let touch = is.touch in
+    (omega arith, omega arith)
+
+pub below_sets : (journal : List Entry) (family n : ℕ) → IsAccepted 8 journal → n ≡ length journal + 1 → AreBelow n (sets_of family journal).table
+below_sets journal family n accepted next t u at member =
+    let within = (each_in (IsOldKnown (length journal)) _ t (sets_old journal 0 family accepted).each at).updates u member in omega arith
+
+-- how many copies live, by the rows as by the sets
+pub count_rows : (journal : List Entry) (family : ℕ) → IsAccepted 8 journal → length (copy_rows (rows_of (layer 8 0 family journal))) ≡ length (filter (is_of family) (living journal))
+count_rows journal family accepted =
+    let entries = layer 8 0 family journal in
+    sym (same_length (copy_rows (rows_of entries)) (table.copies_of (knowns_of entries)) (same_copies (rows_of entries) (knowns_of entries) (layers_stand journal accepted 0 family).stands.same))
+    ∙ ap length (copies_sets journal family accepted) ∙ length-map (tables.table 8 0 family journal) as_known ∙ ap length (sym (table_living 8 family journal))
+
+-- a living copy lives in the rows of its family
+pub lives_rows : (journal : List Entry) (family c : ℕ) (copy : Copy) → IsAccepted 8 journal → copy_in (living journal) c ≡ Some copy → families journal c ≡ family → lives (rows_of (layer 8 0 family journal)) c ≡ true
+lives_rows journal family c copy accepted found of =
+    let sound = accepted_is_sound 8 journal accepted in
+    lives_there (layer 8 0 family journal) c (layers_stand journal accepted 0 family) (
+      copy,
+      ap (λ l. copy_in l c) (sym (table_own 8 0 family journal sound)) ∙ ap (λ f. copy_in (tables.table 8 0 f journal) c) (sym of) ∙ sym ((merged 8 journal sound).found c) ∙ found,
+    )

@@ -7,15 +7,14 @@ use Rattle.pana_copies.specs.Spots.{Spot, Table, kept, place_of, placed}
 use Rattle.pana_journal.specs.declared.report.Report.{Report}
 use Rattle.pana_journal.specs.declared.report.Report.TheVariants.{Register, Duplicate, Relocate, Remove, Withdraw}
 use Rattle.pana_journal.specs.declared.entry.Entry.{Entry}
-use Rattle.pana_hall.specs.declared.kept_family.KeptFamily.{KeptFamily}
 use Rattle.pana_hall.specs.Family.{families}
 use Rattle.pana_hall.specs.Living.{copy_in, copies_of, living}
 use Rattle.pana_hall.specs.Refusal.{taken_from, brought_back, displaced}
 use Rattle.pana_hall.specs.Tables.{layer}
 use Rattle.pana_hall.specs.Laws.{family_of_next}
-use Rattle.pana_hall.specs.inner.OldPlaces.{old_places, place_before}
+use Rattle.pana_hall.specs.inner.Undo.{KeptRows, Undone, last_place}
 use Rattle.pana_hall.specs.inner.Spots.{spot_of, spot_in, mover, spot_to, put, spot_after, undone_spot, CanUndo}
-use Rattle.pana_hall.specs.inner.Kept.{next_entry, IsReady}
+use Rattle.pana_hall.specs.inner.Kept.{next_entry, place_before, undone_of, IsReady}
 use Rattle.pana_hall.proofs.Moves.{Names}
 use Rattle.pana_hall.proofs.Sound.{accepted_is_sound}
 use Rattle.pana_hall.proofs.Tables.{Open, open_withdraw, layer_now}
@@ -23,32 +22,31 @@ use Rattle.pana_hall.proofs.Mirrors.{layer_founded}
 use Rattle.pana_hall.proofs.Undone.{Back, back_at, back_none, now_here, displaced_of, layer_before}
 use Rattle.pana_hall.proofs.Spots.{copies_below, spots_report, spots_withdrawn, put_same}
 use Rattle.pana_hall.proofs.Places.{not_taken}
-use Rattle.pana_hall.proofs.OldPlaces.{places_withdraw}
-use Rattle.pana_hall.proofs.KeptPlaces.{front, first_front}
+use Rattle.pana_hall.proofs.FamilySets.{pending_undone}
 use Rattle.pana_hall.proofs.Ready.{own_is, at_place, accepts_next}
 
-module _ {journal : List Entry} {by : List ℕ} {m : ℕ} {it : KeptFamily} {copies : Table} where
+module _ {journal : List Entry} {by : List ℕ} {m : ℕ} {it : KeptRows} {copies : Table} where
   pub opened : IsReady journal by (Withdraw m) it copies → Open 8 m journal
   opened ready = open_withdraw 8 m journal by (Withdraw m) (accepted_is_sound 8 journal ready.accepted) refl ready.free
 
-  -- the family of the entry is the one at hand, and the first of its old places is the entry's
+  -- the place that the entry gives back
   first_place : (ready : IsReady journal by (Withdraw m) it copies) (o : Open 8 m journal)
-      → front it.old_places.items ≡ place_before (Some o.ends.last) (copies_of (layer 8 1 (families journal m) journal))
+      → last_place it.undo ≡ place_before (Some o.ends.last) (copies_of (layer 8 1 (families journal m) journal))
   first_place ready o =
       let entry = next_entry journal by (Withdraw m) in
-      let named : family_of_next journal entry ≡ families journal m = sym ready.own ∙ own_is ready in
-      first_front it.old_places.items (old_places it.number journal) ready.kept.places
-      ∙ ap (λ f. front (old_places f journal)) ready.own
-      ∙ ap front (places_withdraw m journal entry o.ends.last (accepted_is_sound 8 journal ready.accepted) (accepts_next journal by (Withdraw m) ready.free) refl o.ends.at)
+      let named : family_of_next journal entry ≡ families journal m = sym (ap (λ (k : KeptRows). k.number) ready.kept) ∙ own_is ready in
+      ap (λ (k : KeptRows). last_place k.undo) ready.kept
+      ∙ ap last_place (pending_undone (undone_of journal) m journal entry (accepted_is_sound 8 journal ready.accepted) (accepts_next journal by (Withdraw m) ready.free) refl)
+      ∙ ap (λ e. place_before e (copies_of (layer 8 1 (family_of_next journal entry) journal))) o.ends.at
       ∙ ap (λ f. place_before (Some o.ends.last) (copies_of (layer 8 1 f journal))) named
 
-  front_back : (ready : IsReady journal by (Withdraw m) it copies) (o : Open 8 m journal) (c : ℕ) → displaced o.ends.last.report ≡ Some c → (back : Back journal m c) → front it.old_places.items ≡ Some back.copy.place
+  front_back : (ready : IsReady journal by (Withdraw m) it copies) (o : Open 8 m journal) (c : ℕ) → displaced o.ends.last.report ≡ Some c → (back : Back journal m c) → last_place it.undo ≡ Some back.copy.place
   front_back ready o c moves back =
       first_place ready o
       ∙ ap (λ d. option_and_then (λ k. option_map (λ copy. copy.place) (copy_in (copies_of (layer 8 1 (families journal m) journal)) k)) d) moves
       ∙ ap (option_map (λ copy. copy.place)) back.found
 
-  front_none : (ready : IsReady journal by (Withdraw m) it copies) (o : Open 8 m journal) → displaced o.ends.last.report ≡ None → front it.old_places.items ≡ None
+  front_none : (ready : IsReady journal by (Withdraw m) it copies) (o : Open 8 m journal) → displaced o.ends.last.report ≡ None → last_place it.undo ≡ None
   front_none ready o none = first_place ready o ∙ ap (λ d. option_and_then (λ k. option_map (λ copy. copy.place) (copy_in (copies_of (layer 8 1 (families journal m) journal)) k)) d) none
 
   -- no other copy has the place of the one that lived before the entry
@@ -75,7 +73,7 @@ module _ {journal : List Entry} {by : List ℕ} {m : ℕ} {it : KeptFamily} {cop
   back_there : (ready : IsReady journal by (Withdraw m) it copies) (o : Open 8 m journal) (c : ℕ) → (back : Back journal m c) → copy_in (copies_of o.ends.entries) c ≡ Some back.copy
   back_there ready o c back = ap (λ l. copy_in (copies_of l) c) (sym (layer_before (accepted_is_sound 8 journal ready.accepted) o.ends)) ∙ back.found
 
-  undo_by : (ready : IsReady journal by (Withdraw m) it copies) (o : Open 8 m journal) (report : Report) → o.ends.last.report ≡ report → CanUndo m report it.number (front it.old_places.items) copies
+  undo_by : (ready : IsReady journal by (Withdraw m) it copies) (o : Open 8 m journal) (report : Report) → o.ends.last.report ≡ report → CanUndo m report it.number (last_place it.undo) copies
   undo_by ready o (Register place) e =
       (front_none ready o (ap displaced e), ap is_some (kept_moved ready o m (ap (mover m) e) refl ∙ ap (λ r. spot_to m r (spot_in (copies_of o.ends.entries))) e))
   undo_by ready o (Duplicate source place) e =
@@ -110,18 +108,18 @@ module _ {journal : List Entry} {by : List ℕ} {m : ℕ} {it : KeptFamily} {cop
       }
   undo_by ready o report e = tt
 
-  pub can_undo : (ready : IsReady journal by (Withdraw m) it copies) (o : Open 8 m journal) → CanUndo m o.ends.last.report it.number (front it.old_places.items) copies
+  pub can_undo : (ready : IsReady journal by (Withdraw m) it copies) (o : Open 8 m journal) → CanUndo m o.ends.last.report it.number (last_place it.undo) copies
   can_undo ready o = undo_by ready o o.ends.last.report refl
 
   -- and the table has the living copies then
   pub undone_spots : IsReady journal by (Withdraw m) it copies → (o : Open 8 m journal) → (number : ℕ)
-      → undone_spot m o.ends.last.report it.number (front it.old_places.items) copies number ≡ spot_in (living (journal ++ next_entry journal by (Withdraw m) ∷ [])) number
+      → undone_spot m o.ends.last.report it.number (last_place it.undo) copies number ≡ spot_in (living (journal ++ next_entry journal by (Withdraw m) ∷ [])) number
   undone_spots ready o number =
       let sound = accepted_is_sound 8 journal ready.accepted in
       let report = o.ends.last.report in
       let spot_back : Option Place → Option Spot = option_map (λ p. record { family = it.number; place = p }) in
-      let same : spot_back (front it.old_places.items) ≡ option_map spot_of (brought_back m journal) =
-      elim (displaced report) as (λ d. displaced report ≡ d → spot_back (front it.old_places.items) ≡ option_map spot_of (brought_back m journal)) [
+      let same : spot_back (last_place it.undo) ≡ option_map spot_of (brought_back m journal) =
+      elim (displaced report) as (λ d. displaced report ≡ d → spot_back (last_place it.undo) ≡ option_map spot_of (brought_back m journal)) [
         | None ↦ λ e. ap spot_back (front_none ready o e) ∙ ap (option_map spot_of) (sym (back_none sound o.ends e))
         | Some c ↦ λ e.
             let back = back_at journal m c ready.accepted o.ends e in

@@ -1,10 +1,10 @@
 //! The answers to queries, where nothing stands against them.
-ghost use Rattle.std.specs.Prelude.{◌≡◌, true, None, IsSome, IfOk, IfErr, map};
+ghost use Rattle.std.specs.Prelude.{◌≡◌, true, None, IsSome, IfOk, IfErr, List, map};
 ghost use Rattle.std.specs.List.{AllByRecursion};
 ghost use Rattle.std.specs.Str.{bytes_eq};
 ghost use Rattle.pana_copies.specs.Spots.{kept};
-ghost use Rattle.pana_family.specs.Sets.{Sets};
-ghost use Rattle.pana_family.specs.View.{Means};
+ghost use Rattle.pana_family.specs.Stands.{StandsFor};
+ghost use Rattle.pana_family.specs.Table.{Known};
 ghost use Rattle.pana_hall.specs.Board.{board_of};
 ghost use Rattle.pana_hall.specs.Stamps.{AreStampsOf};
 ghost use Rattle.pana_hall.specs.Living.{living};
@@ -133,7 +133,7 @@ impl State {
 
 /// A family's row, read off its board.
 fn family_row(alloc: Global, it: &ListedFamily) -> Result<FamilyRow, AllocError>
-    ensures { IfOk result (λ row. (sets : Sets) → Means it.now.family sets → row ≡ row_of_sets it.now.number sets.table) }
+    ensures { IfOk result (λ row. (table : List Known) → StandsFor it.now.rows table → row ≡ row_of_sets it.now.number table) }
 {
     let board = it.board(alloc)?;
     Ok(FamilyRow {

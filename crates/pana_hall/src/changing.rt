@@ -1,107 +1,102 @@
 //! What reports do to a family and to the table of copies. None of these changes anything where memory runs out.
-ghost use Rattle.std.specs.Prelude.{◌≡◌, ◌≢◌, ℕ, ◌∷◌, ◌<◌, ◌==◌, true, Some, None, IsSome, IfSome, List, OnOk, OnErr, drop, length, slice_get, IfOk, option_map, option_and_then, if◌then◌else◌};
-ghost use Rattle.pana_copies.specs.Spots.{kept, place_of, placed};
-ghost use Rattle.pana_family.specs.Table.{copies_of};
-ghost use Rattle.pana_family.specs.declared.report.FamilyReport.TheVariants as reports;
-ghost use Rattle.pana_family.specs.Sets.{Sets, began, withdrawn};
-ghost use Rattle.pana_family.specs.View.{Means, is_living, IsNew, IsLast, can_split, undone};
-ghost use Rattle.pana_hall.specs.inner.Spots.{SameSpots, IsFree, IsFreeFor, CanUndo, undone_spot};
-ghost use Rattle.pana_hall.specs.inner.OldPlaces.{Old, Keeps};
-ghost use Rattle.pana_hall.specs.inner.Steps.{Reports};
+ghost use Rattle.std.specs.Prelude.{◌≡◌, ℕ, ◌<◌, List, Option, Some, IfOk, IfSome, IsSome, OnOk, OnErr, option_map, option_and_then};
+ghost use Rattle.pana_copies.specs.Spots.{kept, place_of};
+ghost use Rattle.pana_family.specs.Rows.{AreBefore};
+ghost use Rattle.pana_family.specs.Report.{CanReport};
+ghost use Rattle.pana_family.specs.declared.report.FamilyReport.{FamilyReport as OfFamily};
+ghost use Rattle.pana_hall.specs.Family.{family_report};
+ghost use Rattle.pana_hall.specs.Refusal.{displaced};
+ghost use Rattle.pana_hall.specs.inner.Spots.{SameSpots, CanPlace, CanUndo, place_in, spot_after, undone_spot};
+ghost use Rattle.pana_hall.specs.inner.Undo.{last_place, reported_kept, withdrawn};
 
+use crate::families::family_report;
 use crate::kept_family::KeptFamily;
+use crate::refusal::displaced;
 use pana_copies::{CopyTable, Place};
 use pana_journal::Report;
 use std::alloc::{AllocError, Global};
 
-/// A copy of its source, at a place that is free.
-pub fn duplicate(
-    it: &mut KeptFamily,
+/// The place that a report gives a copy, if it does.
+fn place_in(report: &Report) -> Result<Option<Place>, AllocError>
+    ensures { IfOk result (λ place. place ≡ place_in report.now) }
+{
+    match report {
+        Report::Register { place }
+        | Report::Duplicate { place, .. }
+        | Report::Relocate { place, .. } => Ok(Some(place.copy_of()?)),
+        _ => Ok(None),
+    }
+}
+
+/// The place where the copy is kept that a report moves or removes, if it does.
+fn place_before(
+    alloc: Global,
+    copies: &CopyTable,
+    report: &Report,
+) -> Result<Option<Box<Place>>, AllocError>
+    requires { IfSome (displaced report.now) (λ copy. IsSome (kept copies.now copy)) }
+    ensures { IfOk result (λ place. option_map (λ p. p.value) place ≡ option_and_then (place_of copies.now) (displaced report.now)) }
+{
+    match displaced(report) {
+        Some(copy) => {
+            let place = copies.get(copy).unwrap().place.copy_of()?;
+            Ok(Some(Box::new(alloc, place)?))
+        }
+        None => Ok(None),
+    }
+}
+
+/// Keeps the copy that a report makes or moves at the place that it gives it, and the one that it removes no longer. Takes no
+/// memory.
+pub fn place_copy(
     copies: &mut CopyTable,
     entry: u64,
-    source: u64,
-    place: &Place,
-) -> Result<(), AllocError>
-    requires living { is_living it.old.family source ≡ true }
-    requires new { IsNew entry it.old.family }
-    requires splits { can_split it.old.family source ≡ true }
-    requires room { (sets : Sets) × Means it.old.family sets × (length (copies_of sets.table) < 256) }
-    requires fresh { kept copies.old entry ≡ None }
-    requires free { IsFree place.now copies.old }
-    ensures family { OnOk result (Reports entry (reports.Duplicate source) None it.old it.new) }
-    ensures spots { OnOk result ((number : ℕ) → kept copies.new number
-        ≡ (if number == entry then Some (record { family = it.old.number; place = place.now }) else kept copies.old number)) }
-    ensures same { OnErr result (it.new ≡ it.old) }
-    ensures still { OnErr result (SameSpots copies.old copies.new) }
+    family: u64,
+    report: &Report,
+    place: Option<Place>,
+)
+    requires room { 0 < copies.old.room }
+    requires can { CanPlace entry report.now family copies.old }
+    requires place { place ≡ place_in report.now }
+    ensures { (number : ℕ) → kept copies.new number ≡ spot_after entry report.now (kept copies.old) number }
 {
-    let place = place.copy_of()?;
-    copies.reserve()?;
-    let family = it.number();
-    it.duplicate(entry, source)?;
-    copies.insert(entry, family, place);
-    Ok(())
+    match (report, place) {
+        (Report::Register { .. } | Report::Duplicate { .. }, Some(place)) => {
+            copies.insert(entry, family, place)
+        }
+        (Report::Relocate { copy, .. }, Some(place)) => {
+            let _ = copies.relocate(*copy, place);
+        }
+        (Report::Remove { copy, .. }, _) => {
+            let _ = copies.remove(*copy);
+        }
+        _ => {}
+    }
 }
 
-/// The place where a copy is kept, in a box.
-fn place_now(alloc: Global, copies: &CopyTable, copy: u64) -> Result<Box<Place>, AllocError>
-    requires { IsSome (kept copies.now copy) }
-    ensures { IfOk result (λ place. Some place.value ≡ place_of copies.now copy) }
-{
-    let place = copies.get(copy).unwrap().place.copy_of()?;
-    let boxed = Box::new(alloc, place)?;
-    Ok(boxed)
-}
-
-/// The copy is kept at another place, which is free but for it.
-pub fn relocate(
+/// Records what the next entry reports of copies of a family that has begun.
+pub fn report_copies(
     alloc: Global,
     it: &mut KeptFamily,
     copies: &mut CopyTable,
     entry: u64,
-    copy: u64,
-    place: &Place,
+    report: &Report,
 ) -> Result<(), AllocError>
-    requires living { is_living it.old.family copy ≡ true }
-    requires new { IsNew entry it.old.family }
-    requires lives { IsSome (kept copies.old copy) }
-    requires free { IsFreeFor copy place.now copies.old }
-    ensures family { OnOk result (Reports entry (reports.Touch copy) (place_of copies.old copy) it.old it.new) }
-    ensures spots { OnOk result ((number : ℕ) → kept copies.new number
-        ≡ (if number == copy then placed place.now (kept copies.old copy) else kept copies.old number)) }
+    requires able { (of : OfFamily) × (family_report report.now ≡ Some of) × CanReport of it.old.rows }
+    requires new { AreBefore entry it.old.rows }
+    requires can { CanPlace entry report.now it.old.number copies.old }
+    ensures family { OnOk result (IfSome (family_report report.now)
+        (λ of. it.new ≡ reported_kept entry of (option_and_then (place_of copies.old) (displaced report.now)) it.old)) }
+    ensures spots { OnOk result ((number : ℕ) → kept copies.new number ≡ spot_after entry report.now (kept copies.old) number) }
     ensures same { OnErr result (it.new ≡ it.old) }
     ensures still { OnErr result (SameSpots copies.old copies.new) }
 {
-    let place = place.copy_of()?;
-    let old = place_now(alloc, copies, copy)?;
-    let room = it.room(alloc)?;
+    let of_family = family_report(report).unwrap();
+    let place = place_in(report)?;
+    let before = place_before(alloc, copies, report)?;
     copies.reserve()?;
-    let _ = copies.relocate(copy, place);
-    it.relocate(entry, copy, old, room);
-    Ok(())
-}
-
-/// The copy is kept no longer.
-pub fn remove(
-    alloc: Global,
-    it: &mut KeptFamily,
-    copies: &mut CopyTable,
-    entry: u64,
-    copy: u64,
-    heir: Option<u64>,
-) -> Result<(), AllocError>
-    requires living { is_living it.old.family copy ≡ true }
-    requires heir { IfSome heir (λ h. is_living it.old.family h ≡ true) }
-    requires new { IsNew entry it.old.family }
-    requires lives { IsSome (kept copies.old copy) }
-    ensures family { OnOk result (Reports entry (reports.Remove copy heir) (place_of copies.old copy) it.old it.new) }
-    ensures spots { OnOk result ((number : ℕ) → kept copies.new number ≡ (if number == copy then None else kept copies.old number)) }
-    ensures same { OnErr result (it.new ≡ it.old) }
-    ensures still { OnErr result (SameSpots copies.old copies.new) }
-{
-    let old = place_now(alloc, copies, copy)?;
-    let room = it.room(alloc)?;
-    it.remove(entry, copy, heir, old, room)?;
-    let _ = copies.remove(copy);
+    it.report(entry, of_family, before)?;
+    place_copy(copies, entry, it.number(), report, place);
     Ok(())
 }
 
@@ -112,20 +107,15 @@ pub fn withdraw(
     entry: u64,
     report: &Report,
 ) -> Result<(), AllocError>
-    requires last { IsLast entry it.old.family }
-    requires undo { CanUndo entry report.now it.old.number (option_and_then (λ kept. kept.place) (slice_get it.old.old_places.items 0)) copies.old }
-    ensures number { it.new.number ≡ it.old.number }
-    ensures stands { OnOk result ((sets : Sets) → Means it.old.family sets → Means it.new.family (withdrawn sets)) }
-    ensures places { OnOk result ((places : List Old) → Keeps it.old.old_places places → Keeps it.new.old_places (drop 1 places)) }
-    ensures undo { OnOk result (it.old.family.undo ≡ undone entry it.new.family.rows ∷ it.new.family.undo) }
-    ensures spots { OnOk result ((number : ℕ) → kept copies.new number
-        ≡ undone_spot entry report.now it.old.number (option_and_then (λ kept. kept.place) (slice_get it.old.old_places.items 0)) copies.old number) }
+    requires { CanUndo entry report.now it.old.number (last_place it.old.undo) copies.old }
+    ensures family { OnOk result (it.new ≡ withdrawn it.old) }
+    ensures spots { OnOk result ((number : ℕ) → kept copies.new number ≡ undone_spot entry report.now it.old.number (last_place it.old.undo) copies.old number) }
     ensures same { OnErr result (it.new ≡ it.old) }
     ensures still { OnErr result (SameSpots copies.old copies.new) }
 {
     copies.reserve()?;
     let family = it.number();
-    let place = it.withdraw(entry)?;
+    let place = it.withdraw();
     match report {
         Report::Register { .. } | Report::Duplicate { .. } => {
             let _ = copies.remove(entry);

@@ -1,10 +1,11 @@
 //! The families that have begun.
 ghost use Rattle.std.specs.Prelude.{◌≡◌, ◌<◌, [], ◌∷◌, ◌++◌, length, option_copied, OnOk, OnErr, ℕ};
-ghost use Rattle.pana_hall.specs.Family.{subject};
+ghost use Rattle.pana_hall.specs.Family.{family_report, subject};
 ghost use Rattle.pana_hall.specs.inner.Families.{family_at, position_at};
 ghost use Rattle.pana_hall.specs.inner.Kept.{position_for};
 
 use crate::listed_family::ListedFamily;
+use pana_family::FamilyReport;
 use pana_journal::Report;
 use std::alloc::{AllocError, Global};
 
@@ -90,5 +91,20 @@ pub fn subject(report: &Report) -> Option<u64>
         | Report::Remove { copy, .. } => Some(*copy),
         Report::Reconcile { a, .. } | Report::Merge { a, .. } => Some(*a),
         Report::Confirm { entry } | Report::Withdraw { entry } => Some(*entry),
+    }
+}
+
+/// What a report says of copies of a family that has begun, if it does.
+pub fn family_report(report: &Report) -> Option<FamilyReport>
+    ensures { result ≡ family_report report.now }
+{
+    match report {
+        Report::Duplicate { copy, .. } => Some(FamilyReport::Duplicate(*copy)),
+        Report::Edit { copy } => Some(FamilyReport::Edit(*copy)),
+        Report::Reconcile { a, b } => Some(FamilyReport::Reconcile(*a, *b)),
+        Report::Merge { a, b } => Some(FamilyReport::Merge(*a, *b)),
+        Report::Relocate { copy, .. } => Some(FamilyReport::Touch(*copy)),
+        Report::Remove { copy, heir } => Some(FamilyReport::Remove(*copy, *heir)),
+        Report::Register { .. } | Report::Confirm { .. } | Report::Withdraw { .. } => None,
     }
 }

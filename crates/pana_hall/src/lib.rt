@@ -14,13 +14,12 @@ mod kept_family;
 pub mod laws;
 mod listed_family;
 mod loading;
-mod old_place;
-mod old_places;
 mod recording;
 mod refusal;
 mod reply;
 mod state;
 mod taking;
+mod undo;
 
 pub use crate::board::{BoardRow, BoardView};
 pub use crate::call::{Call, Query};

@@ -1,12 +1,13 @@
 //! A family as the list of them keeps it.
-ghost use Rattle.std.specs.Prelude.{◌≡◌, ◌↔◌, ◌≤◌, List, IsTrue, IfOk, OnOk, OnErr, true, false, length, map, nat_lt, option_and_then, option_copied, slice_get};
+ghost use Rattle.std.specs.Prelude.{◌≡◌, ◌==◌, List, IfOk, true, length, map, nat_lt, option_copied};
+ghost use Rattle.std.specs.List.{list_any};
 ghost use Rattle.pana_family.specs.Board.{board_rows, board_newest, board_split};
 ghost use Rattle.pana_family.specs.Relation.{relation};
-ghost use Rattle.pana_family.specs.Sets.{Sets, Pends, PendsLast};
+ghost use Rattle.pana_family.specs.Rows.{copy_rows, divides, lives};
 ghost use Rattle.pana_family.specs.Stamps.{AreStamps, stamps_in, text_of};
-ghost use Rattle.pana_family.specs.Table.{copies_of, set_in, touch_in};
-ghost use Rattle.pana_family.specs.View.{Means, is_living, can_split, depth_at};
-ghost use Rattle.pana_hall.specs.inner.Listed.{new_kept};
+ghost use Rattle.pana_family.specs.Stands.{StandsFor};
+ghost use Rattle.pana_family.specs.Table.{Known, copies_of, set_in, touch_in};
+ghost use Rattle.pana_hall.specs.inner.Undo.{ends_in, last_place, new_kept};
 
 use crate::kept_family::KeptFamily;
 use pana_copies::Place;
@@ -31,13 +32,12 @@ pub enum Form {
 }
 
 impl Model for ListedFamily {
-    ghost use Rattle.pana_hall.specs.declared.kept_family.KeptFamily.{KeptFamily};
-    ghost use Rattle.pana_hall.specs.contracts.kept_family.KeptFamily as kept_family;
+    ghost use Rattle.pana_hall.specs.inner.Undo.{KeptRows, kept_rows_code};
     ghost use Rattle.pana_hall.specs.inner.Listed.{listed};
 
-    ghost Value = { KeptFamily };
+    ghost Value = { KeptRows };
 
-    ghost coded = { kept_family.the_row.coded };
+    ghost coded = { kept_rows_code };
 
     ghost view = { λ it. listed it.form };
 }
@@ -64,14 +64,14 @@ impl ListedFamily {
 
     /// Whether it has a living copy. Takes no memory.
     pub fn has_copies(&self) -> bool
-        ensures { (sets : Sets) → Means self.now.family sets → result ≡ nat_lt 0 (length (copies_of sets.table)) }
+        ensures { result ≡ nat_lt 0 (length (copy_rows self.now.rows)) }
     {
         self.count() > 0
     }
 
     /// How many copies live. Takes no memory.
     pub fn count(&self) -> usize
-        ensures { (sets : Sets) → Means self.now.family sets → result ≡ length (copies_of sets.table) }
+        ensures { result ≡ length (copy_rows self.now.rows) }
     {
         match &self.form {
             Form::New(_) => 1,
@@ -81,8 +81,8 @@ impl ListedFamily {
 
     /// Whether the copy's id can be divided. Takes no memory.
     pub fn splits(&self, copy: u64) -> bool
-        requires { is_living self.now.family copy ≡ true }
-        ensures { result ≡ can_split self.now.family copy }
+        requires { lives self.now.rows copy ≡ true }
+        ensures { result ≡ divides self.now.rows copy }
     {
         match &self.form {
             Form::New(_) => true,
@@ -92,9 +92,9 @@ impl ListedFamily {
 
     /// How the first copy relates to the second. Takes no memory; compares no stamps.
     pub fn rel(&self, a: u64, b: u64) -> Rel
-        requires first { is_living self.now.family a ≡ true }
-        requires second { is_living self.now.family b ≡ true }
-        ensures { (sets : Sets) → Means self.now.family sets → result ≡ relation (set_in sets.table a) (set_in sets.table b) }
+        requires first { lives self.now.rows a ≡ true }
+        requires second { lives self.now.rows b ≡ true }
+        ensures { (table : List Known) → StandsFor self.now.rows table → result ≡ relation (set_in table a) (set_in table b) }
     {
         match &self.form {
             Form::New(_) => Rel::Equal,
@@ -104,8 +104,8 @@ impl ListedFamily {
 
     /// The entry that last touched a copy. Takes no memory.
     pub fn touch(&self, copy: u64) -> u64
-        requires { is_living self.now.family copy ≡ true }
-        ensures { (sets : Sets) → Means self.now.family sets → result ≡ touch_in sets.table copy }
+        requires { lives self.now.rows copy ≡ true }
+        ensures { (table : List Known) → StandsFor self.now.rows table → result ≡ touch_in table copy }
     {
         match &self.form {
             Form::New(entry) => *entry,
@@ -115,30 +115,30 @@ impl ListedFamily {
 
     /// How the copies relate to each other. Fails only where memory runs out.
     pub fn board(&self, alloc: Global) -> Result<FamilyBoard, AllocError>
-        ensures rows { IfOk result (λ board. (sets : Sets) → Means self.now.family sets → board.rows ≡ board_rows sets.table) }
-        ensures newest { IfOk result (λ board. (sets : Sets) → Means self.now.family sets → board.newest ≡ board_newest sets.table) }
-        ensures split { IfOk result (λ board. (sets : Sets) → Means self.now.family sets → board.split ≡ board_split sets.table) }
+        ensures rows { IfOk result (λ board. (table : List Known) → StandsFor self.now.rows table → board.rows ≡ board_rows table) }
+        ensures newest { IfOk result (λ board. (table : List Known) → StandsFor self.now.rows table → board.newest ≡ board_newest table) }
+        ensures split { IfOk result (λ board. (table : List Known) → StandsFor self.now.rows table → board.split ≡ board_split table) }
     {
         match &self.form {
-            Form::New(entry) => Family::new(alloc, *entry)?.board(),
+            Form::New(entry) => Family::new(alloc, *entry)?.0.board(),
             Form::Changed(it) => it.family().board(),
         }
     }
 
     /// The text of each living copy's stamp, by rising number. Fails only where memory runs out.
     pub fn stamps(&self, alloc: Global) -> Result<PlainList<CopyStamp>, AllocError>
-        ensures sets { IfOk result (λ stamps. (sets : Sets) → Means self.now.family sets → AreStamps (map text_of stamps) (copies_of sets.table)) }
-        ensures exact { IfOk result (λ stamps. map text_of stamps ≡ stamps_in self.now.family.rows) }
+        ensures stands { IfOk result (λ stamps. (table : List Known) → StandsFor self.now.rows table → AreStamps (map text_of stamps) (copies_of table)) }
+        ensures exact { IfOk result (λ stamps. map text_of stamps ≡ stamps_in self.now.rows) }
     {
         match &self.form {
-            Form::New(entry) => Family::new(alloc, *entry)?.stamps(),
+            Form::New(entry) => Family::new(alloc, *entry)?.0.stamps(),
             Form::Changed(it) => it.family().stamps(),
         }
     }
 
     /// The place where the copy was that the last pending entry moved or removed, if it did. Takes no memory.
     pub fn last_place(&self) -> Option<&Place>
-        ensures { option_copied result ≡ option_and_then (λ kept. kept.place) (slice_get self.now.old_places.items 0) }
+        ensures { option_copied result ≡ last_place self.now.undo }
     {
         match &self.form {
             Form::New(_) => None,
@@ -148,7 +148,7 @@ impl ListedFamily {
 
     /// Whether the entry is pending. Takes no memory.
     pub fn has_pending(&self, entry: u64) -> bool
-        ensures { (sets : Sets) → Means self.now.family sets → IsTrue result ↔ Pends entry sets.before }
+        ensures { result ≡ list_any (λ u. u.entry == entry) self.now.undo }
     {
         match &self.form {
             Form::New(first) => *first == entry,
@@ -158,7 +158,7 @@ impl ListedFamily {
 
     /// Whether the entry is the last that is pending. Takes no memory.
     pub fn ends_in(&self, entry: u64) -> bool
-        ensures { (sets : Sets) → Means self.now.family sets → IsTrue result ↔ PendsLast entry sets.before }
+        ensures { result ≡ ends_in entry self.now.undo }
     {
         match &self.form {
             Form::New(first) => *first == entry,

@@ -2,13 +2,13 @@
 ghost use Rattle.std.specs.Prelude.{◌≡◌, ℕ, ◌+◌, ◌<◌, List, [], ◌∷◌, ◌++◌, length, ◌==◌, if◌then◌else◌, Some, None, OnOk, OnErr};
 ghost use Rattle.pana_copies.specs.Spots.{kept};
 ghost use Rattle.pana_hall.specs.inner.Spots.{SameSpots, IsFree};
-ghost use Rattle.pana_hall.specs.inner.Listed.{new_kept};
-ghost use Rattle.pana_hall.specs.inner.Kept.{next_entry, AreListed, AreSpots, IsFamilyKept, IsReady, IsReadyAt};
+ghost use Rattle.pana_hall.specs.inner.Undo.{new_kept};
+ghost use Rattle.pana_hall.specs.inner.Kept.{next_entry, AreSpots, IsReady, IsReadyAt, families_of, family_of};
 ghost use Rattle.pana_hall.specs.inner.State.{IsHeld, Records};
 ghost use Rattle.pana_hall.specs.Living.{living};
 ghost use Rattle.pana_hall.specs.Refusal.{report_refusal};
 
-use crate::changing::{duplicate, relocate, remove, withdraw};
+use crate::changing::{report_copies, withdraw};
 use crate::kept_family::KeptFamily;
 use crate::listed_family::{Form, ListedFamily};
 use crate::state::State;
@@ -27,21 +27,12 @@ pub fn change(
     report: &Report,
 ) -> Result<(), AllocError>
     requires ready { IsReady journal.now.entries by.now report.now it.old copies.old }
-    ensures number { it.new.number ≡ it.old.number }
-    ensures family { OnOk result (IsFamilyKept (journal.now.entries ++ next_entry journal.now.entries by.now report.now ∷ []) it.new) }
+    ensures family { OnOk result (it.new ≡ family_of (journal.now.entries ++ next_entry journal.now.entries by.now report.now ∷ []) it.old.number) }
     ensures spots { OnOk result (AreSpots (journal.now.entries ++ next_entry journal.now.entries by.now report.now ∷ []) copies.new) }
     ensures same { OnErr result (it.new ≡ it.old) }
     ensures still { OnErr result (SameSpots copies.old copies.new) }
 {
-    let entry = journal.length() + 1;
     match report {
-        Report::Register { .. } => unreachable!(),
-        Report::Duplicate { copy, place } => duplicate(it, copies, entry, *copy, place),
-        Report::Edit { copy } => it.edit(entry, *copy),
-        Report::Reconcile { a, b } => it.reconcile(entry, *a, *b),
-        Report::Merge { a, b } => it.merge(entry, *a, *b),
-        Report::Relocate { copy, place } => relocate(alloc, it, copies, entry, *copy, place),
-        Report::Remove { copy, heir } => remove(alloc, it, copies, entry, *copy, *heir),
         Report::Confirm { entry } => {
             it.confirm(*entry);
             Ok(())
@@ -49,6 +40,7 @@ pub fn change(
         Report::Withdraw { entry } => {
             withdraw(it, copies, *entry, &journal.entry(*entry).unwrap().report)
         }
+        _ => report_copies(alloc, it, copies, journal.length() + 1, report),
     }
 }
 
@@ -62,8 +54,7 @@ fn change_listed(
     report: &Report,
 ) -> Result<(), AllocError>
     requires ready { IsReady journal.now.entries by.now report.now it.old copies.old }
-    ensures number { it.new.number ≡ it.old.number }
-    ensures family { OnOk result (IsFamilyKept (journal.now.entries ++ next_entry journal.now.entries by.now report.now ∷ []) it.new) }
+    ensures family { OnOk result (it.new ≡ family_of (journal.now.entries ++ next_entry journal.now.entries by.now report.now ∷ []) it.old.number) }
     ensures spots { OnOk result (AreSpots (journal.now.entries ++ next_entry journal.now.entries by.now report.now ∷ []) copies.new) }
     ensures same { OnErr result (it.new ≡ it.old) }
     ensures still { OnErr result (SameSpots copies.old copies.new) }
@@ -113,7 +104,7 @@ fn change_at(
     report: &Report,
 ) -> Result<(), AllocError>
     requires ready { IsReadyAt journal.now.entries by.now report.now list.old.items position copies.old }
-    ensures list { OnOk result (AreListed (journal.now.entries ++ next_entry journal.now.entries by.now report.now ∷ []) list.new.items) }
+    ensures list { OnOk result (list.new.items ≡ families_of (journal.now.entries ++ next_entry journal.now.entries by.now report.now ∷ [])) }
     ensures spots { OnOk result (AreSpots (journal.now.entries ++ next_entry journal.now.entries by.now report.now ∷ []) copies.new) }
     ensures same { OnErr result (list.new.items ≡ list.old.items) }
     ensures still { OnErr result (SameSpots copies.old copies.new) }

@@ -34,7 +34,7 @@ fn is_of_copies(report: &Report) -> bool
 }
 
 /// The copy that a report moves or removes.
-fn displaced(report: &Report) -> Option<u64>
+pub fn displaced(report: &Report) -> Option<u64>
     ensures { result ≡ displaced report.now }
 {
     match report {

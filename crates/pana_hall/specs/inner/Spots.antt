@@ -50,6 +50,21 @@ IsFree place table = (number : ℕ) → ¬ (place_of table number ≡ Some place
 abbrev pub IsFreeFor : ℕ → Place → Table → Type 0
 IsFreeFor copy place table = (number : ℕ) → place_of table number ≡ Some place → number ≡ copy
 
+-- the place that a report gives a copy, if it does
+abbrev pub place_in : Report → Option Place
+place_in (Register place) = Some place
+place_in (Duplicate source place) = Some place
+place_in (Relocate copy place) = Some place
+place_in _ = None
+
+-- the copy that entry n's report makes, moves or removes can be kept as it says, in this family
+abbrev pub CanPlace : ℕ → Report → ℕ → Table → Type 0
+CanPlace n (Register place) family table = (kept table n ≡ None) × IsFree place table × (family ≡ n)
+CanPlace n (Duplicate source place) family table = (kept table n ≡ None) × IsFree place table × (Some (record { family = family; place = place }) ≡ placed place (kept table source))
+CanPlace n (Relocate copy place) family table = IsSome (kept table copy) × IsFreeFor copy place table
+CanPlace n (Remove copy heir) family table = IsSome (kept table copy)
+CanPlace n _ family table = Unit {0}
+
 -- where each copy is kept once entry n's report is undone: its copy goes back to the old place, in its family
 abbrev pub undone_spot : ℕ → Report → ℕ → Option Place → Table → ℕ → Option Spot
 undone_spot n report family back table = put (mover n report) (option_map (λ p. record { family = family; place = p }) back) (kept table)

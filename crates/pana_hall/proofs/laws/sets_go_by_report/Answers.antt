@@ -1,7 +1,7 @@
 use Rattle.std.proofs.Common.{refl}
 use Rattle.pana_hall.proofs.Sound.{accepted_is_sound}
 use Rattle.pana_hall.proofs.FamilySets.{sets_report, sets_withdraw, sets_confirm, sets_other, sets_begun}
-use Rattle.pana_hall.proofs.KeptFamilies.{above_sets, below_sets}
+use Rattle.pana_hall.proofs.Stood.{above_sets, below_sets}
 use Rattle.pana_hall.proofs.laws.sets_go_by_report.Goals as goal
 
 pub returns : goal.returns

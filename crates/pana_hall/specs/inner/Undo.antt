@@ -1,0 +1,89 @@
+-- A family as the hall keeps it, with what takes its pending entries back.
+use Rattle.std.specs.Prelude.{◌≡◌, ℕ, ◌==◌, Bool, false, List, [], ◌∷◌, take, Option, Some, None, option_map, refl, if◌then◌else◌}
+use Rattle.std.specs.Coded.{Coded, code_by, coded×, coded_ℕ, coded_list, coded_option}
+use Rattle.pana_copies.specs.declared.place.Place.{Place}
+use Rattle.pana_copies.specs.contracts.place.Place as copy_place
+use Rattle.pana_family.specs.declared.row.StampRow.{StampRow}
+use Rattle.pana_family.specs.contracts.row.StampRow as stamp_row
+use Rattle.pana_family.specs.declared.report.FamilyReport.{FamilyReport}
+use Rattle.pana_family.specs.After.{reported_rows}
+use Rattle.pana_family.specs.Change.{after as after_change, Fits, Room}
+use Rattle.pana_family.specs.Kept.{IsKept}
+use Rattle.pana_family.specs.Rows.{seed_row}
+use Rattle.pana_hall.specs.declared.undo.Undo.{Undo}
+
+-- a pending entry, the rows from before it, and the place where the copy was that it moved or removed, if it did
+pub record Undone : Type 0 where
+  pub entry : ℕ
+  pub rows : List StampRow
+  pub place : Option Place
+
+-- a family: the entry that began it, its rows, and its pending entries, the last one first
+pub record KeptRows : Type 0 where
+  pub number : ℕ
+  pub rows : List StampRow
+  pub undo : List Undone
+
+abbrev pub undone : ℕ → List StampRow → Option Place → Undone
+undone entry rows place = record { entry = entry; rows = rows; place = place }
+
+abbrev pub kept_rows : ℕ → List StampRow → List Undone → KeptRows
+kept_rows number rows undo = record { number = number; rows = rows; undo = undo }
+
+-- how these are kept as numbers
+abbrev pub undone_code : Coded Undone
+undone_code =
+    code_by (ℕ × (List StampRow × Option Place)) (coded× coded_ℕ (coded× (coded_list stamp_row.the_row.coded) (coded_option copy_place.the_row.coded)))
+    (λ u. (u.entry, (u.rows, u.place))) (λ p. record { entry = p.0; rows = p.1.0; place = p.1.1 }) (λ _. refl)
+
+abbrev pub kept_rows_code : Coded KeptRows
+kept_rows_code =
+    code_by (ℕ × (List StampRow × List Undone)) (coded× coded_ℕ (coded× (coded_list stamp_row.the_row.coded) (coded_list undone_code)))
+    (λ k. (k.number, (k.rows, k.undo))) (λ p. record { number = p.0; rows = p.1.0; undo = p.1.1 }) (λ _. refl)
+
+-- what the records give back one after another
+abbrev pub history : List StampRow → List Undo → List Undone
+history rows [] = []
+history rows (u ∷ undo) =
+    let old = after_change u.back rows in
+    undone u.entry old (option_map (λ place. place.value) u.place) ∷ history old undo
+
+-- each of them can be made in turn, in this room
+abbrev pub CanGoBack : Room → List StampRow → List Undo → Type 0
+CanGoBack room rows [] = Unit {0}
+CanGoBack room rows (u ∷ undo) = IsKept (after_change u.back rows) × Fits u.back rows room × CanGoBack room (after_change u.back rows) undo
+
+-- the family that entry n begins: its copy alone, and nothing before it
+abbrev pub new_kept : ℕ → KeptRows
+new_kept n = kept_rows n (seed_row n ∷ []) (undone n [] None ∷ [])
+
+-- the family after report n, of which the entry is pending; the copy that it moves or removes was at the place
+abbrev pub reported_kept : ℕ → FamilyReport → Option Place → KeptRows → KeptRows
+reported_kept n report place it = kept_rows it.number (reported_rows n report it.rows) (take 8 (undone n it.rows place ∷ it.undo))
+
+-- those later than an entry
+abbrev pub later_than : ℕ → List Undone → List Undone
+later_than n [] = []
+later_than n (u ∷ undo) = if u.entry == n then [] else u ∷ later_than n undo
+
+-- the family once an entry was confirmed, which settles it and all before it
+abbrev pub confirmed : ℕ → KeptRows → KeptRows
+confirmed n it = kept_rows it.number it.rows (later_than n it.undo)
+
+-- the family once the last pending entry was withdrawn
+abbrev pub withdrawn : KeptRows → KeptRows
+withdrawn it = given it.undo
+  where
+    given : List Undone → KeptRows
+    given [] = it
+    given (u ∷ undo) = kept_rows it.number u.rows undo
+
+-- whether the entry is the last that is pending
+abbrev pub ends_in : ℕ → List Undone → Bool
+ends_in n [] = false
+ends_in n (u ∷ undo) = u.entry == n
+
+-- the place where the copy was that the last pending entry moved or removed, if it did
+abbrev pub last_place : List Undone → Option Place
+last_place [] = None
+last_place (u ∷ undo) = u.place
