@@ -5,7 +5,7 @@ use Rattle.pana_family.specs.Rows.{deepest}
 use Rattle.pana_family.specs.Change.{RowList}
 use Rattle.pana_family.proofs.Written.{IsRowAt, row_at, id_at}
 use Rattle.pana_family.proofs.Searches.{single_deep}
-use Rattle.pana_family.proofs.rows.Rows.splits.Goals as goal
+use Rattle.pana_family.proofs.family.Family.splits.Goals as goal
 
 here : (c : goal.After-splits) → IsRowAt c.self.inside.items.items c.index_of.result c.args.copy c.index-row.result.now
 here c = row_at _ _ _ _ _ c.deref.ensures.value c.index_of.ensures.within c.index_of.ensures.here c.index_of.ensures.free c.index-row.ensures
