@@ -39,6 +39,6 @@ unfoldable pub IsPrepared : ℕ → FamilyReport → Change → RowList → Type
 IsPrepared n report change f = Prepares n report change f
 
 -- the change gives these rows back, and there is room for it
-pub record TakesBack (back : Change) (f : RowList) (rows : List StampRow) : Type 0 where
-  pub rows : after back f.rows ≡ rows
+pub record TakesBack (back : Change) (f : RowList) (old : List StampRow) : Type 0 where
+  pub rows : after back f.rows ≡ old
   pub fits : Fits back f.rows f.room
