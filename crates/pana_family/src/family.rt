@@ -154,6 +154,7 @@ impl Family {
         ensures fault { (fault : Fault) → fault_of report self.old.rows ≡ Some fault → result ≡ Err fault }
         ensures memory { fault_of report self.old.rows ≡ None → IfErr result (λ e. e ≡ FamilyFault.OutOfMemory) }
         ensures prepared { IfOk result (λ change. IsPrepared entry report change self.new) }
+        ensures was { IsKept self.old.rows }
     {
         if let Some(fault) = self.fault(report) {
             return Err(fault);

@@ -4,24 +4,17 @@ use Rattle.pana_event.specs.Event.{leaf}
 use Rattle.pana_stamp.specs.declared.stamp.Stamp.{Stamp}
 use Rattle.pana_family.specs.declared.row.StampRow.{StampRow}
 use Rattle.pana_family.specs.Rows.{seed_row, stamp, row}
-use Rattle.pana_family.specs.Stands.{StandsFor}
-use Rattle.pana_family.specs.Table.{registered}
 use Rattle.pana_family.specs.Kept.{IsKept}
 use Rattle.pana_family.proofs.Keeps.{seed_kept}
-use Rattle.pana_family.proofs.Changes.{seed_stands}
 use Rattle.pana_family.proofs.family.Family.new.Goals as goal
 
 seeded : (entry : ℕ) (s : Stamp) (old new : List StampRow) → s.id ≡ one_id → s.event ≡ leaf 0 → old ≡ [] → new ≡ old ++ row entry s entry ∷ [] → new ≡ seed_row entry ∷ []
 seeded entry s old new owner event none is =
     is ∙ ap (λ (l : List StampRow). l ++ row entry s entry ∷ []) none ∙ ap (λ (i : Id). row entry (stamp i s.event) entry ∷ []) owner ∙ ap (λ e. row entry (stamp one_id e) entry ∷ []) event
 
-pub of_vec-requires : goal.of_vec-requires
-of_vec-requires c = subst IsKept (sym (seeded c.args.entry c.seed.result _ _ c.seed.ensures.owner c.seed.ensures.event c.in_ok-items.ensures.items c.push_reserved.ensures.items)) (seed_kept c.args.entry)
+pub of_rows-requires : goal.of_rows-requires
+of_rows-requires c =
+    subst IsKept (sym (c.from_vec.ensures ∙ seeded c.args.entry c.seed.result _ _ c.seed.ensures.owner c.seed.ensures.event c.in_ok-items.ensures.items c.push_reserved.ensures.items)) (seed_kept c.args.entry)
 
-pub returns-clause-seed : goal.returns-clause-seed
-returns-clause-seed c = c.in_ok-rows.ensures.rows ∙ seeded c.args.entry c.seed.result _ _ c.seed.ensures.owner c.seed.ensures.event c.in_ok-items.ensures.items c.push_reserved.ensures.items
-
-pub returns-clause-stands : goal.returns-clause-stands
-returns-clause-stands c =
-    subst (λ (l : List StampRow). StandsFor l (registered c.args.entry)) (sym (c.in_ok-rows.ensures.rows ∙ seeded c.args.entry c.seed.result _ _ c.seed.ensures.owner c.seed.ensures.event c.in_ok-items.ensures.items c.push_reserved.ensures.items))
-    (seed_stands c.args.entry)
+pub returns : goal.returns
+returns c = c.in_ok-family.ensures ∙ c.from_vec.ensures ∙ seeded c.args.entry c.seed.result _ _ c.seed.ensures.owner c.seed.ensures.event c.in_ok-items.ensures.items c.push_reserved.ensures.items

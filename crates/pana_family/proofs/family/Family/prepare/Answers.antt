@@ -4,12 +4,46 @@ use Rattle.pana_family.specs.Rows.{AreBefore, copy_rows}
 use Rattle.pana_family.specs.Change.{RowList, after}
 use Rattle.pana_family.specs.Kept.{IsKept}
 use Rattle.pana_family.specs.Report.{CanReport, IsMade, IsReported}
+use Rattle.pana_family.specs.declared.change.Change.{Change}
+use Rattle.pana_family.specs.View.{IsPrepared}
+use Rattle.pana_family.proofs.Able.{able}
 use Rattle.pana_family.proofs.Counted.{few_made}
 use Rattle.pana_family.proofs.Following.{as_many}
 use Rattle.pana_family.proofs.family.Family.prepare.Goals as goal
 
+pub report_change-requires-clause-able : goal.report_change-requires-clause-able
+report_change-requires-clause-able c =
+    subst (CanReport c.args.report) (sym (c.deref.ensures.value ∙ ap (λ (v : RowList). v.rows) c.self.view_is)) (able c.args.report c.args.self.now.rows c.requires.living (sym c.fault.ensures ∙ c.in_default.is))
+
 pub report_change-requires-clause-new : goal.report_change-requires-clause-new
 report_change-requires-clause-new c = subst (AreBefore c.args.entry) (sym (c.deref.ensures.value ∙ ap (λ (v : RowList). v.rows) c.self.view_is)) c.requires.new
+
+pub returns-clause-prepared : goal.returns-clause-prepared
+unfolding IsPrepared
+returns-clause-prepared c =
+    let rows : List StampRow = c.self.inside.items.items in
+    let change : Change = c.in_ok-change.change in
+    let m : IsMade c.args.entry c.args.report rows (after change rows) = record {
+      kept = c.self.invariant.0;
+      able = subst (λ (v : RowList). CanReport c.args.report v.rows) (sym c.self.view_is) (able c.args.report c.args.self.now.rows c.requires.living (sym c.fault.ensures ∙ c.in_default.is));
+      before = subst (λ (v : RowList). AreBefore c.args.entry v.rows) (sym c.self.view_is) c.requires.new;
+      reported = subst (λ (l : List StampRow). IsReported c.args.entry c.args.report l (after change l)) c.deref.ensures.value c.in_ok-change.ensures;
+    } in
+    let many = few_made c.args.entry c.args.report rows (after change rows) m in
+    record {
+      made = subst (λ (l : List StampRow). IsMade c.args.entry c.args.report l (after change l)) (sym c.reserve.ensures.items) m;
+      fits = (
+        omega (arith, c.in_ok-reserve.ensures.ok),
+        omega (
+          arith,
+          many,
+          ap (λ (l : List StampRow). length (copy_rows (after change l))) c.reserve.ensures.items,
+          as_many rows c.self.inside.pairs.copies c.self.invariant.0.rising c.copies.ensures.rising c.self.invariant.1.copies,
+          ap length c.reserve-2.ensures.copies,
+          c.in_ok-reserve-2.ensures.room,
+        ),
+      );
+    }
 
 pub returns-clause-room : goal.returns-clause-room
 returns-clause-room c = (
@@ -17,36 +51,3 @@ returns-clause-room c = (
   omega (arith, ap (λ (v : RowList). v.room.copies) c.self.view_is, ap length c.reserve-2.ensures.copies, c.reserve-2.ensures.more),
 )
 
-pub returns-clause-made : goal.returns-clause-made
-returns-clause-made c =
-    let same = c.reserve.ensures.items ∙ ap (λ (v : RowList). v.rows) c.self.view_is in
-    let rows : List StampRow = c.args.self.now.rows in
-    let seen = c.deref.ensures.value ∙ ap (λ (v : RowList). v.rows) c.self.view_is in
-    let m : IsMade c.args.entry c.args.report rows (after c.in_ok-change.change rows) = record {
-      kept = subst (λ (v : RowList). IsKept v.rows) c.self.view_is c.self.invariant.0;
-      able = c.requires.able;
-      before = c.requires.new;
-      reported = subst (λ (l : List StampRow). IsReported c.args.entry c.args.report l (after c.in_ok-change.change l)) seen c.in_ok-change.ensures;
-    } in
-    subst (λ (l : List StampRow). IsMade c.args.entry c.args.report l (after c.in_ok-change.change l)) (sym same) m
-
-pub returns-clause-fits : goal.returns-clause-fits
-returns-clause-fits c =
-    let rows : List StampRow = c.self.inside.items.items in
-    let m : IsMade c.args.entry c.args.report rows (after c.in_ok-change.change rows) = record {
-      kept = c.self.invariant.0;
-      able = subst (λ (v : RowList). CanReport c.args.report v.rows) (sym c.self.view_is) c.requires.able;
-      before = subst (λ (v : RowList). AreBefore c.args.entry v.rows) (sym c.self.view_is) c.requires.new;
-      reported = subst (λ (l : List StampRow). IsReported c.args.entry c.args.report l (after c.in_ok-change.change l)) c.deref.ensures.value c.in_ok-change.ensures;
-    } in
-    let many = few_made c.args.entry c.args.report rows (after c.in_ok-change.change rows) m in (
-      omega (arith, c.in_ok-reserve.ensures.ok),
-      omega (
-        arith,
-        many,
-        ap (λ (l : List StampRow). length (copy_rows (after c.in_ok-change.change l))) c.reserve.ensures.items,
-        as_many rows c.self.inside.pairs.copies c.self.invariant.0.rising c.copies.ensures.rising c.self.invariant.1.copies,
-        ap length c.reserve-2.ensures.copies,
-        c.in_ok-reserve-2.ensures.room,
-      ),
-    )
