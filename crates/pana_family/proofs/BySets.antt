@@ -1,6 +1,6 @@
 -- What follows for rows from the table that they stand for.
-use Rattle.std.specs.Prelude.{◌↔◌, ◌+◌, fold, cond, None, Some, ◌≡◌, ℕ, Bool, true, ◌==◌, ◌||◌, ◌&&◌, List, [], ◌∷◌, Option, length, map, slice_get, false}
-use Rattle.std.proofs.Common.{refl, subst, sym, ap, ◌∙◌, inl, inr, arith}
+use Rattle.std.specs.Prelude.{◌+◌, fold, cond, ◌≡◌, ℕ, Bool, true, ◌==◌, ◌||◌, ◌&&◌, List, [], ◌∷◌, Option, map, false}
+use Rattle.std.proofs.Common.{refl, subst, sym, ap, ◌∙◌, arith}
 use Rattle.pana_family.specs.declared.row.StampRow.{StampRow}
 use Rattle.pana_family.specs.Laws.{IsSubset}
 use Rattle.pana_family.specs.Holders.{is_copy, is_held}
@@ -9,8 +9,8 @@ use Rattle.pana_family.specs.Stands.{AreSame, StandsFor}
 use Rattle.pana_family.specs.Rows.{AreBefore, lives, copy_rows}
 use Rattle.pana_family.specs.Rows.{held_rows}
 use Rattle.pana_family.specs.Kept.{IsKept}
-use Rattle.pana_family.specs.Sets.{Sets, Before, IsAbove, Pends, PendsLast}
-use Rattle.pana_family.proofs.Members.{of_row, of_known, same_length}
+use Rattle.pana_family.specs.Sets.{IsAbove}
+use Rattle.pana_family.proofs.Members.{of_row, of_known}
 use Rattle.pana_family.proofs.Changes.{below_is_subset}
 use Rattle.pana_family.proofs.Held.{one_known, set_of}
 
@@ -86,4 +86,3 @@ same_numbers (r ∷ rows) (t ∷ table) same = ap (λ (k : ℕ). k ∷ map (λ q
 
 pub copy_numbers : (rows : List StampRow) (table : List Known) → AreSame rows table → map (λ r. r.copy) (copy_rows rows) ≡ map (λ t. t.copy) (copies_of table)
 copy_numbers rows table same = same_numbers (copy_rows rows) (copies_of table) (same_copies rows table same)
-

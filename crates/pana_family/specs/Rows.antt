@@ -74,14 +74,6 @@ renewed copy f (r ∷ rows) = (if r.copy == copy then f r else r) ∷ renewed co
 abbrev pub retouched : ℕ → ℕ → List StampRow → List StampRow
 retouched copy touch rows = renewed copy (λ r. record r { touch = touch }) rows
 
--- the row with another id added to its own
-abbrev pub summed : Id → StampRow → StampRow
-summed i r = record { copy = r.copy; holder = r.holder; stamp = record { id = sum_of r.stamp.id i; event = r.stamp.event }; touch = r.touch }
-
--- the rows without that of entry n; its source's id becomes the sum of both
-abbrev pub rejoined : ℕ → ℕ → List StampRow → List StampRow
-rejoined n source rows = renewed source (summed (id_in rows n)) (dropped n rows)
-
 -- the stamp of an id and an event
 abbrev pub stamp : Id → Event → Stamp
 stamp id event = record { id = id; event = event }

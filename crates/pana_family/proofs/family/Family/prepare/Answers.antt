@@ -2,7 +2,6 @@ use Rattle.std.proofs.Common.{◌∙◌, List, ap, arith, length, subst, sym}
 use Rattle.pana_family.specs.declared.row.StampRow.{StampRow}
 use Rattle.pana_family.specs.Rows.{AreBefore, copy_rows}
 use Rattle.pana_family.specs.Change.{RowList, after}
-use Rattle.pana_family.specs.Kept.{IsKept}
 use Rattle.pana_family.specs.Report.{CanReport, IsMade, IsReported}
 use Rattle.pana_family.specs.declared.change.Change.{Change}
 use Rattle.pana_family.specs.View.{IsPrepared}
@@ -50,4 +49,3 @@ returns-clause-room c = (
   omega (arith, ap (λ (v : RowList). v.room.rows) c.self.view_is, c.reserve.ensures.capacity),
   omega (arith, ap (λ (v : RowList). v.room.copies) c.self.view_is, ap length c.reserve-2.ensures.copies, c.reserve-2.ensures.more),
 )
-

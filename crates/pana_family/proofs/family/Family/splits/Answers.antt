@@ -8,4 +8,4 @@ pub returns : goal.returns
 returns c =
     c.splits.ensures ∙ ap (λ (i : Id). not (is_single i 256))
     (c.id.ensures ∙ sym (id_at c.self.inside.items.items c.args.self.now.rows c.index_of.result c.args.copy c.index-row.result.now (ap (λ (v : RowList). v.rows) c.self.view_is) c.self.invariant.0
-        (row_at _ _ _ _ _ c.deref.ensures.value c.index_of.ensures.within c.index_of.ensures.here c.index_of.ensures.free c.index-row.ensures)))
+    (row_at _ _ _ _ _ c.deref.ensures.value c.index_of.ensures.within c.index_of.ensures.here c.index_of.ensures.free c.index-row.ensures)))
