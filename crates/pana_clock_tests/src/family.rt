@@ -1,5 +1,9 @@
+ghost use Rattle.std.specs.Prelude.{IfOk};
+ghost use Rattle.pana_family.specs.Change.{after, Fits};
+ghost use Rattle.pana_family.specs.Kept.{IsKept};
+
 use pana_event::Rel;
-use pana_family::{Family, FamilyFault, FamilyReport};
+use pana_family::{Change, Family, FamilyFault, FamilyReport};
 use std::alloc::{AllocError, Global};
 use std::test::Fail;
 
@@ -14,60 +18,49 @@ fn texts(alloc: Global, family: &Family) -> Result<String, AllocError> {
     Ok(all)
 }
 
-fn duplicate(family: &mut Family, entry: u64, source: u64) -> Result<(), FamilyFault> {
+fn duplicate(family: &mut Family, entry: u64, source: u64) -> Result<Change, FamilyFault> {
     if family.has(source) && family.is_new(entry) {
         return family.report(entry, FamilyReport::Duplicate(source));
     }
     Err(FamilyFault::SameCopy)
 }
 
-fn edit(family: &mut Family, entry: u64, copy: u64) -> Result<(), FamilyFault> {
+fn edit(family: &mut Family, entry: u64, copy: u64) -> Result<Change, FamilyFault> {
     if family.has(copy) && family.is_new(entry) {
         return family.report(entry, FamilyReport::Edit(copy));
     }
     Err(FamilyFault::SameCopy)
 }
 
-fn reconcile(family: &mut Family, entry: u64, a: u64, b: u64) -> Result<(), FamilyFault> {
+fn reconcile(family: &mut Family, entry: u64, a: u64, b: u64) -> Result<Change, FamilyFault>
+    ensures kept { IfOk result (λ back. IsKept (after back family.new.rows)) }
+    ensures fits { IfOk result (λ back. Fits back family.new.rows family.new.room) }
+{
     if family.has(a) && family.has(b) && family.is_new(entry) {
         return family.report(entry, FamilyReport::Reconcile(a, b));
     }
     Err(FamilyFault::SameCopy)
 }
 
-fn merge(family: &mut Family, entry: u64, a: u64, b: u64) -> Result<(), FamilyFault> {
+fn merge(family: &mut Family, entry: u64, a: u64, b: u64) -> Result<Change, FamilyFault> {
     if family.has(a) && family.has(b) && family.is_new(entry) {
         return family.report(entry, FamilyReport::Merge(a, b));
     }
     Err(FamilyFault::SameCopy)
 }
 
-fn give(family: &mut Family, entry: u64, copy: u64, heir: u64) -> Result<(), FamilyFault> {
+fn give(family: &mut Family, entry: u64, copy: u64, heir: u64) -> Result<Change, FamilyFault> {
     if family.has(copy) && family.has(heir) && family.is_new(entry) {
         return family.report(entry, FamilyReport::Remove(copy, Some(heir)));
     }
     Err(FamilyFault::SameCopy)
 }
 
-fn lose(family: &mut Family, entry: u64, copy: u64) -> Result<(), FamilyFault> {
+fn lose(family: &mut Family, entry: u64, copy: u64) -> Result<Change, FamilyFault> {
     if family.has(copy) && family.is_new(entry) {
         return family.report(entry, FamilyReport::Remove(copy, None));
     }
     Err(FamilyFault::SameCopy)
-}
-
-/// Withdraws the last pending entry, which should be this one.
-fn withdraw(family: &mut Family, entry: u64) -> Result<(), FamilyFault> {
-    match family.pending() {
-        Some(last) => {
-            if last != entry {
-                return Err(FamilyFault::SameCopy);
-            }
-            family.withdraw(last);
-            Ok(())
-        }
-        None => Err(FamilyFault::SameCopy),
-    }
 }
 
 fn rel(family: &Family, a: u64, b: u64) -> Option<Rel> {
@@ -77,7 +70,7 @@ fn rel(family: &Family, a: u64, b: u64) -> Option<Rel> {
     None
 }
 
-/// The family of this one's rows, with nothing pending.
+/// The family of this one's rows.
 fn again(alloc: Global, family: Family) -> Result<Family, AllocError> {
     Family::of_rows(alloc, family.into_rows())
 }
@@ -92,9 +85,7 @@ fn conflict_from_rows(rt: HostRuntime) -> Result<(), Fail> {
     family = again(alloc, family)?;
     assert!(rt; rel(&family, 1, 2) == Some(Rel::Newer));
     edit(&mut family, 4, 2)?;
-    assert!(rt; family.pending() == Some(4));
     family = again(alloc, family)?;
-    assert!(rt; family.pending() == None);
     let board = family.board()?;
     assert!(rt; board.split);
     assert!(rt; board.newest.as_slice() == [1, 2].as_slice());
@@ -118,7 +109,7 @@ fn parcel_settles(rt: HostRuntime) -> Result<(), Fail> {
         "2:((0,(1,0)),(0,0,(0,1,0))) 4:(((0,1),0),(0,1,0)) 6:((0,(0,1)),0) "
     );
     assert!(rt; rel(&family, 2, 4) == Some(Rel::Conflict));
-    reconcile(&mut family, 8, 2, 4)?;
+    let back = reconcile(&mut family, 8, 2, 4)?;
     let after = texts(alloc, &family)?;
     assert_eq!(rt;
         after.as_str(),
@@ -126,7 +117,7 @@ fn parcel_settles(rt: HostRuntime) -> Result<(), Fail> {
     );
     assert_eq!(rt; family.held(2), 0);
     assert!(rt; rel(&family, 6, 2) == Some(Rel::Older));
-    withdraw(&mut family, 8)?;
+    family.take_back(back);
     assert_eq!(rt; texts(alloc, &family)?.as_str(), before.as_str());
     assert_eq!(rt; family.held(2), 1);
     Ok(())

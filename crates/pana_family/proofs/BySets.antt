@@ -1,19 +1,16 @@
--- What follows for a family from the sets that it stands for. A crate above needs these and the words of the table alone.
-use Rattle.std.specs.Prelude.{◌↔◌, ◌+◌, fold, cond, None, Some, ◌≡◌, ℕ, Bool, true, ◌==◌, ◌||◌, ◌&&◌, List, [], ◌∷◌, Option, length, map, slice_get, false}
-use Rattle.std.proofs.Common.{refl, subst, sym, ap, ◌∙◌, inl, inr, arith}
+-- What follows for rows from the table that they stand for.
+use Rattle.std.specs.Prelude.{◌+◌, fold, cond, ◌≡◌, ℕ, Bool, true, ◌==◌, ◌||◌, ◌&&◌, List, [], ◌∷◌, Option, map, false}
+use Rattle.std.proofs.Common.{refl, subst, sym, ap, ◌∙◌, arith}
 use Rattle.pana_family.specs.declared.row.StampRow.{StampRow}
-use Rattle.pana_family.specs.declared.undo.Undo.{Undo}
-use Rattle.pana_family.specs.Family.{history}
 use Rattle.pana_family.specs.Laws.{IsSubset}
 use Rattle.pana_family.specs.Holders.{is_copy, is_held}
 use Rattle.pana_family.specs.Table.{Known, In, is_in, copies_of, set_in, held_by, AreHeld}
 use Rattle.pana_family.specs.Stands.{AreSame, StandsFor}
 use Rattle.pana_family.specs.Rows.{AreBefore, lives, copy_rows}
-use Rattle.pana_family.specs.inner.Making.{held_rows}
+use Rattle.pana_family.specs.Rows.{held_rows}
 use Rattle.pana_family.specs.Kept.{IsKept}
-use Rattle.pana_family.specs.Sets.{Sets, Before, IsAbove, Pends, PendsLast}
-use Rattle.pana_family.specs.View.{Kept, Means, Undone, StandBefore, Undoes, UndoesFirst, is_living, IsNew, IsLast, copy_count}
-use Rattle.pana_family.proofs.Members.{of_row, of_known, same_length}
+use Rattle.pana_family.specs.Sets.{IsAbove}
+use Rattle.pana_family.proofs.Members.{of_row, of_known}
 use Rattle.pana_family.proofs.Changes.{below_is_subset}
 use Rattle.pana_family.proofs.Held.{one_known, set_of}
 
@@ -27,27 +24,9 @@ same_living (r ∷ rows) (t ∷ table) copy same =
     ∙ ap (λ (o : Option ℕ). (t.copy == copy && is_copy o) || lives rows copy) same.2
     ∙ ap (λ (b : Bool). (t.copy == copy && is_copy t.holder) || b) (same_living rows table copy same.3)
 
-same_last : (n : ℕ) (undo : List Undone) (before : List Before) → StandBefore undo before → PendsLast n before → UndoesFirst n undo
-same_last n [] [] stands pends = absurd pends
-same_last n [] (b ∷ before) stands pends = absurd stands
-same_last n (u ∷ undo) [] stands pends = absurd pends
-same_last n (u ∷ undo) (b ∷ before) stands pends = stands.0 ∙ pends
-
-pub living_by_sets : (f : Kept) (sets : Sets) (copy : ℕ) → Means f sets → is_living f copy ≡ is_in sets.table copy
-unfolding Means is_living
-living_by_sets f sets copy means = same_living f.rows sets.table copy means.rows.same
-
 -- a number above those of a table is above those of the rows
 pub same_before : (rows : List StampRow) (table : List Known) (n : ℕ) → AreSame rows table → IsAbove n table → AreBefore n rows
 same_before rows table n same above = λ r i. let t = of_row rows table same r i in let h = above t.0 t.1 in (omega (arith, t.2, h.0), omega (arith, t.3, h.1))
-
-pub new_by_sets : (f : Kept) (sets : Sets) (n : ℕ) → Means f sets → IsAbove n sets.table → IsNew n f
-unfolding Means IsNew
-new_by_sets f sets n means above = same_before f.rows sets.table n means.rows.same above
-
-pub last_by_sets : (f : Kept) (sets : Sets) (n : ℕ) → Means f sets → PendsLast n sets.before → IsLast n f
-unfolding Means IsLast
-last_by_sets f sets n means pends = same_last n f.undo sets.before means.undo pends
 
 held_from : (copy : ℕ) (s : ℕ) (rows : List StampRow) (table : List Known) → AreSame rows table
     → fold (λ a r. a + cond (is_held copy r.holder) 1 0) s rows ≡ fold (λ a t. a + cond (is_held copy t.holder) 1 0) s table
@@ -85,14 +64,6 @@ all_held rows table k st t h i e =
           (subst (λ (xs : List ℕ). IsSubset t.set xs) (sym (own table st.same q.0 u.0 q.1 u.1 u.2)) w))))));
     }
 
-pub same_pends : (n : ℕ) (undo : List Undone) (before : List Before) → StandBefore undo before → Undoes n undo ↔ Pends n before
-same_pends n [] [] stands = ((λ p. p), λ p. p)
-same_pends n [] (b ∷ before) stands = absurd stands
-same_pends n (u ∷ undo) [] stands = absurd stands
-same_pends n (u ∷ undo) (b ∷ before) stands =
-    let rest = same_pends n undo before stands.2 in
-    ((λ p. elim p [ inl e ↦ inl (sym stands.0 ∙ e) | inr q ↦ inr (rest.0 q) ]), λ p. elim p [ inl e ↦ inl (stands.0 ∙ e) | inr q ↦ inr (rest.1 q) ])
-
 -- The copies of rows and of a table are the same.
 
 pub same_copies : (rows : List StampRow) (table : List Known) → AreSame rows table → AreSame (copy_rows rows) (copies_of table)
@@ -115,22 +86,3 @@ same_numbers (r ∷ rows) (t ∷ table) same = ap (λ (k : ℕ). k ∷ map (λ q
 
 pub copy_numbers : (rows : List StampRow) (table : List Known) → AreSame rows table → map (λ r. r.copy) (copy_rows rows) ≡ map (λ t. t.copy) (copies_of table)
 copy_numbers rows table same = same_numbers (copy_rows rows) (copies_of table) (same_copies rows table same)
-
-pub count_by_sets : (f : Kept) (sets : Sets) → Means f sets → copy_count f ≡ length (copies_of sets.table)
-unfolding Means copy_count
-count_by_sets f sets means = sym (same_length (copy_rows f.rows) (copies_of sets.table) (same_copies f.rows sets.table means.rows.same))
-
--- The last pending entry.
-
-pub first_pends : (rows : List StampRow) (us : List Undo) (u : Undo) (before : List Before) (e : ℕ) → slice_get us 0 ≡ Some u → StandBefore (history rows us) before → (Some u.entry ≡ Some e) ↔ PendsLast e before
-first_pends rows [] u before e is st = absurd (cc is)
-first_pends rows (v ∷ us) u [] e is st = absurd st
-first_pends rows (v ∷ us) u (b ∷ before) e is st =
-    let same : v ≡ u = cc is in
-    let entry : u.entry ≡ b.entry = ap (λ (w : Undo). w.entry) (sym same) ∙ st.0 in
-    ((λ x. let found : u.entry ≡ e = cc x in sym entry ∙ found), λ p. ap Some (entry ∙ p))
-
-pub none_pends : (rows : List StampRow) (us : List Undo) (before : List Before) (e : ℕ) → slice_get us 0 ≡ None → StandBefore (history rows us) before → ◌≡◌ {A = Option ℕ} None (Some e) ↔ PendsLast e before
-none_pends rows (v ∷ us) before e is st = absurd (cc is)
-none_pends rows [] (b ∷ before) e is st = absurd st
-none_pends rows [] [] e is st = ((λ x. absurd (cc x)), λ p. absurd p)

@@ -130,6 +130,16 @@ no_update n t u i m =
     let none : false ≡ true = sym (ap (λ (w : Known). has w.set u) (only_known n t i)) ∙ m in
     absurd (cc)
 
+pub empty_stands : StandsFor [] []
+empty_stands = record {
+  same = tt;
+  owning = λ r i. absurd i;
+  apart = λ r q i. absurd i;
+  owner = λ r q i. absurd i;
+  marked = λ t u i. absurd i;
+  made = record { event_of = λ u. leaf 0; levels = λ r t i. absurd i };
+}
+
 pub seed_stands : (n : ℕ) → StandsFor (seed_row n ∷ []) (registered n)
 seed_stands n = record {
   same = (refl, refl, refl, tt);

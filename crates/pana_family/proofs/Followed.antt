@@ -109,11 +109,7 @@ of_follow rows table pairs st f = record {
   rels = λ r q i j free free' ne. of_rels rows table pairs [] st f r q i j free free' ne refl refl;
 }
 
--- Copies that know what they did.
-
--- each copy of the new table but these is one that there was
-abbrev Same : List ℕ → List Known → List Known → Type 0
-Same but table new = (s : Known) → In s new → s.holder ≡ None → has but s.copy ≡ false → (t : Known) × In t table × (t.copy ≡ s.copy) × (t.holder ≡ None) × (t.set ≡ s.set)
+-- A copy is edited.
 
 to_change : (c : ℕ) (g : Known → Known) (table : List Known) (t : Known) → In t table → In (cond (t.copy == c) (g t) t) (change c g table)
 to_change c g [] t i = absurd i
@@ -136,14 +132,6 @@ living_changed c n set_of table d = (
     elim (l.0.copy == c) as (λ b. (cond b (knowing (set_of l.0) n l.0) l.0).holder ≡ None) [ true ↦ l.3 | false ↦ l.3 ],
   ),
 )
-
--- A copy is removed.
-
--- a copy that there was, other than this one
-abbrev Other : ℕ → List Known → Known → Type 0
-Other c table s = (t : Known) × In t table × (t.copy ≡ s.copy) × (t.holder ≡ None) × (t.set ≡ s.set) × (s.copy ≢ c)
-
--- A copy is edited.
 
 within_more : (n : ℕ) (a b : List ℕ) → has b n ≡ false → is_within b (n ∷ a) ≡ is_within b a
 within_more n a [] out = refl

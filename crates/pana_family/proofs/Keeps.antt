@@ -14,7 +14,7 @@ use Rattle.pana_family.specs.Rows.{replaced}
 use Rattle.pana_family.specs.Kept.{IsKept}
 use Rattle.pana_family.proofs.Members.{in_replaced, in_change, of_known}
 use Rattle.pana_family.proofs.Places.{rising_lower}
-use Rattle.pana_family.proofs.Changes.{seed_stands, no_update}
+use Rattle.pana_family.proofs.Changes.{empty_stands, seed_stands, no_update}
 use Rattle.pana_family.proofs.Parcels.{same_holder}
 use Rattle.pana_family.proofs.Held.{held_registered}
 
@@ -103,6 +103,17 @@ both_below n table a b u below m = elim (or_cases (has (set_in table a) u) (has 
 -- what is known of a copy has no holder
 pub free_known : (rows : List StampRow) (table : List Known) (r : StampRow) → AreSame rows table → IsRising 0 rows → In r rows → r.holder ≡ None → (t : Known) → In t table → t.copy ≡ r.copy → t.holder ≡ None
 free_known rows table r same up i free t j e = sym (same_holder rows table same up r t i j (sym e)) ∙ free
+
+pub empty_kept : IsKept []
+empty_kept = record {
+  rising = tt;
+  few = omega arith;
+  levels = λ r i. absurd i;
+  table = [];
+  stands = empty_stands;
+  numbers = λ t u i. absurd i;
+  held = λ t h i. absurd i;
+}
 
 pub seed_kept : (n : ℕ) → IsKept (seed_row n ∷ [])
 seed_kept n = record {

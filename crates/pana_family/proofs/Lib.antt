@@ -12,7 +12,6 @@ pub mod Inverses
 pub mod Keeps
 pub mod Written
 pub mod BySets
-pub mod Undos
 pub mod Exchanges
 pub mod Searches
 pub mod Copies
@@ -22,9 +21,7 @@ pub mod Followed
 pub mod Following
 pub mod Counted
 pub mod Texts
-pub mod Depths
 pub mod Able
-pub mod NewFamily
 pub mod Prepared
 pub mod Sending
 pub mod Images

@@ -1,4 +1,4 @@
--- A family may go to another thread: what it has names no thread.
+-- A family and a change may go to another thread: what they have names no thread.
 use denote.Param.{number}
 use denote.Param.SendFields.{declared_send, variants_send}
 use denote.Param.Send.{IsSend, sendable, view_send}
@@ -10,7 +10,6 @@ use Rattle.std.proofs.vec.Vec.TheSendSync as vecs
 use Rattle.std.proofs.option.Option.TheSendSync as options
 use Rattle.std.proofs.alloc.Global.TheSendSync as global
 use Rattle.std.below.std_heap.proofs.GlobalAllocator.TheSendSync as frees
-use Rattle.circular_buffer.proofs.heap.HeapCircularBuffer.TheSendSync as rings
 use Rattle.pana_id.specs.contracts.node.Node as id_node
 use Rattle.pana_id.specs.contracts.id_tree.IdTree as id_tree
 use Rattle.pana_id.proofs.node.Node.TheLaws.TheKnot as id_knot
@@ -19,13 +18,10 @@ use Rattle.pana_event.specs.contracts.tree.EventTree as event_tree
 use Rattle.pana_event.proofs.node.Node.TheLaws.TheKnot as event_knot
 use Rattle.pana_stamp.specs.contracts.stamp.Stamp as stamp
 use Rattle.pana_family.specs.contracts.row.StampRow as row
-use Rattle.pana_family.specs.contracts.rows.Rows as rows
-use Rattle.pana_family.specs.contracts.rows.Rows.TheInside as rows_inside
 use Rattle.pana_rel.proofs.pair_table.PairTable.TheSendSync as pair_tables
 use Rattle.smallvec.proofs.small_vec.SmallVec.TheSendSync as small_vecs
 use Rattle.pana_family.specs.contracts.change.Exchange as exchange
 use Rattle.pana_family.specs.contracts.change.Change as change
-use Rattle.pana_family.specs.contracts.undo.Undo as undo
 use Rattle.pana_family.specs.contracts.family.Family as family
 use Rattle.pana_family.specs.contracts.family.Family.TheInside as family_inside
 use Rattle.std.specs.contracts.alloc.Global as globals
@@ -52,17 +48,11 @@ option_send = search (sendable, options.the_field_send)
 row_send : IsSend row.the_row
 row_send = declared_send row.the_type (search sendable, (option_send, (stamp_send, (search sendable, tt))))
 
-rows_send : IsSend rows.the_row
-rows_send = view_send _ _ _ _ _ (declared_send rows_inside.the_type (vecs.the_send _ _ _ row_send global.the_send frees.the_frees, (pair_tables.the_send, tt)))
-
 exchange_send : IsSend exchange.the_row
 exchange_send = variants_send exchange.enum ((row_send, tt), ((search sendable, tt), tt))
 
-change_send : IsSend change.the_row
+pub change_send : IsSend change.the_row
 change_send = variants_send change.enum ((search sendable, (event_send, (search sendable, tt))), ((search sendable, (search sendable, tt)), ((small_vecs.the_send exchange.the_row (number 2) globals.the_row heap.ghosts exchange_send global.the_send frees.the_frees, tt), tt)))
 
-undo_send : IsSend undo.the_row
-undo_send = declared_send undo.the_type (search sendable, (change_send, tt))
-
 pub family_send : IsSend family.the_row
-family_send = view_send _ _ _ _ _ (declared_send family_inside.the_type (global.the_send, (rows_send, (rings.the_send _ _ _ undo_send global.the_send frees.the_frees, tt))))
+family_send = view_send _ _ _ _ _ (declared_send family_inside.the_type (global.the_send, (vecs.the_send _ _ _ row_send global.the_send frees.the_frees, (pair_tables.the_send, tt))))

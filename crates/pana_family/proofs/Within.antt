@@ -1,15 +1,14 @@
 -- The rows after a report are within the limits, and there always are such rows.
-use Rattle.std.specs.Prelude.{◌≡◌, ◌≢◌, ℕ, ◌<◌, ◌≤◌, ◌+◌, ◌^◌, List, [], ◌∷◌, ◌++◌, None, Some, Bool, true, false, not, ◌&&◌}
+use Rattle.std.specs.Prelude.{◌≡◌, ℕ, ◌<◌, ◌≤◌, ◌^◌, List, [], ◌∷◌, ◌++◌, None, Some, Bool, true, false, not, ◌&&◌}
 use Rattle.std.proofs.Common.{refl, sym, ap, subst, ◌∙◌, inl, inr, arith}
 use Rattle.pana_id.specs.Id.{Id, is_single, is_zero, parts, IsValid}
 use Rattle.pana_id.proofs.Parts.{valid-parts}
-use Rattle.pana_event.specs.Event.{Event, greatest, IsSound}
+use Rattle.pana_event.specs.Event.{Event, IsSound}
 use Rattle.pana_event.specs.Join.{joined}
 use Rattle.pana_event.proofs.Sound.{IsSound-joined, greatest-joined}
 use Rattle.pana_family.specs.declared.row.StampRow.{StampRow}
 use Rattle.pana_family.specs.declared.report.FamilyReport.{FamilyReport}
 use Rattle.pana_family.specs.declared.report.FamilyReport.TheVariants.{Duplicate, Edit, Reconcile, Merge, Remove, Touch}
-use Rattle.pana_family.specs.Table.{In}
 use Rattle.pana_family.specs.Rows.{AreBefore, IsRising, deepest, divides, id_in, lives, replaced, retouched, row, row_in, seed_row, stamp}
 use Rattle.pana_family.specs.Kept.{IsKept}
 use Rattle.pana_family.specs.Ends.{goes}

@@ -15,7 +15,6 @@ pub mod Paired
 pub mod Sets
 pub mod Fault
 pub mod View
-pub mod Family
 pub mod Board
 pub mod Stamps
 pub mod inner

@@ -1,13 +1,13 @@
 -- The rows of a family, by rising copy.
-use Rattle.std.specs.Prelude.{◌++◌, filter, ◌≡◌, ◌&&◌, None, ℕ, ◌+◌, ◌<◌, ◌≤◌, Bool, ◌==◌, List, [], ◌∷◌, if◌then◌else◌, nat_lt, max, not}
+use Rattle.std.specs.Prelude.{◌++◌, filter, ◌≡◌, ◌&&◌, None, ℕ, ◌+◌, ◌<◌, ◌≤◌, Bool, ◌==◌, List, [], ◌∷◌, if◌then◌else◌, nat_lt, max, not, count_by}
 use Rattle.std.specs.List.{list_any}
-use Rattle.pana_id.specs.Id.{AtPoints, has as owns, Id, zero_id, one_id, depth, is_single, parts, sum_of}
-use Rattle.pana_event.specs.Event.{Event, leaf}
+use Rattle.pana_id.specs.Id.{AtPoints, has as owns, Id, zero_id, one_id, depth, is_single, parts, sum_of, IsValid}
+use Rattle.pana_event.specs.Event.{Event, leaf, IsSound}
 use Rattle.pana_stamp.specs.Fill.{fill}
 use Rattle.pana_stamp.specs.Grow.{grow}
 use Rattle.pana_stamp.specs.declared.stamp.Stamp.{Stamp}
 use Rattle.pana_family.specs.declared.row.StampRow.{StampRow}
-use Rattle.pana_family.specs.Holders.{is_copy}
+use Rattle.pana_family.specs.Holders.{is_copy, is_held}
 use Rattle.pana_family.specs.Table.{In}
 
 -- whether a number has a row
@@ -74,14 +74,6 @@ renewed copy f (r ∷ rows) = (if r.copy == copy then f r else r) ∷ renewed co
 abbrev pub retouched : ℕ → ℕ → List StampRow → List StampRow
 retouched copy touch rows = renewed copy (λ r. record r { touch = touch }) rows
 
--- the row with another id added to its own
-abbrev pub summed : Id → StampRow → StampRow
-summed i r = record { copy = r.copy; holder = r.holder; stamp = record { id = sum_of r.stamp.id i; event = r.stamp.event }; touch = r.touch }
-
--- the rows without that of entry n; its source's id becomes the sum of both
-abbrev pub rejoined : ℕ → ℕ → List StampRow → List StampRow
-rejoined n source rows = renewed source (summed (id_in rows n)) (dropped n rows)
-
 -- the stamp of an id and an event
 abbrev pub stamp : Id → Event → Stamp
 stamp id event = record { id = id; event = event }
@@ -97,6 +89,14 @@ seed_row n = row n (stamp one_id (leaf 0)) n
 -- the rows of copies alone
 abbrev pub copy_rows : List StampRow → List StampRow
 copy_rows rows = filter (λ r. is_copy r.holder) rows
+
+-- how many parcels the copy holds
+abbrev pub held_rows : ℕ → List StampRow → ℕ
+held_rows copy rows = count_by (λ r. is_held copy r.holder) rows
+
+-- the trees of rows are within the limits, which their types say
+abbrev pub AreSound : List StampRow → Type 0
+AreSound rows = (r : StampRow) → In r rows → IsValid r.stamp.id × IsSound r.stamp.event
 
 -- whether a row owns the point
 abbrev pub owned : List StampRow → List Bool → Bool

@@ -1,20 +1,19 @@
 //! What a family answers.
-#![tactic(auto, unfolding(crate::specs::View::Means, crate::specs::View::is_living, crate::specs::View::IsNew, crate::specs::View::IsPending, crate::specs::View::IsLast, crate::specs::View::copy_count, crate::specs::View::can_split, crate::specs::View::depth_at))]
 
-ghost use Rattle.std.specs.Prelude.{ℕ, ◌≡◌, ◌↔◌, ◌≤◌, true, false, length, IfOk, IsTrue, Some, map};
+ghost use Rattle.std.specs.Prelude.{◌≡◌, ◌↔◌, ◌≤◌, true, length, IfOk, IsTrue, List, map};
+ghost use Rattle.pana_event.specs.Event.{greatest};
+ghost use Rattle.pana_family.specs.declared.row.StampRow.{StampRow as RowValue};
 ghost use Rattle.pana_family.specs.Relation.{relation};
-ghost use Rattle.pana_family.specs.Table.{In, is_in, copies_of, set_in, touch_in, AreHeld, held_by};
+ghost use Rattle.pana_family.specs.Table.{In, Known, copies_of, set_in, touch_in};
 ghost use Rattle.pana_family.specs.Board.{board_rows, board_newest, board_split};
 ghost use Rattle.pana_family.specs.Stamps.{AreStamps, stamps_in, text_of};
-ghost use Rattle.pana_family.specs.declared.row.StampRow.{StampRow as RowValue};
-ghost use Rattle.pana_event.specs.Event.{greatest};
-ghost use Rattle.pana_family.specs.Sets.{Sets, Pends, PendsLast};
-ghost use Rattle.pana_family.specs.View.{Means, is_living, IsNew, IsLast, copy_count, can_split, depth_at};
+ghost use Rattle.pana_family.specs.Stands.{StandsFor};
+ghost use Rattle.pana_family.specs.Rows.{AreBefore, copy_rows, divides, held_rows, lives};
 
-use crate::board::FamilyBoard;
+use crate::board::{FamilyBoard, board_of};
 use crate::family::Family;
-use crate::stamps::CopyStamp;
-use crate::undo::has_entry;
+use crate::searching::{are_before, copy_numbers, count_copies, held_count, index_of, lives};
+use crate::stamps::{CopyStamp, all_valid, stamps_of};
 use pana_event::Rel;
 use pana_list::PlainList;
 use std::alloc::AllocError;
@@ -22,26 +21,24 @@ use std::alloc::AllocError;
 impl Family {
     /// Whether the copy lives in the family. Takes no memory.
     pub fn has(&self, copy: u64) -> bool
-        ensures test { result ≡ is_living self.now.kept copy }
-        ensures sets { (sets : Sets) → Means self.now.kept sets → result ≡ is_in sets.table copy }
+        ensures { result ≡ lives self.now.rows copy }
     {
-        self.rows.has(copy)
+        lives(&self.items, copy)
     }
 
     /// Whether the entry is greater than each number and touch of copies and parcels, as a report asks. Takes no memory.
     pub fn is_new(&self, entry: u64) -> bool
-        ensures { IsTrue result ↔ IsNew entry self.now.kept }
+        ensures { IsTrue result ↔ AreBefore entry self.now.rows }
     {
-        self.rows.is_before(entry)
+        are_before(&self.items, entry)
     }
 
     /// How many copies live. Takes no memory.
     pub fn count(&self) -> usize
-        ensures test { result ≡ copy_count self.now.kept }
-        ensures sets { (sets : Sets) → Means self.now.kept sets → result ≡ length (copies_of sets.table) }
+        ensures count { result ≡ length (copy_rows self.now.rows) }
         ensures few { result ≤ 256 }
     {
-        self.rows.copies()
+        count_copies(&self.items)
     }
 
     /// The numbers of the living copies, by rising number.
@@ -50,62 +47,44 @@ impl Family {
     ///
     /// `AllocError` where an allocation failed.
     pub fn living(&self) -> Result<PlainList<u64>, AllocError>
-        ensures sets { IfOk result (λ numbers. (sets : Sets) → Means self.now.kept sets → numbers ≡ map (λ t. t.copy) (copies_of sets.table)) }
+        ensures { IfOk result (λ numbers. numbers ≡ map (λ row. row.copy) (copy_rows self.now.rows)) }
     {
-        self.rows.living(self.alloc)
-    }
-
-    /// Whether the copy's id can be divided, so that `duplicate` doesn't find it too deep. Takes no memory.
-    pub fn splits(&self, copy: u64) -> bool
-        requires { is_living self.now.kept copy ≡ true }
-        ensures test { result ≡ can_split self.now.kept copy }
-        ensures deep { result ≡ false → 256 ≤ depth_at 0 self.now.kept }
-    {
-        self.rows.splits(copy)
-    }
-
-    /// How the first copy relates to the second. Takes no memory; compares no stamps, O(log n) for n copies.
-    pub fn rel(&self, a: u64, b: u64) -> Rel
-        requires first { is_living self.now.kept a ≡ true }
-        requires second { is_living self.now.kept b ≡ true }
-        ensures { (sets : Sets) → Means self.now.kept sets → result ≡ relation (set_in sets.table a) (set_in sets.table b) }
-    {
-        self.rows.rel(a, b)
-    }
-
-    /// The entry that last touched a copy. Takes no memory.
-    pub fn touch(&self, copy: u64) -> u64
-        requires { is_living self.now.kept copy ≡ true }
-        ensures levels { (row : RowValue) → In row self.now.kept.rows → row.copy ≡ copy → greatest row.stamp.event ≤ result }
-        ensures sets { (sets : Sets) → Means self.now.kept sets → result ≡ touch_in sets.table copy }
-    {
-        self.rows.touch(copy)
+        let numbers = copy_numbers(self.alloc, &self.items)?;
+        Ok(PlainList::from_vec(numbers))
     }
 
     /// How many parcels the copy holds. Takes no memory.
     pub fn held(&self, copy: u64) -> usize
-        ensures sets { (sets : Sets) → Means self.now.kept sets → result ≡ held_by copy sets.table }
-        ensures held { (sets : Sets) → Means self.now.kept sets → AreHeld sets.table }
+        ensures { result ≡ held_rows copy self.now.rows }
     {
-        self.rows.held(copy)
+        held_count(&self.items, copy)
     }
 
-    /// The last pending entry, which can be withdrawn. Takes no memory.
-    pub fn pending(&self) -> Option<u64>
-        ensures last { (entry : ℕ) → result ≡ Some entry → IsLast entry self.now.kept }
-        ensures sets { (sets : Sets) (entry : ℕ) → Means self.now.kept sets → (result ≡ Some entry) ↔ PendsLast entry sets.before }
+    /// Whether the copy's id can be divided, so that a Duplicate doesn't find it too deep. Takes no memory.
+    pub fn splits(&self, copy: u64) -> bool
+        requires { lives self.now.rows copy ≡ true }
+        ensures { result ≡ divides self.now.rows copy }
     {
-        match self.undo.front() {
-            Some(undo) => Some(undo.entry),
-            None => None,
-        }
+        let row = &self.items[index_of(&self.items, copy)];
+        row.stamp.id().splits()
     }
 
-    /// Whether the entry is pending, so that it can be confirmed. Takes no memory.
-    pub fn is_pending(&self, entry: u64) -> bool
-        ensures sets { (sets : Sets) → Means self.now.kept sets → IsTrue result ↔ Pends entry sets.before }
+    /// The entry that last touched a copy. Takes no memory.
+    pub fn touch(&self, copy: u64) -> u64
+        requires { lives self.now.rows copy ≡ true }
+        ensures levels { (row : RowValue) → In row self.now.rows → row.copy ≡ copy → greatest row.stamp.event ≤ result }
+        ensures touch { (table : List Known) → StandsFor self.now.rows table → result ≡ touch_in table copy }
     {
-        has_entry(&self.undo, entry)
+        self.items[index_of(&self.items, copy)].touch
+    }
+
+    /// How the first copy relates to the second. Takes no memory; compares no stamps, O(log n) for n copies.
+    pub fn rel(&self, a: u64, b: u64) -> Rel
+        requires first { lives self.now.rows a ≡ true }
+        requires second { lives self.now.rows b ≡ true }
+        ensures { (table : List Known) → StandsFor self.now.rows table → result ≡ relation (set_in table a) (set_in table b) }
+    {
+        self.pairs.rel(a, b)
     }
 
     /// How the copies relate to each other. Compares no stamps: O(n log n) for n copies.
@@ -114,11 +93,12 @@ impl Family {
     ///
     /// `AllocError` where an allocation failed.
     pub fn board(&self) -> Result<FamilyBoard, AllocError>
-        ensures rows { IfOk result (λ board. (sets : Sets) → Means self.now.kept sets → board.rows ≡ board_rows sets.table) }
-        ensures newest { IfOk result (λ board. (sets : Sets) → Means self.now.kept sets → board.newest ≡ board_newest sets.table) }
-        ensures split { IfOk result (λ board. (sets : Sets) → Means self.now.kept sets → board.split ≡ board_split sets.table) }
+        ensures rows { IfOk result (λ board. (table : List Known) → StandsFor self.now.rows table → board.rows ≡ board_rows table) }
+        ensures newest { IfOk result (λ board. (table : List Known) → StandsFor self.now.rows table → board.newest ≡ board_newest table) }
+        ensures split { IfOk result (λ board. (table : List Known) → StandsFor self.now.rows table → board.split ≡ board_split table) }
     {
-        self.rows.board(self.alloc)
+        let _ = self.pairs.copies();
+        board_of(self.alloc, &self.pairs)
     }
 
     /// The text of each living copy's stamp, by rising number.
@@ -127,9 +107,11 @@ impl Family {
     ///
     /// `AllocError` where an allocation failed.
     pub fn stamps(&self) -> Result<PlainList<CopyStamp>, AllocError>
-        ensures sets { IfOk result (λ stamps. (sets : Sets) → Means self.now.kept sets → AreStamps (map text_of stamps) (copies_of sets.table)) }
-        ensures exact { IfOk result (λ stamps. map text_of stamps ≡ stamps_in self.now.kept.rows) }
+        ensures stands { IfOk result (λ stamps. (table : List Known) → StandsFor self.now.rows table → AreStamps (map text_of stamps) (copies_of table)) }
+        ensures exact { IfOk result (λ stamps. map text_of stamps ≡ stamps_in self.now.rows) }
     {
-        self.rows.stamps(self.alloc)
+        all_valid(&self.items);
+        let stamps = stamps_of(self.alloc, &self.items)?;
+        Ok(PlainList::from_vec(stamps))
     }
 }

@@ -1,109 +1,130 @@
-//! A family: the living copies of one file, and what undoes its last reports.
-#![tactic(auto, unfolding(crate::specs::View::Means, crate::specs::View::is_living, crate::specs::View::IsNew, crate::specs::View::IsPending, crate::specs::View::IsLast, crate::specs::View::IsPrepared, crate::specs::View::copy_count, crate::specs::View::can_split, crate::specs::View::OwnsSame, crate::specs::View::depth_at))]
+//! A family: the living copies of one file, and what a report makes of them.
+#![tactic(auto, unfolding(crate::specs::View::IsPrepared))]
 
-ghost use Rattle.std.specs.Prelude.{ℕ, ◌≡◌, ◌≤◌, ◌+◌, List, [], ◌∷◌, IfOk, OnOk, OnErr, IfErr, Some, None};
+ghost use Rattle.std.specs.Prelude.{◌≡◌, [], ◌∷◌, IfOk, OnOk, OnErr, IfErr, IfSome, Some, None};
 ghost use Rattle.pana_family.specs.declared.fault.FamilyFault.{FamilyFault as Fault};
-ghost use Rattle.pana_family.specs.Table.{Known};
+ghost use Rattle.pana_family.specs.Rows.{AreBefore, seed_row};
 ghost use Rattle.pana_family.specs.Kept.{IsKept};
-ghost use Rattle.pana_family.specs.Stands.{StandsFor};
-ghost use Rattle.pana_family.specs.Sets.{Sets, began, settled, confirmed, withdrawn};
-ghost use Rattle.pana_family.specs.View.{Means, IsNew, IsLast, IsPrepared, IsRecorded, NamesLiving, OwnsSame, depth_at, fault_of, new_family, undone, undone_since};
+ghost use Rattle.pana_family.specs.Paired.{ArePaired};
+ghost use Rattle.pana_family.specs.Change.{after, Fits, IsRoomier};
+ghost use Rattle.pana_family.specs.After.{reported_rows};
+ghost use Rattle.pana_family.specs.Report.{IsMade};
+ghost use Rattle.pana_family.specs.View.{NamesLiving, fault_of, IsPrepared, TakesBack};
 
-use crate::change::{Change, Exchange};
+use crate::change::{Change, Exchange, apply, room_of};
+use crate::comparing::{follow, follow_change};
 use crate::fault::FamilyFault;
 use crate::report::FamilyReport;
+use crate::reporting::report_change;
 use crate::row::StampRow;
-use crate::rows::Rows;
-use crate::undo::{Undo, position_of};
-use circular_buffer::HeapCircularBuffer;
 use pana_list::PlainList;
-use smallvec::SmallVec;
+use pana_rel::PairTable;
+use pana_stamp::Stamp;
 use std::alloc::{AllocError, Global};
 use std::marker::Model;
 
-/// The living copies of one file and the parcels that they hold, each with a stamp, and what undoes the last 8 reports.
+/// The living copies of one file and the parcels that they hold, each with a stamp, by rising number; and beside them the
+/// relation of each copy to each, which follows every change.
 ///
-/// It keeps no set of updates. What it stands for is a table of sets: a clause `stands` says, for every table that the
-/// family stands for, what it stands for after the call.
+/// It keeps no set of updates. What it stands for is each table of sets that its rows stand for (`StandsFor`).
 #[derive(Drop)]
 pub struct Family {
     pub(crate) alloc: Global,
-    pub(crate) rows: Rows,
-    pub(crate) undo: HeapCircularBuffer<Undo>,
+    pub(crate) items: Vec<StampRow>,
+    pub(crate) pairs: PairTable,
 }
 
 impl Model for Family {
-    ghost use Rattle.std.specs.Prelude.{◌≡◌};
-    ghost use Rattle.pana_family.specs.View.{Stored, stored_code, AreUndoKept};
-    ghost use Rattle.pana_family.specs.Family.{AllFit, stored_of, view_of};
+    ghost use Rattle.std.specs.Prelude.{vec_capacity};
+    ghost use Rattle.pana_family.specs.Change.{RowList, row_list, row_list_code};
+    ghost use Rattle.pana_family.specs.Paired.{ArePaired};
+    ghost use Rattle.pana_family.specs.Kept.{IsKept};
 
-    ghost Value = { Stored };
+    ghost Value = { RowList };
 
-    ghost coded = { stored_code };
+    ghost coded = { row_list_code };
 
-    ghost view = { λ f. stored_of f.rows f.undo.items };
+    ghost view = { λ f. row_list f.items.items (vec_capacity f.items) f.pairs };
 
-    ghost invariant = { λ f. (f.undo.capacity ≡ 8) × AreUndoKept (view_of f.rows.rows f.undo.items).undo × AllFit f.rows.room f.rows.rows f.undo.items };
+    ghost invariant = { λ f. IsKept f.items.items × ArePaired f.items.items f.pairs };
+}
+
+/// The table of relations of these rows' copies. Compares the stamps of each two.
+fn pairs_of(alloc: Global, items: &[StampRow]) -> Result<PairTable, AllocError>
+    requires { IsKept items.now }
+    ensures { IfOk result (λ pairs. ArePaired items.now pairs) }
+{
+    let mut pairs = PairTable::new(alloc, 0)?;
+    pairs.drop_copy(0);
+    for at in 0..items.len() {
+        pairs.reserve()?;
+        let _ = pairs.copies();
+        follow(
+            &items[..at + 1],
+            &mut pairs,
+            &[Exchange::Take(items[at].copy)],
+        );
+    }
+    Ok(pairs)
 }
 
 impl Family {
-    /// The family of a file's first copy, which this entry registered. The entry is pending.
+    /// The family of a file's first copy, which this entry registered: it owns all points and knows no update.
     ///
     /// # Errors
     ///
     /// `AllocError` where an allocation failed.
     pub fn new(alloc: Global, entry: u64) -> Result<Family, AllocError>
-        ensures stands { IfOk result (λ f. Means f.kept (began entry)) }
-        ensures exact { IfOk result (λ f. f.kept ≡ new_family entry) }
-        ensures deep { IfOk result (λ f. (k : ℕ) → depth_at k f.kept ≡ 0) }
+        ensures { IfOk result (λ f. f.rows ≡ seed_row entry ∷ []) }
     {
-        let rows = Rows::new(alloc, entry)?;
-        let mut undo = HeapCircularBuffer::with_capacity(alloc, 8)?;
-        let mut news = SmallVec::new(alloc);
-        news.push_reserved(Exchange::Take(entry));
-        undo.push_front(Undo {
-            entry,
-            back: Change::Rows(news),
+        let mut items = Vec::with_capacity(alloc, 1)?;
+        items.push_reserved(StampRow {
+            copy: entry,
+            holder: None,
+            stamp: Stamp::seed(),
+            touch: entry,
         });
-        Ok(Family { alloc, rows, undo })
+        let family = Family::of_rows(alloc, PlainList::from_vec(items))?;
+        Ok(family)
     }
 
-    /// A family of these rows, with nothing pending. Compares the stamps of each two copies.
+    /// A family of these rows. Compares the stamps of each two copies.
     ///
     /// # Errors
     ///
     /// `AllocError` where an allocation failed; the rows are then lost.
     pub fn of_rows(alloc: Global, rows: PlainList<StampRow>) -> Result<Family, AllocError>
         requires { IsKept rows }
-        ensures stands { IfOk result (λ f. (table : List Known) → StandsFor rows table → Means f.kept (settled table)) }
-        ensures rows { IfOk result (λ f. f.kept.rows ≡ rows) }
-        ensures undo { IfOk result (λ f. f.kept.undo ≡ []) }
+        ensures { IfOk result (λ f. f.rows ≡ rows) }
     {
-        let rows = Rows::of_vec(alloc, rows.into_vec())?;
-        let undo = HeapCircularBuffer::with_capacity(alloc, 8)?;
-        Ok(Family { alloc, rows, undo })
+        let items = rows.into_vec();
+        let pairs = pairs_of(alloc, &items)?;
+        Ok(Family {
+            alloc,
+            items,
+            pairs,
+        })
     }
 
-    /// The rows of the copies and parcels, by rising number, as `of_rows` asks for them. What undoes the pending entries is
-    /// lost. Takes no memory.
+    /// The rows of the copies and parcels, by rising number, as `of_rows` asks for them. Takes no memory.
     pub fn into_rows(self) -> PlainList<StampRow>
-        ensures rows { result ≡ self.kept.rows }
+        ensures rows { result ≡ self.rows }
         ensures kept { IsKept result }
     {
-        let Family { rows, .. } = self;
-        PlainList::from_vec(rows.into_vec())
+        let Family { items, .. } = self;
+        PlainList::from_vec(items)
     }
 
     /// What stands in the way of a report, but for memory. Takes no memory.
     fn fault(&self, report: FamilyReport) -> Option<FamilyFault>
-        requires { NamesLiving report self.now.kept }
-        ensures { result ≡ fault_of report self.now.kept }
+        requires { NamesLiving report self.now.rows }
+        ensures { result ≡ fault_of report self.now.rows }
     {
         match report {
             FamilyReport::Duplicate(source) => {
-                if self.rows.copies() >= 256 {
+                if self.count() >= 256 {
                     Some(FamilyFault::FamilyFull)
-                } else if self.rows.splits(source) {
+                } else if self.splits(source) {
                     None
                 } else {
                     Some(FamilyFault::TooDeep)
@@ -126,73 +147,82 @@ impl Family {
     /// source's id can't be divided; `SameCopy` exactly where the two copies that it names are one; all before an
     /// allocation. `OutOfMemory` where one failed.
     pub fn prepare(&mut self, entry: u64, report: FamilyReport) -> Result<Change, FamilyFault>
-        requires living { NamesLiving report self.old.kept }
-        requires new { IsNew entry self.old.kept }
-        ensures kept { self.new.kept ≡ self.old.kept }
-        ensures fault { (fault : Fault) → fault_of report self.old.kept ≡ Some fault → result ≡ Err fault }
-        ensures memory { fault_of report self.old.kept ≡ None → IfErr result (λ e. e ≡ FamilyFault.OutOfMemory) }
+        requires living { NamesLiving report self.old.rows }
+        requires new { AreBefore entry self.old.rows }
+        ensures rows { self.new.rows ≡ self.old.rows }
+        ensures room { IsRoomier self.old.room self.new.room }
+        ensures fault { (fault : Fault) → fault_of report self.old.rows ≡ Some fault → result ≡ Err fault }
+        ensures memory { fault_of report self.old.rows ≡ None → IfErr result (λ e. e ≡ FamilyFault.OutOfMemory) }
         ensures prepared { IfOk result (λ change. IsPrepared entry report change self.new) }
+        ensures was { IsKept self.old.rows }
     {
         if let Some(fault) = self.fault(report) {
             return Err(fault);
         }
-        let change = self.rows.prepare(self.alloc, entry, report)?;
+        let _ = self.pairs.copies();
+        let change = report_change(self.alloc, &self.items, entry, report)?;
+        self.items.reserve(room_of(&change))?;
+        self.pairs.reserve()?;
         Ok(change)
     }
 
-    /// Makes what a report changes, as `prepare` gave it. The entry is pending then. Takes no memory.
-    pub fn apply(&mut self, entry: u64, report: FamilyReport, change: Change)
-        requires { IsPrepared entry report change self.old }
-        ensures { IsRecorded entry report self.old.kept self.new.kept }
+    /// Makes a change, which a report made or which takes one back, and returns the one that takes it back. Takes no memory.
+    fn exchange(&mut self, change: Change, made: Option<(u64, FamilyReport)>) -> Change
+        requires kept { IsKept (after change self.old.rows) }
+        requires fits { Fits change self.old.rows self.old.room }
+        requires made { IfSome made (λ m. IsMade m.0 m.1 self.old.rows (after change self.old.rows)) }
+        ensures rows { self.new.rows ≡ after change self.old.rows }
+        ensures back { after result self.new.rows ≡ self.old.rows }
+        ensures fits { Fits result self.new.rows self.new.room }
+        ensures room { IsRoomier self.old.room self.new.room }
+        ensures was { IsKept self.old.rows }
     {
-        let back = self.rows.apply(change, Some((entry, report)));
-        self.undo.push_front(Undo { entry, back });
+        let _ = self.pairs.copies();
+        let back = apply(&mut self.items, change);
+        follow_change(&self.items, &mut self.pairs, &back, made);
+        back
     }
 
-    /// Records a report, with the entry as its number: `prepare` and `apply`.
+    /// Makes what a report changes, as `prepare` gave it, and returns the change that takes it back. Takes no memory.
+    pub fn apply(&mut self, entry: u64, report: FamilyReport, change: Change) -> Change
+        requires { IsPrepared entry report change self.old }
+        ensures rows { self.new.rows ≡ reported_rows entry report self.old.rows }
+        ensures back { TakesBack result self.new self.old.rows }
+        ensures room { IsRoomier self.old.room self.new.room }
+        ensures was { IsKept self.old.rows }
+    {
+        self.exchange(change, Some((entry, report)))
+    }
+
+    /// Makes a change that takes one back: the copies and parcels have the stamps, holders and touches from before it, tree
+    /// for tree. Takes no memory.
+    pub fn take_back(&mut self, back: Change)
+        requires kept { IsKept (after back self.old.rows) }
+        requires fits { Fits back self.old.rows self.old.room }
+        ensures rows { self.new.rows ≡ after back self.old.rows }
+        ensures room { IsRoomier self.old.room self.new.room }
+    {
+        let _ = self.exchange(back, None);
+    }
+
+    /// Records a report, with the entry as its number, and returns the change that takes it back: `prepare` and `apply`.
     ///
     /// # Errors
     ///
-    /// Those of `prepare`. The family is then as it was.
-    pub fn report(&mut self, entry: u64, report: FamilyReport) -> Result<(), FamilyFault>
-        requires living { NamesLiving report self.old.kept }
-        requires new { IsNew entry self.old.kept }
-        ensures recorded { OnOk result (IsRecorded entry report self.old.kept self.new.kept) }
-        ensures fault { (fault : Fault) → fault_of report self.old.kept ≡ Some fault → result ≡ Err fault }
-        ensures memory { fault_of report self.old.kept ≡ None → IfErr result (λ e. e ≡ FamilyFault.OutOfMemory) }
-        ensures err { OnErr result (self.new.kept ≡ self.old.kept) }
+    /// Those of `prepare`. The rows are then as they were.
+    pub fn report(&mut self, entry: u64, report: FamilyReport) -> Result<Change, FamilyFault>
+        requires living { NamesLiving report self.old.rows }
+        requires new { AreBefore entry self.old.rows }
+        ensures rows { OnOk result (self.new.rows ≡ reported_rows entry report self.old.rows) }
+        ensures back { IfOk result (λ back. TakesBack back self.new self.old.rows) }
+        ensures room { IsRoomier self.old.room self.new.room }
+        ensures fault { (fault : Fault) → fault_of report self.old.rows ≡ Some fault → result ≡ Err fault }
+        ensures memory { fault_of report self.old.rows ≡ None → IfErr result (λ e. e ≡ FamilyFault.OutOfMemory) }
+        ensures err { OnErr result (self.new.rows ≡ self.old.rows) }
+        ensures was { IsKept self.old.rows }
     {
         let change = self.prepare(entry, report)?;
-        self.apply(entry, report, change);
-        Ok(())
-    }
-
-    /// Settles the pending entry and all that are pending before it: they can't be withdrawn any more. An entry that isn't
-    /// pending changes nothing. Takes no memory.
-    pub fn confirm(&mut self, entry: u64)
-        ensures stands { (sets : Sets) → Means self.old.kept sets → Means self.new.kept (confirmed entry sets) }
-        ensures rows { self.new.kept.rows ≡ self.old.kept.rows }
-        ensures exact { self.new.kept.undo ≡ undone_since entry self.old.kept.undo }
-        ensures owned { OwnsSame self.old.kept self.new.kept }
-        ensures deep { (k : ℕ) → depth_at k self.new.kept ≤ depth_at k self.old.kept }
-    {
-        match position_of(&self.undo, entry) {
-            Some(at) => self.undo.truncate_back(at),
-            None => {}
-        }
-    }
-
-    /// Undoes the last pending entry: the copies and parcels have the stamps, holders and touches from before it, tree for
-    /// tree. Takes no memory.
-    pub fn withdraw(&mut self, entry: u64)
-        requires { IsLast entry self.old.kept }
-        ensures stands { (sets : Sets) → Means self.old.kept sets → Means self.new.kept (withdrawn sets) }
-        ensures exact { self.old.kept.undo ≡ undone entry self.new.kept.rows ∷ self.new.kept.undo }
-        ensures deep { (k : ℕ) → depth_at k self.new.kept ≡ depth_at (k + 1) self.old.kept }
-    {
-        match self.undo.pop_front() {
-            None => unreachable!(),
-            Some(undo) => self.rows.take_back(undo.back),
-        }
+        let back = self.apply(entry, report, change);
+        Ok(back)
     }
 }

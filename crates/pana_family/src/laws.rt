@@ -1,7 +1,15 @@
-//! What a relation and a union say of sets, for the proofs of those who keep tables.
-ghost use Rattle.std.specs.Prelude.{◌≡◌, ◌||◌, ℕ, List};
-ghost use Rattle.pana_family.specs.Updates.{has, union};
+//! What holds of rows, sets and relations, for the proofs of those who keep tables.
+ghost use Rattle.std.specs.Prelude.{◌≡◌, ◌<◌, ◌||◌, ◌^◌, ℕ, List};
+ghost use Rattle.pana_family.specs.declared.report.FamilyReport.{FamilyReport as Report};
+ghost use Rattle.pana_family.specs.declared.row.StampRow.{StampRow as RowValue};
+ghost use Rattle.pana_family.specs.After.{reported_rows};
+ghost use Rattle.pana_family.specs.Kept.{AreMatched, IsKept};
 ghost use Rattle.pana_family.specs.Laws.{RelatesSets};
+ghost use Rattle.pana_family.specs.Report.{CanReport, IsReported};
+ghost use Rattle.pana_family.specs.Rows.{AreBefore, AreSound};
+ghost use Rattle.pana_family.specs.Stands.{StandsFor};
+ghost use Rattle.pana_family.specs.Table.{Known};
+ghost use Rattle.pana_family.specs.Updates.{has, union};
 
 /// Two copies are equal, one is obsolete, or they are in conflict, by the members of their sets alone.
 pub fn relation_is_that_of_sets()
@@ -11,4 +19,15 @@ pub fn relation_is_that_of_sets()
 /// The members of two sets together are those of either.
 pub fn union_is_of_sets()
     ensures { (a b : List ℕ) (update : ℕ) → has (union a b) update ≡ (has a update || has b update) }
+{}
+
+/// The rows after a report that can be made are kept, own the same points where no copy is lost, get at most one deeper with a
+/// Duplicate and no deeper with any other, and stand for the report's change of each table that the rows before stand for.
+pub fn report_is_of_sets()
+    ensures { (n : ℕ) (report : Report) (rows : List RowValue) → n < 2 ^ 64 → IsKept rows → AreSound rows → CanReport report rows → AreBefore n rows → IsReported n report rows (reported_rows n report rows) }
+{}
+
+/// Rows have the copies of each table that they stand for, and each parcel there is held by a copy that lacks some of its set.
+pub fn rows_match_their_tables()
+    ensures { (rows : List RowValue) (table : List Known) → IsKept rows → StandsFor rows table → AreMatched rows table }
 {}

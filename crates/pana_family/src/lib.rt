@@ -20,11 +20,9 @@ mod making;
 mod report;
 mod reporting;
 mod row;
-mod rows;
 mod searching;
 mod settling;
 mod stamps;
-mod undo;
 
 pub use crate::board::{CopyCounts, FamilyBoard};
 pub use crate::change::Change;

@@ -3,8 +3,8 @@ ghost use Rattle.std.specs.Prelude.{◌≡◌, ◌<◌, ◌==◌, ◌&&◌, true
 ghost use Rattle.std.specs.List.{position_or_len, list_all};
 ghost use Rattle.pana_family.specs.declared.row.StampRow.{StampRow as RowValue};
 ghost use Rattle.pana_family.specs.Change.{row_at};
-ghost use Rattle.pana_family.specs.Rows.{IsRising, lives, copy_rows, AreBefore, is_below};
-ghost use Rattle.pana_family.specs.inner.Making.{IsRowOf, held_rows};
+ghost use Rattle.pana_family.specs.Rows.{IsRising, lives, copy_rows, held_rows, AreBefore, is_below};
+ghost use Rattle.pana_family.specs.inner.Making.{IsRowOf};
 ghost use Rattle.pana_family.specs.Holders.{is_copy, is_held};
 
 use crate::row::StampRow;

@@ -1,22 +1,14 @@
 -- The rows that reports make.
-use Rattle.std.specs.Prelude.{◌≡◌, ◌≢◌, Option, None, count_by, ℕ, true, false, List}
+use Rattle.std.specs.Prelude.{◌≡◌, ◌≢◌, Option, None, ℕ, true, false, List}
 use Rattle.pana_id.specs.Id.{SharesNoPoint, is_zero, parts, IsValid}
-use Rattle.pana_event.specs.Event.{Event, IsSound}
+use Rattle.pana_event.specs.Event.{Event}
 use Rattle.pana_stamp.specs.declared.stamp.Stamp.{Stamp}
 use Rattle.pana_family.specs.declared.row.StampRow.{StampRow}
-use Rattle.pana_family.specs.Holders.{is_held}
 use Rattle.pana_family.specs.Table.{In}
 use Rattle.pana_family.specs.Rows.{IsUpdate, row, row_in, stamp}
 use Rattle.pana_family.specs.Exact.{joined_stamp, restamped}
+pub use Rattle.pana_family.specs.Rows.{AreSound}
 pub use Rattle.pana_family.specs.Ends.{is_bound, ends_from, goes, stays_parcel, parcel_row}
-
--- how many parcels the copy holds
-abbrev pub held_rows : ℕ → List StampRow → ℕ
-held_rows copy rows = count_by (λ r. is_held copy r.holder) rows
-
--- the trees of rows are within the limits, which their types say
-abbrev pub AreSound : List StampRow → Type 0
-AreSound rows = (r : StampRow) → In r rows → IsValid r.stamp.id × IsSound r.stamp.event
 
 -- no point has two owners
 abbrev pub AreApart : List StampRow → Type 0

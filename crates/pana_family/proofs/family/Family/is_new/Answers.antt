@@ -1,11 +1,9 @@
-use Rattle.std.proofs.Common.{sym, subst}
+use Rattle.std.proofs.Common.{ap, sym, subst, ◌∙◌, ◌≡◌}
 use Rattle.pana_family.specs.Rows.{AreBefore}
-use Rattle.pana_family.specs.View.{Stored, IsNew}
+use Rattle.pana_family.specs.Change.{RowList}
 use Rattle.pana_family.proofs.family.Family.is_new.Goals as goal
 
 pub returns : goal.returns
-unfolding IsNew
-returns c = (
-  λ t. subst (λ (k : Stored). AreBefore c.args.entry k.kept.rows) c.self.view_is (c.is_before.ensures.0 t),
-  λ b. c.is_before.ensures.1 (subst (λ (k : Stored). AreBefore c.args.entry k.kept.rows) (sym c.self.view_is) b),
-)
+returns c =
+    let same : c.deref.result.now ≡ c.args.self.now.rows = c.deref.ensures.value ∙ (ap (λ (v : RowList). v.rows) c.self.view_is) in
+    ((λ t. subst (AreBefore c.args.entry) same (c.are_before.ensures.0 t)), λ b. c.are_before.ensures.1 (subst (AreBefore c.args.entry) (sym same) b))

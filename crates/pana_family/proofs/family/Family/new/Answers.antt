@@ -1,23 +1,20 @@
-use Rattle.std.proofs.Common.{take, ap, subst, ◌∙◌, ◌≡◌, List, [], ◌∷◌, ◌++◌, refl, arith, length}
-use Rattle.circular_buffer.specs.Buffer.{Buffer, buffer}
-use Rattle.pana_family.specs.declared.change.Exchange.{Exchange}
-use Rattle.pana_family.specs.declared.change.Exchange.TheVariants.{Take}
-use Rattle.pana_family.specs.declared.change.Change.TheVariants.{Rows as Exchanged}
+use Rattle.std.proofs.Common.{sym, subst, ◌≡◌, ◌∙◌, ap, ℕ, List, [], ◌∷◌, ◌++◌}
+use Rattle.pana_id.specs.Id.{Id, one_id}
+use Rattle.pana_event.specs.Event.{leaf}
+use Rattle.pana_stamp.specs.declared.stamp.Stamp.{Stamp}
 use Rattle.pana_family.specs.declared.row.StampRow.{StampRow}
-use Rattle.pana_family.specs.declared.undo.Undo.{Undo}
-use Rattle.pana_family.specs.Rows.{copy_rows, dropped}
-use Rattle.pana_family.specs.Change.{exchanged_all, puts}
-use Rattle.pana_family.proofs.Undos.{pushed_sound, record_of, empty_kept, seed_dropped}
+use Rattle.pana_family.specs.Rows.{seed_row, stamp, row}
+use Rattle.pana_family.specs.Kept.{IsKept}
+use Rattle.pana_family.proofs.Keeps.{seed_kept}
 use Rattle.pana_family.proofs.family.Family.new.Goals as goal
 
-pub invariant_of-result : goal.invariant_of-result
-invariant_of-result c =
-    let was : c.in_ok-undo.undo ≡ buffer [] 8 = c.in_ok-undo.ensures in
-    let u : Undo = record_of c.args.entry (Exchanged c.push_reserved.new.self) in
-    let gone : exchanged_all c.push_reserved.new.self.items c.in_ok-rows.rows.rows ≡ [] =
-    ap (λ (l : List Exchange). exchanged_all l c.in_ok-rows.rows.rows) c.push_reserved.ensures.items ∙ ap (λ (l : List Exchange). exchanged_all (l ++ Take c.args.entry ∷ []) c.in_ok-rows.rows.rows) c.new-news.ensures.items
-    ∙ ap (dropped c.args.entry) c.in_ok-rows.ensures.seed ∙ seed_dropped c.args.entry in
-    pushed_sound c.in_ok-rows.rows.room c.in_ok-rows.rows.room [] c.in_ok-rows.rows.rows [] c.push_front.new.self u 8 refl
-    (subst (λ (b : Buffer Undo). c.push_front.new.self ≡ buffer (take b.capacity (u ∷ b.items)) b.capacity) was c.push_front.ensures.items)
-    gone
-    empty_kept tt (omega (arith, ap puts (c.push_reserved.ensures.items ∙ ap (λ (l : List Exchange). l ++ Take c.args.entry ∷ []) c.new-news.ensures.items), c.in_ok-rows.ensures.room), omega (arith, ap (λ (l : List StampRow). length (copy_rows l)) gone)) (omega arith, omega arith) tt
+seeded : (entry : ℕ) (s : Stamp) (old new : List StampRow) → s.id ≡ one_id → s.event ≡ leaf 0 → old ≡ [] → new ≡ old ++ row entry s entry ∷ [] → new ≡ seed_row entry ∷ []
+seeded entry s old new owner event none is =
+    is ∙ ap (λ (l : List StampRow). l ++ row entry s entry ∷ []) none ∙ ap (λ (i : Id). row entry (stamp i s.event) entry ∷ []) owner ∙ ap (λ e. row entry (stamp one_id e) entry ∷ []) event
+
+pub of_rows-requires : goal.of_rows-requires
+of_rows-requires c =
+    subst IsKept (sym (c.from_vec.ensures ∙ seeded c.args.entry c.seed.result _ _ c.seed.ensures.owner c.seed.ensures.event c.in_ok-items.ensures.items c.push_reserved.ensures.items)) (seed_kept c.args.entry)
+
+pub returns : goal.returns
+returns c = c.in_ok-family.ensures ∙ c.from_vec.ensures ∙ seeded c.args.entry c.seed.result _ _ c.seed.ensures.owner c.seed.ensures.event c.in_ok-items.ensures.items c.push_reserved.ensures.items

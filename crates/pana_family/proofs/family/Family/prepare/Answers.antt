@@ -1,20 +1,51 @@
-use Rattle.std.proofs.Common.{sym, subst, ◌∙◌}
-use Rattle.pana_family.specs.Rows.{AreBefore}
-use Rattle.pana_family.specs.Report.{CanReport}
-use Rattle.pana_family.specs.View.{Stored, IsNew}
+use Rattle.std.proofs.Common.{◌∙◌, List, ap, arith, length, subst, sym}
+use Rattle.pana_family.specs.declared.row.StampRow.{StampRow}
+use Rattle.pana_family.specs.Rows.{AreBefore, copy_rows}
+use Rattle.pana_family.specs.Change.{RowList, after}
+use Rattle.pana_family.specs.Report.{CanReport, IsMade, IsReported}
+use Rattle.pana_family.specs.declared.change.Change.{Change}
+use Rattle.pana_family.specs.View.{IsPrepared}
 use Rattle.pana_family.proofs.Able.{able}
-use Rattle.pana_family.proofs.Undos.{roomier_sound}
+use Rattle.pana_family.proofs.Counted.{few_made}
+use Rattle.pana_family.proofs.Following.{as_many}
 use Rattle.pana_family.proofs.family.Family.prepare.Goals as goal
 
-pub prepare-requires-clause-able : goal.prepare-requires-clause-able
-prepare-requires-clause-able c = subst (λ (k : Stored). CanReport c.args.report k.kept.rows) (sym c.self.view_is) (able c.args.report c.args.self.now.kept c.requires.living (sym c.fault.ensures ∙ c.in_default.is))
+pub report_change-requires-clause-able : goal.report_change-requires-clause-able
+report_change-requires-clause-able c =
+    subst (CanReport c.args.report) (sym (c.deref.ensures.value ∙ ap (λ (v : RowList). v.rows) c.self.view_is)) (able c.args.report c.args.self.now.rows c.requires.living (sym c.fault.ensures ∙ c.in_default.is))
 
-pub prepare-requires-clause-new : goal.prepare-requires-clause-new
-unfolding IsNew
-prepare-requires-clause-new c = subst (λ (k : Stored). AreBefore c.args.entry k.kept.rows) (sym c.self.view_is) c.requires.new
+pub report_change-requires-clause-new : goal.report_change-requires-clause-new
+report_change-requires-clause-new c = subst (AreBefore c.args.entry) (sym (c.deref.ensures.value ∙ ap (λ (v : RowList). v.rows) c.self.view_is)) c.requires.new
 
-pub invariant_of-self : goal.invariant_of-self
-invariant_of-self c = roomier_sound c.self.inside.rows.room c.prepare.new.self.room c.self.inside.rows.rows c.prepare.new.self.rows c.self.inside.undo c.prepare.ensures.rows c.prepare.ensures.room c.self.invariant
+pub returns-clause-prepared : goal.returns-clause-prepared
+unfolding IsPrepared
+returns-clause-prepared c =
+    let rows : List StampRow = c.self.inside.items.items in
+    let change : Change = c.in_ok-change.change in
+    let m : IsMade c.args.entry c.args.report rows (after change rows) = record {
+      kept = c.self.invariant.0;
+      able = subst (λ (v : RowList). CanReport c.args.report v.rows) (sym c.self.view_is) (able c.args.report c.args.self.now.rows c.requires.living (sym c.fault.ensures ∙ c.in_default.is));
+      before = subst (λ (v : RowList). AreBefore c.args.entry v.rows) (sym c.self.view_is) c.requires.new;
+      reported = subst (λ (l : List StampRow). IsReported c.args.entry c.args.report l (after change l)) c.deref.ensures.value c.in_ok-change.ensures;
+    } in
+    let many = few_made c.args.entry c.args.report rows (after change rows) m in
+    record {
+      made = subst (λ (l : List StampRow). IsMade c.args.entry c.args.report l (after change l)) (sym c.reserve.ensures.items) m;
+      fits = (
+        omega (arith, c.in_ok-reserve.ensures.ok),
+        omega (
+          arith,
+          many,
+          ap (λ (l : List StampRow). length (copy_rows (after change l))) c.reserve.ensures.items,
+          as_many rows c.self.inside.pairs.copies c.self.invariant.0.rising c.copies.ensures.rising c.self.invariant.1.copies,
+          ap length c.reserve-2.ensures.copies,
+          c.in_ok-reserve-2.ensures.room,
+        ),
+      );
+    }
 
-pub invariant_of-self-2 : goal.invariant_of-self-2
-invariant_of-self-2 c = roomier_sound c.self.inside.rows.room c.prepare.new.self.room c.self.inside.rows.rows c.prepare.new.self.rows c.self.inside.undo c.prepare.ensures.rows c.prepare.ensures.room c.self.invariant
+pub returns-clause-room : goal.returns-clause-room
+returns-clause-room c = (
+  omega (arith, ap (λ (v : RowList). v.room.rows) c.self.view_is, c.reserve.ensures.capacity),
+  omega (arith, ap (λ (v : RowList). v.room.copies) c.self.view_is, ap length c.reserve-2.ensures.copies, c.reserve-2.ensures.more),
+)

@@ -7,7 +7,7 @@ use Rattle.pana_family.specs.inner.Comparing.{IsFollowed}
 use Rattle.pana_family.proofs.Compared.{fewer_taken}
 use Rattle.pana_family.proofs.Sums.{rising_take}
 use Rattle.pana_family.proofs.Following.{as_many, at_most_one, pushed_followed, reserved_paired}
-use Rattle.pana_family.proofs.rows.pairs_of.Goals as goal
+use Rattle.pana_family.proofs.family.pairs_of.Goals as goal
 
 pub follow-requires-clause-few : goal.follow-requires-clause-few
 follow-requires-clause-few c = omega (arith, fewer_taken (λ r. is_copy r.holder) c.args.items.now (c.loop-at.at + 1), c.requires.few)

@@ -4,7 +4,7 @@ use Rattle.pana_family.specs.Change.{RowList}
 use Rattle.pana_family.specs.Table.{Known}
 use Rattle.pana_family.specs.Stands.{StandsFor}
 use Rattle.pana_family.proofs.Boards.{SameBoard, same_board}
-use Rattle.pana_family.proofs.rows.Rows.board.Goals as goal
+use Rattle.pana_family.proofs.family.Family.board.Goals as goal
 
 same : (c : goal.After-board_of) (table : List Known) → StandsFor c.args.self.now.rows table → SameBoard c.self.inside.pairs table
 same c table st =

@@ -6,7 +6,7 @@ use Rattle.pana_family.specs.Rows.{lives}
 use Rattle.pana_family.specs.Stands.{StandsFor}
 use Rattle.pana_family.specs.Table.{set_in}
 use Rattle.pana_family.proofs.Boards.{paired_relation, same_equal}
-use Rattle.pana_family.proofs.rows.Rows.rel.Goals as goal
+use Rattle.pana_family.proofs.family.Family.rel.Goals as goal
 
 pub returns : goal.returns
 returns c = λ table st. elim (cases_eq c.args.a c.args.b) [

@@ -4,7 +4,7 @@ use Rattle.pana_family.specs.Rows.{IsRising, copy_rows}
 use Rattle.pana_family.specs.Change.{RowList, after}
 use Rattle.pana_family.specs.Paired.{ArePaired}
 use Rattle.pana_family.proofs.Following.{applied, as_many, made_again}
-use Rattle.pana_family.proofs.rows.Rows.apply.Goals as goal
+use Rattle.pana_family.proofs.family.Family.exchange.Goals as goal
 
 pub apply-back-requires-clause-room : goal.apply-back-requires-clause-room
 apply-back-requires-clause-room c = omega (arith, c.requires.fits.0, ap (λ (v : RowList). length v.rows) c.self.view_is, ap (λ (v : RowList). v.room.rows) c.self.view_is)

@@ -7,7 +7,7 @@ use Rattle.pana_family.specs.Stamps.{text_of}
 use Rattle.pana_family.specs.Stamps.{row_text}
 use Rattle.pana_family.specs.Change.{RowList}
 use Rattle.pana_family.proofs.Texts.{stamps_answer}
-use Rattle.pana_family.proofs.rows.Rows.stamps.Goals as goal
+use Rattle.pana_family.proofs.family.Family.stamps.Goals as goal
 
 pub returns-clause-stands : goal.returns-clause-stands
 returns-clause-stands c = λ table st.

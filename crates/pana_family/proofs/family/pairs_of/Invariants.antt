@@ -1,6 +1,6 @@
 use Rattle.std.proofs.Common.{take}
 use Rattle.pana_family.specs.Paired.{ArePaired}
-use Rattle.pana_family.proofs.rows.pairs_of.Given as goal
+use Rattle.pana_family.proofs.family.pairs_of.Given as goal
 
 abbrev pub invariant-loop-at : goal.invariant-loop-at
 invariant-loop-at l = ArePaired (take l.at l.items) l.pairs

@@ -6,7 +6,7 @@ use Rattle.pana_family.specs.Change.{RowList}
 use Rattle.pana_family.proofs.Members.{one_row}
 use Rattle.pana_family.proofs.Written.{IsRowAt, row_at}
 use Rattle.pana_family.proofs.Changes.{touch_found}
-use Rattle.pana_family.proofs.rows.Rows.touch.Goals as goal
+use Rattle.pana_family.proofs.family.Family.touch.Goals as goal
 
 pub returns-clause-touch : goal.returns-clause-touch
 returns-clause-touch c = λ table st.

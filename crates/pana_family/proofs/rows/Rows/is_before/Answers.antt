@@ -1,9 +1,0 @@
-use Rattle.std.proofs.Common.{ap, sym, subst, ◌∙◌, ◌≡◌}
-use Rattle.pana_family.specs.Rows.{AreBefore}
-use Rattle.pana_family.specs.Change.{RowList}
-use Rattle.pana_family.proofs.rows.Rows.is_before.Goals as goal
-
-pub returns : goal.returns
-returns c =
-    let same : c.deref.result.now ≡ c.args.self.now.rows = c.deref.ensures.value ∙ (ap (λ (v : RowList). v.rows) c.self.view_is) in
-    ((λ t. subst (AreBefore c.args.entry) same (c.are_before.ensures.0 t)), λ b. c.are_before.ensures.1 (subst (AreBefore c.args.entry) (sym same) b))
