@@ -1,7 +1,7 @@
 //! A family: the living copies of one file, and what a report makes of them.
 #![tactic(auto, unfolding(crate::specs::View::IsPrepared))]
 
-ghost use Rattle.std.specs.Prelude.{◌≡◌, [], ◌∷◌, IfOk, OnOk, OnErr, IfErr, IfSome, Some, None};
+ghost use Rattle.std.specs.Prelude.{◌≡◌, ◌≤◌, [], ◌∷◌, length, IfOk, OnOk, OnErr, IfErr, IfSome, Some, None};
 ghost use Rattle.pana_family.specs.declared.fault.FamilyFault.{FamilyFault as Fault};
 ghost use Rattle.pana_family.specs.Rows.{AreBefore, seed_row};
 ghost use Rattle.pana_family.specs.Kept.{IsKept};
@@ -20,6 +20,7 @@ use crate::row::StampRow;
 use pana_list::PlainList;
 use pana_rel::PairTable;
 use pana_stamp::Stamp;
+use smallvec::SmallVec;
 use std::alloc::{AllocError, Global};
 use std::marker::Model;
 
@@ -69,13 +70,14 @@ fn pairs_of(alloc: Global, items: &[StampRow]) -> Result<PairTable, AllocError>
 }
 
 impl Family {
-    /// The family of a file's first copy, which this entry registered: it owns all points and knows no update.
+    /// The family of a file's first copy, which this entry registered: it owns all points and knows no update. And the change that
+    /// takes the entry back.
     ///
     /// # Errors
     ///
     /// `AllocError` where an allocation failed.
-    pub fn new(alloc: Global, entry: u64) -> Result<Family, AllocError>
-        ensures { IfOk result (λ f. f.rows ≡ seed_row entry ∷ []) }
+    pub fn new(alloc: Global, entry: u64) -> Result<(Family, Change), AllocError>
+        ensures { IfOk result (λ made. (made.0.rows ≡ seed_row entry ∷ []) × TakesBack made.1 made.0 []) }
     {
         let mut items = Vec::with_capacity(alloc, 1)?;
         items.push_reserved(StampRow {
@@ -85,7 +87,9 @@ impl Family {
             touch: entry,
         });
         let family = Family::of_rows(alloc, PlainList::from_vec(items))?;
-        Ok(family)
+        let mut news = SmallVec::new(alloc);
+        news.push_reserved(Exchange::Take(entry));
+        Ok((family, Change::Rows(news)))
     }
 
     /// A family of these rows. Compares the stamps of each two copies.
@@ -95,7 +99,8 @@ impl Family {
     /// `AllocError` where an allocation failed; the rows are then lost.
     pub fn of_rows(alloc: Global, rows: PlainList<StampRow>) -> Result<Family, AllocError>
         requires { IsKept rows }
-        ensures { IfOk result (λ f. f.rows ≡ rows) }
+        ensures rows { IfOk result (λ f. f.rows ≡ rows) }
+        ensures room { IfOk result (λ f. length f.rows ≤ f.room.rows) }
     {
         let items = rows.into_vec();
         let pairs = pairs_of(alloc, &items)?;
