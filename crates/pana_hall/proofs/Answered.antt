@@ -8,7 +8,7 @@ use Rattle.std.proofs.lemmas.List.Elements.{filter-append}
 use Rattle.pana_copies.specs.Spots.{Table}
 use Rattle.pana_family.specs.Table.{touch_in, Known, set_in}
 use Rattle.pana_family.specs.Table as table
-use Rattle.pana_family.specs.Rows.{copy_rows}
+use Rattle.pana_family.specs.Rows.{copy_rows, lives}
 use Rattle.pana_family.specs.Stands.{StandsFor}
 use Rattle.pana_family.specs.declared.stamps.CopyStamp.{CopyStamp}
 use Rattle.pana_family.specs.Stamps.{AreStamps, stamps_in, text_of}
@@ -40,7 +40,7 @@ use Rattle.pana_hall.proofs.Tables.{merged, table_living}
 use Rattle.pana_hall.specs.Stamps.{AreStampsOf, as_known}
 use Rattle.pana_hall.proofs.Knowns.{row_in, row_of, set_at, touch_at}
 use Rattle.pana_hall.proofs.Mirrors.{sets_old}
-use Rattle.pana_hall.proofs.Stood.{copies_sets, count_rows, layers_stand}
+use Rattle.pana_hall.proofs.Stood.{copies_sets, count_rows, layers_stand, lives_rows}
 use Rattle.pana_hall.proofs.Ready.{family_of as family_of_copy}
 
 -- a living copy's row is found in its family's table
@@ -148,6 +148,10 @@ each_get P (x ∷ xs) (suc i) d each within = each_get P xs i d each.1 (omega ar
 -- a family's rows stand for its sets
 pub stands_of : (journal : List Entry) (family : ℕ) (it : KeptRows) → IsAccepted 8 journal → it ≡ family_of journal family → StandsFor it.rows (sets_of family journal).table
 stands_of journal family it accepted is = subst (λ (k : KeptRows). StandsFor k.rows (sets_of family journal).table) (sym is) (layers_stand journal accepted 0 family).stands
+
+-- and its living copies live in them
+pub lives_of : (journal : List Entry) (family n : ℕ) (copy : Copy) (it : KeptRows) → IsAccepted 8 journal → it ≡ family_of journal family → copy_in (living journal) n ≡ Some copy → families journal n ≡ family → lives it.rows n ≡ true
+lives_of journal family n copy it accepted is found of = subst (λ (k : KeptRows). lives k.rows n ≡ true) (sym is) (lives_rows journal family n copy accepted found of)
 
 -- what a question finds under a family's number
 pub found_is : (journal : List Entry) (list : List KeptRows) (positions : List ℕ) (copies : Table) (family : ℕ) (it : KeptRows) → IsKept journal list positions copies → first (unknown_family family journal ∷ []) ≡ None

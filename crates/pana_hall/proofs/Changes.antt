@@ -11,6 +11,7 @@ use Rattle.pana_family.specs.declared.report.FamilyReport.TheVariants as family
 use Rattle.pana_family.specs.After.{reported_rows}
 use Rattle.pana_family.specs.declared.row.StampRow.{StampRow}
 use Rattle.pana_family.specs.Rows.{seed_row}
+use Rattle.pana_journal.specs.declared.entry.Entry.{Entry}
 use Rattle.pana_hall.specs.Family.{families, family_report, is_register}
 use Rattle.pana_hall.specs.Effective.{is_of_copies}
 use Rattle.pana_hall.specs.Living.{copy_in, copies_of, living}

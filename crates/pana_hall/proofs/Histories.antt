@@ -1,14 +1,19 @@
 -- What the records of a family's pending entries give back.
-use Rattle.std.specs.Prelude.{◌≡◌, ℕ, zero, suc, ◌+◌, ◌≤◌, Bool, true, false, ◌==◌, nat_lt, not, ◌||◌, cond, List, [], ◌∷◌, length, Option, Some, None, option_map, position, slice_get, take, drop}
+use Rattle.std.specs.Prelude.{◌≡◌, ℕ, zero, suc, ◌+◌, ◌≤◌, Bool, true, false, ◌==◌, nat_lt, not, ◌&&◌, ◌||◌, cond, List, [], ◌∷◌, length, Option, Some, None, option_map, position, slice_get, take, drop}
 use Rattle.std.specs.List.{position_or_len, list_any}
-use Rattle.std.proofs.Common.{refl, sym, ap, subst, ◌∙◌, arith}
-use Rattle.std.proofs.lemmas.Bool.{cases_Bool, ltb-false}
+use Rattle.std.proofs.Common.{refl, sym, ap, subst, ◌∙◌, inl, inr, arith}
+use Rattle.std.proofs.lemmas.Bool.{cases_Bool, eqb-true, ltb-false}
 use Rattle.std.proofs.lemmas.List.{take_all}
 use Rattle.circular_buffer.specs.Buffer.{Buffer, buffer}
 use Rattle.pana_copies.specs.declared.place.Place.{Place}
 use Rattle.pana_family.specs.declared.row.StampRow.{StampRow}
 use Rattle.pana_family.specs.Change.{after as after_change, Fits, IsRoomier, Room}
 use Rattle.pana_family.specs.Kept.{IsKept}
+use Rattle.pana_family.specs.Report.{CanReport}
+use Rattle.pana_family.specs.Rows.{lives, seed_row}
+use Rattle.pana_family.specs.View.{NamesLiving}
+use Rattle.pana_family.specs.declared.report.FamilyReport.{FamilyReport}
+use Rattle.pana_family.specs.declared.report.FamilyReport.TheVariants.{Duplicate, Edit, Reconcile, Merge, Remove, Touch}
 use Rattle.pana_hall.specs.declared.undo.Undo.{Undo}
 use Rattle.pana_hall.specs.inner.Undo.{CanGoBack, Undone, ends_in, history, last_place, later_than, undone}
 
@@ -117,3 +122,24 @@ history_none rows us none = ap (history rows) (none_left us none)
 pub has_is : (n : ℕ) (rows : List StampRow) (us : List Undo) → list_any (λ u. u.entry == n) us ≡ list_any (λ u. u.entry == n) (history rows us)
 has_is n rows [] = refl
 has_is n rows (u ∷ us) = ap (λ b. (u.entry == n) || b) (has_is n (after_change u.back rows) us)
+
+-- what can be reported names living copies
+pub names_living : (report : FamilyReport) (rows : List StampRow) → CanReport report rows → NamesLiving report rows
+names_living (Duplicate c) rows can = can.0
+names_living (Edit c) rows can = can
+names_living (Reconcile a b) rows can = (can.0, can.1)
+names_living (Merge a b) rows can = (can.0, can.1)
+names_living (Remove c heir) rows can = (can.0, can.1)
+names_living (Touch c) rows can = can
+
+-- the copy of a new family alone lives in it
+pub new_living : (n copy : ℕ) → lives (seed_row n ∷ []) copy ≡ true → n ≡ copy
+new_living n copy there = eqb-true n copy (and_true (n == copy) (or_false (n == copy && true) there))
+  where
+    or_false : (b : Bool) → (b || false) ≡ true → b ≡ true
+    or_false true e = refl
+    or_false false e = e
+
+    and_true : (b : Bool) → (b && true) ≡ true → b ≡ true
+    and_true true e = refl
+    and_true false e = e

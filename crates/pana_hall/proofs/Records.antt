@@ -95,7 +95,7 @@ module _ (journal : List Entry) (by : List ℕ) (report : Report) (list : List K
         | None ↦ λ e. (length list, refl)
         | Some n ↦ λ e.
             let within = subject_within journal by report n all.accepted free e in
-            let at = found_at journal list positions n all.listed all.placed within.0 within.1 in
+            let at = all.placed.at n within.0 within.1 in
             (at.0, at.1)
       ] refl
 

@@ -1,5 +1,5 @@
 -- Causes read off what a hall keeps.
-use Rattle.std.specs.Prelude.{◌≡◌, ◌↔◌, ◌⊎◌, ℕ, ◌-◌, ◌<◌, ◌≤◌, Bool, true, false, cond, not, ◌&&◌, ◌||◌, ◌==◌, nat_le, List, [], ◌∷◌, ◌++◌, length, filter, reverse, find, count_by, Option, Some, None, option_map, option_and_then, slice_get, IsTrue}
+use Rattle.std.specs.Prelude.{◌≡◌, ◌↔◌, ◌⊎◌, ℕ, ◌+◌, ◌-◌, ◌<◌, ◌≤◌, Bool, true, false, cond, not, ◌&&◌, ◌||◌, ◌==◌, nat_le, List, [], ◌∷◌, ◌++◌, length, filter, reverse, find, count_by, Option, Some, None, option_map, option_and_then, slice_get, IsTrue}
 use Rattle.std.specs.Bool.{then_some}
 use Rattle.std.specs.Str.{bytes_eq}
 use Rattle.std.proofs.lemmas.Slice.Eq.{bytes_eq-Decides}
@@ -16,7 +16,7 @@ use Rattle.pana_copies.specs.Spots.{Spot, Table, kept, place_of}
 use Rattle.pana_journal.specs.declared.entry.Entry.{Entry}
 use Rattle.pana_journal.specs.Entries.{entry_at}
 use Rattle.pana_family.specs.Updates.{has}
-use Rattle.pana_family.specs.Rows.{copy_rows, divides, lives}
+use Rattle.pana_family.specs.Rows.{copy_rows, divides}
 use Rattle.pana_hall.specs.declared.cause.Cause.TheVariants.{PlaceTaken, FamilyFull, TooDeep}
 use Rattle.pana_hall.specs.inner.Undo.{KeptRows, ends_in, last_place}
 use Rattle.pana_hall.specs.Family.{families}
@@ -38,7 +38,7 @@ use Rattle.pana_hall.proofs.Tables.{ends_at, layer_now, pending_rises}
 use Rattle.pana_hall.proofs.Places.{same_place-itself, none_passes, living_found}
 use Rattle.pana_hall.proofs.More.{each_has}
 use Rattle.pana_hall.proofs.KeptFamilies.{pending_within}
-use Rattle.pana_hall.proofs.Stood.{count_rows, lives_rows}
+use Rattle.pana_hall.proofs.Stood.{count_rows}
 use Rattle.pana_hall.proofs.Ready.{place_spots, at_spots, family_of as family_of_copy}
 use Rattle.pana_hall.proofs.Records.{found_at, lives_within, entry_within}
 use Rattle.pana_hall.proofs.Moves.{found_number}
@@ -227,16 +227,11 @@ deep_is journal list positions copies n copy it all found at =
     (ap (λ (k : KeptRows). k.rows) (has_family journal list positions copies n all it at) ∙ ap rows_of (layer_now 8 (families journal n) journal) ∙ ap (λ f. stamp_rows f journal) (sym own))
     ∙ ap (option_and_then (λ c. then_some (not (divides (stamp_rows c.family journal) n)) TooDeep)) (sym found)
 
--- a living copy has a family, in whose rows it lives
+-- a living copy has a family
 pub copy_has_family : (journal : List Entry) (list : List KeptRows) (positions : List ℕ) (copies : Table) (n : ℕ) (copy : Copy) → IsKept journal list positions copies → copy_in (living journal) n ≡ Some copy
     → family_at list positions n ≡ Some (family_of journal (families journal n))
 copy_has_family journal list positions copies n copy all found =
     let within = lives_within journal (families journal n) n all.accepted (record { copy = copy; found = found; of = refl }) in found_at journal list positions n all.listed all.placed within.0 within.1
-
-pub copy_lives : (journal : List Entry) (list : List KeptRows) (positions : List ℕ) (copies : Table) (n : ℕ) (copy : Copy) (it : KeptRows) → IsKept journal list positions copies
-    → copy_in (living journal) n ≡ Some copy → family_at list positions n ≡ Some it → lives it.rows n ≡ true
-copy_lives journal list positions copies n copy it all found at =
-    subst (λ (k : KeptRows). lives k.rows n ≡ true) (sym (has_family journal list positions copies n all it at)) (lives_rows journal (families journal n) n copy all.accepted found refl)
 
 -- what the last pending entry's copy gets back, and what stands against that
 pub back_place : (journal : List Entry) (list : List KeptRows) (positions : List ℕ) (copies : Table) (m c : ℕ) (undone : Entry) → IsKept journal list positions copies → is_last m (pending_with 8 m journal) ≡ true

@@ -8,6 +8,7 @@ use Rattle.std.proofs.alloc.Global.TheSendSync as global
 use Rattle.std.below.std_heap.proofs.GlobalAllocator.TheSendSync as frees
 use Rattle.circular_buffer.proofs.heap.HeapCircularBuffer.TheSendSync as rings
 use Rattle.pana_hall.specs.contracts.kept_family.KeptFamily as kept_family
+use Rattle.pana_hall.specs.contracts.kept_family.KeptFamily.TheInside as kept_inside
 use Rattle.pana_hall.specs.contracts.listed_family.Form as form
 use Rattle.pana_hall.specs.contracts.listed_family.ListedFamily as listed_family
 use Rattle.pana_hall.specs.contracts.listed_family.ListedFamily.TheInside as listed_inside
@@ -15,18 +16,17 @@ use Rattle.pana_hall.specs.contracts.families.Families as families
 use Rattle.pana_hall.specs.contracts.state.State as state
 use Rattle.pana_hall.specs.contracts.hall.Hall as hall
 use Rattle.pana_hall.specs.contracts.hall.Hall.TheInside as hall_inside
-use Rattle.pana_hall.proofs.old_place.OldPlace.TheSendSync as old_places
-use Rattle.pana_hall.specs.contracts.old_places.OldPlaces as places
-use Rattle.pana_hall.specs.contracts.old_places.OldPlaces.TheInside as places_inside
+use Rattle.pana_hall.specs.contracts.undo.Undo as undo
+use Rattle.pana_copies.proofs.place.Place.TheSendSync as places
 use Rattle.pana_journal.proofs.journal.Journal.TheSendSync as journals
 use Rattle.pana_copies.proofs.copy_table.CopyTable.TheSendSync as copy_tables
-use Rattle.pana_family.proofs.Sending.{family_send}
+use Rattle.pana_family.proofs.Sending.{change_send, family_send}
 
-places_send : IsSend places.the_row
-places_send = view_send _ _ _ _ _ (declared_send places_inside.the_type (options.the_send _ (boxes.the_send _ _ _ (rings.the_send _ _ _ old_places.the_send global.the_send frees.the_frees) global.the_send frees.the_frees), tt))
+undo_send : IsSend undo.the_row
+undo_send = declared_send undo.the_type (search sendable, (change_send, (options.the_send _ (boxes.the_send _ _ _ places.the_send global.the_send frees.the_frees), tt)))
 
 kept_family_send : IsSend kept_family.the_row
-kept_family_send = declared_send kept_family.the_type (search sendable, (family_send, (places_send, tt)))
+kept_family_send = view_send _ _ _ _ _ (declared_send kept_inside.the_type (search sendable, (family_send, (rings.the_send _ _ _ undo_send global.the_send frees.the_frees, tt))))
 
 form_send : IsSend form.the_row
 form_send = variants_send form.enum ((search sendable, tt), ((boxes.the_send _ _ _ kept_family_send global.the_send frees.the_frees, tt), tt))

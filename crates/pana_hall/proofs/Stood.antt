@@ -28,8 +28,8 @@ use Rattle.pana_family.proofs.Computed.{are_exact}
 use Rattle.pana_family.proofs.Exacts.{asked, reported_of_exact}
 use Rattle.pana_family.proofs.Within.{divides_is, seed_sound, sound_of_exact, undivided_deep}
 use Rattle.pana_family.proofs.Keeps.{seed_kept}
-use Rattle.pana_family.proofs.Changes.{seed_stands}
-use Rattle.pana_family.proofs.Keeps.{empty_kept, empty_stands}
+use Rattle.pana_family.proofs.Changes.{empty_stands, seed_stands}
+use Rattle.pana_family.proofs.Keeps.{empty_kept}
 use Rattle.pana_hall.specs.Family.{begun_or_joined, entries_of, families, family_report, is_duplicate, is_register, subject}
 use Rattle.pana_hall.specs.Effective.{effective, is_of_copies}
 use Rattle.pana_hall.specs.Living.{Copy, copies_of, copy_in, living}

@@ -73,8 +73,11 @@ impl KeptFamily {
     pub fn last_place(&self) -> Option<&Place>
         ensures { option_copied result ≡ last_place self.now.undo }
     {
-        match &self.undo.front()?.place {
-            Some(place) => Some(place),
+        match self.undo.front() {
+            Some(undo) => match &undo.place {
+                Some(place) => Some(place),
+                None => None,
+            },
             None => None,
         }
     }
@@ -134,11 +137,21 @@ impl KeptFamily {
         ensures family { self.new ≡ withdrawn self.old }
         ensures place { result ≡ last_place self.old.undo }
     {
-        let Undo { back, place, .. } = self.undo.pop_front()?;
-        self.family.take_back(back);
-        match place {
-            Some(place) => Some(Box::into_inner(place)),
+        match self.undo.pop_front() {
+            Some(undo) => {
+                self.family.take_back(undo.back);
+                unboxed(undo.place)
+            }
             None => None,
         }
+    }
+}
+
+fn unboxed(place: Option<Box<Place>>) -> Option<Place>
+    ensures { result ≡ option_map (λ p. p.value) place }
+{
+    match place {
+        Some(place) => Some(Box::into_inner(place)),
+        None => None,
     }
 }

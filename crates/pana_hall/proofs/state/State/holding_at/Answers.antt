@@ -4,23 +4,23 @@ use Rattle.std.proofs.Common.{refl, sym, ap, ◌∙◌}
 use Rattle.pana_copies.specs.declared.place.Place.{Place}
 use Rattle.pana_copies.specs.Spots.{Spot}
 use Rattle.pana_hall.specs.Queries.{holding}
-use Rattle.pana_family.specs.View.{Means}
+use Rattle.pana_hall.specs.Family.{families}
+use Rattle.pana_hall.specs.inner.Kept.{family_of}
 use Rattle.pana_hall.specs.Living.{Copy, living}
 use Rattle.pana_hall.specs.Sets.{sets_of}
 use Rattle.pana_hall.specs.inner.Families.{family_at}
 use Rattle.pana_hall.proofs.Refusals.{found_spot, copy_has_family, has_family}
-use Rattle.pana_hall.proofs.KeptFamilies.{is_living_kept}
 use Rattle.pana_hall.proofs.state.State.holding_at.Goals as goal
 use Rattle.pana_hall.proofs.Moves.{found_number}
-use Rattle.pana_hall.proofs.Answered.{touch_of_copy}
+use Rattle.pana_hall.proofs.Answered.{lives_of, stands_of, touch_of_copy}
 
 pub unwrap-it-requires : goal.unwrap-it-requires
 unwrap-it-requires c =
     let journal = c.args.self.now.journal.entries in
     let fs = c.args.self.now.families in
     let copy = found_spot journal c.args.self.now.copies c.args.number _ c.requires.kept.spots (sym c.get.ensures ∙ ap (option_map _) c.in-Some.is) in
-    let it = copy_has_family journal fs.list.items fs.positions.items c.args.self.now.copies c.args.number copy.0 c.requires.kept copy.1 in
-    elim c.of_entry.result as (λ o. option_copied o ≡ Some it.0 → IsSome o) [ None ↦ λ e. absurd (cc) | Some x ↦ λ e. refl ] (c.of_entry.ensures ∙ it.1)
+    let at = copy_has_family journal fs.list.items fs.positions.items c.args.self.now.copies c.args.number copy.0 c.requires.kept copy.1 in
+    elim c.of_entry.result as (λ o. option_copied o ≡ Some (family_of journal (families journal c.args.number)) → IsSome o) [ None ↦ λ e. absurd (cc) | Some x ↦ λ e. refl ] (c.of_entry.ensures ∙ at)
 
 pub touch-requires : goal.touch-requires
 touch-requires c =
@@ -28,8 +28,8 @@ touch-requires c =
     let fs = c.args.self.now.families in
     let copy = found_spot journal c.args.self.now.copies c.args.number _ c.requires.kept.spots (sym c.get.ensures ∙ ap (option_map _) c.in-Some.is) in
     let at : family_at fs.list.items fs.positions.items c.args.number ≡ Some c.unwrap-it.result.now = sym c.of_entry.ensures ∙ ap option_copied c.unwrap-it.ensures in
-    let kept_it = has_family journal fs.list.items fs.positions.items c.args.self.now.copies c.args.number c.requires.kept c.unwrap-it.result.now at in
-    (is_living_kept journal c.unwrap-it.result.now c.args.number copy.0 c.requires.kept.accepted kept_it.0 kept_it.1 copy.1)
+    let it = has_family journal fs.list.items fs.positions.items c.args.self.now.copies c.args.number c.requires.kept c.unwrap-it.result.now at in
+    lives_of journal (families journal c.args.number) c.args.number copy.0 c.unwrap-it.result.now c.requires.kept.accepted it copy.1 refl
 
 pub returns : goal.returns
 returns c =
@@ -37,10 +37,10 @@ returns c =
     let fs = c.args.self.now.families in
     let copy = found_spot journal c.args.self.now.copies c.args.number _ c.requires.kept.spots (sym c.get.ensures ∙ ap (option_map _) c.in-Some.is) in
     let at : family_at fs.list.items fs.positions.items c.args.number ≡ Some c.unwrap-it.result.now = sym c.of_entry.ensures ∙ ap option_copied c.unwrap-it.ensures in
-    let kept_it = has_family journal fs.list.items fs.positions.items c.args.self.now.copies c.args.number c.requires.kept c.unwrap-it.result.now at in
-    let family = c.unwrap-it.result.now.number in
-    let means : Means c.unwrap-it.result.now.family (sets_of family journal) = kept_it.0.means in
-    let touch : c.touch.result ≡ copy.0.touch = c.touch.ensures _ means ∙ touch_of_copy journal family c.args.number copy.0 c.requires.kept.accepted copy.1 (sym kept_it.1) in
+    let it = has_family journal fs.list.items fs.positions.items c.args.self.now.copies c.args.number c.requires.kept c.unwrap-it.result.now at in
+    let family = families journal c.args.number in
+    let touch : c.touch.result ≡ copy.0.touch =
+    c.touch.ensures (sets_of family journal).table (stands_of journal family c.unwrap-it.result.now c.requires.kept.accepted it) ∙ touch_of_copy journal family c.args.number copy.0 c.requires.kept.accepted copy.1 refl in
     let number : copy.0.number ≡ c.args.number = found_number (living journal) c.args.number copy.0 copy.1 in
     let there : copy.0.place ≡ c.in-Some.found.place.now = ap (λ (s : Spot). s.place) copy.2 in
     let own : copy.0.family ≡ c.in-Some.found.family = ap (λ (s : Spot). s.family) copy.2 in

@@ -2,11 +2,12 @@ use Rattle.std.specs.Prelude.{◌≡◌, Some, None, IsSome, option_copied}
 use Rattle.std.proofs.Common.{refl, sym, ap, ◌∙◌}
 use Rattle.pana_family.specs.Relation.{relation}
 use Rattle.pana_family.specs.Table.{set_in}
+use Rattle.pana_hall.specs.Family.{families}
 use Rattle.pana_hall.specs.Living.{living, known_to}
 use Rattle.pana_hall.specs.Sets.{sets_of}
 use Rattle.pana_hall.specs.inner.Families.{family_at}
-use Rattle.pana_hall.proofs.Answered.{pair_at, set_of_copy}
-use Rattle.pana_hall.proofs.KeptFamilies.{is_living_kept}
+use Rattle.pana_hall.specs.inner.Kept.{family_of}
+use Rattle.pana_hall.proofs.Answered.{lives_of, pair_at, set_of_copy, stands_of}
 use Rattle.pana_hall.proofs.Refusals.{copy_has_family, has_family}
 use Rattle.pana_hall.proofs.state.State.pair_of.Goals as goal
 
@@ -15,8 +16,8 @@ unwrap-requires c =
     let journal = c.args.self.now.journal.entries in
     let fs = c.args.self.now.families in
     let pair = pair_at journal c.args.a c.args.b c.requires.kept.accepted c.requires.free in
-    let it = copy_has_family journal fs.list.items fs.positions.items c.args.self.now.copies c.args.a pair.first c.requires.kept pair.found_first in
-    elim c.of_entry.result as (λ o. option_copied o ≡ Some it.0 → IsSome o) [ None ↦ λ e. absurd (cc) | Some x ↦ λ e. refl ] (c.of_entry.ensures ∙ it.1)
+    let at = copy_has_family journal fs.list.items fs.positions.items c.args.self.now.copies c.args.a pair.first c.requires.kept pair.found_first in
+    elim c.of_entry.result as (λ o. option_copied o ≡ Some (family_of journal (families journal c.args.a)) → IsSome o) [ None ↦ λ e. absurd (cc) | Some x ↦ λ e. refl ] (c.of_entry.ensures ∙ at)
 
 pub rel-requires-clause-first : goal.rel-requires-clause-first
 rel-requires-clause-first c =
@@ -24,8 +25,8 @@ rel-requires-clause-first c =
     let fs = c.args.self.now.families in
     let pair = pair_at journal c.args.a c.args.b c.requires.kept.accepted c.requires.free in
     let at : family_at fs.list.items fs.positions.items c.args.a ≡ Some c.unwrap.result.now = sym c.of_entry.ensures ∙ ap option_copied c.unwrap.ensures in
-    let kept_it = has_family journal fs.list.items fs.positions.items c.args.self.now.copies c.args.a c.requires.kept c.unwrap.result.now at in
-    (is_living_kept journal c.unwrap.result.now c.args.a pair.first c.requires.kept.accepted kept_it.0 kept_it.1 pair.found_first)
+    let it = has_family journal fs.list.items fs.positions.items c.args.self.now.copies c.args.a c.requires.kept c.unwrap.result.now at in
+    lives_of journal (families journal c.args.a) c.args.a pair.first c.unwrap.result.now c.requires.kept.accepted it pair.found_first refl
 
 pub rel-requires-clause-second : goal.rel-requires-clause-second
 rel-requires-clause-second c =
@@ -33,8 +34,8 @@ rel-requires-clause-second c =
     let fs = c.args.self.now.families in
     let pair = pair_at journal c.args.a c.args.b c.requires.kept.accepted c.requires.free in
     let at : family_at fs.list.items fs.positions.items c.args.a ≡ Some c.unwrap.result.now = sym c.of_entry.ensures ∙ ap option_copied c.unwrap.ensures in
-    let kept_it = has_family journal fs.list.items fs.positions.items c.args.self.now.copies c.args.a c.requires.kept c.unwrap.result.now at in
-    (is_living_kept journal c.unwrap.result.now c.args.b pair.second c.requires.kept.accepted kept_it.0 (kept_it.1 ∙ sym pair.of) pair.found_second)
+    let it = has_family journal fs.list.items fs.positions.items c.args.self.now.copies c.args.a c.requires.kept c.unwrap.result.now at in
+    lives_of journal (families journal c.args.a) c.args.b pair.second c.unwrap.result.now c.requires.kept.accepted it pair.found_second pair.of
 
 pub returns : goal.returns
 returns c =
@@ -42,8 +43,8 @@ returns c =
     let fs = c.args.self.now.families in
     let pair = pair_at journal c.args.a c.args.b c.requires.kept.accepted c.requires.free in
     let at : family_at fs.list.items fs.positions.items c.args.a ≡ Some c.unwrap.result.now = sym c.of_entry.ensures ∙ ap option_copied c.unwrap.ensures in
-    let kept_it = has_family journal fs.list.items fs.positions.items c.args.self.now.copies c.args.a c.requires.kept c.unwrap.result.now at in
-    let family = c.unwrap.result.now.number in
-    c.rel.ensures (sets_of family journal) (kept_it.0.means)
-    ∙ ap (λ s. relation s (set_in (sets_of family journal).table c.args.b)) (set_of_copy journal family c.args.a pair.first c.requires.kept.accepted pair.found_first (sym kept_it.1))
-    ∙ ap (relation (known_to (living journal) c.args.a)) (set_of_copy journal family c.args.b pair.second c.requires.kept.accepted pair.found_second (pair.of ∙ sym kept_it.1))
+    let it = has_family journal fs.list.items fs.positions.items c.args.self.now.copies c.args.a c.requires.kept c.unwrap.result.now at in
+    let family = families journal c.args.a in
+    c.rel.ensures (sets_of family journal).table (stands_of journal family c.unwrap.result.now c.requires.kept.accepted it)
+    ∙ ap (λ s. relation s (set_in (sets_of family journal).table c.args.b)) (set_of_copy journal family c.args.a pair.first c.requires.kept.accepted pair.found_first refl)
+    ∙ ap (relation (known_to (living journal) c.args.a)) (set_of_copy journal family c.args.b pair.second c.requires.kept.accepted pair.found_second pair.of)

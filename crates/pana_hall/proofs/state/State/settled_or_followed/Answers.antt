@@ -11,13 +11,13 @@ pub returns-in-Some : goal.returns-in-Some
 returns-in-Some c =
     let fs = c.args.self.now.families in
     let found : family_at fs.list.items fs.positions.items c.args.number ≡ Some c.in-Some.it.now = sym c.of_entry.ensures ∙ ap option_copied c.in-Some.is in
-    ap (λ b. then_some (not b) Settled) (sym c.if-ends_in.true ∙ kept_lasts _ _ _ _ c.args.number c.requires c.in-Some.it.now found c.ends_in.result c.ends_in.ensures)
+    ap (λ b. then_some (not b) Settled) (sym c.if-ends_in.true ∙ c.ends_in.ensures ∙ kept_lasts _ _ _ _ c.args.number c.requires c.in-Some.it.now found)
 
 pub returns-in_default : goal.returns-in_default
 returns-in_default c =
     let fs = c.args.self.now.families in
     let found : family_at fs.list.items fs.positions.items c.args.number ≡ Some c.in-Some.it.now = sym c.of_entry.ensures ∙ ap option_copied c.in-Some.is in
-    ap (λ b. then_some (not b) Settled) (sym c.if-ends_in.false ∙ kept_lasts _ _ _ _ c.args.number c.requires c.in-Some.it.now found c.ends_in.result c.ends_in.ensures)
+    ap (λ b. then_some (not b) Settled) (sym c.if-ends_in.false ∙ c.ends_in.ensures ∙ kept_lasts _ _ _ _ c.args.number c.requires c.in-Some.it.now found)
 
 pub returns-in_default-2 : goal.returns-in_default-2
 returns-in_default-2 c =
