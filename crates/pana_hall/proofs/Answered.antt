@@ -1,9 +1,9 @@
 -- Answers read off the families.
-use Rattle.std.specs.Prelude.{◌≡◌, ℕ, zero, suc, Bool, ◌-◌, ◌||◌, nat_lt, slice_index_or, ◌+◌, ◌<◌, ◌≤◌, true, false, cond, List, [], ◌∷◌, ◌++◌, length, map, filter, Some, None, option_and_then, slice_get}
+use Rattle.std.specs.Prelude.{◌≡◌, ℕ, zero, suc, Bool, ◌-◌, ◌||◌, nat_lt, slice_index_or, ◌+◌, ◌<◌, ◌≤◌, true, false, cond, List, [], ◌∷◌, ◌++◌, length, map, filter, Some, None}
 use Rattle.std.specs.List.{AllByRecursion, list_any}
 use Rattle.std.proofs.Common.{refl, sym, ap, ◌∙◌, subst, arith}
 use Rattle.std.proofs.lemmas.Bool.{not-false, lt-ltb}
-use Rattle.std.proofs.lemmas.List.{length-map, map-append}
+use Rattle.std.proofs.lemmas.List.{map-append}
 use Rattle.std.proofs.lemmas.List.Elements.{filter-append}
 use Rattle.pana_copies.specs.Spots.{Table}
 use Rattle.pana_family.specs.Table.{touch_in, Known, set_in}
@@ -36,7 +36,7 @@ use Rattle.pana_hall.proofs.Rising.{entry_at_place, slice_get-each}
 use Rattle.pana_hall.proofs.Records.{found_at, entry_within}
 use Rattle.pana_hall.proofs.Allowed.{first_none, known, none_false, one_family}
 use Rattle.pana_hall.proofs.Sound.{accepted_is_sound}
-use Rattle.pana_hall.proofs.Tables.{merged, table_living}
+use Rattle.pana_hall.proofs.Tables.{merged}
 use Rattle.pana_hall.specs.Stamps.{AreStampsOf, as_known}
 use Rattle.pana_hall.proofs.Knowns.{row_in, row_of, set_at, touch_at}
 use Rattle.pana_hall.proofs.Mirrors.{sets_old}

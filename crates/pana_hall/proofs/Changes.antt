@@ -1,5 +1,5 @@
 -- What a report that isn't refused leaves: its family, and the table of copies.
-use Rattle.std.specs.Prelude.{◌≡◌, ℕ, ◌+◌, ◌<◌, true, false, cond, ◌==◌, List, [], ◌∷◌, ◌++◌, length, take, Result, Ok, Err, OnOk, Option, Some, None, IfSome, IsSome, is_some, option_map, option_and_then}
+use Rattle.std.specs.Prelude.{◌≡◌, ℕ, ◌+◌, true, false, cond, List, [], ◌∷◌, ◌++◌, length, take, Result, Ok, Err, OnOk, Some, None, IfSome, IsSome, is_some, option_map, option_and_then}
 use Rattle.std.proofs.Common.{refl, sym, ap, ◌∙◌, subst}
 use Rattle.std.proofs.Math.Path.{fun_ext}
 use Rattle.pana_copies.specs.declared.place.Place.{Place}
@@ -12,7 +12,7 @@ use Rattle.pana_family.specs.After.{reported_rows}
 use Rattle.pana_family.specs.declared.row.StampRow.{StampRow}
 use Rattle.pana_family.specs.Rows.{seed_row}
 use Rattle.pana_journal.specs.declared.entry.Entry.{Entry}
-use Rattle.pana_hall.specs.Family.{families, family_report, is_register}
+use Rattle.pana_hall.specs.Family.{family_report, is_register}
 use Rattle.pana_hall.specs.Effective.{is_of_copies}
 use Rattle.pana_hall.specs.Living.{copy_in, copies_of, living}
 use Rattle.pana_hall.specs.Refusal.{displaced, full, unknown, taken}

@@ -1,8 +1,7 @@
 -- What a family stands for, as entries come.
-use Rattle.std.specs.Prelude.{◌≡◌, ◌≢◌, ◌⊎◌, ℕ, zero, suc, ◌+◌, ◌-◌, ◌<◌, ◌≤◌, true, false, cond, ◌||◌, ◌==◌, List, [], ◌∷◌, ◌++◌, length, take, drop, reverse, fold, None}
+use Rattle.std.specs.Prelude.{◌≡◌, ◌≢◌, ℕ, zero, suc, ◌+◌, ◌-◌, ◌<◌, ◌≤◌, true, false, cond, ◌||◌, ◌==◌, List, [], ◌∷◌, ◌++◌, length, take, drop, reverse, fold, None}
 use Rattle.std.specs.List.{AllByRecursion}
 use Rattle.std.proofs.Common.{refl, sym, ap, ◌∙◌, subst, inl, inr, arith, append_assoc}
-use Rattle.std.proofs.Math.Bool.{or-true}
 use Rattle.std.proofs.lemmas.Bool.{eqb-true, eq-eqb, ne_eqb, not-false, cases_lt}
 use Rattle.std.proofs.lemmas.List.{length-drop, length-take, length-reverse, reverse-append, take-append-drop, take_at, take_all}
 use Rattle.pana_copies.specs.declared.place.Place.{Place}
@@ -10,7 +9,7 @@ use Rattle.pana_journal.specs.declared.report.Report.TheVariants.{Register, Conf
 use Rattle.pana_journal.specs.declared.entry.Entry.{Entry}
 use Rattle.pana_family.specs.Updates.{has}
 use Rattle.pana_family.specs.Table.{Known}
-use Rattle.pana_family.specs.Sets.{Before, Sets, began, after, later_than, confirmed, withdrawn, Pends}
+use Rattle.pana_family.specs.Sets.{Before, Sets, began, after, later_than, confirmed, withdrawn}
 use Rattle.pana_hall.specs.Family.{families, begun_or_joined, subject}
 use Rattle.pana_hall.specs.Effective.{effective, is_of_copies, left_out}
 use Rattle.pana_hall.specs.Living.{living}
@@ -21,7 +20,7 @@ use Rattle.pana_hall.specs.Tables.{layer}
 use Rattle.pana_hall.specs.Laws.{family_of_next, AreRising}
 use Rattle.pana_hall.specs.Sets.{reported, knowns_of, of_each, of_pending, before_entry, sets_of}
 use Rattle.pana_hall.proofs.Lists.{each_append, each_weaker}
-use Rattle.pana_hall.proofs.Grown.{own, family_new}
+use Rattle.pana_hall.proofs.Grown.{family_new}
 use Rattle.pana_hall.proofs.Allowed.{first_none, none_false}
 use Rattle.pana_hall.proofs.Sound.{IsSound, family_named}
 use Rattle.pana_hall.proofs.Tables.{pending_report, pending_other, pending_rises, layer_report, layer_undone, layer_confirm, layer_withdraw, layer_other, pends, pending_withdraw}
@@ -256,20 +255,3 @@ sets_begun journal entry sound accepts family place is here =
     ∙ ap (λ f. after entry.number (reported entry.number entry.report) (sets_of f journal)) (own_is ∙ accepts.next)
     ∙ ap (after entry.number (reported entry.number entry.report)) (sets_new journal sound)
     ∙ ap (λ r. after entry.number (reported entry.number r) (sets [] [])) is
-
--- which entries are pending
-pub pends_in : (family : ℕ) (journal : List Entry) (k n : ℕ) (numbers : List ℕ) → has numbers n ≡ true → Pends n (of_each before_entry family journal k numbers)
-pends_in family journal k n [] is = absurd (cc)
-pends_in family journal k n (i ∷ numbers) is =
-    elim (i == n) as (λ b. (i == n) ≡ b → (b || has numbers n) ≡ true → (i ≡ n) ⊎ Pends n (of_each before_entry family journal (k + 1) numbers)) [
-      | true ↦ λ e h. inl (eqb-true i n e)
-      | false ↦ λ e h. inr (pends_in family journal (k + 1) n numbers h)
-    ] refl is
-
-pub in_pends : (family : ℕ) (journal : List Entry) (k n : ℕ) (numbers : List ℕ) → Pends n (of_each before_entry family journal k numbers) → has numbers n ≡ true
-in_pends family journal k n [] pends = absurd pends
-in_pends family journal k n (i ∷ numbers) pends =
-    elim pends [
-      | inl e ↦ ap (λ b. b || has numbers n) (eq-eqb i n e)
-      | inr rest ↦ let there = in_pends family journal (k + 1) n numbers rest in ap (λ b. (i == n) || b) there ∙ or-true (i == n)
-    ]

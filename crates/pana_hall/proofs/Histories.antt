@@ -15,7 +15,7 @@ use Rattle.pana_family.specs.View.{NamesLiving}
 use Rattle.pana_family.specs.declared.report.FamilyReport.{FamilyReport}
 use Rattle.pana_family.specs.declared.report.FamilyReport.TheVariants.{Duplicate, Edit, Reconcile, Merge, Remove, Touch}
 use Rattle.pana_hall.specs.declared.undo.Undo.{Undo}
-use Rattle.pana_hall.specs.inner.Undo.{CanGoBack, Undone, ends_in, history, last_place, later_than, undone}
+use Rattle.pana_hall.specs.inner.Undo.{CanGoBack, history, later_than, undone}
 
 -- the place that a record keeps
 abbrev pub place_of : Undo → Option Place

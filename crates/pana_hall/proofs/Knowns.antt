@@ -12,7 +12,7 @@ use Rattle.pana_journal.specs.declared.report.Report.TheVariants.{Register, Dupl
 use Rattle.pana_journal.specs.declared.entry.Entry.{Entry}
 use Rattle.pana_family.specs.Updates.{has, union}
 use Rattle.pana_family.specs.Holders.{is_copy, is_held, passed}
-use Rattle.pana_family.specs.Table.{Known, known, parcel, is_in, set_in, touch_in, change, without, knowing, registered, united, ends, settled, wrapped, copies_of}
+use Rattle.pana_family.specs.Table.{Known, known, parcel, is_in, set_in, touch_in, change, without, knowing, united, ends, settled, wrapped, copies_of}
 use Rattle.pana_family.proofs.Unions.{union_members}
 use Rattle.pana_hall.specs.Stamps.{as_known}
 use Rattle.pana_hall.specs.Living as living

@@ -1,5 +1,5 @@
 -- What the hall's bodies need beside the tables: pending lists, families of entries, and what a Withdraw brings back.
-use Rattle.std.specs.Prelude.{◌≡◌, ℕ, ◌+◌, ◌-◌, ◌<◌, true, false, cond, ◌||◌, ◌==◌, List, [], ◌∷◌, length, map, fold, Some}
+use Rattle.std.specs.Prelude.{◌≡◌, ℕ, ◌+◌, ◌<◌, true, false, cond, ◌||◌, ◌==◌, List, [], ◌∷◌, length, map, fold, Some}
 use Rattle.std.specs.List.{AllByRecursion}
 use Rattle.std.proofs.Common.{refl, sym, ap, ◌∙◌, subst, arith}
 use Rattle.std.proofs.lemmas.Bool.{eqb-true, ne_eqb}

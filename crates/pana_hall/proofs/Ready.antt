@@ -1,5 +1,5 @@
 -- What holds where nothing stands against a report: of its family and of the table of copies.
-use Rattle.std.specs.Prelude.{◌≡◌, ℕ, ◌+◌, true, List, length, Some, None, option_map}
+use Rattle.std.specs.Prelude.{◌≡◌, ℕ, ◌+◌, List, length, Some, None, option_map}
 use Rattle.std.proofs.Common.{refl, sym, ap, ◌∙◌, subst}
 use Rattle.pana_copies.specs.declared.place.Place.{Place}
 use Rattle.pana_copies.specs.Spots.{Table, kept, place_of}
@@ -17,13 +17,13 @@ use Rattle.pana_hall.specs.Tables as tables
 use Rattle.pana_hall.specs.Laws.{family_of_next}
 use Rattle.pana_hall.specs.inner.Undo.{KeptRows}
 use Rattle.pana_hall.specs.inner.Spots.{spot_of, IsFree}
-use Rattle.pana_hall.specs.inner.Kept.{next_entry, AreSpots, IsReady, family_of as family_kept}
+use Rattle.pana_hall.specs.inner.Kept.{next_entry, AreSpots, IsReady}
 use Rattle.pana_hall.proofs.Grown.{family_new}
 use Rattle.pana_hall.proofs.Sound.{IsSound, accepted_is_sound, living_fit, LivesIn, found_family, named_report}
 use Rattle.pana_hall.proofs.Tables.{table_own, merged}
 use Rattle.pana_hall.proofs.Places.{free_of}
 use Rattle.pana_hall.proofs.Spots.{living_below}
-use Rattle.pana_hall.proofs.Stood.{IsStood, can_report, layers_stand, next_above}
+use Rattle.pana_hall.proofs.Stood.{can_report, layers_stand, next_above}
 use Rattle.pana_hall.proofs.Moves.{Names, none_below}
 
 pub family_of : (journal : List Entry) (c : ℕ) (copy : Copy) → IsSound 8 journal → copy_in (living journal) c ≡ Some copy → copy.family ≡ families journal c

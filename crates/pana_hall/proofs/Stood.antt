@@ -1,5 +1,5 @@
 -- The rows that a journal gives a family stand for the sets that it gives it.
-use Rattle.std.specs.Prelude.{◌≡◌, ◌≢◌, ℕ, ◌+◌, ◌<◌, ◌≤◌, ◌^◌, Bool, true, false, cond, not, ◌==◌, List, [], ◌∷◌, ◌++◌, length, map, count_by, filter, Option, Some, None, is_some, option_and_then}
+use Rattle.std.specs.Prelude.{◌≡◌, ◌≢◌, ℕ, ◌+◌, ◌<◌, ◌≤◌, ◌^◌, Bool, true, false, cond, not, ◌==◌, List, [], ◌∷◌, ◌++◌, length, map, count_by, filter, Some, None, is_some, option_and_then}
 use Rattle.std.specs.Bool.{then_some}
 use Rattle.std.specs.List.{AllByRecursion}
 use Rattle.std.proofs.Common.{refl, sym, ap, ◌∙◌, subst, inl, inr, arith}
@@ -9,7 +9,6 @@ use Rattle.std.proofs.lemmas.List.Sums.{fold-append}
 use Rattle.pana_journal.specs.declared.report.Report.{Report}
 use Rattle.pana_journal.specs.declared.report.Report.TheVariants.{Register, Duplicate, Edit, Reconcile, Merge, Relocate, Remove, Confirm, Withdraw}
 use Rattle.pana_journal.specs.declared.entry.Entry.{Entry}
-use Rattle.pana_family.specs.declared.row.StampRow.{StampRow}
 use Rattle.pana_family.specs.declared.report.FamilyReport.{FamilyReport}
 use Rattle.pana_family.specs.declared.report.FamilyReport.TheVariants as family
 use Rattle.pana_family.specs.Kept.{IsKept}
@@ -52,7 +51,7 @@ use Rattle.pana_hall.proofs.FamilySets.{layer_new}
 use Rattle.pana_hall.proofs.More.{family_of_copy}
 use Rattle.pana_hall.specs.Board.{is_of}
 use Rattle.pana_hall.specs.declared.cause.Cause.TheVariants.{TooDeep}
-use Rattle.pana_hall.proofs.Mirrors.{Grows, IsMirrored, layer_within, layers_hold, layers_mirrored, mirrored_grows, read_lives, sets_old}
+use Rattle.pana_hall.proofs.Mirrors.{IsMirrored, layer_within, layers_hold, layers_mirrored, mirrored_grows, read_lives, sets_old}
 
 -- members of a table
 pub each_in : (P : Known → Type 0) (table : List Known) (t : Known) → AllByRecursion P table → In t table → P t

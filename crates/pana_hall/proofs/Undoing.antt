@@ -12,7 +12,7 @@ use Rattle.pana_hall.specs.Living.{copy_in, copies_of, living}
 use Rattle.pana_hall.specs.Refusal.{taken_from, brought_back, displaced}
 use Rattle.pana_hall.specs.Tables.{layer}
 use Rattle.pana_hall.specs.Laws.{family_of_next}
-use Rattle.pana_hall.specs.inner.Undo.{KeptRows, Undone, last_place}
+use Rattle.pana_hall.specs.inner.Undo.{KeptRows, last_place}
 use Rattle.pana_hall.specs.inner.Spots.{spot_of, spot_in, mover, spot_to, put, spot_after, undone_spot, CanUndo}
 use Rattle.pana_hall.specs.inner.Kept.{next_entry, place_before, undone_of, IsReady}
 use Rattle.pana_hall.proofs.Moves.{Names}

@@ -1,6 +1,6 @@
 use Rattle.std.specs.Prelude.{◌≡◌, ℕ, Bool, length}
 use Rattle.std.proofs.Common.{sym, ap, ◌∙◌}
-use Rattle.pana_family.specs.Board.{board_newest, board_split}
+use Rattle.pana_family.specs.Board.{board_newest}
 use Rattle.pana_family.specs.Rows.{copy_rows}
 use Rattle.pana_family.specs.Table.{copies_of}
 use Rattle.pana_family.proofs.BySets.{same_copies}

@@ -1,4 +1,4 @@
-use Rattle.std.specs.Prelude.{◌≡◌, option_copied}
+use Rattle.std.specs.Prelude.{option_copied}
 use Rattle.std.proofs.Common.{sym, ap, ◌∙◌}
 use Rattle.pana_hall.specs.inner.Undo.{KeptRows, ends_in}
 use Rattle.pana_hall.proofs.Histories.{history_first, history_none}

@@ -1,4 +1,4 @@
-use Rattle.std.specs.Prelude.{◌≡◌, Some, option_copied, option_map}
+use Rattle.std.specs.Prelude.{Some, option_copied, option_map}
 use Rattle.std.proofs.Common.{sym, ap, ◌∙◌}
 use Rattle.pana_hall.specs.inner.Undo.{KeptRows, last_place}
 use Rattle.pana_hall.proofs.Histories.{history_first, history_none}

@@ -1,9 +1,8 @@
-use Rattle.std.specs.Prelude.{◌≡◌, List, Option, ◌∷◌, take, option_map}
+use Rattle.std.specs.Prelude.{List, ◌∷◌, take, option_map}
 use Rattle.std.proofs.Common.{sym, ap, subst, ◌∙◌}
 use Rattle.pana_family.specs.declared.row.StampRow.{StampRow}
 use Rattle.pana_family.specs.Rows.{AreBefore}
 use Rattle.pana_family.specs.Report.{CanReport}
-use Rattle.pana_family.specs.After.{reported_rows}
 use Rattle.pana_hall.specs.inner.Undo.{KeptRows, history, kept_rows, reported_kept, undone}
 use Rattle.pana_hall.proofs.Histories.{names_living, kept_pushed, kept_roomier, pushed}
 use Rattle.pana_hall.proofs.kept_family.KeptFamily.report.Goals as goal

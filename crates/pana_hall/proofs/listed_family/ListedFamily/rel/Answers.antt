@@ -1,6 +1,5 @@
 use Rattle.std.specs.Prelude.{◌≡◌, ℕ, true}
 use Rattle.std.proofs.Common.{sym, ap, subst, ◌∙◌}
-use Rattle.pana_event.specs.declared.rel.Rel.TheVariants.{Equal}
 use Rattle.pana_family.specs.Relation.{relation}
 use Rattle.pana_family.specs.Rows.{lives}
 use Rattle.pana_family.specs.Table.{set_in}
