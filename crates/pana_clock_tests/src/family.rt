@@ -1,6 +1,7 @@
 ghost use Rattle.std.specs.Prelude.{IfOk};
 ghost use Rattle.pana_family.specs.Change.{after, Fits};
 ghost use Rattle.pana_family.specs.Kept.{IsKept};
+ghost use Rattle.pana_family.specs.View.{NamesLiving};
 
 use pana_event::Rel;
 use pana_family::{Change, Family, FamilyFault, FamilyReport};
@@ -18,16 +19,28 @@ fn texts(alloc: Global, family: &Family) -> Result<String, AllocError> {
     Ok(all)
 }
 
+/// Records a report of copies that live, where the entry is new.
+fn record(family: &mut Family, entry: u64, report: FamilyReport) -> Result<Change, FamilyFault>
+    requires { NamesLiving report family.old.rows }
+    ensures kept { IfOk result (λ back. IsKept (after back family.new.rows)) }
+    ensures fits { IfOk result (λ back. Fits back family.new.rows family.new.room) }
+{
+    if family.is_new(entry) {
+        return family.report(entry, report);
+    }
+    Err(FamilyFault::SameCopy)
+}
+
 fn duplicate(family: &mut Family, entry: u64, source: u64) -> Result<Change, FamilyFault> {
-    if family.has(source) && family.is_new(entry) {
-        return family.report(entry, FamilyReport::Duplicate(source));
+    if family.has(source) {
+        return record(family, entry, FamilyReport::Duplicate(source));
     }
     Err(FamilyFault::SameCopy)
 }
 
 fn edit(family: &mut Family, entry: u64, copy: u64) -> Result<Change, FamilyFault> {
-    if family.has(copy) && family.is_new(entry) {
-        return family.report(entry, FamilyReport::Edit(copy));
+    if family.has(copy) {
+        return record(family, entry, FamilyReport::Edit(copy));
     }
     Err(FamilyFault::SameCopy)
 }
@@ -36,29 +49,29 @@ fn reconcile(family: &mut Family, entry: u64, a: u64, b: u64) -> Result<Change, 
     ensures kept { IfOk result (λ back. IsKept (after back family.new.rows)) }
     ensures fits { IfOk result (λ back. Fits back family.new.rows family.new.room) }
 {
-    if family.has(a) && family.has(b) && family.is_new(entry) {
-        return family.report(entry, FamilyReport::Reconcile(a, b));
+    if family.has(a) && family.has(b) {
+        return record(family, entry, FamilyReport::Reconcile(a, b));
     }
     Err(FamilyFault::SameCopy)
 }
 
 fn merge(family: &mut Family, entry: u64, a: u64, b: u64) -> Result<Change, FamilyFault> {
-    if family.has(a) && family.has(b) && family.is_new(entry) {
-        return family.report(entry, FamilyReport::Merge(a, b));
+    if family.has(a) && family.has(b) {
+        return record(family, entry, FamilyReport::Merge(a, b));
     }
     Err(FamilyFault::SameCopy)
 }
 
 fn give(family: &mut Family, entry: u64, copy: u64, heir: u64) -> Result<Change, FamilyFault> {
-    if family.has(copy) && family.has(heir) && family.is_new(entry) {
-        return family.report(entry, FamilyReport::Remove(copy, Some(heir)));
+    if family.has(copy) && family.has(heir) {
+        return record(family, entry, FamilyReport::Remove(copy, Some(heir)));
     }
     Err(FamilyFault::SameCopy)
 }
 
 fn lose(family: &mut Family, entry: u64, copy: u64) -> Result<Change, FamilyFault> {
-    if family.has(copy) && family.is_new(entry) {
-        return family.report(entry, FamilyReport::Remove(copy, None));
+    if family.has(copy) {
+        return record(family, entry, FamilyReport::Remove(copy, None));
     }
     Err(FamilyFault::SameCopy)
 }

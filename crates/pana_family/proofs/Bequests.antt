@@ -13,11 +13,11 @@ use Rattle.pana_family.specs.Updates.{is_within}
 use Rattle.pana_family.specs.Holders.{leave, is_held, passed}
 use Rattle.pana_family.specs.Table.{Known, In, bequeathed, ends, lost, parcel, passed_on, set_in, settled, without, wrapped}
 use Rattle.pana_family.specs.Stands.{StandsFor}
-use Rattle.pana_family.specs.Rows.{AreBefore, IsRising, OwnSame, deepest, lives, owned, put_all}
+use Rattle.pana_family.specs.Rows.{AreBefore, IsRising, OwnSame, deepest, lives, owned, put_all, AreSound}
 use Rattle.pana_family.specs.Kept.{IsKept}
 use Rattle.pana_family.specs.Ends.{ends_from, goes, is_bound, parcel_row, stays_parcel}
 use Rattle.pana_family.specs.Exact.{lost_rows, settled_row}
-use Rattle.pana_family.specs.inner.Making.{AreSound, CanGather}
+use Rattle.pana_family.specs.inner.Making.{CanGather}
 use Rattle.pana_family.proofs.Sound.{Sound, Renumbered, renumbered}
 use Rattle.pana_family.proofs.Members.{Holds, held, in_append, in_left, one_row, to_sound}
 use Rattle.pana_family.proofs.Parcels.{any_from, any_some, in_leave, stays_in, not_held}

@@ -15,8 +15,7 @@ use Rattle.pana_family.specs.declared.row.StampRow.{StampRow}
 use Rattle.pana_family.specs.Updates.{has}
 use Rattle.pana_family.specs.Holders.{is_copy}
 use Rattle.pana_family.specs.Table.{In}
-use Rattle.pana_family.specs.Rows.{IsRising, lives, copy_rows}
-use Rattle.pana_family.specs.inner.Making.{AreSound}
+use Rattle.pana_family.specs.Rows.{IsRising, lives, copy_rows, AreSound}
 use Rattle.pana_family.specs.inner.Comparing.{AreCompared, HasCopies, is_other, relations, row_relation}
 use Rattle.pana_family.proofs.Members.{one_row}
 use Rattle.pana_family.proofs.Images.{in_filter, to_filter}

@@ -20,12 +20,12 @@ use Rattle.pana_family.specs.Updates.{has, union}
 use Rattle.pana_family.specs.Holders.{is_held, leave}
 use Rattle.pana_family.specs.Table.{Known, In, AreBelow, AreHeld, bequeathed, duplicated, ends, known, knowing, merged, parcel, passed_on, reconciled, set_in, settled, touched, edited, united, without, wrapped}
 use Rattle.pana_family.specs.Stands.{AreSame, StandsFor}
-use Rattle.pana_family.specs.Rows.{AreBefore, AreEdited, IsRising, IsUpdate, OwnSame, copy_rows, deepest, duplicated_rows, id_in, lives, put_all, renewed, replaced, retouched, row, row_in, stamp}
+use Rattle.pana_family.specs.Rows.{AreBefore, AreEdited, IsRising, IsUpdate, OwnSame, copy_rows, deepest, duplicated_rows, id_in, lives, put_all, renewed, replaced, retouched, row, row_in, stamp, AreSound}
 use Rattle.pana_family.specs.Kept.{IsKept}
 use Rattle.pana_family.specs.Ends.{goes, parcel_row, stays_parcel}
 use Rattle.pana_family.specs.Exact.{AreMergedRows, IsExact, bequeathed_rows, lost_rows, reconciled_rows, settled_row}
 use Rattle.pana_family.specs.Report.{Asks, CanReport, IsReported, deeper, loses, reported}
-use Rattle.pana_family.specs.inner.Making.{AreSound, IsRowOf}
+use Rattle.pana_family.specs.inner.Making.{IsRowOf}
 use Rattle.pana_family.proofs.Unions.{union_members}
 use Rattle.pana_family.proofs.Members.{in_append, in_replaced, in_without, of_known, one_row}
 use Rattle.pana_family.proofs.Places.{deepest_in, deepest_pushed, deepest_replaced, id_found, rising_pushed, rising_replaced, row_found}

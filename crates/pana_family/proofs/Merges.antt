@@ -13,10 +13,9 @@ use Rattle.pana_family.specs.declared.row.StampRow.{StampRow}
 use Rattle.pana_family.specs.Updates.{has, union}
 use Rattle.pana_family.specs.Table.{Known, In, AreBelow, merged, reconciled, set_in, settled, united}
 use Rattle.pana_family.specs.Stands.{StandsFor}
-use Rattle.pana_family.specs.Rows.{IsRising, OwnSame, deepest, lives, owned, stamp}
+use Rattle.pana_family.specs.Rows.{IsRising, OwnSame, deepest, lives, owned, stamp, AreSound}
 use Rattle.pana_family.specs.Kept.{IsKept}
 use Rattle.pana_family.specs.Ends.{ends_from}
-use Rattle.pana_family.specs.inner.Making.{AreSound}
 use Rattle.pana_family.proofs.Sound.{Sound, Others, Put, United, Updated, all_put, all_united, edit_keeps, join_keeps}
 use Rattle.pana_family.proofs.Members.{Holds, to_sound}
 use Rattle.pana_family.proofs.Unions.{union_members}

@@ -15,11 +15,11 @@ use Rattle.pana_family.specs.Updates.{is_within}
 use Rattle.pana_family.specs.Holders.{leave, is_held}
 use Rattle.pana_family.specs.Table.{Known, In, ends, knowing, settled, set_in, united}
 use Rattle.pana_family.specs.Stands.{StandsFor}
-use Rattle.pana_family.specs.Rows.{IsRising, put_back, stamp}
+use Rattle.pana_family.specs.Rows.{IsRising, put_back, stamp, AreSound}
 use Rattle.pana_family.specs.Kept.{IsKept}
 use Rattle.pana_family.specs.Ends.{ends_from, goes}
 use Rattle.pana_family.specs.Exact.{pair_rows, restamped, settled_row}
-use Rattle.pana_family.specs.inner.Making.{AreSound, CanGather}
+use Rattle.pana_family.specs.inner.Making.{CanGather}
 use Rattle.pana_family.proofs.Sound.{Sound, Put, fewer, part_left, part_right, share_keeps, sum_apart}
 use Rattle.pana_family.proofs.Sums.{Ending, Gathered, gathers, within_is}
 use Rattle.pana_family.proofs.Members.{Holds, held, one_row, put_more}

@@ -13,8 +13,8 @@ use Rattle.pana_stamp.specs.declared.stamp.Stamp.{Stamp}
 use Rattle.pana_family.specs.declared.row.StampRow.{StampRow}
 use Rattle.pana_family.specs.Updates.{is_within}
 use Rattle.pana_family.specs.Table.{In}
-use Rattle.pana_family.specs.Rows.{IsRising, deepest, stamp, with_ids}
-use Rattle.pana_family.specs.inner.Making.{AreApart, AreSound}
+use Rattle.pana_family.specs.Rows.{IsRising, deepest, stamp, with_ids, AreSound}
+use Rattle.pana_family.specs.inner.Making.{AreApart}
 use Rattle.pana_family.proofs.Sound.{Sound, Put, below_subset, either_way, fewer, knows_as, not_both, subset_below, turned}
 use Rattle.pana_family.proofs.Relations.{within_subset, subset_within}
 use Rattle.pana_family.proofs.Members.{above_low}

@@ -9,12 +9,12 @@ use Rattle.pana_event.proofs.Sound.{IsSound-joined, greatest-joined}
 use Rattle.pana_family.specs.declared.row.StampRow.{StampRow}
 use Rattle.pana_family.specs.declared.report.FamilyReport.{FamilyReport}
 use Rattle.pana_family.specs.declared.report.FamilyReport.TheVariants.{Duplicate, Edit, Reconcile, Merge, Remove, Touch}
-use Rattle.pana_family.specs.Rows.{AreBefore, IsRising, deepest, divides, id_in, lives, replaced, retouched, row, row_in, seed_row, stamp}
+use Rattle.pana_family.specs.Rows.{AreBefore, IsRising, deepest, divides, id_in, lives, replaced, retouched, row, row_in, seed_row, stamp, AreSound}
 use Rattle.pana_family.specs.Kept.{IsKept}
 use Rattle.pana_family.specs.Ends.{goes}
 use Rattle.pana_family.specs.Exact.{IsExact}
 use Rattle.pana_family.specs.Report.{CanReport}
-use Rattle.pana_family.specs.inner.Making.{AreSound, IsRowOf}
+use Rattle.pana_family.specs.inner.Making.{IsRowOf}
 use Rattle.pana_family.proofs.Members.{in_append, in_replaced}
 use Rattle.pana_family.proofs.Parcels.{in_leave}
 use Rattle.pana_family.proofs.Places.{id_found}

@@ -1,12 +1,13 @@
 //! Families: the living copies of one file, each with a stamp of Interval Tree Clocks.
 //!
-//! A `Family` records the reports of one file's copies and keeps no set of updates: how two copies relate comes from comparing
-//! their stamps, and is kept beside them. What it stands for is a table of sets, and each call's contract says what it does to that table. `laws` is
-//! for the proofs of those who keep families.
+//! A `Family` is the rows of one file's copies and parcels, and keeps no set of updates: how two copies relate comes from
+//! comparing their stamps, and is kept beside them. `prepare` makes the change of a report, `apply` makes the change in the rows
+//! and returns the one that takes it back, and who calls keeps that as long as it likes.
 //!
-//! Proved: each call does to the table what its report says, for every table that the family stands for; relations, boards and
-//! stamps are those of the table; a withdrawal gives back the stamps from before, tree for tree; a call that fails changes
-//! nothing. Only tested: that a call which takes memory succeeds where there is enough.
+//! Proved: the rows after a report are a function of those before, stamps and all (`report`, clause `rows`), and stand for what
+//! the report makes of each table of sets that those before stood for (`laws::report_is_of_sets`); relations, boards and stamps
+//! are those of the table; `take_back` gives back the rows from before, tree for tree; a call that fails leaves them as they
+//! were. Only tested: that a call which takes memory succeeds where there is enough.
 #![tactic(auto)]
 
 mod asking;

@@ -3,10 +3,10 @@ ghost use Rattle.std.specs.Prelude.{◌≡◌, ◌&&◌, ◌||◌, ◌==◌, tru
 ghost use Rattle.std.specs.List.{list_any};
 ghost use Rattle.pana_id.specs.Id.{sum_of, SharesNoPoint};
 ghost use Rattle.pana_event.specs.Order.{is_leq};
-ghost use Rattle.pana_family.specs.Rows.{with_ids};
+ghost use Rattle.pana_family.specs.Rows.{with_ids, AreSound};
 ghost use Rattle.pana_family.specs.Kept.{IsKept};
 ghost use Rattle.pana_family.specs.Exact.{settled_row};
-ghost use Rattle.pana_family.specs.inner.Making.{AreSound, CanGather, is_bound, ends_from, goes, stays_parcel, parcel_row};
+ghost use Rattle.pana_family.specs.inner.Making.{CanGather, is_bound, ends_from, goes, stays_parcel, parcel_row};
 
 use crate::making::copy_of;
 use crate::row::StampRow;

@@ -2,7 +2,7 @@
 ghost use Rattle.std.specs.Prelude.{◌≡◌, IfOk, map, filter};
 ghost use Rattle.pana_family.specs.Stamps.{text_of};
 ghost use Rattle.pana_family.specs.Stamps.{row_text};
-ghost use Rattle.pana_family.specs.inner.Making.{AreSound};
+ghost use Rattle.pana_family.specs.Rows.{AreSound};
 ghost use Rattle.pana_family.specs.Holders.{is_copy};
 
 use crate::row::StampRow;
