@@ -91,7 +91,7 @@ fn again(alloc: Global, family: Family) -> Result<Family, AllocError> {
 #[test]
 fn conflict_from_rows(rt: HostRuntime) -> Result<(), Fail> {
     let alloc = rt.alloc();
-    let mut family = again(alloc, Family::new(alloc, 1)?)?;
+    let mut family = again(alloc, Family::new(alloc, 1)?.0)?;
     duplicate(&mut family, 2, 1)?;
     family = again(alloc, family)?;
     edit(&mut family, 3, 1)?;
@@ -108,7 +108,7 @@ fn conflict_from_rows(rt: HostRuntime) -> Result<(), Fail> {
 #[test]
 fn parcel_settles(rt: HostRuntime) -> Result<(), Fail> {
     let alloc = rt.alloc();
-    let mut family = Family::new(alloc, 1)?;
+    let mut family = Family::new(alloc, 1)?.0;
     duplicate(&mut family, 2, 1)?;
     edit(&mut family, 3, 1)?;
     duplicate(&mut family, 4, 1)?;
@@ -139,7 +139,7 @@ fn parcel_settles(rt: HostRuntime) -> Result<(), Fail> {
 #[test]
 fn boards(rt: HostRuntime) -> Result<(), Fail> {
     let alloc = rt.alloc();
-    let mut family = Family::new(alloc, 1)?;
+    let mut family = Family::new(alloc, 1)?.0;
     duplicate(&mut family, 2, 1)?;
     duplicate(&mut family, 3, 1)?;
     edit(&mut family, 4, 1)?;

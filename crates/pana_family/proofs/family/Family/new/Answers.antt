@@ -26,8 +26,7 @@ returns c =
     c.in_ok-family.ensures.rows ∙ c.from_vec.ensures ∙ seeded c.args.entry c.seed.result _ _ c.seed.ensures.owner c.seed.ensures.event c.in_ok-items.ensures.items c.push_reserved.ensures.items in
     let gone : exchanged_all c.push_reserved-2.new.self.items c.in_ok-family.family.rows ≡ [] =
     ap (λ (l : List Exchange). exchanged_all l c.in_ok-family.family.rows) c.push_reserved-2.ensures.items ∙ ap (λ (l : List Exchange). exchanged_all (l ++ Take c.args.entry ∷ []) c.in_ok-family.family.rows) c.new-news.ensures.items
-    ∙ ap (dropped c.args.entry) rows ∙ ap (λ (b : Bool). cond b [] (seed_row c.args.entry ∷ [])) (eq-eqb c.args.entry c.args.entry refl) in
-    (
+    ∙ ap (dropped c.args.entry) rows ∙ ap (λ (b : Bool). cond b [] (seed_row c.args.entry ∷ [])) (eq-eqb c.args.entry c.args.entry refl) in (
       rows,
       record {
         rows = gone;
