@@ -106,12 +106,11 @@ impl Hall {
         ensures permitted { Permits self.old by.now (calls.Report report) result }
         ensures journal { self.new ≡ journal_after self.old by.now (calls.Report report) result }
     {
-        if let Some(cause) = self.state.report_refusal(by, &report) {
-            return Reply::Refused(cause);
-        }
-        match self.state.record(self.alloc, by, report) {
-            Ok(entry) => Reply::Done { entry },
-            Err(_) => Reply::Refused(Cause::OutOfMemory),
+        match self.state.prepare(self.alloc, by, report) {
+            Ok(next) => Reply::Done {
+                entry: self.state.commit(next),
+            },
+            Err(cause) => Reply::Refused(cause),
         }
     }
 

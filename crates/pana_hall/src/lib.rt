@@ -14,6 +14,7 @@ mod kept_family;
 pub mod laws;
 mod listed_family;
 mod loading;
+mod next;
 mod recording;
 mod refusal;
 mod reply;
