@@ -6,11 +6,10 @@ ghost use Rattle.pana_hall.specs.Run.{RunsTo};
 
 use crate::call::{Call, Query};
 use crate::cause::Cause;
-use crate::families::Families;
 use crate::reply::Reply;
 use crate::state::State;
-use pana_copies::{CopyTable, DeviceName};
-use pana_journal::{Journal, Report};
+use pana_copies::DeviceName;
+use pana_journal::Report;
 use std::alloc::{AllocError, Global};
 use std::collections::VecDeque;
 use std::marker::Model;
@@ -20,8 +19,8 @@ use std::marker::Model;
 /// It keeps a family of stamps for each file and the place of each living copy, and no set of updates.
 #[derive(Drop)]
 pub struct Hall {
-    alloc: Global,
-    state: State,
+    pub(crate) alloc: Global,
+    pub(crate) state: State,
 }
 
 impl Model for Hall {
@@ -41,17 +40,12 @@ impl Hall {
     ghost use Rattle.pana_hall.specs.declared.reply.Reply.TheVariants as replies;
 
     /// A hall with no copy and the empty journal. Fails only where memory runs out.
-    #[tactic(auto, unfolding(crate::specs::Living::copies_of))]
     pub fn new(alloc: Global) -> Result<Hall, AllocError>
         ensures { IfOk result (λ hall. hall ≡ []) }
     {
         Ok(Hall {
             alloc,
-            state: State {
-                journal: Journal::new(alloc),
-                families: Families::new(alloc),
-                copies: CopyTable::new(alloc),
-            },
+            state: State::new(alloc),
         })
     }
 

@@ -1,7 +1,7 @@
 //! The next entry of a journal, before it is made.
-use pana_copies::{DeviceName, Place};
+use pana_copies::Place;
 use pana_family::Change;
-use pana_journal::Report;
+use pana_journal::Entry;
 
 /// What the next entry changes, beside the journal. It has all memory that this takes.
 #[derive(Drop)]
@@ -15,11 +15,10 @@ pub enum Step {
     Settle,
 }
 
-/// A report that is to be the next entry, and the position of its family.
+/// An entry that is to be the next, the position of its family, and what it changes.
 #[derive(Drop)]
 pub struct Next {
-    pub by: DeviceName,
-    pub report: Report,
+    pub entry: Entry,
     pub position: usize,
     pub step: Step,
 }

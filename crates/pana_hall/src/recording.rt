@@ -18,7 +18,7 @@ use crate::listed_family::ListedFamily;
 use crate::next::{Next, Step};
 use crate::state::State;
 use pana_copies::{CopyTable, DeviceName, Place};
-use pana_journal::{Journal, Report};
+use pana_journal::{Entry, Journal, Report};
 use std::alloc::{AllocError, Global};
 
 /// Takes the memory for what the report of the next entry does to a family that has begun. Fails only where memory runs out.
@@ -171,8 +171,7 @@ impl State {
         requires free { report_refusal 8 self.old.journal.entries (living self.old.journal.entries) by.now report ≡ None }
         ensures journal { self.new.journal.entries ≡ self.old.journal.entries }
         ensures kept { IsHeld self.new }
-        ensures by { IfOk result (λ next. next.by ≡ by.now) }
-        ensures report { IfOk result (λ next. next.report ≡ report) }
+        ensures entry { IfOk result (λ next. next.entry ≡ next_entry self.old.journal.entries by.now report) }
         ensures next { IfOk result (IsNext self.new) }
     {
         self.journal.reserve_one().map_err(|_| AllocError)?;
@@ -181,9 +180,13 @@ impl State {
         let position = self.families.position_for(&report).unwrap();
         let list = &mut self.families.list;
         let step = prepare_step(alloc, &self.journal, by, list, position, &self.copies, &report)?;
-        Ok(Next {
+        let entry = Entry {
+            number: self.journal.length() + 1,
             by: by.copy_of(),
             report,
+        };
+        Ok(Next {
+            entry,
             position,
             step,
         })
@@ -200,8 +203,7 @@ impl State {
         ensures journal { self.new.journal.entries ≡ self.old.journal.entries }
         ensures kept { IsHeld self.new }
         ensures refused { IfErr result (IsRefused self.old.journal.entries by.now report) }
-        ensures by { IfOk result (λ next. next.by ≡ by.now) }
-        ensures report { IfOk result (λ next. next.report ≡ report) }
+        ensures entry { IfOk result (λ next. next.entry ≡ next_entry self.old.journal.entries by.now report) }
         ensures next { IfOk result (IsNext self.new) }
     {
         if let Some(cause) = self.report_refusal(by, &report) {
@@ -217,11 +219,10 @@ impl State {
     pub fn commit(&mut self, next: Next) -> u64
         requires kept { IsHeld self.old }
         requires next { IsNext self.old next }
-        ensures { Records self.old.journal.entries next.by next.report result self.new }
+        ensures { Records self.old.journal.entries next.entry.by next.entry.report result self.new }
     {
         let Next {
-            by,
-            report,
+            entry: Entry { by, report, .. },
             position,
             step,
         } = next;

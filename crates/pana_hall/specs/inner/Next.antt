@@ -38,9 +38,10 @@ IsStep n len capacity list position copies report step = Takes n list position c
 
 -- nothing stands against the report, and there is room for all that it changes
 pub record IsNext (state : State) (next : Next) : Type 0 where
-  pub free : report_refusal 8 state.journal.entries (living state.journal.entries) next.by next.report ≡ None
-  pub position : position_for (all_listed state.families.list.items) state.families.positions.items next.report ≡ Some next.position
+  pub number : next.entry.number ≡ length state.journal.entries + 1
+  pub free : report_refusal 8 state.journal.entries (living state.journal.entries) next.entry.by next.entry.report ≡ None
+  pub position : position_for (all_listed state.families.list.items) state.families.positions.items next.entry.report ≡ Some next.position
   pub entries : 0 < state.journal.room
   pub positions : vec_len state.families.positions < vec_capacity state.families.positions
   pub copies : 0 < state.copies.room
-  pub step : IsStep (length state.journal.entries + 1) (vec_len state.families.list) (vec_capacity state.families.list) state.families.list.items next.position state.copies next.report next.step
+  pub step : IsStep (length state.journal.entries + 1) (vec_len state.families.list) (vec_capacity state.families.list) state.families.list.items next.position state.copies next.entry.report next.step
