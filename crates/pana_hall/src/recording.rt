@@ -112,7 +112,15 @@ fn change_family(
 {
     match step {
         Step::Change(change, place, before) => {
-            apply_change(it, copies, journal.length() + 1, report, change, place, before)
+            apply_change(
+                it,
+                copies,
+                journal.length() + 1,
+                report,
+                change,
+                place,
+                before,
+            )
         }
         Step::Settle => settle(journal, by, it, copies, report),
         Step::Begin(_) => unreachable!(),
@@ -179,7 +187,15 @@ impl State {
         self.families.positions.reserve(1)?;
         let position = self.families.position_for(&report).unwrap();
         let list = &mut self.families.list;
-        let step = prepare_step(alloc, &self.journal, by, list, position, &self.copies, &report)?;
+        let step = prepare_step(
+            alloc,
+            &self.journal,
+            by,
+            list,
+            position,
+            &self.copies,
+            &report,
+        )?;
         let entry = Entry {
             number: self.journal.length() + 1,
             by: by.copy_of(),
@@ -193,12 +209,7 @@ impl State {
     }
 
     /// Takes the memory for a device's report, if nothing stands against it. The journal stays as it is.
-    pub fn prepare(
-        &mut self,
-        alloc: Global,
-        by: &DeviceName,
-        report: Report,
-    ) -> Result<Next, Cause>
+    pub fn prepare(&mut self, alloc: Global, by: &DeviceName, report: Report) -> Result<Next, Cause>
         requires { IsHeld self.old }
         ensures journal { self.new.journal.entries ≡ self.old.journal.entries }
         ensures kept { IsHeld self.new }
@@ -227,7 +238,15 @@ impl State {
             step,
         } = next;
         let list = &mut self.families.list;
-        make_step(&self.journal, &by, list, position, &mut self.copies, &report, step);
+        make_step(
+            &self.journal,
+            &by,
+            list,
+            position,
+            &mut self.copies,
+            &report,
+            step,
+        );
         self.families.positions.push_reserved(position);
         self.journal.append(by, report)
     }

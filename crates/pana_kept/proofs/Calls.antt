@@ -1,10 +1,9 @@
 -- Single calls: what each way that a report takes leaves.
-use Rattle.std.proofs.Common.{◌≡◌, ◌⊎◌, inl, inr, ⊎_elim, ℕ, ◌+◌, ◌≤◌, ◌<◌, ◌^◌, nat_lt, arith, Bool, true, false, IsTrue, List, [], ◌∷◌, ◌++◌, length, Option, Some, None, refl, sym, ◌∙◌, ap, subst}
+use Rattle.std.proofs.Common.{◌≡◌, ◌⊎◌, inl, inr, ⊎_elim, ℕ, ◌+◌, ◌≤◌, ◌<◌, ◌^◌, nat_lt, arith, Bool, IsTrue, List, [], ◌∷◌, ◌++◌, length, Some, None, refl, sym, ◌∙◌, ap, subst}
 use Rattle.std.proofs.lemmas.List.{append-nil}
 use Rattle.std.proofs.lemmas.Bool.{ltb-true, ltb-false}
 use Rattle.pana_journal.specs.declared.entry.Entry.{Entry}
 use Rattle.pana_journal.specs.declared.report.Report.{Report}
-use Rattle.pana_journal.specs.declared.report.Report.TheVariants as reports
 use Rattle.pana_hall.specs.declared.call.Call.{Call}
 use Rattle.pana_hall.specs.declared.call.Call.TheVariants as calls
 use Rattle.pana_hall.specs.declared.call.Query.{Query}
@@ -22,9 +21,9 @@ use Rattle.pana_keep.specs.declared.journal.Journal.{Journal}
 use Rattle.pana_keep.specs.declared.journal_state.JournalState.TheVariants.{Open, Broken}
 use Rattle.pana_keep.specs.Device.{LeavesOnly}
 use Rattle.pana_keep.specs.Lines.{recovered, text_of, IsBeforeOrAfter, HasRoom}
-use Rattle.pana_keep.specs.Journal.{IsSettled, IsStaged}
+use Rattle.pana_keep.specs.Journal.{IsSettled}
 use Rattle.pana_keep.proofs.Recovered.{which}
-use Rattle.pana_keep.proofs.Settled.{staged_settles, text_of-append}
+use Rattle.pana_keep.proofs.Settled.{text_of-append}
 use Rattle.pana_seal.specs.declared.sealer.Sealer.{Sealer}
 use Rattle.pana_seal.specs.Seal.{Covers}
 use Rattle.pana_kept.specs.Entries.{LoadsTo, LoadsFirst, IsLineOf, IsSealedBehind}

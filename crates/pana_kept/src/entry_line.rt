@@ -9,11 +9,7 @@ use std::alloc::{AllocError, Global};
 
 /// The line of an entry in a journal's file, with its newline, sealed behind the bytes that the sealer has taken up.
 /// Fails only where memory runs out.
-pub(crate) fn line_of(
-    alloc: Global,
-    sealer: &Sealer,
-    entry: &Entry,
-) -> Result<Vec<u8>, AllocError>
+pub(crate) fn line_of(alloc: Global, sealer: &Sealer, entry: &Entry) -> Result<Vec<u8>, AllocError>
     ensures line { IfOk result (λ line. IsLineOf entry.now line.items) }
     ensures sealed { IfOk result (λ line. (before : List ℕ) → Covers sealer.now before → IsSealedBehind before line.items) }
 {

@@ -106,14 +106,13 @@ fn finish<D: Device>(
 {
     let entry = prepared.entry().number;
     *hall = prepared.commit();
+    let reply = Reply::Done { entry };
     match journal.commit(line) {
         Ok(()) => {
             sealer.push(line);
-            Ok(Reply::Done { entry })
+            Ok(reply)
         }
-        Err(_) => Err(Unanswered {
-            reply: Reply::Done { entry },
-        }),
+        Err(_) => Err(Unanswered { reply }),
     }
 }
 

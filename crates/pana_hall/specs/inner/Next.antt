@@ -1,5 +1,5 @@
 -- The next entry of a journal, before it is made.
-use Rattle.std.specs.Prelude.{◌≡◌, ℕ, ◌+◌, ◌<◌, length, List, Option, Some, None, false, option_map, option_and_then, slice_get, vec_len, vec_capacity}
+use Rattle.std.specs.Prelude.{◌≡◌, ℕ, ◌+◌, ◌<◌, length, List, Some, None, false, option_map, option_and_then, slice_get, vec_len, vec_capacity}
 use Rattle.pana_copies.specs.Spots.{Table, place_of}
 use Rattle.pana_journal.specs.declared.report.Report.{Report}
 use Rattle.pana_journal.specs.declared.report.Report.TheVariants.{Register}

@@ -1,5 +1,5 @@
-use Rattle.std.specs.Prelude.{◌≡◌, ◌+◌, length}
-use Rattle.std.proofs.Common.{refl, sym, ap, subst}
+use Rattle.std.specs.Prelude.{◌+◌}
+use Rattle.std.proofs.Common.{refl, sym, subst}
 use Rattle.pana_hall.specs.declared.next.Step.TheVariants.{Change}
 use Rattle.pana_hall.specs.inner.Listed.{listed}
 use Rattle.pana_hall.specs.inner.Next.{IsStepOf}

@@ -1,5 +1,3 @@
-use Rattle.std.proofs.Common.{refl, ap}
-use Rattle.pana_hall.specs.Effective.{is_of_copies}
 use Rattle.pana_hall.proofs.Ready.{able_there, new_there}
 use Rattle.pana_hall.proofs.Changes.{lives_displaced, of_copies, of_family}
 use Rattle.pana_hall.proofs.recording.prepare_family.Goals as goal

@@ -1,8 +1,5 @@
-use Rattle.std.specs.Prelude.{◌≡◌, ◌+◌, ◌<◌, List, length, Ok, Err, Result, IfOk, vec_len, vec_capacity}
-use Rattle.std.proofs.Common.{refl, sym, ap, ◌∙◌, subst, arith}
-use Rattle.pana_journal.specs.declared.report.Report.TheVariants.{Register}
-use Rattle.pana_hall.specs.declared.listed_family.ListedFamily.{ListedFamily}
-use Rattle.pana_hall.specs.inner.Next.{IsStep}
+use Rattle.std.specs.Prelude.{◌≡◌, length, Ok, Err, Result, IfOk}
+use Rattle.std.proofs.Common.{ap, arith}
 use Rattle.pana_hall.proofs.Listed.{not_register, position_within, ready_at, still_there, takes_set, takes_step}
 use Rattle.pana_hall.proofs.recording.prepare_step.Goals as goal
 

@@ -1,4 +1,4 @@
-use Rattle.std.specs.Prelude.{◌≡◌, List, ◌∷◌, take, option_map}
+use Rattle.std.specs.Prelude.{List, ◌∷◌, take, option_map}
 use Rattle.std.proofs.Common.{sym, ap, subst, ◌∙◌}
 use Rattle.pana_family.specs.declared.row.StampRow.{StampRow}
 use Rattle.pana_hall.specs.inner.Undo.{IsPreparedIn, RoomyFamily, history, kept_rows, reported_kept, undone}

@@ -1,10 +1,10 @@
-use Rattle.std.specs.Prelude.{◌≡◌, Some, None, option_copied, option_map}
+use Rattle.std.specs.Prelude.{◌≡◌, Some, None, option_copied}
 use Rattle.std.proofs.Common.{sym, ap, ◌∙◌, subst}
 use Rattle.pana_copies.specs.declared.place.Place.{Place}
 use Rattle.pana_journal.specs.Entries.{entry_at}
 use Rattle.pana_hall.specs.inner.Families.{old_place}
 use Rattle.pana_hall.specs.inner.Spots.{IsThere, other_there}
-use Rattle.pana_hall.specs.inner.Listed.{all_listed, listed}
+use Rattle.pana_hall.specs.inner.Listed.{all_listed}
 use Rattle.pana_hall.proofs.Refusals.{back_place, taken_from_is}
 use Rattle.pana_hall.proofs.state.State.taken_since.Goals as goal
 
