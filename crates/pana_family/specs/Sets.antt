@@ -1,5 +1,5 @@
 -- The sets that a family stands for, and how they change.
-use Rattle.std.specs.Prelude.{◌≡◌, ℕ, ◌<◌, ◌⊎◌, ◌==◌, List, [], ◌∷◌, take, if◌then◌else◌}
+use Rattle.std.specs.Prelude.{ℕ, ◌<◌, ◌==◌, List, [], ◌∷◌, take, if◌then◌else◌}
 use Rattle.pana_family.specs.Table.{Known, In, registered}
 
 -- a table of sets, and those that withdrawing the pending entries brings back, the last entry's first
@@ -44,13 +44,3 @@ withdrawn sets = back sets.table sets.before
 -- the entry is greater than each number and touch of the table
 abbrev pub IsAbove : ℕ → List Known → Type 0
 IsAbove n table = (t : Known) → In t table → (t.copy < n) × (t.touch < n)
-
--- the entry is a pending one
-abbrev pub Pends : ℕ → List Before → Type 0
-Pends n [] = ⊥
-Pends n (b ∷ before) = (b.entry ≡ n) ⊎ Pends n before
-
--- the entry is the last pending one
-abbrev pub PendsLast : ℕ → List Before → Type 0
-PendsLast n [] = ⊥
-PendsLast n (b ∷ before) = b.entry ≡ n

@@ -13,6 +13,9 @@ use Rattle.pana_family.specs.Stands.{StandsFor}
 use Rattle.pana_family.specs.declared.stamps.CopyStamp.{CopyStamp}
 use Rattle.pana_family.specs.Stamps.{AreStamps, stamps_in, text_of}
 use Rattle.pana_hall.specs.inner.Undo.{KeptRows}
+use Rattle.pana_hall.specs.inner.Listed.{all_listed, listed}
+use Rattle.pana_hall.specs.declared.listed_family.ListedFamily.{ListedFamily}
+use Rattle.pana_hall.proofs.Lists.{map_map}
 use Rattle.pana_hall.specs.Family.{families, is_family, has_report, is_register}
 use Rattle.pana_hall.specs.Living.{Copy, copy_in, known_to, living}
 use Rattle.pana_hall.specs.declared.cause.Cause.TheVariants.{UnknownFamily}
@@ -125,16 +128,20 @@ pub lives_is : (journal : List Entry) (family : ℕ) → IsAccepted 8 journal �
 lives_is journal family accepted = ap (nat_lt 0) (count_rows journal family accepted) ∙ sym (any_count (is_of family) (living journal))
 
 -- each family of the list is the one of its number
-pub each_own : (journal : List Entry) (list : List KeptRows) → list ≡ families_of journal → AllByRecursion (λ it. it ≡ family_of journal it.number) list
-each_own journal list listed = subst (AllByRecursion (λ it. it ≡ family_of journal it.number)) (sym listed) (each (begun journal))
+pub each_own : (journal : List Entry) (list : List ListedFamily) → all_listed list ≡ families_of journal → AllByRecursion (λ it. listed it ≡ family_of journal (listed it).number) list
+each_own journal list is = below list (subst (AllByRecursion (λ it. it ≡ family_of journal it.number)) (sym is) (each (begun journal)))
   where
     each : (numbers : List ℕ) → AllByRecursion (λ it. it ≡ family_of journal it.number) (map (family_of journal) numbers)
     each [] = tt
     each (n ∷ numbers) = (refl, each numbers)
 
+    below : (xs : List ListedFamily) → AllByRecursion (λ it. it ≡ family_of journal it.number) (map listed xs) → AllByRecursion (λ it. listed it ≡ family_of journal (listed it).number) xs
+    below [] all = tt
+    below (x ∷ xs) all = (all.0, below xs all.1)
+
 -- and their numbers are those of the families that have begun
-pub numbers_own : (journal : List Entry) (list : List KeptRows) → list ≡ families_of journal → map (λ it. it.number) list ≡ begun journal
-numbers_own journal list listed = ap (map (λ it. it.number)) listed ∙ each (begun journal)
+pub numbers_own : (journal : List Entry) (list : List ListedFamily) → all_listed list ≡ families_of journal → map (λ it. (listed it).number) list ≡ begun journal
+numbers_own journal list is = sym (map_map listed (λ it. it.number) list) ∙ ap (map (λ (it : KeptRows). it.number)) is ∙ each (begun journal)
   where
     each : (numbers : List ℕ) → map (λ (it : KeptRows). it.number) (map (family_of journal) numbers) ≡ numbers
     each [] = refl

@@ -1,5 +1,5 @@
 -- What a report that isn't refused leaves: its family, and the table of copies.
-use Rattle.std.specs.Prelude.{◌≡◌, ℕ, ◌+◌, true, false, cond, List, [], ◌∷◌, ◌++◌, length, take, Result, Ok, Err, OnOk, Some, None, IfSome, IsSome, is_some, option_map, option_and_then}
+use Rattle.std.specs.Prelude.{◌≡◌, ℕ, ◌+◌, true, false, cond, List, [], ◌∷◌, ◌++◌, length, take, Some, None, IfSome, IsSome, is_some, option_map, option_and_then}
 use Rattle.std.proofs.Common.{refl, sym, ap, ◌∙◌, subst}
 use Rattle.std.proofs.Math.Path.{fun_ext}
 use Rattle.pana_copies.specs.declared.place.Place.{Place}
@@ -48,6 +48,11 @@ of_copies (Confirm m) first second = absurd (first m refl)
 of_copies (Withdraw m) first second = absurd (second m refl)
 of_copies report first second = refl
 
+pub reports_copies : (report : Report) {of : FamilyReport} → family_report report ≡ Some of → is_of_copies report ≡ true
+reports_copies (Confirm m) about = absurd (cc)
+reports_copies (Withdraw m) about = absurd (cc)
+reports_copies report about = refl
+
 module _ {journal : List Entry} {by : List ℕ} {report : Report} {it : KeptRows} {copies : Table} (ready : IsReady journal by report it copies) where
   -- the table goes by the report
   pub spots_reported : is_of_copies report ≡ true → (n : ℕ) → n ≡ length journal → (after_it : Table) → ((number : ℕ) → kept after_it number ≡ spot_after (n + 1) report (kept copies) number)
@@ -64,6 +69,11 @@ module _ {journal : List Entry} {by : List ℕ} {report : Report} {it : KeptRows
   kept_named : {r : Report} → report ≡ r → (c : ℕ) → Names r c → IsSome (kept copies c)
   kept_named is c names =
       let there = named ready c (subst (λ x. Names x c) (sym is) names) in ap is_some (ready.spots c ∙ ap (option_map spot_of) there.found)
+
+  -- so is the one that it moves or removes
+  pub lives_displaced : IfSome (displaced report) (λ copy. IsSome (kept copies copy))
+  lives_displaced =
+      elim (displaced report) as (λ o. displaced report ≡ o → IfSome o (λ copy. IsSome (kept copies copy))) [ None ↦ λ e. tt | Some c ↦ λ e. kept_named refl c (displaced_named report c e) ] refl
 
   -- a duplicate is kept beside its source
   spot_duplicate : {source : ℕ} {place : Place} → report ≡ Duplicate source place → Some (record { family = it.number; place = place }) ≡ placed place (kept copies source)
@@ -131,8 +141,3 @@ module _ {journal : List Entry} {by : List ℕ} {report : Report} {it : KeptRows
       made ∙ ap withdrawn ready.kept
       ∙ sym (families.family_withdraw m journal entry (accepted_is_sound 8 journal ready.accepted) (accepts_next journal by report ready.free) is)
       ∙ ap (λ (k : KeptRows). family_kept (journal ++ entry ∷ []) k.number) (sym ready.kept)
-
--- what holds of one result holds of what it gives
-pub on_ok : {T E : Type 0} {P Q : Type 0} (r : Result T E) → (P → Q) → OnOk r P → OnOk r Q
-on_ok (Ok x) f p = f p
-on_ok (Err e) f p = p

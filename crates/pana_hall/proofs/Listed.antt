@@ -1,5 +1,5 @@
 -- The families that have begun, as a list.
-use Rattle.std.specs.Prelude.{◌≡◌, ◌≢◌, ℕ, zero, suc, ◌+◌, ◌<◌, ◌≤◌, true, false, cond, ◌==◌, List, [], ◌∷◌, ◌++◌, length, map, filter, Some, None, slice_get, slice_set, slice_index_or, option_map, Result, Ok, Err, OnErr}
+use Rattle.std.specs.Prelude.{◌≡◌, ◌≢◌, ℕ, zero, suc, ◌+◌, ◌<◌, ◌≤◌, true, false, cond, ◌==◌, List, [], ◌∷◌, ◌++◌, length, map, filter, Some, None, slice_get, slice_set, slice_index_or, option_map}
 use Rattle.std.specs.List.{AllByRecursion}
 use Rattle.std.proofs.Common.{refl, sym, ap, ◌∙◌, subst, arith, append-nil}
 use Rattle.std.proofs.lemmas.List.{map-append}
@@ -15,6 +15,11 @@ use Rattle.pana_hall.specs.Refusal.{full, taken}
 use Rattle.pana_hall.specs.Laws.{AreRising, family_of_next}
 use Rattle.pana_hall.specs.inner.Undo.{KeptRows, new_kept}
 use Rattle.pana_hall.specs.inner.Spots.{IsFree}
+use Rattle.pana_hall.specs.inner.Listed.{all_listed, listed}
+use Rattle.pana_hall.specs.inner.Next.{IsStep, IsStepOf, Takes}
+use Rattle.pana_hall.specs.declared.listed_family.ListedFamily.{ListedFamily}
+use Rattle.pana_hall.specs.declared.next.Step.{Step}
+use Rattle.pana_hall.specs.declared.next.Step.TheVariants.{Begin, Change, Settle}
 use Rattle.pana_hall.specs.inner.Kept.{next_entry, AreSpots, IsReady, IsReadyAt, families_of, family_of}
 use Rattle.pana_hall.proofs.Lists.{each_weaker}
 use Rattle.pana_hall.proofs.Allowed.{first_none}
@@ -41,6 +46,21 @@ set_same : {X : Type 0} (xs : List X) (p : ℕ) (x : X) → slice_get xs p ≡ S
 set_same [] p x at = absurd (cc)
 set_same (y ∷ xs) zero x at = let same : y ≡ x = cc in ap (λ z. z ∷ xs) (sym same)
 set_same (y ∷ xs) (suc p) x at = ap (λ l. y ∷ l) (set_same xs p x at)
+
+get_unmap : {X Y : Type 0} (f : X → Y) (xs : List X) (p : ℕ) (y : Y) → slice_get (map f xs) p ≡ Some y → (x : X) × (slice_get xs p ≡ Some x) × (f x ≡ y)
+get_unmap f [] p y at = absurd (cc)
+get_unmap f (x ∷ xs) zero y at = (x, refl, cc)
+get_unmap f (x ∷ xs) (suc p) y at = get_unmap f xs p y at
+
+map_slice_set : {X Y : Type 0} (f : X → Y) (xs : List X) (p : ℕ) (x : X) → map f (slice_set xs p x) ≡ slice_set (map f xs) p (f x)
+map_slice_set f [] p x = refl
+map_slice_set f (y ∷ xs) zero x = refl
+map_slice_set f (y ∷ xs) (suc p) x = ap (λ l. f y ∷ l) (map_slice_set f xs p x)
+
+get_set : {X : Type 0} (xs : List X) (p : ℕ) (old x : X) → slice_get xs p ≡ Some old → slice_get (slice_set xs p x) p ≡ Some x
+get_set [] p old x at = absurd (cc)
+get_set (y ∷ xs) zero old x at = refl
+get_set (y ∷ xs) (suc p) old x at = get_set xs p old x at
 
 -- what is made of a number in a list
 pub get_map : {X : Type 0} (f : ℕ → X) (numbers : List ℕ) (p n : ℕ) → slice_get numbers p ≡ Some n → slice_get (map f numbers) p ≡ Some (f n)
@@ -80,43 +100,84 @@ begun_within last (e ∷ journal) within =
       | false ↦ begun_within last journal within.1
     ]
 
-module _ {journal : List Entry} {by : List ℕ} {report : Report} {list : List KeptRows} {position : ℕ} {copies : Table} where
+-- a step is of a family that has begun, or begins one
+pub step_takes : (n len capacity : ℕ) (list : List ListedFamily) (position : ℕ) (copies : Table) (report : Report) (step : Step) → ((place : Place) → step ≡ Begin place → ⊥)
+    → IsStep n len capacity list position copies report step → Takes n list position copies report step
+step_takes n len capacity list position copies report (Begin place) never is = absurd (never place refl)
+step_takes n len capacity list position copies report (Change change place before) never is = is
+step_takes n len capacity list position copies report Settle never is = is
+
+pub takes_step : (n len capacity : ℕ) (list : List ListedFamily) (position : ℕ) (copies : Table) (report : Report) (step : Step) → Takes n list position copies report step → IsStep n len capacity list position copies report step
+takes_step n len capacity list position copies report (Begin place) takes = absurd takes.is
+takes_step n len capacity list position copies report (Change change place before) takes = takes
+takes_step n len capacity list position copies report Settle takes = takes
+
+step_later : (n : ℕ) (it : ListedFamily) (copies : Table) (report : Report) (step : Step) → IsStepOf n it copies report step → is_register report ≡ false
+step_later n it copies (Register place) (Begin at) is = absurd is
+step_later n it copies (Register place) (Change change at before) is = let about = is.1 in absurd (cc)
+step_later n it copies (Register place) Settle is = let odd = is.0 in absurd (cc)
+step_later n it copies report step is = refl
+
+pub takes_later : {n : ℕ} {list : List ListedFamily} {position : ℕ} {copies : Table} {report : Report} {step : Step} → Takes n list position copies report step → is_register report ≡ false
+takes_later {n} {list} {position} {copies} {report} {step} takes = step_later n takes.it copies report step takes.is
+
+pub takes_at : {n : ℕ} {list : List ListedFamily} {position : ℕ} {copies : Table} {report : Report} {step : Step} → Takes n list position copies report step → (it d : ListedFamily) → it ≡ slice_index_or list position d
+    → IsStepOf n it copies report step
+takes_at {n} {list} {position} {copies} {report} {step} takes it d is =
+    subst (λ (k : ListedFamily). IsStepOf n k copies report step) (sym (is ∙ get_at list position takes.it d takes.found)) takes.is
+
+module _ (list : List ListedFamily) {journal : List Entry} {by : List ℕ} {report : Report} {position : ℕ} {copies : Table} where
   -- the family at the position
-  found_there : IsReadyAt journal by report list position copies → is_register report ≡ false → slice_get list position ≡ Some (family_of journal (family_of_next journal (next_entry journal by report)))
-  found_there ready later = ap (λ l. slice_get l position) ready.listed ∙ get_map (family_of journal) (begun journal) position _ (ready.at later)
+  found_there : IsReadyAt journal by report (all_listed list) position copies → is_register report ≡ false
+      → (it : ListedFamily) × (slice_get list position ≡ Some it) × (listed it ≡ family_of journal (family_of_next journal (next_entry journal by report)))
+  found_there ready later =
+      get_unmap listed list position _ (ap (λ l. slice_get l position) ready.listed ∙ get_map (family_of journal) (begun journal) position _ (ready.at later))
 
   -- is ready
-  pub ready_at : IsReadyAt journal by report list position copies → is_register report ≡ false → (it d : KeptRows) → it ≡ slice_index_or list position d → IsReady journal by report it copies
-  ready_at ready later it d is = record {
-    accepted = ready.accepted;
-    free = ready.free;
-    later = later;
-    kept = is ∙ get_at list position _ d (found_there ready later);
-    spots = ready.spots;
-  }
+  pub ready_at : IsReadyAt journal by report (all_listed list) position copies → is_register report ≡ false → (it d : ListedFamily) → it ≡ slice_index_or list position d → IsReady journal by report (listed it) copies
+  ready_at ready later it d is =
+      let there = found_there ready later in
+      record {
+        accepted = ready.accepted;
+        free = ready.free;
+        later = later;
+        kept = ap listed (is ∙ get_at list position there.0 d there.1) ∙ there.2;
+        spots = ready.spots;
+      }
 
   -- the list, with that family changed
-  pub listed_set : IsReadyAt journal by report list position copies → is_register report ≡ false → (it d after_it : KeptRows) → it ≡ slice_index_or list position d
-      → after_it ≡ family_of (journal ++ next_entry journal by report ∷ []) it.number → slice_set list position after_it ≡ families_of (journal ++ next_entry journal by report ∷ [])
+  pub listed_set : IsReadyAt journal by report (all_listed list) position copies → is_register report ≡ false → (it d after_it : ListedFamily) → it ≡ slice_index_or list position d
+      → listed after_it ≡ family_of (journal ++ next_entry journal by report ∷ []) (listed it).number → all_listed (slice_set list position after_it) ≡ families_of (journal ++ next_entry journal by report ∷ [])
   listed_set ready later it d after_it is made =
       let entry = next_entry journal by report in
       let journal' = journal ++ entry ∷ [] in
       let own = family_of_next journal entry in
       let sound = accepted_is_sound 8 journal ready.accepted in
-      let number : it.number ≡ own = ap (λ (k : KeptRows). k.number) (ready_at ready later it d is).kept in
-      ap (λ (l : List KeptRows). slice_set l position after_it) ready.listed
+      let number : (listed it).number ≡ own = ap (λ (k : KeptRows). k.number) (ready_at ready later it d is).kept in
+      map_slice_set listed list position after_it
+      ∙ ap (λ (l : List KeptRows). slice_set l position (listed after_it)) ready.listed
       ∙ ap (slice_set (families_of journal) position) (made ∙ ap (family_of journal') number)
       ∙ map_set (family_of journal) (family_of journal') 0 (begun journal) position own (begun_rises journal sound.rising) (ready.at later)
       (λ k other. family_other k journal entry sound (accepts_next journal by report ready.free) (λ h. other (sym h)))
       ∙ ap (map (family_of journal')) (sym (begun-next journal entry ∙ ap (λ b. begun journal ++ cond b ((length journal + 1) ∷ []) []) later ∙ append-nil (begun journal)))
 
-  pub still_there : IsReadyAt journal by report list position copies → is_register report ≡ false → (it d after_it : KeptRows) → it ≡ slice_index_or list position d → after_it ≡ it → slice_set list position after_it ≡ list
+  -- or kept in another form
+  pub still_there : IsReadyAt journal by report (all_listed list) position copies → is_register report ≡ false → (it d after_it : ListedFamily) → it ≡ slice_index_or list position d → listed after_it ≡ listed it
+      → all_listed (slice_set list position after_it) ≡ all_listed list
   still_there ready later it d after_it is same =
       let there = found_there ready later in
-      ap (slice_set list position) (same ∙ is ∙ get_at list position _ d there) ∙ set_same list position _ there
+      map_slice_set listed list position after_it
+      ∙ set_same (all_listed list) position (listed after_it)
+      (ap (λ l. slice_get l position) ready.listed ∙ get_map (family_of journal) (begun journal) position _ (ready.at later) ∙ ap (λ k. Some k) (sym (same ∙ (ready_at ready later it d is).kept)))
 
-  pub position_within : IsReadyAt journal by report list position copies → is_register report ≡ false → position < length list
-  position_within ready later = within_length list position _ (found_there ready later)
+  -- which takes what was prepared for it
+  pub takes_set : IsReadyAt journal by report (all_listed list) position copies → is_register report ≡ false → (n : ℕ) (after_it : ListedFamily) (step : Step) → IsStepOf n after_it copies report step
+      → Takes n (slice_set list position after_it) position copies report step
+  takes_set ready later n after_it step is =
+      let there = found_there ready later in record { it = after_it; found = get_set list position there.0 after_it there.1; is = is }
+
+  pub position_within : IsReadyAt journal by report (all_listed list) position copies → is_register report ≡ false → position < length list
+  position_within ready later = let there = found_there ready later in within_length list position there.0 there.1
 
 module _ {journal : List Entry} {by : List ℕ} {place : Place} {list : List KeptRows} {position : ℕ} {copies : Table} where
   pub fresh_register : IsReadyAt journal by (Register place) list position copies → kept copies (length journal + 1) ≡ None
@@ -156,7 +217,3 @@ module _ {journal : List Entry} {by : List ℕ} {place : Place} {list : List Kep
 pub not_register : (report : Report) → ((place : Place) → report ≡ Register place → ⊥) → is_register report ≡ false
 not_register (Register place) never = absurd (never place refl)
 not_register report never = refl
-
-pub on_err : {T E : Type 0} {P Q : Type 0} (r : Result T E) → (P → Q) → OnErr r P → OnErr r Q
-on_err (Ok x) f p = p
-on_err (Err e) f p = f p

@@ -4,7 +4,7 @@ use Rattle.std.specs.List.{AllByRecursion}
 use Rattle.std.proofs.Common.{refl, sym, ap, ◌∙◌, inl, inr, arith}
 use Rattle.std.proofs.lemmas.Bool.{eqb-true, ne_eqb, cases_lt}
 use Rattle.std.proofs.lemmas.List.{length-append, length-map}
-use Rattle.pana_copies.specs.Spots.{Table}
+use Rattle.pana_copies.specs.Spots.{Table, kept}
 use Rattle.pana_journal.specs.declared.report.Report.{Report}
 use Rattle.pana_journal.specs.declared.entry.Entry.{Entry}
 use Rattle.pana_journal.specs.Entries.{entry_at}
@@ -86,6 +86,11 @@ position_push positions p =
     let place : length positions + 1 - 1 ≡ length positions = omega arith in
     ap (λ b. cond b None (slice_get (positions ++ p ∷ []) (length positions + 1 - 1))) (ne_eqb (length positions + 1) 0 (λ h. omega arith))
     ∙ ap (slice_get (positions ++ p ∷ [])) place ∙ slice_get-push positions p
+
+-- with the copies in another table
+pub ready_same : {journal : List Entry} {by : List ℕ} {report : Report} {list : List KeptRows} {position : ℕ} {copies : Table} → IsReadyAt journal by report list position copies → (copies' : Table)
+    → ((number : ℕ) → kept copies' number ≡ kept copies number) → IsReadyAt journal by report list position copies'
+ready_same ready copies' same = record { accepted = ready.accepted; free = ready.free; listed = ready.listed; spots = λ number. same number ∙ ready.spots number; at = ready.at }
 
 module _ (journal : List Entry) (by : List ℕ) (report : Report) (list : List KeptRows) (positions : List ℕ) (copies : Table) where
   -- a report has a position for its family

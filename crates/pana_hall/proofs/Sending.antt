@@ -9,9 +9,7 @@ use Rattle.std.below.std_heap.proofs.GlobalAllocator.TheSendSync as frees
 use Rattle.circular_buffer.proofs.heap.HeapCircularBuffer.TheSendSync as rings
 use Rattle.pana_hall.specs.contracts.kept_family.KeptFamily as kept_family
 use Rattle.pana_hall.specs.contracts.kept_family.KeptFamily.TheInside as kept_inside
-use Rattle.pana_hall.specs.contracts.listed_family.Form as form
 use Rattle.pana_hall.specs.contracts.listed_family.ListedFamily as listed_family
-use Rattle.pana_hall.specs.contracts.listed_family.ListedFamily.TheInside as listed_inside
 use Rattle.pana_hall.specs.contracts.families.Families as families
 use Rattle.pana_hall.specs.contracts.state.State as state
 use Rattle.pana_hall.specs.contracts.hall.Hall as hall
@@ -28,11 +26,8 @@ undo_send = declared_send undo.the_type (search sendable, (change_send, (options
 kept_family_send : IsSend kept_family.the_row
 kept_family_send = view_send _ _ _ _ _ (declared_send kept_inside.the_type (search sendable, (family_send, (rings.the_send _ _ _ undo_send global.the_send frees.the_frees, tt))))
 
-form_send : IsSend form.the_row
-form_send = variants_send form.enum ((search sendable, tt), ((boxes.the_send _ _ _ kept_family_send global.the_send frees.the_frees, tt), tt))
-
 listed_family_send : IsSend listed_family.the_row
-listed_family_send = view_send _ _ _ _ _ (declared_send listed_inside.the_type (form_send, tt))
+listed_family_send = variants_send listed_family.enum ((search sendable, tt), ((boxes.the_send _ _ _ kept_family_send global.the_send frees.the_frees, tt), tt))
 
 families_send : IsSend families.the_row
 families_send = declared_send families.the_type (vecs.the_send _ _ _ listed_family_send global.the_send frees.the_frees, (vecs.the_send _ _ _ (search sendable) global.the_send frees.the_frees, tt))

@@ -10,6 +10,7 @@ pub mod Holdings
 pub mod Queries
 pub mod Refusal
 pub mod Permit
+pub mod Prepared
 pub mod Run
 pub mod Step
 pub mod Accepted

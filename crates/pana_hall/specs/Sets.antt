@@ -1,25 +1,24 @@
 -- What a family stands for after a journal: its table of sets, with the parcels, and the tables that withdrawing its
 -- pending entries one after another would give back.
-use Rattle.std.specs.Prelude.{ℕ, ◌+◌, List, [], ◌∷◌, ◌++◌, fold, reverse}
+use Rattle.std.specs.Prelude.{ℕ, ◌+◌, List, [], ◌∷◌, ◌++◌, Option, Some, None, fold, reverse, if◌then◌else◌}
 use Rattle.pana_journal.specs.declared.report.Report.{Report}
-use Rattle.pana_journal.specs.declared.report.Report.TheVariants.{Register, Duplicate, Edit, Reconcile, Merge, Relocate, Remove, Confirm, Withdraw}
 use Rattle.pana_journal.specs.declared.entry.Entry.{Entry}
-use Rattle.pana_family.specs.Table.{Known, registered, duplicated, edited, reconciled, merged, touched, removed}
+use Rattle.pana_family.specs.declared.report.FamilyReport.{FamilyReport}
+use Rattle.pana_family.specs.Report as family
+use Rattle.pana_family.specs.Table.{Known, registered}
 use Rattle.pana_family.specs.Sets.{Before, Sets}
+use Rattle.pana_hall.specs.Family.{family_report, is_register}
 use Rattle.pana_hall.specs.Pending.{pending}
 use Rattle.pana_hall.specs.Tables.{layer}
 
--- what entry n's report changes in its family's table
+-- the table after what entry n reports of its family's copies, if it does
+abbrev pub changed_table : ℕ → Option FamilyReport → List Known → List Known
+changed_table n None table = table
+changed_table n (Some report) table = family.reported n report table
+
+-- the table after entry n's report: a Register begins with its copy, which knows no update
 abbrev pub reported : ℕ → Report → List Known → List Known
-reported n (Register place) table = table ++ registered n
-reported n (Duplicate source place) table = duplicated n source table
-reported n (Edit copy) table = edited n copy table
-reported n (Reconcile a b) table = reconciled n a b table
-reported n (Merge a b) table = merged n a b table
-reported n (Relocate copy place) table = touched n copy table
-reported n (Remove copy heir) table = removed n copy heir table
-reported n (Confirm entry) table = table
-reported n (Withdraw entry) table = table
+reported n report table = if is_register report then table ++ registered n else changed_table n (family_report report) table
 
 abbrev pub reported_by : List Known → Entry → List Known
 reported_by table entry = reported entry.number entry.report table

@@ -4,5 +4,6 @@ pub mod Families
 pub mod Spots
 pub mod Listed
 pub mod Kept
+pub mod Next
 pub mod State
 pub mod Rows

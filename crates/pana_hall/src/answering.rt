@@ -13,6 +13,7 @@ ghost use Rattle.pana_hall.specs.inner.Rows.{holding_in, placed_row, row_of_sets
 ghost use Rattle.pana_hall.specs.Refusal.{query_refusal};
 ghost use Rattle.pana_hall.specs.Permit.{Answers, IsShortage};
 ghost use Rattle.pana_hall.specs.inner.State.{IsHeld};
+ghost use Rattle.pana_hall.specs.inner.Listed.{listed};
 
 use crate::board::{BoardRow, BoardView};
 use crate::call::{Call, Query};
@@ -133,7 +134,7 @@ impl State {
 
 /// A family's row, read off its board.
 fn family_row(alloc: Global, it: &ListedFamily) -> Result<FamilyRow, AllocError>
-    ensures { IfOk result (λ row. (table : List Known) → StandsFor it.now.rows table → row ≡ row_of_sets it.now.number table) }
+    ensures { IfOk result (λ row. (table : List Known) → StandsFor (listed it.now).rows table → row ≡ row_of_sets (listed it.now).number table) }
 {
     let board = it.board(alloc)?;
     Ok(FamilyRow {

@@ -1,18 +1,22 @@
-//! What reports do to a family and to the table of copies. None of these changes anything where memory runs out.
-ghost use Rattle.std.specs.Prelude.{◌≡◌, ℕ, ◌<◌, List, Option, Some, IfOk, IfSome, IsSome, OnOk, OnErr, option_map, option_and_then};
+//! What reports do to a family and to the table of copies: the memory for it first, and then the change, which can't fail.
+ghost use Rattle.std.specs.Prelude.{◌≡◌, ℕ, ◌<◌, Some, IfOk, IfSome, IsSome, option_map, option_and_then};
 ghost use Rattle.pana_copies.specs.Spots.{kept, place_of};
 ghost use Rattle.pana_family.specs.Rows.{AreBefore};
 ghost use Rattle.pana_family.specs.Report.{CanReport};
 ghost use Rattle.pana_family.specs.declared.report.FamilyReport.{FamilyReport as OfFamily};
 ghost use Rattle.pana_hall.specs.Family.{family_report};
 ghost use Rattle.pana_hall.specs.Refusal.{displaced};
-ghost use Rattle.pana_hall.specs.inner.Spots.{SameSpots, CanPlace, CanUndo, place_in, spot_after, undone_spot};
+ghost use Rattle.pana_hall.specs.inner.Spots.{CanPlace, CanUndo, place_in, spot_after, undone_spot};
 ghost use Rattle.pana_hall.specs.inner.Undo.{last_place, reported_kept, withdrawn};
+ghost use Rattle.pana_hall.specs.inner.Listed.{IsGrown, listed};
+ghost use Rattle.pana_hall.specs.inner.Next.{IsStepOf};
 
 use crate::families::family_report;
-use crate::kept_family::KeptFamily;
+use crate::listed_family::ListedFamily;
+use crate::next::Step;
 use crate::refusal::displaced;
 use pana_copies::{CopyTable, Place};
+use pana_family::Change;
 use pana_journal::Report;
 use std::alloc::{AllocError, Global};
 
@@ -48,7 +52,7 @@ fn place_before(
 
 /// Keeps the copy that a report makes or moves at the place that it gives it, and the one that it removes no longer. Takes no
 /// memory.
-pub fn place_copy(
+fn place_copy(
     copies: &mut CopyTable,
     entry: u64,
     family: u64,
@@ -74,46 +78,58 @@ pub fn place_copy(
     }
 }
 
-/// Records what the next entry reports of copies of a family that has begun.
-pub fn report_copies(
+/// Takes the memory for what the next entry reports of copies of a family that has begun.
+pub fn prepare_change(
     alloc: Global,
-    it: &mut KeptFamily,
-    copies: &mut CopyTable,
+    it: &mut ListedFamily,
+    copies: &CopyTable,
     entry: u64,
     report: &Report,
-) -> Result<(), AllocError>
-    requires able { (of : OfFamily) × (family_report report.now ≡ Some of) × CanReport of it.old.rows }
-    requires new { AreBefore entry it.old.rows }
-    requires can { CanPlace entry report.now it.old.number copies.old }
-    ensures family { OnOk result (IfSome (family_report report.now)
-        (λ of. it.new ≡ reported_kept entry of (option_and_then (place_of copies.old) (displaced report.now)) it.old)) }
-    ensures spots { OnOk result ((number : ℕ) → kept copies.new number ≡ spot_after entry report.now (kept copies.old) number) }
-    ensures same { OnErr result (it.new ≡ it.old) }
-    ensures still { OnErr result (SameSpots copies.old copies.new) }
+) -> Result<Step, AllocError>
+    requires able { (of : OfFamily) × (family_report report.now ≡ Some of) × CanReport of (listed it.old).rows }
+    requires new { AreBefore entry (listed it.old).rows }
+    requires lives { IfSome (displaced report.now) (λ copy. IsSome (kept copies.now copy)) }
+    ensures same { listed it.new ≡ listed it.old }
+    ensures step { IfOk result (IsStepOf entry it.new copies.now report.now) }
 {
     let of_family = family_report(report).unwrap();
     let place = place_in(report)?;
     let before = place_before(alloc, copies, report)?;
-    copies.reserve()?;
-    it.report(entry, of_family, before)?;
-    place_copy(copies, entry, it.number(), report, place);
-    Ok(())
+    let change = it.prepare(alloc, entry, of_family)?;
+    Ok(Step::Change(change, place, before))
 }
 
-/// Undoes the last pending entry, which is this one, with this report.
-pub fn withdraw(
-    it: &mut KeptFamily,
+/// Records what the next entry reports of copies of a family that has begun, as `prepare_change` prepared it. Takes no memory.
+pub fn apply_change(
+    it: &mut ListedFamily,
     copies: &mut CopyTable,
     entry: u64,
     report: &Report,
-) -> Result<(), AllocError>
-    requires { CanUndo entry report.now it.old.number (last_place it.old.undo) copies.old }
-    ensures family { OnOk result (it.new ≡ withdrawn it.old) }
-    ensures spots { OnOk result ((number : ℕ) → kept copies.new number ≡ undone_spot entry report.now it.old.number (last_place it.old.undo) copies.old number) }
-    ensures same { OnErr result (it.new ≡ it.old) }
-    ensures still { OnErr result (SameSpots copies.old copies.new) }
+    change: Change,
+    place: Option<Place>,
+    before: Option<Box<Place>>,
+)
+    requires step { IsStepOf entry it.old copies.old report.now (Step.Change change place before) }
+    requires can { CanPlace entry report.now (listed it.old).number copies.old }
+    requires room { 0 < copies.old.room }
+    ensures family { IfSome (family_report report.now)
+        (λ of. listed it.new ≡ reported_kept entry of (option_and_then (place_of copies.old) (displaced report.now)) (listed it.old)) }
+    ensures spots { (number : ℕ) → kept copies.new number ≡ spot_after entry report.now (kept copies.old) number }
 {
-    copies.reserve()?;
+    let family = it.number();
+    it.apply(entry, family_report(report).unwrap(), change, before);
+    place_copy(copies, entry, family, report, place);
+}
+
+/// Undoes the last pending entry, which is this one, with this report. Takes no memory.
+pub fn withdraw(it: &mut ListedFamily, copies: &mut CopyTable, entry: u64, report: &Report)
+    requires grown { IsGrown it.old }
+    requires undo { CanUndo entry report.now (listed it.old).number (last_place (listed it.old).undo) copies.old }
+    requires room { 0 < copies.old.room }
+    ensures family { listed it.new ≡ withdrawn (listed it.old) }
+    ensures spots { (number : ℕ) → kept copies.new number
+        ≡ undone_spot entry report.now (listed it.old).number (last_place (listed it.old).undo) copies.old number }
+{
     let family = it.number();
     let place = it.withdraw();
     match report {
@@ -126,5 +142,4 @@ pub fn withdraw(
         Report::Remove { copy, .. } => copies.insert(*copy, family, place.unwrap()),
         _ => {}
     }
-    Ok(())
 }

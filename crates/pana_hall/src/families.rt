@@ -1,13 +1,14 @@
 //! The families that have begun.
-ghost use Rattle.std.specs.Prelude.{◌≡◌, ◌<◌, [], ◌∷◌, ◌++◌, length, option_copied, OnOk, OnErr, ℕ};
+ghost use Rattle.std.specs.Prelude.{◌≡◌, [], option_copied, option_map};
 ghost use Rattle.pana_hall.specs.Family.{family_report, subject};
 ghost use Rattle.pana_hall.specs.inner.Families.{family_at, position_at};
+ghost use Rattle.pana_hall.specs.inner.Listed.{all_listed, listed};
 ghost use Rattle.pana_hall.specs.inner.Kept.{position_for};
 
 use crate::listed_family::ListedFamily;
 use pana_family::FamilyReport;
 use pana_journal::Report;
-use std::alloc::{AllocError, Global};
+use std::alloc::Global;
 
 /// The families that have begun, by rising number, and for each entry of the journal the position of its family.
 #[derive(Drop)]
@@ -44,7 +45,7 @@ impl Families {
 
     /// The position for the family of a report: that of its subject's, or for a Register the next one. Takes no memory.
     pub fn position_for(&self, report: &Report) -> Option<usize>
-        ensures { result ≡ position_for self.now.list.items self.now.positions.items report.now }
+        ensures { result ≡ position_for (all_listed self.now.list.items) self.now.positions.items report.now }
     {
         match subject(report) {
             Some(number) => self.position_of(number),
@@ -52,28 +53,9 @@ impl Families {
         }
     }
 
-    /// Puts the position of the next entry's family at the end. Fails only where memory runs out, and then changes nothing.
-    pub fn push_position(&mut self, position: usize) -> Result<(), AllocError>
-        ensures list { self.new.list ≡ self.old.list }
-        ensures ok { OnOk result (self.new.positions.items ≡ self.old.positions.items ++ position ∷ []) }
-        ensures err { OnErr result (self.new.positions.items ≡ self.old.positions.items) }
-    {
-        self.positions.push(position)?;
-        Ok(())
-    }
-
-    /// Takes the last one away. Takes no memory.
-    pub fn pop_position(&mut self)
-        requires { 0 < length self.old.positions.items }
-        ensures list { self.new.list ≡ self.old.list }
-        ensures positions { (position : ℕ) × (self.old.positions.items ≡ self.new.positions.items ++ position ∷ []) }
-    {
-        let _ = self.positions.pop();
-    }
-
     /// The family of an entry, if there is such an entry. Takes no memory.
     pub fn of_entry(&self, number: u64) -> Option<&ListedFamily>
-        ensures { option_copied result ≡ family_at self.now.list.items self.now.positions.items number }
+        ensures { option_map listed (option_copied result) ≡ family_at (all_listed self.now.list.items) self.now.positions.items number }
     {
         self.list.get(self.position_of(number)?)
     }

@@ -6,11 +6,10 @@ ghost use Rattle.pana_hall.specs.Run.{RunsTo};
 
 use crate::call::{Call, Query};
 use crate::cause::Cause;
-use crate::families::Families;
 use crate::reply::Reply;
 use crate::state::State;
-use pana_copies::{CopyTable, DeviceName};
-use pana_journal::{Journal, Report};
+use pana_copies::DeviceName;
+use pana_journal::Report;
 use std::alloc::{AllocError, Global};
 use std::collections::VecDeque;
 use std::marker::Model;
@@ -20,8 +19,8 @@ use std::marker::Model;
 /// It keeps a family of stamps for each file and the place of each living copy, and no set of updates.
 #[derive(Drop)]
 pub struct Hall {
-    alloc: Global,
-    state: State,
+    pub(crate) alloc: Global,
+    pub(crate) state: State,
 }
 
 impl Model for Hall {
@@ -41,17 +40,12 @@ impl Hall {
     ghost use Rattle.pana_hall.specs.declared.reply.Reply.TheVariants as replies;
 
     /// A hall with no copy and the empty journal. Fails only where memory runs out.
-    #[tactic(auto, unfolding(crate::specs::Living::copies_of))]
     pub fn new(alloc: Global) -> Result<Hall, AllocError>
         ensures { IfOk result (λ hall. hall ≡ []) }
     {
         Ok(Hall {
             alloc,
-            state: State {
-                journal: Journal::new(alloc),
-                families: Families::new(alloc),
-                copies: CopyTable::new(alloc),
-            },
+            state: State::new(alloc),
         })
     }
 
@@ -106,12 +100,11 @@ impl Hall {
         ensures permitted { Permits self.old by.now (calls.Report report) result }
         ensures journal { self.new ≡ journal_after self.old by.now (calls.Report report) result }
     {
-        if let Some(cause) = self.state.report_refusal(by, &report) {
-            return Reply::Refused(cause);
-        }
-        match self.state.record(self.alloc, by, report) {
-            Ok(entry) => Reply::Done { entry },
-            Err(_) => Reply::Refused(Cause::OutOfMemory),
+        match self.state.prepare(self.alloc, by, report) {
+            Ok(next) => Reply::Done {
+                entry: self.state.commit(next),
+            },
+            Err(cause) => Reply::Refused(cause),
         }
     }
 

@@ -1,14 +1,14 @@
 //! A family as the hall keeps it.
-ghost use Rattle.std.specs.Prelude.{◌≡◌, ◌==◌, IfOk, OnOk, OnErr, option_map, option_copied};
+ghost use Rattle.std.specs.Prelude.{◌≡◌, ◌==◌, IfOk, option_map, option_copied};
 ghost use Rattle.std.specs.List.{list_any};
 ghost use Rattle.pana_family.specs.Rows.{AreBefore};
 ghost use Rattle.pana_family.specs.Report.{CanReport};
-ghost use Rattle.pana_hall.specs.inner.Undo.{confirmed, ends_in, last_place, new_kept, reported_kept, withdrawn};
+ghost use Rattle.pana_hall.specs.inner.Undo.{IsPreparedIn, confirmed, ends_in, last_place, new_kept, reported_kept, withdrawn};
 
 use crate::undo::{Undo, has_entry, position_of};
 use circular_buffer::HeapCircularBuffer;
 use pana_copies::Place;
-use pana_family::{Family, FamilyReport};
+use pana_family::{Change, Family, FamilyReport};
 use std::alloc::{AllocError, Global};
 use std::marker::Model;
 
@@ -25,13 +25,13 @@ pub struct KeptFamily {
 
 impl Model for KeptFamily {
     ghost use Rattle.std.specs.Prelude.{◌≡◌};
-    ghost use Rattle.pana_hall.specs.inner.Undo.{KeptRows, kept_rows, kept_rows_code, history, CanGoBack};
+    ghost use Rattle.pana_hall.specs.inner.Undo.{RoomyFamily, kept_rows, roomy_family_code, history, with_room, CanGoBack};
 
-    ghost Value = { KeptRows };
+    ghost Value = { RoomyFamily };
 
-    ghost coded = { kept_rows_code };
+    ghost coded = { roomy_family_code };
 
-    ghost view = { λ it. kept_rows it.number it.family.rows (history it.family.rows it.undo.items) };
+    ghost view = { λ it. with_room (kept_rows it.number it.family.rows (history it.family.rows it.undo.items)) it.family.room };
 
     ghost invariant = { λ it. (it.undo.capacity ≡ 8) × CanGoBack it.family.room it.family.rows it.undo.items };
 }
@@ -39,7 +39,7 @@ impl Model for KeptFamily {
 impl KeptFamily {
     /// The family that this entry begins. Fails only where memory runs out.
     pub fn new(alloc: Global, entry: u64) -> Result<KeptFamily, AllocError>
-        ensures { IfOk result (λ kept. kept ≡ new_kept entry) }
+        ensures { IfOk result (λ it. it.kept ≡ new_kept entry) }
     {
         let (family, back) = Family::new(alloc, entry)?;
         let mut undo = HeapCircularBuffer::with_capacity(alloc, MOST_PENDING)?;
@@ -57,21 +57,21 @@ impl KeptFamily {
 
     /// The entry that began the family. Takes no memory.
     pub fn number(&self) -> u64
-        ensures { result ≡ self.now.number }
+        ensures { result ≡ self.now.kept.number }
     {
         self.number
     }
 
     /// The family. Takes no memory.
     pub fn family(&self) -> &Family
-        ensures { result.now.rows ≡ self.now.rows }
+        ensures { result.now.rows ≡ self.now.kept.rows }
     {
         &self.family
     }
 
     /// The place where the copy was that the last pending entry moved or removed, if it did. Takes no memory.
     pub fn last_place(&self) -> Option<&Place>
-        ensures { option_copied result ≡ last_place self.now.undo }
+        ensures { option_copied result ≡ last_place self.now.kept.undo }
     {
         match self.undo.front() {
             Some(undo) => match &undo.place {
@@ -84,14 +84,14 @@ impl KeptFamily {
 
     /// Whether the entry is pending. Takes no memory.
     pub fn has_pending(&self, entry: u64) -> bool
-        ensures { result ≡ list_any (λ u. u.entry == entry) self.now.undo }
+        ensures { result ≡ list_any (λ u. u.entry == entry) self.now.kept.undo }
     {
         has_entry(&self.undo, entry)
     }
 
     /// Whether the entry is the last that is pending. Takes no memory.
     pub fn ends_in(&self, entry: u64) -> bool
-        ensures { result ≡ ends_in entry self.now.undo }
+        ensures { result ≡ ends_in entry self.now.kept.undo }
     {
         match self.undo.front() {
             Some(last) => last.entry == entry,
@@ -99,31 +99,38 @@ impl KeptFamily {
         }
     }
 
-    /// Records what the next entry reports of the family; the copy that it moves or removes was at the place. Fails only where
-    /// memory runs out, and then changes nothing.
-    pub fn report(
-        &mut self,
-        entry: u64,
-        report: FamilyReport,
-        place: Option<Box<Place>>,
-    ) -> Result<(), AllocError>
-        requires able { CanReport report self.old.rows }
-        requires new { AreBefore entry self.old.rows }
-        ensures ok { OnOk result (self.new ≡ reported_kept entry report (option_map (λ p. p.value) place) self.old) }
-        ensures err { OnErr result (self.new ≡ self.old) }
+    /// What a report of the next entry changes. Nothing is changed yet, and once this succeeded `apply` takes no memory. Fails
+    /// only where memory runs out.
+    pub fn prepare(&mut self, entry: u64, report: FamilyReport) -> Result<Change, AllocError>
+        requires able { CanReport report self.old.kept.rows }
+        requires new { AreBefore entry self.old.kept.rows }
+        ensures same { self.new.kept ≡ self.old.kept }
+        ensures prepared { IfOk result (λ change. IsPreparedIn entry report change self.new) }
     {
-        match self.family.report(entry, report) {
-            Ok(back) => {
-                self.undo.push_front(Undo { entry, back, place });
-                Ok(())
-            }
+        match self.family.prepare(entry, report) {
+            Ok(change) => Ok(change),
             Err(_) => Err(AllocError),
         }
     }
 
+    /// Records a report, whose change `prepare` gave; the copy that it moves or removes was at the place. Takes no memory.
+    pub fn apply(
+        &mut self,
+        entry: u64,
+        report: FamilyReport,
+        change: Change,
+        place: Option<Box<Place>>,
+    )
+        requires { IsPreparedIn entry report change self.old }
+        ensures { self.new.kept ≡ reported_kept entry report (option_map (λ p. p.value) place) self.old.kept }
+    {
+        let back = self.family.apply(entry, report, change);
+        self.undo.push_front(Undo { entry, back, place });
+    }
+
     /// Settles a pending entry and all before it. Takes no memory.
     pub fn confirm(&mut self, entry: u64)
-        ensures { self.new ≡ confirmed entry self.old }
+        ensures { self.new.kept ≡ confirmed entry self.old.kept }
     {
         match position_of(&self.undo, entry) {
             Some(at) => self.undo.truncate_back(at),
@@ -134,8 +141,8 @@ impl KeptFamily {
     /// Undoes the last pending entry, and returns the place where the copy was that it moved or removed, if it did. Takes no
     /// memory.
     pub fn withdraw(&mut self) -> Option<Place>
-        ensures family { self.new ≡ withdrawn self.old }
-        ensures place { result ≡ last_place self.old.undo }
+        ensures family { self.new.kept ≡ withdrawn self.old.kept }
+        ensures place { result ≡ last_place self.old.kept.undo }
     {
         match self.undo.pop_front() {
             Some(undo) => {

@@ -1,154 +1,253 @@
-//! What an accepted report makes of a journal, and of what is kept of it.
-ghost use Rattle.std.specs.Prelude.{◌≡◌, ℕ, ◌+◌, ◌<◌, List, [], ◌∷◌, ◌++◌, length, ◌==◌, if◌then◌else◌, Some, None, OnOk, OnErr};
+//! What an accepted report makes of a journal, and of what is kept of it: the memory for it first, and then the entry, which can't
+//! fail.
+ghost use Rattle.std.specs.Prelude.{◌≡◌, ℕ, ◌+◌, ◌<◌, [], ◌∷◌, ◌++◌, length, ◌==◌, if◌then◌else◌, Some, None, false, IfOk, IfErr, vec_len, vec_capacity};
 ghost use Rattle.pana_copies.specs.Spots.{kept};
-ghost use Rattle.pana_hall.specs.inner.Spots.{SameSpots, IsFree};
+ghost use Rattle.pana_hall.specs.inner.Spots.{IsFree};
 ghost use Rattle.pana_hall.specs.inner.Undo.{new_kept};
+ghost use Rattle.pana_hall.specs.inner.Listed.{IsGrown, all_listed, listed};
 ghost use Rattle.pana_hall.specs.inner.Kept.{next_entry, AreSpots, IsReady, IsReadyAt, families_of, family_of};
-ghost use Rattle.pana_hall.specs.inner.State.{IsHeld, Records};
+ghost use Rattle.pana_hall.specs.inner.Next.{IsNext, IsStep, IsStepOf, Takes};
+ghost use Rattle.pana_hall.specs.inner.State.{IsHeld, IsRefused, Records};
+ghost use Rattle.pana_hall.specs.Effective.{is_of_copies};
 ghost use Rattle.pana_hall.specs.Living.{living};
 ghost use Rattle.pana_hall.specs.Refusal.{report_refusal};
 
-use crate::changing::{report_copies, withdraw};
-use crate::kept_family::KeptFamily;
-use crate::listed_family::{Form, ListedFamily};
+use crate::cause::Cause;
+use crate::changing::{apply_change, prepare_change, withdraw};
+use crate::listed_family::ListedFamily;
+use crate::next::{Next, Step};
 use crate::state::State;
 use pana_copies::{CopyTable, DeviceName, Place};
-use pana_journal::{Journal, Report};
+use pana_journal::{Entry, Journal, Report};
 use std::alloc::{AllocError, Global};
 
-/// Does to a family that has begun, and to the table of copies, what the report of the next entry says. Fails only where
-/// memory runs out, and then changes nothing.
-pub fn change(
+/// Takes the memory for what the report of the next entry does to a family that has begun. Fails only where memory runs out.
+fn prepare_family(
     alloc: Global,
     journal: &Journal,
     by: &DeviceName,
-    it: &mut KeptFamily,
-    copies: &mut CopyTable,
+    it: &mut ListedFamily,
+    copies: &CopyTable,
     report: &Report,
-) -> Result<(), AllocError>
-    requires ready { IsReady journal.now.entries by.now report.now it.old copies.old }
-    ensures family { OnOk result (it.new ≡ family_of (journal.now.entries ++ next_entry journal.now.entries by.now report.now ∷ []) it.old.number) }
-    ensures spots { OnOk result (AreSpots (journal.now.entries ++ next_entry journal.now.entries by.now report.now ∷ []) copies.new) }
-    ensures same { OnErr result (it.new ≡ it.old) }
-    ensures still { OnErr result (SameSpots copies.old copies.new) }
+) -> Result<Step, AllocError>
+    requires { IsReady journal.now.entries by.now report.now (listed it.old) copies.now }
+    ensures same { listed it.new ≡ listed it.old }
+    ensures step { IfOk result (IsStepOf (length journal.now.entries + 1) it.new copies.now report.now) }
 {
     match report {
-        Report::Confirm { entry } => {
-            it.confirm(*entry);
-            Ok(())
+        Report::Confirm { .. } | Report::Withdraw { .. } => {
+            it.grow(alloc)?;
+            Ok(Step::Settle)
         }
-        Report::Withdraw { entry } => {
-            withdraw(it, copies, *entry, &journal.entry(*entry).unwrap().report)
-        }
-        _ => report_copies(alloc, it, copies, journal.length() + 1, report),
+        _ => prepare_change(alloc, it, copies, journal.length() + 1, report),
     }
 }
 
-/// Does to a family of the list what `change` does. A new one takes memory for its stamps by its second report.
-fn change_listed(
+/// Takes the memory for what the report of the next entry does to the families. Fails only where memory runs out.
+fn prepare_step(
     alloc: Global,
+    journal: &Journal,
+    by: &DeviceName,
+    list: &mut Vec<ListedFamily>,
+    position: usize,
+    copies: &CopyTable,
+    report: &Report,
+) -> Result<Step, AllocError>
+    requires { IsReadyAt journal.now.entries by.now report.now (all_listed list.old.items) position copies.now }
+    ensures same { all_listed list.new.items ≡ all_listed list.old.items }
+    ensures step { IfOk result (IsStep (length journal.now.entries + 1) (vec_len list.new) (vec_capacity list.new) list.new.items position copies.now report.now) }
+{
+    match report {
+        Report::Register { place } => {
+            let place = place.copy_of()?;
+            list.reserve(1)?;
+            Ok(Step::Begin(place))
+        }
+        _ => {
+            // whose contract says that the position is within the list
+            let _ = list.as_slice();
+            prepare_family(alloc, journal, by, &mut list[position], copies, report)
+        }
+    }
+}
+
+/// Settles or takes back what is pending in a family, as the report of the next entry says. Takes no memory.
+fn settle(
     journal: &Journal,
     by: &DeviceName,
     it: &mut ListedFamily,
     copies: &mut CopyTable,
     report: &Report,
-) -> Result<(), AllocError>
-    requires ready { IsReady journal.now.entries by.now report.now it.old copies.old }
-    ensures family { OnOk result (it.new ≡ family_of (journal.now.entries ++ next_entry journal.now.entries by.now report.now ∷ []) it.old.number) }
-    ensures spots { OnOk result (AreSpots (journal.now.entries ++ next_entry journal.now.entries by.now report.now ∷ []) copies.new) }
-    ensures same { OnErr result (it.new ≡ it.old) }
-    ensures still { OnErr result (SameSpots copies.old copies.new) }
+)
+    requires ready { IsReady journal.now.entries by.now report.now (listed it.old) copies.old }
+    requires settles { is_of_copies report.now ≡ false }
+    requires grown { IsGrown it.old }
+    requires room { 0 < copies.old.room }
+    ensures family { listed it.new ≡ family_of (journal.now.entries ++ next_entry journal.now.entries by.now report.now ∷ []) (listed it.old).number }
+    ensures spots { AreSpots (journal.now.entries ++ next_entry journal.now.entries by.now report.now ∷ []) copies.new }
 {
-    match &mut it.form {
-        Form::New(entry) => {
-            let mut kept = Box::new(alloc, KeptFamily::new(alloc, *entry)?)?;
-            change(alloc, journal, by, &mut kept, copies, report)?;
-            it.form = Form::Changed(kept);
-            Ok(())
+    match report {
+        Report::Confirm { entry } => it.confirm(*entry),
+        Report::Withdraw { entry } => {
+            withdraw(it, copies, *entry, &journal.entry(*entry).unwrap().report)
         }
-        Form::Changed(kept) => change(alloc, journal, by, kept, copies, report),
+        _ => unreachable!(),
     }
 }
 
-/// Begins a family by the next entry, a Register at this place. Fails only where memory runs out, and then changes nothing.
-fn begin(
-    list: &mut Vec<ListedFamily>,
+/// Does to a family that has begun, and to the table of copies, what the report of the next entry says. Takes no memory.
+fn change_family(
+    journal: &Journal,
+    by: &DeviceName,
+    it: &mut ListedFamily,
     copies: &mut CopyTable,
-    entry: u64,
-    place: &Place,
-) -> Result<(), AllocError>
-    requires fresh { kept copies.old entry ≡ None }
-    requires free { IsFree place.now copies.old }
-    ensures list { OnOk result (list.new.items ≡ list.old.items ++ new_kept entry ∷ []) }
-    ensures spots { OnOk result ((number : ℕ) → kept copies.new number
-        ≡ (if number == entry then Some (record { family = entry; place = place.now }) else kept copies.old number)) }
-    ensures same { OnErr result (list.new.items ≡ list.old.items) }
-    ensures still { OnErr result (SameSpots copies.old copies.new) }
+    report: &Report,
+    step: Step,
+)
+    requires ready { IsReady journal.now.entries by.now report.now (listed it.old) copies.old }
+    requires step { IsStepOf (length journal.now.entries + 1) it.old copies.old report.now step }
+    requires room { 0 < copies.old.room }
+    ensures family { listed it.new ≡ family_of (journal.now.entries ++ next_entry journal.now.entries by.now report.now ∷ []) (listed it.old).number }
+    ensures spots { AreSpots (journal.now.entries ++ next_entry journal.now.entries by.now report.now ∷ []) copies.new }
 {
-    let place = place.copy_of()?;
-    copies.reserve()?;
-    list.push(ListedFamily::new(entry))?;
-    copies.insert(entry, entry, place);
-    Ok(())
+    match step {
+        Step::Change(change, place, before) => {
+            apply_change(
+                it,
+                copies,
+                journal.length() + 1,
+                report,
+                change,
+                place,
+                before,
+            )
+        }
+        Step::Settle => settle(journal, by, it, copies, report),
+        Step::Begin(_) => unreachable!(),
+    }
 }
 
-/// Does what the report of the next entry says to the families, of which the report's is at this position, and to the
-/// table of copies. Fails only where memory runs out, and then changes nothing.
-fn change_at(
-    alloc: Global,
+/// Begins a family by the next entry, a Register at this place. Takes no memory.
+fn begin(list: &mut Vec<ListedFamily>, copies: &mut CopyTable, entry: u64, place: Place)
+    requires fresh { kept copies.old entry ≡ None }
+    requires free { IsFree place copies.old }
+    requires more { vec_len list.old < vec_capacity list.old }
+    requires room { 0 < copies.old.room }
+    ensures list { all_listed list.new.items ≡ all_listed list.old.items ++ new_kept entry ∷ [] }
+    ensures spots { (number : ℕ) → kept copies.new number ≡ (if number == entry then Some (record { family = entry; place = place }) else kept copies.old number) }
+{
+    list.push_reserved(ListedFamily::New(entry));
+    copies.insert(entry, entry, place);
+}
+
+/// Does what the report of the next entry says to the families, of which the report's is at this position, and to the table of
+/// copies. Takes no memory.
+fn make_step(
     journal: &Journal,
     by: &DeviceName,
     list: &mut Vec<ListedFamily>,
     position: usize,
     copies: &mut CopyTable,
     report: &Report,
-) -> Result<(), AllocError>
-    requires ready { IsReadyAt journal.now.entries by.now report.now list.old.items position copies.old }
-    ensures list { OnOk result (list.new.items ≡ families_of (journal.now.entries ++ next_entry journal.now.entries by.now report.now ∷ [])) }
-    ensures spots { OnOk result (AreSpots (journal.now.entries ++ next_entry journal.now.entries by.now report.now ∷ []) copies.new) }
-    ensures same { OnErr result (list.new.items ≡ list.old.items) }
-    ensures still { OnErr result (SameSpots copies.old copies.new) }
+    step: Step,
+)
+    requires ready { IsReadyAt journal.now.entries by.now report.now (all_listed list.old.items) position copies.old }
+    requires step { IsStep (length journal.now.entries + 1) (vec_len list.old) (vec_capacity list.old) list.old.items position copies.old report.now step }
+    requires room { 0 < copies.old.room }
+    ensures list { all_listed list.new.items ≡ families_of (journal.now.entries ++ next_entry journal.now.entries by.now report.now ∷ []) }
+    ensures spots { AreSpots (journal.now.entries ++ next_entry journal.now.entries by.now report.now ∷ []) copies.new }
 {
-    match report {
-        Report::Register { place } => begin(list, copies, journal.length() + 1, place),
-        _ => {
+    match step {
+        Step::Begin(place) => begin(list, copies, journal.length() + 1, place),
+        step => {
             // whose contract says that the position is within the list
             let _ = list.as_slice();
-            change_listed(alloc, journal, by, &mut list[position], copies, report)
+            change_family(journal, by, &mut list[position], copies, report, step)
         }
     }
 }
 
 impl State {
-    /// Makes a report that nothing stands against the next entry of the journal, and keeps all of the journal that is
-    /// kept. Fails only where memory runs out, and then the journal is as it was.
-    pub fn record(
+    /// Takes the memory for a report that nothing stands against. Fails only where memory runs out.
+    fn prepare_free(
         &mut self,
         alloc: Global,
         by: &DeviceName,
         report: Report,
-    ) -> Result<u64, AllocError>
+    ) -> Result<Next, AllocError>
         requires kept { IsHeld self.old }
         requires free { report_refusal 8 self.old.journal.entries (living self.old.journal.entries) by.now report ≡ None }
-        ensures { Records self.old.journal.entries by.now report result self.new }
+        ensures journal { self.new.journal.entries ≡ self.old.journal.entries }
+        ensures kept { IsHeld self.new }
+        ensures entry { IfOk result (λ next. next.entry ≡ next_entry self.old.journal.entries by.now report) }
+        ensures next { IfOk result (IsNext self.new) }
     {
-        let by = by.copy_of();
         self.journal.reserve_one().map_err(|_| AllocError)?;
+        self.copies.reserve()?;
+        self.families.positions.reserve(1)?;
         let position = self.families.position_for(&report).unwrap();
-        self.families.push_position(position)?;
-        let changed = change_at(
+        let list = &mut self.families.list;
+        let step = prepare_step(
             alloc,
             &self.journal,
+            by,
+            list,
+            position,
+            &self.copies,
+            &report,
+        )?;
+        let entry = Entry {
+            number: self.journal.length() + 1,
+            by: by.copy_of(),
+            report,
+        };
+        Ok(Next {
+            entry,
+            position,
+            step,
+        })
+    }
+
+    /// Takes the memory for a device's report, if nothing stands against it. The journal stays as it is.
+    pub fn prepare(&mut self, alloc: Global, by: &DeviceName, report: Report) -> Result<Next, Cause>
+        requires { IsHeld self.old }
+        ensures journal { self.new.journal.entries ≡ self.old.journal.entries }
+        ensures kept { IsHeld self.new }
+        ensures refused { IfErr result (IsRefused self.old.journal.entries by.now report) }
+        ensures entry { IfOk result (λ next. next.entry ≡ next_entry self.old.journal.entries by.now report) }
+        ensures next { IfOk result (IsNext self.new) }
+    {
+        if let Some(cause) = self.report_refusal(by, &report) {
+            return Err(cause);
+        }
+        match self.prepare_free(alloc, by, report) {
+            Ok(next) => Ok(next),
+            Err(_) => Err(Cause::OutOfMemory),
+        }
+    }
+
+    /// Makes a report that was prepared the next entry of the journal, and keeps all of the journal that is kept. Takes no memory.
+    pub fn commit(&mut self, next: Next) -> u64
+        requires kept { IsHeld self.old }
+        requires next { IsNext self.old next }
+        ensures { Records self.old.journal.entries next.entry.by next.entry.report result self.new }
+    {
+        let Next {
+            entry: Entry { by, report, .. },
+            position,
+            step,
+        } = next;
+        let list = &mut self.families.list;
+        make_step(
+            &self.journal,
             &by,
-            &mut self.families.list,
+            list,
             position,
             &mut self.copies,
             &report,
+            step,
         );
-        if let Err(error) = changed {
-            self.families.pop_position();
-            return Err(error);
-        }
-        Ok(self.journal.append(by, report))
+        self.families.positions.push_reserved(position);
+        self.journal.append(by, report)
     }
 }

@@ -1,6 +1,7 @@
 //! Why calls are refused, memory aside. None of this takes memory.
 ghost use Rattle.std.specs.Prelude.{◌≡◌, ◌==◌, not, [], ◌∷◌, true, None, Some, Option, ℕ, option_copied};
 ghost use Rattle.pana_hall.specs.inner.Families.{old_place};
+ghost use Rattle.pana_hall.specs.inner.Listed.{all_listed};
 ghost use Rattle.pana_hall.specs.inner.Spots.{IsThere, other_there};
 ghost use Rattle.pana_journal.specs.declared.report.Report.TheVariants as reports;
 ghost use Rattle.pana_hall.specs.Accepted.{IsAccepted};
@@ -145,7 +146,7 @@ impl State {
 
     /// The place where the copy was that the last pending entry of an entry's family moved or removed.
     fn old_place(&self, number: u64) -> Option<&Place>
-        ensures { option_copied result ≡ old_place self.now.families.list.items self.now.families.positions.items number }
+        ensures { option_copied result ≡ old_place (all_listed self.now.families.list.items) self.now.families.positions.items number }
     {
         self.families.of_entry(number)?.last_place()
     }

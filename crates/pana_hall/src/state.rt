@@ -1,7 +1,11 @@
 //! What a hall keeps.
+ghost use Rattle.pana_hall.specs.inner.State.{IsHeld};
+ghost use Rattle.std.specs.Prelude.{◌≡◌, []};
+
 use crate::families::Families;
 use pana_copies::CopyTable;
 use pana_journal::Journal;
+use std::alloc::Global;
 
 /// A journal, the families that it has begun, and where the living copies are kept.
 #[derive(Drop)]
@@ -9,4 +13,19 @@ pub struct State {
     pub journal: Journal,
     pub families: Families,
     pub copies: CopyTable,
+}
+
+impl State {
+    /// No copy, and the empty journal. Takes no memory.
+    #[tactic(auto, unfolding(crate::specs::Living::copies_of))]
+    pub fn new(alloc: Global) -> State
+        ensures journal { result.journal.entries ≡ [] }
+        ensures kept { IsHeld result }
+    {
+        State {
+            journal: Journal::new(alloc),
+            families: Families::new(alloc),
+            copies: CopyTable::new(alloc),
+        }
+    }
 }

@@ -86,15 +86,6 @@ module _ {D : Type 0} (seen : D → List ℕ) (may_leave : D → List ℕ → Ty
         usable = usable;
       }
 
-  -- what is staged doesn't count yet
-  pub staged_settles : (text : List ℕ) (journal : Journal D) → IsStaged seen may_leave is_usable text journal → IsSettled seen may_leave is_usable journal
-  staged_settles text journal s = record {
-    is_end = s.is_end;
-    file = begins_closed (recovered (seen journal.device)) text (seen journal.device) s.file;
-    durable = λ c left. begins_closed (recovered (seen journal.device)) text c (s.durable c left);
-    usable = s.usable;
-  }
-
   pub written_at : (file text : List ℕ) (journal : Journal D) → recovered (seen journal.device) ≡ recovered file → journal.end ≡ length (text_of (recovered file)) → Begins (staged (recovered file) text) (seen journal.device)
       → ((c : List ℕ) → may_leave journal.device c → Begins (closed (recovered file)) c) → IsTrue (is_usable journal.device) → IsWritten seen may_leave is_usable text journal
   written_at file text journal same is_end begins durable usable = record {

@@ -8,7 +8,7 @@ use Rattle.pana_wire.specs.Dump.{objects_in, dump_says}
 use Rattle.pana_keep.specs.Device.{LeavesOnly}
 use Rattle.pana_keep.specs.Lines.{recovered, text_of, header, IsBeforeOrAfter}
 use Rattle.pana_keep.proofs.Moments.{then_on}
-use Rattle.pana_seal.specs.Seal.{IsIntact, is_due}
+use Rattle.pana_seal.specs.Seal.{IsIntact}
 use Rattle.pana_seal.proofs.Intact.{intact_none, intact_more}
 use Rattle.pana_kept.specs.Entries.{LoadsTo}
 use Rattle.pana_kept.specs.Opening.{IsSameOrBegun, with_header}

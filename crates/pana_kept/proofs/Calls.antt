@@ -1,10 +1,9 @@
 -- Single calls: what each way that a report takes leaves.
-use Rattle.std.proofs.Common.{◌≡◌, ◌⊎◌, inl, inr, ⊎_elim, ℕ, ◌+◌, ◌≤◌, ◌<◌, ◌^◌, nat_lt, arith, Bool, true, false, IsTrue, List, [], ◌∷◌, ◌++◌, length, Option, Some, None, refl, sym, ◌∙◌, ap, subst}
+use Rattle.std.proofs.Common.{◌≡◌, ◌⊎◌, inl, inr, ⊎_elim, ℕ, ◌+◌, ◌≤◌, ◌<◌, ◌^◌, nat_lt, arith, Bool, IsTrue, List, [], ◌∷◌, ◌++◌, length, Some, None, refl, sym, ◌∙◌, ap, subst}
 use Rattle.std.proofs.lemmas.List.{append-nil}
 use Rattle.std.proofs.lemmas.Bool.{ltb-true, ltb-false}
 use Rattle.pana_journal.specs.declared.entry.Entry.{Entry}
 use Rattle.pana_journal.specs.declared.report.Report.{Report}
-use Rattle.pana_journal.specs.declared.report.Report.TheVariants as reports
 use Rattle.pana_hall.specs.declared.call.Call.{Call}
 use Rattle.pana_hall.specs.declared.call.Call.TheVariants as calls
 use Rattle.pana_hall.specs.declared.call.Query.{Query}
@@ -22,14 +21,14 @@ use Rattle.pana_keep.specs.declared.journal.Journal.{Journal}
 use Rattle.pana_keep.specs.declared.journal_state.JournalState.TheVariants.{Open, Broken}
 use Rattle.pana_keep.specs.Device.{LeavesOnly}
 use Rattle.pana_keep.specs.Lines.{recovered, text_of, IsBeforeOrAfter, HasRoom}
-use Rattle.pana_keep.specs.Journal.{IsSettled, IsStaged}
+use Rattle.pana_keep.specs.Journal.{IsSettled}
 use Rattle.pana_keep.proofs.Recovered.{which}
-use Rattle.pana_keep.proofs.Settled.{staged_settles, text_of-append}
+use Rattle.pana_keep.proofs.Settled.{text_of-append}
 use Rattle.pana_seal.specs.declared.sealer.Sealer.{Sealer}
 use Rattle.pana_seal.specs.Seal.{Covers}
 use Rattle.pana_kept.specs.Entries.{LoadsTo, LoadsFirst, IsLineOf, IsSealedBehind}
 use Rattle.pana_kept.specs.Kept.{KeptView, IsKept, KeepsAll, IsFull, Becomes, NeedsOpen, Keeps, Breaks}
-use Rattle.pana_kept.specs.inner.{cause_of, is_done}
+use Rattle.pana_kept.specs.inner.{cause_of}
 use Rattle.pana_kept.proofs.Said.{loads_same, loads_more, loads_either, keeps_on, keeps_start, keeps_same}
 use Rattle.pana_kept.proofs.Runs.{after_grows}
 
@@ -37,23 +36,14 @@ use Rattle.pana_kept.proofs.Runs.{after_grows}
 abbrev pub next : List Entry → List ℕ → Report → Entry
 next journal by report = record { number = length journal + 1; by = by; report = report }
 
-permits_done : (journal : List Entry) (report : Report) (n : ℕ) (o : Option Cause) → PermitsBy o journal (calls.Report report) (replies.Done n) → n ≡ length journal + 1
-permits_done journal report n (Some cause) is = absurd (cc)
-permits_done journal report n None (inl is) = cc
-permits_done journal report n None (inr (cause, short, is)) = absurd (cc)
-
--- a report that is Done is the next entry
-pub done_next : (journal : List Entry) (by : List ℕ) (report : Report) (reply : Reply) (new : List Entry) → is_done reply ≡ true → Permits journal by (calls.Report report) reply → new ≡ journal_after journal by (calls.Report report) reply → new ≡ journal ++ next journal by report ∷ []
+-- a report against which nothing stands may be the next entry
+pub steps_done : (journal : List Entry) (by : List ℕ) (report : Report) (n : ℕ) (new : List Entry) → refusal journal by (calls.Report report) ≡ None → n ≡ length journal + 1 → new ≡ journal ++ next journal by report ∷ []
+    → Steps journal by (calls.Report report) (replies.Done n) new
 unfolding Permits journal_after
-done_next journal by report (replies.Done n) new done permits after =
-    after ∙ ap (λ (m : ℕ). journal ++ record { number = m; by = by; report = report } ∷ []) (permits_done journal report n (refusal journal by (calls.Report report)) permits)
-done_next journal by report reply new done permits after = absurd (cc)
-
--- and one that isn't leaves the journal
-pub not_done_same : (journal : List Entry) (by : List ℕ) (report : Report) (reply : Reply) → is_done reply ≡ false → journal_after journal by (calls.Report report) reply ≡ journal
-unfolding journal_after
-not_done_same journal by report (replies.Done n) not = absurd (cc)
-not_done_same journal by report reply not = refl
+steps_done journal by report n new free is grown = (
+  subst (λ o. PermitsBy o journal (calls.Report report) (replies.Done n)) (sym free) (inl (ap (λ m. replies.Done m) is)),
+  grown ∙ ap (λ (m : ℕ). journal ++ record { number = m; by = by; report = report } ∷ []) (sym is),
+)
 
 -- what a hall answers isn't NotKept
 never : {P : Type 0} (old : List Entry) (by : List ℕ) (call : Call) (reply : Reply) (new : List Entry) → Steps old by call reply new → reply ≡ replies.Refused causes.NotKept → P
@@ -204,9 +194,3 @@ module _ {D : Type 0} (is_known : Bool) (seen : D → List ℕ) (may_leave : D �
     entries = inr (next es by report, grown);
     keeps_all = λ known was. subst (λ (xs : List Entry). KeepsAll moment left_since (view es a sealer) (view xs b sealer)) (sym grown) (opened es (next es by report) line a b (loads known) is (sealed known) (run known));
   }
-
-  -- what is staged is left, since the hall refuses its report
-  pub left_staged : (es new : List Entry) (journal : Journal D) (sealer : Sealer) (by line : List ℕ) (report : Report) (reply : Reply) → new ≡ es → journal.state ≡ Open → Steps es by (calls.Report report) reply new → (IsTrue is_known → IsStaged seen may_leave is_usable line journal) → (IsTrue is_known → LoadsTo es (seen journal.device)) → (IsTrue is_known → Taken sealer journal)
-      → ((c : List ℕ) → left_since journal.device (moment journal.device) c → may_leave journal.device c) → Step (view es journal sealer) by (calls.Report report) reply (view new journal sealer)
-  left_staged es new journal sealer by line report reply same is_open steps staged loads taken only_now =
-      answered es new journal sealer by (calls.Report report) reply same is_open (λ known works. (staged_settles seen may_leave is_usable line journal (staged known), loads known, taken known)) only_now steps

@@ -78,7 +78,3 @@ body_of_line entry line is =
     let text = entry_text entry in
     let count : length line - 2 ≡ length text - 1 = omega (arith, ap length is, length-append text (10 ∷ [])) in
     ap (λ (n : ℕ). take n line) count ∙ ap (take (length text - 1)) is ∙ take-append-le (length text - 1) text (10 ∷ []) (omega arith)
-
-pub line_long : (entry : Entry) (line : List ℕ) → line ≡ entry_text entry ++ 10 ∷ [] → 2 ≤ length line
-unfolding reply_text reply_data
-line_long entry line is = omega (arith, ap length is, length-append (entry_text entry) (10 ∷ []))

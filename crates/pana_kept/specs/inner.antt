@@ -1,9 +1,6 @@
 -- Words that only inner functions and proofs need: nobody has to believe them.
-use Rattle.std.specs.Prelude.{Bool, true, false}
 use Rattle.pana_hall.specs.declared.cause.Cause.{Cause}
 use Rattle.pana_hall.specs.declared.cause.Cause.TheVariants as causes
-use Rattle.pana_hall.specs.declared.reply.Reply.{Reply}
-use Rattle.pana_hall.specs.declared.reply.Reply.TheVariants.{Done}
 use Rattle.pana_kept.specs.declared.open_fault.OpenFault.{OpenFault}
 use Rattle.pana_kept.specs.declared.open_fault.OpenFault.TheVariants as opens
 use Rattle.pana_seal.specs.declared.seal_fault.SealFault.{SealFault}
@@ -15,11 +12,6 @@ use Rattle.pana_keep.specs.declared.device_fault.DeviceFault.TheVariants as devi
 abbrev pub open_fault_of : SealFault → OpenFault
 open_fault_of (seals.Damaged number) = opens.Damaged number
 open_fault_of seals.OutOfMemory = opens.OutOfMemory
-
--- whether a report was done
-abbrev pub is_done : Reply → Bool
-is_done (Done entry) = true
-is_done _ = false
 
 -- why a report isn't kept whose line the device doesn't take
 abbrev pub cause_of : DeviceFault → Cause

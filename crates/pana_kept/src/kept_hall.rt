@@ -2,8 +2,7 @@ ghost use Rattle.std.specs.Prelude.{◌≡◌, ◌↔◌, IsTrue, IfErr, IfOk, O
 ghost use Rattle.pana_hall.specs.declared.call.Call.TheVariants as calls;
 ghost use Rattle.pana_kept.specs.Kept.{IsKept, Becomes, Keeps, Breaks, IsReport};
 
-use crate::entry_line::line_of;
-use crate::keeping::keep;
+use crate::keeping::record;
 use crate::unanswered::Unanswered;
 use pana_copies::DeviceName;
 use pana_hall::{Call, Cause, Hall, Reply, Spent};
@@ -110,20 +109,13 @@ impl<D: Device> KeptHall<D> {
         if self.journal.state != JournalState::Open {
             return Err(self.shut(by, &report));
         }
-        if let Some(cause) = self.hall.refusal(by, &report) {
-            return Ok(Reply::Refused(cause));
-        }
-        let number = self.hall.length() + 1;
-        let Ok(line) = line_of(self.alloc, &self.sealer, number, by, &report) else {
-            return Ok(Reply::Refused(Cause::OutOfMemory));
-        };
         let KeptHall {
+            alloc,
             hall,
             journal,
             sealer,
-            ..
         } = self;
-        keep(hall, journal, sealer, by, report, &line)
+        record(*alloc, hall, journal, sealer, by, report)
     }
 }
 

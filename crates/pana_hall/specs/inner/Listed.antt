@@ -1,9 +1,26 @@
 -- A family as the list of them keeps it.
-use Rattle.pana_hall.specs.inner.Undo.{KeptRows, new_kept}
-use Rattle.pana_hall.specs.declared.listed_family.Form.{Form}
-use Rattle.pana_hall.specs.declared.listed_family.Form.TheVariants.{New, Changed}
+use Rattle.std.specs.Prelude.{ℕ, List, map}
+use Rattle.pana_family.specs.declared.report.FamilyReport.{FamilyReport}
+use Rattle.pana_family.specs.declared.change.Change.{Change}
+use Rattle.pana_hall.specs.inner.Undo.{KeptRows, IsPreparedIn, new_kept}
+use Rattle.pana_hall.specs.declared.listed_family.ListedFamily.{ListedFamily}
+use Rattle.pana_hall.specs.declared.listed_family.ListedFamily.TheVariants.{New, Changed}
 
 -- the family that is kept so
-abbrev pub listed : Form → KeptRows
+abbrev pub listed : ListedFamily → KeptRows
 listed (New n) = new_kept n
-listed (Changed it) = it.value
+listed (Changed it) = it.value.kept
+
+-- the families of a list
+abbrev pub all_listed : List ListedFamily → List KeptRows
+all_listed list = map listed list
+
+-- more may be reported of the family than its Register
+abbrev pub IsGrown : ListedFamily → Type 0
+IsGrown (New n) = ⊥
+IsGrown (Changed it) = Unit {0}
+
+-- the change is what report n makes of the family, and there is room for it
+abbrev pub IsPreparedFor : ℕ → FamilyReport → Change → ListedFamily → Type 0
+IsPreparedFor n report change (New entry) = ⊥
+IsPreparedFor n report change (Changed it) = IsPreparedIn n report change it.value

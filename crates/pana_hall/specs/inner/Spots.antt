@@ -38,10 +38,6 @@ put (Some copy) spot spots number = if number == copy then spot else spots numbe
 abbrev pub spot_after : ℕ → Report → (ℕ → Option Spot) → ℕ → Option Spot
 spot_after n report spots = put (mover n report) (spot_to n report spots) spots
 
--- nothing moved
-abbrev pub SameSpots : Table → Table → Type 0
-SameSpots old new = (number : ℕ) → kept new number ≡ kept old number
-
 -- no copy is kept at the place
 abbrev pub IsFree : Place → Table → Type 0
 IsFree place table = (number : ℕ) → ¬ (place_of table number ≡ Some place)

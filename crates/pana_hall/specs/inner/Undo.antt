@@ -9,6 +9,8 @@ use Rattle.pana_family.specs.declared.report.FamilyReport.{FamilyReport}
 use Rattle.pana_family.specs.After.{reported_rows}
 use Rattle.pana_family.specs.Change.{after as after_change, Fits, Room}
 use Rattle.pana_family.specs.Kept.{IsKept}
+use Rattle.pana_family.specs.View.{IsPrepared}
+use Rattle.pana_family.specs.declared.change.Change.{Change}
 use Rattle.pana_family.specs.Rows.{seed_row}
 use Rattle.pana_hall.specs.declared.undo.Undo.{Undo}
 
@@ -30,6 +32,14 @@ undone entry rows place = record { entry = entry; rows = rows; place = place }
 abbrev pub kept_rows : ℕ → List StampRow → List Undone → KeptRows
 kept_rows number rows undo = record { number = number; rows = rows; undo = undo }
 
+-- a family with the room that it has
+pub record RoomyFamily : Type 0 where
+  pub kept : KeptRows
+  pub room : Room
+
+abbrev pub with_room : KeptRows → Room → RoomyFamily
+with_room kept room = record { kept = kept; room = room }
+
 -- how these are kept as numbers
 abbrev pub undone_code : Coded Undone
 undone_code =
@@ -40,6 +50,10 @@ abbrev pub kept_rows_code : Coded KeptRows
 kept_rows_code =
     code_by (ℕ × (List StampRow × List Undone)) (coded× coded_ℕ (coded× (coded_list stamp_row.the_row.coded) (coded_list undone_code)))
     (λ k. (k.number, (k.rows, k.undo))) (λ p. record { number = p.0; rows = p.1.0; undo = p.1.1 }) (λ _. refl)
+
+abbrev pub roomy_family_code : Coded RoomyFamily
+roomy_family_code =
+    code_by (KeptRows × (ℕ × ℕ)) (coded× kept_rows_code (coded× coded_ℕ coded_ℕ)) (λ f. (f.kept, (f.room.rows, f.room.copies))) (λ p. record { kept = p.0; room = record { rows = p.1.0; copies = p.1.1 } }) (λ _. refl)
 
 -- what the records give back one after another
 abbrev pub history : List StampRow → List Undo → List Undone
@@ -52,6 +66,10 @@ history rows (u ∷ undo) =
 abbrev pub CanGoBack : Room → List StampRow → List Undo → Type 0
 CanGoBack room rows [] = Unit {0}
 CanGoBack room rows (u ∷ undo) = IsKept (after_change u.back rows) × Fits u.back rows room × CanGoBack room (after_change u.back rows) undo
+
+-- the change is what report n makes of the family, and there is room for it
+abbrev pub IsPreparedIn : ℕ → FamilyReport → Change → RoomyFamily → Type 0
+IsPreparedIn n report change it = IsPrepared n report change (record { rows = it.kept.rows; room = it.room })
 
 -- the family that entry n begins: its copy alone, and nothing before it
 abbrev pub new_kept : ℕ → KeptRows

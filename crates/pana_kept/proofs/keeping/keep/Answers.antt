@@ -1,40 +1,51 @@
-use Rattle.std.proofs.Common.{◌≡◌, IsTrue, ⊎_elim, Err, sym, ap, subst, ◌∙◌}
+use Rattle.std.proofs.Common.{◌≡◌, IsTrue, List, ⊎_elim, Err, sym, ap, subst, ◌∙◌}
 use Rattle.std.proofs.lemmas.Result.{IfOk-weaker, on_err_weaker}
+use Rattle.pana_journal.specs.declared.entry.Entry.{Entry}
 use Rattle.pana_hall.specs.declared.call.Call.TheVariants as calls
 use Rattle.pana_hall.specs.declared.cause.Cause.{Cause}
 use Rattle.pana_hall.specs.declared.reply.Reply.TheVariants.{Refused}
 use Rattle.pana_keep.specs.declared.journal_state.JournalState.TheVariants.{Open}
 use Rattle.pana_keep.specs.Journal.{IsSettled}
-use Rattle.pana_kept.specs.Kept.{Keeps}
+use Rattle.pana_kept.specs.Kept.{Breaks, Keeps}
 use Rattle.pana_kept.proofs.Calls.{failed_or_full, not_written, not_staged, staged_keeps, staged_breaks}
 use Rattle.pana_kept.proofs.keeping.keep.Goals as goal
 
 pub returns-in-Ok-clause-step : goal.returns-in-Ok-clause-step
 returns-in-Ok-clause-step g c =
+    let es = c.args.prepared.journal in
+    let e = c.args.prepared.entry in
     let still : c.stage.new.self.state ≡ Open = c.in-Ok.ensures.open in
     IfOk-weaker c.finish.result _ _
-    (λ reply k. staged_keeps g.D.Device.is_known g.D.Device.seen g.D.Device.may_leave g.D.Device.is_usable g.D.Device.moment g.D.Device.left_since g.D.Device.has_failed c.args.hall.now c.finish.new.hall c.args.journal.now c.stage.new.self c.finish.new.journal c.args.sealer.now c.finish.new.sealer c.args.by.now (calls.Report c.args.report) reply
+    (λ reply k. staged_keeps g.D.Device.is_known g.D.Device.seen g.D.Device.may_leave g.D.Device.is_usable g.D.Device.moment g.D.Device.left_since g.D.Device.has_failed es c.finish.new.hall c.args.journal.now c.stage.new.self c.finish.new.journal c.args.sealer.now c.finish.new.sealer e.by (calls.Report e.report) reply
     c.requires.open (still ∙ sym c.requires.open) c.stage.ensures.end (λ known. (c.requires.kept known c.requires.open).1) c.stage.ensures.any_moment k)
     c.finish.ensures.step
 
 pub returns-in-Ok-clause-spent : goal.returns-in-Ok-clause-spent
 returns-in-Ok-clause-spent g c =
+    let es = c.args.prepared.journal in
     let still : c.stage.new.self.state ≡ Open = c.in-Ok.ensures.open in
     on_err_weaker c.finish.result
-    (λ k. staged_breaks g.D.Device.is_known g.D.Device.seen g.D.Device.may_leave g.D.Device.is_usable g.D.Device.moment g.D.Device.left_since g.D.Device.has_failed c.args.hall.now c.finish.new.hall c.args.journal.now c.stage.new.self c.finish.new.journal c.args.sealer.now c.finish.new.sealer
+    (λ k. staged_breaks g.D.Device.is_known g.D.Device.seen g.D.Device.may_leave g.D.Device.is_usable g.D.Device.moment g.D.Device.left_since g.D.Device.has_failed es c.finish.new.hall c.args.journal.now c.stage.new.self c.finish.new.journal c.args.sealer.now c.finish.new.sealer
     c.requires.open still (λ known. (c.requires.kept known c.requires.open).1) c.stage.ensures.any_moment k)
     c.finish.ensures.spent
 
 pub returns-in-Err-Refused-clause-step : goal.returns-in-Err-Refused-clause-step
 returns-in-Err-Refused-clause-step g c =
+    let es = c.args.prepared.journal in
+    let e = c.args.prepared.entry in
     let refused : (c.stage.new.self.state ≡ Open) × (IsTrue g.D.Device.is_known → IsSettled g.D.Device.seen g.D.Device.may_leave g.D.Device.is_usable c.stage.new.self) = ⊎_elim (λ is. absurd (cc)) (λ still. still) c.in-Err-Refused.ensures.refused in
-    subst (λ (cause : Cause). Keeps g.D.Device.is_known g.D.Device.seen g.D.Device.may_leave g.D.Device.is_usable g.D.Device.moment g.D.Device.left_since g.D.Device.has_failed
-    (record { entries = c.args.hall.now; journal = c.args.journal.now; sealer = c.args.sealer.now }) c.args.by.now (calls.Report c.args.report) (Refused cause) (record { entries = c.args.hall.now; journal = c.stage.new.self; sealer = c.args.sealer.now })) (sym c.cause_of.ensures)
-    (not_written g.D.Device.is_known g.D.Device.seen g.D.Device.may_leave g.D.Device.is_usable g.D.Device.moment g.D.Device.left_since g.D.Device.has_failed c.args.hall.now c.args.journal.now c.stage.new.self c.args.sealer.now c.args.by.now c.args.report c.in-Err-Refused.fault
-    c.requires.open (refused.0 ∙ sym c.requires.open) c.requires.free (λ known. failed_or_full c.args.journal.now.end c.args.line.now c.requires.line.short (c.in-Err-Refused.ensures.cause known))
-    (λ known. (c.requires.kept known c.requires.open).1) (λ known. (c.requires.kept known c.requires.open).2) refused.1 c.stage.ensures.same c.stage.ensures.any_moment)
+    subst (λ (new : List Entry). Keeps g.D.Device.is_known g.D.Device.seen g.D.Device.may_leave g.D.Device.is_usable g.D.Device.moment g.D.Device.left_since g.D.Device.has_failed
+    (record { entries = es; journal = c.args.journal.now; sealer = c.args.sealer.now }) e.by (calls.Report e.report) (Refused c.cause_of.result) (record { entries = new; journal = c.stage.new.self; sealer = c.args.sealer.now })) (sym c.cancel.ensures)
+    (subst (λ (cause : Cause). Keeps g.D.Device.is_known g.D.Device.seen g.D.Device.may_leave g.D.Device.is_usable g.D.Device.moment g.D.Device.left_since g.D.Device.has_failed
+    (record { entries = es; journal = c.args.journal.now; sealer = c.args.sealer.now }) e.by (calls.Report e.report) (Refused cause) (record { entries = es; journal = c.stage.new.self; sealer = c.args.sealer.now })) (sym c.cause_of.ensures)
+    (not_written g.D.Device.is_known g.D.Device.seen g.D.Device.may_leave g.D.Device.is_usable g.D.Device.moment g.D.Device.left_since g.D.Device.has_failed es c.args.journal.now c.stage.new.self c.args.sealer.now e.by e.report c.in-Err-Refused.fault
+    c.requires.open (refused.0 ∙ sym c.requires.open) c.requires.prepared.free (λ known. failed_or_full c.args.journal.now.end c.args.line.now c.requires.line.short (c.in-Err-Refused.ensures.cause known))
+    (λ known. (c.requires.kept known c.requires.open).1) (λ known. (c.requires.kept known c.requires.open).2) refused.1 c.stage.ensures.same c.stage.ensures.any_moment))
 
-pub returns-clause-spent : goal.returns-clause-spent
-returns-clause-spent g c =
-    not_staged g.D.Device.is_known g.D.Device.seen g.D.Device.may_leave g.D.Device.is_usable g.D.Device.moment g.D.Device.left_since g.D.Device.has_failed c.args.hall.now c.args.journal.now c.stage.new.self c.args.sealer.now
-    c.requires.open (c.in-Err-Broken.ensures.broken (ap Err c.in-Err-Broken.field-0-is)).0 (c.in-Err-Broken.ensures.failed (ap Err c.in-Err-Broken.field-0-is)) (λ known. (c.requires.kept known c.requires.open).1) c.stage.ensures.any_moment
+pub returns-in-Err-Broken-clause-spent : goal.returns-in-Err-Broken-clause-spent
+returns-in-Err-Broken-clause-spent g c =
+    let es = c.args.prepared.journal in
+    subst (λ (new : List Entry). Breaks g.D.Device.is_known g.D.Device.moment g.D.Device.left_since g.D.Device.has_failed
+    (record { entries = es; journal = c.args.journal.now; sealer = c.args.sealer.now }) (record { entries = new; journal = c.stage.new.self; sealer = c.args.sealer.now })) (sym c.cancel-in-Err-Broken.ensures)
+    (not_staged g.D.Device.is_known g.D.Device.seen g.D.Device.may_leave g.D.Device.is_usable g.D.Device.moment g.D.Device.left_since g.D.Device.has_failed es c.args.journal.now c.stage.new.self c.args.sealer.now
+    c.requires.open (c.in-Err-Broken.ensures.broken (ap Err c.in-Err-Broken.field-0-is)).0 (c.in-Err-Broken.ensures.failed (ap Err c.in-Err-Broken.field-0-is)) (λ known. (c.requires.kept known c.requires.open).1) c.stage.ensures.any_moment)

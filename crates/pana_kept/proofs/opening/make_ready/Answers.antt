@@ -1,5 +1,5 @@
 use Rattle.std.proofs.Common.{◌≡◌, ◌∙◌, ℕ, ◌==◌, false, List, [], length, sym, ap, subst, rules}
-use Rattle.pana_keep.specs.Lines.{recovered, text_of, header}
+use Rattle.pana_keep.specs.Lines.{recovered, text_of}
 use Rattle.pana_keep.proofs.Begun.{no_lines}
 use Rattle.pana_seal.specs.Seal.{Covers}
 use Rattle.pana_kept.specs.Opening.{with_header}

@@ -1,7 +1,7 @@
 use Rattle.std.proofs.Common.{sym, ap, ◌∙◌}
 use Rattle.circular_buffer.specs.Buffer.{Buffer}
 use Rattle.pana_hall.specs.declared.undo.Undo.{Undo}
-use Rattle.pana_hall.specs.inner.Undo.{confirmed, history, kept_rows}
+use Rattle.pana_hall.specs.inner.Undo.{RoomyFamily, confirmed, history, kept_rows}
 use Rattle.pana_hall.proofs.Histories.{kept_truncated, since_none, since_some}
 use Rattle.pana_hall.proofs.kept_family.KeptFamily.confirm.Goals as goal
 
@@ -12,10 +12,10 @@ pub returns-in-Some : goal.returns-in-Some
 returns-in-Some c =
     ap (λ (b : Buffer Undo). kept_rows c.self.inside.number c.self.inside.family.rows (history c.self.inside.family.rows b.items)) c.truncate_back.ensures
     ∙ ap (kept_rows c.self.inside.number c.self.inside.family.rows) (since_some c.args.entry c.in-Some.at c.self.inside.family.rows c.self.inside.undo.items (sym c.position_of.ensures ∙ c.in-Some.is))
-    ∙ ap (confirmed c.args.entry) c.self.view_is
+    ∙ ap (λ (k : RoomyFamily). confirmed c.args.entry k.kept) c.self.view_is
 
 pub returns-in-None : goal.returns-in-None
 returns-in-None c =
-    sym c.self.view_is
+    ap (λ (k : RoomyFamily). k.kept) (sym c.self.view_is)
     ∙ ap (kept_rows c.self.inside.number c.self.inside.family.rows) (since_none c.args.entry c.self.inside.family.rows c.self.inside.undo.items (sym c.position_of.ensures ∙ c.in-None.is))
-    ∙ ap (confirmed c.args.entry) c.self.view_is
+    ∙ ap (λ (k : RoomyFamily). confirmed c.args.entry k.kept) c.self.view_is

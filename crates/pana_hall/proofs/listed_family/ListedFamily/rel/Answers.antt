@@ -11,7 +11,7 @@ use Rattle.pana_hall.proofs.listed_family.ListedFamily.rel.Goals as goal
 
 pub returns-in-New : goal.returns-in-New
 returns-in-New c = λ table stands.
-    let it : new_kept c.in-New.field-0 ≡ c.args.self.now = sym (ap listed c.in-New.is) ∙ c.self.view_is in
-    let own : (copy : ℕ) → lives c.args.self.now.rows copy ≡ true → c.in-New.field-0 ≡ copy = λ copy there. new_living c.in-New.field-0 copy (subst (λ (k : KeptRows). lives k.rows copy ≡ true) (sym it) there) in
+    let it : new_kept c.in-New.field-0 ≡ listed c.args.self.now = ap listed (sym c.in-New.is) in
+    let own : (copy : ℕ) → lives (listed c.args.self.now).rows copy ≡ true → c.in-New.field-0 ≡ copy = λ copy there. new_living c.in-New.field-0 copy (subst (λ (k : KeptRows). lives k.rows copy ≡ true) (sym it) there) in
     let same : c.args.a ≡ c.args.b = sym (own c.args.a c.requires.first) ∙ own c.args.b c.requires.second in
     sym (same_equal (set_in table c.args.a)) ∙ ap (λ (k : ℕ). relation (set_in table c.args.a) (set_in table k)) same

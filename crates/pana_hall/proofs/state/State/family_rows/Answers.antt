@@ -3,6 +3,8 @@ use Rattle.std.specs.List.{list_any}
 use Rattle.std.proofs.Common.{sym, ap, ◌∙◌, subst, append-nil}
 use Rattle.std.proofs.lemmas.List.{take_all, take_more, map-append}
 use Rattle.pana_hall.specs.inner.Undo.{KeptRows}
+use Rattle.pana_hall.specs.inner.Listed.{listed}
+use Rattle.pana_hall.specs.declared.listed_family.ListedFamily.{ListedFamily}
 use Rattle.pana_hall.specs.Board.{is_of}
 use Rattle.pana_hall.specs.Living.{living}
 use Rattle.pana_hall.specs.Queries.{family_row}
@@ -21,30 +23,32 @@ loop-it-preserved c =
     let i = c.loop-it.it-index in
     let it = c.it-item.result in
     let items : c.as_slice-it-items.result.now ≡ list = c.as_slice-it-items.ensures in
-    let same : it ≡ slice_index_or list i it = c.it-item.is ∙ ap (λ (l : List KeptRows). slice_index_or l i it) items in
-    let within : i < length list = subst (λ (l : List KeptRows). i < length l) items c.loop-it-test.true in
-    let own : it ≡ family_of journal it.number =
-    subst (λ (k : KeptRows). k ≡ family_of journal k.number) (sym same) (each_get (λ (k : KeptRows). k ≡ family_of journal k.number) list i it (each_own journal list c.requires.kept.listed) within) in
+    let same : it ≡ slice_index_or list i it = c.it-item.is ∙ ap (λ (l : List ListedFamily). slice_index_or l i it) items in
+    let within : i < length list = subst (λ (l : List ListedFamily). i < length l) items c.loop-it-test.true in
+    let own : listed it ≡ family_of journal (listed it).number =
+    subst (λ (k : ListedFamily). listed k ≡ family_of journal (listed k).number) (sym same)
+    (each_get (λ (k : ListedFamily). listed k ≡ family_of journal (listed k).number) list i it (each_own journal list c.requires.kept.listed) within) in
+    let n = (listed it).number in
     let more : take (i + 1) list ≡ take i list ++ it ∷ [] = take_more list i it within ∙ ap (λ e. take i list ++ e ∷ []) (sym same) in
     let copies = living journal in
-    let step : rows_of copies (map (λ k. k.number) (take (i + 1) list)) ≡ rows_of copies (map (λ k. k.number) (take i list)) ++ cond (list_any (is_of it.number) copies) (family_row copies it.number ∷ []) [] =
-    ap (λ (l : List KeptRows). rows_of copies (map (λ k. k.number) l)) more
-    ∙ ap (rows_of copies) (map-append (λ (k : KeptRows). k.number) (take i list) (it ∷ []))
-    ∙ rows_push copies (map (λ k. k.number) (take i list)) it.number in
-    let lives : c.has_copies.result ≡ list_any (is_of it.number) copies = c.has_copies.ensures ∙ ap (λ (k : KeptRows). nat_lt 0 (length (copy_rows k.rows))) own ∙ lives_is journal it.number c.requires.kept.accepted in
-    let numbers = map (λ (k : KeptRows). k.number) (take i list) in
+    let step : rows_of copies (map (λ k. (listed k).number) (take (i + 1) list)) ≡ rows_of copies (map (λ k. (listed k).number) (take i list)) ++ cond (list_any (is_of n) copies) (family_row copies n ∷ []) [] =
+    ap (λ (l : List ListedFamily). rows_of copies (map (λ k. (listed k).number) l)) more
+    ∙ ap (rows_of copies) (map-append (λ (k : ListedFamily). (listed k).number) (take i list) (it ∷ []))
+    ∙ rows_push copies (map (λ k. (listed k).number) (take i list)) n in
+    let lives : c.has_copies.result ≡ list_any (is_of n) copies = c.has_copies.ensures ∙ ap (λ (k : KeptRows). nat_lt 0 (length (copy_rows k.rows))) own ∙ lives_is journal n c.requires.kept.accepted in
+    let numbers = map (λ (k : ListedFamily). (listed k).number) (take i list) in
     elim c.if-has_copies.branch [
       | then-has_copies+in_ok-family_row+in_ok-push w ↦
-          let some : list_any (is_of it.number) copies ≡ true = sym lives ∙ w.if-has_copies.true in
-          let row : w.in_ok-family_row.field-0 ≡ family_row copies it.number = w.in_ok-family_row.ensures (sets_of it.number journal).table (stands_of journal it.number it c.requires.kept.accepted own) ∙ row_is journal it.number c.requires.kept.accepted in
+          let some : list_any (is_of n) copies ≡ true = sym lives ∙ w.if-has_copies.true in
+          let row : w.in_ok-family_row.field-0 ≡ family_row copies n = w.in_ok-family_row.ensures (sets_of n journal).table (stands_of journal n (listed it) c.requires.kept.accepted own) ∙ row_is journal n c.requires.kept.accepted in
           ap (λ r. r.items) w.rows-is ∙ w.in_ok-push.ensures.items
           ∙ ap (λ l. l ++ w.in_ok-family_row.field-0 ∷ []) c.loop-it.invariant
           ∙ ap (λ r. rows_of copies numbers ++ r ∷ []) row
-          ∙ sym (step ∙ ap (λ b. rows_of copies numbers ++ cond b (family_row copies it.number ∷ []) []) some)
+          ∙ sym (step ∙ ap (λ b. rows_of copies numbers ++ cond b (family_row copies n ∷ []) []) some)
       | else-has_copies w ↦
-          let none : list_any (is_of it.number) copies ≡ false = sym lives ∙ w.if-has_copies.false in
+          let none : list_any (is_of n) copies ≡ false = sym lives ∙ w.if-has_copies.false in
           ap (λ r. r.items) w.rows-is ∙ c.loop-it.invariant
-          ∙ sym (step ∙ ap (λ b. rows_of copies numbers ++ cond b (family_row copies it.number ∷ []) []) none ∙ append-nil (rows_of copies numbers))
+          ∙ sym (step ∙ ap (λ b. rows_of copies numbers ++ cond b (family_row copies n ∷ []) []) none ∙ append-nil (rows_of copies numbers))
     ]
 
 pub returns : goal.returns
@@ -52,7 +56,7 @@ returns c =
     let journal = c.args.self.now.journal.entries in
     let list = c.args.self.now.families.list.items in
     let items : c.as_slice-it-items.result.now ≡ list = c.as_slice-it-items.ensures in
-    let all : take c.loop-it.it-index list ≡ list = take_all c.loop-it.it-index list (subst (λ (l : List KeptRows). length l ≤ c.loop-it.it-index) items (c.loop-it-test.false)) in
+    let all : take c.loop-it.it-index list ≡ list = take_all c.loop-it.it-index list (subst (λ (l : List ListedFamily). length l ≤ c.loop-it.it-index) items (c.loop-it-test.false)) in
     c.loop-it.invariant
-    ∙ ap (λ (l : List KeptRows). rows_of (living journal) (map (λ k. k.number) l)) all
+    ∙ ap (λ (l : List ListedFamily). rows_of (living journal) (map (λ k. (listed k).number) l)) all
     ∙ ap (rows_of (living journal)) (numbers_own journal list c.requires.kept.listed)

@@ -1,10 +1,9 @@
-use Rattle.std.proofs.Common.{◌≡◌, List, ℕ, ◌∷◌, [], ◌++◌, ◌-◌, length, take, sym, ◌∙◌, ap, subst, arith, rules}
+use Rattle.std.proofs.Common.{◌≡◌, sym, ◌∙◌, ap, subst, rules}
 use Rattle.std.specs.Prelude.{string_bytes}
-use Rattle.pana_wire.specs.Seal.{entry_body}
 use Rattle.pana_seal.specs.Seal.{digest_of}
 use Rattle.pana_kept.specs.Entries.{IsLineOf, IsSealedBehind}
-use Rattle.pana_kept.proofs.Lines.{is_line, is_sealed_behind, body_of_line, line_long}
-use Rattle.pana_kept.proofs.entry_line.sealed_line.Goals as goal
+use Rattle.pana_kept.proofs.Lines.{is_line, is_sealed_behind, body_of_line}
+use Rattle.pana_kept.proofs.entry_line.line_of.Goals as goal
 
 pub returns-clause-line : goal.returns-clause-line
 returns-clause-line c =

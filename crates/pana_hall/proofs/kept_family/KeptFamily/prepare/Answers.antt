@@ -1,0 +1,15 @@
+use Rattle.std.proofs.Common.{sym, subst}
+use Rattle.pana_family.specs.Rows.{AreBefore}
+use Rattle.pana_family.specs.Report.{CanReport}
+use Rattle.pana_hall.specs.inner.Undo.{RoomyFamily}
+use Rattle.pana_hall.proofs.Histories.{names_living, kept_roomier}
+use Rattle.pana_hall.proofs.kept_family.KeptFamily.prepare.Goals as goal
+
+pub prepare-requires-clause-living : goal.prepare-requires-clause-living
+prepare-requires-clause-living c = names_living c.args.report c.self.inside.family.rows (subst (λ (k : RoomyFamily). CanReport c.args.report k.kept.rows) (sym c.self.view_is) c.requires.able)
+
+pub prepare-requires-clause-new : goal.prepare-requires-clause-new
+prepare-requires-clause-new c = subst (λ (k : RoomyFamily). AreBefore c.args.entry k.kept.rows) (sym c.self.view_is) c.requires.new
+
+pub invariant_of-self : goal.invariant_of-self
+invariant_of-self c = kept_roomier c.self.inside.family.room c.prepare.new.self.room c.self.inside.family.rows c.prepare.new.self.rows c.self.inside.undo c.prepare.ensures.rows c.prepare.ensures.room c.self.invariant

@@ -1,0 +1,60 @@
+use Rattle.std.specs.Prelude.{◌≡◌, ◌+◌, [], ◌∷◌, ◌++◌, length}
+use Rattle.std.proofs.Common.{sym, ap, ◌∙◌, subst, arith}
+use Rattle.pana_copies.specs.Spots.{kept}
+use Rattle.pana_hall.specs.inner.Listed.{all_listed}
+use Rattle.pana_hall.specs.inner.Next.{IsStep}
+use Rattle.pana_hall.specs.inner.Kept.{next_entry, AreSpots, IsReadyAt, families_of}
+use Rattle.pana_hall.proofs.Listed.{fresh_register, free_register, listed_push, listed_set, position_within, ready_at, spots_register, step_takes, takes_at, takes_later}
+use Rattle.pana_hall.proofs.recording.make_step.Goals as goal
+
+pub begin-requires-clause-fresh : goal.begin-requires-clause-fresh
+begin-requires-clause-fresh c =
+    let is = (subst (IsStep _ _ _ _ _ _ c.args.report.now) c.in-Begin.is c.requires.step).0 in
+    let ready = subst (λ r. IsReadyAt c.args.journal.now.entries c.args.by.now r (all_listed c.args.list.now.items) c.args.position c.args.copies.now) is c.requires.ready in
+    ap (λ n. kept c.args.copies.now (n + 1)) c.length.ensures.length ∙ fresh_register ready
+
+pub begin-requires-clause-free : goal.begin-requires-clause-free
+begin-requires-clause-free c =
+    let is = (subst (IsStep _ _ _ _ _ _ c.args.report.now) c.in-Begin.is c.requires.step).0 in
+    free_register (subst (λ r. IsReadyAt c.args.journal.now.entries c.args.by.now r (all_listed c.args.list.now.items) c.args.position c.args.copies.now) is c.requires.ready)
+
+pub begin-requires-clause-more : goal.begin-requires-clause-more
+begin-requires-clause-more c = (subst (IsStep _ _ _ _ _ _ c.args.report.now) c.in-Begin.is c.requires.step).1
+
+pub returns-in-Begin-clause-list : goal.returns-in-Begin-clause-list
+returns-in-Begin-clause-list c =
+    let is = (subst (IsStep _ _ _ _ _ _ c.args.report.now) c.in-Begin.is c.requires.step).0 in
+    let ready = subst (λ r. IsReadyAt c.args.journal.now.entries c.args.by.now r (all_listed c.args.list.now.items) c.args.position c.args.copies.now) is c.requires.ready in
+    c.begin.ensures.list ∙ listed_push ready c.length.result c.length.ensures.length
+    ∙ ap (λ r. families_of (c.args.journal.now.entries ++ next_entry c.args.journal.now.entries c.args.by.now r ∷ [])) (sym is)
+
+pub returns-in-Begin-clause-spots : goal.returns-in-Begin-clause-spots
+returns-in-Begin-clause-spots c =
+    let is = (subst (IsStep _ _ _ _ _ _ c.args.report.now) c.in-Begin.is c.requires.step).0 in
+    let ready = subst (λ r. IsReadyAt c.args.journal.now.entries c.args.by.now r (all_listed c.args.list.now.items) c.args.position c.args.copies.now) is c.requires.ready in
+    subst (λ r. AreSpots (c.args.journal.now.entries ++ next_entry c.args.journal.now.entries c.args.by.now r ∷ []) c.begin.new.copies) (sym is) (spots_register ready c.length.result c.length.ensures.length c.begin.new.copies c.begin.ensures.spots)
+
+pub index_mut-requires : goal.index_mut-requires
+index_mut-requires c =
+    let takes = step_takes _ _ _ _ _ _ _ c.args.step c.in_default.not-Begin c.requires.step in
+    let within = position_within c.args.list.now.items c.requires.ready (takes_later takes) in
+    let same : length c.as_slice.result.now ≡ length c.args.list.now.items = ap length c.as_slice.ensures.value in
+    omega (arith, c.as_slice.ensures.len)
+
+pub change_family-requires-clause-ready : goal.change_family-requires-clause-ready
+change_family-requires-clause-ready c =
+    let takes = step_takes _ _ _ _ _ _ _ c.args.step c.in_default.not-Begin c.requires.step in
+    ready_at c.args.list.now.items c.requires.ready (takes_later takes) c.index_mut.result.now c.index_mut.result.now c.index_mut.ensures.value
+
+pub change_family-requires-clause-step : goal.change_family-requires-clause-step
+change_family-requires-clause-step c =
+    let takes = step_takes _ _ _ _ _ _ _ c.args.step c.in_default.not-Begin c.requires.step in
+    takes_at takes c.index_mut.result.now c.index_mut.result.now c.index_mut.ensures.value
+
+pub returns-in_default-clause-list : goal.returns-in_default-clause-list
+returns-in_default-clause-list c =
+    let takes = step_takes _ _ _ _ _ _ _ c.args.step c.in_default.not-Begin c.requires.step in
+    listed_set c.args.list.now.items c.requires.ready (takes_later takes) c.index_mut.result.now c.index_mut.result.now c.change_family.new.it c.index_mut.ensures.value c.change_family.ensures.family
+
+pub returns-in_default-clause-spots : goal.returns-in_default-clause-spots
+returns-in_default-clause-spots c = c.change_family.ensures.spots

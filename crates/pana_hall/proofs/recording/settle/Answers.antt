@@ -1,0 +1,36 @@
+use Rattle.std.specs.Prelude.{◌≡◌, [], ◌∷◌, ◌++◌, Some, option_copied}
+use Rattle.std.proofs.Common.{sym, ap, ◌∙◌, subst}
+use Rattle.pana_hall.specs.inner.Undo.{last_place}
+use Rattle.pana_hall.specs.inner.Listed.{listed}
+use Rattle.pana_hall.specs.inner.Spots.{CanUndo, undone_spot}
+use Rattle.pana_hall.specs.inner.Kept.{next_entry, AreSpots}
+use Rattle.pana_hall.proofs.Ready.{as_is}
+use Rattle.pana_hall.proofs.Undoing.{opened, can_undo, undone_spots}
+use Rattle.pana_hall.proofs.Changes.{family_confirmed, family_withdrawn, spots_confirm}
+use Rattle.pana_hall.proofs.recording.settle.Goals as goal
+
+pub withdraw-requires-clause-undo : goal.withdraw-requires-clause-undo
+withdraw-requires-clause-undo c =
+    let ready = as_is c.requires.ready c.in-Withdraw.is in
+    let o = opened ready in
+    let both : Some o.ends.last ≡ Some c.unwrap.result.now = sym o.ends.at ∙ sym c.entry.ensures.entry ∙ ap option_copied c.unwrap.ensures in
+    let same : o.ends.last ≡ c.unwrap.result.now = cc in
+    subst (λ e. CanUndo c.in-Withdraw.entry e.report (listed c.args.it.now).number (last_place (listed c.args.it.now).undo) c.args.copies.now) same (can_undo ready o)
+
+pub returns-in-Confirm-clause-family : goal.returns-in-Confirm-clause-family
+returns-in-Confirm-clause-family c = family_confirmed c.requires.ready c.in-Confirm.is (listed c.confirm.new.self) c.confirm.ensures
+
+pub returns-in-Confirm-clause-spots : goal.returns-in-Confirm-clause-spots
+returns-in-Confirm-clause-spots c = spots_confirm c.requires.ready c.in-Confirm.is
+
+pub returns-in-Withdraw-clause-family : goal.returns-in-Withdraw-clause-family
+returns-in-Withdraw-clause-family c = family_withdrawn c.requires.ready c.in-Withdraw.is (listed c.withdraw.new.it) c.withdraw.ensures.family
+
+pub returns-in-Withdraw-clause-spots : goal.returns-in-Withdraw-clause-spots
+returns-in-Withdraw-clause-spots c =
+    let ready = as_is c.requires.ready c.in-Withdraw.is in
+    let o = opened ready in
+    let both : Some o.ends.last ≡ Some c.unwrap.result.now = sym o.ends.at ∙ sym c.entry.ensures.entry ∙ ap option_copied c.unwrap.ensures in
+    let same : o.ends.last ≡ c.unwrap.result.now = cc in
+    subst (λ r. AreSpots (c.args.journal.now.entries ++ next_entry c.args.journal.now.entries c.args.by.now r ∷ []) c.withdraw.new.copies) (sym c.in-Withdraw.is)
+    (λ number. c.withdraw.ensures.spots number ∙ ap (λ e. undone_spot c.in-Withdraw.entry e.report (listed c.args.it.now).number (last_place (listed c.args.it.now).undo) c.args.copies.now number) (sym same) ∙ undone_spots ready o number)
