@@ -4,4 +4,4 @@ pub mod Shape
 pub mod Join
 pub mod Order
 pub mod Relation
-pub mod Laws
+pub mod laws

@@ -1,5 +1,5 @@
 //! Laws of events, for the proofs of those who keep them: each function ensures one, and does nothing.
-ghost use Rattle.pana_event.specs.Laws.{AgreeingAreSame, BelowEachOtherAreSame, BelowIsTested, GreatestIsAttained, JoinAddsNoLevel, JoinHasGreaterLevels, JoinHasNoOrder, JoinIsOne, JoinKeepsLimits, LeastIsAttained, NormIsNormal, NormKeepsLevels};
+ghost use Rattle.pana_event.specs.laws.Events.{AgreeingAreSame, BelowEachOtherAreSame, BelowIsTested, GreatestIsAttained, JoinAddsNoLevel, JoinHasGreaterLevels, JoinHasNoOrder, JoinIsOne, JoinKeepsLimits, LeastIsAttained, NormIsNormal, NormKeepsLevels};
 
 /// Two normal events of depth at most 256 that agree at all points are one tree.
 pub fn agreeing_are_same()

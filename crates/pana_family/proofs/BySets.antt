@@ -2,14 +2,13 @@
 use Rattle.std.specs.Prelude.{◌+◌, fold, cond, ◌≡◌, ℕ, Bool, true, ◌==◌, ◌||◌, ◌&&◌, List, [], ◌∷◌, Option, map, false}
 use Rattle.std.proofs.Common.{refl, subst, sym, ap, ◌∙◌, arith}
 use Rattle.pana_family.specs.declared.row.StampRow.{StampRow}
-use Rattle.pana_family.specs.Laws.{IsSubset}
+use Rattle.pana_family.specs.Updates.{IsSubset}
 use Rattle.pana_family.specs.Holders.{is_copy, is_held}
-use Rattle.pana_family.specs.Table.{Known, In, is_in, copies_of, set_in, held_by, AreHeld}
+use Rattle.pana_family.specs.Table.{IsAbove, Known, In, is_in, copies_of, set_in, held_by, AreHeld}
 use Rattle.pana_family.specs.Stands.{AreSame, StandsFor}
 use Rattle.pana_family.specs.Rows.{AreBefore, lives, copy_rows}
 use Rattle.pana_family.specs.Rows.{held_rows}
 use Rattle.pana_family.specs.Kept.{IsKept}
-use Rattle.pana_family.specs.Sets.{IsAbove}
 use Rattle.pana_family.proofs.Members.{of_row, of_known}
 use Rattle.pana_family.proofs.Changes.{below_is_subset}
 use Rattle.pana_family.proofs.Held.{one_known, set_of}

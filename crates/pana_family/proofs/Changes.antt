@@ -12,9 +12,9 @@ use Rattle.pana_stamp.specs.Raised.{IsRaised}
 use Rattle.pana_stamp.specs.declared.stamp.Stamp.{Stamp}
 use Rattle.pana_family.specs.declared.row.StampRow.{StampRow}
 use Rattle.pana_family.proofs.Unions.{missing}
-use Rattle.pana_family.specs.Updates.{has, union}
+use Rattle.pana_family.specs.Updates.{has, union, IsSubset}
 use Rattle.pana_family.specs.Relation.{relation}
-use Rattle.pana_family.specs.Laws.{IsSubset, RelatesSets}
+use Rattle.pana_family.specs.laws.Relations.{RelatesSets}
 use Rattle.pana_family.specs.Table.{Known, known, knowing, In, set_in, duplicated, edited, registered, touched, touch_in, AreBelow}
 use Rattle.pana_family.specs.Stands.{top, AreSame, StandsFor}
 use Rattle.pana_family.specs.Rows.{IsRising, AreBefore, seed_row}

@@ -1,17 +1,13 @@
--- The rows after a report are those that the function gives.
-use Rattle.std.specs.Prelude.{◌≡◌, ℕ, Bool, true, false, cond, ◌==◌, ◌&&◌, List, None, Some}
+-- The event after an update is the one that the function gives.
+use Rattle.std.specs.Prelude.{◌≡◌, Bool, true, false, cond, ◌==◌, ◌&&◌}
 use Rattle.std.proofs.Common.{refl, ap, ◌∙◌}
 use Rattle.std.proofs.lemmas.Bool.{eq-eqb, eqb-true}
 use Rattle.pana_id.specs.Id.{Id}
 use Rattle.pana_event.specs.Event.{Event, leaf, fork}
 use Rattle.pana_stamp.specs.Fill.{fill}
 use Rattle.pana_stamp.specs.Grow.{grow}
-use Rattle.pana_family.specs.declared.row.StampRow.{StampRow}
-use Rattle.pana_family.specs.declared.report.FamilyReport.{FamilyReport}
-use Rattle.pana_family.specs.declared.report.FamilyReport.TheVariants.{Duplicate, Edit, Reconcile, Merge, Remove, Touch}
-use Rattle.pana_family.specs.Rows.{IsUpdate, AreEdited, row_in, row, replaced, stamp}
-use Rattle.pana_family.specs.Exact.{AreMergedRows, IsExact, joined_stamp, pair_rows}
-use Rattle.pana_family.specs.After.{same_event, updated, edited_rows, merged_rows, reported_rows}
+use Rattle.pana_family.specs.After.{same_event, updated}
+use Rattle.pana_family.specs.inner.Making.{IsUpdate}
 
 both : (a b : Bool) → (a && b) ≡ true → (a ≡ true) × (b ≡ true)
 both true true e = (refl, refl)
@@ -39,25 +35,7 @@ update_is i e new up =
       | false ↦ λ h. up.filled (λ same. let is : same_event (fill i e) e ≡ true = ap (λ f. same_event f e) same ∙ same_itself e in absurd (cc (is, h)))
     ] refl
 
-pub edited_are : (n copy : ℕ) (rows new : List StampRow) → AreEdited n copy rows new → new ≡ edited_rows n copy rows
-edited_are n copy rows new are =
-    are.rows_are ∙ ap (λ e. replaced copy (row copy (stamp (row_in rows copy).stamp.id e) n) rows) (update_is (row_in rows copy).stamp.id (row_in rows copy).stamp.event are.event are.update)
-
-pub merged_are : (n a b : ℕ) (rows new : List StampRow) → AreMergedRows n a b rows new → new ≡ merged_rows n a b rows
-merged_are n a b rows new are =
-    let whole = joined_stamp (row_in rows a) (row_in rows b) in
-    are.rows_are ∙ ap (λ e. pair_rows n (row_in rows a) (row_in rows b) (stamp whole.id e) rows) (update_is whole.id whole.event are.event are.update)
-
-pub exact_are : (n : ℕ) (report : FamilyReport) (rows new : List StampRow) → IsExact n report rows new → new ≡ reported_rows n report rows
-exact_are n (Duplicate source) rows new is = is
-exact_are n (Edit copy) rows new is = edited_are n copy rows new is
-exact_are n (Reconcile a b) rows new is = is
-exact_are n (Merge a b) rows new is = merged_are n a b rows new is
-exact_are n (Remove copy None) rows new is = is
-exact_are n (Remove copy (Some heir)) rows new is = is
-exact_are n (Touch copy) rows new is = is
-
--- and the function gives such rows
+-- and the function gives one
 pub is_update : (i : Id) (e : Event) → IsUpdate i e (updated i e)
 is_update i e = record {
   grown = λ same. ap (λ b. cond b (grow i e) (fill i e)) (ap (λ f. same_event f e) same ∙ same_itself e);
@@ -66,14 +44,3 @@ is_update i e = record {
     | false ↦ λ h. refl
   ] refl;
 }
-
-pub are_exact : (n : ℕ) (report : FamilyReport) (rows : List StampRow) → IsExact n report rows (reported_rows n report rows)
-are_exact n (Duplicate source) rows = refl
-are_exact n (Edit copy) rows = let r = row_in rows copy in record { event = updated r.stamp.id r.stamp.event; update = is_update r.stamp.id r.stamp.event; rows_are = refl }
-are_exact n (Reconcile a b) rows = refl
-are_exact n (Merge a b) rows =
-    let whole = joined_stamp (row_in rows a) (row_in rows b) in
-    record { event = updated whole.id whole.event; update = is_update whole.id whole.event; rows_are = refl }
-are_exact n (Remove copy None) rows = refl
-are_exact n (Remove copy (Some heir)) rows = refl
-are_exact n (Touch copy) rows = refl

@@ -20,10 +20,13 @@ use Rattle.pana_family.specs.Updates.{has, union}
 use Rattle.pana_family.specs.Holders.{is_held, leave}
 use Rattle.pana_family.specs.Table.{Known, In, AreBelow, AreHeld, bequeathed, duplicated, ends, known, knowing, merged, parcel, passed_on, reconciled, set_in, settled, touched, edited, united, without, wrapped}
 use Rattle.pana_family.specs.Stands.{AreSame, StandsFor}
-use Rattle.pana_family.specs.Rows.{AreBefore, AreEdited, IsRising, IsUpdate, OwnSame, copy_rows, deepest, duplicated_rows, id_in, lives, put_all, renewed, replaced, retouched, row, row_in, stamp, AreSound}
+use Rattle.pana_family.specs.Rows.{AreBefore, IsRising, OwnSame, copy_rows, deepest, duplicated_rows, id_in, lives, put_all, renewed, replaced, retouched, row, row_in, stamp, AreSound}
 use Rattle.pana_family.specs.Kept.{IsKept}
 use Rattle.pana_family.specs.Ends.{goes, parcel_row, stays_parcel}
-use Rattle.pana_family.specs.Exact.{AreMergedRows, IsExact, bequeathed_rows, lost_rows, reconciled_rows, settled_row}
+use Rattle.pana_family.specs.Exact.{bequeathed_rows, lost_rows, reconciled_rows, settled_row}
+use Rattle.pana_family.specs.After.{edited_rows, merged_rows, reported_rows, updated as event_after}
+use Rattle.pana_family.specs.inner.Making.{IsUpdate}
+use Rattle.pana_family.proofs.Computed.{is_update}
 use Rattle.pana_family.specs.Report.{Asks, CanReport, IsReported, deeper, loses, reported}
 use Rattle.pana_family.specs.inner.Making.{IsRowOf}
 use Rattle.pana_family.proofs.Unions.{union_members}
@@ -132,7 +135,7 @@ asked n (Merge a b) table below = below
 asked n (Remove c h) table below = tt
 asked n (Touch c) table below = tt
 
-leaves_reported : (n : ℕ) (report : FamilyReport) (rows new : List StampRow) → IsKept rows → CanReport report rows → AreBefore n rows → IsExact n report rows new → Leaves n report rows new → IsReported n report rows new
+leaves_reported : (n : ℕ) (report : FamilyReport) (rows new : List StampRow) → IsKept rows → CanReport report rows → AreBefore n rows → new ≡ reported_rows n report rows → Leaves n report rows new → IsReported n report rows new
 leaves_reported n report rows new k can before exact l =
     let below : AreBelow n k.table = below_kept rows n k.table k.stands k.numbers before in
     record {
@@ -185,14 +188,15 @@ replaced_leaves n report rows r x k i named also same high stands = record {
   stands = stands;
 }
 
-edit_leaves : (n c : ℕ) (rows new : List StampRow) → n < 2 ^ 64 → IsKept rows → AreSound rows → lives rows c ≡ true → AreBefore n rows → AreEdited n c rows new → Leaves n (Edit c) rows new
-edit_leaves n c rows new fits k fine here before done =
+edit_leaves : (n c : ℕ) (rows : List StampRow) → n < 2 ^ 64 → IsKept rows → AreSound rows → lives rows c ≡ true → AreBefore n rows → Leaves n (Edit c) rows (edited_rows n c rows)
+edit_leaves n c rows fits k fine here before =
     let r : StampRow = row_in rows c in
     let at : IsRowOf rows c r = row_lives rows c k.rising here in
-    let x : StampRow = row c (stamp r.stamp.id done.event) n in
+    let e : Event = event_after r.stamp.id r.stamp.event in
+    let x : StampRow = row c (stamp r.stamp.id e) n in
     let f = fine r at.there in
-    let raised : IsRaised r.stamp.id r.stamp.event done.event = (updated r.stamp.id r.stamp.event done.event f.0 (k.stands.owning r at.there) f.1 (omega (arith, k.levels r at.there, (before r at.there).1, fits)) done.update).0 in
-    subst (Leaves n (Edit c) rows) (sym (done.rows_are ∙ ap (λ (d : ℕ). replaced d x rows) (sym at.named)))
+    let raised : IsRaised r.stamp.id r.stamp.event e = (updated r.stamp.id r.stamp.event e f.0 (k.stands.owning r at.there) f.1 (omega (arith, k.levels r at.there, (before r at.there).1, fits)) (is_update r.stamp.id r.stamp.event)).0 in
+    subst (Leaves n (Edit c) rows) (ap (λ (d : ℕ). replaced d x rows) at.named)
     (replaced_leaves n (Edit c) rows r x k at.there (sym at.named) (sym at.free) refl (omega (arith, raised.bound, k.levels r at.there, (before r at.there).1))
     (λ table st below. subst (λ (d : ℕ). StandsFor (replaced r.copy x rows) (edited n d table)) at.named (edit_stands rows table r x n st k.rising at.there (sym at.named) (sym at.free) refl refl raised below)))
 
@@ -209,18 +213,18 @@ renewed_is f r (q ∷ rows) one =
 pub renewed_row : (f : StampRow → StampRow) (r : StampRow) (rows : List StampRow) → IsRising 0 rows → In r rows → renewed r.copy f rows ≡ replaced r.copy (f r) rows
 renewed_row f r rows up i = renewed_is f r rows (λ q j e. one_row 0 rows q r up j i e)
 
-touch_leaves : (n c : ℕ) (rows new : List StampRow) → IsKept rows → lives rows c ≡ true → AreBefore n rows → new ≡ retouched c n rows → Leaves n (Touch c) rows new
-touch_leaves n c rows new k here before is =
+touch_leaves : (n c : ℕ) (rows : List StampRow) → IsKept rows → lives rows c ≡ true → AreBefore n rows → Leaves n (Touch c) rows (retouched c n rows)
+touch_leaves n c rows k here before =
     let r : StampRow = row_in rows c in
     let at : IsRowOf rows c r = row_lives rows c k.rising here in
     let x : StampRow = record r { touch = n } in
-    subst (Leaves n (Touch c) rows) (sym (is ∙ ap (λ (d : ℕ). retouched d n rows) (sym at.named) ∙ renewed_row (λ q. record q { touch = n }) r rows k.rising at.there))
+    subst (Leaves n (Touch c) rows) (sym (ap (λ (d : ℕ). retouched d n rows) (sym at.named) ∙ renewed_row (λ q. record q { touch = n }) r rows k.rising at.there))
     (replaced_leaves n (Touch c) rows r x k at.there refl refl refl (omega (arith, k.levels r at.there, (before r at.there).1))
     (λ table st any. subst (λ (d : ℕ). StandsFor (replaced r.copy x rows) (touched n d table)) at.named (touch_stands rows table r x n st k.rising at.there refl refl refl refl)))
 
-duplicate_leaves : (n c : ℕ) (rows new : List StampRow) → IsKept rows → lives rows c ≡ true → length (copy_rows rows) < 256 → AreBefore n rows
-    → IsParted (row_in rows c).stamp.id (parts (row_in rows c).stamp.id).0 (parts (row_in rows c).stamp.id).1 → new ≡ duplicated_rows n c rows → Leaves n (Duplicate c) rows new
-duplicate_leaves n c rows new k here room before parted is =
+duplicate_leaves : (n c : ℕ) (rows : List StampRow) → IsKept rows → lives rows c ≡ true → length (copy_rows rows) < 256 → AreBefore n rows
+    → IsParted (row_in rows c).stamp.id (parts (row_in rows c).stamp.id).0 (parts (row_in rows c).stamp.id).1 → Leaves n (Duplicate c) rows (duplicated_rows n c rows)
+duplicate_leaves n c rows k here room before parted =
     let r : StampRow = row_in rows c in
     let at : IsRowOf rows c r = row_lives rows c k.rising here in
     let x : StampRow = row c (stamp (parts r.stamp.id).0 r.stamp.event) r.touch in
@@ -229,7 +233,7 @@ duplicate_leaves n c rows new k here room before parted is =
     let also : x.holder ≡ r.holder = sym at.free in
     let left : List StampRow = replaced r.copy x rows in
     let low = depth-parts-le r.stamp.id in
-    subst (Leaves n (Duplicate c) rows) (sym (is ∙ ap (λ (d : ℕ). replaced d x rows ++ y ∷ []) (sym at.named))) record {
+    subst (Leaves n (Duplicate c) rows) (ap (λ (d : ℕ). replaced d x rows ++ y ∷ []) at.named) record {
       rising = rising_pushed 0 y left (rising_replaced 0 r.copy x rows k.rising named) (omega arith) (λ q j. elim (in_replaced r.copy x rows q j) [
         | inl e ↦ omega (arith, (before r at.there).0, ap (λ (w : StampRow). w.copy) e, named)
         | inr o ↦ (before q o.0).0
@@ -264,36 +268,36 @@ pair_leaves n report rows r q e k fine two high stands = record {
   stands = stands;
 }
 
-reconcile_leaves : (n a b : ℕ) (rows new : List StampRow) → IsKept rows → AreSound rows → CanReport (Reconcile a b) rows → AreBefore n rows → new ≡ reconciled_rows n a b rows → Leaves n (Reconcile a b) rows new
-reconcile_leaves n a b rows new k fine can before is =
+reconcile_leaves : (n a b : ℕ) (rows : List StampRow) → IsKept rows → AreSound rows → CanReport (Reconcile a b) rows → AreBefore n rows → Leaves n (Reconcile a b) rows (reconciled_rows n a b rows)
+reconcile_leaves n a b rows k fine can before =
     let r : StampRow = row_in rows a in
     let q : StampRow = row_in rows b in
     let two : AreTwo rows r q = two_rows rows a b k.rising can.0 can.1 can.2 in
     let e : Event = joined r.stamp.event q.stamp.event in
-    subst (Leaves n (Reconcile a b) rows) (sym is) (pair_leaves n (Reconcile a b) rows r q e k fine two
+    pair_leaves n (Reconcile a b) rows r q e k fine two
     (omega (arith, greatest-joined r.stamp.event q.stamp.event, k.levels r two.first, k.levels q two.second, (before r two.first).1, (before q two.second).1))
     (λ table st any. subst (λ (m : ℕ). StandsFor (pair_new n r q e rows) (reconciled n m b table)) (row_lives rows a k.rising can.0).named
-    (subst (λ (m : ℕ). StandsFor (pair_new n r q e rows) (reconciled n r.copy m table)) (row_lives rows b k.rising can.1).named (reconciled_stands rows table n r q k fine two st))))
+    (subst (λ (m : ℕ). StandsFor (pair_new n r q e rows) (reconciled n r.copy m table)) (row_lives rows b k.rising can.1).named (reconciled_stands rows table n r q k fine two st)))
 
-merge_leaves : (n a b : ℕ) (rows new : List StampRow) → n < 2 ^ 64 → IsKept rows → AreSound rows → CanReport (Merge a b) rows → AreBefore n rows → AreMergedRows n a b rows new → Leaves n (Merge a b) rows new
-merge_leaves n a b rows new fits k fine can before done =
+merge_leaves : (n a b : ℕ) (rows : List StampRow) → n < 2 ^ 64 → IsKept rows → AreSound rows → CanReport (Merge a b) rows → AreBefore n rows → Leaves n (Merge a b) rows (merged_rows n a b rows)
+merge_leaves n a b rows fits k fine can before =
     let r : StampRow = row_in rows a in
     let q : StampRow = row_in rows b in
     let two : AreTwo rows r q = two_rows rows a b k.rising can.0 can.1 can.2 in
     let w = whole_is rows r q k fine two in
-    let e : Event = done.event in
+    let e : Event = event_after (both_ids r q) (joined r.stamp.event q.stamp.event) in
     let some : is_zero (both_ids r q) ≡ false = w.summed.zero_only ∙ ap (λ (v : Bool). v && is_zero q.stamp.id) (k.stands.owning r two.first) in
     let high : greatest (joined r.stamp.event q.stamp.event) + 1 ≤ n = omega (arith, greatest-joined r.stamp.event q.stamp.event, k.levels r two.first, k.levels q two.second, (before r two.first).1, (before q two.second).1) in
-    let up = updated (both_ids r q) (joined r.stamp.event q.stamp.event) e w.valid some (IsSound-joined r.stamp.event q.stamp.event (fine r two.first).1 (fine q two.second).1) (omega (arith, high, fits)) done.update in
-    subst (Leaves n (Merge a b) rows) (sym done.rows_are) (pair_leaves n (Merge a b) rows r q e k fine two (omega (arith, up.0.bound, high))
+    let up = updated (both_ids r q) (joined r.stamp.event q.stamp.event) e w.valid some (IsSound-joined r.stamp.event q.stamp.event (fine r two.first).1 (fine q two.second).1) (omega (arith, high, fits)) (is_update (both_ids r q) (joined r.stamp.event q.stamp.event)) in
+    pair_leaves n (Merge a b) rows r q e k fine two (omega (arith, up.0.bound, high))
     (λ table st below. subst (λ (m : ℕ). StandsFor (pair_new n r q e rows) (merged n m b table)) (row_lives rows a k.rising can.0).named
-    (subst (λ (m : ℕ). StandsFor (pair_new n r q e rows) (merged n r.copy m table)) (row_lives rows b k.rising can.1).named (merged_stands rows table n r q e k fine two up.1 up.0 st below))))
+    (subst (λ (m : ℕ). StandsFor (pair_new n r q e rows) (merged n r.copy m table)) (row_lives rows b k.rising can.1).named (merged_stands rows table n r q e k fine two up.1 up.0 st below)))
 
-lost_leaves : (n c : ℕ) (rows new : List StampRow) → IsKept rows → new ≡ lost_rows c rows → Leaves n (Remove c None) rows new
-lost_leaves n c rows new k is =
+lost_leaves : (n c : ℕ) (rows : List StampRow) → IsKept rows → Leaves n (Remove c None) rows (lost_rows c rows)
+lost_leaves n c rows k =
     let test : StampRow → Bool = goes (Some c) [] in
     let up : IsRising 0 (lost_rows c rows) = rising_leave 0 test rows k.rising in
-    subst (Leaves n (Remove c None) rows) (sym is) record {
+    record {
       rising = up;
       few = omega (arith, few_lives rows (lost_rows c rows) k.rising up (λ d here. ((lost_lives rows c d).0 here).0), k.few);
       levels = λ r i. k.levels r (in_leave test rows r i).0;
@@ -311,13 +315,13 @@ two_heirs rows n c h up before here there differ =
 pub bequest_is : (n c h : ℕ) (rows : List StampRow) → IsRising 0 rows → lives rows c ≡ true → bequeathed_rows n c h rows ≡ heir_new n (row_in rows c) (row_in rows h) rows
 bequest_is n c h rows up here = let q : StampRow = row_in rows h in ap (λ (d : ℕ). put_all (settled_row (Some d) rows q ∷ map (parcel_row n d q.copy) (filter (stays_parcel q d) rows)) (leave (goes (Some d) (settled_row (Some d) rows q ∷ [])) rows)) (sym (row_lives rows c up here).named)
 
-bequest_leaves : (n c h : ℕ) (rows new : List StampRow) → IsKept rows → AreSound rows → CanReport (Remove c (Some h)) rows → AreBefore n rows → new ≡ bequeathed_rows n c h rows → Leaves n (Remove c (Some h)) rows new
-bequest_leaves n c h rows new k fine can before is =
+bequest_leaves : (n c h : ℕ) (rows : List StampRow) → IsKept rows → AreSound rows → CanReport (Remove c (Some h)) rows → AreBefore n rows → Leaves n (Remove c (Some h)) rows (bequeathed_rows n c h rows)
+bequest_leaves n c h rows k fine can before =
     let r : StampRow = row_in rows c in
     let q : StampRow = row_in rows h in
     let at : IsRowOf rows c r = row_lives rows c k.rising can.0 in
     let w : AreHeirs rows n r q = two_heirs rows n c h k.rising before can.0 can.1 (λ e. can.2 (ap Some e)) in
-    subst (Leaves n (Remove c (Some h)) rows) (sym (is ∙ bequest_is n c h rows k.rising can.0)) record {
+    subst (Leaves n (Remove c (Some h)) rows) (sym (bequest_is n c h rows k.rising can.0)) record {
       rising = heir_rising rows n r q k.rising;
       few = omega (arith, few_lives rows (heir_new n r q rows) k.rising (heir_rising rows n r q k.rising) (λ d here. ((heir_lives rows n r q d w).0 here).0), k.few);
       levels = heir_levels rows n r q k w;
@@ -333,14 +337,15 @@ parted_row rows c up fine here divides =
     let at : IsRowOf rows c (row_in rows c) = row_lives rows c up here in
     parted-parts (row_in rows c).stamp.id (ap (λ (i : Id). is_single i 256) (sym (ap (id_in rows) (sym at.named) ∙ id_found 0 (row_in rows c) rows up at.there)) ∙ divides) (fine (row_in rows c) at.there).0
 
-pub reported_of_exact : (n : ℕ) (report : FamilyReport) (rows new : List StampRow) → n < 2 ^ 64 → IsKept rows → AreSound rows → CanReport report rows → AreBefore n rows → IsExact n report rows new → IsReported n report rows new
-reported_of_exact n report rows new fits k fine can before exact = leaves_reported n report rows new k can before exact (leaves report can exact)
+-- what a report leaves of rows that are kept and within the limits
+pub report_law : (n : ℕ) (report : FamilyReport) (rows : List StampRow) → n < 2 ^ 64 → IsKept rows → AreSound rows → CanReport report rows → AreBefore n rows → IsReported n report rows (reported_rows n report rows)
+report_law n report rows fits k fine can before = leaves_reported n report rows (reported_rows n report rows) k can before refl (leaves report can)
   where
-    leaves : (report : FamilyReport) → CanReport report rows → IsExact n report rows new → Leaves n report rows new
-    leaves (Duplicate c) can is = duplicate_leaves n c rows new k can.0 can.1 before (parted_row rows c k.rising fine can.0 can.2) is
-    leaves (Edit c) can is = edit_leaves n c rows new fits k fine can before is
-    leaves (Reconcile a b) can is = reconcile_leaves n a b rows new k fine can before is
-    leaves (Merge a b) can is = merge_leaves n a b rows new fits k fine can before is
-    leaves (Remove c None) can is = lost_leaves n c rows new k is
-    leaves (Remove c (Some h)) can is = bequest_leaves n c h rows new k fine can before is
-    leaves (Touch c) can is = touch_leaves n c rows new k can before is
+    leaves : (report : FamilyReport) → CanReport report rows → Leaves n report rows (reported_rows n report rows)
+    leaves (Duplicate c) can = duplicate_leaves n c rows k can.0 can.1 before (parted_row rows c k.rising fine can.0 can.2)
+    leaves (Edit c) can = edit_leaves n c rows fits k fine can before
+    leaves (Reconcile a b) can = reconcile_leaves n a b rows k fine can before
+    leaves (Merge a b) can = merge_leaves n a b rows fits k fine can before
+    leaves (Remove c None) can = lost_leaves n c rows k
+    leaves (Remove c (Some h)) can = bequest_leaves n c h rows k fine can before
+    leaves (Touch c) can = touch_leaves n c rows k can before

@@ -8,12 +8,11 @@ use Rattle.pana_event.specs.declared.rel.Rel.{Rel}
 use Rattle.pana_event.specs.declared.rel.Rel.TheVariants.{Equal, Older, Newer, Conflict}
 use Rattle.pana_rel.specs.Pairs.{Table, Holds, edited_rel, edited_row, rel_of, with_copy, with_row}
 use Rattle.pana_family.specs.declared.row.StampRow.{StampRow}
-use Rattle.pana_family.specs.Updates.{has, is_within}
+use Rattle.pana_family.specs.Updates.{has, is_within, IsSubset}
 use Rattle.pana_family.specs.Relation.{relation}
 use Rattle.pana_family.specs.Table.{Known, In, known, knowing, change, set_in, duplicated, edited, AreBelow}
 use Rattle.pana_family.specs.Stands.{AreSame, StandsFor}
 use Rattle.pana_family.specs.Rows.{lives}
-use Rattle.pana_family.specs.Laws.{IsSubset}
 use Rattle.pana_family.specs.Paired.{ArePaired}
 use Rattle.pana_family.specs.inner.Comparing.{AreCompared, HasCopies}
 use Rattle.pana_family.proofs.Members.{Holds as HoldsOf, held, in_append, in_change, in_left, of_known, of_row, to_sound}

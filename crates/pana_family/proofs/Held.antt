@@ -3,8 +3,7 @@ use Rattle.std.specs.Prelude.{◌≡◌, ◌≢◌, ℕ, ◌≤◌, ◌+◌, Boo
 use Rattle.std.proofs.Common.{refl, sym, ap, subst, ◌∙◌, inl, inr, arith}
 use Rattle.std.proofs.lemmas.Bool.{or_cases, or_parts, or_from, cases_Bool, both_ways, eq-eqb, ne_eqb, eqb-true, eqb-false}
 use Rattle.pana_family.specs.declared.row.StampRow.{StampRow}
-use Rattle.pana_family.specs.Updates.{has, is_within}
-use Rattle.pana_family.specs.Laws.{IsSubset}
+use Rattle.pana_family.specs.Updates.{has, is_within, IsSubset}
 use Rattle.pana_family.specs.Holders.{is_held, passed}
 use Rattle.pana_family.specs.Table.{Known, In, known, knowing, change, without, set_in, parcel, ends, settled, lost, wrapped, passed_on, duplicated, edited, touched, united, registered, AreHeld, AreBelow}
 use Rattle.pana_family.specs.Stands.{AreSame}

@@ -1,21 +1,23 @@
 -- The changes that reports make give the exact rows.
 use Rattle.std.specs.Prelude.{◌≡◌, ℕ, Bool, true, false, cond, ◌==◌, ◌<◌, ◌+◌, List, [], ◌∷◌, ◌++◌, Option, nat_lt}
-use Rattle.std.proofs.Common.{refl, sym, ap, subst, ◌∙◌, inl, inr, arith}
+use Rattle.std.proofs.Common.{refl, sym, ap, ◌∙◌, inl, inr, arith}
 use Rattle.std.proofs.lemmas.Bool.{eqb-true, eqb-false, ltb-true, cases_Bool}
 use Rattle.pana_id.specs.Id.{Id, parts}
 use Rattle.pana_event.specs.Event.{Event}
 use Rattle.pana_stamp.specs.declared.stamp.Stamp.{Stamp}
 use Rattle.pana_family.specs.declared.row.StampRow.{StampRow}
 use Rattle.pana_family.specs.Table.{In}
-use Rattle.pana_family.specs.Rows.{IsUpdate, AreEdited, duplicated_rows, IsRising, AreBefore, renewed, replaced, row, row_in, stamp, put_back}
+use Rattle.pana_family.specs.Rows.{duplicated_rows, IsRising, AreBefore, renewed, replaced, row, row_in, stamp, put_back}
 use Rattle.pana_family.specs.declared.change.Exchange.{Exchange}
 use Rattle.pana_family.specs.Change.{with_event, exchanged, exchanged_all}
 use Rattle.pana_family.specs.Kept.{IsKept}
-use Rattle.pana_family.specs.Exact.{joined_stamp, pair_rows, settled_pair, reconciled_rows, AreMergedRows}
-use Rattle.pana_family.specs.inner.Making.{IsRowOf, AreMerged, CanJoin, part_pair, shared_pair}
+use Rattle.pana_family.specs.Exact.{joined_stamp, pair_rows, settled_pair, reconciled_rows}
+use Rattle.pana_family.specs.After.{edited_rows, merged_rows, updated}
+use Rattle.pana_family.specs.inner.Making.{IsRowOf, IsUpdate, AreMerged, CanJoin, part_pair, shared_pair}
 use Rattle.pana_family.proofs.Members.{above_low, in_replaced}
 use Rattle.pana_family.proofs.Places.{replaced_none, put_back_later}
 use Rattle.pana_family.proofs.Shares.{AreTwo}
+use Rattle.pana_family.proofs.Computed.{update_is}
 use Rattle.pana_family.proofs.Exacts.{renewed_row}
 
 -- One exchange more.
@@ -32,14 +34,12 @@ full copy holder s touch = record { copy = copy; holder = holder; stamp = s; tou
 pub stamp_is : (s : Stamp) (i : Id) (e : Event) → s.id ≡ i → s.event ≡ e → s ≡ stamp i e
 stamp_is s i e owner event = ap (λ (j : Id). stamp j s.event) owner ∙ ap (stamp i) event
 
-pub edit_exact : (rows : List StampRow) (copy n : ℕ) (r : StampRow) (e : Event) → IsKept rows → IsRowOf rows copy r → IsUpdate r.stamp.id r.stamp.event e → AreEdited n copy rows (renewed copy (with_event e n) rows)
-edit_exact rows copy n r e k here update = record {
-  event = e;
-  update = subst (λ (q : StampRow). IsUpdate q.stamp.id q.stamp.event e) here.is update;
-  rows_are = ap (λ (c : ℕ). renewed c (with_event e n) rows) (sym here.named) ∙ renewed_row (with_event e n) r rows k.rising here.there
-      ∙ ap (λ (o : Option ℕ). replaced r.copy (full r.copy o (stamp r.stamp.id e) n) rows) here.free ∙ ap (λ (c : ℕ). replaced c (row c (stamp r.stamp.id e) n) rows) here.named
-      ∙ ap (λ (q : StampRow). replaced copy (row copy (stamp q.stamp.id e) n) rows) here.is;
-}
+pub edit_exact : (rows : List StampRow) (copy n : ℕ) (r : StampRow) (e : Event) → IsKept rows → IsRowOf rows copy r → IsUpdate r.stamp.id r.stamp.event e → renewed copy (with_event e n) rows ≡ edited_rows n copy rows
+edit_exact rows copy n r e k here update =
+    ap (λ (c : ℕ). renewed c (with_event e n) rows) (sym here.named) ∙ renewed_row (with_event e n) r rows k.rising here.there
+    ∙ ap (λ (o : Option ℕ). replaced r.copy (full r.copy o (stamp r.stamp.id e) n) rows) here.free ∙ ap (λ (c : ℕ). replaced c (row c (stamp r.stamp.id e) n) rows) here.named
+    ∙ ap (λ x. replaced copy (row copy (stamp r.stamp.id x) n) rows) (update_is r.stamp.id r.stamp.event e update)
+    ∙ ap (λ (q : StampRow). replaced copy (row copy (stamp q.stamp.id (updated q.stamp.id q.stamp.event)) n) rows) here.is
 
 -- Two copies.
 
@@ -52,14 +52,12 @@ reconcile_exact rows a b n r q two new here there done is =
     is ∙ ap (λ (t : StampRow × StampRow). settled_pair t.0 t.1 rows) done
     ∙ ap (λ (p : StampRow). pair_rows n p q (joined_stamp p q) rows) here.is ∙ ap (λ (p : StampRow). pair_rows n (row_in rows a) p (joined_stamp (row_in rows a) p) rows) there.is
 
-pub merge_exact : (rows : List StampRow) (a b n : ℕ) (r q : StampRow) (two : StampRow × StampRow) (new : List StampRow) → IsRowOf rows a r → IsRowOf rows b q → AreMerged n r q two → new ≡ settled_pair two.0 two.1 rows → AreMergedRows n a b rows new
-merge_exact rows a b n r q two new here there done is = record {
-  event = done.event;
-  update = subst (λ (p : StampRow). IsUpdate (joined_stamp p (row_in rows b)).id (joined_stamp p (row_in rows b)).event done.event) here.is
-      (subst (λ (p : StampRow). IsUpdate (joined_stamp r p).id (joined_stamp r p).event done.event) there.is done.update);
-  rows_are = is ∙ ap (λ (t : StampRow × StampRow). settled_pair t.0 t.1 rows) done.rows_are
-      ∙ ap (λ (p : StampRow). pair_rows n p q (stamp (joined_stamp p q).id done.event) rows) here.is ∙ ap (λ (p : StampRow). pair_rows n (row_in rows a) p (stamp (joined_stamp (row_in rows a) p).id done.event) rows) there.is;
-}
+pub merge_exact : (rows : List StampRow) (a b n : ℕ) (r q : StampRow) (two : StampRow × StampRow) (new : List StampRow) → IsRowOf rows a r → IsRowOf rows b q → AreMerged n r q two → new ≡ settled_pair two.0 two.1 rows → new ≡ merged_rows n a b rows
+merge_exact rows a b n r q two new here there done is =
+    let after_update : StampRow → StampRow → List StampRow = λ p o. pair_rows n p o (stamp (joined_stamp p o).id (updated (joined_stamp p o).id (joined_stamp p o).event)) rows in
+    is ∙ ap (λ (t : StampRow × StampRow). settled_pair t.0 t.1 rows) done.rows_are
+    ∙ ap (λ e. pair_rows n r q (stamp (joined_stamp r q).id e) rows) (update_is (joined_stamp r q).id (joined_stamp r q).event done.event done.update)
+    ∙ ap (λ (p : StampRow). after_update p q) here.is ∙ ap (after_update (row_in rows a)) there.is
 
 -- A new copy.
 

@@ -3,8 +3,8 @@ use Rattle.std.specs.Prelude.{◌≡◌, ◌↔◌, ℕ, Bool, true, false, cond
 use Rattle.std.proofs.Common.{refl, ap, subst}
 use Rattle.std.proofs.lemmas.Bool.{eqb-true, eq-eqb}
 use Rattle.pana_event.specs.declared.rel.Rel.TheVariants.{Equal, Older, Newer, Conflict}
-use Rattle.pana_family.specs.Updates.{has, is_within}
-use Rattle.pana_family.specs.Laws.{IsSubset, RelatesSets}
+use Rattle.pana_family.specs.Updates.{has, is_within, IsSubset}
+use Rattle.pana_family.specs.laws.Relations.{RelatesSets}
 
 and_left : (a b : Bool) → (a && b) ≡ true → a ≡ true
 and_left true b e = refl

@@ -9,8 +9,7 @@ use Rattle.pana_event.specs.Join.{IsJoin}
 use Rattle.pana_stamp.specs.Raised.{IsRaised}
 use Rattle.pana_stamp.specs.declared.stamp.Stamp.{Stamp}
 use Rattle.pana_family.proofs.Unions.{union_members, missing}
-use Rattle.pana_family.specs.Updates.{has, union}
-use Rattle.pana_family.specs.Laws.{IsSubset}
+use Rattle.pana_family.specs.Updates.{has, union, IsSubset}
 use Rattle.pana_family.specs.Stands.{top}
 
 -- a level at a point marks an update

@@ -13,7 +13,7 @@ use Rattle.pana_text.specs.Text.{stamp_text}
 use Rattle.pana_family.specs.declared.row.StampRow.{StampRow}
 use Rattle.pana_family.specs.Holders.{is_copy}
 use Rattle.pana_family.specs.Relation.{relation}
-use Rattle.pana_family.specs.Laws.{IsSubset}
+use Rattle.pana_family.specs.Updates.{IsSubset}
 use Rattle.pana_family.specs.Table.{Known, In, copies_of}
 use Rattle.pana_family.specs.Stands.{StandsFor}
 use Rattle.pana_family.specs.Stamps.{AreStamps}

@@ -12,7 +12,8 @@ use Rattle.pana_family.specs.declared.report.FamilyReport.TheVariants.{Duplicate
 use Rattle.pana_family.specs.Rows.{AreBefore, IsRising, deepest, divides, id_in, lives, replaced, retouched, row, row_in, seed_row, stamp, AreSound}
 use Rattle.pana_family.specs.Kept.{IsKept}
 use Rattle.pana_family.specs.Ends.{goes}
-use Rattle.pana_family.specs.Exact.{IsExact}
+use Rattle.pana_family.specs.After.{reported_rows, updated as event_after}
+use Rattle.pana_family.proofs.Computed.{is_update}
 use Rattle.pana_family.specs.Report.{CanReport}
 use Rattle.pana_family.specs.inner.Making.{IsRowOf}
 use Rattle.pana_family.proofs.Members.{in_append, in_replaced}
@@ -39,50 +40,52 @@ fine_pushed x rows fine new y i = elim (in_append y rows (x ∷ []) i) [
 ]
 
 -- the rows after a report of rows within the limits are within them
-pub sound_of_exact : (n : ℕ) (report : FamilyReport) (rows new : List StampRow) → n < 2 ^ 64 → IsKept rows → AreSound rows → CanReport report rows → AreBefore n rows → IsExact n report rows new → AreSound new
-sound_of_exact n (Duplicate c) rows new fits k fine can before is =
+pub sound_after : (n : ℕ) (report : FamilyReport) (rows : List StampRow) → n < 2 ^ 64 → IsKept rows → AreSound rows → CanReport report rows → AreBefore n rows → AreSound (reported_rows n report rows)
+sound_after n (Duplicate c) rows fits k fine can before =
     let r : StampRow = row_in rows c in
     let at : IsRowOf rows c r = row_lives rows c k.rising can.0 in
     let old : Fine r = fine r at.there in
     let divides : is_single r.stamp.id 256 ≡ false = ap (λ (i : Id). is_single i 256) (sym (ap (id_in rows) (sym at.named) ∙ id_found 0 r rows k.rising at.there)) ∙ can.2 in
     let both = valid-parts r.stamp.id divides old.0 in
-    subst AreSound (sym is) (fine_pushed (row n (stamp (parts r.stamp.id).1 r.stamp.event) n) (replaced c (row c (stamp (parts r.stamp.id).0 r.stamp.event) r.touch) rows)
-    (fine_replaced c (row c (stamp (parts r.stamp.id).0 r.stamp.event) r.touch) rows fine (both.0, old.1)) (both.1, old.1))
-sound_of_exact n (Edit c) rows new fits k fine can before done =
+    fine_pushed (row n (stamp (parts r.stamp.id).1 r.stamp.event) n) (replaced c (row c (stamp (parts r.stamp.id).0 r.stamp.event) r.touch) rows)
+    (fine_replaced c (row c (stamp (parts r.stamp.id).0 r.stamp.event) r.touch) rows fine (both.0, old.1)) (both.1, old.1)
+sound_after n (Edit c) rows fits k fine can before =
     let r : StampRow = row_in rows c in
     let at : IsRowOf rows c r = row_lives rows c k.rising can in
     let old : Fine r = fine r at.there in
-    let up = updated r.stamp.id r.stamp.event done.event old.0 (k.stands.owning r at.there) old.1 (omega (arith, k.levels r at.there, (before r at.there).1, fits)) done.update in
-    subst AreSound (sym done.rows_are) (fine_replaced c (row c (stamp r.stamp.id done.event) n) rows fine (old.0, up.1))
-sound_of_exact n (Reconcile a b) rows new fits k fine can before is =
+    let e : Event = event_after r.stamp.id r.stamp.event in
+    let up = updated r.stamp.id r.stamp.event e old.0 (k.stands.owning r at.there) old.1 (omega (arith, k.levels r at.there, (before r at.there).1, fits)) (is_update r.stamp.id r.stamp.event) in
+    fine_replaced c (row c (stamp r.stamp.id e) n) rows fine (old.0, up.1)
+sound_after n (Reconcile a b) rows fits k fine can before =
     let r : StampRow = row_in rows a in
     let q : StampRow = row_in rows b in
     let two : AreTwo rows r q = two_rows rows a b k.rising can.0 can.1 can.2 in
     let e : Event = joined r.stamp.event q.stamp.event in
     let g = summed_two rows n r q e k fine two in
     let event : IsSound e = IsSound-joined r.stamp.event q.stamp.event (fine r two.first).1 (fine q two.second).1 in
-    subst AreSound (sym is) (pair_all Fine rows n r q e k.rising two (g.0.valid, event) (g.1.valid, event) fine)
-sound_of_exact n (Merge a b) rows new fits k fine can before done =
+    pair_all Fine rows n r q e k.rising two (g.0.valid, event) (g.1.valid, event) fine
+sound_after n (Merge a b) rows fits k fine can before =
     let r : StampRow = row_in rows a in
     let q : StampRow = row_in rows b in
     let two : AreTwo rows r q = two_rows rows a b k.rising can.0 can.1 can.2 in
     let w = whole_is rows r q k fine two in
-    let g = summed_two rows n r q done.event k fine two in
+    let e : Event = event_after (both_ids r q) (joined r.stamp.event q.stamp.event) in
+    let g = summed_two rows n r q e k fine two in
     let some : is_zero (both_ids r q) ≡ false = w.summed.zero_only ∙ ap (λ (v : Bool). v && is_zero q.stamp.id) (k.stands.owning r two.first) in
-    let up = updated (both_ids r q) (joined r.stamp.event q.stamp.event) done.event w.valid some (IsSound-joined r.stamp.event q.stamp.event (fine r two.first).1 (fine q two.second).1)
-    (omega (arith, greatest-joined r.stamp.event q.stamp.event, k.levels r two.first, k.levels q two.second, (before r two.first).1, (before q two.second).1, fits)) done.update in
-    subst AreSound (sym done.rows_are) (pair_all Fine rows n r q done.event k.rising two (g.0.valid, up.1) (g.1.valid, up.1) fine)
-sound_of_exact n (Remove c None) rows new fits k fine can before is = subst AreSound (sym is) (λ r i. fine r (in_leave (goes (Some c) []) rows r i).0)
-sound_of_exact n (Remove c (Some h)) rows new fits k fine can before is =
+    let up = updated (both_ids r q) (joined r.stamp.event q.stamp.event) e w.valid some (IsSound-joined r.stamp.event q.stamp.event (fine r two.first).1 (fine q two.second).1)
+    (omega (arith, greatest-joined r.stamp.event q.stamp.event, k.levels r two.first, k.levels q two.second, (before r two.first).1, (before q two.second).1, fits)) (is_update (both_ids r q) (joined r.stamp.event q.stamp.event)) in
+    pair_all Fine rows n r q e k.rising two (g.0.valid, up.1) (g.1.valid, up.1) fine
+sound_after n (Remove c None) rows fits k fine can before = λ r i. fine r (in_leave (goes (Some c) []) rows r i).0
+sound_after n (Remove c (Some h)) rows fits k fine can before =
     let r : StampRow = row_in rows c in
     let q : StampRow = row_in rows h in
     let w = two_heirs rows n c h k.rising before can.0 can.1 (λ e. can.2 (ap Some e)) in
-    subst AreSound (sym (is ∙ bequest_is n c h rows k.rising can.0))
+    subst AreSound (sym (bequest_is n c h rows k.rising can.0))
     (heir_all Fine rows n r q w ((heir_summed rows n r q fine w).valid, (fine q w.heir).1) (λ z i. (fine z i, fine z i)))
-sound_of_exact n (Touch c) rows new fits k fine can before is =
+sound_after n (Touch c) rows fits k fine can before =
     let r : StampRow = row_in rows c in
     let at : IsRowOf rows c r = row_lives rows c k.rising can in
-    subst AreSound (sym (is ∙ ap (λ (d : ℕ). retouched d n rows) (sym at.named) ∙ renewed_row (λ q. record q { touch = n }) r rows k.rising at.there))
+    subst AreSound (sym (ap (λ (d : ℕ). retouched d n rows) (sym at.named) ∙ renewed_row (λ q. record q { touch = n }) r rows k.rising at.there))
     (fine_replaced r.copy (record r { touch = n }) rows fine (fine r at.there))
 
 pub seed_sound : (n : ℕ) → AreSound (seed_row n ∷ [])

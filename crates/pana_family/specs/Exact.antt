@@ -1,14 +1,12 @@
--- The rows after a report, stamps and all.
-use Rattle.std.specs.Prelude.{◌≡◌, ℕ, None, Option, Some, List, [], ◌∷◌, map, filter}
+-- Rows after a report: what settling makes of a copy, and sharing of two.
+use Rattle.std.specs.Prelude.{ℕ, None, Option, Some, List, [], ◌∷◌, map, filter}
 use Rattle.pana_id.specs.Id.{Id, parts, sum_of}
 use Rattle.pana_event.specs.Event.{Event}
 use Rattle.pana_event.specs.Join.{joined}
 use Rattle.pana_stamp.specs.declared.stamp.Stamp.{Stamp}
 use Rattle.pana_family.specs.declared.row.StampRow.{StampRow}
 use Rattle.pana_family.specs.Holders.{leave}
-use Rattle.pana_family.specs.Rows.{IsUpdate, AreEdited, duplicated_rows, retouched, put_all, row_in, stamp, with_ids}
-use Rattle.pana_family.specs.declared.report.FamilyReport.{FamilyReport}
-use Rattle.pana_family.specs.declared.report.FamilyReport.TheVariants.{Duplicate, Edit, Reconcile, Merge, Remove, Touch}
+use Rattle.pana_family.specs.Rows.{put_all, row_in, stamp, with_ids}
 use Rattle.pana_family.specs.Ends.{ends_from, goes, stays_parcel, parcel_row}
 
 -- a copy's row once it is settled among these rows: it has the ids of those that end
@@ -38,12 +36,6 @@ pair_rows n r q whole rows = settled_pair (restamped n r (parts whole.id).0 whol
 abbrev pub reconciled_rows : ℕ → ℕ → ℕ → List StampRow → List StampRow
 reconciled_rows n a b rows = pair_rows n (row_in rows a) (row_in rows b) (joined_stamp (row_in rows a) (row_in rows b)) rows
 
--- Merge n: the same after an update of all that they own together
-pub record AreMergedRows (n a b : ℕ) (rows new : List StampRow) : Type 0 where
-  pub event : Event
-  pub update : IsUpdate (joined_stamp (row_in rows a) (row_in rows b)).id (joined_stamp (row_in rows a) (row_in rows b)).event event
-  pub rows_are : new ≡ pair_rows n (row_in rows a) (row_in rows b) (stamp (joined_stamp (row_in rows a) (row_in rows b)).id event) rows
-
 -- Remove n without an heir: the copy's row goes, and those of the parcels that it held
 abbrev pub lost_rows : ℕ → List StampRow → List StampRow
 lost_rows copy rows = put_all [] (leave (goes (Some copy) []) rows)
@@ -54,13 +46,3 @@ bequeathed_rows n copy heir rows =
     let h = row_in rows heir in
     let x = settled_row (Some copy) rows h in
     put_all (x ∷ map (parcel_row n copy h.copy) (filter (stays_parcel h copy) rows)) (leave (goes (Some copy) (x ∷ [])) rows)
-
--- the rows after report n
-abbrev pub IsExact : ℕ → FamilyReport → List StampRow → List StampRow → Type 0
-IsExact n (Duplicate source) rows new = new ≡ duplicated_rows n source rows
-IsExact n (Edit copy) rows new = AreEdited n copy rows new
-IsExact n (Reconcile a b) rows new = new ≡ reconciled_rows n a b rows
-IsExact n (Merge a b) rows new = AreMergedRows n a b rows new
-IsExact n (Remove copy None) rows new = new ≡ lost_rows copy rows
-IsExact n (Remove copy (Some heir)) rows new = new ≡ bequeathed_rows n copy heir rows
-IsExact n (Touch copy) rows new = new ≡ retouched copy n rows

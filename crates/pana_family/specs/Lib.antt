@@ -1,6 +1,5 @@
 pub mod Updates
 pub mod Relation
-pub mod Laws
 pub mod Holders
 pub mod Table
 pub mod Stands
@@ -12,9 +11,9 @@ pub mod Exact
 pub mod After
 pub mod Report
 pub mod Paired
-pub mod Sets
 pub mod Fault
 pub mod View
 pub mod Board
 pub mod Stamps
+pub mod laws
 pub mod inner

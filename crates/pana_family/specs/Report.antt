@@ -8,7 +8,7 @@ use Rattle.pana_family.specs.Table.{Known, duplicated, edited, reconciled, merge
 use Rattle.pana_family.specs.Rows.{AreBefore, lives, copy_rows, id_in, OwnSame, deepest}
 use Rattle.pana_family.specs.Stands.{StandsFor}
 use Rattle.pana_family.specs.Kept.{IsKept}
-use Rattle.pana_family.specs.Exact.{IsExact}
+use Rattle.pana_family.specs.After.{reported_rows}
 
 -- the copies that the report names live, and nothing but memory can stand in its way
 abbrev pub CanReport : FamilyReport → List StampRow → Type 0
@@ -58,7 +58,7 @@ loses (Touch copy) = false
 
 -- what report n leaves of the rows
 pub record IsReported (n : ℕ) (report : FamilyReport) (rows new : List StampRow) : Type 0 where
-  pub exact : IsExact n report rows new
+  pub exact : new ≡ reported_rows n report rows
   pub kept : IsKept new
   pub deep : deepest new ≤ deepest rows + deeper report
   pub owned : loses report ≡ false → OwnSame rows new

@@ -3,8 +3,6 @@ use Rattle.std.specs.Prelude.{◌++◌, filter, ◌≡◌, ◌&&◌, None, ℕ, 
 use Rattle.std.specs.List.{list_any}
 use Rattle.pana_id.specs.Id.{AtPoints, has as owns, Id, zero_id, one_id, depth, is_single, parts, sum_of, IsValid}
 use Rattle.pana_event.specs.Event.{Event, leaf, IsSound}
-use Rattle.pana_stamp.specs.Fill.{fill}
-use Rattle.pana_stamp.specs.Grow.{grow}
 use Rattle.pana_stamp.specs.declared.stamp.Stamp.{Stamp}
 use Rattle.pana_family.specs.declared.row.StampRow.{StampRow}
 use Rattle.pana_family.specs.Holders.{is_copy, is_held}
@@ -121,14 +119,3 @@ abbrev pub duplicated_rows : ℕ → ℕ → List StampRow → List StampRow
 duplicated_rows n copy rows =
     let r = row_in rows copy in
     replaced copy (row copy (stamp (parts r.stamp.id).0 r.stamp.event) r.touch) rows ++ row n (stamp (parts r.stamp.id).1 r.stamp.event) n ∷ []
-
--- the event after an update: what filling gives where that changes it, and else the event grown
-pub record IsUpdate (i : Id) (e new : Event) : Type 0 where
-  pub grown : fill i e ≡ e → new ≡ grow i e
-  pub filled : ¬ (fill i e ≡ e) → new ≡ fill i e
-
--- Edit n: the copy's event is updated
-pub record AreEdited (n copy : ℕ) (rows new : List StampRow) : Type 0 where
-  pub event : Event
-  pub update : IsUpdate (row_in rows copy).stamp.id (row_in rows copy).stamp.event event
-  pub rows_are : new ≡ replaced copy (row copy (stamp (row_in rows copy).stamp.id event) n) rows

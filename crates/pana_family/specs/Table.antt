@@ -3,8 +3,7 @@
 -- the copy, and held by a living one.
 use Rattle.std.specs.Prelude.{◌≡◌, ℕ, ◌<◌, Bool, ◌==◌, not, ◌&&◌, ◌||◌, ◌⊎◌, List, [], ◌∷◌, ◌++◌, map, filter, count_by, IsTrue, Option, Some, None, if◌then◌else◌}
 use Rattle.std.specs.List.{list_any}
-use Rattle.pana_family.specs.Updates.{has, is_within, union}
-use Rattle.pana_family.specs.Laws.{IsSubset}
+use Rattle.pana_family.specs.Updates.{has, is_within, union, IsSubset}
 use Rattle.pana_family.specs.Holders.{leave, is_copy, is_held, passed}
 
 -- a member of a list
@@ -113,6 +112,10 @@ removed n copy (Some heir) table = bequeathed n copy heir table
 -- no row knows an update that is n or greater
 abbrev pub AreBelow : ℕ → List Known → Type 0
 AreBelow n table = (t : Known) (u : ℕ) → In t table → IsTrue (has t.set u) → u < n
+
+-- the entry is greater than each number and touch of the table
+abbrev pub IsAbove : ℕ → List Known → Type 0
+IsAbove n table = (t : Known) → In t table → (t.copy < n) × (t.touch < n)
 
 -- the copies, without the parcels
 abbrev pub copies_of : List Known → List Known

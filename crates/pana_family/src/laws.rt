@@ -4,7 +4,7 @@ ghost use Rattle.pana_family.specs.declared.report.FamilyReport.{FamilyReport as
 ghost use Rattle.pana_family.specs.declared.row.StampRow.{StampRow as RowValue};
 ghost use Rattle.pana_family.specs.After.{reported_rows};
 ghost use Rattle.pana_family.specs.Kept.{AreMatched, IsKept};
-ghost use Rattle.pana_family.specs.Laws.{RelatesSets};
+ghost use Rattle.pana_family.specs.laws.Relations.{RelatesSets};
 ghost use Rattle.pana_family.specs.Report.{CanReport, IsReported};
 ghost use Rattle.pana_family.specs.Rows.{AreBefore, AreSound};
 ghost use Rattle.pana_family.specs.Stands.{StandsFor};

@@ -2,7 +2,7 @@
 ghost use Rattle.std.specs.Prelude.{◌≡◌, ◌+◌, ◌^◌, ◌<◌, false, max, IfOk, OnErr};
 ghost use Rattle.pana_id.specs.Id.{is_zero, is_single, parts, sum_of, IsParted};
 ghost use Rattle.pana_event.specs.Event.{greatest};
-ghost use Rattle.pana_family.specs.Rows.{IsUpdate};
+ghost use Rattle.pana_family.specs.inner.Making.{IsUpdate};
 ghost use Rattle.pana_family.specs.Change.{with_event};
 ghost use Rattle.pana_family.specs.Exact.{joined_stamp};
 ghost use Rattle.pana_family.specs.inner.Making.{AreMerged, CanJoin, part_pair, shared_pair};

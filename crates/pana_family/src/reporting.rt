@@ -4,13 +4,14 @@ ghost use Rattle.pana_id.specs.Id.{is_single};
 ghost use Rattle.pana_family.specs.declared.row.StampRow.{StampRow as RowValue};
 ghost use Rattle.pana_family.specs.Updates.{has};
 ghost use Rattle.pana_family.specs.Holders.{leave};
-ghost use Rattle.pana_family.specs.Rows.{AreEdited, duplicated_rows, lives, AreBefore, IsRising, put_all, id_in, AreSound};
+ghost use Rattle.pana_family.specs.After.{edited_rows, merged_rows, reported_rows};
+ghost use Rattle.pana_family.specs.Rows.{duplicated_rows, lives, AreBefore, IsRising, put_all, id_in, AreSound};
 ghost use Rattle.pana_family.specs.Change.{after, exchanged_all};
 ghost use Rattle.pana_family.specs.inner.Making.{CanGather, goes};
 ghost use Rattle.pana_family.specs.Kept.{IsKept};
-ghost use Rattle.pana_family.specs.Exact.{AreMergedRows, IsExact, bequeathed_rows, lost_rows, reconciled_rows, settled_pair};
+ghost use Rattle.pana_family.specs.Exact.{bequeathed_rows, lost_rows, reconciled_rows, settled_pair};
 ghost use Rattle.pana_family.specs.Report.{CanReport, IsReported};
-ghost use Rattle.pana_family.specs.declared.report.FamilyReport.TheVariants.{Edit, Remove, Touch};
+ghost use Rattle.pana_family.specs.declared.report.FamilyReport.TheVariants.{Remove};
 
 use crate::change::{Change, Exchange};
 use crate::making::{merged_rows, reconciled_rows, shared_rows, updated_event};
@@ -26,37 +27,10 @@ fn edited(alloc: Global, rows: &[StampRow], entry: u64, copy: u64) -> Result<Cha
     requires kept { IsKept rows.now }
     requires living { lives rows.now copy ≡ true }
     requires new { AreBefore entry rows.now }
-    ensures { IfOk result (λ change. AreEdited entry copy rows.now (after change rows.now)) }
+    ensures { IfOk result (λ change. after change rows.now ≡ edited_rows entry copy rows.now) }
 {
     let event = updated_event(alloc, row_of(rows, copy))?;
     Ok(Change::Event(copy, event, entry))
-}
-
-/// An update of a copy, with the entry as its number.
-pub fn edit_change(
-    alloc: Global,
-    rows: &[StampRow],
-    entry: u64,
-    copy: u64,
-) -> Result<Change, AllocError>
-    requires kept { IsKept rows.now }
-    requires living { lives rows.now copy ≡ true }
-    requires new { AreBefore entry rows.now }
-    ensures { IfOk result (λ change. IsReported entry (Edit copy) rows.now (after change rows.now)) }
-{
-    all_valid(rows);
-    edited(alloc, rows, entry, copy)
-}
-
-/// That the entry touched a copy.
-pub fn touch_change(rows: &[StampRow], entry: u64, copy: u64) -> Change
-    requires kept { IsKept rows.now }
-    requires living { lives rows.now copy ≡ true }
-    requires new { AreBefore entry rows.now }
-    ensures { IsReported entry (Touch copy) rows.now (after result rows.now) }
-{
-    all_valid(rows);
-    Change::Touch(copy, entry)
 }
 
 /// A new copy beside its source, with the entry as its number.
@@ -169,7 +143,7 @@ fn merge_change(
     requires second { lives rows.now b ≡ true }
     requires differ { a ≢ b }
     requires new { AreBefore entry rows.now }
-    ensures { IfOk result (λ change. AreMergedRows entry a b rows.now (after change rows.now)) }
+    ensures { IfOk result (λ change. after change rows.now ≡ merged_rows entry a b rows.now) }
 {
     let first = row_of(rows, a);
     let second = row_of(rows, b);
@@ -247,7 +221,7 @@ fn remove_change(
     requires sound { AreSound rows.now }
     requires able { CanReport (Remove copy heir) rows.now }
     requires new { AreBefore entry rows.now }
-    ensures { IfOk result (λ change. IsExact entry (Remove copy heir) rows.now (after change rows.now)) }
+    ensures { IfOk result (λ change. after change rows.now ≡ reported_rows entry (Remove copy heir) rows.now) }
 {
     match heir {
         None => lose_change(alloc, rows, copy),
@@ -265,7 +239,7 @@ fn exact_change(
     requires sound { AreSound rows.now }
     requires able { CanReport report rows.now }
     requires new { AreBefore entry rows.now }
-    ensures { IfOk result (λ change. IsExact entry report rows.now (after change rows.now)) }
+    ensures { IfOk result (λ change. after change rows.now ≡ reported_rows entry report rows.now) }
 {
     match report {
         FamilyReport::Duplicate(source) => duplicate_change(alloc, rows, entry, source),

@@ -24,11 +24,11 @@ use Rattle.pana_hall.specs.Board.{is_of}
 use Rattle.pana_hall.specs.Queries.{begun, family_row}
 use Rattle.pana_hall.specs.Refusal.{unknown_family, unknown, other_family, first}
 use Rattle.pana_hall.specs.Accepted.{IsAccepted}
-use Rattle.pana_hall.specs.Tables as tables
-use Rattle.pana_hall.specs.Sets.{sets_of}
+use Rattle.pana_hall.specs.laws.Tables as tables
+use Rattle.pana_hall.specs.laws.Sets.{sets_at}
 use Rattle.pana_hall.specs.StampRows.{stamp_rows}
 use Rattle.pana_hall.specs.StampRows as rows
-use Rattle.pana_hall.specs.Tables.{layer}
+use Rattle.pana_hall.specs.laws.Tables.{layer}
 use Rattle.pana_family.specs.declared.row.StampRow.{StampRow}
 use Rattle.pana_hall.specs.inner.Families.{family_at}
 use Rattle.pana_hall.specs.inner.Kept.{IsKept, families_of, family_of}
@@ -48,19 +48,19 @@ use Rattle.pana_hall.proofs.Ready.{family_of as family_of_copy}
 
 -- a living copy's row is found in its family's table
 row_of_copy : (journal : List Entry) (family n : ℕ) (copy : Copy) → IsAccepted 8 journal → copy_in (living journal) n ≡ Some copy → families journal n ≡ family
-    → row_in (sets_of family journal).table n ≡ Some (as_known copy)
+    → row_in (sets_at 0 family journal) n ≡ Some (as_known copy)
 row_of_copy journal family n copy accepted found of =
-    row_of (sets_of family journal).table (tables.table 8 0 family journal) n copy (copies_sets journal family accepted) (sets_old journal 0 family accepted).rising
+    row_of (sets_at 0 family journal) (tables.table 8 0 family journal) n copy (copies_sets journal family accepted) (sets_old journal 0 family accepted).rising
     (ap (λ f. copy_in (tables.table 8 0 f journal) n) (sym of) ∙ sym ((merged 8 journal (accepted_is_sound 8 journal accepted)).found n) ∙ found)
 
 -- what it knows is read there, and the entry that touched it last
 pub set_of_copy : (journal : List Entry) (family n : ℕ) (copy : Copy) → IsAccepted 8 journal → copy_in (living journal) n ≡ Some copy → families journal n ≡ family
-    → set_in (sets_of family journal).table n ≡ known_to (living journal) n
-set_of_copy journal family n copy accepted found of = set_at (sets_of family journal).table n (as_known copy) (row_of_copy journal family n copy accepted found of) ∙ (rw found refl)
+    → set_in (sets_at 0 family journal) n ≡ known_to (living journal) n
+set_of_copy journal family n copy accepted found of = set_at (sets_at 0 family journal) n (as_known copy) (row_of_copy journal family n copy accepted found of) ∙ (rw found refl)
 
 pub touch_of_copy : (journal : List Entry) (family n : ℕ) (copy : Copy) → IsAccepted 8 journal → copy_in (living journal) n ≡ Some copy → families journal n ≡ family
-    → touch_in (sets_of family journal).table n ≡ copy.touch
-touch_of_copy journal family n copy accepted found of = touch_at (sets_of family journal).table n (as_known copy) (row_of_copy journal family n copy accepted found of)
+    → touch_in (sets_at 0 family journal) n ≡ copy.touch
+touch_of_copy journal family n copy accepted found of = touch_at (sets_at 0 family journal) n (as_known copy) (row_of_copy journal family n copy accepted found of)
 
 -- two copies that may be compared live in one family
 pub record Pair (journal : List Entry) (a b : ℕ) : Type 0 where
@@ -153,8 +153,8 @@ each_get P (x ∷ xs) zero d each within = each.0
 each_get P (x ∷ xs) (suc i) d each within = each_get P xs i d each.1 (omega arith)
 
 -- a family's rows stand for its sets
-pub stands_of : (journal : List Entry) (family : ℕ) (it : KeptRows) → IsAccepted 8 journal → it ≡ family_of journal family → StandsFor it.rows (sets_of family journal).table
-stands_of journal family it accepted is = subst (λ (k : KeptRows). StandsFor k.rows (sets_of family journal).table) (sym is) (layers_stand journal accepted 0 family).stands
+pub stands_of : (journal : List Entry) (family : ℕ) (it : KeptRows) → IsAccepted 8 journal → it ≡ family_of journal family → StandsFor it.rows (sets_at 0 family journal)
+stands_of journal family it accepted is = subst (λ (k : KeptRows). StandsFor k.rows (sets_at 0 family journal)) (sym is) (layers_stand journal accepted 0 family).stands
 
 -- and its living copies live in them
 pub lives_of : (journal : List Entry) (family n : ℕ) (copy : Copy) (it : KeptRows) → IsAccepted 8 journal → it ≡ family_of journal family → copy_in (living journal) n ≡ Some copy → families journal n ≡ family → lives it.rows n ≡ true
@@ -168,7 +168,7 @@ found_is journal list positions copies family it all free at =
 
 -- the stamps of a family's copies are those of the copies that live
 pub stamps_are : (journal : List Entry) (family : ℕ) (rows : List StampRow) (stamps : List CopyStamp) → IsAccepted 8 journal → rows ≡ stamp_rows family journal → map text_of stamps ≡ stamps_in rows
-    → AreStamps (map text_of stamps) (table.copies_of (sets_of family journal).table) → AreStampsOf family journal stamps
+    → AreStamps (map text_of stamps) (table.copies_of (sets_at 0 family journal)) → AreStampsOf family journal stamps
 unfolding AreStampsOf
 stamps_are journal family rows stamps accepted rows_is texts are = (
   texts ∙ ap stamps_in rows_is,

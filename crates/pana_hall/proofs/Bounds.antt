@@ -8,8 +8,8 @@ use Rattle.pana_journal.specs.declared.entry.Entry.{Entry}
 use Rattle.pana_hall.specs.declared.cause.Cause.TheVariants.{Settled}
 use Rattle.pana_hall.specs.Living.{living, copies_of, known_to}
 use Rattle.pana_hall.specs.Refusal.{report_refusal}
-use Rattle.pana_hall.specs.Tables.{table}
-use Rattle.pana_hall.specs.Laws.{AreApart}
+use Rattle.pana_hall.specs.laws.Tables.{table}
+use Rattle.pana_hall.specs.laws.Layers.{AreApart}
 
 abbrev entry : ℕ → Report → Entry
 entry number report = record { number = number; by = codes "laptop"; report = report }

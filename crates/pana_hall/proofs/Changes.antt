@@ -16,9 +16,9 @@ use Rattle.pana_hall.specs.Family.{family_report, is_register}
 use Rattle.pana_hall.specs.Effective.{is_of_copies}
 use Rattle.pana_hall.specs.Living.{copy_in, copies_of, living}
 use Rattle.pana_hall.specs.Refusal.{displaced, full, unknown, taken}
-use Rattle.pana_hall.specs.Tables.{layer}
-use Rattle.pana_hall.specs.Laws.{family_of_next}
-use Rattle.pana_hall.specs.Sets.{of_pending}
+use Rattle.pana_hall.specs.laws.Tables.{layer}
+use Rattle.pana_hall.specs.laws.Layers.{family_of_next}
+use Rattle.pana_hall.specs.inner.Kept.{of_pending}
 use Rattle.pana_hall.specs.StampRows.{changed_rows, rows_after, rows_of}
 use Rattle.pana_hall.specs.inner.Undo.{KeptRows, confirmed, kept_rows, reported_kept, undone, withdrawn}
 use Rattle.pana_hall.specs.inner.Spots.{spot_of, spot_in, spot_after, IsFree, IsFreeFor, CanPlace}

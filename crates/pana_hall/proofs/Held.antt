@@ -8,7 +8,7 @@ use Rattle.std.proofs.lemmas.Bool.{eq-eqb, ne_eqb, le-leb, lt-leb, cases_lt}
 use Rattle.pana_hall.specs.declared.holding.Holding.{Holding}
 use Rattle.pana_hall.specs.Living.{Copy, copy_in}
 use Rattle.pana_hall.specs.Queries.{holding, holdings}
-use Rattle.pana_hall.specs.Laws.{AreRising}
+use Rattle.pana_hall.specs.laws.Layers.{AreRising}
 use Rattle.pana_hall.specs.inner.Rows.{holding_in}
 use Rattle.pana_hall.proofs.Lists.{filter_all}
 use Rattle.std.proofs.lemmas.List.{map-append}

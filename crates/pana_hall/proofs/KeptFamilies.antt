@@ -10,9 +10,9 @@ use Rattle.pana_hall.specs.Effective.{is_of_copies}
 use Rattle.pana_hall.specs.Living.{copies_of}
 use Rattle.pana_hall.specs.Pending.{pending}
 use Rattle.pana_hall.specs.Accepted.{Accepts}
-use Rattle.pana_hall.specs.Tables.{layer}
-use Rattle.pana_hall.specs.Laws.{family_of_next}
-use Rattle.pana_hall.specs.Sets.{of_pending}
+use Rattle.pana_hall.specs.laws.Tables.{layer}
+use Rattle.pana_hall.specs.laws.Layers.{family_of_next}
+use Rattle.pana_hall.specs.inner.Kept.{of_pending}
 use Rattle.pana_hall.specs.StampRows.{rows_after, rows_of}
 use Rattle.pana_hall.specs.inner.Undo.{KeptRows, Undone, confirmed, kept_rows, later_than, new_kept, undone, withdrawn}
 use Rattle.pana_hall.specs.inner.Kept.{family_of, next_entry, place_before, undone_of}
@@ -23,7 +23,7 @@ use Rattle.pana_hall.proofs.Begun.{entry_at-other}
 use Rattle.pana_hall.proofs.Sound.{IsSound}
 use Rattle.pana_hall.proofs.Grown.{own, each_effective, family_new}
 use Rattle.pana_hall.proofs.Tables.{layer_report, layer_confirm, layer_withdraw, layer_other}
-use Rattle.pana_hall.proofs.FamilySets.{each_alike, each_reverse, later as later_by, layer_new, pending_begun, pending_confirmed, pending_left, pending_made, pending_undone}
+use Rattle.pana_hall.proofs.PendingEntries.{each_alike, each_reverse, later as later_by, layer_new, pending_begun, pending_confirmed, pending_left, pending_made, pending_undone}
 use Rattle.pana_hall.proofs.Stood.{rows_none, rows_of-push}
 
 undone_alike : (journal : List Entry) (entry : Entry) (numbers : List ℕ) → AllByRecursion (λ n. n ≤ length journal) numbers

@@ -17,8 +17,8 @@ use Rattle.pana_family.proofs.Unions.{union_members}
 use Rattle.pana_hall.specs.Stamps.{as_known}
 use Rattle.pana_hall.specs.Living as living
 use Rattle.pana_hall.specs.Living.{Copy, copy_in, known_to, after_report, with_updates, moved}
-use Rattle.pana_hall.specs.Laws.{AreRising}
-use Rattle.pana_hall.specs.Sets.{reported, reported_by, knowns_of}
+use Rattle.pana_hall.specs.laws.Layers.{AreRising}
+use Rattle.pana_hall.specs.laws.Sets.{reported, reported_by, knowns_of}
 use Rattle.pana_hall.proofs.Lists.{each_append, each_filter, filter_swap, filter_true, map_filter}
 use Rattle.pana_hall.proofs.Moves.{Names, Lives}
 use Rattle.pana_hall.proofs.Seen.{any_both}

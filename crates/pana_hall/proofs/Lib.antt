@@ -10,7 +10,7 @@ pub mod Knowns
 pub mod Mirrors
 pub mod Places
 pub mod More
-pub mod FamilySets
+pub mod PendingEntries
 pub mod Spots
 pub mod Histories
 pub mod KeptFamilies

@@ -12,7 +12,7 @@ use Rattle.pana_hall.specs.Family.{families, is_register}
 use Rattle.pana_hall.specs.Living.{living}
 use Rattle.pana_hall.specs.Queries.{begun}
 use Rattle.pana_hall.specs.Refusal.{full, taken}
-use Rattle.pana_hall.specs.Laws.{AreRising, family_of_next}
+use Rattle.pana_hall.specs.laws.Layers.{AreRising, family_of_next}
 use Rattle.pana_hall.specs.inner.Undo.{KeptRows, new_kept}
 use Rattle.pana_hall.specs.inner.Spots.{IsFree}
 use Rattle.pana_hall.specs.inner.Listed.{all_listed, listed}

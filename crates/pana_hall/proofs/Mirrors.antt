@@ -12,9 +12,9 @@ use Rattle.pana_hall.specs.Effective.{effective, is_of_copies, left_out}
 use Rattle.pana_hall.specs.Living.{copy_in, copies_of}
 use Rattle.pana_hall.specs.Pending.{pending, last}
 use Rattle.pana_hall.specs.Accepted.{Accepts, IsAccepted}
-use Rattle.pana_hall.specs.Tables.{table as table_of, layer}
-use Rattle.pana_hall.specs.Laws.{family_of_next}
-use Rattle.pana_hall.specs.Sets.{knowns_of}
+use Rattle.pana_hall.specs.laws.Tables.{table as table_of, layer}
+use Rattle.pana_hall.specs.laws.Layers.{family_of_next}
+use Rattle.pana_hall.specs.laws.Sets.{knowns_of}
 use Rattle.pana_hall.proofs.Lists.{each_filter, each_weaker, each_last, each_left}
 use Rattle.pana_hall.proofs.Moves.{Names, Lives}
 use Rattle.pana_hall.proofs.Locality.{IsWell, copies_of-push}

@@ -9,8 +9,8 @@ use Rattle.pana_hall.specs.Family.{families, begun_or_joined, subject, entries_o
 use Rattle.pana_hall.specs.Effective.{effective, left_out}
 use Rattle.pana_hall.specs.Living.{Copy, copy_in, living, copies_of}
 use Rattle.pana_hall.specs.Pending.{pending, pend, last}
-use Rattle.pana_hall.specs.Tables.{table}
-use Rattle.pana_hall.specs.Laws.{family_of_next}
+use Rattle.pana_hall.specs.laws.Tables.{table}
+use Rattle.pana_hall.specs.laws.Layers.{family_of_next}
 use Rattle.pana_hall.proofs.Locality.{IsWell, found_fits}
 use Rattle.pana_hall.proofs.Grown.{own, family_new}
 use Rattle.pana_hall.proofs.Sound.{IsSound, living_fit}

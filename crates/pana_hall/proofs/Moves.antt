@@ -10,7 +10,7 @@ use Rattle.pana_family.specs.Updates.{union}
 use Rattle.pana_hall.specs.Family.{is_register, subject}
 use Rattle.pana_hall.specs.Living.{Copy, copy_in, known_to, without, registered, duplicated, with_updates, edited, moved, after_report}
 use Rattle.pana_hall.specs.Refusal.{displaced}
-use Rattle.pana_hall.specs.Laws.{AreRising}
+use Rattle.pana_hall.specs.laws.Layers.{AreRising}
 use Rattle.pana_hall.proofs.Lists.{each_append}
 use Rattle.pana_hall.proofs.Rising.{rises_lower, rises_push}
 

@@ -11,7 +11,7 @@ use Rattle.pana_hall.specs.Accepted.{IsAccepted}
 use Rattle.pana_hall.specs.Living.{Copy, living}
 use Rattle.pana_hall.specs.Holdings.{HaveOwnPaths}
 use Rattle.pana_hall.specs.Queries.{holding, holdings}
-use Rattle.pana_hall.specs.Laws.{AreApart}
+use Rattle.pana_hall.specs.laws.Layers.{AreApart}
 use Rattle.pana_hall.proofs.Places.{accepted_is_apart}
 
 abbrev on_device : List ℕ → List Copy → List Copy

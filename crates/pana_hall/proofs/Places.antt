@@ -15,7 +15,7 @@ use Rattle.pana_hall.specs.declared.cause.Cause.TheVariants.{PlaceTaken}
 use Rattle.pana_hall.specs.Living.{Copy, copy_in, living, copies_of}
 use Rattle.pana_hall.specs.Refusal.{report_refusal, full, unknown, taken, taken_from, brought_back, displaced}
 use Rattle.pana_hall.specs.Accepted.{Accepts, IsAccepted}
-use Rattle.pana_hall.specs.Laws.{AreApart, AreRising}
+use Rattle.pana_hall.specs.laws.Layers.{AreApart, AreRising}
 use Rattle.pana_hall.specs.inner.Spots.{spot_of, spot_in, mover, spot_to, put}
 use Rattle.pana_hall.proofs.Lists.{each_two, each_weaker}
 use Rattle.pana_hall.proofs.Moves.{found_number}

@@ -12,9 +12,9 @@ use Rattle.pana_hall.specs.Family.{families, family_report, begun_or_joined, sub
 use Rattle.pana_hall.specs.Living.{Copy, copy_in, copies_of, living}
 use Rattle.pana_hall.specs.Refusal.{report_refusal, taken}
 use Rattle.pana_hall.specs.Accepted.{Accepts}
-use Rattle.pana_hall.specs.Tables.{layer}
-use Rattle.pana_hall.specs.Tables as tables
-use Rattle.pana_hall.specs.Laws.{family_of_next}
+use Rattle.pana_hall.specs.laws.Tables.{layer}
+use Rattle.pana_hall.specs.laws.Tables as tables
+use Rattle.pana_hall.specs.laws.Layers.{family_of_next}
 use Rattle.pana_hall.specs.inner.Undo.{KeptRows}
 use Rattle.pana_hall.specs.inner.Spots.{spot_of, IsFree}
 use Rattle.pana_hall.specs.inner.Kept.{next_entry, AreSpots, IsReady}

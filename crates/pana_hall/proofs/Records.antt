@@ -14,10 +14,10 @@ use Rattle.pana_hall.specs.Living.{Copy, copy_in, living}
 use Rattle.pana_hall.specs.Queries.{begun}
 use Rattle.pana_hall.specs.Refusal.{report_refusal}
 use Rattle.pana_hall.specs.Accepted.{IsAccepted}
-use Rattle.pana_hall.specs.Laws.{AreRising}
+use Rattle.pana_hall.specs.laws.Layers.{AreRising}
 use Rattle.pana_hall.specs.inner.Kept.{next_entry, ArePlaced, AreSpots, IsKept, IsReadyAt, families_of, family_of, position_for, position_of_subject}
 use Rattle.pana_hall.specs.inner.Families.{family_at, position_at}
-use Rattle.pana_hall.specs.Laws.{family_of_next}
+use Rattle.pana_hall.specs.laws.Layers.{family_of_next}
 use Rattle.pana_hall.proofs.Rising.{entry_at_place, slice_get-append, slice_get-push}
 use Rattle.pana_hall.proofs.Grown.{family_new, family_old}
 use Rattle.pana_hall.proofs.Sound.{accepted_is_sound, named_by, living_fit, LivesIn, named_report}

@@ -25,9 +25,9 @@ use Rattle.pana_hall.specs.Pending.{pending, is_last}
 use Rattle.pana_hall.specs.Refusal.{displaced, taken, taken_from, taken_since, family_full, too_deep, pending_with}
 use Rattle.pana_hall.specs.Board.{is_of}
 use Rattle.pana_hall.specs.Accepted.{IsAccepted}
-use Rattle.pana_hall.specs.Laws.{AreRising}
-use Rattle.pana_hall.specs.Tables.{layer}
-use Rattle.pana_hall.specs.Sets.{of_each}
+use Rattle.pana_hall.specs.laws.Layers.{AreRising}
+use Rattle.pana_hall.specs.laws.Tables.{layer}
+use Rattle.pana_hall.specs.inner.Kept.{of_each}
 use Rattle.pana_hall.specs.StampRows.{rows_of, stamp_rows}
 use Rattle.pana_hall.specs.inner.Families.{family_at, old_place}
 use Rattle.pana_hall.specs.inner.Spots.{spot_of, IsThere, other_there}

@@ -5,7 +5,7 @@ use Rattle.std.proofs.Common.{refl, ap, ◌∙◌, subst, inl, inr, arith}
 use Rattle.std.proofs.lemmas.Bool.{ne_eqb, eqb-false}
 use Rattle.pana_journal.specs.declared.entry.Entry.{Entry}
 use Rattle.pana_journal.specs.Entries.{entry_at}
-use Rattle.pana_hall.specs.Laws.{AreRising}
+use Rattle.pana_hall.specs.laws.Layers.{AreRising}
 
 pub rises_lower : {X : Type 0} (key : X → ℕ) (low low' : ℕ) (xs : List X) → low' ≤ low → AreRising key low xs → AreRising key low' xs
 rises_lower key low low' [] below rises = tt

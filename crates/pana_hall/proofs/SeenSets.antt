@@ -20,7 +20,7 @@ use Rattle.pana_hall.specs.Living.{Copy, copy_in, living}
 use Rattle.pana_hall.specs.Board.{copy_relation, is_of, number_of, row_of, newest, has_conflict, board_of}
 use Rattle.pana_hall.specs.Queries.{family_row}
 use Rattle.pana_hall.specs.Accepted.{IsAccepted}
-use Rattle.pana_hall.specs.Sets.{sets_of}
+use Rattle.pana_hall.specs.laws.Sets.{sets_at}
 use Rattle.pana_hall.specs.inner.Spots.{spot_of}
 use Rattle.pana_hall.specs.inner.Kept.{AreSpots}
 use Rattle.pana_hall.specs.inner.Rows.{placed_row, row_of_sets}
@@ -36,7 +36,7 @@ use Rattle.pana_hall.proofs.Places.{living_found}
 alike : (family : ℕ) → AreAlike (λ c. is_of family c ≡ true) number_of copy_relation board.number_of board.known_relation as_known
 alike family = record { numbers = λ c here. refl; rels = λ c d here there. refl }
 
-known_own : (journal : List Entry) (family : ℕ) → IsAccepted 8 journal → table.copies_of (sets_of family journal).table ≡ map as_known (filter (is_of family) (living journal))
+known_own : (journal : List Entry) (family : ℕ) → IsAccepted 8 journal → table.copies_of (sets_at 0 family journal) ≡ map as_known (filter (is_of family) (living journal))
 known_own journal family accepted = copies_sets journal family accepted ∙ ap (map as_known) (sym (table_living 8 family journal))
 
 each_both : {X : Type 0} (P Q : X → Type 0) (xs : List X) → AllByRecursion P xs → AllByRecursion Q xs → AllByRecursion (λ x. P x × Q x) xs
@@ -45,7 +45,7 @@ each_both P Q (x ∷ xs) ps qs = ((ps.0, qs.0), each_both P Q xs ps.1 qs.1)
 
 -- the rows of a family's table, each with the place of its copy
 pub rows_placed : (journal : List Entry) (family : ℕ) (copies : Table) → IsAccepted 8 journal → AreSpots journal copies
-    → map (placed_row copies) (board.board_rows (sets_of family journal).table) ≡ map (row_of (living journal)) (filter (is_of family) (living journal))
+    → map (placed_row copies) (board.board_rows (sets_at 0 family journal)) ≡ map (row_of (living journal)) (filter (is_of family) (living journal))
 unfolding board.board_rows
 rows_placed journal family copies accepted spots =
     let own = filter (is_of family) (living journal) in
@@ -66,7 +66,7 @@ rows_placed journal family copies accepted spots =
 
 -- each of its copies is kept
 pub rows_kept : (journal : List Entry) (family : ℕ) (copies : Table) → IsAccepted 8 journal → AreSpots journal copies
-    → AllByRecursion (λ row. IsSome (kept copies row.copy)) (board.board_rows (sets_of family journal).table)
+    → AllByRecursion (λ row. IsSome (kept copies row.copy)) (board.board_rows (sets_at 0 family journal))
 unfolding board.board_rows
 rows_kept journal family copies accepted spots =
     let own = filter (is_of family) (living journal) in
@@ -79,7 +79,7 @@ rows_kept journal family copies accepted spots =
     each_kept all (c ∷ cs) found = (ap is_some (spots c.number ∙ ap (option_map spot_of) found.0), each_kept all cs found.1)
 
 -- the newest, and the split
-pub newest_is : (journal : List Entry) (family : ℕ) → IsAccepted 8 journal → board.board_newest (sets_of family journal).table ≡ map (λ c. c.number) (newest family (living journal))
+pub newest_is : (journal : List Entry) (family : ℕ) → IsAccepted 8 journal → board.board_newest (sets_at 0 family journal) ≡ map (λ c. c.number) (newest family (living journal))
 unfolding board.board_newest
 newest_is journal family accepted =
     let own = filter (is_of family) (living journal) in
@@ -88,20 +88,20 @@ newest_is journal family accepted =
     ∙ map_map as_known board.number_of (newest_of number_of copy_relation own)
     ∙ ap (map (λ c. c.number)) (sym (newest_own family (living journal)))
 
-pub split_is : (journal : List Entry) (family : ℕ) → IsAccepted 8 journal → board.board_split (sets_of family journal).table ≡ has_conflict (newest family (living journal))
+pub split_is : (journal : List Entry) (family : ℕ) → IsAccepted 8 journal → board.board_split (sets_at 0 family journal) ≡ has_conflict (newest family (living journal))
 unfolding board.board_split
 split_is journal family accepted =
     ap (is_split board.number_of board.known_relation) (known_own journal family accepted)
     ∙ split_alike (alike family) (filter (is_of family) (living journal)) (each_passes (is_of family) (living journal)) ∙ sym (split_own family (living journal))
 
 -- a family's row
-pub row_is : (journal : List Entry) (family : ℕ) → IsAccepted 8 journal → row_of_sets family (sets_of family journal).table ≡ family_row (living journal) family
+pub row_is : (journal : List Entry) (family : ℕ) → IsAccepted 8 journal → row_of_sets family (sets_at 0 family journal) ≡ family_row (living journal) family
 row_is journal family accepted =
-    let count : length (table.copies_of (sets_of family journal).table) ≡ count_by (is_of family) (living journal) =
+    let count : length (table.copies_of (sets_at 0 family journal)) ≡ count_by (is_of family) (living journal) =
     ap length (known_own journal family accepted) ∙ length-map (filter (is_of family) (living journal)) as_known ∙ length-filter (is_of family) (living journal) in
-    let new : length (board.board_newest (sets_of family journal).table) ≡ length (newest family (living journal)) = ap length (newest_is journal family accepted) ∙ length-map (newest family (living journal)) (λ c. c.number) in
-    ap (λ n. row family n (length (board.board_newest (sets_of family journal).table)) (board.board_split (sets_of family journal).table)) count
-    ∙ ap (λ n. row family (count_by (is_of family) (living journal)) n (board.board_split (sets_of family journal).table)) new
+    let new : length (board.board_newest (sets_at 0 family journal)) ≡ length (newest family (living journal)) = ap length (newest_is journal family accepted) ∙ length-map (newest family (living journal)) (λ c. c.number) in
+    ap (λ n. row family n (length (board.board_newest (sets_at 0 family journal))) (board.board_split (sets_at 0 family journal))) count
+    ∙ ap (λ n. row family (count_by (is_of family) (living journal)) n (board.board_split (sets_at 0 family journal))) new
     ∙ ap (row family (count_by (is_of family) (living journal)) (length (newest family (living journal)))) (split_is journal family accepted)
   where
     row : ℕ → ℕ → ℕ → Bool → FamilyRow
@@ -109,7 +109,7 @@ row_is journal family accepted =
 
 -- the board of a family, from its rows
 pub board_is : (journal : List Entry) (family : ℕ) (rows : List BoardRow) (new : List ℕ) (split : Bool) (copies : Table) → IsAccepted 8 journal → AreSpots journal copies
-    → rows ≡ map (placed_row copies) (board.board_rows (sets_of family journal).table) → new ≡ board.board_newest (sets_of family journal).table → split ≡ board.board_split (sets_of family journal).table
+    → rows ≡ map (placed_row copies) (board.board_rows (sets_at 0 family journal)) → new ≡ board.board_newest (sets_at 0 family journal) → split ≡ board.board_split (sets_at 0 family journal)
     → record { family = family; rows = rows; newest = new; split = split } ≡ board_of family (living journal)
 unfolding board_of
 board_is journal family rows new split copies accepted spots rows_are new_are split_is_it =

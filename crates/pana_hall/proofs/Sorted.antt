@@ -10,7 +10,7 @@ use Rattle.pana_journal.specs.declared.entry.Entry.{Entry}
 use Rattle.pana_hall.specs.Family.{is_register}
 use Rattle.pana_hall.specs.Living.{Copy, copy_in}
 use Rattle.pana_hall.specs.Queries.{begun, holding, holdings}
-use Rattle.pana_hall.specs.Laws.{AreRising}
+use Rattle.pana_hall.specs.laws.Layers.{AreRising}
 use Rattle.pana_hall.proofs.Rising.{rises_filter}
 
 -- what has a key

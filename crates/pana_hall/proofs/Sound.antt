@@ -15,7 +15,7 @@ use Rattle.pana_hall.specs.Living.{Copy, copy_in, living}
 use Rattle.pana_hall.specs.Pending.{pending, pend, last, behind}
 use Rattle.pana_hall.specs.Refusal.{report_refusal, full, unknown, same, other_family, against_two, unknown_entry, first}
 use Rattle.pana_hall.specs.Accepted.{Accepts, AcceptsAll, IsAccepted}
-use Rattle.pana_hall.specs.Laws.{AreRising}
+use Rattle.pana_hall.specs.laws.Layers.{AreRising}
 use Rattle.pana_hall.proofs.Lists.{each_append, each_weaker, last_is_end, behind_is_end, map_filter}
 use Rattle.pana_hall.proofs.Moves.{Names, subject_none, subject_named}
 use Rattle.pana_hall.proofs.Locality.{Joins, Belongs, IsWell, Fits, found_fits, copies_fit}

@@ -6,7 +6,7 @@ use Rattle.pana_journal.specs.Entries.{IsNumbered}
 use Rattle.pana_hall.specs.Family.{families}
 use Rattle.pana_hall.specs.Living.{living}
 use Rattle.pana_hall.specs.Accepted.{Accepts, IsAccepted}
-use Rattle.pana_hall.specs.Laws.{AreRising, IsOrderly}
+use Rattle.pana_hall.specs.laws.Layers.{AreRising, IsOrderly}
 use Rattle.pana_hall.proofs.Lists.{each_weaker}
 use Rattle.pana_hall.proofs.Sound.{accepted_is_sound}
 use Rattle.pana_hall.proofs.Tables.{merged}

@@ -12,20 +12,18 @@ use Rattle.pana_journal.specs.declared.entry.Entry.{Entry}
 use Rattle.pana_family.specs.declared.report.FamilyReport.{FamilyReport}
 use Rattle.pana_family.specs.declared.report.FamilyReport.TheVariants as family
 use Rattle.pana_family.specs.Kept.{IsKept}
-use Rattle.pana_family.specs.Sets.{IsAbove}
 use Rattle.pana_family.specs.Stands.{StandsFor}
 use Rattle.pana_family.specs.Rows.{AreBefore, copy_rows, deepest, divides, lives, seed_row}
 use Rattle.pana_family.specs.Report.{Asks, CanReport, IsReported, deeper}
 use Rattle.pana_family.specs.Report as by_family
-use Rattle.pana_family.specs.Table.{AreBelow, In, Known, is_in}
+use Rattle.pana_family.specs.Table.{AreBelow, In, IsAbove, Known, is_in}
 use Rattle.pana_family.specs.Table as table
 use Rattle.pana_family.specs.After.{reported_rows}
 use Rattle.pana_family.specs.inner.Making.{AreSound}
 use Rattle.pana_family.proofs.BySets.{same_before, same_copies, same_living}
 use Rattle.pana_family.proofs.Members.{same_length}
-use Rattle.pana_family.proofs.Computed.{are_exact}
-use Rattle.pana_family.proofs.Exacts.{asked, reported_of_exact}
-use Rattle.pana_family.proofs.Within.{divides_is, seed_sound, sound_of_exact, undivided_deep}
+use Rattle.pana_family.proofs.Exacts.{asked, report_law}
+use Rattle.pana_family.proofs.Within.{divides_is, seed_sound, sound_after, undivided_deep}
 use Rattle.pana_family.proofs.Keeps.{seed_kept}
 use Rattle.pana_family.proofs.Changes.{empty_stands, seed_stands}
 use Rattle.pana_family.proofs.Keeps.{empty_kept}
@@ -34,10 +32,10 @@ use Rattle.pana_hall.specs.Effective.{effective, is_of_copies}
 use Rattle.pana_hall.specs.Living.{Copy, copies_of, copy_in, living}
 use Rattle.pana_hall.specs.Refusal.{against_two, family_full, first, full, report_refusal, same, taken, too_deep, unknown}
 use Rattle.pana_hall.specs.Accepted.{Accepts, IsAccepted}
-use Rattle.pana_hall.specs.Tables.{layer}
-use Rattle.pana_hall.specs.Tables as tables
-use Rattle.pana_hall.specs.Laws.{duplicates_in, family_of_next}
-use Rattle.pana_hall.specs.Sets.{knowns_of, reported, sets_of}
+use Rattle.pana_hall.specs.laws.Tables.{layer}
+use Rattle.pana_hall.specs.laws.Tables as tables
+use Rattle.pana_hall.specs.laws.Layers.{duplicates_in, family_of_next}
+use Rattle.pana_hall.specs.laws.Sets.{knowns_of, reported, sets_at}
 use Rattle.pana_hall.specs.StampRows.{changed_rows, rows_after, rows_by, rows_of, stamp_rows}
 use Rattle.pana_hall.specs.Stamps.{as_known}
 use Rattle.pana_hall.proofs.Allowed.{first_none, none_false}
@@ -47,7 +45,7 @@ use Rattle.pana_hall.proofs.Sound.{IsSound, accepted_is_sound, found_family, liv
 use Rattle.pana_hall.proofs.Tables.{layer_now, merged, table_living, table_own}
 use Rattle.pana_hall.proofs.Layers.{room_for}
 use Rattle.pana_hall.proofs.Grown.{family_new}
-use Rattle.pana_hall.proofs.FamilySets.{layer_new}
+use Rattle.pana_hall.proofs.PendingEntries.{layer_new}
 use Rattle.pana_hall.proofs.More.{family_of_copy}
 use Rattle.pana_hall.specs.Board.{is_of}
 use Rattle.pana_hall.specs.declared.cause.Cause.TheVariants.{TooDeep}
@@ -101,7 +99,7 @@ pub rows_none : rows_of [] ≡ []
 unfolding rows_of
 rows_none = refl
 
-knowns_none : knowns_of [] ≡ []
+pub knowns_none : knowns_of [] ≡ []
 unfolding knowns_of
 knowns_none = refl
 
@@ -121,8 +119,8 @@ step_report journal entry report accepts stood can before asks table_is rows_are
     let rows = rows_of entries in
     let new = reported_rows entry.number report rows in
     let fits = number_fits journal entry accepts in
-    let done = reported_of_exact entry.number report rows new fits stood.kept stood.sound can before (are_exact entry.number report rows) in
-    let sound = sound_of_exact entry.number report rows new fits stood.kept stood.sound can before (are_exact entry.number report rows) in
+    let done = report_law entry.number report rows fits stood.kept stood.sound can before in
+    let sound = sound_after entry.number report rows fits stood.kept stood.sound can before in
     let rows_is : rows_of (entries ++ entry ∷ []) ≡ new = rows_of-push entries entry ∙ ap (λ f. f rows) rows_are in
     let table_new : knowns_of (entries ++ entry ∷ []) ≡ by_family.reported entry.number report (knowns_of entries) = knowns_of-push entries entry ∙ ap (λ f. f (knowns_of entries)) table_is in
     let counted : count_by (λ e. is_duplicate e.report) (entries ++ entry ∷ []) ≡ count_by (λ e. is_duplicate e.report) entries + cond (is_duplicate entry.report) 1 0 =
@@ -308,19 +306,19 @@ too_deep_duplicates journal number accepted is =
     must false e = refl
 
 -- the copies of a family's table of sets are its living copies
-pub copies_sets : (journal : List Entry) (family : ℕ) → IsAccepted 8 journal → table.copies_of (sets_of family journal).table ≡ map as_known (tables.table 8 0 family journal)
+pub copies_sets : (journal : List Entry) (family : ℕ) → IsAccepted 8 journal → table.copies_of (sets_at 0 family journal) ≡ map as_known (tables.table 8 0 family journal)
 copies_sets journal family accepted =
     (layers_mirrored journal accepted 0 family).copies ∙ ap (map as_known) (sym (table_own 8 0 family journal (accepted_is_sound 8 journal accepted)))
 
 -- the next number is above all those of a family's table
-pub above_sets : (journal : List Entry) (family n : ℕ) → IsAccepted 8 journal → n ≡ length journal + 1 → IsAbove n (sets_of family journal).table
+pub above_sets : (journal : List Entry) (family n : ℕ) → IsAccepted 8 journal → n ≡ length journal + 1 → IsAbove n (sets_at 0 family journal)
 above_sets journal family n accepted next t at =
     let is = each_in (IsOldKnown (length journal)) _ t (sets_old journal 0 family accepted).each at in
     let copy = is.copy in
     let touch = is.touch in
     (omega arith, omega arith)
 
-pub below_sets : (journal : List Entry) (family n : ℕ) → IsAccepted 8 journal → n ≡ length journal + 1 → AreBelow n (sets_of family journal).table
+pub below_sets : (journal : List Entry) (family n : ℕ) → IsAccepted 8 journal → n ≡ length journal + 1 → AreBelow n (sets_at 0 family journal)
 below_sets journal family n accepted next t u at member =
     let within = (each_in (IsOldKnown (length journal)) _ t (sets_old journal 0 family accepted).each at).updates u member in omega arith
 

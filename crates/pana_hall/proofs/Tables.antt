@@ -17,8 +17,8 @@ use Rattle.pana_hall.specs.Board.{is_of}
 use Rattle.pana_journal.specs.Entries.{entry_at}
 use Rattle.pana_hall.specs.Refusal.{report_refusal, full, unknown_entry, not_yours, settled_or_followed, pending_with, taken_since}
 use Rattle.pana_hall.specs.Accepted.{Accepts}
-use Rattle.pana_hall.specs.Tables.{table, layer}
-use Rattle.pana_hall.specs.Laws.{family_of_next, AddsLayer, DropsLayer, KeepsLayers, LeavesAlone, AreRising, AreMerged}
+use Rattle.pana_hall.specs.laws.Tables.{table, layer}
+use Rattle.pana_hall.specs.laws.Layers.{family_of_next, AddsLayer, DropsLayer, KeepsLayers, LeavesAlone, AreRising, AreMerged}
 use Rattle.pana_hall.proofs.Lists.{each_filter, each_weaker, filter_all, filter_swap, filter_filter, any_push, last_push, last_end, behind_is_end, is_last_push, each_last}
 use Rattle.pana_hall.proofs.Locality.{IsWell, Fits, copies_of-family, copies_of-push, copy_in-family, report_fits}
 use Rattle.pana_hall.proofs.Grown.{own, each_effective, own_copies, own_confirm, own_withdraw, own_other, pending-push, pending_is}

@@ -10,8 +10,8 @@ use Rattle.pana_journal.specs.declared.entry.Entry.{Entry}
 use Rattle.pana_hall.specs.Family.{families}
 use Rattle.pana_hall.specs.Living.{copy_in, copies_of, living}
 use Rattle.pana_hall.specs.Refusal.{taken_from, brought_back, displaced}
-use Rattle.pana_hall.specs.Tables.{layer}
-use Rattle.pana_hall.specs.Laws.{family_of_next}
+use Rattle.pana_hall.specs.laws.Tables.{layer}
+use Rattle.pana_hall.specs.laws.Layers.{family_of_next}
 use Rattle.pana_hall.specs.inner.Undo.{KeptRows, last_place}
 use Rattle.pana_hall.specs.inner.Spots.{spot_of, spot_in, mover, spot_to, put, spot_after, undone_spot, CanUndo}
 use Rattle.pana_hall.specs.inner.Kept.{next_entry, place_before, undone_of, IsReady}
@@ -22,7 +22,7 @@ use Rattle.pana_hall.proofs.Mirrors.{layer_founded}
 use Rattle.pana_hall.proofs.Undone.{Back, back_at, back_none, now_here, displaced_of, layer_before}
 use Rattle.pana_hall.proofs.Spots.{copies_below, spots_report, spots_withdrawn, put_same}
 use Rattle.pana_hall.proofs.Places.{not_taken}
-use Rattle.pana_hall.proofs.FamilySets.{pending_undone}
+use Rattle.pana_hall.proofs.PendingEntries.{pending_undone}
 use Rattle.pana_hall.proofs.Ready.{own_is, at_place, accepts_next}
 
 module _ {journal : List Entry} {by : List ℕ} {m : ℕ} {it : KeptRows} {copies : Table} where

@@ -12,7 +12,7 @@ use Rattle.pana_hall.specs.Living.{Copy, copy_in, copies_of, living, after_repor
 use Rattle.pana_hall.specs.Pending.{last}
 use Rattle.pana_hall.specs.Refusal.{brought_back, displaced}
 use Rattle.pana_hall.specs.Accepted.{IsAccepted}
-use Rattle.pana_hall.specs.Tables.{table, layer}
+use Rattle.pana_hall.specs.laws.Tables.{table, layer}
 use Rattle.pana_hall.proofs.Lists.{each_filter, filter_swap, last_push}
 use Rattle.pana_hall.proofs.Moves.{displaced_named, found_number}
 use Rattle.pana_hall.proofs.Locality.{IsWell, found_fits, copies_fit, copies_of-family, copies_of-push, copy_in-family}

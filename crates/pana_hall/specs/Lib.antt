@@ -14,8 +14,6 @@ pub mod Prepared
 pub mod Run
 pub mod Step
 pub mod Accepted
-pub mod Tables
-pub mod Sets
 pub mod Load
-pub mod Laws
+pub mod laws
 pub mod inner

@@ -8,9 +8,8 @@ ghost use Rattle.std.specs.List.{AllByRecursion, list_any};
 ghost use Rattle.std.specs.Str.{bytes_eq};
 ghost use Rattle.pana_copies.specs.declared.place.Place.{Place};
 ghost use Rattle.pana_journal.specs.declared.report.Report.TheVariants.{Register, Confirm, Withdraw};
-ghost use Rattle.pana_family.specs.Table.{AreBelow};
-ghost use Rattle.pana_family.specs.Sets.{IsAbove, after, began, confirmed, withdrawn};
-ghost use Rattle.pana_hall.specs.Sets.{knowns_of, reported, sets_of};
+ghost use Rattle.pana_family.specs.Table.{AreBelow, IsAbove, registered};
+ghost use Rattle.pana_hall.specs.laws.Sets.{knowns_of, sets_at};
 ghost use Rattle.pana_hall.specs.StampRows.{stamp_rows};
 ghost use Rattle.pana_family.specs.Stands.{StandsFor};
 ghost use Rattle.pana_journal.specs.declared.entry.Entry.{Entry};
@@ -24,7 +23,7 @@ ghost use Rattle.pana_hall.specs.Board.{board_of, is_of};
 ghost use Rattle.pana_hall.specs.Queries.{begun, family_row, holding, holdings};
 ghost use Rattle.pana_hall.specs.Refusal.{brought_back, displaced, too_deep};
 ghost use Rattle.pana_hall.specs.Run.{Exchange, IsRun, journal_from};
-ghost use Rattle.pana_hall.specs.Tables.{table, tables};
+ghost use Rattle.pana_hall.specs.laws.Tables.{table, tables};
 ghost use Rattle.pana_hall.specs.Accepted.{Accepts, IsAccepted};
 ghost use Rattle.pana_hall.specs.declared.call.Call.{Call};
 ghost use Rattle.pana_hall.specs.declared.cause.Cause.TheVariants.{OutOfMemory, TooDeep, NotKept};
@@ -33,7 +32,7 @@ ghost use Rattle.pana_hall.specs.declared.loading.LoadFault.{LoadFault};
 ghost use Rattle.pana_hall.specs.declared.loading.LoadCause.TheVariants.{Refused};
 ghost use Rattle.pana_hall.specs.Permit.{Permits};
 ghost use Rattle.pana_hall.specs.Load.{IsLoadFault};
-ghost use Rattle.pana_hall.specs.Laws.{AddsLayer, duplicates_in, AreApart, AreMerged, AreRising, DropsLayer, IsOrderly, KeepsLayers, LeavesAlone, family_of_next};
+ghost use Rattle.pana_hall.specs.laws.Layers.{AddsLayer, AddsSets, duplicates_in, AreApart, AreMerged, AreRising, DropsLayer, IsOrderly, KeepsLayers, LeavesAlone, family_of_next};
 
 /// After every run no two living copies have one place, their numbers rise, none is above that of the last entry, and
 /// each copy is of its entry's family. Entries that are withdrawn are no exception.
@@ -82,23 +81,24 @@ pub fn confirm_keeps_layers()
         → entry.report ≡ Confirm m → KeepsLayers 8 (family_of_next journal entry) journal entry }
 {}
 
-/// What a family with its parcels stands for goes by the report: its table is changed as the report says, or a Withdraw
-/// takes it back by an entry, or a Confirm leaves the table; and no entry changes it for another family. A Register begins
-/// a family. All numbers in a family's table are below that of the next entry.
+/// What a family with its parcels stands for goes by the report: its table of sets is changed as the report says, and leaving out
+/// one pending entry more gives the table from before; a Withdraw takes it back by an entry, a Confirm leaves it as far back as
+/// entries stay pending, and no entry changes it for another family. A Register begins a family. All numbers in a family's table
+/// are below that of the next entry.
 pub fn sets_go_by_report()
     ensures report { (journal : List Entry) (entry : Entry) → IsAccepted 8 journal → Accepts 8 journal entry → is_of_copies entry.report ≡ true
-        → sets_of (family_of_next journal entry) (journal ++ entry ∷ [])
-        ≡ after entry.number (reported entry.number entry.report) (sets_of (family_of_next journal entry) journal) }
-    ensures withdraw { (journal : List Entry) (entry : Entry) (m : ℕ) → IsAccepted 8 journal → Accepts 8 journal entry → entry.report ≡ Withdraw m
-        → sets_of (family_of_next journal entry) (journal ++ entry ∷ []) ≡ withdrawn (sets_of (family_of_next journal entry) journal) }
-    ensures confirm { (journal : List Entry) (entry : Entry) (m : ℕ) → IsAccepted 8 journal → Accepts 8 journal entry → entry.report ≡ Confirm m
-        → sets_of (family_of_next journal entry) (journal ++ entry ∷ []) ≡ confirmed m (sets_of (family_of_next journal entry) journal) }
-    ensures other { (journal : List Entry) (entry : Entry) (family : ℕ) → IsAccepted 8 journal → Accepts 8 journal entry → family_of_next journal entry ≢ family
-        → sets_of family (journal ++ entry ∷ []) ≡ sets_of family journal }
+        → AddsSets (family_of_next journal entry) journal entry }
+    ensures withdraw { (journal : List Entry) (entry : Entry) (m k : ℕ) → IsAccepted 8 journal → Accepts 8 journal entry → entry.report ≡ Withdraw m
+        → sets_at k (family_of_next journal entry) (journal ++ entry ∷ []) ≡ sets_at (k + 1) (family_of_next journal entry) journal }
+    ensures confirm { (journal : List Entry) (entry : Entry) (m k : ℕ) → IsAccepted 8 journal → Accepts 8 journal entry → entry.report ≡ Confirm m
+        → k ≤ length (pending 8 (family_of_next journal entry) (journal ++ entry ∷ []))
+        → sets_at k (family_of_next journal entry) (journal ++ entry ∷ []) ≡ sets_at k (family_of_next journal entry) journal }
+    ensures other { (journal : List Entry) (entry : Entry) (family k : ℕ) → IsAccepted 8 journal → Accepts 8 journal entry → family_of_next journal entry ≢ family
+        → sets_at k family (journal ++ entry ∷ []) ≡ sets_at k family journal }
     ensures begun { (journal : List Entry) (entry : Entry) (place : Place) → IsAccepted 8 journal → Accepts 8 journal entry → entry.report ≡ Register place
-        → sets_of entry.number (journal ++ entry ∷ []) ≡ began entry.number }
-    ensures above { (journal : List Entry) (family : ℕ) → IsAccepted 8 journal → IsAbove (length journal + 1) (sets_of family journal).table }
-    ensures below { (journal : List Entry) (family : ℕ) → IsAccepted 8 journal → AreBelow (length journal + 1) (sets_of family journal).table }
+        → sets_at 0 entry.number (journal ++ entry ∷ []) ≡ registered entry.number }
+    ensures above { (journal : List Entry) (family : ℕ) → IsAccepted 8 journal → IsAbove (length journal + 1) (sets_at 0 family journal) }
+    ensures below { (journal : List Entry) (family : ℕ) → IsAccepted 8 journal → AreBelow (length journal + 1) (sets_at 0 family journal) }
 {}
 
 /// The rows that a family's entries make stand for the sets that they make, so a copy is obsolete, equal or in conflict by its

@@ -10,7 +10,7 @@ use Rattle.std.proofs.lemmas.Str.{chars-IsAscii}
 use Rattle.std.proofs.lemmas.Str.Parse.{digit_from_value}
 use Rattle.unicode_width.specs.Width.{str_width}
 use Rattle.unicode_width.proofs.Rules.{str_width-printable}
-use Rattle.pana_report.specs.Laws.{NumbersAreAsWideAsLong}
+use Rattle.pana_report.specs.laws.Widths.{NumbersAreAsWideAsLong}
 
 -- digits are printable
 are_printable : (digits : List ℕ) → AllDigits 10 digits → list_all (is_in_range 0x20 0x7E) digits ≡ true

@@ -9,7 +9,7 @@ use Rattle.sha2.specs.Sha256.{sha256}
 use Rattle.sha2.proofs.Facts256.{length-sha256}
 use Rattle.pana_wire.specs.Seal.{mark, close, seal_with}
 use Rattle.pana_seal.specs.Seal.{body_of, end_of, seal_of, digest_of}
-use Rattle.pana_seal.specs.Laws.{SameSealSameBytes, IsCollision}
+use Rattle.pana_seal.specs.laws.Digests.{SameSealSameBytes, IsCollision}
 use Rattle.pana_seal.proofs.Sealed.{same_bytes}
 
 -- the digits in a seal

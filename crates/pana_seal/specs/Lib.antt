@@ -1,3 +1,3 @@
-pub mod Laws
 pub mod Seal
 pub mod Shown
+pub mod laws

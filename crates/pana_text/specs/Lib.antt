@@ -1,5 +1,5 @@
 pub mod Text
 pub mod Grammar
 pub mod Fault
-pub mod Laws
+pub mod laws
 pub mod inner

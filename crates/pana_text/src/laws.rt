@@ -1,5 +1,5 @@
 //! Laws of texts and faults, for the proofs of those who read stamps: each function ensures one, and does nothing.
-ghost use Rattle.pana_text.specs.Laws.{EachHasAFault, FaultsExcludeEachOther, IsOfOneStamp};
+ghost use Rattle.pana_text.specs.laws.Texts.{EachHasAFault, FaultsExcludeEachOther, IsOfOneStamp};
 
 /// What a fault says holds of each text for some fault, where that of `OutOfMemory` is that the text is a stamp's.
 pub fn each_has_a_fault()

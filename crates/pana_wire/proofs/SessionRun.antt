@@ -10,7 +10,7 @@ use Rattle.pana_wire.specs.Fault.{fault_text}
 use Rattle.pana_wire.specs.Line.{line_says}
 use Rattle.pana_wire.specs.Lines.{lines_of}
 use Rattle.pana_wire.specs.Session.{AnswersSaid, AnswersLines, SessionText}
-use Rattle.pana_wire.specs.Laws.{IsFaultOf, IsRunOf, IsServedByRun}
+use Rattle.pana_wire.specs.laws.Sessions.{IsFaultOf, IsRunOf, IsServedByRun}
 
 -- a run from the old journal to the new one answers the lines
 record Runs (old : List Entry) (lines : List (List ℕ)) (output : List ℕ) (new : List Entry) (steps : ℕ) : Type 0 where

@@ -10,7 +10,7 @@ pub mod Lines
 pub mod Tap
 pub mod Session
 pub mod Timely
-pub mod Laws
 pub mod Seal
 pub mod Shown
+pub mod laws
 pub mod inner

@@ -4,7 +4,7 @@ ghost use Rattle.std.specs.Prelude.{List, ℕ, []};
 ghost use Rattle.pana_journal.specs.declared.entry.Entry.{Entry};
 ghost use Rattle.pana_hall.specs.Step.{Steps};
 ghost use Rattle.pana_wire.specs.Session.{SessionText};
-ghost use Rattle.pana_wire.specs.Laws.{IsServedByRun};
+ghost use Rattle.pana_wire.specs.laws.Sessions.{IsServedByRun};
 
 /// The steps that a session takes on one new hall are a run: as many exchanges as steps, in the order of the lines,
 /// each the call that its line says with the reply that is written for it, and the journal is the run's.

@@ -1,14 +1,21 @@
 -- The rows that reports make.
 use Rattle.std.specs.Prelude.{◌≡◌, ◌≢◌, Option, None, ℕ, true, false, List}
-use Rattle.pana_id.specs.Id.{SharesNoPoint, is_zero, parts, IsValid}
+use Rattle.pana_id.specs.Id.{Id, SharesNoPoint, is_zero, parts, IsValid}
 use Rattle.pana_event.specs.Event.{Event}
 use Rattle.pana_stamp.specs.declared.stamp.Stamp.{Stamp}
 use Rattle.pana_family.specs.declared.row.StampRow.{StampRow}
 use Rattle.pana_family.specs.Table.{In}
-use Rattle.pana_family.specs.Rows.{IsUpdate, row, row_in, stamp}
+use Rattle.pana_stamp.specs.Fill.{fill}
+use Rattle.pana_stamp.specs.Grow.{grow}
+use Rattle.pana_family.specs.Rows.{row, row_in, stamp}
 use Rattle.pana_family.specs.Exact.{joined_stamp, restamped}
 pub use Rattle.pana_family.specs.Rows.{AreSound}
 pub use Rattle.pana_family.specs.Ends.{is_bound, ends_from, goes, stays_parcel, parcel_row}
+
+-- the event after an update: what filling gives where that changes it, and else the event grown
+pub record IsUpdate (i : Id) (e new : Event) : Type 0 where
+  pub grown : fill i e ≡ e → new ≡ grow i e
+  pub filled : ¬ (fill i e ≡ e) → new ≡ fill i e
 
 -- no point has two owners
 abbrev pub AreApart : List StampRow → Type 0

@@ -1,5 +1,5 @@
 -- What a hall keeps of its journal.
-use Rattle.std.specs.Prelude.{◌≡◌, ℕ, ◌+◌, ◌<◌, ◌≤◌, List, length, map, slice_get, Option, Some, option_map, option_and_then, None, false}
+use Rattle.std.specs.Prelude.{◌≡◌, ℕ, ◌+◌, ◌<◌, ◌≤◌, List, [], ◌∷◌, length, map, slice_get, Option, Some, option_map, option_and_then, None, false, reverse}
 use Rattle.pana_copies.specs.declared.place.Place.{Place}
 use Rattle.pana_copies.specs.Spots.{Table, kept}
 use Rattle.pana_journal.specs.declared.report.Report.{Report}
@@ -10,9 +10,9 @@ use Rattle.pana_hall.specs.Refusal.{report_refusal, displaced}
 use Rattle.pana_hall.specs.Living.{Copy, copy_in, copies_of, living}
 use Rattle.pana_hall.specs.Accepted.{IsAccepted}
 use Rattle.pana_hall.specs.Queries.{begun}
-use Rattle.pana_hall.specs.Tables.{layer}
-use Rattle.pana_hall.specs.Laws.{family_of_next}
-use Rattle.pana_hall.specs.Sets.{of_pending}
+use Rattle.pana_hall.specs.laws.Tables.{layer}
+use Rattle.pana_hall.specs.laws.Layers.{family_of_next}
+use Rattle.pana_hall.specs.Pending.{pending}
 use Rattle.pana_hall.specs.StampRows.{rows_of}
 use Rattle.pana_hall.specs.inner.Undo.{KeptRows, Undone, kept_rows, undone}
 use Rattle.pana_hall.specs.inner.Families.{position_at}
@@ -29,6 +29,16 @@ place_before entry copies = option_and_then (λ e. option_and_then (λ c. option
 -- pending entry n, before which the family has these entries
 abbrev pub undone_of : List Entry → ℕ → List Entry → Undone
 undone_of journal n entries = undone n (rows_of entries) (place_before (entry_at journal n) (copies_of entries))
+
+-- something of each of these pending entries, the latest first, and of the family's entries before it; the last k pending
+-- entries are left out before the first
+abbrev pub of_each : {X : Type 0} → (ℕ → List Entry → X) → ℕ → List Entry → (k : ℕ) → List ℕ → List X
+of_each make family journal k [] = []
+of_each make family journal k (n ∷ numbers) = make n (layer 8 k family journal) ∷ of_each make family journal (k + 1) numbers
+
+-- something of each pending entry of a family, the latest first, and of the family's entries before it
+abbrev pub of_pending : {X : Type 0} → (ℕ → List Entry → X) → ℕ → List Entry → List X
+of_pending make family journal = of_each make family journal 1 (reverse (pending 8 family journal))
 
 -- a family of a journal: its rows are those that its entries make, now and before each pending entry
 abbrev pub family_of : List Entry → ℕ → KeptRows

@@ -3,7 +3,7 @@ use Rattle.pana_event.specs.Event.{greatest}
 use Rattle.pana_event.proofs.Sound.{greatest-joined}
 use Rattle.std.proofs.lemmas.Result.{IfOk-weaker}
 use Rattle.pana_stamp.specs.declared.stamp.Stamp.{Stamp}
-use Rattle.pana_family.specs.Rows.{IsUpdate}
+use Rattle.pana_family.specs.inner.Making.{IsUpdate}
 use Rattle.pana_family.specs.Exact.{joined_stamp}
 use Rattle.pana_family.specs.inner.Making.{part_pair}
 use Rattle.pana_family.proofs.Prepared.{stamp_is}

@@ -3,7 +3,7 @@ use Rattle.std.proofs.Common.{refl, sym, ap, ◌∙◌}
 use Rattle.std.proofs.lemmas.List.Sums.{length-filter}
 use Rattle.std.specs.Prelude.{◌≡◌, ℕ, List, length}
 use Rattle.pana_hall.specs.Family.{families}
-use Rattle.pana_hall.specs.Tables.{table}
+use Rattle.pana_hall.specs.laws.Tables.{table}
 use Rattle.pana_hall.specs.Living.{Copy, copy_in, known_to, living}
 use Rattle.pana_hall.proofs.Sound.{accepted_is_sound}
 use Rattle.pana_hall.specs.Board.{is_of, board_of}

@@ -1,16 +1,39 @@
-use Rattle.std.proofs.Common.{refl}
+use Rattle.std.specs.Prelude.{◌≡◌, ◌++◌, [], ◌∷◌}
+use Rattle.std.proofs.Common.{refl, sym, ap, ◌∙◌}
+use Rattle.pana_hall.specs.Family.{begun_or_joined, families, subject}
+use Rattle.pana_hall.specs.Effective.{is_of_copies}
+use Rattle.pana_hall.specs.laws.Layers.{family_of_next}
+use Rattle.pana_hall.specs.laws.Sets.{knowns_of, reported, sets_at}
+use Rattle.pana_hall.specs.laws.Tables.{layer}
+use Rattle.pana_hall.proofs.Grown.{family_new}
+use Rattle.pana_hall.proofs.Knowns.{knowns_of-push}
 use Rattle.pana_hall.proofs.Sound.{accepted_is_sound}
-use Rattle.pana_hall.proofs.FamilySets.{sets_report, sets_withdraw, sets_confirm, sets_other, sets_begun}
-use Rattle.pana_hall.proofs.Stood.{above_sets, below_sets}
+use Rattle.pana_hall.proofs.PendingEntries.{layer_new}
+use Rattle.pana_hall.proofs.Stood.{above_sets, below_sets, knowns_none}
+use Rattle.pana_hall.proofs.Tables.{layer_confirm, layer_other, layer_report, layer_undone, layer_withdraw}
 use Rattle.pana_hall.proofs.laws.sets_go_by_report.Goals as goal
 
 pub returns : goal.returns
 returns c = record {
-  report = λ journal entry accepted accepts is. sets_report journal entry (accepted_is_sound 8 journal accepted) accepts is;
-  withdraw = λ journal entry m accepted accepts is. sets_withdraw m journal entry (accepted_is_sound 8 journal accepted) accepts is;
-  confirm = λ journal entry m accepted accepts is. sets_confirm m journal entry (accepted_is_sound 8 journal accepted) accepts is;
-  other = λ journal entry family accepted accepts is. sets_other family journal entry (accepted_is_sound 8 journal accepted) accepts is;
-  begun = λ journal entry place accepted accepts is. sets_begun journal entry (accepted_is_sound 8 journal accepted) accepts entry.number place is refl;
+  report = λ journal entry accepted accepts is.
+      let sound = accepted_is_sound 8 journal accepted in
+      record {
+        now = ap knowns_of (layer_report 8 journal entry sound accepts is) ∙ knowns_of-push (layer 8 0 (family_of_next journal entry) journal) entry;
+        undone = λ k within. ap knowns_of (layer_undone 8 k journal entry sound accepts is within);
+      };
+  withdraw = λ journal entry m k accepted accepts is. ap knowns_of (layer_withdraw 8 m k journal entry (accepted_is_sound 8 journal accepted) accepts is);
+  confirm = λ journal entry m k accepted accepts is within. ap knowns_of (layer_confirm 8 m k journal entry (accepted_is_sound 8 journal accepted) accepts is within);
+  other = λ journal entry family k accepted accepts is. ap knowns_of (layer_other 8 k family journal entry (accepted_is_sound 8 journal accepted) accepts is);
+  begun = λ journal entry place accepted accepts is.
+      let sound = accepted_is_sound 8 journal accepted in
+      let own : family_of_next journal entry ≡ entry.number = family_new journal entry ∙ ap (λ r. begun_or_joined (families journal) entry.number (subject r)) is in
+      ap (λ f. sets_at 0 f (journal ++ entry ∷ [])) (sym own)
+      ∙ ap knowns_of (layer_report 8 journal entry sound accepts (ap is_of_copies is))
+      ∙ knowns_of-push (layer 8 0 (family_of_next journal entry) journal) entry
+      ∙ ap (λ f. reported entry.number entry.report (knowns_of (layer 8 0 f journal))) (own ∙ accepts.next)
+      ∙ ap (λ l. reported entry.number entry.report (knowns_of l)) (layer_new journal sound)
+      ∙ ap (reported entry.number entry.report) knowns_none
+      ∙ ap (λ r. reported entry.number r []) is;
   above = λ journal family accepted. above_sets journal family _ accepted refl;
   below = λ journal family accepted. below_sets journal family _ accepted refl;
 }

@@ -4,7 +4,7 @@ use Rattle.std.proofs.Common.{refl, sym, ap, ◌∙◌, subst}
 use Rattle.pana_copies.specs.Spots.{kept}
 use Rattle.pana_family.specs.declared.board.CopyCounts.{CopyCounts}
 use Rattle.pana_family.specs.Stands.{StandsFor}
-use Rattle.pana_hall.specs.Sets.{sets_of}
+use Rattle.pana_hall.specs.laws.Sets.{sets_at}
 use Rattle.pana_hall.specs.inner.Rows.{placed_row}
 use Rattle.pana_hall.specs.inner.Kept.{family_of}
 use Rattle.pana_hall.specs.inner.Listed.{all_listed, listed}
@@ -23,7 +23,7 @@ board_rows-requires c =
     let journal = c.args.self.now.journal.entries in
     let fs = c.args.self.now.families in
     let it = found_is journal (all_listed fs.list.items) fs.positions.items c.args.self.now.copies c.args.family (listed c.unwrap.result.now) c.requires.kept c.requires.free (sym c.of_entry.ensures ∙ ap (λ o. option_map listed (option_copied o)) c.unwrap.ensures) in
-    let stands : StandsFor (listed c.unwrap.result.now).rows (sets_of c.args.family journal).table = stands_of journal c.args.family (listed c.unwrap.result.now) c.requires.kept.accepted it in
+    let stands : StandsFor (listed c.unwrap.result.now).rows (sets_at 0 c.args.family journal) = stands_of journal c.args.family (listed c.unwrap.result.now) c.requires.kept.accepted it in
     subst (AllByRecursion (λ (row : CopyCounts). IsSome (kept c.args.self.now.copies row.copy))) (sym (c.as_slice.ensures ∙ c.in_ok-board.ensures.rows _ stands)) (rows_kept journal c.args.family c.args.self.now.copies c.requires.kept.accepted c.requires.kept.spots)
 
 pub returns : goal.returns
@@ -31,7 +31,7 @@ returns c =
     let journal = c.args.self.now.journal.entries in
     let fs = c.args.self.now.families in
     let it = found_is journal (all_listed fs.list.items) fs.positions.items c.args.self.now.copies c.args.family (listed c.unwrap.result.now) c.requires.kept c.requires.free (sym c.of_entry.ensures ∙ ap (λ o. option_map listed (option_copied o)) c.unwrap.ensures) in
-    let stands : StandsFor (listed c.unwrap.result.now).rows (sets_of c.args.family journal).table = stands_of journal c.args.family (listed c.unwrap.result.now) c.requires.kept.accepted it in
+    let stands : StandsFor (listed c.unwrap.result.now).rows (sets_at 0 c.args.family journal) = stands_of journal c.args.family (listed c.unwrap.result.now) c.requires.kept.accepted it in
     board_is journal c.args.family c.from_vec.result c.in_ok-board.board.newest c.in_ok-board.board.split c.args.self.now.copies c.requires.kept.accepted c.requires.kept.spots
     (c.from_vec.ensures ∙ c.in_ok-rows.ensures ∙ ap (map (placed_row c.args.self.now.copies)) (c.as_slice.ensures ∙ c.in_ok-board.ensures.rows _ stands))
     (c.in_ok-board.ensures.newest _ stands) (c.in_ok-board.ensures.split _ stands)

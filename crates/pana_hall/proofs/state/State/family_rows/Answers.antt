@@ -8,7 +8,7 @@ use Rattle.pana_hall.specs.declared.listed_family.ListedFamily.{ListedFamily}
 use Rattle.pana_hall.specs.Board.{is_of}
 use Rattle.pana_hall.specs.Living.{living}
 use Rattle.pana_hall.specs.Queries.{family_row}
-use Rattle.pana_hall.specs.Sets.{sets_of}
+use Rattle.pana_hall.specs.laws.Sets.{sets_at}
 use Rattle.pana_family.specs.Rows.{copy_rows}
 use Rattle.pana_hall.specs.inner.Kept.{family_of}
 use Rattle.pana_hall.proofs.Answered.{rows_of, rows_push, lives_is, each_get, each_own, numbers_own, stands_of}
@@ -40,7 +40,7 @@ loop-it-preserved c =
     elim c.if-has_copies.branch [
       | then-has_copies+in_ok-family_row+in_ok-push w ↦
           let some : list_any (is_of n) copies ≡ true = sym lives ∙ w.if-has_copies.true in
-          let row : w.in_ok-family_row.field-0 ≡ family_row copies n = w.in_ok-family_row.ensures (sets_of n journal).table (stands_of journal n (listed it) c.requires.kept.accepted own) ∙ row_is journal n c.requires.kept.accepted in
+          let row : w.in_ok-family_row.field-0 ≡ family_row copies n = w.in_ok-family_row.ensures (sets_at 0 n journal) (stands_of journal n (listed it) c.requires.kept.accepted own) ∙ row_is journal n c.requires.kept.accepted in
           ap (λ r. r.items) w.rows-is ∙ w.in_ok-push.ensures.items
           ∙ ap (λ l. l ++ w.in_ok-family_row.field-0 ∷ []) c.loop-it.invariant
           ∙ ap (λ r. rows_of copies numbers ++ r ∷ []) row

@@ -7,7 +7,7 @@ use Rattle.pana_hall.specs.Queries.{holding}
 use Rattle.pana_hall.specs.Family.{families}
 use Rattle.pana_hall.specs.inner.Kept.{family_of}
 use Rattle.pana_hall.specs.Living.{Copy, living}
-use Rattle.pana_hall.specs.Sets.{sets_of}
+use Rattle.pana_hall.specs.laws.Sets.{sets_at}
 use Rattle.pana_hall.specs.inner.Families.{family_at}
 use Rattle.pana_hall.specs.inner.Listed.{all_listed, listed}
 use Rattle.pana_hall.proofs.Refusals.{found_spot, copy_has_family, has_family}
@@ -41,7 +41,7 @@ returns c =
     let it = has_family journal (all_listed fs.list.items) fs.positions.items c.args.self.now.copies c.args.number c.requires.kept (listed c.unwrap-it.result.now) at in
     let family = families journal c.args.number in
     let touch : c.touch.result ≡ copy.0.touch =
-    c.touch.ensures (sets_of family journal).table (stands_of journal family (listed c.unwrap-it.result.now) c.requires.kept.accepted it) ∙ touch_of_copy journal family c.args.number copy.0 c.requires.kept.accepted copy.1 refl in
+    c.touch.ensures (sets_at 0 family journal) (stands_of journal family (listed c.unwrap-it.result.now) c.requires.kept.accepted it) ∙ touch_of_copy journal family c.args.number copy.0 c.requires.kept.accepted copy.1 refl in
     let number : copy.0.number ≡ c.args.number = found_number (living journal) c.args.number copy.0 copy.1 in
     let there : copy.0.place ≡ c.in-Some.found.place.now = ap (λ (s : Spot). s.place) copy.2 in
     let own : copy.0.family ≡ c.in-Some.found.family = ap (λ (s : Spot). s.family) copy.2 in

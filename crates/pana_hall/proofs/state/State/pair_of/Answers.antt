@@ -4,7 +4,7 @@ use Rattle.pana_family.specs.Relation.{relation}
 use Rattle.pana_family.specs.Table.{set_in}
 use Rattle.pana_hall.specs.Family.{families}
 use Rattle.pana_hall.specs.Living.{living, known_to}
-use Rattle.pana_hall.specs.Sets.{sets_of}
+use Rattle.pana_hall.specs.laws.Sets.{sets_at}
 use Rattle.pana_hall.specs.inner.Families.{family_at}
 use Rattle.pana_hall.specs.inner.Kept.{family_of}
 use Rattle.pana_hall.specs.inner.Listed.{all_listed, listed}
@@ -46,6 +46,6 @@ returns c =
     let at : family_at (all_listed fs.list.items) fs.positions.items c.args.a ≡ Some (listed c.unwrap.result.now) = sym c.of_entry.ensures ∙ ap (λ o. option_map listed (option_copied o)) c.unwrap.ensures in
     let it = has_family journal (all_listed fs.list.items) fs.positions.items c.args.self.now.copies c.args.a c.requires.kept (listed c.unwrap.result.now) at in
     let family = families journal c.args.a in
-    c.rel.ensures (sets_of family journal).table (stands_of journal family (listed c.unwrap.result.now) c.requires.kept.accepted it)
-    ∙ ap (λ s. relation s (set_in (sets_of family journal).table c.args.b)) (set_of_copy journal family c.args.a pair.first c.requires.kept.accepted pair.found_first refl)
+    c.rel.ensures (sets_at 0 family journal) (stands_of journal family (listed c.unwrap.result.now) c.requires.kept.accepted it)
+    ∙ ap (λ s. relation s (set_in (sets_at 0 family journal) c.args.b)) (set_of_copy journal family c.args.a pair.first c.requires.kept.accepted pair.found_first refl)
     ∙ ap (relation (known_to (living journal) c.args.a)) (set_of_copy journal family c.args.b pair.second c.requires.kept.accepted pair.found_second pair.of)

@@ -7,7 +7,8 @@ use Rattle.pana_hall.specs.Effective.{effective}
 use Rattle.pana_hall.specs.Living.{Copy, copy_in, living, after_entry}
 use Rattle.pana_hall.specs.Pending.{pending}
 use Rattle.pana_hall.specs.Board.{is_of}
-use Rattle.pana_hall.specs.Tables.{table}
+use Rattle.pana_hall.specs.laws.Sets.{reported_by, sets_at}
+use Rattle.pana_hall.specs.laws.Tables.{table}
 
 -- the family of the next entry
 abbrev pub family_of_next : List Entry → Entry → ℕ
@@ -17,6 +18,11 @@ family_of_next journal entry = families (journal ++ entry ∷ []) entry.number
 pub record AddsLayer (most family : ℕ) (journal : List Entry) (entry : Entry) : Type 0 where
   pub now : table most 0 family (journal ++ entry ∷ []) ≡ after_entry (table most 0 family journal) entry
   pub undone : (k : ℕ) → k < most → table most (k + 1) family (journal ++ entry ∷ []) ≡ table most k family journal
+
+-- so with its sets
+pub record AddsSets (family : ℕ) (journal : List Entry) (entry : Entry) : Type 0 where
+  pub now : sets_at 0 family (journal ++ entry ∷ []) ≡ reported_by (sets_at 0 family journal) entry
+  pub undone : (k : ℕ) → k < 8 → sets_at (k + 1) family (journal ++ entry ∷ []) ≡ sets_at k family journal
 
 -- the entry takes the family back by one entry
 abbrev pub DropsLayer : ℕ → ℕ → List Entry → Entry → Type 0

@@ -1,12 +1,8 @@
 -- What a relation says of two sets.
-use Rattle.std.specs.Prelude.{◌≡◌, ◌↔◌, ℕ, List, IsTrue}
+use Rattle.std.specs.Prelude.{◌≡◌, ◌↔◌, ℕ, List}
 use Rattle.pana_event.specs.declared.rel.Rel.TheVariants.{Equal, Older, Newer, Conflict}
-use Rattle.pana_family.specs.Updates.{has}
+use Rattle.pana_family.specs.Updates.{IsSubset}
 use Rattle.pana_family.specs.Relation.{relation}
-
--- each member of the first set is one of the second
-abbrev pub IsSubset : List ℕ → List ℕ → Type 0
-IsSubset a b = (update : ℕ) → IsTrue (has a update) → IsTrue (has b update)
 
 -- the relation says how the sets lie by their members, and nothing else of them
 pub record RelatesSets (a b : List ℕ) : Type 0 where

@@ -1,31 +1,26 @@
--- What a family stands for, as entries come.
+-- What is made of a family's pending entries, as entries come.
 use Rattle.std.specs.Prelude.{◌≡◌, ◌≢◌, ℕ, zero, suc, ◌+◌, ◌-◌, ◌<◌, ◌≤◌, true, false, cond, ◌||◌, ◌==◌, List, [], ◌∷◌, ◌++◌, length, take, drop, reverse, fold, None}
 use Rattle.std.specs.List.{AllByRecursion}
 use Rattle.std.proofs.Common.{refl, sym, ap, ◌∙◌, subst, inl, inr, arith, append_assoc}
 use Rattle.std.proofs.lemmas.Bool.{eqb-true, eq-eqb, ne_eqb, not-false, cases_lt}
 use Rattle.std.proofs.lemmas.List.{length-drop, length-take, length-reverse, reverse-append, take-append-drop, take_at, take_all}
-use Rattle.pana_copies.specs.declared.place.Place.{Place}
-use Rattle.pana_journal.specs.declared.report.Report.TheVariants.{Register, Confirm, Withdraw}
+use Rattle.pana_journal.specs.declared.report.Report.TheVariants.{Confirm, Withdraw}
 use Rattle.pana_journal.specs.declared.entry.Entry.{Entry}
 use Rattle.pana_family.specs.Updates.{has}
-use Rattle.pana_family.specs.Table.{Known}
-use Rattle.pana_family.specs.Sets.{Before, Sets, began, after, later_than, confirmed, withdrawn}
-use Rattle.pana_hall.specs.Family.{families, begun_or_joined, subject}
+use Rattle.pana_hall.specs.Family.{families}
 use Rattle.pana_hall.specs.Effective.{effective, is_of_copies, left_out}
 use Rattle.pana_hall.specs.Living.{living}
 use Rattle.pana_hall.specs.Pending.{pending, pend, last, behind}
 use Rattle.pana_hall.specs.Refusal.{report_refusal, full, unknown_entry, not_yours, settled}
 use Rattle.pana_hall.specs.Accepted.{Accepts}
-use Rattle.pana_hall.specs.Tables.{layer}
-use Rattle.pana_hall.specs.Laws.{family_of_next, AreRising}
-use Rattle.pana_hall.specs.Sets.{reported, knowns_of, of_each, of_pending, before_entry, sets_of}
+use Rattle.pana_hall.specs.laws.Tables.{layer}
+use Rattle.pana_hall.specs.laws.Layers.{family_of_next, AreRising}
+use Rattle.pana_hall.specs.inner.Kept.{of_each, of_pending}
 use Rattle.pana_hall.proofs.Lists.{each_append, each_weaker}
-use Rattle.pana_hall.proofs.Grown.{family_new}
 use Rattle.pana_hall.proofs.Allowed.{first_none, none_false}
 use Rattle.pana_hall.proofs.Sound.{IsSound, family_named}
-use Rattle.pana_hall.proofs.Tables.{pending_report, pending_other, pending_rises, layer_report, layer_undone, layer_confirm, layer_withdraw, layer_other, pends, pending_withdraw}
+use Rattle.pana_hall.proofs.Tables.{pending_report, pending_other, pending_rises, layer_undone, layer_confirm, layer_withdraw, layer_other, pends, pending_withdraw}
 use Rattle.pana_hall.proofs.More.{none_of}
-use Rattle.pana_hall.proofs.Knowns.{knowns_of-push}
 use Rattle.pana_hall.proofs.Undone.{effective_well}
 
 -- the last ones of a list, the other way round
@@ -75,9 +70,6 @@ length-take-within m numbers = let e = length-take m numbers in omega arith
 reverse-push : (numbers : List ℕ) (n : ℕ) → reverse (numbers ++ n ∷ []) ≡ n ∷ reverse numbers
 reverse-push numbers n = reverse-append numbers (n ∷ [])
 
-abbrev sets : List Known → List Before → Sets
-sets t b = record { table = t; before = b }
-
 -- what is made of a family's pending entries, after a report of copies
 pub pending_made : {X : Type 0} (make : ℕ → List Entry → X) (journal : List Entry) (entry : Entry) → IsSound 8 journal → Accepts 8 journal entry → is_of_copies entry.report ≡ true
     → of_pending make (family_of_next journal entry) (journal ++ entry ∷ [])
@@ -119,31 +111,6 @@ pending_left make family journal entry sound accepts other =
     ap (λ l. of_each make family (journal ++ entry ∷ []) 1 (reverse l)) (pending_other 8 family journal entry sound accepts other)
     ∙ each_same make family journal (journal ++ entry ∷ []) 1 1 (reverse (pending 8 family journal)) (λ j within. layer_other 8 (1 + j) family journal entry sound accepts other)
 
--- a report of copies
-pub sets_report : (journal : List Entry) (entry : Entry) → IsSound 8 journal → Accepts 8 journal entry → is_of_copies entry.report ≡ true
-    → sets_of (family_of_next journal entry) (journal ++ entry ∷ []) ≡ after entry.number (reported entry.number entry.report) (sets_of (family_of_next journal entry) journal)
-sets_report journal entry sound accepts is =
-    let family = family_of_next journal entry in
-    let now : knowns_of (layer 8 0 family (journal ++ entry ∷ [])) ≡ reported entry.number entry.report (knowns_of (layer 8 0 family journal)) =
-    ap knowns_of (layer_report 8 journal entry sound accepts is) ∙ knowns_of-push (layer 8 0 family journal) entry in
-    ap (λ t. sets t (of_pending before_entry family (journal ++ entry ∷ []))) now
-    ∙ ap (sets (reported entry.number entry.report (knowns_of (layer 8 0 family journal)))) (pending_made before_entry journal entry sound accepts is)
-
--- a Withdraw
-pub sets_withdraw : (m : ℕ) (journal : List Entry) (entry : Entry) → IsSound 8 journal → Accepts 8 journal entry → entry.report ≡ Withdraw m
-    → sets_of (family_of_next journal entry) (journal ++ entry ∷ []) ≡ withdrawn (sets_of (family_of_next journal entry) journal)
-sets_withdraw m journal entry sound accepts is =
-    let family = family_of_next journal entry in
-    ap (λ l. sets (knowns_of l) (of_pending before_entry family (journal ++ entry ∷ []))) (layer_withdraw 8 m 0 journal entry sound accepts is)
-    ∙ ap (λ b. withdrawn (sets (knowns_of (layer 8 0 family journal)) b)) (sym (pending_undone before_entry m journal entry sound accepts is))
-
--- another family
-pub sets_other : (family : ℕ) (journal : List Entry) (entry : Entry) → IsSound 8 journal → Accepts 8 journal entry → family_of_next journal entry ≢ family
-    → sets_of family (journal ++ entry ∷ []) ≡ sets_of family journal
-sets_other family journal entry sound accepts other =
-    ap (λ l. sets (knowns_of l) (of_pending before_entry family (journal ++ entry ∷ []))) (layer_other 8 0 family journal entry sound accepts other)
-    ∙ ap (sets (knowns_of (layer 8 0 family journal))) (pending_left before_entry family journal entry sound accepts other)
-
 -- a pending number parts the list into those before it and those behind it
 parted : (m : ℕ) (numbers : List ℕ) → has numbers m ≡ true → (prefix : List ℕ) × (numbers ≡ prefix ++ m ∷ behind m numbers)
 parted m [] is = absurd (cc)
@@ -174,10 +141,6 @@ each_reverse P (n ∷ numbers) each = subst (AllByRecursion P) (sym (reverse-app
 abbrev pub later : {X : Type 0} → (X → ℕ) → ℕ → List X → List X
 later key m [] = []
 later key m (x ∷ xs) = cond (key x == m) [] (x ∷ later key m xs)
-
-later_than_is : (m : ℕ) (before : List Before) → later_than m before ≡ later (λ b. b.entry) m before
-later_than_is m [] = refl
-later_than_is m (b ∷ before) = ap (λ l. cond (b.entry == m) [] (b ∷ l)) (later_than_is m before)
 
 later_behind : {X : Type 0} (make : ℕ → List Entry → X) (key : X → ℕ) → ((n : ℕ) (l : List Entry) → key (make n l) ≡ n) → (family : ℕ) (journal : List Entry) (k m : ℕ) (numbers more : List ℕ)
     → AllByRecursion (λ n. m < n) numbers → later key m (of_each make family journal k (numbers ++ m ∷ more)) ≡ of_each make family journal k numbers
@@ -213,18 +176,6 @@ pending_confirmed make key keyed m journal entry sound accepts is =
     ∙ sym (later_behind make key keyed family journal 1 m (reverse rest) (reverse cut.0) (each_reverse (λ n. m < n) rest (all_above m rest parts.1)))
     ∙ ap (λ l. later key m (of_each make family journal 1 l)) (sym turned)
 
--- a Confirm
-pub sets_confirm : (m : ℕ) (journal : List Entry) (entry : Entry) → IsSound 8 journal → Accepts 8 journal entry → entry.report ≡ Confirm m
-    → sets_of (family_of_next journal entry) (journal ++ entry ∷ []) ≡ confirmed m (sets_of (family_of_next journal entry) journal)
-sets_confirm m journal entry sound accepts is =
-    let family = family_of_next journal entry in
-    ap (λ l. sets (knowns_of l) (of_pending before_entry family (journal ++ entry ∷ []))) (layer_confirm 8 m 0 journal entry sound accepts is (omega arith))
-    ∙ ap (sets (knowns_of (layer 8 0 family journal))) (pending_confirmed before_entry (λ b. b.entry) (λ n l. refl) m journal entry sound accepts is ∙ sym (later_than_is m (of_pending before_entry family journal)))
-
-knowns_of_none : knowns_of [] ≡ []
-unfolding knowns_of
-knowns_of_none = refl
-
 -- nothing is pending in the family that the next entry may begin
 pub pending_begun : {X : Type 0} (make : ℕ → List Entry → X) (journal : List Entry) → IsSound 8 journal → of_pending make (length journal + 1) journal ≡ []
 pending_begun make journal sound =
@@ -236,22 +187,3 @@ pub layer_new : (journal : List Entry) → IsSound 8 journal → layer 8 0 (leng
 layer_new journal sound =
     let family = length journal + 1 in
     ap (left_out (last 0 (pending 8 family journal))) (none_of family (length journal) (families journal) (effective journal) (effective_well 8 journal sound) (omega arith))
-
--- and stands for nothing
-pub sets_new : (journal : List Entry) → IsSound 8 journal → sets_of (length journal + 1) journal ≡ sets [] []
-sets_new journal sound =
-    let family = length journal + 1 in
-    ap (λ l. sets (knowns_of l) (of_pending before_entry family journal)) (layer_new journal sound)
-    ∙ ap (λ t. sets t (of_pending before_entry family journal)) knowns_of_none
-    ∙ ap (sets []) (pending_begun before_entry journal sound)
-
--- a Register begins a family
-pub sets_begun : (journal : List Entry) (entry : Entry) → IsSound 8 journal → Accepts 8 journal entry → (family : ℕ) → (place : Place) → entry.report ≡ Register place → family ≡ entry.number
-    → sets_of family (journal ++ entry ∷ []) ≡ began entry.number
-sets_begun journal entry sound accepts family place is here =
-    let own_is : family_of_next journal entry ≡ entry.number = family_new journal entry ∙ ap (λ r. begun_or_joined (families journal) entry.number (subject r)) is in
-    ap (λ f. sets_of f (journal ++ entry ∷ [])) (here ∙ sym own_is)
-    ∙ sets_report journal entry sound accepts (ap is_of_copies is)
-    ∙ ap (λ f. after entry.number (reported entry.number entry.report) (sets_of f journal)) (own_is ∙ accepts.next)
-    ∙ ap (after entry.number (reported entry.number entry.report)) (sets_new journal sound)
-    ∙ ap (λ r. after entry.number (reported entry.number r) (sets [] [])) is

@@ -1,0 +1,2 @@
+-- Words of laws: what no contract of a call that does something needs.
+pub mod Relations
