@@ -7,7 +7,7 @@ use Rattle.pana_family.specs.declared.report.FamilyReport.{FamilyReport}
 use Rattle.pana_family.specs.declared.report.FamilyReport.TheVariants.{Duplicate, Edit, Reconcile, Merge, Remove, Touch}
 use Rattle.pana_family.specs.declared.fault.FamilyFault.TheVariants.{SameCopy, FamilyFull, TooDeep}
 use Rattle.pana_family.specs.Report.{CanReport}
-use Rattle.pana_family.specs.Rows.{copy_rows, id_in}
+use Rattle.pana_family.specs.Rows.{copy_rows, row_in}
 use Rattle.pana_family.specs.declared.row.StampRow.{StampRow}
 use Rattle.pana_family.specs.View.{NamesLiving, fault_of}
 
@@ -23,7 +23,7 @@ no_fault false false e = (refl, refl)
 
 pub able : (report : FamilyReport) (rows : List StampRow) → NamesLiving report rows → fault_of report rows ≡ None → CanReport report rows
 able (Duplicate c) rows names none =
-    let p = no_fault (nat_le 256 (length (copy_rows rows))) (is_single (id_in rows c) 256) none in
+    let p = no_fault (nat_le 256 (length (copy_rows rows))) (is_single (row_in rows c).stamp.id 256) none in
     (names, leb-false 256 (length (copy_rows rows)) p.0, p.1)
 able (Edit c) rows names none = names
 able (Reconcile a b) rows names none = (names.0, names.1, differ a b none)

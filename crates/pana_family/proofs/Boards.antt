@@ -18,10 +18,9 @@ use Rattle.pana_family.specs.Stands.{AreSame, StandsFor}
 use Rattle.pana_family.specs.Paired.{ArePaired}
 use Rattle.pana_family.specs.Board.{board_rows, board_newest, board_split, known_relation, number_of, row_of}
 use Rattle.pana_family.specs.Holders.{is_copy}
+use Rattle.pana_family.proofs.Members.{One, one_known, set_of, in_filter}
 use Rattle.pana_family.proofs.Changes.{relation_is}
-use Rattle.pana_family.proofs.Images.{in_filter}
 use Rattle.pana_family.proofs.BySets.{copy_numbers}
-use Rattle.pana_family.proofs.Held.{One, one_known, set_of}
 use Rattle.pana_family.proofs.Copies.{ByPlaces, copies_are, living_at}
 use Rattle.pana_family.proofs.Relations.{relates as relates_sets}
 

@@ -9,9 +9,8 @@ use Rattle.pana_family.specs.Stands.{AreSame, StandsFor}
 use Rattle.pana_family.specs.Rows.{AreBefore, lives, copy_rows}
 use Rattle.pana_family.specs.Rows.{held_rows}
 use Rattle.pana_family.specs.Kept.{IsKept}
-use Rattle.pana_family.proofs.Members.{of_row, of_known}
+use Rattle.pana_family.proofs.Members.{of_row, of_known, one_known, set_of}
 use Rattle.pana_family.proofs.Changes.{below_is_subset}
-use Rattle.pana_family.proofs.Held.{one_known, set_of}
 
 -- a copy lives in rows as in the table
 pub same_living : (rows : List StampRow) (table : List Known) (copy : ℕ) → AreSame rows table → lives rows copy ≡ is_in table copy

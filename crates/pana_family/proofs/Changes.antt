@@ -1,8 +1,8 @@
--- What each report leaves of rows that stand for a table.
-use Rattle.std.specs.Prelude.{not, ◌≡◌, ◌↔◌, ℕ, ◌+◌, Bool, true, false, ◌||◌, ◌==◌, cond, List, [], ◌∷◌, ◌++◌, None}
+-- What rows that stand for a table say of it, the first rows, and reports that change one row or take rows out.
+use Rattle.std.specs.Prelude.{◌≡◌, ◌≢◌, ◌↔◌, ℕ, ◌+◌, ◌<◌, Bool, true, false, ◌||◌, ◌==◌, cond, List, [], ◌∷◌, Option, Some, None}
 use Rattle.std.proofs.Common.{refl, sym, ap, subst, ◌∙◌, inl, inr, arith}
-use Rattle.std.proofs.lemmas.Bool.{or_parts, both_ways, false_from_ne_true, eq-eqb, ne_eqb}
-use Rattle.pana_id.specs.Id.{is_zero, IsParted}
+use Rattle.std.proofs.lemmas.Bool.{cases_Bool, eq-eqb, eqb-true, eqb-false, ne_eqb}
+use Rattle.pana_id.specs.Id.{is_zero, IsParted, parts}
 use Rattle.pana_event.specs.Event.{leaf, level}
 use Rattle.pana_event.specs.Order.{IsBelow}
 use Rattle.pana_event.specs.Relation.{IsRelation}
@@ -11,81 +11,21 @@ use Rattle.pana_event.specs.declared.rel.Rel.TheVariants.{Equal, Older, Newer, C
 use Rattle.pana_stamp.specs.Raised.{IsRaised}
 use Rattle.pana_stamp.specs.declared.stamp.Stamp.{Stamp}
 use Rattle.pana_family.specs.declared.row.StampRow.{StampRow}
-use Rattle.pana_family.proofs.Unions.{missing}
-use Rattle.pana_family.specs.Updates.{has, union, IsSubset}
+use Rattle.pana_family.specs.declared.report.FamilyReport.TheVariants.{Duplicate, Edit, Remove, Touch}
+use Rattle.pana_family.specs.Updates.{has, IsSubset}
 use Rattle.pana_family.specs.Relation.{relation}
 use Rattle.pana_family.specs.laws.Relations.{RelatesSets}
-use Rattle.pana_family.specs.Table.{Known, known, knowing, In, set_in, duplicated, edited, registered, touched, touch_in, AreBelow}
+use Rattle.pana_family.specs.Holders.{is_held}
+use Rattle.pana_family.specs.Table.{Known, known, knowing, In, set_in, registered, touch_in, AreBelow}
 use Rattle.pana_family.specs.Stands.{top, AreSame, StandsFor}
-use Rattle.pana_family.specs.Rows.{IsRising, AreBefore, seed_row}
-use Rattle.pana_family.specs.Rows.{replaced}
-use Rattle.pana_family.proofs.Sound.{Put, all_put, fewer, Updated, edit_keeps, share_keeps, below_subset, subset_below}
-use Rattle.pana_family.proofs.Members.{found_in, of_row, of_known, same_changed, same_restamped, same_pushed, Holds, held, all_held, to_sound, of_sound, Changed, holds_changed, SetsOf, holds_restamped, holds_pushed, put_more, in_replaced, one_row, above_low}
+use Rattle.pana_family.specs.Rows.{IsRising, row, seed_row}
+use Rattle.pana_family.specs.After.{first_part, lost, made, restamped, second_part, updated_stamp}
+use Rattle.pana_family.specs.inner.Making.{IsRowOf}
+use Rattle.pana_family.proofs.Sound.{Sound, Put, Updated, edit_keeps, share_keeps, below_subset, subset_below}
+use Rattle.pana_family.proofs.Members.{holds_found, Holds, held, one_row, to_sound, unknown_yet, above_low}
 use Rattle.pana_family.proofs.Relations.{relates}
-
--- a row's copy holds the set that is found for it
-pub holds_found : (rows : List StampRow) (table : List Known) → AreSame rows table → (r : StampRow) → In r rows → Holds rows table r.copy r.stamp (set_in table r.copy)
-holds_found rows table same r i =
-    let t = of_row rows table same r i in
-    let k = found_in table t.0 t.1 in
-    subst (λ (xs : List ℕ). Holds rows table r.copy r.stamp xs) (k.3 ∙ ap (λ (c : ℕ). set_in table c) (sym t.2)) (held rows table r k.0 i k.1 (t.2 ∙ sym k.2))
-
-pub holds_any : (rows : List StampRow) (table : List Known) (r : StampRow) → In r rows → (ys : List ℕ) → SetsOf table r.copy ys → Holds rows table r.copy r.stamp ys
-holds_any rows table r i ys g = subst (λ (xs : List ℕ). Holds rows table r.copy r.stamp xs) (sym g.3) (held rows table r g.0 i g.1 (sym g.2))
-
--- a row takes another's place, under the same holder
-pub holder_at : (rows : List StampRow) (r x : StampRow) → IsRising 0 rows → In r rows → x.holder ≡ r.holder → (q : StampRow) → In q rows → q.copy ≡ r.copy → x.holder ≡ q.holder
-holder_at rows r x up i also q j e = also ∙ ap (λ (w : StampRow). w.holder) (one_row 0 rows r q up i j (sym e))
-
-pub unknown_yet : (rows : List StampRow) (table : List Known) (n : ℕ) → AreBelow n table → (d : ℕ) (s : Stamp) (xs : List ℕ) → Holds rows table d s xs → has xs n ≡ false
-unknown_yet rows table n below =
-    all_held rows table (λ d s xs. has xs n ≡ false) (λ r t i j e. false_from_ne_true (has t.set n) (λ m. absurd (omega (arith, below t n j m))))
-
-pub edit_stands : (rows : List StampRow) (table : List Known) (r x : StampRow) (n : ℕ) → StandsFor rows table → IsRising 0 rows → In r rows → x.copy ≡ r.copy → x.holder ≡ r.holder → x.touch ≡ n
-    → x.stamp.id ≡ r.stamp.id → IsRaised r.stamp.id r.stamp.event x.stamp.event → AreBelow n table → StandsFor (replaced r.copy x rows) (edited n r.copy table)
-edit_stands rows table r x n st up i named also touched owner raised below =
-    let P : ℕ → Stamp → List ℕ → Type 0 = Holds rows table in
-    let f : Known → Known = λ t. knowing (n ∷ t.set) n t in
-    of_sound (replaced r.copy x rows) (edited n r.copy table) (same_changed r.copy x f rows table st.same named (λ t. refl) (λ t. sym touched) (λ t. refl) (holder_at rows r x up i also))
-    (fewer (Put P r.copy x.stamp (Updated (P r.copy r.stamp) n)) (Holds (replaced r.copy x rows) (edited n r.copy table))
-    (λ d s ys h. put_more P P r.copy x.stamp (Changed table r.copy f) (Updated (P r.copy r.stamp) n) (λ d s ys h ne. h)
-    (λ ys g. (g.0.set, held rows table r g.0 i g.1 (sym g.2), g.3)) d s ys
-    (holds_changed r.copy x f rows table named (λ t. refl) d s ys h))
-    (edit_keeps P r.copy n r.stamp x.stamp (set_in table r.copy) (to_sound rows table st) (holds_found rows table st.same r i) owner raised (unknown_yet rows table n below)))
-
-pub duplicate_stands : (rows : List StampRow) (table : List Known) (r x y : StampRow) (n : ℕ) → StandsFor rows table → IsRising 0 rows → AreBefore n rows → In r rows
-    → x.copy ≡ r.copy → x.holder ≡ r.holder → x.touch ≡ r.touch → x.stamp.event ≡ r.stamp.event → y.copy ≡ n → y.holder ≡ None → y.touch ≡ n → y.stamp.event ≡ r.stamp.event
-    → IsParted r.stamp.id x.stamp.id y.stamp.id → StandsFor (replaced r.copy x rows ++ y ∷ []) (duplicated n r.copy table)
-duplicate_stands rows table r x y n st up before i named also touched same_left newly free now same_right parted =
-    let P : ℕ → Stamp → List ℕ → Type 0 = Holds rows table in
-    let k : Known = known n (set_in table r.copy) n in
-    let kept : AreSame (replaced r.copy x rows) table = same_restamped r.copy x rows table st.same named
-    (λ q j e. (touched ∙ ap (λ (w : StampRow). w.touch) (one_row 0 rows r q up i j (sym e)), holder_at rows r x up i also q j e)) in
-    of_sound (replaced r.copy x rows ++ y ∷ []) (table ++ k ∷ []) (same_pushed y k (replaced r.copy x rows) table kept newly now free)
-    (fewer (Put (Put P r.copy x.stamp (P r.copy r.stamp)) n y.stamp (P r.copy r.stamp)) (Holds (replaced r.copy x rows ++ y ∷ []) (table ++ k ∷ []))
-    (λ d s ys h. put_more (Holds (replaced r.copy x rows) table) (Put P r.copy x.stamp (P r.copy r.stamp)) n y.stamp (λ zs. zs ≡ k.set) (P r.copy r.stamp)
-    (λ d s ys h ne. put_more P P r.copy x.stamp (SetsOf table r.copy) (P r.copy r.stamp) (λ d s ys h ne. h) (holds_any rows table r i) d s ys (holds_restamped r.copy x rows table named d s ys h))
-    (λ ys g. subst (λ (zs : List ℕ). P r.copy r.stamp zs) (sym g) (holds_found rows table st.same r i)) d s ys
-    (holds_pushed n y k (replaced r.copy x rows) table newly refl
-    (λ q j e. elim (in_replaced r.copy x rows q j) [
-      | inl is ↦ absurd (omega (arith, (before r i).0, ap (λ (w : StampRow). w.copy) is, named, e))
-      | inr o ↦ absurd (omega (arith, (before q o.0).0, e))
-    ])
-    (λ t j e. let m = of_known rows table st.same t j in absurd (omega (arith, (before m.0 m.1).0, m.2, e)))
-    d s ys h))
-    (share_keeps P r.copy n r.stamp x.stamp y.stamp (set_in table r.copy) (to_sound rows table st) (holds_found rows table st.same r i) parted same_left same_right))
-
--- an update that the second set lacks goes to the head of both together
-pub union_fresh : (n : ℕ) (xs ys : List ℕ) → has ys n ≡ false → union (n ∷ xs) ys ≡ n ∷ union xs ys
-union_fresh n xs ys fresh = ap (λ l. n ∷ (xs ++ l)) (missing_fresh ys fresh)
-  where
-    missing_fresh : (ys : List ℕ) → has ys n ≡ false → missing (n ∷ xs) ys ≡ missing xs ys
-    missing_fresh [] fresh = refl
-    missing_fresh (y ∷ ys) fresh =
-        let differ : (n == y) ≡ false = ne_eqb n y (λ e. both_ways (y == n) (or_parts (y == n) (has ys n) fresh).0 (eq-eqb y n (sym e))) in
-        let rest : missing (n ∷ xs) ys ≡ missing xs ys = missing_fresh ys (or_parts (y == n) (has ys n) fresh).1 in
-        ap (λ (b : Bool). cond (not (b || has xs y)) (y ∷ missing (n ∷ xs) ys) (missing (n ∷ xs) ys)) differ
-        ∙ ap (λ (l : List ℕ). cond (not (has xs y)) (y ∷ l) l) rest
+use Rattle.pana_family.proofs.Tables.{made_known}
+use Rattle.pana_family.proofs.Images.{Alike, Outcome, some, one_outcome, stay_outcome}
 
 -- Comparing.
 
@@ -153,20 +93,6 @@ seed_stands n = record {
   };
 }
 
--- Another touch.
-
-pub touch_stands : (rows : List StampRow) (table : List Known) (r x : StampRow) (n : ℕ) → StandsFor rows table → IsRising 0 rows → In r rows → x.copy ≡ r.copy → x.holder ≡ r.holder → x.touch ≡ n → x.stamp ≡ r.stamp
-    → StandsFor (replaced r.copy x rows) (touched n r.copy table)
-touch_stands rows table r x n st up i named also touched_at same =
-    let P : ℕ → Stamp → List ℕ → Type 0 = Holds rows table in
-    let f : Known → Known = λ t. knowing t.set n t in
-    of_sound (replaced r.copy x rows) (touched n r.copy table) (same_changed r.copy x f rows table st.same named (λ t. refl) (λ t. sym touched_at) (λ t. refl) (holder_at rows r x up i also))
-    (fewer P (Holds (replaced r.copy x rows) (touched n r.copy table))
-    (λ d s ys h. all_put P r.copy x.stamp (Changed table r.copy f) P
-    (λ ys g. subst (λ (q : Stamp). P r.copy q ys) (sym same) (holds_any rows table r i ys g)) (λ d s ys k ne. k) d s ys
-    (holds_changed r.copy x f rows table named (λ t. refl) d s ys h))
-    (to_sound rows table st))
-
 pub touch_found : (low : ℕ) (rows : List StampRow) (table : List Known) (r : StampRow) → IsRising low rows → AreSame rows table → In r rows → touch_in table r.copy ≡ r.touch
 touch_found low [] table r up same i = absurd i
 touch_found low (q ∷ rows) [] r up same i = absurd same
@@ -175,3 +101,66 @@ touch_found low (q ∷ rows) (t ∷ table) r up same i = elim i [
   | inr j ↦ ap (λ (b : Bool). cond b t.touch (touch_in table r.copy)) (ne_eqb t.copy r.copy (λ e. omega (arith, above_low (q.copy + 1) rows r up.1 j, same.0, e)))
       ∙ touch_found (q.copy + 1) rows table r up.1 same.3 j
 ]
+
+-- Reports that change one row.
+
+-- the sets of a copy's row are those of its number
+holds_here : (rows : List StampRow) (table : List Known) (c : ℕ) (r z : StampRow) (t : Known) → IsRising 0 rows → IsRowOf rows c r → In z rows → In t table → Alike z t → z.copy ≡ c → Holds rows table c r.stamp t.set
+holds_here rows table c r z t up at i j like same =
+    subst (λ (s : Stamp). Holds rows table c s t.set) (ap (λ (w : StampRow). w.stamp) (one_row 0 rows z r up i at.there (same ∙ sym at.named)))
+    (subst (λ (d : ℕ). Holds rows table d z.stamp t.set) same (held rows table z t i j like.copy))
+
+holds_at : (rows : List StampRow) (table : List Known) (c : ℕ) (r : StampRow) → StandsFor rows table → IsRowOf rows c r → Holds rows table c r.stamp (set_in table c)
+holds_at rows table c r st at = subst (λ (d : ℕ). Holds rows table d r.stamp (set_in table d)) at.named (holds_found rows table st.same r at.there)
+
+abbrev pub Edited : List StampRow → List Known → ℕ → ℕ → StampRow → ℕ → Stamp → List ℕ → Type 0
+Edited rows table n c r = Put (Holds rows table) c (updated_stamp r.stamp) (Updated (Holds rows table c r.stamp) n)
+
+pub edited_sound : (rows : List StampRow) (table : List Known) (n c : ℕ) (r : StampRow) → IsRowOf rows c r → IsRaised r.stamp.id r.stamp.event (updated_stamp r.stamp).event → AreBelow n table → StandsFor rows table
+    → Sound (Edited rows table n c r)
+edited_sound rows table n c r at raised below st =
+    edit_keeps (Holds rows table) c n r.stamp (updated_stamp r.stamp) (set_in table c) (to_sound rows table st) (holds_at rows table c r st at) refl raised (unknown_yet rows table n below)
+
+pub edited_outcome : (rows : List StampRow) (table : List Known) (n c : ℕ) (r z : StampRow) (t : Known) → IsRising 0 rows → IsRowOf rows c r → In z rows → In t table → Alike z t
+    → Outcome (Edited rows table n c r) (made n (Edit c) rows z) (made_known n (Edit c) table t)
+edited_outcome rows table n c r z t up at i j like =
+    one_outcome (Edited rows table n c r) c (restamped (updated_stamp z.stamp) n z) z (knowing (n ∷ t.set) n t) t like
+    (λ same. (
+      record { copy = like.copy; touch = refl; holder = like.holder },
+      inl (same, ap (λ (w : StampRow). updated_stamp w.stamp) (one_row 0 rows z r up i at.there (same ∙ sym at.named)), (t.set, holds_here rows table c r z t up at i j like same, refl)),
+    ))
+    (λ ne. inr (held rows table z t i j like.copy, ne))
+
+pub touched_outcome : (rows : List StampRow) (table : List Known) (n c : ℕ) (z : StampRow) (t : Known) → In z rows → In t table → Alike z t → Outcome (Holds rows table) (made n (Touch c) rows z) (made_known n (Touch c) table t)
+touched_outcome rows table n c z t i j like =
+    one_outcome (Holds rows table) c (restamped z.stamp n z) z (knowing t.set n t) t like (λ same. (record { copy = like.copy; touch = refl; holder = like.holder }, held rows table z t i j like.copy)) (λ ne. held rows table z t i j like.copy)
+
+abbrev pub Duplicated : List StampRow → List Known → ℕ → ℕ → StampRow → ℕ → Stamp → List ℕ → Type 0
+Duplicated rows table n c r = Put (Put (Holds rows table) c (first_part r.stamp) (Holds rows table c r.stamp)) n (second_part r.stamp) (Holds rows table c r.stamp)
+
+pub duplicated_sound : (rows : List StampRow) (table : List Known) (n c : ℕ) (r : StampRow) → IsRowOf rows c r → IsParted r.stamp.id (parts r.stamp.id).0 (parts r.stamp.id).1 → StandsFor rows table → Sound (Duplicated rows table n c r)
+duplicated_sound rows table n c r at parted st =
+    share_keeps (Holds rows table) c n r.stamp (first_part r.stamp) (second_part r.stamp) (set_in table c) (to_sound rows table st) (holds_at rows table c r st at) parted refl refl
+
+pub duplicated_outcome : (rows : List StampRow) (table : List Known) (n c : ℕ) (r z : StampRow) (t : Known) → IsRising 0 rows → IsRowOf rows c r → z.copy < n → In z rows → In t table → Alike z t
+    → Outcome (Duplicated rows table n c r) (made n (Duplicate c) rows z) (made_known n (Duplicate c) table t)
+duplicated_outcome rows table n c r z t up at less i j like =
+    let P : ℕ → Stamp → List ℕ → Type 0 = Duplicated rows table n c r in
+    let new : z.copy ≢ n = λ e. omega (arith, less, e) in
+    let x : StampRow = restamped (first_part z.stamp) z.touch z in
+    elim (cases_Bool (z.copy == c)) [
+      | inl e ↦ let same : z.copy ≡ c = eqb-true z.copy c e in
+          some x t (ap (λ (b : Bool). Some (cond b x z)) e) refl record { copy = like.copy; touch = like.touch; holder = like.holder }
+          (inr (inl (same, ap (λ (w : StampRow). first_part w.stamp) (one_row 0 rows z r up i at.there (same ∙ sym at.named)), holds_here rows table c r z t up at i j like same), new))
+      | inr ne ↦ some z t (ap (λ (b : Bool). Some (cond b x z)) ne) refl like (inr (inr (held rows table z t i j like.copy, eqb-false z.copy c ne), new))
+    ]
+
+pub duplicate_holds : (rows : List StampRow) (table : List Known) (n c : ℕ) (r : StampRow) → IsRowOf rows c r → StandsFor rows table → Duplicated rows table n c r n (second_part r.stamp) (set_in table c)
+duplicate_holds rows table n c r at st = inl (refl, refl, holds_at rows table c r st at)
+
+-- Reports that take rows out.
+
+pub lost_outcome : (rows : List StampRow) (table : List Known) (n c : ℕ) (z : StampRow) (t : Known) → In z rows → In t table → Alike z t → Outcome (Holds rows table) (lost c z) (made_known n (Remove c None) table t)
+lost_outcome rows table n c z t i j like =
+    stay_outcome (Holds rows table) (z.copy == c || is_held c z.holder) (t.copy == c || is_held c t.holder) z t
+    (ap (λ (m : ℕ). m == c || is_held c z.holder) like.copy ∙ ap (λ (o : Option ℕ). t.copy == c || is_held c o) like.holder) like (λ stays. held rows table z t i j like.copy)

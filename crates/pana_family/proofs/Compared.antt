@@ -17,8 +17,7 @@ use Rattle.pana_family.specs.Holders.{is_copy}
 use Rattle.pana_family.specs.Table.{In}
 use Rattle.pana_family.specs.Rows.{IsRising, lives, copy_rows, AreSound}
 use Rattle.pana_family.specs.inner.Comparing.{AreCompared, HasCopies, is_other, relations, row_relation}
-use Rattle.pana_family.proofs.Members.{one_row}
-use Rattle.pana_family.proofs.Images.{in_filter, to_filter}
+use Rattle.pana_family.proofs.Members.{in_filter, one_row, to_filter}
 use Rattle.pana_family.proofs.Copies.{copies_are, lives_from, ByPlaces}
 
 -- what the test of two sound events says

@@ -1,11 +1,17 @@
--- The event after an update is the one that the function gives.
-use Rattle.std.specs.Prelude.{◌≡◌, Bool, true, false, cond, ◌==◌, ◌&&◌}
-use Rattle.std.proofs.Common.{refl, ap, ◌∙◌}
-use Rattle.std.proofs.lemmas.Bool.{eq-eqb, eqb-true}
-use Rattle.pana_id.specs.Id.{Id}
-use Rattle.pana_event.specs.Event.{Event, leaf, fork}
+-- The event after an update is the one that the function gives, and is raised.
+use Rattle.std.specs.Prelude.{◌≡◌, ◌<◌, ◌+◌, ◌^◌, Bool, true, false, cond, ◌==◌, ◌&&◌}
+use Rattle.std.proofs.Common.{refl, sym, ap, subst, ◌∙◌, inl, inr, arith}
+use Rattle.std.proofs.lemmas.Bool.{both_ways, cases_Bool, eq-eqb, eqb-true}
+use Rattle.pana_id.specs.Id.{Id, is_zero, IsValid}
+use Rattle.pana_event.specs.Event.{Event, leaf, fork, greatest, IsSound}
+use Rattle.pana_event.specs.Order.{IsBelow, is_leq}
+use Rattle.pana_event.proofs.Orders.{leq-is-below, below-is-leq}
+use Rattle.pana_event.proofs.Sound.{same_below}
 use Rattle.pana_stamp.specs.Fill.{fill}
 use Rattle.pana_stamp.specs.Grow.{grow}
+use Rattle.pana_stamp.specs.Raised.{IsRaised}
+use Rattle.pana_stamp.proofs.Calls.{raised_fill, raised_grow, sound_fill, sound_grow}
+use Rattle.pana_stamp.proofs.Fills.{IsFilled-fill, IsSound-fill}
 use Rattle.pana_family.specs.After.{same_event, updated}
 use Rattle.pana_family.specs.inner.Making.{IsUpdate}
 
@@ -44,3 +50,20 @@ is_update i e = record {
     | false ↦ λ h. refl
   ] refl;
 }
+
+-- an event after an update is raised, and within the limits
+raised_by : (i : Id) (e new : Event) → IsValid i → is_zero i ≡ false → IsSound e → greatest e + 1 < 2 ^ 64 → IsUpdate i e new → IsRaised i e new × IsSound new
+raised_by i e new valid some fine room up =
+    let filled : IsSound (fill i e) = IsSound-fill i e fine in
+    elim (cases_Bool (is_leq (fill i e) e)) [
+      | inl t ↦
+          let same : fill i e ≡ e = same_below (fill i e) e filled.normal fine.normal filled.shallow fine.shallow (leq-is-below (fill i e) e filled.shallow fine.shallow t) (record { levels = (IsFilled-fill i e fine.shallow).kept }) in
+          (raised_grow i e new (up.grown same) valid some fine.normal same, sound_grow i e new (up.grown same) valid some fine.normal fine.shallow room same)
+      | inr out ↦
+          let other : fill i e ≡ e → ⊥ = λ same. both_ways (is_leq (fill i e) e) out (below-is-leq (fill i e) e filled.shallow fine.shallow fine.normal (subst (λ (f : Event). IsBelow f e) (sym same) (record { levels = λ p long. omega arith }))) in
+          let is : new ≡ fill i e = up.filled other in
+          (raised_fill i i e e (fill i e) new refl refl refl is fine.normal fine.shallow (λ same. other (sym is ∙ same)), sound_fill i i e e new refl refl is fine.normal fine.shallow fine.fits)
+    ]
+
+pub updated_is : (i : Id) (e : Event) → IsValid i → is_zero i ≡ false → IsSound e → greatest e + 1 < 2 ^ 64 → IsRaised i e (updated i e) × IsSound (updated i e)
+updated_is i e valid some fine room = raised_by i e (updated i e) valid some fine room (is_update i e)

@@ -12,7 +12,7 @@ use Rattle.pana_family.specs.Holders.{is_copy}
 use Rattle.pana_family.specs.Table.{In}
 use Rattle.pana_family.specs.Rows.{IsRising, lives, copy_rows}
 use Rattle.pana_family.proofs.Places.{free_from}
-use Rattle.pana_family.proofs.Parcels.{any_from, any_some}
+use Rattle.pana_family.proofs.Members.{any_from, any_some}
 
 -- Numbers.
 

@@ -15,9 +15,8 @@ use Rattle.pana_family.specs.Stands.{AreSame, StandsFor}
 use Rattle.pana_family.specs.Rows.{lives}
 use Rattle.pana_family.specs.Paired.{ArePaired}
 use Rattle.pana_family.specs.inner.Comparing.{AreCompared, HasCopies}
-use Rattle.pana_family.proofs.Members.{Holds as HoldsOf, held, in_append, in_change, in_left, of_known, of_row, to_sound}
+use Rattle.pana_family.proofs.Members.{Holds as HoldsOf, held, in_append, in_change, in_left, of_known, of_row, to_sound, One, set_of}
 use Rattle.pana_family.proofs.Sound.{below_subset, subset_below}
-use Rattle.pana_family.proofs.Held.{One, set_of}
 use Rattle.pana_family.proofs.Copies.{living_at}
 use Rattle.pana_family.proofs.Relations.{relates}
 use Rattle.pana_family.proofs.Boards.{same_equal}

@@ -19,14 +19,15 @@ use Rattle.pana_family.specs.Report.{IsMade}
 use Rattle.pana_family.specs.Updates.{has}
 use Rattle.pana_family.specs.Holders.{is_copy}
 use Rattle.pana_family.specs.Table.{In}
-use Rattle.pana_family.specs.Change.{after, changed, inverse, number_of, numbers_in, placed, placed_all, row_at, with_touch}
-use Rattle.pana_family.specs.Rows.{IsRising, copy_rows, lives}
+use Rattle.pana_family.specs.Change.{after, changed, inverse, number_of, numbers_in, placed, placed_all, with_touch}
+use Rattle.pana_family.specs.Rows.{IsRising, copy_rows, lives, row_at}
 use Rattle.pana_family.specs.Kept.{IsKept}
 use Rattle.pana_family.specs.Paired.{ArePaired}
 use Rattle.pana_family.specs.inner.Comparing.{AreCompared, HasCopies, IsFollowed}
 use Rattle.pana_family.proofs.Copies.{living_at}
 use Rattle.pana_family.proofs.Copies.{ByPlaces, Rises, contains_has, copies_are, has_contains, has_rows, in_with_copy, in_without_copy, lives_from, rises_above, rises_places, with_copy_new, with_copy_old, without_other}
-use Rattle.pana_family.proofs.Inverses.{after_back, after_is, in_from_at, named_at, rising_after, row_after, row_in_at}
+use Rattle.pana_family.proofs.Inverses.{after_back, after_is, in_from_at, named_at, rising_after, row_after}
+use Rattle.pana_family.proofs.Places.{row_in_at}
 
 with_row_rest : (n : ℕ) (row : ℕ → Rel) (rel : ℕ → ℕ → Rel) (a b : ℕ) → a ≢ n → b ≢ n → with_row n row rel a b ≡ rel a b
 with_row_rest n row rel a b ne ne' = rw (ne_eqb a n ne, ne_eqb b n ne') refl

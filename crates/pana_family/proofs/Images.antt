@@ -1,18 +1,50 @@
 -- Rows and a table of which each member is made of one that there was.
-use Rattle.std.specs.Prelude.{◌≡◌, ℕ, ◌≤◌, ◌<◌, ◌+◌, Bool, true, false, cond, not, ◌==◌, List, [], ◌∷◌, ◌++◌, filter, map}
+use Rattle.std.specs.Prelude.{◌≡◌, ◌≢◌, ℕ, ◌≤◌, ◌<◌, ◌+◌, Bool, true, false, cond, not, ◌||◌, ◌==◌, Option, Some, None, List, [], ◌∷◌, ◌++◌, filter_map, map, length}
+use Rattle.std.specs.List.{cons_option}
 use Rattle.std.proofs.Common.{refl, sym, ap, subst, ◌∙◌, inl, inr, arith}
+use Rattle.std.proofs.lemmas.Bool.{cases_Bool, eqb-true, eqb-false, not-true, not_from_false}
+use Rattle.std.proofs.lemmas.List.{append-nil}
 use Rattle.pana_stamp.specs.declared.stamp.Stamp.{Stamp}
 use Rattle.pana_family.specs.declared.row.StampRow.{StampRow}
-use Rattle.pana_family.specs.Holders.{leave, passed}
-use Rattle.pana_family.specs.Table.{Known, In, parcel, passed_on, set_in, without, wrapped}
+use Rattle.pana_family.specs.Holders.{leave, is_copy}
+use Rattle.pana_family.specs.Table.{Known, In}
 use Rattle.pana_family.specs.Stands.{AreSame, StandsFor}
-use Rattle.pana_family.specs.Rows.{IsRising}
+use Rattle.pana_family.specs.Rows.{IsRising, copy_rows}
 use Rattle.pana_family.proofs.Sound.{Sound, fewer}
-use Rattle.pana_family.proofs.Members.{of_row, of_known, above_low, Holds, all_held, of_sound}
-use Rattle.pana_family.proofs.Parcels.{in_leave}
-use Rattle.pana_family.proofs.Held.{One}
+use Rattle.pana_family.proofs.Members.{in_append, in_filter, to_filter, of_row, of_known, one_known, Holds, all_held, of_sound, same_append}
+use Rattle.pana_family.proofs.Places.{rising_lower}
+
+-- What is made, case by case.
+
+pub one_of : {A : Type 0} (b : Bool) (Q : A → Type 0) (y z x : A) → (b ≡ true → Q y) → (b ≡ false → Q z) → Some (cond b y z) ≡ Some x → Q x
+one_of true Q y z x f g e = let same : y ≡ x = cc e in subst Q same (f refl)
+one_of false Q y z x f g e = let same : z ≡ x = cc e in subst Q same (g refl)
+
+pub unless_of : {A : Type 0} (b : Bool) (Q : A → Type 0) (y x : A) → (b ≡ false → Q y) → cond b None (Some y) ≡ Some x → Q x
+unless_of true Q y x f e = absurd (cc e)
+unless_of false Q y x f e = let same : y ≡ x = cc e in subst Q same (f refl)
+
+pub some_or : {A : Type 0} (b : Bool) (o : Option A) (Q : A → Type 0) (y x : A) → (b ≡ true → Q y) → (b ≡ false → o ≡ Some x → Q x) → cond b (Some y) o ≡ Some x → Q x
+some_or true o Q y x f g e = let same : y ≡ x = cc e in subst Q same (f refl)
+some_or false o Q y x f g e = g refl e
 
 -- Members.
+
+pub in_made : {A B : Type 0} (f : A → Option B) (xs : List A) (y : B) → In y (filter_map f xs) → (x : A) × In x xs × (f x ≡ Some y)
+in_made f [] y i = absurd i
+in_made f (x ∷ xs) y i =
+    let later : In y (filter_map f xs) → (z : _) × In z (x ∷ xs) × (f z ≡ Some y) = λ j. let m = in_made f xs y j in (m.0, inr m.1, m.2) in
+    elim (f x) as (λ o. f x ≡ o → In y (cons_option o (filter_map f xs)) → (z : _) × In z (x ∷ xs) × (f z ≡ Some y)) [
+      | None ↦ λ w h. later h
+      | Some z ↦ λ w h. elim h [ inl e ↦ (x, inl refl, w ∙ ap Some (sym e)) | inr j ↦ later j ]
+    ] refl i
+
+pub to_made : {A B : Type 0} (f : A → Option B) (xs : List A) (x : A) (y : B) → In x xs → f x ≡ Some y → In y (filter_map f xs)
+to_made f [] x y i e = absurd i
+to_made f (z ∷ xs) x y i e = elim i [
+  | inl is ↦ subst (λ o. In y (cons_option o (filter_map f xs))) (sym (ap f (sym is) ∙ e)) (inl refl)
+  | inr j ↦ let later = to_made f xs x y j e in elim (f z) as (λ o. In y (cons_option o (filter_map f xs))) [ None ↦ later | Some w ↦ inr later ]
+]
 
 pub in_map : {A B : Type 0} (f : A → B) (xs : List A) (y : B) → In y (map f xs) → (x : A) × In x xs × (y ≡ f x)
 in_map f [] y i = absurd i
@@ -22,68 +54,73 @@ pub to_map : {A B : Type 0} (f : A → B) (xs : List A) (x : A) → In x xs → 
 to_map f [] x i = absurd i
 to_map f (y ∷ xs) x i = elim i [ inl e ↦ inl (ap f e) | inr j ↦ inr (to_map f xs x j) ]
 
-pub in_filter : {A : Type 0} (test : A → Bool) (xs : List A) (y : A) → In y (filter test xs) → In y xs × (test y ≡ true)
-in_filter test [] y i = absurd i
-in_filter test (x ∷ xs) y i =
-    let later : In y (filter test xs) → In y (x ∷ xs) × (test y ≡ true) = λ j. let k = in_filter test xs y j in (inr k.0, k.1) in
-    elim (test x) as (λ b. test x ≡ b → In y (cond b (x ∷ filter test xs) (filter test xs)) → In y (x ∷ xs) × (test y ≡ true)) [
-      | true ↦ λ w h. elim h [ inl e ↦ (inl e, ap test e ∙ w) | inr j ↦ later j ]
-      | false ↦ λ w h. later h
-    ] refl i
+pub in_leave : {A : Type 0} (test : A → Bool) (xs : List A) (y : A) → In y (leave test xs) → In y xs × (test y ≡ false)
+in_leave test xs y i = let m = in_filter (λ x. not (test x)) xs y i in (m.0, not-true (test y) m.1)
 
-pub to_filter : {A : Type 0} (test : A → Bool) (xs : List A) (y : A) → In y xs → test y ≡ true → In y (filter test xs)
-to_filter test [] y i passes = absurd i
-to_filter test (x ∷ xs) y i passes = elim i [
-  | inl e ↦ rw (ap test (sym e) ∙ passes) (inl e)
-  | inr j ↦ let later = to_filter test xs y j passes in elim (test x) as (λ b. In y (cond b (x ∷ filter test xs) (filter test xs))) [ true ↦ inr later | false ↦ later ]
-]
+pub stays_in : {A : Type 0} (test : A → Bool) (xs : List A) (y : A) → In y xs → test y ≡ false → In y (leave test xs)
+stays_in test xs y i out = to_filter (λ x. not (test x)) xs y i (not_from_false (test y) out)
 
--- Tables by rising number.
+-- Lists that are made of lists.
 
-abbrev pub Climbs : ℕ → List Known → Type 0
-Climbs low [] = Unit {0}
-Climbs low (t ∷ table) = (low ≤ t.copy) × Climbs (t.copy + 1) table
+pub made_itself : {A : Type 0} (xs : List A) → filter_map Some xs ≡ xs
+made_itself [] = refl
+made_itself (x ∷ xs) = ap (λ l. x ∷ l) (made_itself xs)
 
-pub climbs_same : (low : ℕ) (rows : List StampRow) (table : List Known) → AreSame rows table → IsRising low rows → Climbs low table
-climbs_same low [] [] same up = tt
-climbs_same low [] (t ∷ table) same up = absurd same
-climbs_same low (r ∷ rows) [] same up = absurd same
-climbs_same low (r ∷ rows) (t ∷ table) same up = (omega (arith, up.0, same.0), subst (λ (k : ℕ). Climbs (k + 1) table) same.0 (climbs_same (r.copy + 1) rows table same.3 up.1))
+-- where all stays
+pub map_made : {A B : Type 0} (f : A → B) (xs : List A) → map f xs ≡ filter_map (λ x. Some (f x)) xs ++ []
+map_made f [] = refl
+map_made f (x ∷ xs) = ap (λ l. f x ∷ l) (map_made f xs)
 
-pub climbs_map : (low : ℕ) (f : Known → Known) (table : List Known) → ((t : Known) → (f t).copy ≡ t.copy) → Climbs low table → Climbs low (map f table)
-climbs_map low f [] keeps up = tt
-climbs_map low f (t ∷ table) keeps up = (omega (arith, up.0, keeps t), subst (λ (k : ℕ). Climbs (k + 1) (map f table)) (sym (keeps t)) (climbs_map (t.copy + 1) f table keeps up.1))
+-- where some are left out
+pub leave_map : {A B : Type 0} (p : B → Bool) (f : A → B) (xs : List A) → leave p (map f xs) ≡ filter_map (λ x. cond (p (f x)) None (Some (f x))) xs
+leave_map p f [] = refl
+leave_map p f (x ∷ xs) =
+    let rest = leave_map p f xs in
+    elim (p (f x)) as (λ b. cond (not b) (f x ∷ leave p (map f xs)) (leave p (map f xs)) ≡ cons_option (cond b None (Some (f x))) (filter_map (λ y. cond (p (f y)) None (Some (f y))) xs)) [ true ↦ rest | false ↦ ap (λ l. f x ∷ l) rest ]
 
-climbs_lower : (low least : ℕ) (table : List Known) → least ≤ low → Climbs low table → Climbs least table
-climbs_lower low least [] le up = tt
-climbs_lower low least (t ∷ table) le up = (omega (arith, up.0), up.1)
+-- where some are left out before and some after
+pub leave_map_leave : {A B : Type 0} (p : B → Bool) (f : A → B) (q : A → Bool) (xs : List A) → leave p (map f (leave q xs)) ≡ filter_map (λ x. cond (q x) None (cond (p (f x)) None (Some (f x)))) xs
+leave_map_leave p f q [] = refl
+leave_map_leave p f q (x ∷ xs) =
+    let rest = leave_map_leave p f q xs in
+    elim (q x) as (λ a. leave p (map f (cond (not a) (x ∷ leave q xs) (leave q xs))) ≡ cons_option (cond a None (cond (p (f x)) None (Some (f x)))) (filter_map (λ y. cond (q y) None (cond (p (f y)) None (Some (f y)))) xs)) [
+      | true ↦ rest
+      | false ↦ elim (p (f x)) as (λ b. cond (not b) (f x ∷ leave p (map f (leave q xs))) (leave p (map f (leave q xs))) ≡ cons_option (cond b None (Some (f x))) (filter_map (λ y. cond (q y) None (cond (p (f y)) None (Some (f y)))) xs)) [
+        | true ↦ rest
+        | false ↦ ap (λ l. f x ∷ l) rest
+      ]
+    ]
 
-pub climbs_leave : (low : ℕ) (test : Known → Bool) (table : List Known) → Climbs low table → Climbs low (leave test table)
-climbs_leave low test [] up = tt
-climbs_leave low test (t ∷ table) up =
-    let rest : Climbs (t.copy + 1) (leave test table) = climbs_leave (t.copy + 1) test table up.1 in
-    elim (test t) as (λ b. Climbs low (cond (not b) (t ∷ leave test table) (leave test table))) [ true ↦ climbs_lower (t.copy + 1) low (leave test table) (omega (arith, up.0)) rest | false ↦ (up.0, rest) ]
+pub leave_twice : {A : Type 0} (p q : A → Bool) (xs : List A) → leave p (leave q xs) ≡ leave (λ x. q x || p x) xs
+leave_twice p q [] = refl
+leave_twice p q (x ∷ xs) =
+    let rest : leave p (leave q xs) ≡ leave (λ y. q y || p y) xs = leave_twice p q xs in
+    elim (q x) as (λ b. leave p (cond (not b) (x ∷ leave q xs) (leave q xs)) ≡ cond (not (b || p x)) (x ∷ leave (λ y. q y || p y) xs) (leave (λ y. q y || p y) xs)) [
+      | true ↦ rest
+      | false ↦ ap (λ l. cond (not (p x)) (x ∷ l) l) rest
+    ]
 
-pub climbs_pushed : (low : ℕ) (k : Known) (table : List Known) → Climbs low table → low ≤ k.copy → ((t : Known) → In t table → t.copy < k.copy) → Climbs low (table ++ k ∷ [])
-climbs_pushed low k [] up least less = (least, tt)
-climbs_pushed low k (t ∷ table) up least less = (up.0, climbs_pushed (t.copy + 1) k table up.1 (omega (arith, less t (inl refl))) (λ s i. less s (inr i)))
+-- Rows.
 
--- the copy becomes a parcel, and the heir holds what it held
-pub climbs_bequest : (n c h : ℕ) (table : List Known) → Climbs 0 table → ((t : Known) → In t table → t.copy < n) → Climbs 0 (passed_on c h (wrapped n c h table))
-climbs_bequest n c h table up less =
-    climbs_map 0 (λ t. record { copy = t.copy; holder = passed c h t.holder; set = t.set; touch = t.touch }) (wrapped n c h table) (λ t. refl)
-    (climbs_pushed 0 (parcel n h (set_in table c)) (without c table) (climbs_leave 0 (λ t. t.copy == c) table up) (omega arith) (λ t j. less t (in_leave (λ t. t.copy == c) table t j).0))
+pub rising_made : (low : ℕ) (f : StampRow → Option StampRow) (rows : List StampRow) → ((r x : StampRow) → f r ≡ Some x → x.copy ≡ r.copy) → IsRising low rows → IsRising low (filter_map f rows)
+rising_made low f [] keeps up = tt
+rising_made low f (r ∷ rows) keeps up =
+    let rest : IsRising (r.copy + 1) (filter_map f rows) = rising_made (r.copy + 1) f rows keeps up.1 in
+    elim (f r) as (λ o. f r ≡ o → IsRising low (cons_option o (filter_map f rows))) [
+      | None ↦ λ w. rising_lower (r.copy + 1) low (filter_map f rows) (omega (arith, up.0)) rest
+      | Some x ↦ λ w. (omega (arith, up.0, keeps r x w), subst (λ (k : ℕ). IsRising (k + 1) (filter_map f rows)) (sym (keeps r x w)) rest)
+    ] refl
 
-above_known : (low : ℕ) (table : List Known) (t : Known) → Climbs low table → In t table → low ≤ t.copy
-above_known low [] t up i = absurd i
-above_known low (s ∷ table) t up i = elim i [ inl e ↦ omega (arith, up.0, ap (λ (w : Known). w.copy) e) | inr j ↦ omega (arith, up.0, above_known (s.copy + 1) table t up.1 j) ]
-
-pub one_climbs : (low : ℕ) (table : List Known) → Climbs low table → One table
-one_climbs low [] up t s i j e = absurd i
-one_climbs low (k ∷ table) up t s i j e = elim i [
-  | inl a ↦ elim j [ inl b ↦ a ∙ sym b | inr b ↦ absurd (omega (arith, above_known (k.copy + 1) table s up.1 b, e, ap (λ (w : Known). w.copy) a)) ]
-  | inr a ↦ elim j [ inl b ↦ absurd (omega (arith, above_known (k.copy + 1) table t up.1 a, e, ap (λ (w : Known). w.copy) b)) | inr b ↦ one_climbs (k.copy + 1) table up.1 t s a b e ]
-]
+-- there are no more copies
+pub copies_made : (f : StampRow → Option StampRow) (rows : List StampRow) → ((r x : StampRow) → f r ≡ Some x → is_copy x.holder ≡ is_copy r.holder) → length (copy_rows (filter_map f rows)) ≤ length (copy_rows rows)
+copies_made f [] same = omega arith
+copies_made f (r ∷ rows) same =
+    let rest : length (copy_rows (filter_map f rows)) ≤ length (copy_rows rows) = copies_made f rows same in
+    let new : List StampRow = filter_map f rows in
+    elim (f r) as (λ o. f r ≡ o → length (copy_rows (cons_option o new)) ≤ length (cond (is_copy r.holder) (r ∷ copy_rows rows) (copy_rows rows))) [
+      | None ↦ λ w. elim (is_copy r.holder) as (λ b. length (copy_rows new) ≤ length (cond b (r ∷ copy_rows rows) (copy_rows rows))) [ true ↦ omega (arith, rest) | false ↦ rest ]
+      | Some x ↦ λ w. rw (same r x w) (elim (is_copy r.holder) as (λ b. length (cond b (x ∷ copy_rows new) (copy_rows new)) ≤ length (cond b (r ∷ copy_rows rows) (copy_rows rows))) [ true ↦ omega (arith, rest) | false ↦ rest ])
+    ] refl
 
 -- Rows and a table side by side.
 
@@ -99,62 +136,71 @@ alike_row rows table same r i = let m = of_row rows table same r i in (m.0, m.1,
 pub alike_known : (rows : List StampRow) (table : List Known) → AreSame rows table → (t : Known) → In t table → (r : StampRow) × In r rows × Alike r t
 alike_known rows table same t i = let m = of_known rows table same t i in (m.0, m.1, record { copy = m.2; touch = m.3; holder = m.4 })
 
--- both are one list where each has all that the other has
-same_members : (low : ℕ) (rows : List StampRow) (table : List Known) → IsRising low rows → Climbs low table
-    → ((r : StampRow) → In r rows → (t : Known) × In t table × Alike r t) → ((t : Known) → In t table → (r : StampRow) × In r rows × Alike r t) → AreSame rows table
-same_members low [] [] up down to from = tt
-same_members low [] (t ∷ table) up down to from = absurd (from t (inl refl)).1
-same_members low (r ∷ rows) [] up down to from = absurd (to r (inl refl)).1
-same_members low (r ∷ rows) (t ∷ table) up down to from =
-    let m = to r (inl refl) in
-    let k = from t (inl refl) in
-    let head : r.copy ≡ t.copy = elim m.1 [
-      | inl e ↦ m.2.copy ∙ ap (λ (w : Known). w.copy) e
-      | inr i ↦ elim k.1 [
-        | inl e ↦ ap (λ (w : StampRow). w.copy) (sym e) ∙ k.2.copy
-        | inr j ↦ absurd (omega (arith, above_known (t.copy + 1) table m.0 down.1 i, m.2.copy, above_low (r.copy + 1) rows k.0 up.1 j, k.2.copy))
+-- what is made of a row and of what is known of it: a row of P's and what is known of that, alike, or nothing of both
+pub data Outcome (P : ℕ → Stamp → List ℕ → Type 0) (o : Option StampRow) (p : Option Known) : Type 0 where
+  some : (x : StampRow) (s : Known) → o ≡ Some x → p ≡ Some s → Alike x s → P x.copy x.stamp s.set → Outcome P o p
+  none : o ≡ None → p ≡ None → Outcome P o p
+
+same_made : (P : ℕ → Stamp → List ℕ → Type 0) (f : StampRow → Option StampRow) (g : Known → Option Known) (rows : List StampRow) (table : List Known) → AreSame rows table
+    → ((r : StampRow) (t : Known) → In r rows → In t table → Alike r t → Outcome P (f r) (g t)) → AreSame (filter_map f rows) (filter_map g table)
+same_made P f g [] [] same each = tt
+same_made P f g [] (t ∷ table) same each = absurd same
+same_made P f g (r ∷ rows) [] same each = absurd same
+same_made P f g (r ∷ rows) (t ∷ table) same each =
+    both (f r) (g t) (filter_map f rows) (filter_map g table) (each r t (inl refl) (inl refl) record { copy = same.0; touch = same.1; holder = same.2 }) (same_made P f g rows table same.3 (λ q s i j a. each q s (inr i) (inr j) a))
+  where
+    both : (o : Option StampRow) (p : Option Known) (xs : List StampRow) (ts : List Known) → Outcome P o p → AreSame xs ts → AreSame (cons_option o xs) (cons_option p ts)
+    both o p xs ts (some x s is known a held) rest = subst (λ (u : Option StampRow). AreSame (cons_option u xs) (cons_option p ts)) (sym is) (subst (λ (v : Option Known). AreSame (x ∷ xs) (cons_option v ts)) (sym known) (a.copy, a.touch, a.holder, rest))
+    both o p xs ts (none is known) rest = subst (λ (u : Option StampRow). AreSame (cons_option u xs) (cons_option p ts)) (sym is) (subst (λ (v : Option Known). AreSame xs (cons_option v ts)) (sym known) rest)
+
+held_by_outcome : (P : ℕ → Stamp → List ℕ → Type 0) (o : Option StampRow) (p : Option Known) (x : StampRow) (s : Known) → Outcome P o p → o ≡ Some x → p ≡ Some s → P x.copy x.stamp s.set
+held_by_outcome P o p x s (some y t is known a held) e f =
+    let row : y ≡ x = cc (is, e) in
+    let knows : t ≡ s = cc (known, f) in
+    subst (λ (r : StampRow). P r.copy r.stamp s.set) row (subst (λ (k : Known). P y.copy y.stamp k.set) knows held)
+held_by_outcome P o p x s (none is known) e f = absurd (cc (is, e))
+
+-- what f and g make of rows and of a table, and those of number n that come behind
+pub record AreImages (n : ℕ) (f : StampRow → Option StampRow) (g : Known → Option Known) (new : List StampRow) (next : List Known) (rows : List StampRow) (table : List Known) (P : ℕ → Stamp → List ℕ → Type 0) : Type 0 where
+  pub keeps : (r x : StampRow) → f r ≡ Some x → x.copy ≡ r.copy
+  pub keeps_known : (t s : Known) → g t ≡ Some s → s.copy ≡ t.copy
+  pub each : (r : StampRow) (t : Known) → In r rows → In t table → Alike r t → Outcome P (f r) (g t)
+  pub come : AreSame new next
+  pub numbered : (x : StampRow) → In x new → x.copy ≡ n
+  pub held : (x : StampRow) (s : Known) → In x new → In s next → P x.copy x.stamp s.set
+
+pub images_stand : (n : ℕ) (f : StampRow → Option StampRow) (g : Known → Option Known) (new : List StampRow) (next : List Known) (rows : List StampRow) (table : List Known) (P : ℕ → Stamp → List ℕ → Type 0)
+    → AreSame rows table → IsRising 0 rows → ((r : StampRow) → In r rows → r.copy < n) → AreImages n f g new next rows table P → Sound P → StandsFor (filter_map f rows ++ new) (filter_map g table ++ next)
+images_stand n f g new next rows table P same up before im sound =
+    let known : (s : Known) → In s next → s.copy ≡ n = λ s j. let m = of_known new next im.come s j in sym m.2 ∙ im.numbered m.0 m.1 in
+    let old : (t : Known) → In t table → t.copy < n = λ t j. let m = of_known rows table same t j in omega (arith, before m.0 m.1, m.2) in
+    of_sound (filter_map f rows ++ new) (filter_map g table ++ next) (same_append (filter_map f rows) (filter_map g table) new next (same_made P f g rows table same im.each) im.come)
+    (fewer P (Holds (filter_map f rows ++ new) (filter_map g table ++ next))
+    (all_held (filter_map f rows ++ new) (filter_map g table ++ next) P (λ x s i j e. elim (in_append x (filter_map f rows) new i) [
+      | inl a ↦ let m = in_made f rows x a in elim (in_append s (filter_map g table) next j) [
+        | inl b ↦
+            let k = in_made g table s b in
+            let t = alike_row rows table same m.0 m.1 in
+            let is : t.0 ≡ k.0 = one_known 0 rows table same up t.0 k.0 t.1 k.1 (sym t.2.copy ∙ sym (im.keeps m.0 x m.2) ∙ e ∙ im.keeps_known k.0 s k.2) in
+            held_by_outcome P (f m.0) (g k.0) x s (im.each m.0 k.0 m.1 k.1 (subst (Alike m.0) is t.2)) m.2 k.2
+        | inr b ↦ absurd (omega (arith, before m.0 m.1, im.keeps m.0 x m.2, e, known s b))
       ]
-    ] in
-    let first : Alike r t = elim m.1 [ inl e ↦ subst (Alike r) e m.2 | inr i ↦ absurd (omega (arith, above_known (t.copy + 1) table m.0 down.1 i, m.2.copy, head)) ] in
-    let rest : AreSame rows table = same_members (r.copy + 1) rows table up.1 (subst (λ (k : ℕ). Climbs (k + 1) table) (sym head) down.1)
-    (λ q i. let n = to q (inr i) in elim n.1 [
-      | inl e ↦ absurd (omega (arith, above_low (r.copy + 1) rows q up.1 i, n.2.copy, head, ap (λ (w : Known). w.copy) e))
-      | inr j ↦ (n.0, j, n.2)
-    ])
-    (λ s i. let n = from s (inr i) in elim n.1 [
-      | inl e ↦ absurd (omega (arith, above_known (t.copy + 1) table s down.1 i, n.2.copy, head, ap (λ (w : StampRow). w.copy) e))
-      | inr j ↦ (n.0, j, n.2)
-    ]) in
-    (first.copy, first.touch, first.holder, rest)
-
--- the new rows and the next table have what f and g make of all that stay
-pub record AreImages (rows new : List StampRow) (table next : List Known) (gone : StampRow → Bool) (out : Known → Bool) (f : StampRow → StampRow) (g : Known → Known) : Type 0 where
-  pub rising : IsRising 0 new
-  pub climbs : Climbs 0 next
-  pub to : (r : StampRow) → In r rows → gone r ≡ false → In (f r) new
-  pub from : (x : StampRow) → In x new → (r : StampRow) × In r rows × (gone r ≡ false) × (x ≡ f r)
-  pub to_next : (t : Known) → In t table → out t ≡ false → In (g t) next
-  pub from_next : (s : Known) → In s next → (t : Known) × In t table × (out t ≡ false) × (s ≡ g t)
-  pub agree : (r : StampRow) (t : Known) → In r rows → In t table → Alike r t → (gone r ≡ out t) × Alike (f r) (g t)
-
-pub image_stands : (rows new : List StampRow) (table next : List Known) (gone : StampRow → Bool) (out : Known → Bool) (f : StampRow → StampRow) (g : Known → Known) (P : ℕ → Stamp → List ℕ → Type 0)
-    → AreSame rows table → AreImages rows new table next gone out f g
-    → ((r : StampRow) (t : Known) → In r rows → In t table → Alike r t → gone r ≡ false → P (f r).copy (f r).stamp (g t).set) → Sound P → StandsFor new next
-image_stands rows new table next gone out f g P same im holds sound =
-    of_sound new next
-    (same_members 0 new next im.rising im.climbs
-    (λ x i. let m = im.from x i in
-    let t = alike_row rows table same m.0 m.1 in
-    let a = im.agree m.0 t.0 m.1 t.1 t.2 in
-    (g t.0, im.to_next t.0 t.1 (sym a.0 ∙ m.2), subst (λ (w : StampRow). Alike w (g t.0)) (sym m.3) a.1))
-    (λ s j. let m = im.from_next s j in
-    let r = alike_known rows table same m.0 m.1 in
-    let a = im.agree r.0 m.0 r.1 m.1 r.2 in
-    (f r.0, im.to r.0 r.1 (a.0 ∙ m.2), subst (Alike (f r.0)) (sym m.3) a.1)))
-    (fewer P (Holds new next)
-    (all_held new next P (λ x s i j e. let m = im.from x i in
-    let t = alike_row rows table same m.0 m.1 in
-    let a = im.agree m.0 t.0 m.1 t.1 t.2 in
-    let one : g t.0 ≡ s = one_climbs 0 next im.climbs (g t.0) s (im.to_next t.0 t.1 (sym a.0 ∙ m.2)) j (sym a.1.copy ∙ ap (λ (w : StampRow). w.copy) (sym m.3) ∙ e) in
-    subst (λ (w : StampRow). P w.copy w.stamp s.set) (sym m.3) (subst (λ (w : Known). P (f m.0).copy (f m.0).stamp w.set) one (holds m.0 t.0 m.1 t.1 t.2 m.2))))
+      | inr a ↦ elim (in_append s (filter_map g table) next j) [
+        | inl b ↦ let k = in_made g table s b in absurd (omega (arith, old k.0 k.1, im.keeps_known k.0 s k.2, e, im.numbered x a))
+        | inr b ↦ im.held x s a b
+      ]
+    ]))
     sound)
+
+-- a row and what is known of it where they have this number, and the others as they are
+pub one_outcome : (P : ℕ → Stamp → List ℕ → Type 0) (c : ℕ) (x z : StampRow) (s t : Known) → Alike z t → (z.copy ≡ c → Alike x s × P x.copy x.stamp s.set) → (z.copy ≢ c → P z.copy z.stamp t.set)
+    → Outcome P (Some (cond (z.copy == c) x z)) (Some (cond (t.copy == c) s t))
+one_outcome P c x z s t a here other = elim (cases_Bool (z.copy == c)) [
+  | inl e ↦ let m = here (eqb-true z.copy c e) in some x s (ap (λ (b : Bool). Some (cond b x z)) e) (ap (λ (b : Bool). Some (cond b s t)) (ap (λ (k : ℕ). k == c) (sym a.copy) ∙ e)) m.0 m.1
+  | inr e ↦ some z t (ap (λ (b : Bool). Some (cond b x z)) e) (ap (λ (b : Bool). Some (cond b s t)) (ap (λ (k : ℕ). k == c) (sym a.copy) ∙ e)) a (other (eqb-false z.copy c e))
+]
+
+-- a row stays exactly where what is known of it does
+pub stay_outcome : (P : ℕ → Stamp → List ℕ → Type 0) (b d : Bool) (x : StampRow) (s : Known) → b ≡ d → Alike x s → (b ≡ false → P x.copy x.stamp s.set) → Outcome P (cond b None (Some x)) (cond d None (Some s))
+stay_outcome P true d x s same a held = none refl (ap (λ (v : Bool). cond v None (Some s)) (sym same))
+stay_outcome P false d x s same a held = some x s refl (ap (λ (v : Bool). cond v None (Some s)) (sym same)) a (held refl)

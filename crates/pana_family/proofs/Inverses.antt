@@ -1,6 +1,7 @@
 -- Each change of rows has an inverse.
 use Rattle.std.specs.Prelude.{◌≡◌, ◌≢◌, ◌==◌, ◌+◌, ◌<◌, ℕ, Bool, true, false, cond, Option, Some, None, List, [], ◌∷◌, ◌++◌, length, take, drop, reverse, suc, zero, nat_lt, ◌||◌, position, IfSome, IfNone, slice_index_or}
 use Rattle.std.specs.Option.{option_map}
+use Rattle.std.specs.List.{list_any}
 use Rattle.std.proofs.Common.{refl, sym, ap, subst, ◌∙◌, inl, inr, arith, get_or, set}
 use Rattle.std.proofs.Math.Path.{fun_ext}
 use Rattle.std.proofs.lemmas.List.Sums.{sum_by-append}
@@ -12,11 +13,11 @@ use Rattle.pana_family.specs.declared.change.Exchange.TheVariants.{Put, Take}
 use Rattle.pana_family.specs.declared.change.Change.{Change}
 use Rattle.pana_family.specs.declared.change.Change.TheVariants.{Event as Renew, Touch, Rows}
 use Rattle.pana_family.specs.Table.{In}
-use Rattle.pana_family.specs.Rows.{IsRising, there, dropped, put_back, renewed}
+use Rattle.pana_family.specs.Rows.{IsRising, dropped, put_back, renewed, row_at}
 use Rattle.pana_family.proofs.Members.{above_low}
 use Rattle.pana_family.proofs.Backs.{same_rows, rising_put}
-use Rattle.pana_family.proofs.Places.{in_at, is_found, not_found, rising_dropped, rising_replaced, set_is}
-use Rattle.pana_family.specs.Change.{row_at, number_of, row_of, at_number, placed, placed_all, formers, is_put, puts, mapped, with_event, with_touch, changed, event_back, touch_back, inverse, exchanged_all, after}
+use Rattle.pana_family.proofs.Places.{in_at, is_found, not_found, rising_dropped, row_in_at}
+use Rattle.pana_family.specs.Change.{number_of, row_of, at_number, placed, placed_all, formers, is_put, puts, mapped, with_event, with_touch, changed, event_back, touch_back, inverse, exchanged_all, after}
 
 -- rows by number, each under its own
 abbrev pub AreNamed : (ℕ → Option StampRow) → Type 0
@@ -129,18 +130,10 @@ row_put x rows = fun_ext (each rows)
           ]
         ] refl
 
--- the row of a number
-pub row_in_at : (low : ℕ) (r : StampRow) (rows : List StampRow) → IsRising low rows → In r rows → row_at rows r.copy ≡ Some r
-row_in_at low r [] up i = absurd i
-row_in_at low r (q ∷ rows) up i = elim i [
-  | inl e ↦ ap (λ (k : StampRow). row_at (q ∷ rows) k.copy) e ∙ ap (λ (b : Bool). cond b (Some q) (row_at rows q.copy)) (eq-eqb q.copy q.copy refl) ∙ ap Some (sym e)
-  | inr j ↦ ap (λ (b : Bool). cond b (Some q) (row_at rows r.copy)) (ne_eqb q.copy r.copy (λ e. omega (arith, above_low (q.copy + 1) rows r up.1 j, e))) ∙ row_in_at (q.copy + 1) r rows up.1 j
-]
-
-pub none_at : (n : ℕ) (rows : List StampRow) → there rows n ≡ false → row_at rows n ≡ None
+pub none_at : (n : ℕ) (rows : List StampRow) → list_any (λ r. r.copy == n) rows ≡ false → row_at rows n ≡ None
 none_at n [] gone = refl
 none_at n (r ∷ rows) gone =
-    elim (r.copy == n) as (λ b. (b || there rows n) ≡ false → cond b (Some r) (row_at rows n) ≡ None) [ true ↦ λ h. absurd (cc h) | false ↦ λ h. none_at n rows h ] gone
+    elim (r.copy == n) as (λ b. (b || list_any (λ r. r.copy == n) rows) ≡ false → cond b (Some r) (row_at rows n) ≡ None) [ true ↦ λ h. absurd (cc h) | false ↦ λ h. none_at n rows h ] gone
 
 -- what a search finds
 pub found_row : (n at : ℕ) (rows : List StampRow) → IsRising 0 rows → position (λ row. row.copy == n) rows ≡ Some at → (at < length rows) × ((d : StampRow) → row_at rows n ≡ Some (get_or rows at d))
@@ -246,6 +239,11 @@ set_mapped low c at f d rows up within named keeps = fun_ext (each low at rows u
           | false ↦ λ w. refl
         ] refl
 
+rising_set : (low at : ℕ) (x d : StampRow) (rows : List StampRow) → IsRising low rows → at < length rows → x.copy ≡ (get_or rows at d).copy → IsRising low (set rows at x)
+rising_set low at x d [] up within same = absurd (omega arith)
+rising_set low zero x d (r ∷ rows) up within same = (omega (arith, up.0, same), subst (λ (k : ℕ). IsRising (k + 1) rows) (sym same) up.1)
+rising_set low (suc at) x d (r ∷ rows) up within same = (up.0, rising_set (r.copy + 1) at x d rows up.1 (omega arith) same)
+
 -- the same, where the row was found by its number
 pub mapped_at : (c at : ℕ) (f : StampRow → StampRow) (r x : StampRow) (rows seen : List StampRow) → IsRising 0 rows → seen ≡ rows → at < length seen → row_at seen c ≡ Some (get_or seen at r) → r ≡ get_or rows at r → x ≡ f r
     → ((q : StampRow) → (f q).copy ≡ q.copy) → IsRising 0 (set rows at x) × (row_at (set rows at x) ≡ mapped c f (row_at rows))
@@ -253,7 +251,7 @@ mapped_at c at f r x rows seen up same within found read is keeps =
     let here : (at < length rows) × (row_at rows c ≡ Some (get_or rows at r)) = subst (λ (l : List StampRow). (at < length l) × (row_at l c ≡ Some (get_or l at r))) same (within, found) in
     let named : (get_or rows at r).copy ≡ c = named_at rows c (get_or rows at r) here.1 in
     let made : x ≡ f (get_or rows at r) = is ∙ ap f read in (
-      subst (IsRising 0) (sym (set_is 0 c at x r rows up here.0 named)) (rising_replaced 0 c x rows up (ap (λ (q : StampRow). q.copy) made ∙ keeps (get_or rows at r) ∙ named)),
+      rising_set 0 at x r rows up here.0 (ap (λ (q : StampRow). q.copy) made ∙ keeps (get_or rows at r)),
       ap (λ (q : StampRow). row_at (set rows at q)) made ∙ set_mapped 0 c at f r rows up here.0 named keeps,
     )
 

@@ -1,17 +1,19 @@
--- Members of changed rows and tables, and what copies hold.
-use Rattle.std.specs.Prelude.{not, ◌≡◌, ◌≢◌, ℕ, ◌≤◌, ◌+◌, Bool, true, false, ◌==◌, cond, ◌⊎◌, List, [], ◌∷◌, ◌++◌, length}
+-- Members of lists, rows and tables side by side, and what copies hold.
+use Rattle.std.specs.Prelude.{◌≡◌, ◌≢◌, ℕ, ◌≤◌, ◌+◌, Bool, true, false, ◌==◌, ◌||◌, cond, not, ◌⊎◌, List, [], ◌∷◌, ◌++◌, length, filter, Option, Some, None}
+use Rattle.std.specs.List.{list_any}
 use Rattle.std.proofs.Common.{refl, sym, ap, subst, ◌∙◌, inl, inr, arith, suc}
-use Rattle.std.proofs.lemmas.Bool.{eqb-true, eqb-false}
+use Rattle.std.proofs.lemmas.Bool.{both_ways, or_cases, or_left, or_parts, or_right, eq-eqb, eqb-true, eqb-false, false_from_ne_true, ne_eqb}
 use Rattle.pana_id.specs.Id.{has as owns, is_zero, SharesNoPoint, AtPoints}
 use Rattle.pana_event.specs.Event.{level}
 use Rattle.pana_stamp.specs.declared.stamp.Stamp.{Stamp}
 use Rattle.pana_family.specs.declared.row.StampRow.{StampRow}
-use Rattle.pana_family.specs.Updates.{has}
-use Rattle.pana_family.specs.Table.{Known, In, change, without, set_in}
+use Rattle.pana_family.specs.Updates.{has, union}
+use Rattle.pana_family.specs.Holders.{leave, is_held}
+use Rattle.pana_family.specs.Table.{Known, In, AreBelow, change, set_in}
 use Rattle.pana_family.specs.Stands.{top, AreSame, IsMarked, StandsFor}
 use Rattle.pana_family.specs.Rows.{IsRising}
-use Rattle.pana_family.specs.Rows.{replaced}
 use Rattle.pana_family.proofs.Sound.{Marked, Sound, Put, all_put}
+use Rattle.pana_family.proofs.Unions.{missing}
 
 -- Members.
 
@@ -26,14 +28,48 @@ pub in_left : {A : Type 0} (x : A) (xs ys : List A) → In x xs → In x (xs ++ 
 in_left x [] ys i = absurd i
 in_left x (y ∷ xs) ys i = elim i [ inl e ↦ inl e | inr j ↦ inr (in_left x xs ys j) ]
 
-pub in_replaced : (c : ℕ) (x : StampRow) (rows : List StampRow) (y : StampRow) → In y (replaced c x rows) → (y ≡ x) ⊎ (In y rows × (y.copy ≢ c))
-in_replaced c x [] y i = absurd i
-in_replaced c x (r ∷ rows) y i =
-    let later : In y (replaced c x rows) → (y ≡ x) ⊎ (In y (r ∷ rows) × (y.copy ≢ c)) = λ j. elim (in_replaced c x rows y j) [ inl e ↦ inl e | inr k ↦ inr (inr k.0, k.1) ] in
-    elim (r.copy == c) as (λ b. (r.copy == c) ≡ b → (y ≡ cond b x r) ⊎ In y (replaced c x rows) → (y ≡ x) ⊎ (In y (r ∷ rows) × (y.copy ≢ c))) [
-      | true ↦ λ t h. elim h [ inl e ↦ inl e | inr j ↦ later j ]
-      | false ↦ λ t h. elim h [ inl e ↦ inr (inl e, λ k. eqb-false r.copy c t (ap (λ (q : StampRow). q.copy) (sym e) ∙ k)) | inr j ↦ later j ]
+pub in_right : {A : Type 0} (x : A) (xs ys : List A) → In x ys → In x (xs ++ ys)
+in_right x [] ys i = i
+in_right x (y ∷ xs) ys i = inr (in_right x xs ys i)
+
+pub in_filter : {A : Type 0} (test : A → Bool) (xs : List A) (y : A) → In y (filter test xs) → In y xs × (test y ≡ true)
+in_filter test [] y i = absurd i
+in_filter test (x ∷ xs) y i =
+    let later : In y (filter test xs) → In y (x ∷ xs) × (test y ≡ true) = λ j. let k = in_filter test xs y j in (inr k.0, k.1) in
+    elim (test x) as (λ b. test x ≡ b → In y (cond b (x ∷ filter test xs) (filter test xs)) → In y (x ∷ xs) × (test y ≡ true)) [
+      | true ↦ λ w h. elim h [ inl e ↦ (inl e, ap test e ∙ w) | inr j ↦ later j ]
+      | false ↦ λ w h. later h
     ] refl i
+
+pub to_filter : {A : Type 0} (test : A → Bool) (xs : List A) (y : A) → In y xs → test y ≡ true → In y (filter test xs)
+to_filter test [] y i passes = absurd i
+to_filter test (x ∷ xs) y i passes = elim i [
+  | inl e ↦ rw (ap test (sym e) ∙ passes) (inl e)
+  | inr j ↦ let later = to_filter test xs y j passes in elim (test x) as (λ b. In y (cond b (x ∷ filter test xs) (filter test xs))) [ true ↦ inr later | false ↦ later ]
+]
+
+pub any_from : {A : Type 0} (test : A → Bool) (xs : List A) (x : A) → In x xs → test x ≡ true → list_any test xs ≡ true
+any_from test [] x i e = absurd i
+any_from test (y ∷ xs) x i e = elim i [
+  | inl is ↦ or_left (test y) (list_any test xs) (ap test (sym is) ∙ e)
+  | inr j ↦ or_right (test y) (list_any test xs) (any_from test xs x j e)
+]
+
+pub any_some : {A : Type 0} (test : A → Bool) (xs : List A) → list_any test xs ≡ true → (x : A) × In x xs × (test x ≡ true)
+any_some test [] e = absurd (cc)
+any_some test (y ∷ xs) e = elim (or_cases (test y) (list_any test xs) e) [
+  | inl h ↦ (y, inl refl, h)
+  | inr h ↦ let m = any_some test xs h in (m.0, inr m.1, m.2)
+]
+
+pub from_both : (a b : Bool) → (a ≡ true → b ≡ true) → (b ≡ true → a ≡ true) → a ≡ b
+from_both true b f g = sym (f refl)
+from_both false true f g = g refl
+from_both false false f g = refl
+
+pub not_held : (c : ℕ) (o : Option ℕ) → o ≡ None → is_held c o ≡ false
+not_held c None e = refl
+not_held c (Some h) e = absurd (cc)
 
 pub in_change : (c : ℕ) (f : Known → Known) (table : List Known) (s : Known) → In s (change c f table)
     → ((t : Known) × In t table × (t.copy ≡ c) × (s ≡ f t)) ⊎ (In s table × (s.copy ≢ c))
@@ -44,15 +80,6 @@ in_change c f (t ∷ table) s i =
     elim (t.copy == c) as (λ b. (t.copy == c) ≡ b → (s ≡ cond b (f t) t) ⊎ In s (change c f table) → ((k : Known) × In k (t ∷ table) × (k.copy ≡ c) × (s ≡ f k)) ⊎ (In s (t ∷ table) × (s.copy ≢ c))) [
       | true ↦ λ w h. elim h [ inl e ↦ inl (t, inl refl, eqb-true t.copy c w, e) | inr j ↦ later j ]
       | false ↦ λ w h. elim h [ inl e ↦ inr (inl e, λ k. eqb-false t.copy c w (ap (λ (q : Known). q.copy) (sym e) ∙ k)) | inr j ↦ later j ]
-    ] refl i
-
-pub in_without : (c : ℕ) (table : List Known) (s : Known) → In s (without c table) → In s table × (s.copy ≢ c)
-in_without c [] s i = absurd i
-in_without c (t ∷ table) s i =
-    let later : In s (without c table) → In s (t ∷ table) × (s.copy ≢ c) = λ j. let k = in_without c table s j in (inr k.0, k.1) in
-    elim (t.copy == c) as (λ b. (t.copy == c) ≡ b → In s (cond (not b) (t ∷ without c table) (without c table)) → In s (t ∷ table) × (s.copy ≢ c)) [
-      | true ↦ λ w h. later h
-      | false ↦ λ w h. elim h [ inl e ↦ (inl e, λ k. eqb-false t.copy c w (ap (λ (q : Known). q.copy) (sym e) ∙ k)) | inr j ↦ later j ]
     ] refl i
 
 -- the set that is found is one of the table's
@@ -92,37 +119,64 @@ same_length [] (t ∷ table) same = absurd same
 same_length (r ∷ rows) [] same = absurd same
 same_length (r ∷ rows) (t ∷ table) same = ap suc (same_length rows table same.3)
 
-pub same_changed : (c : ℕ) (x : StampRow) (f : Known → Known) (rows : List StampRow) (table : List Known) → AreSame rows table → x.copy ≡ c
-    → ((t : Known) → (f t).copy ≡ t.copy) → ((t : Known) → (f t).touch ≡ x.touch) → ((t : Known) → (f t).holder ≡ t.holder) → ((r : StampRow) → In r rows → r.copy ≡ c → x.holder ≡ r.holder)
-    → AreSame (replaced c x rows) (change c f table)
-same_changed c x f [] [] same named copies touches holders one = tt
-same_changed c x f [] (t ∷ table) same named copies touches holders one = absurd same
-same_changed c x f (r ∷ rows) [] same named copies touches holders one = absurd same
-same_changed c x f (r ∷ rows) (t ∷ table) same named copies touches holders one =
-    let here : (r.copy == c) ≡ (t.copy == c) = ap (λ (k : ℕ). k == c) same.0 in
-    let rest : AreSame (replaced c x rows) (change c f table) = same_changed c x f rows table same.3 named copies touches holders (λ q i. one q (inr i)) in
-    elim (r.copy == c) as (λ b. (r.copy == c) ≡ b → AreSame (cond b x r ∷ replaced c x rows) (change c f (t ∷ table))) [
-      | true ↦ λ w. rw (sym here ∙ w) (named ∙ sym (eqb-true r.copy c w) ∙ same.0 ∙ sym (copies t), sym (touches t), one r (inl refl) (eqb-true r.copy c w) ∙ same.2 ∙ sym (holders t), rest)
-      | false ↦ λ w. rw (sym here ∙ w) (same.0, same.1, same.2, rest)
-    ] refl
+pub same_append : (xs : List StampRow) (ts : List Known) (ys : List StampRow) (ss : List Known) → AreSame xs ts → AreSame ys ss → AreSame (xs ++ ys) (ts ++ ss)
+same_append [] [] ys ss same also = also
+same_append [] (t ∷ ts) ys ss same also = absurd same
+same_append (x ∷ xs) [] ys ss same also = absurd same
+same_append (x ∷ xs) (t ∷ ts) ys ss same also = (same.0, same.1, same.2, same_append xs ts ys ss same.3 also)
 
-pub same_restamped : (c : ℕ) (x : StampRow) (rows : List StampRow) (table : List Known) → AreSame rows table → x.copy ≡ c
-    → ((r : StampRow) → In r rows → r.copy ≡ c → (x.touch ≡ r.touch) × (x.holder ≡ r.holder)) → AreSame (replaced c x rows) table
-same_restamped c x [] [] same named touches = tt
-same_restamped c x [] (t ∷ table) same named touches = absurd same
-same_restamped c x (r ∷ rows) [] same named touches = absurd same
-same_restamped c x (r ∷ rows) (t ∷ table) same named touches =
-    let rest : AreSame (replaced c x rows) table = same_restamped c x rows table same.3 named (λ q i. touches q (inr i)) in
-    elim (r.copy == c) as (λ b. (r.copy == c) ≡ b → AreSame (cond b x r ∷ replaced c x rows) (t ∷ table)) [
-      | true ↦ λ w. (named ∙ sym (eqb-true r.copy c w) ∙ same.0, (touches r (inl refl) (eqb-true r.copy c w)).0 ∙ same.1, (touches r (inl refl) (eqb-true r.copy c w)).1 ∙ same.2, rest)
-      | false ↦ λ w. (same.0, same.1, same.2, rest)
-    ] refl
+-- Rising rows.
 
-pub same_pushed : (x : StampRow) (k : Known) (rows : List StampRow) (table : List Known) → AreSame rows table → x.copy ≡ k.copy → x.touch ≡ k.touch → x.holder ≡ k.holder → AreSame (rows ++ x ∷ []) (table ++ k ∷ [])
-same_pushed x k [] [] same named touched also = (named, touched, also, tt)
-same_pushed x k [] (t ∷ table) same named touched also = absurd same
-same_pushed x k (r ∷ rows) [] same named touched also = absurd same
-same_pushed x k (r ∷ rows) (t ∷ table) same named touched also = (same.0, same.1, same.2, same_pushed x k rows table same.3 named touched also)
+pub above_low : (low : ℕ) (rows : List StampRow) (y : StampRow) → IsRising low rows → In y rows → low ≤ y.copy
+above_low low [] y up i = absurd i
+above_low low (r ∷ rows) y up i = elim i [
+  | inl e ↦ omega (arith, up.0, ap (λ (q : StampRow). q.copy) e)
+  | inr j ↦ omega (arith, up.0, above_low (r.copy + 1) rows y up.1 j)
+]
+
+pub one_row : (low : ℕ) (rows : List StampRow) (y z : StampRow) → IsRising low rows → In y rows → In z rows → y.copy ≡ z.copy → y ≡ z
+one_row low [] y z up i j e = absurd i
+one_row low (r ∷ rows) y z up i j e = elim i [
+  | inl a ↦ elim j [
+    | inl b ↦ a ∙ sym b
+    | inr b ↦ absurd (omega (arith, above_low (r.copy + 1) rows z up.1 b, e, ap (λ (q : StampRow). q.copy) a))
+  ]
+  | inr a ↦ elim j [
+    | inl b ↦ absurd (omega (arith, above_low (r.copy + 1) rows y up.1 a, e, ap (λ (q : StampRow). q.copy) b))
+    | inr b ↦ one_row (r.copy + 1) rows y z up.1 a b e
+  ]
+]
+
+-- Each number stands once in a table.
+
+abbrev pub One : List Known → Type 0
+One table = (t s : Known) → In t table → In s table → t.copy ≡ s.copy → t ≡ s
+
+pub one_known : (low : ℕ) (rows : List StampRow) (table : List Known) → AreSame rows table → IsRising low rows → One table
+one_known low [] [] same up t s i j e = absurd i
+one_known low [] (k ∷ table) same up t s i j e = absurd same
+one_known low (r ∷ rows) [] same up t s i j e = absurd same
+one_known low (r ∷ rows) (k ∷ table) same up t s i j e =
+    let later : (u : Known) → In u table → r.copy + 1 ≤ u.copy = λ u l. let m = of_known rows table same.3 u l in omega (arith, above_low (r.copy + 1) rows m.0 up.1 m.1, m.2) in
+    elim i [
+      | inl a ↦ elim j [
+        | inl b ↦ a ∙ sym b
+        | inr b ↦ absurd (omega (arith, later s b, e, ap (λ (w : Known). w.copy) a, same.0))
+      ]
+      | inr a ↦ elim j [
+        | inl b ↦ absurd (omega (arith, later t a, e, ap (λ (w : Known). w.copy) b, same.0))
+        | inr b ↦ one_known (r.copy + 1) rows table same.3 up.1 t s a b e
+      ]
+    ]
+
+pub set_of : (table : List Known) (t : Known) → One table → In t table → set_in table t.copy ≡ t.set
+set_of table t one i = let k = found_in table t i in sym k.3 ∙ ap (λ (w : Known). w.set) (one k.0 t k.1 i k.2)
+
+-- a row and what is known of it are held alike
+pub same_holder : (rows : List StampRow) (table : List Known) → AreSame rows table → IsRising 0 rows → (r : StampRow) (t : Known) → In r rows → In t table → r.copy ≡ t.copy → r.holder ≡ t.holder
+same_holder rows table same up r t i j e =
+    let m = of_known rows table same t j in
+    ap (λ (w : StampRow). w.holder) (one_row 0 rows r m.0 up i m.1 (e ∙ sym m.2)) ∙ m.4
 
 -- What copies hold.
 
@@ -188,57 +242,6 @@ of_sound rows table same sound = record {
   };
 }
 
--- the sets of copy c after a change
-abbrev pub Changed : List Known → ℕ → (Known → Known) → List ℕ → Type 0
-Changed table c f ys = (t : Known) × In t table × (t.copy ≡ c) × (ys ≡ (f t).set)
-
-pub holds_changed : (c : ℕ) (x : StampRow) (f : Known → Known) (rows : List StampRow) (table : List Known) → x.copy ≡ c → ((t : Known) → (f t).copy ≡ t.copy)
-    → (d : ℕ) (s : Stamp) (ys : List ℕ) → Holds (replaced c x rows) (change c f table) d s ys → Put (Holds rows table) c x.stamp (Changed table c f) d s ys
-holds_changed c x f rows table named copies =
-    all_held (replaced c x rows) (change c f table) (Put (Holds rows table) c x.stamp (Changed table c f))
-    (λ r s i j e. elim (in_replaced c x rows r i) [
-      | inl is ↦ elim (in_change c f table s j) [
-        | inl k ↦ inl (ap (λ (q : StampRow). q.copy) is ∙ named, ap (λ (q : StampRow). q.stamp) is, (k.0, k.1, k.2, ap (λ (q : Known). q.set) k.3))
-        | inr k ↦ absurd (k.1 (sym e ∙ ap (λ (q : StampRow). q.copy) is ∙ named))
-      ]
-      | inr other ↦ elim (in_change c f table s j) [
-        | inl k ↦ absurd (other.1 (e ∙ ap (λ (q : Known). q.copy) k.3 ∙ copies k.0 ∙ k.2))
-        | inr k ↦ inr (held rows table r s other.0 k.0 e, other.1)
-      ]
-    ])
-
--- the sets of copy c
-abbrev pub SetsOf : List Known → ℕ → List ℕ → Type 0
-SetsOf table c ys = (t : Known) × In t table × (t.copy ≡ c) × (ys ≡ t.set)
-
-pub holds_restamped : (c : ℕ) (x : StampRow) (rows : List StampRow) (table : List Known) → x.copy ≡ c
-    → (d : ℕ) (s : Stamp) (ys : List ℕ) → Holds (replaced c x rows) table d s ys → Put (Holds rows table) c x.stamp (SetsOf table c) d s ys
-holds_restamped c x rows table named =
-    all_held (replaced c x rows) table (Put (Holds rows table) c x.stamp (SetsOf table c))
-    (λ r s i j e. elim (in_replaced c x rows r i) [
-      | inl is ↦ let at : r.copy ≡ c = ap (λ (q : StampRow). q.copy) is ∙ named in inl (at, ap (λ (q : StampRow). q.stamp) is, (s, j, sym e ∙ at, refl))
-      | inr other ↦ inr (held rows table r s other.0 j e, other.1)
-    ])
-
-pub holds_pushed : (n : ℕ) (x : StampRow) (k : Known) (rows : List StampRow) (table : List Known) → x.copy ≡ n → k.copy ≡ n
-    → ((r : StampRow) → In r rows → r.copy ≢ n) → ((t : Known) → In t table → t.copy ≢ n)
-    → (d : ℕ) (s : Stamp) (ys : List ℕ) → Holds (rows ++ x ∷ []) (table ++ k ∷ []) d s ys → Put (Holds rows table) n x.stamp (λ zs. zs ≡ k.set) d s ys
-holds_pushed n x k rows table named known new_row new_known =
-    all_held (rows ++ x ∷ []) (table ++ k ∷ []) (Put (Holds rows table) n x.stamp (λ zs. zs ≡ k.set))
-    (λ r s i j e. elim (in_append r rows (x ∷ []) i) [
-      | inl here ↦ elim (in_append s table (k ∷ []) j) [
-        | inl there ↦ inr (held rows table r s here there e, new_row r here)
-        | inr last ↦ elim last [ inl is ↦ absurd (new_row r here (e ∙ ap (λ (q : Known). q.copy) is ∙ known)) | inr never ↦ absurd never ]
-      ]
-      | inr final ↦ elim final [
-        | inl at ↦ elim (in_append s table (k ∷ []) j) [
-          | inl there ↦ absurd (new_known s there (sym e ∙ ap (λ (q : StampRow). q.copy) at ∙ named))
-          | inr last ↦ elim last [ inl is ↦ inl (ap (λ (q : StampRow). q.copy) at ∙ named, ap (λ (q : StampRow). q.stamp) at, ap (λ (q : Known). q.set) is) | inr never ↦ absurd never ]
-        ]
-        | inr never ↦ absurd never
-      ]
-    ])
-
 -- a relation with more in it
 pub put_more : (P P' : ℕ → Stamp → List ℕ → Type 0) (c : ℕ) (x : Stamp) (G G' : List ℕ → Type 0)
     → ((d : ℕ) (s : Stamp) (ys : List ℕ) → P d s ys → d ≢ c → P' d s ys) → ((ys : List ℕ) → G ys → G' ys)
@@ -246,24 +249,25 @@ pub put_more : (P P' : ℕ → Stamp → List ℕ → Type 0) (c : ℕ) (x : Sta
 put_more P P' c x G G' f g =
     all_put P c x G (Put P' c x G') (λ ys h. inl (refl, refl, g ys h)) (λ d s ys h ne. inr (f d s ys h ne, ne))
 
--- Rising rows.
+-- a row's copy holds the set that is found for it
+pub holds_found : (rows : List StampRow) (table : List Known) → AreSame rows table → (r : StampRow) → In r rows → Holds rows table r.copy r.stamp (set_in table r.copy)
+holds_found rows table same r i =
+    let t = of_row rows table same r i in
+    let k = found_in table t.0 t.1 in
+    subst (λ (xs : List ℕ). Holds rows table r.copy r.stamp xs) (k.3 ∙ ap (λ (c : ℕ). set_in table c) (sym t.2)) (held rows table r k.0 i k.1 (t.2 ∙ sym k.2))
 
-pub above_low : (low : ℕ) (rows : List StampRow) (y : StampRow) → IsRising low rows → In y rows → low ≤ y.copy
-above_low low [] y up i = absurd i
-above_low low (r ∷ rows) y up i = elim i [
-  | inl e ↦ omega (arith, up.0, ap (λ (q : StampRow). q.copy) e)
-  | inr j ↦ omega (arith, up.0, above_low (r.copy + 1) rows y up.1 j)
-]
+pub unknown_yet : (rows : List StampRow) (table : List Known) (n : ℕ) → AreBelow n table → (d : ℕ) (s : Stamp) (xs : List ℕ) → Holds rows table d s xs → has xs n ≡ false
+unknown_yet rows table n below =
+    all_held rows table (λ d s xs. has xs n ≡ false) (λ r t i j e. false_from_ne_true (has t.set n) (λ m. absurd (omega (arith, below t n j m))))
 
-pub one_row : (low : ℕ) (rows : List StampRow) (y z : StampRow) → IsRising low rows → In y rows → In z rows → y.copy ≡ z.copy → y ≡ z
-one_row low [] y z up i j e = absurd i
-one_row low (r ∷ rows) y z up i j e = elim i [
-  | inl a ↦ elim j [
-    | inl b ↦ a ∙ sym b
-    | inr b ↦ absurd (omega (arith, above_low (r.copy + 1) rows z up.1 b, e, ap (λ (q : StampRow). q.copy) a))
-  ]
-  | inr a ↦ elim j [
-    | inl b ↦ absurd (omega (arith, above_low (r.copy + 1) rows y up.1 a, e, ap (λ (q : StampRow). q.copy) b))
-    | inr b ↦ one_row (r.copy + 1) rows y z up.1 a b e
-  ]
-]
+-- an update that the second set lacks goes to the head of both together
+pub union_fresh : (n : ℕ) (xs ys : List ℕ) → has ys n ≡ false → union (n ∷ xs) ys ≡ n ∷ union xs ys
+union_fresh n xs ys fresh = ap (λ l. n ∷ (xs ++ l)) (missing_fresh ys fresh)
+  where
+    missing_fresh : (ys : List ℕ) → has ys n ≡ false → missing (n ∷ xs) ys ≡ missing xs ys
+    missing_fresh [] fresh = refl
+    missing_fresh (y ∷ ys) fresh =
+        let differ : (n == y) ≡ false = ne_eqb n y (λ e. both_ways (y == n) (or_parts (y == n) (has ys n) fresh).0 (eq-eqb y n (sym e))) in
+        let rest : missing (n ∷ xs) ys ≡ missing xs ys = missing_fresh ys (or_parts (y == n) (has ys n) fresh).1 in
+        ap (λ (b : Bool). cond (not (b || has xs y)) (y ∷ missing (n ∷ xs) ys) (missing (n ∷ xs) ys)) differ
+        ∙ ap (λ (l : List ℕ). cond (not (has xs y)) (y ∷ l) l) rest

@@ -1,14 +1,14 @@
 -- Rows by their places, and rising rows after a change.
-use Rattle.std.specs.Prelude.{◌≡◌, ◌≢◌, ℕ, ◌≤◌, ◌<◌, ◌+◌, Bool, true, false, ◌||◌, ◌==◌, cond, not, List, [], ◌∷◌, ◌++◌, length, Option, Some, None, position, nat_lt, nat_le, max}
+use Rattle.std.specs.Prelude.{◌≡◌, ◌≢◌, ℕ, ◌≤◌, ◌<◌, ◌+◌, Bool, true, false, ◌||◌, ◌==◌, cond, not, List, [], ◌∷◌, ◌++◌, length, Option, Some, None, position, nat_lt, nat_le, unwrap_or}
 use Rattle.std.specs.List.{remove, insert, position_or_len, list_any}
 use Rattle.std.proofs.Common.{refl, sym, ap, subst, ◌∙◌, inl, inr, arith, get_or, set, zero, suc}
 use Rattle.std.proofs.lemmas.Bool.{cases_Bool, eq-eqb, ne_eqb, eqb-true, lt-ltb, le-ltb, leb-true, leb-false, ltb-false}
-use Rattle.pana_id.specs.Id.{depth}
+use Rattle.pana_id.specs.Id.{depth, zero_id}
+use Rattle.pana_event.specs.Event.{leaf}
 use Rattle.pana_family.specs.declared.row.StampRow.{StampRow}
 use Rattle.pana_family.specs.Table.{In}
 use Rattle.pana_family.specs.Holders.{is_copy}
-use Rattle.pana_family.specs.Rows.{IsRising, dropped, there, put_back, id_in, row_in, deepest}
-use Rattle.pana_family.specs.Rows.{replaced}
+use Rattle.pana_family.specs.Rows.{IsRising, dropped, put_back, row, row_at, row_in, stamp, deepest}
 use Rattle.pana_family.proofs.Members.{above_low}
 
 pub in_at : (rows : List StampRow) (i : ℕ) (d : StampRow) → i < length rows → In (get_or rows i d) rows
@@ -19,27 +19,11 @@ in_at (r ∷ rows) (suc i) d within = inr (in_at rows i d (omega arith))
 pub in_read : (rows : List StampRow) (i : ℕ) (r : StampRow) → i < length rows → r ≡ get_or rows i r → In r rows
 in_read rows i r within e = subst (λ (q : StampRow). In q rows) (sym e) (in_at rows i r within)
 
-pub replaced_none : (low c : ℕ) (x : StampRow) (rows : List StampRow) → IsRising low rows → c < low → replaced c x rows ≡ rows
-replaced_none low c x [] up less = refl
-replaced_none low c x (r ∷ rows) up less =
-    let other : (r.copy == c) ≡ false = ne_eqb r.copy c (λ e. omega (arith, up.0, e)) in
-    ap (λ (b : Bool). cond b x r ∷ replaced c x rows) other ∙ ap (λ (l : List StampRow). r ∷ l) (replaced_none (r.copy + 1) c x rows up.1 (omega (arith, up.0)))
-
 pub dropped_none : (low c : ℕ) (rows : List StampRow) → IsRising low rows → c < low → dropped c rows ≡ rows
 dropped_none low c [] up less = refl
 dropped_none low c (r ∷ rows) up less =
     let other : (r.copy == c) ≡ false = ne_eqb r.copy c (λ e. omega (arith, up.0, e)) in
     ap (λ (b : Bool). cond b (dropped c rows) (r ∷ dropped c rows)) other ∙ ap (λ (l : List StampRow). r ∷ l) (dropped_none (r.copy + 1) c rows up.1 (omega (arith, up.0)))
-
-pub set_is : (low c i : ℕ) (x d : StampRow) (rows : List StampRow) → IsRising low rows → i < length rows → (get_or rows i d).copy ≡ c → set rows i x ≡ replaced c x rows
-set_is low c i x d [] up within at = absurd (omega arith)
-set_is low c zero x d (r ∷ rows) up within at =
-    ap (λ (l : List StampRow). x ∷ l) (sym (replaced_none (r.copy + 1) c x rows up.1 (omega (arith, at))))
-    ∙ ap (λ (b : Bool). cond b x r ∷ replaced c x rows) (sym (eq-eqb r.copy c at))
-set_is low c (suc i) x d (r ∷ rows) up within at =
-    let later : r.copy + 1 ≤ c = omega (arith, at, above_low (r.copy + 1) rows (get_or rows i d) up.1 (in_at rows i d (omega arith))) in
-    ap (λ (l : List StampRow). r ∷ l) (set_is (r.copy + 1) c i x d rows up.1 (omega arith) at)
-    ∙ ap (λ (b : Bool). cond b x r ∷ replaced c x rows) (sym (ne_eqb r.copy c (λ e. omega (arith, later, e))))
 
 pub remove_is : (low c i : ℕ) (d : StampRow) (rows : List StampRow) → IsRising low rows → i < length rows → (get_or rows i d).copy ≡ c → remove rows i ≡ dropped c rows
 remove_is low c i d [] up within at = absurd (omega arith)
@@ -54,15 +38,6 @@ remove_is low c (suc i) d (r ∷ rows) up within at =
 pub rising_lower : (low m : ℕ) (rows : List StampRow) → m ≤ low → IsRising low rows → IsRising m rows
 rising_lower low m [] less up = tt
 rising_lower low m (r ∷ rows) less up = (omega (arith, up.0), up.1)
-
-pub rising_replaced : (low c : ℕ) (x : StampRow) (rows : List StampRow) → IsRising low rows → x.copy ≡ c → IsRising low (replaced c x rows)
-rising_replaced low c x [] up named = tt
-rising_replaced low c x (r ∷ rows) up named =
-    let rest : IsRising (r.copy + 1) (replaced c x rows) = rising_replaced (r.copy + 1) c x rows up.1 named in
-    elim (r.copy == c) as (λ b. (r.copy == c) ≡ b → IsRising low (cond b x r ∷ replaced c x rows)) [
-      | true ↦ λ w. let same : r.copy ≡ x.copy = eqb-true r.copy c w ∙ sym named in (omega (arith, up.0, same), subst (λ (k : ℕ). IsRising (k + 1) (replaced c x rows)) same rest)
-      | false ↦ λ w. (up.0, rest)
-    ] refl
 
 pub rising_dropped : (low c : ℕ) (rows : List StampRow) → IsRising low rows → IsRising low (dropped c rows)
 rising_dropped low c [] up = tt
@@ -82,20 +57,6 @@ pub put_back_later : (x r : StampRow) (rows : List StampRow) → r.copy < x.copy
 put_back_later x r rows less =
     ap (λ (b : Bool). cond b (x ∷ rows) (cond (nat_lt x.copy r.copy) (x ∷ (r ∷ rows)) (r ∷ put_back x rows))) (ne_eqb r.copy x.copy (λ e. omega (arith, e)))
     ∙ ap (λ (b : Bool). cond b (x ∷ (r ∷ rows)) (r ∷ put_back x rows)) (le-ltb x.copy r.copy (omega arith))
-
-pub id_found : (low : ℕ) (r : StampRow) (rows : List StampRow) → IsRising low rows → In r rows → id_in rows r.copy ≡ r.stamp.id
-id_found low r [] up i = absurd i
-id_found low r (q ∷ rows) up i = elim i [
-  | inl e ↦ ap (λ (b : Bool). cond b q.stamp.id (id_in rows r.copy)) (eq-eqb q.copy r.copy (ap (λ (k : StampRow). k.copy) (sym e))) ∙ ap (λ (k : StampRow). k.stamp.id) (sym e)
-  | inr j ↦ ap (λ (b : Bool). cond b q.stamp.id (id_in rows r.copy)) (ne_eqb q.copy r.copy (λ e. omega (arith, above_low (q.copy + 1) rows r up.1 j, e))) ∙ id_found (q.copy + 1) r rows up.1 j
-]
-
-pub in_replaced_other : (c : ℕ) (x : StampRow) (rows : List StampRow) (r : StampRow) → In r rows → r.copy ≢ c → In r (replaced c x rows)
-in_replaced_other c x [] r i ne = absurd i
-in_replaced_other c x (q ∷ rows) r i ne = elim i [
-  | inl e ↦ inl (e ∙ ap (λ (b : Bool). cond b x q) (sym (ne_eqb q.copy c (λ k. ne (ap (λ (w : StampRow). w.copy) e ∙ k)))))
-  | inr j ↦ inr (in_replaced_other c x rows r j ne)
-]
 
 -- where a row is or would be
 abbrev pub index_from : ℕ → List StampRow → ℕ
@@ -155,13 +116,13 @@ at_end test (r ∷ rows) none =
     ] none
 
 -- what a search for a number finds
-pub not_found : (copy : ℕ) (rows : List StampRow) → position (λ row. row.copy == copy) rows ≡ None → there rows copy ≡ false
-not_found copy rows none = elim (cases_Bool (there rows copy)) [ inl h ↦ absurd (cc (first_found (λ row. row.copy == copy) rows h, none)) | inr h ↦ h ]
+pub not_found : (copy : ℕ) (rows : List StampRow) → position (λ row. row.copy == copy) rows ≡ None → list_any (λ row. row.copy == copy) rows ≡ false
+not_found copy rows none = elim (cases_Bool (list_any (λ row. row.copy == copy) rows)) [ inl h ↦ absurd (cc (first_found (λ row. row.copy == copy) rows h, none)) | inr h ↦ h ]
 
 pub is_found : (copy at : ℕ) (rows : List StampRow) → position (λ row. row.copy == copy) rows ≡ Some at → (at < length rows) × ((d : StampRow) → (get_or rows at d).copy ≡ copy)
 is_found copy at rows some =
     let test : StampRow → Bool = λ row. row.copy == copy in
-    elim (cases_Bool (there rows copy)) [
+    elim (cases_Bool (list_any (λ row. row.copy == copy) rows)) [
       | inl h ↦
           let here : at ≡ first_in test rows = cc (first_found test rows h, some) in
           (omega (arith, here, first_within test rows h), λ d. ap (λ (k : ℕ). (get_or rows k d).copy) here ∙ eqb-true (get_or rows (first_in test rows) d).copy copy (first_holds test rows d h))
@@ -188,23 +149,21 @@ pub deepest_in : (rows : List StampRow) (r : StampRow) → In r rows → depth r
 deepest_in [] r i = absurd i
 deepest_in (q ∷ rows) r i = elim i [ inl e ↦ omega (arith, ap (λ (w : StampRow). depth w.stamp.id) e) | inr j ↦ omega (arith, deepest_in rows r j) ]
 
-pub deepest_replaced : (c : ℕ) (x : StampRow) (rows : List StampRow) → deepest (replaced c x rows) ≤ max (depth x.stamp.id) (deepest rows)
-deepest_replaced c x [] = omega arith
-deepest_replaced c x (r ∷ rows) =
-    let rest = deepest_replaced c x rows in
-    elim (r.copy == c) as (λ b. max (depth (cond b x r).stamp.id) (deepest (replaced c x rows)) ≤ max (depth x.stamp.id) (max (depth r.stamp.id) (deepest rows))) [ true ↦ omega (arith, rest) | false ↦ omega (arith, rest) ]
-
-pub deepest_pushed : (y : StampRow) (rows : List StampRow) → deepest (rows ++ y ∷ []) ≤ max (depth y.stamp.id) (deepest rows)
-deepest_pushed y [] = omega arith
-deepest_pushed y (r ∷ rows) = omega (arith, deepest_pushed y rows)
+pub deepest_by : (m : ℕ) (rows : List StampRow) → ((r : StampRow) → In r rows → depth r.stamp.id ≤ m) → deepest rows ≤ m
+deepest_by m [] all = omega arith
+deepest_by m (r ∷ rows) all = omega (arith, all r (inl refl), deepest_by m rows (λ q i. all q (inr i)))
 
 pub free_from : (o : Option ℕ) → is_copy o ≡ true → o ≡ None
 free_from None e = refl
 free_from (Some h) e = absurd (cc)
 
-pub row_found : (low : ℕ) (r : StampRow) (rows : List StampRow) → IsRising low rows → In r rows → row_in rows r.copy ≡ r
-row_found low r [] up i = absurd i
-row_found low r (q ∷ rows) up i = elim i [
-  | inl e ↦ ap (λ (b : Bool). cond b q (row_in rows r.copy)) (eq-eqb q.copy r.copy (ap (λ (k : StampRow). k.copy) (sym e))) ∙ sym e
-  | inr j ↦ ap (λ (b : Bool). cond b q (row_in rows r.copy)) (ne_eqb q.copy r.copy (λ e. omega (arith, above_low (q.copy + 1) rows r up.1 j, e))) ∙ row_found (q.copy + 1) r rows up.1 j
+-- the row of a number
+pub row_in_at : (low : ℕ) (r : StampRow) (rows : List StampRow) → IsRising low rows → In r rows → row_at rows r.copy ≡ Some r
+row_in_at low r [] up i = absurd i
+row_in_at low r (q ∷ rows) up i = elim i [
+  | inl e ↦ ap (λ (k : StampRow). row_at (q ∷ rows) k.copy) e ∙ ap (λ (b : Bool). cond b (Some q) (row_at rows q.copy)) (eq-eqb q.copy q.copy refl) ∙ ap Some (sym e)
+  | inr j ↦ ap (λ (b : Bool). cond b (Some q) (row_at rows r.copy)) (ne_eqb q.copy r.copy (λ e. omega (arith, above_low (q.copy + 1) rows r up.1 j, e))) ∙ row_in_at (q.copy + 1) r rows up.1 j
 ]
+
+pub row_found : (r : StampRow) (rows : List StampRow) → IsRising 0 rows → In r rows → row_in rows r.copy ≡ r
+row_found r rows up i = ap (λ (o : Option StampRow). unwrap_or o (row r.copy (stamp zero_id (leaf 0)) 0)) (row_in_at 0 r rows up i)

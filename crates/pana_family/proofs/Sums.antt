@@ -17,9 +17,7 @@ use Rattle.pana_family.specs.Rows.{IsRising, deepest, stamp, with_ids, AreSound}
 use Rattle.pana_family.specs.inner.Making.{AreApart}
 use Rattle.pana_family.proofs.Sound.{Sound, Put, below_subset, either_way, fewer, knows_as, not_both, subset_below, turned}
 use Rattle.pana_family.proofs.Relations.{within_subset, subset_within}
-use Rattle.pana_family.proofs.Members.{above_low}
-use Rattle.pana_family.proofs.Parcels.{from_both, any_some}
-use Rattle.pana_family.proofs.Owners.{in_right}
+use Rattle.pana_family.proofs.Members.{above_low, any_some, from_both, in_right}
 
 -- what an id is with those of the rows that pass
 pub record AreSummed (test : StampRow → Bool) (i : Id) (rows : List StampRow) (j : Id) : Type 0 where
@@ -117,7 +115,7 @@ pub with_more : (test : StampRow → Bool) (i : Id) (xs : List StampRow) (q : St
 with_more test i [] q = refl
 with_more test i (x ∷ xs) q = with_more test (cond (test x) (sum_of i x.stamp.id) i) xs q
 
-last_above : (low : ℕ) (xs : List StampRow) (q r : StampRow) → IsRising low (xs ++ q ∷ []) → In r xs → r.copy < q.copy
+pub last_above : (low : ℕ) (xs : List StampRow) (q r : StampRow) → IsRising low (xs ++ q ∷ []) → In r xs → r.copy < q.copy
 last_above low [] q r up i = absurd i
 last_above low (x ∷ xs) q r up i = elim i [
   | inl e ↦ omega (arith, ap (λ (w : StampRow). w.copy) e, above_low (x.copy + 1) (xs ++ q ∷ []) q up.1 (in_right q xs (q ∷ []) (inl refl)))

@@ -18,25 +18,12 @@ use Rattle.pana_family.specs.Table.{Known, In, copies_of}
 use Rattle.pana_family.specs.Stands.{StandsFor}
 use Rattle.pana_family.specs.Stamps.{AreStamps}
 use Rattle.pana_family.specs.Stamps.{row_text}
-use Rattle.pana_family.specs.Rows.{IsRising, id_in}
-use Rattle.pana_family.proofs.Images.{in_filter}
+use Rattle.pana_family.specs.Rows.{IsRising, row_in}
 use Rattle.pana_family.proofs.Sound.{below_subset, subset_below}
-use Rattle.pana_family.proofs.Members.{Holds, held, to_sound, of_known, above_low}
-use Rattle.pana_family.proofs.Places.{id_found}
+use Rattle.pana_family.proofs.Members.{Holds, held, to_sound, of_known, above_low, in_filter}
+use Rattle.pana_family.proofs.Places.{row_found}
 use Rattle.pana_family.proofs.Relations.{relates}
 use Rattle.pana_family.proofs.Boards.{OfOne, all_of_one, map_same, filter_same}
-
--- the event of a copy
-abbrev event_in : List StampRow → ℕ → Event
-event_in [] copy = leaf 0
-event_in (r ∷ rows) copy = cond (r.copy == copy) r.stamp.event (event_in rows copy)
-
-event_found : (low : ℕ) (r : StampRow) (rows : List StampRow) → IsRising low rows → In r rows → event_in rows r.copy ≡ r.stamp.event
-event_found low r [] up i = absurd i
-event_found low r (q ∷ rows) up i = elim i [
-  | inl e ↦ ap (λ (b : Bool). cond b q.stamp.event (event_in rows r.copy)) (eq-eqb q.copy r.copy (ap (λ (k : StampRow). k.copy) (sym e))) ∙ ap (λ (k : StampRow). k.stamp.event) (sym e)
-  | inr j ↦ ap (λ (b : Bool). cond b q.stamp.event (event_in rows r.copy)) (ne_eqb q.copy r.copy (λ e. omega (arith, above_low (q.copy + 1) rows r up.1 j, e))) ∙ event_found (q.copy + 1) r rows up.1 j
-]
 
 -- the relation of two sets is that of the events that stand for them
 by_sets : (e f : Event) (xs ys : List ℕ) → IsBelow e f ↔ IsSubset xs ys → IsBelow f e ↔ IsSubset ys xs → (rel : Rel) → rel ≡ relation xs ys → IsRelation e f rel
@@ -51,20 +38,19 @@ stamps_answer rows table up st valid stamps is =
     let copies : List Known = copies_of table in
     let R : StampRow → Known → Type 0 = OfOne rows table in
     let z : AllZip R rows table = all_of_one rows table rows table (λ r i. i) (λ t i. i) st.same in
-    let id_of : ℕ → Id = id_in rows in
-    let event_of : ℕ → Event = event_in rows in
+    let id_of : ℕ → Id = λ c. (row_in rows c).stamp.id in
+    let event_of : ℕ → Event = λ c. (row_in rows c).stamp.event in
     let row_of : (t : Known) → In t copies → (r : StampRow) × In r rows × In t table × (r.copy ≡ t.copy) × (id_of t.copy ≡ r.stamp.id) × (event_of t.copy ≡ r.stamp.event) =
     λ t i.
     let j : In t table = (in_filter (λ k. is_copy k.holder) table t i).0 in
     let m = of_known rows table st.same t j in
-    (m.0, m.1, j, m.2, ap id_of (sym m.2) ∙ id_found 0 m.0 rows up m.1, ap event_of (sym m.2) ∙ event_found 0 m.0 rows up m.1) in
+    (m.0, m.1, j, m.2, ap id_of (sym m.2) ∙ ap (λ (w : StampRow). w.stamp.id) (row_found m.0 rows up m.1), ap event_of (sym m.2) ∙ ap (λ (w : StampRow). w.stamp.event) (row_found m.0 rows up m.1)) in
     record {
       id_of = id_of;
       event_of = event_of;
       texts = is ∙ map_same R row_text (λ t. (t.copy, stamp_text (id_of t.copy) (event_of t.copy)))
           (λ r t a. let named : r.copy ≡ t.copy = a.2 in
-          ap (λ (i : Id). (r.copy, stamp_text i r.stamp.event)) (sym (id_found 0 r rows up a.0))
-          ∙ ap (λ (e : Event). (r.copy, stamp_text (id_of r.copy) e)) (sym (event_found 0 r rows up a.0))
+          ap (λ (w : StampRow). (r.copy, stamp_text w.stamp.id w.stamp.event)) (sym (row_found r rows up a.0))
           ∙ ap (λ (k : ℕ). (k, stamp_text (id_of k) (event_of k))) named)
           (filter (λ r. is_copy r.holder) rows) copies (filter_same R (λ r. is_copy r.holder) (λ t. is_copy t.holder) (λ r t a. ap is_copy a.3) rows table z);
       valid = λ t i. let m = row_of t i in let v = valid m.0 m.1 in (subst IsValid (sym m.4) v.0, subst IsSound (sym m.5) v.1);

@@ -1,11 +1,14 @@
 -- What a report leaves that writes at a position.
 use Rattle.std.specs.Prelude.{◌≡◌, ℕ, ◌<◌, List, length, None}
 use Rattle.std.proofs.Common.{sym, ap, subst, ◌∙◌, get_or}
+use Rattle.pana_id.specs.Id.{Id}
+use Rattle.pana_event.specs.Event.{Event}
+use Rattle.pana_stamp.specs.declared.stamp.Stamp.{Stamp}
 use Rattle.pana_family.specs.declared.row.StampRow.{StampRow}
 use Rattle.pana_family.specs.Table.{In}
-use Rattle.pana_family.specs.Rows.{id_in}
+use Rattle.pana_family.specs.Rows.{row_in, stamp}
 use Rattle.pana_family.specs.Kept.{IsKept}
-use Rattle.pana_family.proofs.Places.{in_read, id_found}
+use Rattle.pana_family.proofs.Places.{in_read, row_found}
 
 -- the row of a copy at its place
 pub record IsRowAt (rows : List StampRow) (at copy : ℕ) (r : StampRow) : Type 0 where
@@ -27,6 +30,9 @@ row_at rows seen at copy r same within here free read =
       free = ap (λ (q : StampRow). q.holder) read ∙ subst (λ (l : List StampRow). (get_or l at r).holder ≡ None) same (free r);
     }
 
-pub id_at : (rows value : List StampRow) (at copy : ℕ) (r : StampRow) → rows ≡ value → IsKept rows → IsRowAt rows at copy r → id_in value copy ≡ r.stamp.id
-id_at rows value at copy r same k here =
-    ap (λ (l : List StampRow). id_in l copy) (sym same) ∙ ap (id_in rows) (sym here.named) ∙ id_found 0 r rows k.rising here.row
+pub row_found_at : (rows value : List StampRow) (at copy : ℕ) (r : StampRow) → rows ≡ value → IsKept rows → IsRowAt rows at copy r → row_in value copy ≡ r
+row_found_at rows value at copy r same k here = ap (λ (l : List StampRow). row_in l copy) (sym same) ∙ ap (row_in rows) (sym here.named) ∙ row_found r rows k.rising here.row
+
+-- a stamp by its parts
+pub stamp_is : (s : Stamp) (i : Id) (e : Event) → s.id ≡ i → s.event ≡ e → s ≡ stamp i e
+stamp_is s i e owner event = ap (λ (j : Id). stamp j s.event) owner ∙ ap (stamp i) event

@@ -12,11 +12,6 @@ use Rattle.pana_family.specs.declared.change.Exchange.TheVariants.{Put, Take}
 use Rattle.pana_family.specs.declared.change.Change.{Change}
 use Rattle.pana_family.specs.declared.change.Change.TheVariants.{Event as Renew, Touch, Rows}
 
--- the row of a number, if it has one
-abbrev pub row_at : List StampRow → ℕ → Option StampRow
-row_at [] n = None
-row_at (r ∷ rows) n = if r.copy == n then Some r else row_at rows n
-
 -- the number at which rows are exchanged
 abbrev pub number_of : Exchange → ℕ
 number_of (Put r) = r.copy

@@ -6,8 +6,6 @@ pub mod Stands
 pub mod Rows
 pub mod Change
 pub mod Kept
-pub mod Ends
-pub mod Exact
 pub mod After
 pub mod Report
 pub mod Paired

@@ -5,14 +5,14 @@ use Rattle.pana_family.specs.declared.row.StampRow.{StampRow}
 use Rattle.pana_family.specs.declared.report.FamilyReport.{FamilyReport}
 use Rattle.pana_family.specs.declared.report.FamilyReport.TheVariants.{Duplicate, Edit, Reconcile, Merge, Remove, Touch}
 use Rattle.pana_family.specs.Table.{Known, duplicated, edited, reconciled, merged, removed, touched, AreBelow}
-use Rattle.pana_family.specs.Rows.{AreBefore, lives, copy_rows, id_in, OwnSame, deepest}
+use Rattle.pana_family.specs.Rows.{AreBefore, lives, copy_rows, row_in, OwnSame, deepest}
 use Rattle.pana_family.specs.Stands.{StandsFor}
 use Rattle.pana_family.specs.Kept.{IsKept}
 use Rattle.pana_family.specs.After.{reported_rows}
 
 -- the copies that the report names live, and nothing but memory can stand in its way
 abbrev pub CanReport : FamilyReport → List StampRow → Type 0
-CanReport (Duplicate source) rows = (lives rows source ≡ true) × (length (copy_rows rows) < 256) × (is_single (id_in rows source) 256 ≡ false)
+CanReport (Duplicate source) rows = (lives rows source ≡ true) × (length (copy_rows rows) < 256) × (is_single (row_in rows source).stamp.id 256 ≡ false)
 CanReport (Edit copy) rows = lives rows copy ≡ true
 CanReport (Reconcile a b) rows = (lives rows a ≡ true) × (lives rows b ≡ true) × (a ≢ b)
 CanReport (Merge a b) rows = (lives rows a ≡ true) × (lives rows b ≡ true) × (a ≢ b)

@@ -1,16 +1,12 @@
 -- The rows of a family, by rising copy.
-use Rattle.std.specs.Prelude.{◌++◌, filter, ◌≡◌, ◌&&◌, None, ℕ, ◌+◌, ◌<◌, ◌≤◌, Bool, ◌==◌, List, [], ◌∷◌, if◌then◌else◌, nat_lt, max, not, count_by}
+use Rattle.std.specs.Prelude.{filter, ◌≡◌, ◌&&◌, Option, Some, None, unwrap_or, ℕ, ◌+◌, ◌<◌, ◌≤◌, Bool, ◌==◌, List, [], ◌∷◌, if◌then◌else◌, nat_lt, max, not, count_by}
 use Rattle.std.specs.List.{list_any}
-use Rattle.pana_id.specs.Id.{AtPoints, has as owns, Id, zero_id, one_id, depth, is_single, parts, sum_of, IsValid}
+use Rattle.pana_id.specs.Id.{AtPoints, has as owns, Id, zero_id, one_id, depth, is_single, sum_of, IsValid}
 use Rattle.pana_event.specs.Event.{Event, leaf, IsSound}
 use Rattle.pana_stamp.specs.declared.stamp.Stamp.{Stamp}
 use Rattle.pana_family.specs.declared.row.StampRow.{StampRow}
 use Rattle.pana_family.specs.Holders.{is_copy, is_held}
 use Rattle.pana_family.specs.Table.{In}
-
--- whether a number has a row
-abbrev pub there : List StampRow → ℕ → Bool
-there rows copy = list_any (λ r. r.copy == copy) rows
 
 -- whether a copy lives
 abbrev pub lives : List StampRow → ℕ → Bool
@@ -39,19 +35,26 @@ abbrev pub put_back : StampRow → List StampRow → List StampRow
 put_back x [] = x ∷ []
 put_back x (r ∷ rows) = if r.copy == x.copy then x ∷ rows else (if nat_lt x.copy r.copy then x ∷ (r ∷ rows) else r ∷ put_back x rows)
 
--- rows put back
-abbrev pub put_all : List StampRow → List StampRow → List StampRow
-put_all [] rows = rows
-put_all (x ∷ xs) rows = put_back x (put_all xs rows)
+-- the stamp of an id and an event
+abbrev pub stamp : Id → Event → Stamp
+stamp id event = record { id = id; event = event }
 
--- the id of a copy
-abbrev pub id_in : List StampRow → ℕ → Id
-id_in [] copy = zero_id
-id_in (r ∷ rows) copy = if r.copy == copy then r.stamp.id else id_in rows copy
+-- the row of a copy
+abbrev pub row : ℕ → Stamp → ℕ → StampRow
+row copy stamp touch = record { copy = copy; holder = None; stamp = stamp; touch = touch }
+
+-- the row of a number, if it has one
+abbrev pub row_at : List StampRow → ℕ → Option StampRow
+row_at [] n = None
+row_at (r ∷ rows) n = if r.copy == n then Some r else row_at rows n
+
+-- the row of a number, and an empty one where it has none
+abbrev pub row_in : List StampRow → ℕ → StampRow
+row_in rows n = unwrap_or (row_at rows n) (row n (stamp zero_id (leaf 0)) 0)
 
 -- whether the id of a copy can be divided, within the 256 levels that an id may have
 abbrev pub divides : List StampRow → ℕ → Bool
-divides rows copy = not (is_single (id_in rows copy) 256)
+divides rows copy = not (is_single (row_in rows copy).stamp.id 256)
 
 -- an id with those of the rows that pass the test, added in their order
 abbrev pub with_ids : (StampRow → Bool) → Id → List StampRow → Id
@@ -67,18 +70,6 @@ deepest (r ∷ rows) = max (depth r.stamp.id) (deepest rows)
 abbrev pub renewed : ℕ → (StampRow → StampRow) → List StampRow → List StampRow
 renewed copy f [] = []
 renewed copy f (r ∷ rows) = (if r.copy == copy then f r else r) ∷ renewed copy f rows
-
--- the rows, with another touch for a copy
-abbrev pub retouched : ℕ → ℕ → List StampRow → List StampRow
-retouched copy touch rows = renewed copy (λ r. record r { touch = touch }) rows
-
--- the stamp of an id and an event
-abbrev pub stamp : Id → Event → Stamp
-stamp id event = record { id = id; event = event }
-
--- the row of a copy
-abbrev pub row : ℕ → Stamp → ℕ → StampRow
-row copy stamp touch = record { copy = copy; holder = None; stamp = stamp; touch = touch }
 
 -- the first row of a family
 abbrev pub seed_row : ℕ → StampRow
@@ -103,19 +94,3 @@ owned rows point = list_any (λ r. owns r.stamp.id point) rows
 -- one after another, each list of rows owns what the one before does
 abbrev pub OwnSame : List StampRow → List StampRow → Type 0
 OwnSame rows new = AtPoints (λ point. owned new point ≡ owned rows point)
-
--- the rows, with another one for a copy
-abbrev pub replaced : ℕ → StampRow → List StampRow → List StampRow
-replaced copy x [] = []
-replaced copy x (r ∷ rows) = (if r.copy == copy then x else r) ∷ replaced copy x rows
-
--- the row of a copy, and an empty one where there is none
-abbrev pub row_in : List StampRow → ℕ → StampRow
-row_in [] copy = row copy (stamp zero_id (leaf 0)) 0
-row_in (r ∷ rows) copy = if r.copy == copy then r else row_in rows copy
-
--- Duplicate n: the source keeps the first part of its id, and the new copy has the second
-abbrev pub duplicated_rows : ℕ → ℕ → List StampRow → List StampRow
-duplicated_rows n copy rows =
-    let r = row_in rows copy in
-    replaced copy (row copy (stamp (parts r.stamp.id).0 r.stamp.event) r.touch) rows ++ row n (stamp (parts r.stamp.id).1 r.stamp.event) n ∷ []

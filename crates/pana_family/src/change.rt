@@ -1,8 +1,8 @@
 //! Changes of rows, each of which has an inverse.
 ghost use Rattle.std.specs.Prelude.{◌≡◌, ◌+◌, ◌<◌, ◌≤◌, None, count_by, length, reverse, vec_len, vec_capacity, [], ◌∷◌};
 ghost use Rattle.std.specs.Option.{option_len};
-ghost use Rattle.pana_family.specs.Rows.{IsRising, dropped, put_back};
-ghost use Rattle.pana_family.specs.Change.{row_at, number_of, at_number, placed, placed_all, formers, is_put, puts, changed, inverse, room_of};
+ghost use Rattle.pana_family.specs.Rows.{IsRising, dropped, put_back, row_at};
+ghost use Rattle.pana_family.specs.Change.{number_of, at_number, placed, placed_all, formers, is_put, puts, changed, inverse, room_of};
 
 use crate::making::renew;
 use crate::row::StampRow;

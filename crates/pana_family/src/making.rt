@@ -1,11 +1,10 @@
-//! The rows that reports make.
-ghost use Rattle.std.specs.Prelude.{◌≡◌, ◌+◌, ◌^◌, ◌<◌, false, max, IfOk, OnErr};
-ghost use Rattle.pana_id.specs.Id.{is_zero, is_single, parts, sum_of, IsParted};
+//! The stamps and rows that reports make.
+ghost use Rattle.std.specs.Prelude.{◌≡◌, ◌+◌, ◌^◌, ◌<◌, false, IfOk};
+ghost use Rattle.pana_id.specs.Id.{is_zero, is_single};
 ghost use Rattle.pana_event.specs.Event.{greatest};
-ghost use Rattle.pana_family.specs.inner.Making.{IsUpdate};
 ghost use Rattle.pana_family.specs.Change.{with_event};
-ghost use Rattle.pana_family.specs.Exact.{joined_stamp};
-ghost use Rattle.pana_family.specs.inner.Making.{AreMerged, CanJoin, part_pair, shared_pair};
+ghost use Rattle.pana_family.specs.After.{first_part, joined_stamp, second_part, updated, updated_stamp};
+ghost use Rattle.pana_family.specs.inner.Making.{CanJoin};
 
 use crate::row::StampRow;
 use pana_event::EventTree;
@@ -22,13 +21,14 @@ pub fn copy_of(alloc: Global, id: &IdTree) -> Result<IdTree, AllocError>
     Ok(IdTree::of_node(node))
 }
 
-/// The event of a copy's row after an update.
-pub fn updated_event(alloc: Global, row: &StampRow) -> Result<EventTree, AllocError>
-    requires owner { is_zero row.now.stamp.id ≡ false }
-    requires room { greatest row.now.stamp.event + 1 < 2 ^ 64 }
-    ensures { IfOk result (λ event. IsUpdate row.now.stamp.id row.now.stamp.event event) }
+/// The event of a stamp after an update.
+pub fn updated_event(alloc: Global, stamp: &Stamp) -> Result<EventTree, AllocError>
+    requires owner { is_zero stamp.now.id ≡ false }
+    requires room { greatest stamp.now.event + 1 < 2 ^ 64 }
+    ensures { IfOk result (λ event. event ≡ updated stamp.now.id stamp.now.event) }
 {
-    row.stamp.event(alloc)
+    let event = stamp.event(alloc)?;
+    Ok(event)
 }
 
 /// Gives a row another event and touch, and returns the former ones. Takes no memory.
@@ -46,108 +46,40 @@ pub fn renew(row: &mut StampRow, event: EventTree, touch: u64) -> (EventTree, u6
     (former, since)
 }
 
-/// The rows of a copy and of a new one, which share the copy's stamp, when the entry duplicates the copy.
-pub fn shared_rows(
-    alloc: Global,
-    row: &StampRow,
-    entry: u64,
-) -> Result<(StampRow, StampRow), AllocError>
-    requires { is_single row.now.stamp.id 256 ≡ false }
-    ensures { IfOk result (λ two. two ≡ shared_pair entry row.now) }
+/// The two parts of a stamp, which both know what it does.
+pub fn halves(alloc: Global, stamp: &Stamp) -> Result<(Stamp, Stamp), AllocError>
+    requires { is_single stamp.now.id 256 ≡ false }
+    ensures { IfOk result (λ two. two ≡ (first_part stamp.now, second_part stamp.now)) }
 {
-    match row.stamp.fork(alloc) {
-        Ok((kept, given)) => Ok((
-            StampRow {
-                copy: row.copy,
-                holder: row.holder,
-                stamp: kept,
-                touch: row.touch,
-            },
-            StampRow {
-                copy: entry,
-                holder: None,
-                stamp: given,
-                touch: entry,
-            },
-        )),
+    match stamp.fork(alloc) {
+        Ok((first, second)) => Ok((first, second)),
         Err(IdFault::TooDeep) => unreachable!(),
         Err(IdFault::OutOfMemory) => Err(AllocError),
     }
 }
 
-/// The stamp that owns and knows what two rows do.
-fn joined_stamp(alloc: Global, a: &StampRow, b: &StampRow) -> Result<Stamp, AllocError>
+/// The stamp that owns and knows what two do.
+pub fn joined_stamp(alloc: Global, a: &Stamp, b: &Stamp) -> Result<Stamp, AllocError>
     requires { CanJoin a.now b.now }
     ensures joined { IfOk result (λ stamp. stamp ≡ joined_stamp a.now b.now) }
     ensures divides { IfOk result (λ stamp. is_single stamp.id 256 ≡ false) }
     ensures some { IfOk result (λ stamp. is_zero stamp.id ≡ false) }
 {
     // whose contracts say that both are valid
-    let _ = a.stamp.id().node();
-    let _ = b.stamp.id().node();
-    let stamp = Stamp::join(alloc, &a.stamp, &b.stamp)?;
+    let _ = a.id().node();
+    let _ = b.id().node();
+    let stamp = Stamp::join(alloc, a, b)?;
     Ok(stamp)
 }
 
-/// Two rows that share a stamp in place of those of two copies.
-fn part_rows(
-    alloc: Global,
-    a: &StampRow,
-    b: &StampRow,
-    entry: u64,
-    whole: &Stamp,
-) -> Result<(StampRow, StampRow), AllocError>
-    requires { is_single whole.now.id 256 ≡ false }
-    ensures { IfOk result (λ two. two ≡ part_pair entry a.now b.now whole.now) }
+/// The stamp after an update of all that it owns.
+pub fn updated_stamp(alloc: Global, stamp: Stamp) -> Result<Stamp, AllocError>
+    requires owner { is_zero stamp.id ≡ false }
+    requires room { greatest stamp.event + 1 < 2 ^ 64 }
+    ensures { IfOk result (λ new. new ≡ updated_stamp stamp) }
 {
-    match whole.fork(alloc) {
-        Ok((first, second)) => Ok((
-            StampRow {
-                copy: a.copy,
-                holder: a.holder,
-                stamp: first,
-                touch: entry,
-            },
-            StampRow {
-                copy: b.copy,
-                holder: b.holder,
-                stamp: second,
-                touch: entry,
-            },
-        )),
-        Err(IdFault::TooDeep) => unreachable!(),
-        Err(IdFault::OutOfMemory) => Err(AllocError),
-    }
-}
-
-/// The rows of two copies that learn what either knows.
-pub fn reconciled_rows(
-    alloc: Global,
-    a: &StampRow,
-    b: &StampRow,
-    entry: u64,
-) -> Result<(StampRow, StampRow), AllocError>
-    requires { CanJoin a.now b.now }
-    ensures { IfOk result (λ two. two ≡ part_pair entry a.now b.now (joined_stamp a.now b.now)) }
-{
-    let whole = joined_stamp(alloc, a, b)?;
-    part_rows(alloc, a, b, entry, &whole)
-}
-
-/// The rows of two copies that learn what either knows, and an update.
-pub fn merged_rows(
-    alloc: Global,
-    a: &StampRow,
-    b: &StampRow,
-    entry: u64,
-) -> Result<(StampRow, StampRow), AllocError>
-    requires join { CanJoin a.now b.now }
-    requires room { max (greatest a.now.stamp.event) (greatest b.now.stamp.event) + 1 < 2 ^ 64 }
-    ensures { IfOk result (λ two. AreMerged entry a.now b.now two) }
-{
-    let whole = joined_stamp(alloc, a, b)?;
-    let event = whole.event(alloc)?;
-    let id = copy_of(alloc, whole.id())?;
-    let updated = Stamp::new(id, event);
-    part_rows(alloc, a, b, entry, &updated)
+    let mut stamp = stamp;
+    let event = updated_event(alloc, &stamp)?;
+    let _ = stamp.replace_event(event);
+    Ok(stamp)
 }

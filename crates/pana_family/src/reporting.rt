@@ -1,35 +1,37 @@
 //! What the reports change. Nothing is changed here: each call makes a change, and takes all memory that it needs.
-ghost use Rattle.std.specs.Prelude.{◌≡◌, ◌≢◌, ◌<◌, ◌++◌, false, true, List, map, filter, Some, None, IfOk};
-ghost use Rattle.pana_id.specs.Id.{is_single};
-ghost use Rattle.pana_family.specs.declared.row.StampRow.{StampRow as RowValue};
-ghost use Rattle.pana_family.specs.Updates.{has};
-ghost use Rattle.pana_family.specs.Holders.{leave};
-ghost use Rattle.pana_family.specs.After.{edited_rows, merged_rows, reported_rows};
-ghost use Rattle.pana_family.specs.Rows.{duplicated_rows, lives, AreBefore, IsRising, put_all, id_in, AreSound};
-ghost use Rattle.pana_family.specs.Change.{after, exchanged_all};
-ghost use Rattle.pana_family.specs.inner.Making.{CanGather, goes};
+ghost use Rattle.std.specs.Prelude.{◌≡◌, ◌++◌, ◌∷◌, [], true, filter_map, Some, IfOk, IfSome, if◌then◌else◌};
+ghost use Rattle.std.specs.Option.{option_to_list};
+ghost use Rattle.pana_event.specs.Order.{is_leq};
+ghost use Rattle.pana_family.specs.After.{first_part, joined_stamp, parcel_row, reported_rows, second_part, shared};
+ghost use Rattle.pana_family.specs.Rows.{lives, row_in, AreBefore, AreSound};
+ghost use Rattle.pana_family.specs.Change.{after};
 ghost use Rattle.pana_family.specs.Kept.{IsKept};
-ghost use Rattle.pana_family.specs.Exact.{bequeathed_rows, lost_rows, reconciled_rows, settled_pair};
 ghost use Rattle.pana_family.specs.Report.{CanReport, IsReported};
-ghost use Rattle.pana_family.specs.declared.report.FamilyReport.TheVariants.{Remove};
+ghost use Rattle.pana_family.specs.declared.report.FamilyReport.TheVariants.{Duplicate, Edit, Merge, Reconcile, Remove};
 
 use crate::change::{Change, Exchange};
-use crate::making::{merged_rows, reconciled_rows, shared_rows, updated_event};
+use crate::making::{halves, joined_stamp, updated_event, updated_stamp};
 use crate::report::FamilyReport;
 use crate::row::StampRow;
 use crate::searching::row_of;
-use crate::settling::{goes, parcels_left, settled_row};
+use crate::settling::{Plan, parcel_row, restamped, settle_change};
 use crate::stamps::all_valid;
+use pana_stamp::Stamp;
 use smallvec::SmallVec;
 use std::alloc::{AllocError, Global};
 
-fn edited(alloc: Global, rows: &[StampRow], entry: u64, copy: u64) -> Result<Change, AllocError>
+fn edit_change(
+    alloc: Global,
+    rows: &[StampRow],
+    entry: u64,
+    copy: u64,
+) -> Result<Change, AllocError>
     requires kept { IsKept rows.now }
     requires living { lives rows.now copy ≡ true }
     requires new { AreBefore entry rows.now }
-    ensures { IfOk result (λ change. after change rows.now ≡ edited_rows entry copy rows.now) }
+    ensures { IfOk result (λ change. after change rows.now ≡ reported_rows entry (Edit copy) rows.now) }
 {
-    let event = updated_event(alloc, row_of(rows, copy))?;
+    let event = updated_event(alloc, &row_of(rows, copy).stamp)?;
     Ok(Change::Event(copy, event, entry))
 }
 
@@ -41,114 +43,41 @@ fn duplicate_change(
     source: u64,
 ) -> Result<Change, AllocError>
     requires kept { IsKept rows.now }
-    requires living { lives rows.now source ≡ true }
+    requires able { CanReport (Duplicate source) rows.now }
     requires new { AreBefore entry rows.now }
-    requires splits { is_single (id_in rows.now source) 256 ≡ false }
-    ensures { IfOk result (λ change. after change rows.now ≡ duplicated_rows entry source rows.now) }
+    ensures { IfOk result (λ change. after change rows.now ≡ reported_rows entry (Duplicate source) rows.now) }
 {
-    let (kept, given) = shared_rows(alloc, row_of(rows, source), entry)?;
+    let row = row_of(rows, source);
+    let (kept, given) = halves(alloc, &row.stamp)?;
     let mut news = SmallVec::new(alloc);
-    news.push_reserved(Exchange::Put(kept));
-    news.push_reserved(Exchange::Put(given));
+    news.push_reserved(Exchange::Put(restamped(row, kept, row.touch)));
+    news.push_reserved(Exchange::Put(StampRow {
+        copy: entry,
+        holder: None,
+        stamp: given,
+        touch: entry,
+    }));
     Ok(Change::Rows(news))
 }
 
-/// Takes the rows with these numbers out, and then puts rows in, the last one first.
-fn exchanges(
-    alloc: Global,
-    gone: &[u64],
-    mut news: Vec<StampRow>,
-) -> Result<SmallVec<Exchange, 2>, AllocError>
-    ensures { IfOk result (λ list. (rows : List RowValue) → exchanged_all list.items rows ≡ put_all news.items (leave (λ row. has gone.now row.copy) rows)) }
-{
-    let mut list = SmallVec::with_capacity(alloc, gone.len() + news.len())?;
-    for number in gone {
-        list.push(Exchange::Take(*number))?;
-    }
-    while let Some(row) = news.pop() {
-        list.push(Exchange::Put(row))?;
-    }
-    Ok(list)
-}
-
-/// The numbers of the rows that go when these copies are settled.
-fn numbers_out(
-    alloc: Global,
-    rows: &[StampRow],
-    from: Option<u64>,
-    settled: &[StampRow],
-) -> Result<Vec<u64>, AllocError>
-    ensures { IfOk result (λ gone. gone.items ≡ map (λ row. row.copy) (filter (goes from settled.now) rows.now)) }
-{
-    let mut gone = Vec::new(alloc);
-    for row in rows {
-        if goes(row, from, settled) {
-            gone.push(row.copy)?;
-        }
-    }
-    Ok(gone)
-}
-
-/// Takes out the rows that go when copies are settled, and puts the settled copies' and other rows in.
-fn settle_change(
-    alloc: Global,
-    rows: &[StampRow],
-    from: Option<u64>,
-    settled: Vec<StampRow>,
-    mut others: Vec<StampRow>,
-) -> Result<Change, AllocError>
-    requires { IsRising 0 rows.now }
-    ensures { IfOk result (λ change. after change rows.now ≡ put_all (settled.items ++ others.items) (leave (goes from settled.items) rows.now)) }
-{
-    let gone = numbers_out(alloc, rows, from, &settled)?;
-    let mut news = settled;
-    news.append(&mut others)?;
-    let list = exchanges(alloc, &gone, news)?;
-    Ok(Change::Rows(list))
-}
-
-/// Puts two rows that share a stamp in the place of their copies', and settles both copies, the first before the second.
-fn settle_two(
-    alloc: Global,
-    rows: &[StampRow],
-    left: &StampRow,
-    right: &StampRow,
-) -> Result<Change, AllocError>
-    requires kept { IsKept rows.now }
-    requires sound { AreSound rows.now }
-    requires left { CanGather None rows.now left.now }
-    requires right { CanGather None rows.now right.now }
-    ensures { IfOk result (λ change. after change rows.now ≡ settled_pair left.now right.now rows.now) }
-{
-    let first = settled_row(alloc, rows, left, None)?;
-    let second = settled_row(alloc, rows, right, None)?;
-    let mut settled = Vec::with_capacity(alloc, 2)?;
-    settled.push_reserved(first);
-    settled.push_reserved(second);
-    let change = settle_change(alloc, rows, None, settled, Vec::new(alloc))?;
-    Ok(change)
-}
-
-/// Two copies learn what either knows and an update, with the entry as its number, and are settled.
-fn merge_change(
+/// Two copies share a stamp, and are settled.
+fn share_change(
     alloc: Global,
     rows: &[StampRow],
     entry: u64,
     a: u64,
     b: u64,
+    whole: &Stamp,
 ) -> Result<Change, AllocError>
     requires kept { IsKept rows.now }
     requires sound { AreSound rows.now }
-    requires first { lives rows.now a ≡ true }
-    requires second { lives rows.now b ≡ true }
-    requires differ { a ≢ b }
+    requires able { CanReport (Reconcile a b) rows.now }
     requires new { AreBefore entry rows.now }
-    ensures { IfOk result (λ change. after change rows.now ≡ merged_rows entry a b rows.now) }
+    requires whole { whole.now.id ≡ (joined_stamp (row_in rows.now a).stamp (row_in rows.now b).stamp).id }
+    ensures { IfOk result (λ change. after change rows.now ≡ filter_map (shared entry a b (first_part whole.now) (second_part whole.now) rows.now) rows.now ++ []) }
 {
-    let first = row_of(rows, a);
-    let second = row_of(rows, b);
-    let (left, right) = merged_rows(alloc, first, second, entry)?;
-    let change = settle_two(alloc, rows, &left, &right)?;
+    let (first, second) = halves(alloc, whole)?;
+    let change = settle_change(alloc, rows, entry, &Plan::Share(a, b, first, second), None)?;
     Ok(change)
 }
 
@@ -162,29 +91,53 @@ fn reconcile_change(
 ) -> Result<Change, AllocError>
     requires kept { IsKept rows.now }
     requires sound { AreSound rows.now }
-    requires first { lives rows.now a ≡ true }
-    requires second { lives rows.now b ≡ true }
-    requires differ { a ≢ b }
-    ensures { IfOk result (λ change. after change rows.now ≡ reconciled_rows entry a b rows.now) }
+    requires able { CanReport (Reconcile a b) rows.now }
+    requires new { AreBefore entry rows.now }
+    ensures { IfOk result (λ change. after change rows.now ≡ reported_rows entry (Reconcile a b) rows.now) }
 {
-    let first = row_of(rows, a);
-    let second = row_of(rows, b);
-    let (left, right) = reconciled_rows(alloc, first, second, entry)?;
-    let change = settle_two(alloc, rows, &left, &right)?;
+    let whole = joined_stamp(alloc, &row_of(rows, a).stamp, &row_of(rows, b).stamp)?;
+    let change = share_change(alloc, rows, entry, a, b, &whole)?;
     Ok(change)
 }
 
-/// A copy is gone, and the parcels that it held.
-fn lose_change(alloc: Global, rows: &[StampRow], copy: u64) -> Result<Change, AllocError>
+/// Two copies learn what either knows, and an update, and are settled.
+fn merge_change(
+    alloc: Global,
+    rows: &[StampRow],
+    entry: u64,
+    a: u64,
+    b: u64,
+) -> Result<Change, AllocError>
     requires kept { IsKept rows.now }
-    ensures { IfOk result (λ change. after change rows.now ≡ lost_rows copy rows.now) }
+    requires sound { AreSound rows.now }
+    requires able { CanReport (Merge a b) rows.now }
+    requires new { AreBefore entry rows.now }
+    ensures { IfOk result (λ change. after change rows.now ≡ reported_rows entry (Merge a b) rows.now) }
 {
-    let change = settle_change(alloc, rows, Some(copy), Vec::new(alloc), Vec::new(alloc))?;
+    let both = joined_stamp(alloc, &row_of(rows, a).stamp, &row_of(rows, b).stamp)?;
+    let whole = updated_stamp(alloc, both)?;
+    let change = share_change(alloc, rows, entry, a, b, &whole)?;
     Ok(change)
 }
 
-/// A copy becomes a parcel, numbered like the entry, which the heir holds like those that the copy held, and the heir is
-/// settled.
+/// The parcel that a removed copy leaves to its heir, with the entry as its number, unless the heir knows all that it does.
+fn parcel_left(
+    alloc: Global,
+    entry: u64,
+    gone: &StampRow,
+    heir: &StampRow,
+) -> Result<Option<StampRow>, AllocError>
+    ensures row { IfOk result (λ came. option_to_list came ≡ if is_leq gone.now.stamp.event heir.now.stamp.event then [] else parcel_row entry heir.now.copy gone.now.stamp ∷ []) }
+    ensures number { IfOk result (λ came. IfSome came (λ row. row.copy ≡ entry)) }
+{
+    if gone.stamp.event_tree().leq(heir.stamp.event_tree()) {
+        return Ok(None);
+    }
+    let parcel = parcel_row(alloc, gone, entry, heir.copy, entry)?;
+    Ok(Some(parcel))
+}
+
+/// A copy is gone, and its heir holds what it held, and is settled.
 fn bequeath_change(
     alloc: Global,
     rows: &[StampRow],
@@ -194,39 +147,15 @@ fn bequeath_change(
 ) -> Result<Change, AllocError>
     requires kept { IsKept rows.now }
     requires sound { AreSound rows.now }
-    requires living { lives rows.now copy ≡ true }
-    requires heir { lives rows.now heir ≡ true }
-    requires differ { heir ≢ copy }
+    requires able { CanReport (Remove copy (Some heir)) rows.now }
     requires new { AreBefore entry rows.now }
-    ensures { IfOk result (λ change. after change rows.now ≡ bequeathed_rows entry copy heir rows.now) }
+    ensures { IfOk result (λ change. after change rows.now ≡ reported_rows entry (Remove copy (Some heir)) rows.now) }
 {
     let row = row_of(rows, heir);
-    let new = settled_row(alloc, rows, row, Some(copy))?;
-    let parcels = parcels_left(alloc, rows, row, entry, copy)?;
-    let mut settled = Vec::with_capacity(alloc, 1)?;
-    settled.push_reserved(new);
-    let change = settle_change(alloc, rows, Some(copy), settled, parcels)?;
+    let came = parcel_left(alloc, entry, row_of(rows, copy), row)?;
+    let event = row.stamp.event_tree().copy_of(alloc)?;
+    let change = settle_change(alloc, rows, entry, &Plan::Bequeath(copy, heir, event), came)?;
     Ok(change)
-}
-
-/// A copy is gone, with an heir or without.
-fn remove_change(
-    alloc: Global,
-    rows: &[StampRow],
-    entry: u64,
-    copy: u64,
-    heir: Option<u64>,
-) -> Result<Change, AllocError>
-    requires kept { IsKept rows.now }
-    requires sound { AreSound rows.now }
-    requires able { CanReport (Remove copy heir) rows.now }
-    requires new { AreBefore entry rows.now }
-    ensures { IfOk result (λ change. after change rows.now ≡ reported_rows entry (Remove copy heir) rows.now) }
-{
-    match heir {
-        None => lose_change(alloc, rows, copy),
-        Some(heir) => bequeath_change(alloc, rows, entry, copy, heir),
-    }
 }
 
 fn exact_change(
@@ -243,10 +172,17 @@ fn exact_change(
 {
     match report {
         FamilyReport::Duplicate(source) => duplicate_change(alloc, rows, entry, source),
-        FamilyReport::Edit(copy) => edited(alloc, rows, entry, copy),
+        FamilyReport::Edit(copy) => edit_change(alloc, rows, entry, copy),
         FamilyReport::Reconcile(a, b) => reconcile_change(alloc, rows, entry, a, b),
         FamilyReport::Merge(a, b) => merge_change(alloc, rows, entry, a, b),
-        FamilyReport::Remove(copy, heir) => remove_change(alloc, rows, entry, copy, heir),
+        FamilyReport::Remove(copy, None) => settle_change(
+            alloc,
+            rows,
+            entry,
+            &Plan::Lose(copy),
+            None,
+        ),
+        FamilyReport::Remove(copy, Some(heir)) => bequeath_change(alloc, rows, entry, copy, heir),
         FamilyReport::Touch(copy) => Ok(Change::Touch(copy, entry)),
     }
 }

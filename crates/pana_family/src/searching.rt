@@ -2,8 +2,7 @@
 ghost use Rattle.std.specs.Prelude.{◌≡◌, ◌<◌, ◌==◌, ◌&&◌, true, Some, None, IfSome, IfNone, length, nat_le, position, slice_index_or, count_by, IsTrue, ◌↔◌, IfOk, map};
 ghost use Rattle.std.specs.List.{position_or_len, list_all};
 ghost use Rattle.pana_family.specs.declared.row.StampRow.{StampRow as RowValue};
-ghost use Rattle.pana_family.specs.Change.{row_at};
-ghost use Rattle.pana_family.specs.Rows.{IsRising, lives, copy_rows, held_rows, AreBefore, is_below};
+ghost use Rattle.pana_family.specs.Rows.{row_at, IsRising, lives, copy_rows, held_rows, AreBefore, is_below};
 ghost use Rattle.pana_family.specs.inner.Making.{IsRowOf};
 ghost use Rattle.pana_family.specs.Holders.{is_copy, is_held};
 

@@ -1,19 +1,43 @@
-//! Settling a copy: what it owns once the parcels end that it holds and knows.
-ghost use Rattle.std.specs.Prelude.{◌≡◌, ◌&&◌, ◌||◌, ◌==◌, true, false, map, filter, IfOk};
-ghost use Rattle.std.specs.List.{list_any};
+//! Settling copies: what becomes of each row when copies get the ids of the parcels that end.
+ghost use Rattle.std.specs.Prelude.{◌≡◌, ◌++◌, Some, filter_map, IfOk, IfSome};
+ghost use Rattle.std.specs.Option.{option_to_list};
 ghost use Rattle.pana_id.specs.Id.{sum_of, SharesNoPoint};
-ghost use Rattle.pana_event.specs.Order.{is_leq};
-ghost use Rattle.pana_family.specs.Rows.{with_ids, AreSound};
+ghost use Rattle.pana_family.specs.Rows.{with_ids, AreBefore, AreSound};
+ghost use Rattle.pana_family.specs.Table.{In};
 ghost use Rattle.pana_family.specs.Kept.{IsKept};
-ghost use Rattle.pana_family.specs.Exact.{settled_row};
-ghost use Rattle.pana_family.specs.inner.Making.{CanGather, is_bound, ends_from, goes, stays_parcel, parcel_row};
+ghost use Rattle.pana_family.specs.Change.{after, exchanged_all};
+ghost use Rattle.pana_family.specs.After.{bequeathed, ends, is_bound, lost, restamped, settled, shared};
+ghost use Rattle.pana_family.specs.inner.Making.{CanGather, CanPlan, left_of, passed_row, planned};
 
+use crate::change::{Change, Exchange};
 use crate::making::copy_of;
 use crate::row::StampRow;
 use crate::searching::is_held;
+use pana_event::EventTree;
 use pana_id::IdTree;
 use pana_stamp::Stamp;
+use smallvec::SmallVec;
 use std::alloc::{AllocError, Global};
+
+/// What becomes of a row.
+#[derive(Drop)]
+pub enum Fate {
+    Stays,
+    Goes,
+    /// This row takes its place.
+    Becomes(StampRow),
+}
+
+/// What copies are settled for.
+#[derive(Drop)]
+pub enum Plan {
+    /// These two copies have these parts of a stamp.
+    Share(u64, u64, Stamp, Stamp),
+    /// This copy goes, and the parcels that it holds.
+    Lose(u64),
+    /// The first copy goes, and the second, which knows this event, is its heir.
+    Bequeath(u64, u64, EventTree),
+}
 
 /// Whether the row is that of the copy that is removed, or of a parcel that it holds.
 fn is_bound(row: &StampRow, from: Option<u64>) -> bool
@@ -25,31 +49,11 @@ fn is_bound(row: &StampRow, from: Option<u64>) -> bool
     }
 }
 
-/// Whether the copy of the first row knows all that the other row's stamp does.
-fn is_known(row: &StampRow, other: &StampRow) -> bool
-    ensures { result ≡ is_leq other.now.stamp.event row.now.stamp.event }
+/// Whether the row's id becomes the copy's, which knows the event, when that is settled.
+fn ends(row: &StampRow, from: Option<u64>, copy: u64, event: &EventTree) -> bool
+    ensures { result ≡ ends from copy event.now row.now }
 {
-    other.stamp.event_tree().leq(row.stamp.event_tree())
-}
-
-/// Whether the other row's id becomes the copy's when that is settled: it holds it, or the removed copy did, and knows it.
-fn ends(row: &StampRow, from: Option<u64>, other: &StampRow) -> bool
-    ensures { result ≡ ends_from from row.now other.now }
-{
-    (is_bound(other, from) || is_held(other, row.copy)) && is_known(row, other)
-}
-
-fn ends_any(row: &StampRow, from: Option<u64>, settled: &[StampRow]) -> bool
-    ensures { result ≡ list_any (λ copy. ends_from from copy row.now) settled.now }
-{
-    settled.iter().any(|copy| ends(copy, from, row))
-}
-
-/// Whether the row goes when these copies are settled.
-pub fn goes(row: &StampRow, from: Option<u64>, settled: &[StampRow]) -> bool
-    ensures { result ≡ goes from settled.now row.now }
-{
-    is_bound(row, from) || ends_any(row, from, settled)
+    (is_bound(row, from) || is_held(row, copy)) && row.stamp.event_tree().leq(event)
 }
 
 fn sum(alloc: Global, first: &IdTree, second: &IdTree) -> Result<IdTree, AllocError>
@@ -62,92 +66,233 @@ fn sum(alloc: Global, first: &IdTree, second: &IdTree) -> Result<IdTree, AllocEr
     }
 }
 
-/// The id of a copy with those of the rows that end.
+/// The id of a stamp for a copy, with those of the rows that end.
 fn gathered(
     alloc: Global,
     rows: &[StampRow],
-    row: &StampRow,
     from: Option<u64>,
+    copy: u64,
+    stamp: &Stamp,
 ) -> Result<IdTree, AllocError>
     requires kept { IsKept rows.now }
     requires sound { AreSound rows.now }
-    requires own { CanGather from rows.now row.now }
-    ensures { IfOk result (λ id. id ≡ with_ids (ends_from from row.now) row.now.stamp.id rows.now) }
+    requires own { CanGather from rows.now copy stamp.now }
+    ensures { IfOk result (λ id. id ≡ with_ids (ends from copy stamp.now.event) stamp.now.id rows.now) }
 {
-    let mut id = copy_of(alloc, row.stamp.id())?;
+    let mut id = copy_of(alloc, stamp.id())?;
     for other in rows {
-        if ends(row, from, other) {
+        if ends(other, from, copy, stamp.event_tree()) {
             id = sum(alloc, &id, other.stamp.id())?;
         }
     }
     Ok(id)
 }
 
-/// The row of a copy once it is settled among these rows.
-pub fn settled_row(
+/// The row with another stamp and touch.
+pub fn restamped(row: &StampRow, stamp: Stamp, touch: u64) -> StampRow
+    ensures { result ≡ restamped stamp touch row.now }
+{
+    StampRow {
+        copy: row.copy,
+        holder: row.holder,
+        stamp,
+        touch,
+    }
+}
+
+/// A copy's row once it has this stamp and is settled among these rows.
+fn settled_row(
     alloc: Global,
     rows: &[StampRow],
     row: &StampRow,
     from: Option<u64>,
+    stamp: &Stamp,
+    touch: u64,
 ) -> Result<StampRow, AllocError>
     requires kept { IsKept rows.now }
     requires sound { AreSound rows.now }
-    requires own { CanGather from rows.now row.now }
-    ensures { IfOk result (λ new. new ≡ settled_row from rows.now row.now) }
+    requires own { CanGather from rows.now row.now.copy stamp.now }
+    ensures { IfOk result (λ new. new ≡ settled from rows.now stamp.now touch row.now) }
 {
-    let id = gathered(alloc, rows, row, from)?;
-    let event = row.stamp.event_tree().copy_of(alloc)?;
-    Ok(StampRow {
-        copy: row.copy,
-        holder: row.holder,
-        stamp: Stamp::new(id, event),
-        touch: row.touch,
-    })
+    let id = gathered(alloc, rows, from, row.copy, stamp)?;
+    let event = stamp.event_tree().copy_of(alloc)?;
+    Ok(restamped(row, Stamp::new(id, event), touch))
 }
 
-/// The row as a parcel that the heir holds: the removed copy's gets the number of the entry, which is its touch too.
-fn parcel_row(
+/// What becomes of a row when two copies have parts of a stamp and are settled.
+fn shared_fate(
     alloc: Global,
+    rows: &[StampRow],
     row: &StampRow,
     entry: u64,
+    a: u64,
+    b: u64,
+    first: &Stamp,
+    second: &Stamp,
+) -> Result<Fate, AllocError>
+    requires kept { IsKept rows.now }
+    requires sound { AreSound rows.now }
+    requires first { CanGather None rows.now a first.now }
+    requires second { CanGather None rows.now b second.now }
+    ensures { IfOk result (λ fate. left_of row.now fate ≡ shared entry a b first.now second.now rows.now row.now) }
+{
+    if row.copy == a {
+        let new = settled_row(alloc, rows, row, None, first, entry)?;
+        return Ok(Fate::Becomes(new));
+    }
+    if row.copy == b {
+        let new = settled_row(alloc, rows, row, None, second, entry)?;
+        return Ok(Fate::Becomes(new));
+    }
+    if ends(row, None, a, first.event_tree()) || ends(row, None, b, second.event_tree()) {
+        Ok(Fate::Goes)
+    } else {
+        Ok(Fate::Stays)
+    }
+}
+
+fn lost_fate(row: &StampRow, copy: u64) -> Fate
+    ensures { left_of row.now result ≡ lost copy row.now }
+{
+    if is_bound(row, Some(copy)) {
+        Fate::Goes
+    } else {
+        Fate::Stays
+    }
+}
+
+/// A parcel that the heir holds from now on, where the copy held it, and any other row as it is.
+fn passed_fate(
+    alloc: Global,
+    row: &StampRow,
     copy: u64,
     heir: u64,
-) -> Result<StampRow, AllocError>
-    ensures { IfOk result (λ parcel. parcel ≡ parcel_row entry copy heir row.now) }
+) -> Result<Fate, AllocError>
+    ensures { IfOk result (λ fate. left_of row.now fate ≡ Some (passed_row copy heir row.now)) }
 {
-    let is_copy = row.copy == copy;
+    if is_held(row, copy) {
+        let parcel = parcel_row(alloc, row, row.copy, heir, row.touch)?;
+        Ok(Fate::Becomes(parcel))
+    } else {
+        Ok(Fate::Stays)
+    }
+}
+
+/// What becomes of a row when a copy goes and its heir, which knows the event, is settled.
+fn bequeathed_fate(
+    alloc: Global,
+    rows: &[StampRow],
+    row: &StampRow,
+    copy: u64,
+    heir: u64,
+    event: &EventTree,
+) -> Result<Fate, AllocError>
+    requires kept { IsKept rows.now }
+    requires sound { AreSound rows.now }
+    requires own { row.now.copy ≡ heir → CanGather (Some copy) rows.now heir row.now.stamp }
+    ensures { IfOk result (λ fate. left_of row.now fate ≡ bequeathed copy heir event.now rows.now row.now) }
+{
+    if row.copy == heir {
+        let new = settled_row(alloc, rows, row, Some(copy), &row.stamp, row.touch)?;
+        return Ok(Fate::Becomes(new));
+    }
+    if row.copy == copy || ends(row, Some(copy), heir, event) {
+        return Ok(Fate::Goes);
+    }
+    passed_fate(alloc, row, copy, heir)
+}
+
+/// What becomes of a row by the plan.
+fn planned_fate(
+    alloc: Global,
+    rows: &[StampRow],
+    row: &StampRow,
+    entry: u64,
+    plan: &Plan,
+) -> Result<Fate, AllocError>
+    requires kept { IsKept rows.now }
+    requires sound { AreSound rows.now }
+    requires here { In row.now rows.now }
+    requires can { CanPlan plan.now rows.now }
+    ensures { IfOk result (λ fate. left_of row.now fate ≡ planned entry plan.now rows.now row.now) }
+{
+    match plan {
+        Plan::Share(a, b, first, second) => shared_fate(
+            alloc,
+            rows,
+            row,
+            entry,
+            *a,
+            *b,
+            first,
+            second,
+        ),
+        Plan::Lose(copy) => Ok(lost_fate(row, *copy)),
+        Plan::Bequeath(copy, heir, event) => bequeathed_fate(alloc, rows, row, *copy, *heir, event),
+    }
+}
+
+/// The exchanges that leave of each row what becomes of it by the plan.
+fn exchanges(
+    alloc: Global,
+    rows: &[StampRow],
+    entry: u64,
+    plan: &Plan,
+) -> Result<SmallVec<Exchange, 2>, AllocError>
+    requires kept { IsKept rows.now }
+    requires sound { AreSound rows.now }
+    requires can { CanPlan plan.now rows.now }
+    ensures { IfOk result (λ news. exchanged_all news.items rows.now ≡ filter_map (planned entry plan.now rows.now) rows.now) }
+{
+    let mut news = SmallVec::new(alloc);
+    for row in rows {
+        match planned_fate(alloc, rows, row, entry, plan)? {
+            Fate::Stays => {}
+            Fate::Goes => news.push(Exchange::Take(row.copy))?,
+            Fate::Becomes(new) => news.push(Exchange::Put(new))?,
+        }
+    }
+    Ok(news)
+}
+
+/// The change that leaves of each row what becomes of it by the plan, and behind them the row that comes, if one does.
+pub fn settle_change(
+    alloc: Global,
+    rows: &[StampRow],
+    entry: u64,
+    plan: &Plan,
+    came: Option<StampRow>,
+) -> Result<Change, AllocError>
+    requires kept { IsKept rows.now }
+    requires sound { AreSound rows.now }
+    requires can { CanPlan plan.now rows.now }
+    requires new { AreBefore entry rows.now }
+    requires came { IfSome came (λ row. row.copy ≡ entry) }
+    ensures { IfOk result (λ change. after change rows.now ≡ filter_map (planned entry plan.now rows.now) rows.now ++ option_to_list came) }
+{
+    let mut news = exchanges(alloc, rows, entry, plan)?;
+    if let Some(row) = came {
+        news.push(Exchange::Put(row))?;
+    }
+    Ok(Change::Rows(news))
+}
+
+/// A parcel with this number and touch, which has the row's stamp and which the heir holds.
+pub fn parcel_row(
+    alloc: Global,
+    row: &StampRow,
+    number: u64,
+    heir: u64,
+    touch: u64,
+) -> Result<StampRow, AllocError>
+    ensures { IfOk result (λ parcel. parcel ≡ record { copy = number; holder = Some heir; stamp = row.now.stamp; touch = touch }) }
+{
     let id = copy_of(alloc, row.stamp.id())?;
     let event = row.stamp.event_tree().copy_of(alloc)?;
     Ok(StampRow {
-        copy: if is_copy { entry } else { row.copy },
+        copy: number,
         holder: Some(heir),
         stamp: Stamp::new(id, event),
-        touch: if is_copy { entry } else { row.touch },
+        touch,
     })
-}
-
-/// Whether the row is the removed copy's, or a parcel's that it holds, and the heir doesn't know it.
-fn stays(heir: &StampRow, copy: u64, row: &StampRow) -> bool
-    ensures { result ≡ stays_parcel heir.now copy row.now }
-{
-    is_bound(row, Some(copy)) && !is_known(heir, row)
-}
-
-/// The parcels that the heir holds once the copy is removed and the heir settled, but for those that it held before.
-pub fn parcels_left(
-    alloc: Global,
-    rows: &[StampRow],
-    heir: &StampRow,
-    entry: u64,
-    copy: u64,
-) -> Result<Vec<StampRow>, AllocError>
-    ensures { IfOk result (λ parcels. parcels.items ≡ map (parcel_row entry copy heir.now.copy) (filter (stays_parcel heir.now copy) rows.now)) }
-{
-    let mut parcels = Vec::new(alloc);
-    for row in rows {
-        if stays(heir, copy, row) {
-            parcels.push(parcel_row(alloc, row, entry, copy, heir.copy)?)?;
-        }
-    }
-    Ok(parcels)
 }

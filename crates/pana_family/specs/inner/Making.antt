@@ -1,16 +1,19 @@
 -- The rows that reports make.
-use Rattle.std.specs.Prelude.{◌≡◌, ◌≢◌, Option, None, ℕ, true, false, List}
-use Rattle.pana_id.specs.Id.{Id, SharesNoPoint, is_zero, parts, IsValid}
+use Rattle.std.specs.Prelude.{◌≡◌, ◌≢◌, Option, Some, None, ℕ, false, true, List}
+use Rattle.pana_id.specs.Id.{Id, SharesNoPoint, is_zero, IsValid}
 use Rattle.pana_event.specs.Event.{Event}
-use Rattle.pana_stamp.specs.declared.stamp.Stamp.{Stamp}
-use Rattle.pana_family.specs.declared.row.StampRow.{StampRow}
-use Rattle.pana_family.specs.Table.{In}
 use Rattle.pana_stamp.specs.Fill.{fill}
 use Rattle.pana_stamp.specs.Grow.{grow}
-use Rattle.pana_family.specs.Rows.{row, row_in, stamp}
-use Rattle.pana_family.specs.Exact.{joined_stamp, restamped}
-pub use Rattle.pana_family.specs.Rows.{AreSound}
-pub use Rattle.pana_family.specs.Ends.{is_bound, ends_from, goes, stays_parcel, parcel_row}
+use Rattle.pana_stamp.specs.declared.stamp.Stamp.{Stamp}
+use Rattle.pana_family.specs.declared.row.StampRow.{StampRow}
+use Rattle.pana_family.specs.declared.settling.Fate.{Fate}
+use Rattle.pana_family.specs.declared.settling.Fate.TheVariants.{Stays, Goes, Becomes}
+use Rattle.pana_family.specs.declared.settling.Plan.{Plan}
+use Rattle.pana_family.specs.declared.settling.Plan.TheVariants.{Share, Lose, Bequeath}
+use Rattle.pana_family.specs.Holders.{passed}
+use Rattle.pana_family.specs.Table.{In}
+use Rattle.pana_family.specs.Rows.{row_in}
+use Rattle.pana_family.specs.After.{bequeathed, ends, lost, shared}
 
 -- the event after an update: what filling gives where that changes it, and else the event grown
 pub record IsUpdate (i : Id) (e new : Event) : Type 0 where
@@ -28,27 +31,35 @@ pub record IsRowOf (rows : List StampRow) (copy : ℕ) (row : StampRow) : Type 0
   pub named : row.copy ≡ copy
   pub free : row.holder ≡ None
 
--- the rows of a copy and of a new one, n, which share what it had
-abbrev pub shared_pair : ℕ → StampRow → StampRow × StampRow
-shared_pair n r = (restamped r.touch r (parts r.stamp.id).0 r.stamp.event, row n (stamp (parts r.stamp.id).1 r.stamp.event) n)
+-- two stamps own points, and none together
+pub record CanJoin (s t : Stamp) : Type 0 where
+  pub apart : SharesNoPoint s.id t.id
+  pub first : is_zero s.id ≡ false
+  pub second : is_zero t.id ≡ false
 
--- the rows of two copies, touched by entry n, which share a stamp
-abbrev pub part_pair : ℕ → StampRow → StampRow → Stamp → StampRow × StampRow
-part_pair n r q whole = (restamped n r (parts whole.id).0 whole.event, restamped n q (parts whole.id).1 whole.event)
+-- a stamp for a copy: it shares no point with the rows that end when the copy has it and is settled
+pub record CanGather (from : Option ℕ) (rows : List StampRow) (copy : ℕ) (s : Stamp) : Type 0 where
+  pub valid : IsValid s.id
+  pub apart : (r : StampRow) → In r rows → ends from copy s.event r ≡ true → SharesNoPoint s.id r.stamp.id
 
--- the same after an update of what both own and know together
-pub record AreMerged (n : ℕ) (r q : StampRow) (two : StampRow × StampRow) : Type 0 where
-  pub event : Event
-  pub update : IsUpdate (joined_stamp r q).id (joined_stamp r q).event event
-  pub rows_are : two ≡ part_pair n r q (stamp (joined_stamp r q).id event)
+-- the row, which the heir holds where the copy did
+abbrev pub passed_row : ℕ → ℕ → StampRow → StampRow
+passed_row copy heir r = record { copy = r.copy; holder = passed copy heir r.holder; stamp = r.stamp; touch = r.touch }
 
--- two rows own points, and none together
-pub record CanJoin (r q : StampRow) : Type 0 where
-  pub apart : SharesNoPoint r.stamp.id q.stamp.id
-  pub first : is_zero r.stamp.id ≡ false
-  pub second : is_zero q.stamp.id ≡ false
+-- what is left of a row
+abbrev pub left_of : StampRow → Fate → Option StampRow
+left_of r Stays = Some r
+left_of r Goes = None
+left_of r (Becomes x) = Some x
 
--- a new row for a copy: it shares no point with the rows that end when the copy is settled
-pub record CanGather (from : Option ℕ) (rows : List StampRow) (row : StampRow) : Type 0 where
-  pub valid : IsValid row.stamp.id
-  pub apart : (r : StampRow) → In r rows → ends_from from row r ≡ true → SharesNoPoint row.stamp.id r.stamp.id
+-- what becomes of a row by a plan
+abbrev pub planned : ℕ → Plan → List StampRow → StampRow → Option StampRow
+planned n (Share a b first second) rows r = shared n a b first second rows r
+planned n (Lose copy) rows r = lost copy r
+planned n (Bequeath copy heir event) rows r = bequeathed copy heir event rows r
+
+-- the ids that a plan adds share no point
+abbrev pub CanPlan : Plan → List StampRow → Type 0
+CanPlan (Share a b first second) rows = CanGather None rows a first × CanGather None rows b second
+CanPlan (Lose copy) rows = Unit {0}
+CanPlan (Bequeath copy heir event) rows = (r : StampRow) → In r rows → r.copy ≡ heir → CanGather (Some copy) rows heir r.stamp

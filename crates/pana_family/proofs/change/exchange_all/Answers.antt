@@ -3,7 +3,8 @@ use Rattle.std.proofs.lemmas.List.{set-set}
 use Rattle.pana_family.specs.declared.row.StampRow.{StampRow}
 use Rattle.pana_family.specs.declared.change.Exchange.{Exchange}
 use Rattle.pana_family.specs.declared.change.Exchange.TheVariants.{Take}
-use Rattle.pana_family.specs.Change.{row_at, placed, number_of, at_number, puts}
+use Rattle.pana_family.specs.Change.{placed, number_of, at_number, puts}
+use Rattle.pana_family.specs.Rows.{row_at}
 use Rattle.pana_family.proofs.Inverses.{Halfway, halfway}
 use Rattle.pana_family.proofs.change.exchange_all.Goals as goal
 

@@ -1,8 +1,8 @@
 use Rattle.std.proofs.Common.{sym, ◌∙◌, ap, subst, List}
 use Rattle.pana_family.specs.declared.row.StampRow.{StampRow}
 use Rattle.pana_family.specs.declared.change.Exchange.{Exchange}
-use Rattle.pana_family.specs.Rows.{IsRising, put_back}
-use Rattle.pana_family.specs.Change.{row_at, placed}
+use Rattle.pana_family.specs.Rows.{IsRising, put_back, row_at}
+use Rattle.pana_family.specs.Change.{placed}
 use Rattle.pana_family.proofs.Places.{rising_dropped}
 use Rattle.pana_family.proofs.Inverses.{none_dropped, row_dropped, row_exchanged, rising_exchanged}
 use Rattle.pana_family.proofs.change.exchange_one.Goals as goal

@@ -1,6 +1,6 @@
 use Rattle.std.proofs.Common.{sym, ◌∙◌, ap, ◌≡◌, ◌<◌, List, Some, subst, length, get_or}
 use Rattle.pana_family.specs.declared.row.StampRow.{StampRow}
-use Rattle.pana_family.specs.Change.{row_at}
+use Rattle.pana_family.specs.Rows.{row_at}
 use Rattle.pana_family.proofs.Places.{remove_is}
 use Rattle.pana_family.proofs.Inverses.{named_at, dropped_same}
 use Rattle.pana_family.proofs.change.take_row.Goals as goal

@@ -11,7 +11,7 @@ returns c =
     let there : In r c.args.rows.now = in_read c.args.rows.now c.index_of.result r c.index_of.ensures.within c.index-rows-index_of.is in
     let named : r.copy ≡ c.args.copy = ap (λ (q : StampRow). q.copy) c.index-rows-index_of.is ∙ c.index_of.ensures.here r in
     record {
-      is = sym (ap (row_in c.args.rows.now) (sym named) ∙ row_found 0 r c.args.rows.now c.requires.rising there);
+      is = sym (ap (row_in c.args.rows.now) (sym named) ∙ row_found r c.args.rows.now c.requires.rising there);
       there = there;
       named = named;
       free = ap (λ (q : StampRow). q.holder) c.index-rows-index_of.is ∙ c.index_of.ensures.free r;

@@ -1,35 +1,39 @@
-use Rattle.std.proofs.Common.{sym, ap, subst, ◌∙◌, ◌≡◌, ◌+◌, List, take, cond, ℕ, Bool}
+use Rattle.std.proofs.Common.{Bool, ap, cond, subst, sym, take, true, ◌+◌, ◌∙◌, ◌≡◌, ℕ}
+use Rattle.std.specs.Prelude.{List}
 use Rattle.pana_id.specs.Id.{Id, SharesNoPoint, sum_of}
 use Rattle.pana_family.specs.declared.row.StampRow.{StampRow}
+use Rattle.pana_family.specs.After.{ends}
 use Rattle.pana_family.specs.Rows.{with_ids}
-use Rattle.pana_family.specs.inner.Making.{ends_from}
 use Rattle.pana_family.proofs.Places.{in_read}
 use Rattle.pana_family.proofs.Sums.{gather_apart, seen_more, with_more}
+use Rattle.pana_event.specs.Event.{Event}
 use Rattle.pana_family.proofs.settling.gathered.Goals as goal
-use Rattle.pana_family.proofs.settling.gathered.Goals.{then-ends+in_ok-id-2, else-ends}
+use Rattle.pana_family.proofs.settling.gathered.Goals.{else-ends, then-ends+in_ok-id-2}
 
 pub sum-requires : goal.sum-requires
 sum-requires c =
     let rows : List StampRow = c.args.rows.now in
-    let test : StampRow → Bool = ends_from c.args.from c.args.row.now in
+    let test : StampRow → Bool = ends c.args.from c.args.copy c.args.stamp.now.event in
     let q : StampRow = c.other-item.result in
     let n : ℕ = c.loop-other.other-index in
     subst (λ (i : Id). SharesNoPoint c.loop-other.id i) (sym c.id-then-ends-2.ensures) (subst (λ (j : Id). SharesNoPoint j q.stamp.id) (sym c.loop-other.invariant)
-    (gather_apart test rows n q c.args.row.now.stamp.id c.requires.sound c.requires.own.valid c.requires.kept.rising c.requires.kept.stands.apart c.requires.own.apart
-    (in_read rows n q c.loop-other-test.true c.other-item.is) (seen_more rows n q c.loop-other-test.true c.other-item.is) (sym c.if-ends.ensures)))
+    (gather_apart test rows n q c.args.stamp.now.id c.requires.sound c.requires.own.valid c.requires.kept.rising c.requires.kept.stands.apart c.requires.own.apart
+    (in_read rows n q c.loop-other-test.true c.other-item.is) (seen_more rows n q c.loop-other-test.true c.other-item.is)
+    (subst (λ (e : Event). ends c.args.from c.args.copy e q ≡ true) c.event_tree.ensures (sym c.if-ends.ensures))))
 
 pub loop-other-preserved : goal.loop-other-preserved
 loop-other-preserved c =
     let rows : List StampRow = c.args.rows.now in
-    let test : StampRow → Bool = ends_from c.args.from c.args.row.now in
-    let mine : Id = c.args.row.now.stamp.id in
+    let test : StampRow → Bool = ends c.args.from c.args.copy c.args.stamp.now.event in
+    let mine : Id = c.args.stamp.now.id in
     let q : StampRow = c.other-item.result in
     let n : ℕ = c.loop-other.other-index in
     let old : Id = with_ids test mine (take n rows) in
     let more : with_ids test mine (take (n + 1) rows) ≡ cond (test q) (sum_of old q.stamp.id) old = ap (with_ids test mine) (seen_more rows n q c.loop-other-test.true c.other-item.is) ∙ with_more test mine (take n rows) q in
+    let ended : c.ends.result ≡ test q = c.ends.ensures ∙ ap (λ (e : Event). ends c.args.from c.args.copy e q) c.event_tree.ensures in
     elim c.if-ends.branch [
       | then-ends+in_ok-id-2 w ↦
           w.id-is ∙ w.in_ok-id-2.ensures ∙ ap (sum_of c.loop-other.id) w.id-then-ends-2.ensures ∙ ap (λ (j : Id). sum_of j q.stamp.id) c.loop-other.invariant
-          ∙ sym (more ∙ ap (λ (b : Bool). cond b (sum_of old q.stamp.id) old) (sym c.ends.ensures ∙ w.if-ends.true))
-      | else-ends w ↦ w.id-is ∙ c.loop-other.invariant ∙ sym (more ∙ ap (λ (b : Bool). cond b (sum_of old q.stamp.id) old) (sym c.ends.ensures ∙ w.if-ends.false))
+          ∙ sym (more ∙ ap (λ (b : Bool). cond b (sum_of old q.stamp.id) old) (sym ended ∙ w.if-ends.true))
+      | else-ends w ↦ w.id-is ∙ c.loop-other.invariant ∙ sym (more ∙ ap (λ (b : Bool). cond b (sum_of old q.stamp.id) old) (sym ended ∙ w.if-ends.false))
     ]

@@ -1,7 +1,7 @@
-use Rattle.std.proofs.Common.{◌≡◌, take}
+use Rattle.std.proofs.Common.{take, ◌≡◌}
+use Rattle.pana_family.specs.After.{ends}
 use Rattle.pana_family.specs.Rows.{with_ids}
-use Rattle.pana_family.specs.inner.Making.{ends_from}
 use Rattle.pana_family.proofs.settling.gathered.Given as goal
 
 abbrev pub invariant-loop-other : goal.invariant-loop-other
-invariant-loop-other l = l.id ≡ with_ids (ends_from l.from l.row) l.row.stamp.id (take l.other-index l.rows)
+invariant-loop-other l = l.id ≡ with_ids (ends l.from l.copy l.stamp.event) l.stamp.id (take l.other-index l.rows)

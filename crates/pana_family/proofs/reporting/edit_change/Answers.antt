@@ -1,6 +1,6 @@
 use Rattle.std.proofs.Common.{arith}
-use Rattle.pana_family.proofs.Prepared.{edit_exact}
-use Rattle.pana_family.proofs.reporting.edited.Goals as goal
+use Rattle.pana_family.proofs.Planned.{edit_exact}
+use Rattle.pana_family.proofs.reporting.edit_change.Goals as goal
 
 pub updated_event-requires-clause-owner : goal.updated_event-requires-clause-owner
 updated_event-requires-clause-owner c = c.requires.kept.stands.owning c.row_of.result.now c.row_of.ensures.there
@@ -10,4 +10,4 @@ updated_event-requires-clause-room c =
     omega (arith, c.requires.kept.levels c.row_of.result.now c.row_of.ensures.there, (c.requires.new c.row_of.result.now c.row_of.ensures.there).1, c.ranges.entry.fits)
 
 pub returns : goal.returns
-returns c = edit_exact c.args.rows.now c.args.copy c.args.entry c.row_of.result.now c.in_ok-event.event c.requires.kept c.row_of.ensures c.in_ok-event.ensures
+returns c = edit_exact c.args.rows.now c.args.copy c.args.entry c.row_of.result.now c.in_ok-event.event c.requires.kept.rising c.row_of.ensures c.in_ok-event.ensures

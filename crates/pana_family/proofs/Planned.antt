@@ -1,0 +1,165 @@
+-- The changes that reports make leave what is made of each row.
+use Rattle.std.specs.Prelude.{◌≡◌, ◌≢◌, ℕ, ◌<◌, ◌+◌, Bool, true, false, cond, ◌==◌, ◌||◌, not, List, [], ◌∷◌, ◌++◌, filter_map, length, take, drop, nat_lt, Option, Some, None}
+use Rattle.std.specs.List.{cons_option}
+use Rattle.std.proofs.Common.{refl, sym, ap, subst, ◌∙◌, inl, inr, arith, get_or, zero, suc}
+use Rattle.std.proofs.lemmas.Bool.{eq-eqb, eqb-true, eqb-false, le-ltb, ne_eqb}
+use Rattle.std.proofs.lemmas.List.{append-nil, append_assoc, at_drop_more, take_more}
+use Rattle.std.proofs.lemmas.List.Elements.{filter_map-append}
+use Rattle.pana_event.specs.Event.{Event}
+use Rattle.pana_stamp.specs.declared.stamp.Stamp.{Stamp}
+use Rattle.pana_family.specs.declared.row.StampRow.{StampRow}
+use Rattle.pana_family.specs.declared.report.FamilyReport.TheVariants.{Duplicate, Edit, Touch}
+use Rattle.pana_family.specs.declared.settling.Plan.{Plan}
+use Rattle.pana_family.specs.declared.settling.Plan.TheVariants.{Share, Lose, Bequeath}
+use Rattle.pana_family.specs.declared.change.Exchange.{Exchange}
+use Rattle.pana_family.specs.Holders.{is_held}
+use Rattle.pana_family.specs.Table.{In}
+use Rattle.pana_family.specs.Rows.{IsRising, AreBefore, dropped, put_back, renewed, row}
+use Rattle.pana_family.specs.Change.{exchanged, exchanged_all, with_event, with_touch}
+use Rattle.pana_family.specs.After.{first_part, made, reported_rows, restamped, second_part, updated, updated_stamp}
+use Rattle.pana_family.specs.inner.Making.{IsRowOf, planned}
+use Rattle.pana_family.proofs.Members.{above_low, one_row}
+use Rattle.pana_family.proofs.Places.{put_back_later}
+use Rattle.pana_family.proofs.Sums.{last_above, rising_take}
+use Rattle.pana_family.proofs.Images.{in_made, unless_of}
+use Rattle.pana_family.proofs.Keeps.{bequeathed_all, shared_all}
+
+-- One row changes.
+
+-- the rows of other numbers stay
+others_stay : (c : ℕ) (g : StampRow → StampRow) (rows : List StampRow) → ((q : StampRow) → In q rows → q.copy ≢ c) → filter_map (λ r. Some (cond (r.copy == c) (g r) r)) rows ≡ rows
+others_stay c g [] other = refl
+others_stay c g (q ∷ rows) other =
+    ap (λ (b : Bool). cond b (g q) q ∷ filter_map (λ r. Some (cond (r.copy == c) (g r) r)) rows) (ne_eqb q.copy c (other q (inl refl))) ∙ ap (λ (l : List StampRow). q ∷ l) (others_stay c g rows (λ p i. other p (inr i)))
+
+pub renewed_made : (c : ℕ) (f g : StampRow → StampRow) (rows : List StampRow) → ((r : StampRow) → In r rows → r.copy ≡ c → f r ≡ g r) → renewed c f rows ≡ filter_map (λ r. Some (cond (r.copy == c) (g r) r)) rows ++ []
+renewed_made c f g [] same = refl
+renewed_made c f g (q ∷ rows) same =
+    let rest = renewed_made c f g rows (λ p i. same p (inr i)) in
+    elim (q.copy == c) as (λ b. (q.copy == c) ≡ b → cond b (f q) q ∷ renewed c f rows ≡ cond b (g q) q ∷ (filter_map (λ r. Some (cond (r.copy == c) (g r) r)) rows ++ [])) [
+      | true ↦ λ w. ap (λ (x : StampRow). x ∷ renewed c f rows) (same q (inl refl) (eqb-true q.copy c w)) ∙ ap (λ (l : List StampRow). g q ∷ l) rest
+      | false ↦ λ w. ap (λ (l : List StampRow). q ∷ l) rest
+    ] refl
+
+pub edit_exact : (rows : List StampRow) (c n : ℕ) (r : StampRow) (e : Event) → IsRising 0 rows → IsRowOf rows c r → e ≡ updated r.stamp.id r.stamp.event → renewed c (with_event e n) rows ≡ reported_rows n (Edit c) rows
+edit_exact rows c n r e up at is =
+    renewed_made c (with_event e n) (λ q. restamped (updated_stamp q.stamp) n q) rows
+    (λ q i named. ap (λ (f : Event). with_event f n q) (is ∙ ap (λ (w : StampRow). updated w.stamp.id w.stamp.event) (one_row 0 rows r q up at.there i (at.named ∙ sym named))))
+
+pub touch_exact : (rows : List StampRow) (c n : ℕ) → renewed c (with_touch n) rows ≡ reported_rows n (Touch c) rows
+touch_exact rows c n = renewed_made c (with_touch n) (λ q. restamped q.stamp n q) rows (λ q i named. refl)
+
+-- a row takes that of its number
+put_there : (low : ℕ) (x r : StampRow) (g : StampRow → StampRow) (rows : List StampRow) → IsRising low rows → In r rows → r.copy ≡ x.copy → g r ≡ x → put_back x rows ≡ filter_map (λ q. Some (cond (q.copy == x.copy) (g q) q)) rows
+put_there low x r g [] up i named is = absurd i
+put_there low x r g (q ∷ rows) up i named is =
+    let new : List StampRow = filter_map (λ p. Some (cond (p.copy == x.copy) (g p) p)) rows in
+    elim (q.copy == x.copy) as (λ b. (q.copy == x.copy) ≡ b → cond b (x ∷ rows) (cond (nat_lt x.copy q.copy) (x ∷ (q ∷ rows)) (q ∷ put_back x rows)) ≡ cond b (g q) q ∷ new) [
+      | true ↦ λ w.
+          let one : q ≡ r = one_row low (q ∷ rows) q r up (inl refl) i (eqb-true q.copy x.copy w ∙ sym named) in
+          ap (λ (p : StampRow). p ∷ rows) (sym is ∙ ap g (sym one)) ∙ ap (λ (l : List StampRow). g q ∷ l) (sym (others_stay x.copy g rows (λ p j e. omega (arith, above_low (q.copy + 1) rows p up.1 j, e, eqb-true q.copy x.copy w))))
+      | false ↦ λ w. elim i [
+        | inl e ↦ absurd (eqb-false q.copy x.copy w (ap (λ (p : StampRow). p.copy) (sym e) ∙ named))
+        | inr j ↦ ap (λ (b : Bool). cond b (x ∷ (q ∷ rows)) (q ∷ put_back x rows)) (le-ltb x.copy q.copy (omega (arith, named, above_low (q.copy + 1) rows r up.1 j)))
+            ∙ ap (λ (l : List StampRow). q ∷ l) (put_there (q.copy + 1) x r g rows up.1 j named is)
+      ]
+    ] refl
+
+-- a row above all others
+pub put_above : (y : StampRow) (rows : List StampRow) → ((q : StampRow) → In q rows → q.copy < y.copy) → put_back y rows ≡ rows ++ y ∷ []
+put_above y [] less = refl
+put_above y (q ∷ rows) less = put_back_later y q rows (less q (inl refl)) ∙ ap (λ (l : List StampRow). q ∷ l) (put_above y rows (λ p i. less p (inr i)))
+
+pub duplicate_exact : (rows : List StampRow) (c n : ℕ) (r : StampRow) → IsRising 0 rows → AreBefore n rows → IsRowOf rows c r
+    → put_back (row n (second_part r.stamp) n) (put_back (restamped (first_part r.stamp) r.touch r) rows) ≡ reported_rows n (Duplicate c) rows
+duplicate_exact rows c n r up before at =
+    let x : StampRow = restamped (first_part r.stamp) r.touch r in
+    let g : StampRow → StampRow = λ q. restamped (first_part q.stamp) q.touch q in
+    ap (put_back (row n (second_part r.stamp) n)) (put_there 0 x r g rows up at.there refl refl ∙ ap (λ (k : ℕ). filter_map (λ q. Some (cond (q.copy == k) (g q) q)) rows) at.named)
+    ∙ put_above (row n (second_part r.stamp) n) (filter_map (made n (Duplicate c) rows) rows)
+    (λ y i. let m = in_made (made n (Duplicate c) rows) rows y i in
+    omega (arith, (before m.0 m.1).0, numbered m.0 y m.2))
+    ∙ ap (λ (q : StampRow). filter_map (made n (Duplicate c) rows) rows ++ row n (second_part q.stamp) n ∷ []) at.is
+  where
+    numbered : (q y : StampRow) → Some (cond (q.copy == c) (restamped (first_part q.stamp) q.touch q) q) ≡ Some y → y.copy ≡ q.copy
+    numbered q y is = let same : cond (q.copy == c) (restamped (first_part q.stamp) q.touch q) q ≡ y = cc is in
+        ap (λ (w : StampRow). w.copy) (sym same) ∙ elim (q.copy == c) as (λ b. (cond b (restamped (first_part q.stamp) q.touch q) q).copy ≡ q.copy) [ true ↦ refl | false ↦ refl ]
+
+-- Row by row.
+
+pub exchanged_more : (xs : List Exchange) (x : Exchange) (rows : List StampRow) → exchanged_all (xs ++ x ∷ []) rows ≡ exchanged x (exchanged_all xs rows)
+exchanged_more [] x rows = refl
+exchanged_more (y ∷ xs) x rows = exchanged_more xs x (exchanged y rows)
+
+pub planned_named : (n : ℕ) (plan : Plan) (rows : List StampRow) (r x : StampRow) → planned n plan rows r ≡ Some x → x.copy ≡ r.copy
+planned_named n (Share a b first second) rows r x is = shared_all (λ (y : StampRow). y.copy ≡ r.copy) n a b first second rows r x (λ e. refl) (λ e. refl) refl is
+planned_named n (Lose c) rows r x is = unless_of (r.copy == c || is_held c r.holder) (λ (y : StampRow). y.copy ≡ r.copy) r x (λ o. refl) is
+planned_named n (Bequeath c h e) rows r x is = bequeathed_all (λ (y : StampRow). y.copy ≡ r.copy) c h e rows r x (λ e. refl) refl is
+
+put_at : (x r : StampRow) (front rest : List StampRow) → x.copy ≡ r.copy → ((q : StampRow) → In q front → q.copy < x.copy) → put_back x (front ++ r ∷ rest) ≡ front ++ x ∷ rest
+put_at x r [] rest same less = ap (λ (b : Bool). cond b (x ∷ rest) (cond (nat_lt x.copy r.copy) (x ∷ (r ∷ rest)) (r ∷ put_back x rest))) (eq-eqb r.copy x.copy (sym same))
+put_at x r (q ∷ front) rest same less = put_back_later x q (front ++ r ∷ rest) (less q (inl refl)) ∙ ap (λ (l : List StampRow). q ∷ l) (put_at x r front rest same (λ p i. less p (inr i)))
+
+none_dropped : (c : ℕ) (rows : List StampRow) → ((q : StampRow) → In q rows → q.copy ≢ c) → dropped c rows ≡ rows
+none_dropped c [] other = refl
+none_dropped c (q ∷ rows) other = ap (λ (b : Bool). cond b (dropped c rows) (q ∷ dropped c rows)) (ne_eqb q.copy c (other q (inl refl))) ∙ ap (λ (l : List StampRow). q ∷ l) (none_dropped c rows (λ p i. other p (inr i)))
+
+drop_at : (r : StampRow) (front rest : List StampRow) → ((q : StampRow) → In q front → q.copy ≢ r.copy) → ((q : StampRow) → In q rest → q.copy ≢ r.copy) → dropped r.copy (front ++ r ∷ rest) ≡ front ++ rest
+drop_at r [] rest less more = ap (λ (b : Bool). cond b (dropped r.copy rest) (r ∷ dropped r.copy rest)) (eq-eqb r.copy r.copy refl) ∙ none_dropped r.copy rest more
+drop_at r (q ∷ front) rest less more =
+    ap (λ (b : Bool). cond b (dropped r.copy (front ++ r ∷ rest)) (q ∷ dropped r.copy (front ++ r ∷ rest))) (ne_eqb q.copy r.copy (less q (inl refl))) ∙ ap (λ (l : List StampRow). q ∷ l) (drop_at r front rest (λ p i. less p (inr i)) more)
+
+-- what is made of the first i rows, and the others
+abbrev pub halfway : (StampRow → Option StampRow) → List StampRow → ℕ → List StampRow
+halfway g rows i = filter_map g (take i rows) ++ drop i rows
+
+rising_drop : (low : ℕ) (front rest : List StampRow) (r : StampRow) → IsRising low (front ++ r ∷ rest) → IsRising (r.copy + 1) rest
+rising_drop low [] rest r up = up.1
+rising_drop low (q ∷ front) rest r up = rising_drop (q.copy + 1) front rest r up.1
+
+-- the row at i, what is made of those before, and those after
+record Next (g : StampRow → Option StampRow) (rows : List StampRow) (i : ℕ) (r : StampRow) : Type 0 where
+  before : halfway g rows i ≡ filter_map g (take i rows) ++ r ∷ drop (i + 1) rows
+  after : halfway g rows (i + 1) ≡ (filter_map g (take i rows) ++ cons_option (g r) []) ++ drop (i + 1) rows
+  less : (q : StampRow) → In q (filter_map g (take i rows)) → q.copy < r.copy
+  more : (q : StampRow) → In q (drop (i + 1) rows) → q.copy ≢ r.copy
+
+next_is : (g : StampRow → Option StampRow) (rows : List StampRow) (i : ℕ) (r : StampRow) → ((q x : StampRow) → g q ≡ Some x → x.copy ≡ q.copy) → IsRising 0 rows → i < length rows → r ≡ get_or rows i r → Next g rows i r
+next_is g rows i r named up within read =
+    let more : take (i + 1) rows ≡ take i rows ++ r ∷ [] = take_more rows i r within ∙ ap (λ (w : StampRow). take i rows ++ w ∷ []) (sym read) in
+    let split : rows ≡ take i rows ++ r ∷ drop (i + 1) rows = at_split rows i r within ∙ ap (λ (w : StampRow). take i rows ++ w ∷ drop (i + 1) rows) (sym read) in
+    let rest : drop i rows ≡ r ∷ drop (i + 1) rows = at_drop_more (λ l. l) rows i r within ∙ ap (λ (w : StampRow). w ∷ drop (i + 1) rows) (sym read) in
+    record {
+      before = ap (λ (l : List StampRow). filter_map g (take i rows) ++ l) rest;
+      after = ap (λ (l : List StampRow). filter_map g l ++ drop (i + 1) rows) more ∙ ap (λ (l : List StampRow). l ++ drop (i + 1) rows) (filter_map-append g (take i rows) (r ∷ []));
+      less = λ q j. let m = in_made g (take i rows) q j in omega (arith, named m.0 q m.2, last_above 0 (take i rows) r m.0 (subst (IsRising 0) more (rising_take 0 (i + 1) rows up)) m.1);
+      more = λ q j e. omega (arith, above_low (r.copy + 1) (drop (i + 1) rows) q (rising_drop 0 (take i rows) (drop (i + 1) rows) r (subst (IsRising 0) split up)) j, e);
+    }
+  where
+    at_split : (rows : List StampRow) (i : ℕ) (d : StampRow) → i < length rows → rows ≡ take i rows ++ get_or rows i d ∷ drop (i + 1) rows
+    at_split [] i d within = absurd (omega arith)
+    at_split (q ∷ rows) zero d within = refl
+    at_split (q ∷ rows) (suc i) d within =
+        let next : suc i + 1 ≡ suc (i + 1) = omega arith in
+        ap (λ (l : List StampRow). q ∷ l) (at_split rows i d (omega arith)) ∙ ap (λ (k : ℕ). q ∷ (take i rows ++ get_or rows i d ∷ drop k (q ∷ rows))) (sym next)
+
+-- the row at i stays, goes, or another takes its place
+pub one_stays : (g : StampRow → Option StampRow) (rows : List StampRow) (i : ℕ) (r : StampRow) → ((q x : StampRow) → g q ≡ Some x → x.copy ≡ q.copy) → IsRising 0 rows → i < length rows → r ≡ get_or rows i r → g r ≡ Some r
+    → halfway g rows i ≡ halfway g rows (i + 1)
+one_stays g rows i r named up within read is =
+    let m = next_is g rows i r named up within read in
+    m.before ∙ sym (m.after ∙ ap (λ (o : Option StampRow). (filter_map g (take i rows) ++ cons_option o []) ++ drop (i + 1) rows) is ∙ append_assoc (filter_map g (take i rows)) (r ∷ []) (drop (i + 1) rows))
+
+pub one_goes : (g : StampRow → Option StampRow) (rows : List StampRow) (i : ℕ) (r : StampRow) → ((q x : StampRow) → g q ≡ Some x → x.copy ≡ q.copy) → IsRising 0 rows → i < length rows → r ≡ get_or rows i r → g r ≡ None
+    → dropped r.copy (halfway g rows i) ≡ halfway g rows (i + 1)
+one_goes g rows i r named up within read is =
+    let m = next_is g rows i r named up within read in
+    ap (dropped r.copy) m.before ∙ drop_at r (filter_map g (take i rows)) (drop (i + 1) rows) (λ q j e. omega (arith, m.less q j, e)) m.more
+    ∙ sym (m.after ∙ ap (λ (o : Option StampRow). (filter_map g (take i rows) ++ cons_option o []) ++ drop (i + 1) rows) is ∙ ap (λ (l : List StampRow). l ++ drop (i + 1) rows) (append-nil (filter_map g (take i rows))))
+
+pub one_becomes : (g : StampRow → Option StampRow) (rows : List StampRow) (i : ℕ) (r x : StampRow) → ((q x : StampRow) → g q ≡ Some x → x.copy ≡ q.copy) → IsRising 0 rows → i < length rows → r ≡ get_or rows i r → g r ≡ Some x
+    → put_back x (halfway g rows i) ≡ halfway g rows (i + 1)
+one_becomes g rows i r x named up within read is =
+    let m = next_is g rows i r named up within read in
+    ap (put_back x) m.before ∙ put_at x r (filter_map g (take i rows)) (drop (i + 1) rows) (named r x is) (λ q j. omega (arith, m.less q j, named r x is))
+    ∙ sym (m.after ∙ ap (λ (o : Option StampRow). (filter_map g (take i rows) ++ cons_option o []) ++ drop (i + 1) rows) is ∙ append_assoc (filter_map g (take i rows)) (x ∷ []) (drop (i + 1) rows))

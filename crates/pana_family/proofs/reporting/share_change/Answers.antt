@@ -1,0 +1,21 @@
+use Rattle.std.proofs.Common.{None, ap, false, subst, sym, ◌∙◌, ◌≡◌}
+use Rattle.pana_id.specs.Id.{Id, is_single}
+use Rattle.pana_stamp.specs.declared.stamp.Stamp.{Stamp}
+use Rattle.pana_family.specs.Rows.{row_in}
+use Rattle.pana_family.specs.inner.Making.{CanGather}
+use Rattle.pana_family.proofs.Keeps.{two_rows}
+use Rattle.pana_family.proofs.Shares.{parts_gather, whole_is}
+use Rattle.pana_family.proofs.reporting.share_change.Goals as goal
+
+pub halves-requires : goal.halves-requires
+halves-requires c =
+    let rows = c.args.rows.now in
+    let two = two_rows rows c.args.a c.args.b c.requires.kept.rising c.requires.able.0 c.requires.able.1 c.requires.able.2 in
+    ap (λ (i : Id). is_single i 256) c.requires.whole ∙ (whole_is rows c.args.a c.args.b (row_in rows c.args.a) (row_in rows c.args.b) c.requires.kept c.requires.sound two).divides
+
+pub settle_change-requires-clause-can : goal.settle_change-requires-clause-can
+settle_change-requires-clause-can c =
+    let rows = c.args.rows.now in
+    let two = two_rows rows c.args.a c.args.b c.requires.kept.rising c.requires.able.0 c.requires.able.1 c.requires.able.2 in
+    subst (λ (p : Stamp × Stamp). CanGather None rows c.args.a p.0 × CanGather None rows c.args.b p.1) (sym c.in_ok-first.ensures)
+    (parts_gather rows c.args.a c.args.b (row_in rows c.args.a) (row_in rows c.args.b) c.args.whole.now c.requires.kept c.requires.sound two c.requires.whole)

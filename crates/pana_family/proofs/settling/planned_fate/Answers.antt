@@ -1,0 +1,7 @@
+use Rattle.std.proofs.Common.{subst}
+use Rattle.pana_family.specs.declared.settling.Plan.{Plan}
+use Rattle.pana_family.specs.inner.Making.{CanPlan}
+use Rattle.pana_family.proofs.settling.planned_fate.Goals as goal
+
+pub bequeathed_fate-requires-clause-own : goal.bequeathed_fate-requires-clause-own
+bequeathed_fate-requires-clause-own c = subst (λ (p : Plan). CanPlan p c.args.rows.now) c.in-Bequeath.is c.requires.can c.args.row.now c.requires.here
