@@ -1,56 +1,290 @@
--- Answers read off the families.
-use Rattle.std.specs.Prelude.{◌≡◌, ℕ, zero, suc, Bool, ◌-◌, ◌||◌, nat_lt, slice_index_or, ◌+◌, ◌<◌, ◌≤◌, true, false, cond, List, [], ◌∷◌, ◌++◌, length, map, filter, Some, None}
+-- Causes and answers read off what a hall keeps.
+use Rattle.std.specs.Prelude.{◌≡◌, ◌⊎◌, ℕ, ◌+◌, ◌-◌, ◌<◌, ◌≤◌, Bool, true, false, cond, not, ◌&&◌, ◌||◌, ◌==◌, nat_le, List, [], ◌∷◌, ◌++◌, length, filter, reverse, find, count_by, Option, Some, None, option_map, option_and_then, slice_get, zero, suc, nat_lt, slice_index_or, map}
+use Rattle.std.specs.Bool.{then_some}
+use Rattle.std.specs.Str.{bytes_eq}
+use Rattle.std.proofs.lemmas.Slice.Eq.{bytes_eq-Decides}
 use Rattle.std.specs.List.{AllByRecursion, list_any}
-use Rattle.std.proofs.Common.{refl, sym, ap, ◌∙◌, subst, arith}
-use Rattle.std.proofs.lemmas.Bool.{not-false, lt-ltb}
-use Rattle.std.proofs.lemmas.List.{map-append}
+use Rattle.std.proofs.Common.{refl, sym, ap, ◌∙◌, subst, inl, inr, arith}
+use Rattle.std.proofs.Math.Bool.{or-true, or_comm}
+use Rattle.std.proofs.lemmas.Bool.{eq-eqb, ne_eqb, cases_lt, cases_Bool, not-false, lt-ltb}
+use Rattle.std.proofs.lemmas.Option.{slice_get_past}
+use Rattle.std.proofs.lemmas.List.{reverse-append, map-append}
+use Rattle.std.proofs.lemmas.List.Sums.{length-filter}
+use Rattle.pana_copies.specs.declared.place.Place.{Place}
+use Rattle.pana_copies.specs.Places.{same_place}
+use Rattle.pana_copies.specs.Spots.{Spot, Table, kept, place_of}
+use Rattle.pana_journal.specs.declared.entry.Entry.{Entry}
+use Rattle.pana_journal.specs.Entries.{entry_at}
+use Rattle.pana_family.specs.Updates.{has}
+use Rattle.pana_family.specs.Rows.{copy_rows, divides, lives}
+use Rattle.pana_hall.specs.declared.cause.Cause.TheVariants.{PlaceTaken, FamilyFull, TooDeep, UnknownFamily}
+use Rattle.pana_hall.specs.inner.Undo.{KeptRows, ends_in, last_place}
+use Rattle.pana_hall.specs.Family.{families, is_family, has_report, is_register}
+use Rattle.pana_hall.specs.Living.{Copy, copy_in, copies_of, living, known_to}
+use Rattle.pana_hall.specs.Pending.{pending, is_last}
+use Rattle.pana_hall.specs.Refusal.{displaced, taken, taken_from, taken_since, family_full, too_deep, pending_with, unknown_family, unknown, other_family, first}
+use Rattle.pana_hall.specs.Board.{is_of}
+use Rattle.pana_hall.specs.Accepted.{IsAccepted}
+use Rattle.pana_hall.specs.laws.Layers.{AreRising}
+use Rattle.pana_hall.specs.laws.Tables.{layer}
+use Rattle.pana_hall.specs.inner.Kept.{of_each, AreSpots, IsKept, family_of, place_before, undone_of, families_of}
+use Rattle.pana_hall.specs.StampRows.{rows_of, stamp_rows}
+use Rattle.pana_hall.specs.inner.Families.{family_at, old_place}
+use Rattle.pana_hall.specs.inner.Spots.{spot_of, IsThere, other_there}
+use Rattle.pana_hall.proofs.Lists.{is_last_push, each_weaker, any_push, is_last-push, map_map, entry_at_place, slice_get-each}
+use Rattle.pana_hall.proofs.Sound.{accepted_is_sound, first_none, known, none_false, one_family}
+use Rattle.pana_hall.proofs.Tables.{ends_at, layer_now, pending_rises, each_has, merged}
+use Rattle.pana_hall.proofs.Places.{same_place-itself, none_passes, living_found, back_at}
+use Rattle.pana_hall.proofs.Histories.{pending_within}
+use Rattle.pana_hall.proofs.Stood.{count_rows, copies_sets, layers_stand, lives_rows}
+use Rattle.pana_hall.proofs.Ready.{place_spots, at_spots, family_of as family_of_copy}
+use Rattle.pana_hall.proofs.Listed.{found_at, lives_within, entry_within}
+use Rattle.pana_hall.proofs.Moves.{found_number, IsWell}
 use Rattle.std.proofs.lemmas.List.Elements.{filter-append}
-use Rattle.pana_copies.specs.Spots.{Table}
 use Rattle.pana_family.specs.Table.{touch_in, Known, set_in}
 use Rattle.pana_family.specs.Table as table
-use Rattle.pana_family.specs.Rows.{copy_rows, lives}
 use Rattle.pana_family.specs.Stands.{StandsFor}
 use Rattle.pana_family.specs.declared.stamps.CopyStamp.{CopyStamp}
 use Rattle.pana_family.specs.Stamps.{AreStamps, stamps_in, text_of}
-use Rattle.pana_hall.specs.inner.Undo.{KeptRows}
 use Rattle.pana_hall.specs.inner.Listed.{all_listed, listed}
 use Rattle.pana_hall.specs.declared.listed_family.ListedFamily.{ListedFamily}
-use Rattle.pana_hall.proofs.Lists.{map_map}
-use Rattle.pana_hall.specs.Family.{families, is_family, has_report, is_register}
-use Rattle.pana_hall.specs.Living.{Copy, copy_in, known_to, living}
-use Rattle.pana_hall.specs.declared.cause.Cause.TheVariants.{UnknownFamily}
 use Rattle.pana_hall.specs.declared.family_row.FamilyRow.{FamilyRow}
-use Rattle.pana_hall.specs.Board.{is_of}
 use Rattle.pana_hall.specs.Queries.{begun, family_row}
-use Rattle.pana_hall.specs.Refusal.{unknown_family, unknown, other_family, first}
-use Rattle.pana_hall.specs.Accepted.{IsAccepted}
 use Rattle.pana_hall.specs.laws.Tables as tables
 use Rattle.pana_hall.specs.laws.Sets.{sets_at}
-use Rattle.pana_hall.specs.StampRows.{stamp_rows}
 use Rattle.pana_hall.specs.StampRows as rows
-use Rattle.pana_hall.specs.laws.Tables.{layer}
 use Rattle.pana_family.specs.declared.row.StampRow.{StampRow}
-use Rattle.pana_hall.specs.inner.Families.{family_at}
-use Rattle.pana_hall.specs.inner.Kept.{IsKept, families_of, family_of}
-use Rattle.pana_journal.specs.declared.entry.Entry.{Entry}
-use Rattle.pana_journal.specs.Entries.{entry_at}
-use Rattle.pana_hall.proofs.Locality.{IsWell}
-use Rattle.pana_hall.proofs.Rising.{entry_at_place, slice_get-each}
-use Rattle.pana_hall.proofs.Records.{found_at, entry_within}
-use Rattle.pana_hall.proofs.Allowed.{first_none, known, none_false, one_family}
-use Rattle.pana_hall.proofs.Sound.{accepted_is_sound}
-use Rattle.pana_hall.proofs.Tables.{merged}
 use Rattle.pana_hall.specs.Stamps.{AreStampsOf, as_known}
-use Rattle.pana_hall.proofs.Knowns.{row_in, row_of, set_at, touch_at}
-use Rattle.pana_hall.proofs.Mirrors.{sets_old}
-use Rattle.pana_hall.proofs.Stood.{copies_sets, count_rows, layers_stand, lives_rows}
-use Rattle.pana_hall.proofs.Ready.{family_of as family_of_copy}
+use Rattle.pana_hall.proofs.Knowns.{row_in, known_row, set_at, touch_at, sets_old}
+
+-- Causes read off what a hall keeps.
+
+-- what is found by a test passes it
+found_by : (p : Copy → Bool) (P : Copy → Type 0) (copies : List Copy) (x : Copy) → AllByRecursion P copies → find p copies ≡ Some x → (p x ≡ true) × P x
+found_by p P [] x each found = absurd (cc)
+found_by p P (c ∷ copies) x each found =
+    elim (p c) as (λ b. p c ≡ b → cond b (Some c) (find p copies) ≡ Some x → (p x ≡ true) × P x) [
+      | true ↦ λ e f. let same : c ≡ x = cc in subst (λ y. (p y ≡ true) × P y) same (e, each.0)
+      | false ↦ λ e f. found_by p P copies x each.1 f
+    ] refl found
+
+-- a place that tests the same is the same
+same_is : (a b : Place) → same_place a b ≡ true → a ≡ b
+same_is a b e =
+    let tests = both_true (bytes_eq a.device b.device) (bytes_eq a.path b.path) e in
+    let device : a.device ≡ b.device = (bytes_eq-Decides a.device b.device).0 tests.0 in
+    let path : a.path ≡ b.path = (bytes_eq-Decides a.path b.path).0 tests.1 in
+    ap (λ d. record { device = d; path = a.path }) device ∙ ap (λ q. record { device = b.device; path = q }) path
+  where
+    both_true : (x y : Bool) → (x && y) ≡ true → (x ≡ true) × (y ≡ true)
+    both_true true true e = (refl, refl)
+    both_true true false e = absurd (cc)
+    both_true false y e = absurd (cc)
+
+pub taken_is : (journal : List Entry) (copies : Table) (place : Place) (found : Option ℕ) → IsAccepted 8 journal → AreSpots journal copies → IsThere copies place found
+    → option_map PlaceTaken found ≡ taken place (living journal)
+taken_is journal copies place found accepted spots there =
+    elim (find (λ copy. same_place copy.place place) (living journal)) as (λ o. find (λ copy. same_place copy.place place) (living journal) ≡ o → option_map PlaceTaken found ≡ option_map (λ copy. PlaceTaken copy.number) o) [
+      | Some x ↦ λ e.
+          let here = found_by (λ copy. same_place copy.place place) (λ c. copy_in (living journal) c.number ≡ Some c) (living journal) x (living_found 8 journal accepted) e in
+          let at : place_of copies x.number ≡ Some place = place_spots journal copies spots x.number ∙ ap (option_map (λ copy. copy.place)) here.1 ∙ ap (λ p. Some p) (same_is x.place place here.0) in
+          ap (option_map PlaceTaken) ((there x.number).1 at)
+      | None ↦ λ e. elim found as (λ o. found ≡ o → option_map PlaceTaken o ≡ None) [
+        | None ↦ λ f. refl
+        | Some n ↦ λ f.
+            let y = at_spots journal copies spots n place ((there n).0 f) in
+            let fails : same_place y.0.place place ≡ false = none_passes (λ copy. same_place copy.place place) (living journal) n y.0 e y.1 in
+            let passes : same_place y.0.place place ≡ true = ap (λ p. same_place p place) y.2 ∙ same_place-itself place in
+            absurd (cc)
+      ] refl
+    ] refl
+
+pub taken_from_is : (journal : List Entry) (copies : Table) (back : Copy) (found : Option ℕ) → IsAccepted 8 journal → AreSpots journal copies → IsThere copies back.place found
+    → other_there back.number found ≡ taken_from back (living journal)
+taken_from_is journal copies back found accepted spots there =
+    let test : Copy → Bool = λ other. not (other.number == back.number) && same_place other.place back.place in
+    elim (find test (living journal)) as (λ o. find test (living journal) ≡ o → other_there back.number found ≡ option_map (λ other. PlaceTaken other.number) o) [
+      | Some x ↦ λ e.
+          let here = found_by test (λ c. copy_in (living journal) c.number ≡ Some c) (living journal) x (living_found 8 journal accepted) e in
+          let both = parts (x.number == back.number) (same_place x.place back.place) here.0 in
+          let at : place_of copies x.number ≡ Some back.place = place_spots journal copies spots x.number ∙ ap (option_map (λ copy. copy.place)) here.1 ∙ ap (λ p. Some p) (same_is x.place back.place both.1) in
+          ap (other_there back.number) ((there x.number).1 at) ∙ ap (λ b. cond b None (Some (PlaceTaken x.number))) both.0
+      | None ↦ λ e. elim found as (λ o. found ≡ o → other_there back.number o ≡ None) [
+        | None ↦ λ f. refl
+        | Some n ↦ λ f.
+            let y = at_spots journal copies spots n back.place ((there n).0 f) in
+            let fails : test y.0 ≡ false = none_passes test (living journal) n y.0 e y.1 in
+            let passes : same_place y.0.place back.place ≡ true = ap (λ p. same_place p back.place) y.2 ∙ same_place-itself back.place in
+            let number : y.0.number ≡ n = found_number (living journal) n y.0 y.1 in
+            ap (λ k. cond (k == back.number) None (Some (PlaceTaken n))) (sym number)
+            ∙ ap (λ b. cond b None (Some (PlaceTaken n))) (must (y.0.number == back.number) (same_place y.0.place back.place) passes fails)
+      ] refl
+    ] refl
+  where
+    parts : (a b : Bool) → (not a && b) ≡ true → (a ≡ false) × (b ≡ true)
+    parts true b e = absurd (cc)
+    parts false b e = (refl, e)
+
+    must : (a b : Bool) → b ≡ true → (not a && b) ≡ false → a ≡ true
+    must true b e f = refl
+    must false b e f = absurd (cc)
+
+-- an entry is pending, or is the last
+has-reverse : (xs : List ℕ) (n : ℕ) → has (reverse xs) n ≡ has xs n
+has-reverse [] n = refl
+has-reverse (x ∷ xs) n = ap (λ l. has l n) (reverse-append (x ∷ []) xs) ∙ any_push (λ k. k == n) (reverse xs) x ∙ or_comm (has (reverse xs) n) (x == n) ∙ ap (λ b. (x == n) || b) (has-reverse xs n)
+
+pends_each : (journal : List Entry) (family n k : ℕ) (numbers : List ℕ) → list_any (λ u. u.entry == n) (of_each (undone_of journal) family journal k numbers) ≡ has numbers n
+pends_each journal family n k [] = refl
+pends_each journal family n k (m ∷ numbers) = ap (λ b. (m == n) || b) (pends_each journal family n (k + 1) numbers)
+
+pends_is : (journal : List Entry) (family n : ℕ) → list_any (λ u. u.entry == n) (family_of journal family).undo ≡ has (pending 8 family journal) n
+pends_is journal family n = pends_each journal family n 1 (reverse (pending 8 family journal)) ∙ has-reverse (pending 8 family journal) n
+
+-- the last of a list that is written the other way round is its first
+reversed : (numbers : List ℕ) → (numbers ≡ []) ⊎ ((prefix : List ℕ) × (x : ℕ) × (numbers ≡ prefix ++ x ∷ []))
+reversed [] = inl refl
+reversed (a ∷ numbers) = elim (reversed numbers) [
+  | inl none ↦ inr ([], a, ap (λ l. a ∷ l) none)
+  | inr some ↦ inr (a ∷ some.0, some.1, ap (λ l. a ∷ l) some.2)
+]
+
+ends_each : (journal : List Entry) (family n k : ℕ) (numbers : List ℕ) → ends_in n (of_each (undone_of journal) family journal k (reverse numbers)) ≡ is_last n numbers
+ends_each journal family n k numbers =
+    elim (reversed numbers) [
+      | inl none ↦ ap (λ l. ends_in n (of_each (undone_of journal) family journal k (reverse l))) none ∙ ap (is_last n) (sym none)
+      | inr some ↦
+          ap (λ l. ends_in n (of_each (undone_of journal) family journal k l)) (ap reverse some.2 ∙ reverse-append some.0 (some.1 ∷ []))
+          ∙ sym (ap (is_last n) some.2 ∙ is_last-push some.0 some.1 n)
+    ]
+
+lasts_is : (journal : List Entry) (family n : ℕ) → ends_in n (family_of journal family).undo ≡ is_last n (pending 8 family journal)
+lasts_is journal family n = ends_each journal family n 1 (pending 8 family journal)
+
+-- the family of an entry, as a hall keeps it, or no entry has the number
+pub has_family : (journal : List Entry) (list : List KeptRows) (positions : List ℕ) (copies : Table) (n : ℕ) → IsKept journal list positions copies → (it : KeptRows) → family_at list positions n ≡ Some it
+    → it ≡ family_of journal (families journal n)
+has_family journal list positions copies n all it found =
+    elim (cases_lt n 1) [
+      | inl none ↦
+          let zero_is : n ≡ 0 = omega arith in
+          let nothing : family_at list positions n ≡ None = ap (λ b. option_and_then (slice_get list) (cond b None (slice_get positions (n - 1)))) (eq-eqb n 0 zero_is) in
+          let odd : None ≡ Some it = sym nothing ∙ found in absurd (cc)
+      | inr some ↦ elim (cases_lt (length journal) n) [
+        | inl past ↦
+            let count = all.placed.count in
+            let beyond : slice_get positions (n - 1) ≡ None = slice_get_past positions (n - 1) (omega arith) in
+            let nothing : family_at list positions n ≡ None =
+            ap (λ b. option_and_then (slice_get list) (cond b None (slice_get positions (n - 1)))) (ne_eqb n 0 (λ h. omega arith)) ∙ ap (option_and_then (slice_get list)) beyond in
+            let odd : None ≡ Some it = sym nothing ∙ found in absurd (cc)
+        | inr within ↦
+            let both : Some (family_of journal (families journal n)) ≡ Some it = sym (found_at journal list positions n all.listed all.placed (omega arith) (omega arith)) ∙ found in
+            cc
+      ]
+    ]
+
+-- whether an entry is pending, or the last that is, as its family has it
+pub kept_pends : (journal : List Entry) (list : List KeptRows) (positions : List ℕ) (copies : Table) (n : ℕ) → IsKept journal list positions copies → (it : KeptRows) → family_at list positions n ≡ Some it
+    → list_any (λ u. u.entry == n) it.undo ≡ has (pending_with 8 n journal) n
+kept_pends journal list positions copies n all it at =
+    ap (λ (k : KeptRows). list_any (λ u. u.entry == n) k.undo) (has_family journal list positions copies n all it at) ∙ pends_is journal (families journal n) n
+
+pub kept_lasts : (journal : List Entry) (list : List KeptRows) (positions : List ℕ) (copies : Table) (n : ℕ) → IsKept journal list positions copies → (it : KeptRows) → family_at list positions n ≡ Some it
+    → ends_in n it.undo ≡ is_last n (pending_with 8 n journal)
+kept_lasts journal list positions copies n all it at =
+    ap (λ (k : KeptRows). ends_in n k.undo) (has_family journal list positions copies n all it at) ∙ lasts_is journal (families journal n) n
+
+-- nothing is pending under a number without a family
+pub none_pending : (journal : List Entry) (list : List KeptRows) (positions : List ℕ) (copies : Table) (n : ℕ) → IsKept journal list positions copies → family_at list positions n ≡ None
+    → has (pending_with 8 n journal) n ≡ false
+none_pending journal list positions copies n all none =
+    let sound = accepted_is_sound 8 journal all.accepted in
+    elim (cases_Bool (has (pending_with 8 n journal) n)) [
+      | inr out ↦ out
+      | inl in_it ↦
+          let within : n ≤ length journal = each_has (λ k. k ≤ length journal) (pending_with 8 n journal) n (pending_within journal (families journal n) sound) in_it in
+          let some : 0 < n = each_has (λ k. 0 < k) (pending_with 8 n journal) n (all_rise 0 (pending_with 8 n journal) (pending_rises 8 (families journal n) journal sound)) in_it in
+          let odd : None ≡ Some (family_of journal (families journal n)) = sym none ∙ found_at journal list positions n all.listed all.placed some within in absurd (cc)
+    ]
+  where
+    all_rise : (low : ℕ) (numbers : List ℕ) → AreRising (λ k. k) low numbers → AllByRecursion (λ k. low < k) numbers
+    all_rise low [] rises = tt
+    all_rise low (k ∷ numbers) rises = let first = rises.0 in (rises.0, each_weaker (λ i. k < i) (λ i. low < i) numbers (λ i h. omega arith) (all_rise k numbers rises.1))
+
+-- and none is the last
+pub none_last : (numbers : List ℕ) (n : ℕ) → has numbers n ≡ false → is_last n numbers ≡ false
+none_last numbers n out =
+    elim (cases_Bool (is_last n numbers)) [
+      | inr never ↦ never
+      | inl ends ↦
+          let cut = is_last_push n numbers ends in
+          let in_it : has numbers n ≡ true = ap (λ l. has l n) cut.1 ∙ any_push (λ k. k == n) cut.0 n ∙ ap (λ b. has cut.0 n || b) (eq-eqb n n refl) ∙ or-true (has cut.0 n) in
+          absurd (cc)
+    ]
+
+-- the family of a living copy has all the copies that it takes
+pub full_is : (journal : List Entry) (list : List KeptRows) (positions : List ℕ) (copies : Table) (n : ℕ) (copy : Copy) (it : KeptRows) → IsKept journal list positions copies
+    → copy_in (living journal) n ≡ Some copy → family_at list positions n ≡ Some it → then_some (nat_le 256 (length (copy_rows it.rows))) FamilyFull ≡ family_full n (living journal)
+full_is journal list positions copies n copy it all found at =
+    let sound = accepted_is_sound 8 journal all.accepted in
+    let long : length (copy_rows it.rows) ≡ count_by (is_of copy.family) (living journal) =
+    ap (λ (k : KeptRows). length (copy_rows k.rows)) (has_family journal list positions copies n all it at) ∙ count_rows journal (families journal n) all.accepted
+    ∙ ap (λ f. length (filter (is_of f) (living journal))) (sym (family_of_copy journal n copy sound found)) ∙ length-filter (is_of copy.family) (living journal) in
+    ap (λ k. then_some (nat_le 256 k) FamilyFull) long
+    ∙ ap (option_and_then (λ x. then_some (nat_le 256 (count_by (is_of x.family) (living journal))) FamilyFull)) (sym found)
+
+-- whether a living copy's id can be divided
+pub deep_is : (journal : List Entry) (list : List KeptRows) (positions : List ℕ) (copies : Table) (n : ℕ) (copy : Copy) (it : KeptRows) → IsKept journal list positions copies
+    → copy_in (living journal) n ≡ Some copy → family_at list positions n ≡ Some it → then_some (not (divides it.rows n)) TooDeep ≡ too_deep n journal (living journal)
+deep_is journal list positions copies n copy it all found at =
+    let own = family_of_copy journal n copy (accepted_is_sound 8 journal all.accepted) found in
+    ap (λ r. then_some (not (divides r n)) TooDeep)
+    (ap (λ (k : KeptRows). k.rows) (has_family journal list positions copies n all it at) ∙ ap rows_of (layer_now 8 (families journal n) journal) ∙ ap (λ f. stamp_rows f journal) (sym own))
+    ∙ ap (option_and_then (λ c. then_some (not (divides (stamp_rows c.family journal) n)) TooDeep)) (sym found)
+
+-- a living copy has a family
+pub copy_has_family : (journal : List Entry) (list : List KeptRows) (positions : List ℕ) (copies : Table) (n : ℕ) (copy : Copy) → IsKept journal list positions copies → copy_in (living journal) n ≡ Some copy
+    → family_at list positions n ≡ Some (family_of journal (families journal n))
+copy_has_family journal list positions copies n copy all found =
+    let within = lives_within journal (families journal n) n all.accepted (record { copy = copy; found = found; of = refl }) in found_at journal list positions n all.listed all.placed within.0 within.1
+
+-- what the last pending entry's copy gets back, and what stands against that
+pub back_place : (journal : List Entry) (list : List KeptRows) (positions : List ℕ) (copies : Table) (m c : ℕ) (undone : Entry) → IsKept journal list positions copies → is_last m (pending_with 8 m journal) ≡ true
+    → entry_at journal m ≡ Some undone → displaced undone.report ≡ Some c
+    → (back : Copy) × (old_place list positions m ≡ Some back.place) × (taken_since m journal ≡ taken_from back (living journal)) × (back.number ≡ c)
+back_place journal list positions copies m c undone all at_end at moves =
+    let sound = accepted_is_sound 8 journal all.accepted in
+    let family = families journal m in
+    let ends = ends_at 8 m journal sound at_end in
+    let same : undone ≡ ends.last = let here = ends.at in cc in
+    let back = back_at journal m c all.accepted ends (ap (λ (e : Entry). displaced e.report) (sym same) ∙ moves) in
+    let within = entry_within journal m undone at in
+    let turned : reverse (pending 8 family journal) ≡ m ∷ reverse ends.numbers = ap reverse ends.pending ∙ reverse-append ends.numbers (m ∷ []) in (
+      back.copy,
+      ap (option_and_then (λ (it : KeptRows). last_place it.undo)) (found_at journal list positions m all.listed all.placed within.0 within.1)
+          ∙ ap (λ l. last_place (of_each (undone_of journal) family journal 1 l)) turned
+          ∙ ap (λ e. place_before e (copies_of (layer 8 1 family journal))) at
+          ∙ ap (λ d. option_and_then (λ k. option_map (λ copy. copy.place) (copy_in (copies_of (layer 8 1 family journal)) k)) d) moves
+          ∙ ap (option_map (λ copy. copy.place)) back.found,
+      ap (option_and_then (λ copy. taken_from copy (living journal))) back.is,
+      back.number,
+    )
+
+-- a copy that is kept lives
+pub found_spot : (journal : List Entry) (copies : Table) (n : ℕ) (spot : Spot) → AreSpots journal copies → kept copies n ≡ Some spot → (copy : Copy) × (copy_in (living journal) n ≡ Some copy) × (spot_of copy ≡ spot)
+found_spot journal copies n spot spots at =
+    elim (copy_in (living journal) n) as (λ o. option_map spot_of o ≡ Some spot → (copy : Copy) × (o ≡ Some copy) × (spot_of copy ≡ spot)) [
+      | None ↦ λ e. absurd (cc)
+      | Some copy ↦ λ e. (copy, refl, cc)
+    ] (sym (spots n) ∙ at)
+
+-- Answers read off the families.
 
 -- a living copy's row is found in its family's table
 row_of_copy : (journal : List Entry) (family n : ℕ) (copy : Copy) → IsAccepted 8 journal → copy_in (living journal) n ≡ Some copy → families journal n ≡ family
     → row_in (sets_at 0 family journal) n ≡ Some (as_known copy)
 row_of_copy journal family n copy accepted found of =
-    row_of (sets_at 0 family journal) (tables.table 8 0 family journal) n copy (copies_sets journal family accepted) (sets_old journal 0 family accepted).rising
+    known_row (sets_at 0 family journal) (tables.table 8 0 family journal) n copy (copies_sets journal family accepted) (sets_old journal 0 family accepted).rising
     (ap (λ f. copy_in (tables.table 8 0 f journal) n) (sym of) ∙ sym ((merged 8 journal (accepted_is_sound 8 journal accepted)).found n) ∙ found)
 
 -- what it knows is read there, and the entry that touched it last
@@ -110,14 +344,14 @@ family_there journal list positions copies family all free =
     found_at journal list positions family all.listed all.placed begun.0 begun.1 ∙ ap (λ f. Some (family_of journal f)) begun.2
 
 -- the families of a list, one after another
-abbrev pub rows_of : List Copy → List ℕ → List FamilyRow
-rows_of copies numbers = map (family_row copies) (filter (λ family. list_any (is_of family) copies) numbers)
+abbrev pub rows_of_families : List Copy → List ℕ → List FamilyRow
+rows_of_families copies numbers = map (family_row copies) (filter (λ family. list_any (is_of family) copies) numbers)
 
-pub rows_push : (copies : List Copy) (numbers : List ℕ) (n : ℕ) → rows_of copies (numbers ++ n ∷ []) ≡ rows_of copies numbers ++ cond (list_any (is_of n) copies) (family_row copies n ∷ []) []
+pub rows_push : (copies : List Copy) (numbers : List ℕ) (n : ℕ) → rows_of_families copies (numbers ++ n ∷ []) ≡ rows_of_families copies numbers ++ cond (list_any (is_of n) copies) (family_row copies n ∷ []) []
 rows_push copies numbers n =
     ap (map (family_row copies)) (filter-append _ numbers (n ∷ []))
     ∙ map-append (family_row copies) (filter (λ family. list_any (is_of family) copies) numbers) (cond (list_any (is_of n) copies) (n ∷ []) [])
-    ∙ ap (λ l. rows_of copies numbers ++ l) (elim (list_any (is_of n) copies) as (λ b. map (family_row copies) (cond b (n ∷ []) []) ≡ cond b (family_row copies n ∷ []) []) [ true ↦ refl | false ↦ refl ])
+    ∙ ap (λ l. rows_of_families copies numbers ++ l) (elim (list_any (is_of n) copies) as (λ b. map (family_row copies) (cond b (n ∷ []) []) ≡ cond b (family_row copies n ∷ []) []) [ true ↦ refl | false ↦ refl ])
 
 any_count : {X : Type 0} (p : X → Bool) (xs : List X) → list_any p xs ≡ nat_lt 0 (length (filter p xs))
 any_count p [] = refl

@@ -1,14 +1,28 @@
 -- The rows that a journal gives a family stand for the sets that it gives it.
-use Rattle.std.specs.Prelude.{◌≡◌, ◌≢◌, ℕ, ◌+◌, ◌<◌, ◌≤◌, ◌^◌, Bool, true, false, cond, not, ◌==◌, List, [], ◌∷◌, ◌++◌, length, map, count_by, filter, Some, None, is_some, option_and_then}
+use Rattle.std.specs.Prelude.{◌≡◌, ℕ, zero, suc, ◌+◌, ◌<◌, ◌≤◌, List, [], ◌∷◌, length, filter, count_by, nat_le, Option, Some, None, option_map, ◌≢◌, ◌^◌, Bool, true, false, cond, not, ◌==◌, ◌++◌, map, is_some, option_and_then}
+use Rattle.std.specs.List.{AllByRecursion, cons_option, filter_map}
 use Rattle.std.specs.Bool.{then_some}
-use Rattle.std.specs.List.{AllByRecursion}
-use Rattle.std.proofs.Common.{refl, sym, ap, ◌∙◌, subst, inl, inr, arith}
-use Rattle.std.proofs.lemmas.Bool.{eq-eqb, leb-false}
-use Rattle.std.proofs.lemmas.List.{length-map}
-use Rattle.std.proofs.lemmas.List.Sums.{fold-append}
+use Rattle.std.specs.Option.{option_to_list}
+use Rattle.std.proofs.Common.{refl, sym, ap, ◌∙◌, subst, arith, inl, inr}
+use Rattle.std.proofs.lemmas.Bool.{leb-false, eq-eqb}
+use Rattle.std.proofs.lemmas.List.{length-append, length-map}
+use Rattle.std.proofs.lemmas.List.Sums.{length-filter, fold-append}
 use Rattle.pana_journal.specs.declared.report.Report.{Report}
 use Rattle.pana_journal.specs.declared.report.Report.TheVariants.{Register, Duplicate, Edit, Reconcile, Merge, Relocate, Remove, Confirm, Withdraw}
 use Rattle.pana_journal.specs.declared.entry.Entry.{Entry}
+use Rattle.pana_hall.specs.declared.cause.Cause.TheVariants.{FamilyFull, TooDeep}
+use Rattle.pana_hall.specs.Family.{families, subject, begun_or_joined, entries_of, family_report, is_duplicate, is_register}
+use Rattle.pana_hall.specs.Living.{Copy, copy_in, copies_of, living, after_report, duplicated}
+use Rattle.pana_hall.specs.Pending.{pending}
+use Rattle.pana_hall.specs.Board.{is_of}
+use Rattle.pana_hall.specs.Refusal.{report_refusal, full, unknown, taken, family_full, against_two, first, same, too_deep}
+use Rattle.pana_hall.specs.Accepted.{Accepts, IsAccepted}
+use Rattle.pana_hall.specs.laws.Tables.{table as table_of, tables_from, tables as tables_of, layer}
+use Rattle.pana_hall.specs.laws.Layers.{family_of_next, duplicates_in}
+use Rattle.pana_hall.proofs.Moves.{stays, comes, after_is, copies_of-push, Lives, Names}
+use Rattle.pana_hall.proofs.Sound.{family_new, first_none, known, none_false, IsSound, accepted_is_sound, found_family, living_fit}
+use Rattle.pana_hall.proofs.Tables.{table_living, table_own, next_family, family_of_copy, layer_now, merged, layer_new}
+use Rattle.pana_hall.proofs.Knowns.{Grows, layers_hold, IsOldKnown, knowns_of-push, lives_known, IsMirrored, layer_within, layers_mirrored, mirrored_grows, read_lives, sets_old}
 use Rattle.pana_family.specs.declared.report.FamilyReport.{FamilyReport}
 use Rattle.pana_family.specs.declared.report.FamilyReport.TheVariants as family
 use Rattle.pana_family.specs.Kept.{IsKept}
@@ -24,32 +38,85 @@ use Rattle.pana_family.proofs.BySets.{same_before, same_copies, same_living}
 use Rattle.pana_family.proofs.Members.{same_length}
 use Rattle.pana_family.proofs.Exacts.{asked, report_law}
 use Rattle.pana_family.proofs.Within.{divides_is, seed_sound, sound_after, undivided_deep}
-use Rattle.pana_family.proofs.Keeps.{seed_kept}
+use Rattle.pana_family.proofs.Keeps.{seed_kept, empty_kept}
 use Rattle.pana_family.proofs.Changes.{empty_stands, seed_stands}
-use Rattle.pana_family.proofs.Keeps.{empty_kept}
-use Rattle.pana_hall.specs.Family.{begun_or_joined, entries_of, families, family_report, is_duplicate, is_register, subject}
 use Rattle.pana_hall.specs.Effective.{effective, is_of_copies}
-use Rattle.pana_hall.specs.Living.{Copy, copies_of, copy_in, living}
-use Rattle.pana_hall.specs.Refusal.{against_two, family_full, first, full, report_refusal, same, taken, too_deep, unknown}
-use Rattle.pana_hall.specs.Accepted.{Accepts, IsAccepted}
-use Rattle.pana_hall.specs.laws.Tables.{layer}
 use Rattle.pana_hall.specs.laws.Tables as tables
-use Rattle.pana_hall.specs.laws.Layers.{duplicates_in, family_of_next}
 use Rattle.pana_hall.specs.laws.Sets.{knowns_of, reported, sets_at}
 use Rattle.pana_hall.specs.StampRows.{changed_rows, rows_after, rows_by, rows_of, stamp_rows}
 use Rattle.pana_hall.specs.Stamps.{as_known}
-use Rattle.pana_hall.proofs.Allowed.{first_none, none_false}
-use Rattle.pana_hall.proofs.Knowns.{IsOldKnown, knowns_of-push, lives_known}
-use Rattle.pana_hall.proofs.Moves.{Lives, Names}
-use Rattle.pana_hall.proofs.Sound.{IsSound, accepted_is_sound, found_family, living_fit}
-use Rattle.pana_hall.proofs.Tables.{layer_now, merged, table_living, table_own}
-use Rattle.pana_hall.proofs.Layers.{room_for}
-use Rattle.pana_hall.proofs.Grown.{family_new}
-use Rattle.pana_hall.proofs.PendingEntries.{layer_new}
-use Rattle.pana_hall.proofs.More.{family_of_copy}
-use Rattle.pana_hall.specs.Board.{is_of}
-use Rattle.pana_hall.specs.declared.cause.Cause.TheVariants.{TooDeep}
-use Rattle.pana_hall.proofs.Mirrors.{IsMirrored, layer_within, layers_hold, layers_mirrored, mirrored_grows, read_lives, sets_old}
+
+-- No table of a family is longer than a family may be.
+
+-- where a Duplicate isn't refused its source lives in a family with room
+pub room_for : (number : ℕ) (copies : List Copy) → unknown number copies ≡ None → family_full number copies ≡ None → (copy : Copy) × (copy_in copies number ≡ Some copy) × (length (filter (is_of copy.family) copies) < 256)
+room_for number copies open_ room =
+    let copy = known number copies open_ in
+    let none : then_some (nat_le 256 (count_by (is_of copy.0.family) copies)) FamilyFull ≡ None = rw (copy.1) at room in
+    let below : count_by (is_of copy.0.family) copies < 256 = leb-false 256 (count_by (is_of copy.0.family) copies) (none_false _ FamilyFull none) in
+    let count = length-filter (is_of copy.0.family) copies in
+    (copy.0, copy.1, omega arith)
+
+length_stays : (g : Copy → Option Copy) (copies : List Copy) → length (filter_map g copies) ≤ length copies
+length_stays g [] = omega arith
+length_stays g (x ∷ copies) =
+    let rest = length_stays g copies in
+    elim (g x) as (λ o. length (cons_option o (filter_map g copies)) ≤ length (x ∷ copies)) [ None ↦ omega arith | Some y ↦ omega arith ]
+
+length_after : (n : ℕ) (report : Report) (copies : List Copy) → length (after_report n report copies) ≤ length copies + length (option_to_list (comes n report copies))
+length_after n report copies =
+    let stay = length_stays (stays n report copies) copies in
+    let whole : length (after_report n report copies) ≡ length (filter_map (stays n report copies) copies) + length (option_to_list (comes n report copies)) =
+    ap length (after_is n report copies) ∙ length-append (filter_map (stays n report copies) copies) (option_to_list (comes n report copies)) in
+    omega arith
+
+-- a report that isn't refused leaves a table_of that is small
+small_report : (journal : List Entry) (entry : Entry) (report : Report) (before : List Copy) → IsSound 8 journal → Accepts 8 journal entry → entry.report ≡ report
+    → before ≡ filter (is_of (family_of_next journal entry)) (living journal) → length before ≤ 256 → length (after_report entry.number report before) ≤ 256
+small_report journal entry (Register place) before sound accepts is own small =
+    let new : family_of_next journal entry ≡ length journal + 1 = family_new journal entry ∙ ap (λ r. begun_or_joined (families journal) entry.number (subject r)) is ∙ accepts.next in
+    let none : before ≡ [] = own ∙ ap (λ f. filter (is_of f) (living journal)) new ∙ table_living 8 (length journal + 1) journal ∙ (next_family 8 0 journal sound).0 in
+    rw none (omega arith)
+small_report journal entry (Duplicate source place) before sound accepts is own small =
+    let free : report_refusal 8 journal (living journal) entry.by (Duplicate source place) ≡ None = ap (report_refusal 8 journal (living journal) entry.by) (sym is) ∙ accepts.free in
+    let known_c = first_none (unknown source (living journal)) _ (first_none (full journal) _ free).1 in
+    let room = room_for source (living journal) known_c.0 (first_none (family_full source (living journal)) _ (first_none (taken place (living journal)) _ known_c.1).1).0 in
+    let family : room.0.family ≡ family_of_next journal entry = sym (family_of_copy 8 journal entry source room.0 sound (ap subject is) room.1) in
+    let below : length before < 256 = subst (λ l. length l < 256) (sym own) (subst (λ f. length (filter (is_of f) (living journal)) < 256) family room.2) in
+    let long = length_after entry.number (Duplicate source place) before in
+    let one : length (option_to_list (comes entry.number (Duplicate source place) before)) ≤ 1 =
+    elim (copy_in before source) as (λ o. length (option_to_list (option_map (duplicated entry.number place) o)) ≤ 1) [ None ↦ omega arith | Some c ↦ omega arith ] in
+    omega arith
+small_report journal entry report before sound accepts is own small = let long = length_after entry.number report before in omega arith
+
+-- no family has more living copies than it takes, also with pending entries left out
+abbrev IsSmall : List Entry → Type 0
+IsSmall entries = length (copies_of entries) ≤ 256
+
+none_small : IsSmall []
+unfolding copies_of
+none_small = omega arith
+
+small_grow : Grows IsSmall
+small_grow = record {
+  none = none_small;
+  step = λ journal entry sound accepts is small.
+      let entries = layer 8 0 (family_of_next journal entry) journal in
+      let own : copies_of entries ≡ filter (is_of (family_of_next journal entry)) (living journal) =
+      sym (table_living 8 (family_of_next journal entry) journal ∙ table_own 8 0 (family_of_next journal entry) journal sound) in
+      subst (λ l. length l ≤ 256) (sym (copies_of-push entries entry)) (small_report journal entry entry.report (copies_of entries) sound accepts refl own small);
+}
+
+small_from : (family : ℕ) (journal : List Entry) (k n : ℕ) → ((i : ℕ) → length (table_of 8 i family journal) ≤ 256) → AllByRecursion (λ t. length t ≤ 256) (tables_from 8 family journal k n)
+small_from family journal k zero each = (each k, tt)
+small_from family journal k (suc n) each = (each k, small_from family journal (k + 1) n each)
+
+pub accepted_small : (family : ℕ) (journal : List Entry) → IsAccepted 8 journal → AllByRecursion (λ t. length t ≤ 256) (tables_of 8 family journal)
+accepted_small family journal accepted =
+    small_from family journal 0 (length (pending 8 family journal))
+    (λ i. subst (λ l. length l ≤ 256) (sym (table_own 8 i family journal (accepted_is_sound 8 journal accepted))) (layers_hold IsSmall small_grow journal accepted i family))
+
+-- The rows that a journal gives a family stand for the sets that it gives it.
 
 -- members of a table
 pub each_in : (P : Known → Type 0) (table : List Known) (t : Known) → AllByRecursion P table → In t table → P t

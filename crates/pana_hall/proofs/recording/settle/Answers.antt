@@ -4,9 +4,7 @@ use Rattle.pana_hall.specs.inner.Undo.{last_place}
 use Rattle.pana_hall.specs.inner.Listed.{listed}
 use Rattle.pana_hall.specs.inner.Spots.{CanUndo, undone_spot}
 use Rattle.pana_hall.specs.inner.Kept.{next_entry, AreSpots}
-use Rattle.pana_hall.proofs.Ready.{as_is}
-use Rattle.pana_hall.proofs.Undoing.{opened, can_undo, undone_spots}
-use Rattle.pana_hall.proofs.Changes.{family_confirmed, family_withdrawn, spots_confirm}
+use Rattle.pana_hall.proofs.Ready.{as_is, opened, can_undo, undone_spots, family_confirmed, family_withdrawn, spots_confirm}
 use Rattle.pana_hall.proofs.recording.settle.Goals as goal
 
 pub withdraw-requires-clause-undo : goal.withdraw-requires-clause-undo

@@ -9,7 +9,7 @@ use Rattle.pana_hall.specs.inner.Rows.{placed_row}
 use Rattle.pana_hall.specs.inner.Kept.{family_of}
 use Rattle.pana_hall.specs.inner.Listed.{all_listed, listed}
 use Rattle.pana_hall.proofs.Answered.{family_there, found_is, stands_of}
-use Rattle.pana_hall.proofs.SeenSets.{rows_kept, board_is}
+use Rattle.pana_hall.proofs.Shown.{rows_kept, board_is}
 use Rattle.pana_hall.proofs.state.State.board_of.Goals as goal
 
 pub unwrap-requires : goal.unwrap-requires

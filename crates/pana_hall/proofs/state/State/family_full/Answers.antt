@@ -4,7 +4,7 @@ use Rattle.std.proofs.Common.{sym, ap, ◌∙◌}
 use Rattle.pana_hall.specs.declared.cause.Cause.TheVariants.{FamilyFull}
 use Rattle.pana_hall.specs.inner.Families.{family_at}
 use Rattle.pana_hall.specs.inner.Listed.{all_listed, listed}
-use Rattle.pana_hall.proofs.Refusals.{found_spot, full_is, copy_has_family}
+use Rattle.pana_hall.proofs.Answered.{found_spot, full_is, copy_has_family}
 use Rattle.pana_hall.proofs.state.State.family_full.Goals as goal
 
 pub returns-in_err-it : goal.returns-in_err-it

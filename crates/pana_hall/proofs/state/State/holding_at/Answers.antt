@@ -10,10 +10,9 @@ use Rattle.pana_hall.specs.Living.{Copy, living}
 use Rattle.pana_hall.specs.laws.Sets.{sets_at}
 use Rattle.pana_hall.specs.inner.Families.{family_at}
 use Rattle.pana_hall.specs.inner.Listed.{all_listed, listed}
-use Rattle.pana_hall.proofs.Refusals.{found_spot, copy_has_family, has_family}
+use Rattle.pana_hall.proofs.Answered.{found_spot, copy_has_family, has_family, lives_of, stands_of, touch_of_copy}
 use Rattle.pana_hall.proofs.state.State.holding_at.Goals as goal
 use Rattle.pana_hall.proofs.Moves.{found_number}
-use Rattle.pana_hall.proofs.Answered.{lives_of, stands_of, touch_of_copy}
 
 pub unwrap-it-requires : goal.unwrap-it-requires
 unwrap-it-requires c =

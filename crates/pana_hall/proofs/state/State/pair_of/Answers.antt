@@ -8,8 +8,7 @@ use Rattle.pana_hall.specs.laws.Sets.{sets_at}
 use Rattle.pana_hall.specs.inner.Families.{family_at}
 use Rattle.pana_hall.specs.inner.Kept.{family_of}
 use Rattle.pana_hall.specs.inner.Listed.{all_listed, listed}
-use Rattle.pana_hall.proofs.Answered.{lives_of, pair_at, set_of_copy, stands_of}
-use Rattle.pana_hall.proofs.Refusals.{copy_has_family, has_family}
+use Rattle.pana_hall.proofs.Answered.{lives_of, pair_at, set_of_copy, stands_of, copy_has_family, has_family}
 use Rattle.pana_hall.proofs.state.State.pair_of.Goals as goal
 
 pub unwrap-requires : goal.unwrap-requires

@@ -4,7 +4,7 @@ use Rattle.std.proofs.Common.{sym, ap, ◌∙◌}
 use Rattle.pana_hall.specs.declared.cause.Cause.TheVariants.{Settled}
 use Rattle.pana_hall.specs.inner.Families.{family_at}
 use Rattle.pana_hall.specs.inner.Listed.{all_listed, listed}
-use Rattle.pana_hall.proofs.Refusals.{kept_pends, none_pending}
+use Rattle.pana_hall.proofs.Answered.{kept_pends, none_pending}
 use Rattle.pana_hall.proofs.state.State.settled.Goals as goal
 
 pub returns-in-Some : goal.returns-in-Some

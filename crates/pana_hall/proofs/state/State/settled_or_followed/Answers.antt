@@ -5,7 +5,7 @@ use Rattle.pana_hall.specs.declared.cause.Cause.TheVariants.{Settled}
 use Rattle.pana_hall.specs.Refusal.{pending_with}
 use Rattle.pana_hall.specs.inner.Families.{family_at}
 use Rattle.pana_hall.specs.inner.Listed.{all_listed, listed}
-use Rattle.pana_hall.proofs.Refusals.{kept_lasts, none_pending, none_last}
+use Rattle.pana_hall.proofs.Answered.{kept_lasts, none_pending, none_last}
 use Rattle.pana_hall.proofs.state.State.settled_or_followed.Goals as goal
 
 pub returns-in-Some : goal.returns-in-Some

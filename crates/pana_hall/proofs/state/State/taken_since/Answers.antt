@@ -5,7 +5,7 @@ use Rattle.pana_journal.specs.Entries.{entry_at}
 use Rattle.pana_hall.specs.inner.Families.{old_place}
 use Rattle.pana_hall.specs.inner.Spots.{IsThere, other_there}
 use Rattle.pana_hall.specs.inner.Listed.{all_listed}
-use Rattle.pana_hall.proofs.Refusals.{back_place, taken_from_is}
+use Rattle.pana_hall.proofs.Answered.{back_place, taken_from_is}
 use Rattle.pana_hall.proofs.state.State.taken_since.Goals as goal
 
 pub returns-in_err-old_place : goal.returns-in_err-old_place

@@ -5,8 +5,7 @@ use Rattle.pana_hall.specs.declared.cause.Cause.TheVariants.{TooDeep}
 use Rattle.pana_hall.specs.inner.Families.{family_at}
 use Rattle.pana_hall.specs.Family.{families as family_of_entry}
 use Rattle.pana_hall.specs.inner.Listed.{all_listed, listed}
-use Rattle.pana_hall.proofs.Refusals.{found_spot, copy_has_family, has_family, deep_is}
-use Rattle.pana_hall.proofs.Answered.{lives_of}
+use Rattle.pana_hall.proofs.Answered.{found_spot, copy_has_family, has_family, deep_is, lives_of}
 use Rattle.pana_hall.proofs.state.State.too_deep.Goals as goal
 
 pub returns-in_err-it : goal.returns-in_err-it
