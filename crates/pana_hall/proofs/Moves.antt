@@ -7,7 +7,10 @@ use Rattle.std.proofs.lemmas.Bool.{eqb-true, eq-eqb, ne_eqb, cases_eq, eqb-false
 use Rattle.pana_journal.specs.declared.report.Report.{Report}
 use Rattle.pana_journal.specs.declared.report.Report.TheVariants.{Register, Duplicate, Edit, Reconcile, Merge, Relocate, Remove, Confirm, Withdraw}
 use Rattle.pana_family.specs.Updates.{union}
-use Rattle.pana_hall.specs.Family.{is_register, subject, entries_of}
+use Rattle.pana_family.specs.declared.report.FamilyReport.{FamilyReport}
+use Rattle.pana_copies.specs.declared.place.Place.{Place}
+use Rattle.pana_hall.specs.Effective.{is_of_copies}
+use Rattle.pana_hall.specs.Family.{family_report, is_register, subject, entries_of}
 use Rattle.pana_hall.specs.Living.{Copy, copy_in, known_to, without, registered, duplicated, with_updates, edited, moved, after_report, after_entry, copies_of}
 use Rattle.pana_hall.specs.Refusal.{displaced}
 use Rattle.pana_hall.specs.laws.Layers.{AreRising}
@@ -200,6 +203,17 @@ pub found_after : (n : ℕ) (report : Report) (copies : List Copy) (a : ℕ) →
 found_after n report copies a none =
     ap (λ l. copy_in l a) (after_is n report copies ∙ ap (λ o. filter_map (stays n report copies) copies ++ option_to_list o) none ∙ append-nil _)
     ∙ found_among (stays n report copies) (stays_same n report copies) (gone_alike n report copies) copies a
+
+-- a report of copies begins a family, or changes one that has begun
+pub made_of : (report : Report) → is_of_copies report ≡ true → ((place : Place) × (report ≡ Register place)) ⊎ ((of : FamilyReport) × (family_report report ≡ Some of))
+made_of (Register place) is = inl (place, refl)
+made_of (Confirm m) is = absurd (cc)
+made_of (Withdraw m) is = absurd (cc)
+made_of report is = inr (_, refl)
+
+pub is_later : (report : Report) {of : FamilyReport} → family_report report ≡ Some of → is_register report ≡ false
+is_later (Register place) about = absurd (cc)
+is_later report about = refl
 
 -- the report is about this copy
 abbrev pub Names : Report → ℕ → Type 0

@@ -13,7 +13,7 @@ use Rattle.pana_family.specs.Updates.{has}
 use Rattle.pana_hall.specs.Family.{families}
 use Rattle.pana_hall.specs.Living.{living, Copy, copy_in}
 use Rattle.pana_hall.specs.Pending.{pending, pend, last, behind, is_last}
-use Rattle.pana_hall.specs.Refusal.{report_refusal, full, unknown_entry, not_yours, settled, settled_or_followed, taken_since, first, pending_with, unknown, other_family, against_two, taken, family_full, too_deep, brought_back, taken_from, unknown_family, query_refusal, refusal}
+use Rattle.pana_hall.specs.Refusal.{against, report_refusal, full, unknown_entry, not_yours, settled, settled_or_followed, taken_since, first, pending_with, unknown, other_family, against_two, taken, family_full, too_deep, brought_back, taken_from, unknown_family, query_refusal, refusal}
 use Rattle.pana_hall.specs.Accepted.{Accepts, AcceptsAll, IsAccepted}
 use Rattle.pana_hall.proofs.Lists.{any_push, last_push, is_last-push}
 use Rattle.pana_hall.proofs.Sound.{pending-push, pending_is, first_none, none_false, IsSound, keeps_families, family_named, sound_grows, empty_is_sound, OfCopies, Confirms, Withdraws, kind_of, pend_copies}
@@ -152,64 +152,21 @@ first_other [] others = refl
 first_other (None ∷ causes) others = first_other causes others.1
 first_other (Some cause ∷ causes) others = others.0
 
-other_family_other : (a b : ℕ) (copies : List Copy) → is_not_kept (other_family a b copies) ≡ false
-other_family_other a b copies = then_other _ (copy_in copies a) (λ copy. then_other _ (copy_in copies b) (λ other. some_other _ OtherFamily refl))
-
-unknown_other : (c : ℕ) (copies : List Copy) → is_not_kept (unknown c copies) ≡ false
-unknown_other c copies = some_other _ (UnknownCopy c) refl
-
-two_other : (a b : ℕ) (copies : List Copy) → AreOther (against_two a b copies)
-two_other a b copies = (unknown_other a copies, (unknown_other b copies, (some_other _ SameCopy refl, (other_family_other a b copies, tt))))
-
-taken_other : (place : Place) (copies : List Copy) → is_not_kept (taken place copies) ≡ false
-taken_other place copies = map_other (λ (copy : Copy). PlaceTaken copy.number) (find (λ copy. same_place copy.place place) copies) (λ copy. refl)
-
-family_full_other : (c : ℕ) (copies : List Copy) → is_not_kept (family_full c copies) ≡ false
-family_full_other c copies = then_other _ (copy_in copies c) (λ copy. some_other _ FamilyFull refl)
-
-too_deep_other : (c : ℕ) (journal : List Entry) (copies : List Copy) → is_not_kept (too_deep c journal copies) ≡ false
-too_deep_other c journal copies = then_other _ (copy_in copies c) (λ copy. some_other _ TooDeep refl)
-
-full_other : (journal : List Entry) → is_not_kept (full journal) ≡ false
-full_other journal = some_other _ JournalFull refl
-
-entry_other : (m : ℕ) (journal : List Entry) → is_not_kept (unknown_entry m journal) ≡ false
-entry_other m journal = some_other _ UnknownEntry refl
-
-since_other : (m : ℕ) (journal : List Entry) → is_not_kept (taken_since m journal) ≡ false
-since_other m journal =
-    then_other (λ (copy : Copy). taken_from copy (living journal)) (brought_back m journal)
-    (λ copy. map_other (λ (other : Copy). PlaceTaken other.number) (find (λ other. not (other.number == copy.number) && same_place other.place copy.place) (living journal)) (λ other. refl))
-
-yours_other : (by : List ℕ) (m : ℕ) (journal : List Entry) → is_not_kept (not_yours by m journal) ≡ false
-yours_other by m journal = then_other _ (entry_at journal m) (λ entry. some_other _ NotYours refl)
-
-report_other : (journal : List Entry) (copies : List Copy) (by : List ℕ) (report : Report) → is_not_kept (report_refusal 8 journal copies by report) ≡ false
-report_other journal copies by (Register place) = first_other (full journal ∷ taken place copies ∷ []) (full_other journal, (taken_other place copies, tt))
-report_other journal copies by (Duplicate c place) =
-    first_other (full journal ∷ unknown c copies ∷ taken place copies ∷ family_full c copies ∷ too_deep c journal copies ∷ [])
-    (full_other journal, (unknown_other c copies, (taken_other place copies, (family_full_other c copies, (too_deep_other c journal copies, tt)))))
-report_other journal copies by (Edit c) = first_other (full journal ∷ unknown c copies ∷ []) (full_other journal, (unknown_other c copies, tt))
-report_other journal copies by (Reconcile a b) = first_other (full journal ∷ against_two a b copies) (full_other journal, two_other a b copies)
-report_other journal copies by (Merge a b) = first_other (full journal ∷ against_two a b copies) (full_other journal, two_other a b copies)
-report_other journal copies by (Relocate c place) = first_other (full journal ∷ unknown c copies ∷ taken place copies ∷ []) (full_other journal, (unknown_other c copies, (taken_other place copies, tt)))
-report_other journal copies by (Remove c None) = first_other (full journal ∷ unknown c copies ∷ []) (full_other journal, (unknown_other c copies, tt))
-report_other journal copies by (Remove c (Some heir)) = first_other (full journal ∷ against_two c heir copies) (full_other journal, two_other c heir copies)
-report_other journal copies by (Confirm m) =
-    first_other (full journal ∷ unknown_entry m journal ∷ not_yours by m journal ∷ settled 8 m journal ∷ []) (full_other journal, (entry_other m journal, (yours_other by m journal, (some_other _ Settled refl, tt))))
-report_other journal copies by (Withdraw m) =
-    first_other (full journal ∷ unknown_entry m journal ∷ not_yours by m journal ∷ settled_or_followed 8 m journal ∷ taken_since m journal ∷ [])
-    (full_other journal, (entry_other m journal, (yours_other by m journal, (some_other _ Settled refl, (since_other m journal, tt)))))
+-- no cause against a report or a query is it
+against_other : (journal : List Entry) (copies : List Copy) (by : List ℕ) (report : Report) → AreOther (against 8 journal copies by report)
+against_other journal copies by (Remove c None) = search (some_other, map_other, then_other)
+against_other journal copies by (Remove c (Some heir)) = search (some_other, map_other, then_other)
+against_other journal copies by report = search (some_other, map_other, then_other)
 
 query_other : (journal : List Entry) (copies : List Copy) (query : Query) → is_not_kept (query_refusal journal copies query) ≡ false
-query_other journal copies (Board family) = first_other (unknown_family family journal ∷ []) (some_other _ UnknownFamily refl, tt)
-query_other journal copies (Stamps family) = first_other (unknown_family family journal ∷ []) (some_other _ UnknownFamily refl, tt)
-query_other journal copies (Pair a b) = first_other (unknown a copies ∷ unknown b copies ∷ other_family a b copies ∷ []) (unknown_other a copies, (unknown_other b copies, (other_family_other a b copies, tt)))
+query_other journal copies (Board family) = first_other (unknown_family family journal ∷ []) (search (some_other, map_other, then_other))
+query_other journal copies (Stamps family) = first_other (unknown_family family journal ∷ []) (search (some_other, map_other, then_other))
+query_other journal copies (Pair a b) = first_other (unknown a copies ∷ unknown b copies ∷ other_family a b copies ∷ []) (search (some_other, map_other, then_other))
 query_other journal copies query = refl
 
 refusal_other : (journal : List Entry) (by : List ℕ) (call : Call) → is_not_kept (refusal journal by call) ≡ false
 unfolding refusal
-refusal_other journal by (calls.Report report) = report_other journal (living journal) by report
+refusal_other journal by (calls.Report report) = first_other (full journal ∷ against 8 journal (living journal) by report) (some_other _ JournalFull refl, against_other journal (living journal) by report)
 refusal_other journal by (calls.Query query) = query_other journal (living journal) query
 
 shortage_other : (journal : List Entry) (call : Call) → IsShortage journal call NotKept → ⊥

@@ -1,6 +1,6 @@
 -- What holds where nothing stands against a report, and what it leaves.
 use Rattle.std.specs.Prelude.{◌≡◌, ℕ, ◌+◌, List, length, Some, None, option_map, cond, [], ◌∷◌, ◌++◌, Option, is_some, option_and_then, true, false, take, IfSome, IsSome}
-use Rattle.std.proofs.Common.{refl, sym, ap, ◌∙◌, subst}
+use Rattle.std.proofs.Common.{refl, sym, ap, ◌∙◌, subst, inl, inr}
 use Rattle.pana_copies.specs.declared.place.Place.{Place}
 use Rattle.pana_copies.specs.Spots.{Table, kept, place_of, Spot, placed}
 use Rattle.pana_journal.specs.declared.report.Report.{Report}
@@ -21,18 +21,17 @@ use Rattle.pana_hall.specs.inner.Kept.{next_entry, AreSpots, IsReady, place_befo
 use Rattle.pana_hall.proofs.Sound.{family_new, IsSound, accepted_is_sound, living_fit, LivesIn, found_family, named_report, first_none}
 use Rattle.pana_hall.proofs.Tables.{table_own, merged, Open, open_withdraw, layer_now}
 use Rattle.pana_hall.proofs.Places.{free_of, living_below, Back, back_at, back_none, now_here, displaced_of, layer_before, copies_below, spots_report, spots_withdrawn, put_same, not_taken, living_confirmed, spots_next}
-use Rattle.pana_hall.proofs.Stood.{can_report, layers_stand, next_above}
-use Rattle.pana_hall.proofs.Moves.{Names, none_below, displaced_named, removed_named}
+use Rattle.pana_hall.proofs.Stood.{can_report, layers_stand, next_above, rows_changed}
+use Rattle.pana_hall.proofs.Moves.{Names, none_below, displaced_named, made_of, removed_named}
 use Rattle.std.proofs.lemmas.Bool.{eq-eqb}
-use Rattle.pana_journal.specs.declared.report.Report.TheVariants.{Register, Duplicate, Relocate, Remove, Withdraw, Edit, Reconcile, Merge, Confirm}
+use Rattle.pana_journal.specs.declared.report.Report.TheVariants.{Register, Duplicate, Relocate, Remove, Withdraw, Confirm}
 use Rattle.pana_hall.proofs.Knowns.{layer_founded}
 use Rattle.pana_hall.proofs.Histories.{pending_undone}
 use Rattle.std.proofs.Math.Path.{fun_ext}
-use Rattle.pana_family.specs.declared.report.FamilyReport.TheVariants as family
 use Rattle.pana_family.specs.After.{reported_rows}
 use Rattle.pana_family.specs.declared.row.StampRow.{StampRow}
 use Rattle.pana_hall.specs.Effective.{is_of_copies}
-use Rattle.pana_hall.specs.StampRows.{changed_rows, rows_after, rows_of}
+use Rattle.pana_hall.specs.StampRows.{rows_of}
 use Rattle.pana_hall.proofs.Histories as kept_families
 
 -- What holds where nothing stands against a report: of its family and of the table of copies.
@@ -77,8 +76,8 @@ module _ {journal : List Entry} {by : List ℕ} {report : Report} {it : KeptRows
   pub able_there : IsReady journal by report it copies → {of : FamilyReport} → family_report report ≡ Some of → CanReport of it.rows
   able_there ready {of} about =
       let entry = next_entry journal by report in
-      subst (λ (k : KeptRows). CanReport of k.rows) (sym ready.kept)
-      (can_report journal entry report of (accepted_is_sound 8 journal ready.accepted) (accepts_next journal by report ready.free) refl about (layers_stand journal ready.accepted 0 (family_of_next journal entry)))
+      let able = can_report journal entry (accepted_is_sound 8 journal ready.accepted) (accepts_next journal by report ready.free) (layers_stand journal ready.accepted 0 (family_of_next journal entry)) in
+      subst (λ (k : KeptRows). CanReport of k.rows) (sym ready.kept) (subst (λ o. IfSome o (λ f. CanReport f (rows_of (layer 8 0 (family_of_next journal entry) journal)))) about able)
 
   pub new_there : IsReady journal by report it copies → (n : ℕ) → n ≡ length journal → AreBefore (n + 1) it.rows
   new_there ready n is =
@@ -218,15 +217,7 @@ module _ {journal : List Entry} {by : List ℕ} {m : ℕ} {it : KeptRows} {copie
 
 -- a report that is neither a Register nor of an entry is one of a family that has begun
 pub of_family : (report : Report) → is_register report ≡ false → is_of_copies report ≡ true → (of : FamilyReport) × (family_report report ≡ Some of)
-of_family (Register place) later is = absurd (cc)
-of_family (Duplicate source place) later is = (family.Duplicate source, refl)
-of_family (Edit copy) later is = (family.Edit copy, refl)
-of_family (Reconcile a b) later is = (family.Reconcile a b, refl)
-of_family (Merge a b) later is = (family.Merge a b, refl)
-of_family (Relocate copy place) later is = (family.Touch copy, refl)
-of_family (Remove copy heir) later is = (family.Remove copy heir, refl)
-of_family (Confirm entry) later is = absurd (cc)
-of_family (Withdraw entry) later is = absurd (cc)
+of_family report later is = elim (made_of report is) [ inl begins ↦ absurd (let begun : is_register report ≡ true = ap is_register begins.1 in cc) | inr changes ↦ changes ]
 
 pub of_copies : (report : Report) → ((m : ℕ) → report ≡ Confirm m → ⊥) → ((m : ℕ) → report ≡ Withdraw m → ⊥) → is_of_copies report ≡ true
 of_copies (Confirm m) first second = absurd (first m refl)
@@ -303,13 +294,11 @@ module _ {journal : List Entry} {by : List ℕ} {report : Report} {it : KeptRows
       let done : after_it ≡ reported_kept (n + 1) of (option_and_then (place_of copies) (displaced report)) it = subst (λ o. IfSome o (λ f. after_it ≡ reported_kept (n + 1) f (option_and_then (place_of copies) (displaced report)) it)) about made in
       let rows = rows_of (layer 8 0 own journal) in
       let place = place_before (Some entry) (copies_of (layer 8 0 own journal)) in
-      let new : rows_after (length journal + 1) report rows ≡ reported_rows (length journal + 1) of rows =
-      ap (λ b. cond b (rows ++ seed_row (length journal + 1) ∷ []) (changed_rows (length journal + 1) (family_report report) rows)) ready.later ∙ ap (λ o. changed_rows (length journal + 1) o rows) about in
       done
       ∙ ap (λ k. reported_kept (k + 1) of (option_and_then (place_of copies) (displaced report)) it) n_is
       ∙ ap (λ p. reported_kept (length journal + 1) of p it) (place_now ∙ ap (λ f. place_before (Some entry) (copies_of (layer 8 0 f journal))) number)
       ∙ ap (reported_kept (length journal + 1) of place) ready.kept
-      ∙ ap (λ (l : List StampRow). kept_rows own l (take 8 (undone (length journal + 1) rows place ∷ of_pending (undone_of journal) own journal))) (sym new)
+      ∙ ap (λ (l : List StampRow). kept_rows own l (take 8 (undone (length journal + 1) rows place ∷ of_pending (undone_of journal) own journal))) (sym (rows_changed (length journal + 1) report of rows about))
       ∙ sym (kept_families.family_report journal entry (accepted_is_sound 8 journal ready.accepted) (accepts_next journal by report ready.free) is)
       ∙ ap (family_kept (journal ++ entry ∷ [])) (sym number)
 
