@@ -1,13 +1,12 @@
 -- Causes and answers read off what a hall keeps.
-use Rattle.std.specs.Prelude.{◌≡◌, ◌⊎◌, ℕ, ◌+◌, ◌-◌, ◌<◌, ◌≤◌, Bool, true, false, cond, not, ◌&&◌, ◌||◌, ◌==◌, nat_le, List, [], ◌∷◌, ◌++◌, length, filter, reverse, find, count_by, Option, Some, None, option_map, option_and_then, slice_get, zero, suc, nat_lt, slice_index_or, map}
+use Rattle.std.specs.Prelude.{◌≡◌, ◌⊎◌, ℕ, ◌+◌, ◌-◌, ◌<◌, ◌≤◌, Bool, true, false, cond, not, ◌&&◌, ◌||◌, ◌==◌, nat_le, List, [], ◌∷◌, ◌++◌, length, filter, reverse, find, count_by, Option, Some, None, option_map, option_and_then, zero, suc, nat_lt, slice_index_or, map}
 use Rattle.std.specs.Bool.{then_some}
 use Rattle.std.specs.Str.{bytes_eq}
 use Rattle.std.proofs.lemmas.Slice.Eq.{bytes_eq-Decides}
 use Rattle.std.specs.List.{AllByRecursion, list_any}
 use Rattle.std.proofs.Common.{refl, sym, ap, ◌∙◌, subst, inl, inr, arith}
 use Rattle.std.proofs.Math.Bool.{or-true, or_comm}
-use Rattle.std.proofs.lemmas.Bool.{eq-eqb, ne_eqb, cases_lt, cases_Bool, not-false, lt-ltb}
-use Rattle.std.proofs.lemmas.Option.{slice_get_past}
+use Rattle.std.proofs.lemmas.Bool.{eq-eqb, cases_Bool, not-false, lt-ltb}
 use Rattle.std.proofs.lemmas.List.{reverse-append, map-append}
 use Rattle.std.proofs.lemmas.List.Sums.{length-filter}
 use Rattle.pana_copies.specs.declared.place.Place.{Place}
@@ -25,20 +24,17 @@ use Rattle.pana_hall.specs.Pending.{pending, is_last}
 use Rattle.pana_hall.specs.Refusal.{displaced, taken, taken_from, taken_since, family_full, too_deep, pending_with, unknown_family, unknown, other_family, first}
 use Rattle.pana_hall.specs.Board.{is_of}
 use Rattle.pana_hall.specs.Accepted.{IsAccepted}
-use Rattle.pana_hall.specs.laws.Layers.{AreRising}
 use Rattle.pana_hall.specs.laws.Tables.{layer}
-use Rattle.pana_hall.specs.inner.Kept.{of_each, AreSpots, IsKept, family_of, place_before, undone_of, families_of}
+use Rattle.pana_hall.specs.inner.Kept.{of_each, AreSpots, family_of, place_before, undone_of, families_of}
 use Rattle.pana_hall.specs.StampRows.{rows_of, stamp_rows}
-use Rattle.pana_hall.specs.inner.Families.{family_at, old_place}
 use Rattle.pana_hall.specs.inner.Spots.{spot_of, IsThere, other_there}
 use Rattle.pana_hall.proofs.Lists.{is_last_push, each_weaker, any_push, is_last-push, map_map, entry_at_place, slice_get-each}
 use Rattle.pana_hall.proofs.Sound.{accepted_is_sound, first_none, known, none_false, one_family}
-use Rattle.pana_hall.proofs.Tables.{ends_at, layer_now, pending_rises, each_has, merged}
+use Rattle.pana_hall.proofs.Tables.{ends_at, layer_now, each_has, merged, pending_each}
 use Rattle.pana_hall.proofs.Places.{same_place-itself, none_passes, living_found, back_at}
-use Rattle.pana_hall.proofs.Histories.{pending_within}
 use Rattle.pana_hall.proofs.Stood.{count_rows, copies_sets, layers_stand, lives_rows}
 use Rattle.pana_hall.proofs.Ready.{place_spots, at_spots, family_of as family_of_copy}
-use Rattle.pana_hall.proofs.Listed.{found_at, lives_within, entry_within}
+use Rattle.pana_hall.proofs.Listed.{entry_within}
 use Rattle.pana_hall.proofs.Moves.{found_number, IsWell}
 use Rattle.std.proofs.lemmas.List.Elements.{filter-append}
 use Rattle.pana_family.specs.Table.{touch_in, Known, set_in}
@@ -161,55 +157,24 @@ ends_each journal family n k numbers =
 lasts_is : (journal : List Entry) (family n : ℕ) → ends_in n (family_of journal family).undo ≡ is_last n (pending 8 family journal)
 lasts_is journal family n = ends_each journal family n 1 (pending 8 family journal)
 
--- the family of an entry, as a hall keeps it, or no entry has the number
-pub has_family : (journal : List Entry) (list : List KeptRows) (positions : List ℕ) (copies : Table) (n : ℕ) → IsKept journal list positions copies → (it : KeptRows) → family_at list positions n ≡ Some it
-    → it ≡ family_of journal (families journal n)
-has_family journal list positions copies n all it found =
-    elim (cases_lt n 1) [
-      | inl none ↦
-          let zero_is : n ≡ 0 = omega arith in
-          let nothing : family_at list positions n ≡ None = ap (λ b. option_and_then (slice_get list) (cond b None (slice_get positions (n - 1)))) (eq-eqb n 0 zero_is) in
-          let odd : None ≡ Some it = sym nothing ∙ found in absurd (cc)
-      | inr some ↦ elim (cases_lt (length journal) n) [
-        | inl past ↦
-            let count = all.placed.count in
-            let beyond : slice_get positions (n - 1) ≡ None = slice_get_past positions (n - 1) (omega arith) in
-            let nothing : family_at list positions n ≡ None =
-            ap (λ b. option_and_then (slice_get list) (cond b None (slice_get positions (n - 1)))) (ne_eqb n 0 (λ h. omega arith)) ∙ ap (option_and_then (slice_get list)) beyond in
-            let odd : None ≡ Some it = sym nothing ∙ found in absurd (cc)
-        | inr within ↦
-            let both : Some (family_of journal (families journal n)) ≡ Some it = sym (found_at journal list positions n all.listed all.placed (omega arith) (omega arith)) ∙ found in
-            cc
-      ]
-    ]
-
 -- whether an entry is pending, or the last that is, as its family has it
-pub kept_pends : (journal : List Entry) (list : List KeptRows) (positions : List ℕ) (copies : Table) (n : ℕ) → IsKept journal list positions copies → (it : KeptRows) → family_at list positions n ≡ Some it
-    → list_any (λ u. u.entry == n) it.undo ≡ has (pending_with 8 n journal) n
-kept_pends journal list positions copies n all it at =
-    ap (λ (k : KeptRows). list_any (λ u. u.entry == n) k.undo) (has_family journal list positions copies n all it at) ∙ pends_is journal (families journal n) n
+pub kept_pends : (journal : List Entry) (n : ℕ) (it : KeptRows) → it ≡ family_of journal (families journal n) → list_any (λ u. u.entry == n) it.undo ≡ has (pending_with 8 n journal) n
+kept_pends journal n it is = ap (λ (k : KeptRows). list_any (λ u. u.entry == n) k.undo) is ∙ pends_is journal (families journal n) n
 
-pub kept_lasts : (journal : List Entry) (list : List KeptRows) (positions : List ℕ) (copies : Table) (n : ℕ) → IsKept journal list positions copies → (it : KeptRows) → family_at list positions n ≡ Some it
-    → ends_in n it.undo ≡ is_last n (pending_with 8 n journal)
-kept_lasts journal list positions copies n all it at =
-    ap (λ (k : KeptRows). ends_in n k.undo) (has_family journal list positions copies n all it at) ∙ lasts_is journal (families journal n) n
+pub kept_lasts : (journal : List Entry) (n : ℕ) (it : KeptRows) → it ≡ family_of journal (families journal n) → ends_in n it.undo ≡ is_last n (pending_with 8 n journal)
+kept_lasts journal n it is = ap (λ (k : KeptRows). ends_in n k.undo) is ∙ lasts_is journal (families journal n) n
 
--- nothing is pending under a number without a family
-pub none_pending : (journal : List Entry) (list : List KeptRows) (positions : List ℕ) (copies : Table) (n : ℕ) → IsKept journal list positions copies → family_at list positions n ≡ None
-    → has (pending_with 8 n journal) n ≡ false
-none_pending journal list positions copies n all none =
-    let sound = accepted_is_sound 8 journal all.accepted in
+-- nothing is pending under a number without an entry
+pub none_pending : (journal : List Entry) (n : ℕ) → IsAccepted 8 journal → entry_at journal n ≡ None → has (pending_with 8 n journal) n ≡ false
+none_pending journal n accepted none =
+    let sound = accepted_is_sound 8 journal accepted in
+    let HasEntry : ℕ → Type 0 = λ k. (e : Entry) × (entry_at journal k ≡ Some e) in
     elim (cases_Bool (has (pending_with 8 n journal) n)) [
       | inr out ↦ out
       | inl in_it ↦
-          let within : n ≤ length journal = each_has (λ k. k ≤ length journal) (pending_with 8 n journal) n (pending_within journal (families journal n) sound) in_it in
-          let some : 0 < n = each_has (λ k. 0 < k) (pending_with 8 n journal) n (all_rise 0 (pending_with 8 n journal) (pending_rises 8 (families journal n) journal sound)) in_it in
-          let odd : None ≡ Some (family_of journal (families journal n)) = sym none ∙ found_at journal list positions n all.listed all.placed some within in absurd (cc)
+          let there = each_has HasEntry (pending_with 8 n journal) n (pending_each HasEntry 8 (families journal n) journal sound (each_weaker _ _ journal (λ e at. (e, at)) sound.found)) in_it in
+          absurd (let at = there.1 in cc)
     ]
-  where
-    all_rise : (low : ℕ) (numbers : List ℕ) → AreRising (λ k. k) low numbers → AllByRecursion (λ k. low < k) numbers
-    all_rise low [] rises = tt
-    all_rise low (k ∷ numbers) rises = let first = rises.0 in (rises.0, each_weaker (λ i. k < i) (λ i. low < i) numbers (λ i h. omega arith) (all_rise k numbers rises.1))
 
 -- and none is the last
 pub none_last : (numbers : List ℕ) (n : ℕ) → has numbers n ≡ false → is_last n numbers ≡ false
@@ -223,45 +188,37 @@ none_last numbers n out =
     ]
 
 -- the family of a living copy has all the copies that it takes
-pub full_is : (journal : List Entry) (list : List KeptRows) (positions : List ℕ) (copies : Table) (n : ℕ) (copy : Copy) (it : KeptRows) → IsKept journal list positions copies
-    → copy_in (living journal) n ≡ Some copy → family_at list positions n ≡ Some it → then_some (nat_le 256 (length (copy_rows it.rows))) FamilyFull ≡ family_full n (living journal)
-full_is journal list positions copies n copy it all found at =
-    let sound = accepted_is_sound 8 journal all.accepted in
+pub full_is : (journal : List Entry) (n : ℕ) (copy : Copy) (it : KeptRows) → IsAccepted 8 journal → copy_in (living journal) n ≡ Some copy → it ≡ family_of journal (families journal n)
+    → then_some (nat_le 256 (length (copy_rows it.rows))) FamilyFull ≡ family_full n (living journal)
+full_is journal n copy it accepted found is =
     let long : length (copy_rows it.rows) ≡ count_by (is_of copy.family) (living journal) =
-    ap (λ (k : KeptRows). length (copy_rows k.rows)) (has_family journal list positions copies n all it at) ∙ count_rows journal (families journal n) all.accepted
-    ∙ ap (λ f. length (filter (is_of f) (living journal))) (sym (family_of_copy journal n copy sound found)) ∙ length-filter (is_of copy.family) (living journal) in
+    ap (λ (k : KeptRows). length (copy_rows k.rows)) is ∙ count_rows journal (families journal n) accepted
+    ∙ ap (λ f. length (filter (is_of f) (living journal))) (sym (family_of_copy journal n copy (accepted_is_sound 8 journal accepted) found)) ∙ length-filter (is_of copy.family) (living journal) in
     ap (λ k. then_some (nat_le 256 k) FamilyFull) long
     ∙ ap (option_and_then (λ x. then_some (nat_le 256 (count_by (is_of x.family) (living journal))) FamilyFull)) (sym found)
 
 -- whether a living copy's id can be divided
-pub deep_is : (journal : List Entry) (list : List KeptRows) (positions : List ℕ) (copies : Table) (n : ℕ) (copy : Copy) (it : KeptRows) → IsKept journal list positions copies
-    → copy_in (living journal) n ≡ Some copy → family_at list positions n ≡ Some it → then_some (not (divides it.rows n)) TooDeep ≡ too_deep n journal (living journal)
-deep_is journal list positions copies n copy it all found at =
-    let own = family_of_copy journal n copy (accepted_is_sound 8 journal all.accepted) found in
+pub deep_is : (journal : List Entry) (n : ℕ) (copy : Copy) (it : KeptRows) → IsAccepted 8 journal → copy_in (living journal) n ≡ Some copy → it ≡ family_of journal (families journal n)
+    → then_some (not (divides it.rows n)) TooDeep ≡ too_deep n journal (living journal)
+deep_is journal n copy it accepted found is =
+    let own = family_of_copy journal n copy (accepted_is_sound 8 journal accepted) found in
     ap (λ r. then_some (not (divides r n)) TooDeep)
-    (ap (λ (k : KeptRows). k.rows) (has_family journal list positions copies n all it at) ∙ ap rows_of (layer_now 8 (families journal n) journal) ∙ ap (λ f. stamp_rows f journal) (sym own))
+    (ap (λ (k : KeptRows). k.rows) is ∙ ap rows_of (layer_now 8 (families journal n) journal) ∙ ap (λ f. stamp_rows f journal) (sym own))
     ∙ ap (option_and_then (λ c. then_some (not (divides (stamp_rows c.family journal) n)) TooDeep)) (sym found)
 
--- a living copy has a family
-pub copy_has_family : (journal : List Entry) (list : List KeptRows) (positions : List ℕ) (copies : Table) (n : ℕ) (copy : Copy) → IsKept journal list positions copies → copy_in (living journal) n ≡ Some copy
-    → family_at list positions n ≡ Some (family_of journal (families journal n))
-copy_has_family journal list positions copies n copy all found =
-    let within = lives_within journal (families journal n) n all.accepted (record { copy = copy; found = found; of = refl }) in found_at journal list positions n all.listed all.placed within.0 within.1
-
 -- what the last pending entry's copy gets back, and what stands against that
-pub back_place : (journal : List Entry) (list : List KeptRows) (positions : List ℕ) (copies : Table) (m c : ℕ) (undone : Entry) → IsKept journal list positions copies → is_last m (pending_with 8 m journal) ≡ true
-    → entry_at journal m ≡ Some undone → displaced undone.report ≡ Some c
-    → (back : Copy) × (old_place list positions m ≡ Some back.place) × (taken_since m journal ≡ taken_from back (living journal)) × (back.number ≡ c)
-back_place journal list positions copies m c undone all at_end at moves =
-    let sound = accepted_is_sound 8 journal all.accepted in
+pub back_place : (journal : List Entry) (m c : ℕ) (it : KeptRows) (undone : Entry) → IsAccepted 8 journal → is_last m (pending_with 8 m journal) ≡ true
+    → entry_at journal m ≡ Some undone → displaced undone.report ≡ Some c → it ≡ family_of journal (families journal m)
+    → (back : Copy) × (last_place it.undo ≡ Some back.place) × (taken_since m journal ≡ taken_from back (living journal)) × (back.number ≡ c)
+back_place journal m c it undone accepted at_end at moves is =
+    let sound = accepted_is_sound 8 journal accepted in
     let family = families journal m in
     let ends = ends_at 8 m journal sound at_end in
     let same : undone ≡ ends.last = let here = ends.at in cc in
-    let back = back_at journal m c all.accepted ends (ap (λ (e : Entry). displaced e.report) (sym same) ∙ moves) in
-    let within = entry_within journal m undone at in
+    let back = back_at journal m c accepted ends (ap (λ (e : Entry). displaced e.report) (sym same) ∙ moves) in
     let turned : reverse (pending 8 family journal) ≡ m ∷ reverse ends.numbers = ap reverse ends.pending ∙ reverse-append ends.numbers (m ∷ []) in (
       back.copy,
-      ap (option_and_then (λ (it : KeptRows). last_place it.undo)) (found_at journal list positions m all.listed all.placed within.0 within.1)
+      ap (λ (k : KeptRows). last_place k.undo) is
           ∙ ap (λ l. last_place (of_each (undone_of journal) family journal 1 l)) turned
           ∙ ap (λ e. place_before e (copies_of (layer 8 1 family journal))) at
           ∙ ap (λ d. option_and_then (λ k. option_map (λ copy. copy.place) (copy_in (copies_of (layer 8 1 family journal)) k)) d) moves
@@ -337,12 +294,6 @@ begun_at journal family accepted free =
           (within.0, within.1, ap (families journal) (sym is_it) ∙ here.belongs.own f ∙ is_it)
     ] refl begun
 
-pub family_there : (journal : List Entry) (list : List KeptRows) (positions : List ℕ) (copies : Table) (family : ℕ) → IsKept journal list positions copies → first (unknown_family family journal ∷ []) ≡ None
-    → family_at list positions family ≡ Some (family_of journal family)
-family_there journal list positions copies family all free =
-    let begun = begun_at journal family all.accepted free in
-    found_at journal list positions family all.listed all.placed begun.0 begun.1 ∙ ap (λ f. Some (family_of journal f)) begun.2
-
 -- the families of a list, one after another
 abbrev pub rows_of_families : List Copy → List ℕ → List FamilyRow
 rows_of_families copies numbers = map (family_row copies) (filter (λ family. list_any (is_of family) copies) numbers)
@@ -394,11 +345,9 @@ stands_of journal family it accepted is = subst (λ (k : KeptRows). StandsFor k.
 pub lives_of : (journal : List Entry) (family n : ℕ) (copy : Copy) (it : KeptRows) → IsAccepted 8 journal → it ≡ family_of journal family → copy_in (living journal) n ≡ Some copy → families journal n ≡ family → lives it.rows n ≡ true
 lives_of journal family n copy it accepted is found of = subst (λ (k : KeptRows). lives k.rows n ≡ true) (sym is) (lives_rows journal family n copy accepted found of)
 
--- what a question finds under a family's number
-pub found_is : (journal : List Entry) (list : List KeptRows) (positions : List ℕ) (copies : Table) (family : ℕ) (it : KeptRows) → IsKept journal list positions copies → first (unknown_family family journal ∷ []) ≡ None
-    → family_at list positions family ≡ Some it → it ≡ family_of journal family
-found_is journal list positions copies family it all free at =
-    let both : Some (family_of journal family) ≡ Some it = sym (family_there journal list positions copies family all free) ∙ at in cc
+-- so with a family that has begun
+pub own_begun : (journal : List Entry) (family : ℕ) (it : KeptRows) → IsAccepted 8 journal → first (unknown_family family journal ∷ []) ≡ None → it ≡ family_of journal (families journal family) → it ≡ family_of journal family
+own_begun journal family it accepted free is = is ∙ ap (family_of journal) (begun_at journal family accepted free).2
 
 -- the stamps of a family's copies are those of the copies that live
 pub stamps_are : (journal : List Entry) (family : ℕ) (rows : List StampRow) (stamps : List CopyStamp) → IsAccepted 8 journal → rows ≡ stamp_rows family journal → map text_of stamps ≡ stamps_in rows

@@ -1,5 +1,5 @@
 -- What is pending in a family, and what takes it back.
-use Rattle.std.specs.Prelude.{◌≡◌, ◌≢◌, ℕ, zero, suc, ◌+◌, ◌-◌, ◌<◌, ◌≤◌, true, false, cond, ◌||◌, ◌==◌, List, [], ◌∷◌, ◌++◌, length, take, drop, reverse, fold, None, map, Some, Bool, nat_lt, not, ◌&&◌, Option, option_map, position, slice_get}
+use Rattle.std.specs.Prelude.{◌≡◌, ◌≢◌, ℕ, zero, suc, ◌+◌, ◌-◌, ◌<◌, ◌≤◌, true, false, cond, ◌||◌, ◌==◌, List, [], ◌∷◌, ◌++◌, length, take, drop, reverse, fold, None, Some, Bool, nat_lt, not, ◌&&◌, Option, option_map, position, slice_get}
 use Rattle.std.specs.List.{AllByRecursion, position_or_len, list_any}
 use Rattle.std.proofs.Common.{refl, sym, ap, ◌∙◌, subst, inl, inr, arith, append_assoc}
 use Rattle.std.proofs.lemmas.Bool.{eqb-true, eq-eqb, ne_eqb, not-false, cases_lt, cases_Bool, ltb-false}
@@ -8,7 +8,7 @@ use Rattle.pana_journal.specs.declared.report.Report.TheVariants.{Confirm, Withd
 use Rattle.pana_journal.specs.declared.entry.Entry.{Entry}
 use Rattle.pana_family.specs.Updates.{has}
 use Rattle.pana_hall.specs.Family.{families}
-use Rattle.pana_hall.specs.Effective.{effective, is_of_copies, left_out}
+use Rattle.pana_hall.specs.Effective.{is_of_copies}
 use Rattle.pana_hall.specs.Living.{living, copies_of}
 use Rattle.pana_hall.specs.Pending.{pending, pend, last, behind}
 use Rattle.pana_hall.specs.Refusal.{report_refusal, full, unknown_entry, not_yours, settled}
@@ -16,9 +16,9 @@ use Rattle.pana_hall.specs.Accepted.{Accepts}
 use Rattle.pana_hall.specs.laws.Tables.{layer}
 use Rattle.pana_hall.specs.laws.Layers.{family_of_next, AreRising}
 use Rattle.pana_hall.specs.inner.Kept.{of_each, of_pending, family_of, next_entry, place_before, undone_of}
-use Rattle.pana_hall.proofs.Lists.{each_append, each_weaker, each_filter, each_right, entry_at-push}
-use Rattle.pana_hall.proofs.Sound.{first_none, none_false, IsSound, family_named, effective_well, own, each_effective, family_new}
-use Rattle.pana_hall.proofs.Tables.{pending_report, pending_other, pending_rises, layer_undone, layer_confirm, layer_withdraw, layer_other, pends, pending_withdraw, none_of, entry_at-other, layer_report, layer_new}
+use Rattle.pana_hall.proofs.Lists.{each_append, each_weaker, entry_at-push}
+use Rattle.pana_hall.proofs.Sound.{first_none, none_false, IsSound, family_named, family_new}
+use Rattle.pana_hall.proofs.Tables.{pending_report, pending_other, pending_rises, layer_undone, layer_confirm, layer_withdraw, layer_other, pends, pending_withdraw, none_of, entry_at-other, layer_report, layer_new, pending_each}
 use Rattle.pana_copies.specs.declared.place.Place.{Place}
 use Rattle.pana_journal.specs.Entries.{entry_at}
 use Rattle.pana_hall.specs.StampRows.{rows_after, rows_of}
@@ -206,17 +206,10 @@ undone_alike journal entry (n ∷ numbers) within =
     let first = within.0 in
     (λ l. ap (λ e. undone n (rows_of l) (place_before e (copies_of l))) (entry_at-other journal entry n (λ h. omega arith)), undone_alike journal entry numbers within.1)
 
-each_number : (last : ℕ) (entries : List Entry) → AllByRecursion (λ e. e.number ≤ last) entries → AllByRecursion (λ n. n ≤ last) (map (λ e. e.number) entries)
-each_number last [] within = tt
-each_number last (e ∷ entries) within = (within.0, each_number last entries within.1)
-
 -- what is pending are numbers of entries
 pub pending_within : (journal : List Entry) (family : ℕ) → IsSound 8 journal → AllByRecursion (λ n. n ≤ length journal) (pending 8 family journal)
 pending_within journal family sound =
-    let ends = sound.ends family in
-    each_right (λ n. n ≤ length journal) ends.0 (pending 8 family journal)
-    (subst (AllByRecursion (λ n. n ≤ length journal)) ends.1
-    (each_number (length journal) (own family journal) (each_filter _ _ _ (each_effective _ journal (each_weaker (IsWell _ (length journal)) _ journal (λ e well. well.within) sound.well)))))
+    pending_each (λ n. n ≤ length journal) 8 family journal sound (each_weaker (IsWell (families journal) (length journal)) _ journal (λ e well. well.within) sound.well)
 
 -- so what is given back stays as entries come
 undone_stays : (journal : List Entry) (entry : Entry) (family : ℕ) → IsSound 8 journal → of_pending (undone_of (journal ++ entry ∷ [])) family journal ≡ of_pending (undone_of journal) family journal

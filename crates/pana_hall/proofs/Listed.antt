@@ -25,7 +25,7 @@ use Rattle.pana_hall.specs.inner.Next.{IsStep, IsStepOf, Takes}
 use Rattle.pana_hall.specs.declared.listed_family.ListedFamily.{ListedFamily}
 use Rattle.pana_hall.specs.declared.next.Step.{Step}
 use Rattle.pana_hall.specs.declared.next.Step.TheVariants.{Begin, Change, Settle}
-use Rattle.pana_hall.specs.inner.Kept.{next_entry, AreSpots, IsReady, IsReadyAt, families_of, family_of, ArePlaced, IsKept, position_for, position_of_subject}
+use Rattle.pana_hall.specs.inner.Kept.{next_entry, AreSpots, IsReady, IsReadyAt, families_of, family_of, ArePlaced, IsKept, position_for, position_of_subject, IsWithin}
 use Rattle.pana_hall.proofs.Sound.{first_none, family_new, accepted_is_sound, family_old, named_by, living_fit, LivesIn, named_report}
 use Rattle.pana_hall.proofs.Moves.{IsWell, none_below, subject_none, subject_named}
 use Rattle.pana_hall.proofs.Places.{living_below, spots_next}
@@ -330,11 +330,11 @@ found_within low last n (c ∷ copies) copy rises within found =
       | false ↦ λ e f. let rest = found_within c.number last n copies copy rises.1 within.1 f in let above = rest.0 in (omega arith, rest.1)
     ] refl found
 
-abbrev IsWithin : List Entry → ℕ → Type 0
-IsWithin journal n = (0 < n) × (n ≤ length journal)
-
 pub lives_within : (journal : List Entry) (family n : ℕ) → IsAccepted 8 journal → LivesIn journal family n → IsWithin journal n
 lives_within journal family n accepted lives = let up = rising 8 journal accepted in found_within 0 (length journal) n (living journal) lives.copy up.0 up.1 lives.found
+
+pub found_entry : (journal : List Entry) (n : ℕ) (copy : Copy) → IsAccepted 8 journal → copy_in (living journal) n ≡ Some copy → IsWithin journal n
+found_entry journal n copy accepted found = lives_within journal (families journal n) n accepted (record { copy = copy; found = found; of = refl })
 
 pub entry_within : (journal : List Entry) (m : ℕ) (entry : Entry) → entry_at journal m ≡ Some entry → IsWithin journal m
 entry_within journal m entry at =

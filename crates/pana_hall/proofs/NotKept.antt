@@ -1,27 +1,24 @@
 -- What is never refused.
-use Rattle.std.specs.Prelude.{◌≡◌, ℕ, ◌+◌, Bool, true, false, cond, not, ◌||◌, ◌==◌, List, [], ◌∷◌, ◌++◌, filter, Some, None, ◌⊎◌, ◌&&◌, find, Option, option_map, option_and_then}
+use Rattle.std.specs.Prelude.{◌≡◌, ℕ, ◌+◌, Bool, true, false, cond, not, ◌||◌, ◌==◌, List, [], ◌∷◌, ◌++◌, filter, Some, None, ◌⊎◌, Option, option_map, option_and_then}
 use Rattle.std.specs.Bool.{then_some}
 use Rattle.std.proofs.Common.{refl, sym, ap, ◌∙◌, inl, inr, subst}
 use Rattle.std.proofs.Math.Bool.{or-true}
 use Rattle.std.proofs.lemmas.Bool.{eqb-true, eq-eqb, not-false}
 use Rattle.pana_journal.specs.declared.report.Report.{Report}
-use Rattle.pana_journal.specs.declared.report.Report.TheVariants.{Remove, Confirm, Withdraw, Register, Duplicate, Edit, Reconcile, Merge, Relocate}
+use Rattle.pana_journal.specs.declared.report.Report.TheVariants.{Remove, Confirm, Withdraw}
 use Rattle.pana_journal.specs.declared.entry.Entry.{Entry}
 use Rattle.pana_hall.specs.declared.cause.Cause.{Cause}
-use Rattle.pana_hall.specs.declared.cause.Cause.TheVariants.{Settled, JournalFull, UnknownCopy, SameCopy, OtherFamily, PlaceTaken, FamilyFull, TooDeep, UnknownEntry, NotYours, UnknownFamily, NotKept}
+use Rattle.pana_hall.specs.declared.cause.Cause.TheVariants.{Settled, JournalFull, NotKept}
 use Rattle.pana_family.specs.Updates.{has}
 use Rattle.pana_hall.specs.Family.{families}
-use Rattle.pana_hall.specs.Living.{living, Copy, copy_in}
+use Rattle.pana_hall.specs.Living.{living, Copy}
 use Rattle.pana_hall.specs.Pending.{pending, pend, last, behind, is_last}
-use Rattle.pana_hall.specs.Refusal.{against, report_refusal, full, unknown_entry, not_yours, settled, settled_or_followed, taken_since, first, pending_with, unknown, other_family, against_two, taken, family_full, too_deep, brought_back, taken_from, unknown_family, query_refusal, refusal}
+use Rattle.pana_hall.specs.Refusal.{against, report_refusal, full, unknown_entry, not_yours, settled, settled_or_followed, taken_since, first, pending_with, unknown, other_family, unknown_family, query_refusal, refusal}
 use Rattle.pana_hall.specs.Accepted.{Accepts, AcceptsAll, IsAccepted}
 use Rattle.pana_hall.proofs.Lists.{any_push, last_push, is_last-push}
 use Rattle.pana_hall.proofs.Sound.{pending-push, pending_is, first_none, none_false, IsSound, keeps_families, family_named, sound_grows, empty_is_sound, OfCopies, Confirms, Withdraws, kind_of, pend_copies}
 use Rattle.pana_hall.proofs.Tables.{last_none}
 use Rattle.std.specs.List.{AllByRecursion}
-use Rattle.pana_copies.specs.declared.place.Place.{Place}
-use Rattle.pana_copies.specs.Places.{same_place}
-use Rattle.pana_journal.specs.Entries.{entry_at}
 use Rattle.pana_hall.specs.declared.call.Query.{Query}
 use Rattle.pana_hall.specs.declared.call.Query.TheVariants.{Board, Stamps, Pair}
 use Rattle.pana_hall.specs.declared.call.Call.{Call}

@@ -15,7 +15,7 @@ use Rattle.pana_hall.specs.Accepted.{IsAccepted, Accepts}
 use Rattle.pana_hall.specs.laws.Tables.{table, layer}
 use Rattle.pana_hall.proofs.Lists.{each_filter, filter_swap, last_push, each_weaker, each_two}
 use Rattle.pana_hall.proofs.Moves.{displaced_named, found_number, IsWell, found_fits, copies_fit, copies_of-family, copies_of-push, copy_in-family, AreBelow, Same, at_copy, unite, stays, comes, stays_same, new_number, each_after, if_some, none_below, found_push, found_after, Fits}
-use Rattle.pana_hall.proofs.Sound.{own, each_effective, own_other, effective-withdraw, IsSound, accepted_is_sound, effective_well, effective-copies, living_fit, effective-confirm, first_none, free_place, in_accepted, OfCopies, Confirms, Withdraws, kind_of}
+use Rattle.pana_hall.proofs.Sound.{own, own_other, effective-withdraw, IsSound, accepted_is_sound, effective_well, effective-copies, living_fit, effective-confirm, first_none, free_place, in_accepted, OfCopies, Confirms, Withdraws, kind_of}
 use Rattle.pana_hall.proofs.Tables.{EndsIn, all_but_last, last_none, layer_now, table_own, open_withdraw, living_rises}
 use Rattle.pana_hall.proofs.Knowns.{layer_founded}
 use Rattle.std.specs.Option.{option_to_list}

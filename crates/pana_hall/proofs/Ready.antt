@@ -5,7 +5,7 @@ use Rattle.pana_copies.specs.declared.place.Place.{Place}
 use Rattle.pana_copies.specs.Spots.{Table, kept, place_of, Spot, placed}
 use Rattle.pana_journal.specs.declared.report.Report.{Report}
 use Rattle.pana_journal.specs.declared.entry.Entry.{Entry}
-use Rattle.pana_family.specs.Rows.{AreBefore, seed_row}
+use Rattle.pana_family.specs.Rows.{AreBefore}
 use Rattle.pana_family.specs.Report.{CanReport}
 use Rattle.pana_family.specs.declared.report.FamilyReport.{FamilyReport}
 use Rattle.pana_hall.specs.Family.{families, family_report, begun_or_joined, subject, is_register}
@@ -28,7 +28,6 @@ use Rattle.pana_journal.specs.declared.report.Report.TheVariants.{Register, Dupl
 use Rattle.pana_hall.proofs.Knowns.{layer_founded}
 use Rattle.pana_hall.proofs.Histories.{pending_undone}
 use Rattle.std.proofs.Math.Path.{fun_ext}
-use Rattle.pana_family.specs.After.{reported_rows}
 use Rattle.pana_family.specs.declared.row.StampRow.{StampRow}
 use Rattle.pana_hall.specs.Effective.{is_of_copies}
 use Rattle.pana_hall.specs.StampRows.{rows_of}

@@ -1,18 +1,17 @@
 -- The rows that a journal gives a family stand for the sets that it gives it.
-use Rattle.std.specs.Prelude.{◌≡◌, ℕ, zero, suc, ◌+◌, ◌<◌, ◌≤◌, List, [], ◌∷◌, length, filter, count_by, nat_le, Option, Some, None, option_map, IfSome, ◌≢◌, ◌^◌, Bool, true, false, cond, not, ◌==◌, ◌++◌, map, is_some, option_and_then}
-use Rattle.std.specs.List.{AllByRecursion, cons_option, filter_map}
+use Rattle.std.specs.Prelude.{◌≡◌, ℕ, zero, suc, ◌+◌, ◌<◌, ◌≤◌, List, [], ◌∷◌, length, filter, count_by, nat_le, Some, None, IfSome, ◌≢◌, ◌^◌, Bool, true, false, cond, not, ◌==◌, ◌++◌, map, is_some, option_and_then}
+use Rattle.std.specs.List.{AllByRecursion}
 use Rattle.std.specs.Bool.{then_some}
-use Rattle.std.specs.Option.{option_to_list}
 use Rattle.std.proofs.Common.{refl, sym, ap, ◌∙◌, subst, arith, inl, inr}
 use Rattle.std.proofs.lemmas.Bool.{leb-false, eq-eqb, not-false}
-use Rattle.std.proofs.lemmas.List.{length-append, length-map}
+use Rattle.std.proofs.lemmas.List.{length-map}
 use Rattle.std.proofs.lemmas.List.Sums.{length-filter, fold-append}
 use Rattle.pana_journal.specs.declared.report.Report.{Report}
 use Rattle.pana_journal.specs.declared.report.Report.TheVariants.{Register, Duplicate, Edit, Reconcile, Merge, Relocate, Remove, Confirm, Withdraw}
 use Rattle.pana_journal.specs.declared.entry.Entry.{Entry}
 use Rattle.pana_hall.specs.declared.cause.Cause.TheVariants.{FamilyFull, TooDeep}
-use Rattle.pana_hall.specs.Family.{families, subject, begun_or_joined, entries_of, family_report, is_duplicate, is_register}
-use Rattle.pana_hall.specs.Living.{Copy, copy_in, copies_of, living, after_report, duplicated}
+use Rattle.pana_hall.specs.Family.{families, subject, begun_or_joined, entries_of, family_report, is_duplicate}
+use Rattle.pana_hall.specs.Living.{Copy, copy_in, copies_of, living}
 use Rattle.pana_hall.specs.Pending.{pending}
 use Rattle.pana_hall.specs.Board.{is_of}
 use Rattle.pana_hall.specs.Refusal.{against, full, unknown, taken, family_full, against_two, first, same, too_deep}
@@ -21,10 +20,9 @@ use Rattle.pana_hall.specs.laws.Tables.{layer}
 use Rattle.pana_hall.specs.laws.Layers.{family_of_next, duplicates_in}
 use Rattle.pana_hall.proofs.Moves.{is_later, made_of, Lives, Names}
 use Rattle.pana_hall.proofs.Sound.{family_new, first_none, known, none_false, IsSound, accepted_is_sound, found_family, living_fit}
-use Rattle.pana_hall.proofs.Tables.{table_living, table_own, next_family, family_of_copy, layer_now, merged, layer_new}
-use Rattle.pana_hall.proofs.Knowns.{Grows, layers_hold, IsOldKnown, knowns_of-push, lives_known, IsMirrored, layer_within, layers_mirrored, mirrored_grows, read_lives, sets_old}
+use Rattle.pana_hall.proofs.Tables.{table_living, table_own, family_of_copy, layer_now, merged, layer_new}
+use Rattle.pana_hall.proofs.Knowns.{layers_hold, IsOldKnown, knowns_of-push, lives_known, IsMirrored, layer_within, layers_mirrored, mirrored_grows, read_lives, sets_old}
 use Rattle.pana_family.specs.declared.report.FamilyReport.{FamilyReport}
-use Rattle.pana_family.specs.declared.report.FamilyReport.TheVariants as family
 use Rattle.pana_family.specs.Kept.{IsKept}
 use Rattle.pana_family.specs.declared.row.StampRow.{StampRow}
 use Rattle.pana_copies.specs.declared.place.Place.{Place}

@@ -19,7 +19,7 @@ use Rattle.pana_hall.specs.Refusal.{report_refusal, full, unknown_entry, not_you
 use Rattle.pana_hall.specs.Accepted.{Accepts, IsAccepted}
 use Rattle.pana_hall.specs.laws.Tables.{table, layer}
 use Rattle.pana_hall.specs.laws.Layers.{family_of_next, AddsLayer, DropsLayer, KeepsLayers, LeavesAlone, AreRising, AreMerged}
-use Rattle.pana_hall.proofs.Lists.{each_filter, each_weaker, filter_all, filter_swap, filter_filter, any_push, last_push, last_end, behind_is_end, is_last_push, each_last, rises_lower, rises_filter, rises_last, each_right, entry_at-push}
+use Rattle.pana_hall.proofs.Lists.{each_filter, each_weaker, filter_all, filter_swap, filter_filter, any_push, last_push, last_end, behind_is_end, is_last_push, each_last, rises_lower, rises_filter, rises_last, each_right, entry_at-push, each_map}
 use Rattle.pana_hall.proofs.Moves.{IsWell, Fits, copies_of-family, copies_of-push, copy_in-family, report_fits, rises_after, found_fits}
 use Rattle.pana_hall.proofs.Sound.{own, each_effective, own_copies, own_confirm, own_withdraw, own_other, pending-push, pending_is, first_none, none_false, IsSound, keeps_families, living_fit, family_named, OfCopies, Confirms, Withdraws, kind_of, pend_copies, family_new, effective_well, in_accepted}
 use Rattle.std.proofs.lemmas.Option.{slice_get_past}
@@ -339,6 +339,12 @@ each_has P (k ∷ numbers) n each is =
       | true ↦ λ e h. subst P (eqb-true k n e) each.0
       | false ↦ λ e h. each_has P numbers n each.1 h
     ] refl is
+
+-- what holds of the numbers of entries holds of those that are pending
+pub pending_each : (P : ℕ → Type 0) (most family : ℕ) (journal : List Entry) → IsSound most journal → AllByRecursion (λ e. P e.number) journal → AllByRecursion P (pending most family journal)
+pending_each P most family journal sound each =
+    let ends = sound.ends family in
+    each_right P ends.0 (pending most family journal) (subst (AllByRecursion P) ends.1 (each_map P (λ e. e.number) (own family journal) (each_filter _ _ (effective journal) (each_effective _ journal each))))
 
 -- what is pending in a family is of the family
 pub family_of_pending : (most family number : ℕ) (journal : List Entry) → IsSound most journal → has (pending most family journal) number ≡ true → families journal number ≡ family

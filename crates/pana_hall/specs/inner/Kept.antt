@@ -57,6 +57,10 @@ pub record ArePlaced (journal : List Entry) (positions : List ℕ) : Type 0 wher
   pub count : length positions ≡ length journal
   pub at : (number : ℕ) → 0 < number → number ≤ length journal → (p : ℕ) × (position_at positions number ≡ Some p) × (slice_get (begun journal) p ≡ Some (families journal number))
 
+-- the journal has entry n
+abbrev pub IsWithin : List Entry → ℕ → Type 0
+IsWithin journal n = (0 < n) × (n ≤ length journal)
+
 -- what a hall keeps of its journal: the families that have begun, the family of each entry, and the living copies' places
 pub record IsKept (journal : List Entry) (list : List KeptRows) (positions : List ℕ) (copies : Table) : Type 0 where
   pub accepted : IsAccepted 8 journal
