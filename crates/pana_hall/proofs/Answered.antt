@@ -19,13 +19,13 @@ use Rattle.pana_family.specs.Rows.{copy_rows, divides, lives}
 use Rattle.pana_hall.specs.declared.cause.Cause.TheVariants.{PlaceTaken, FamilyFull, TooDeep, UnknownFamily}
 use Rattle.pana_hall.specs.inner.Undo.{KeptRows, ends_in, last_place}
 use Rattle.pana_hall.specs.Family.{families, is_family, has_report, is_register}
-use Rattle.pana_hall.specs.Living.{Copy, copy_in, copies_of, living, known_to}
+use Rattle.pana_hall.specs.Living.{Copy, copy_in, living, known_to}
 use Rattle.pana_hall.specs.Pending.{pending, is_last}
 use Rattle.pana_hall.specs.Refusal.{displaced, taken, taken_from, taken_since, family_full, too_deep, pending_with, unknown_family, unknown, other_family, first}
 use Rattle.pana_hall.specs.Board.{is_of}
 use Rattle.pana_hall.specs.Accepted.{IsAccepted}
 use Rattle.pana_hall.specs.laws.Tables.{layer}
-use Rattle.pana_hall.specs.inner.Kept.{of_each, AreSpots, family_of, place_before, undone_of, families_of}
+use Rattle.pana_hall.specs.inner.Kept.{of_each, AreSpots, family_of, undone_of, families_of}
 use Rattle.pana_hall.specs.StampRows.{rows_of, stamp_rows}
 use Rattle.pana_hall.specs.inner.Spots.{spot_of, IsThere, other_there}
 use Rattle.pana_hall.proofs.Lists.{is_last_push, each_weaker, any_push, is_last-push, map_map, entry_at_place, slice_get-each}
@@ -33,7 +33,7 @@ use Rattle.pana_hall.proofs.Sound.{accepted_is_sound, first_none, known, none_fa
 use Rattle.pana_hall.proofs.Tables.{ends_at, layer_now, each_has, merged, pending_each}
 use Rattle.pana_hall.proofs.Places.{same_place-itself, none_passes, living_found, back_at}
 use Rattle.pana_hall.proofs.Stood.{count_rows, copies_sets, layers_stand, lives_rows}
-use Rattle.pana_hall.proofs.Ready.{place_spots, at_spots, family_of as family_of_copy}
+use Rattle.pana_hall.proofs.Ready.{place_spots, at_spots, family_of as family_of_copy, given_back}
 use Rattle.pana_hall.proofs.Listed.{entry_within}
 use Rattle.pana_hall.proofs.Moves.{found_number, IsWell}
 use Rattle.std.proofs.lemmas.List.Elements.{filter-append}
@@ -212,17 +212,11 @@ pub back_place : (journal : List Entry) (m c : ℕ) (it : KeptRows) (undone : En
     → (back : Copy) × (last_place it.undo ≡ Some back.place) × (taken_since m journal ≡ taken_from back (living journal)) × (back.number ≡ c)
 back_place journal m c it undone accepted at_end at moves is =
     let sound = accepted_is_sound 8 journal accepted in
-    let family = families journal m in
     let ends = ends_at 8 m journal sound at_end in
     let same : undone ≡ ends.last = let here = ends.at in cc in
-    let back = back_at journal m c accepted ends (ap (λ (e : Entry). displaced e.report) (sym same) ∙ moves) in
-    let turned : reverse (pending 8 family journal) ≡ m ∷ reverse ends.numbers = ap reverse ends.pending ∙ reverse-append ends.numbers (m ∷ []) in (
+    let back = back_at journal m c accepted ends (ap (λ (e : Entry). displaced e.report) (sym same) ∙ moves) in (
       back.copy,
-      ap (λ (k : KeptRows). last_place k.undo) is
-          ∙ ap (λ l. last_place (of_each (undone_of journal) family journal 1 l)) turned
-          ∙ ap (λ e. place_before e (copies_of (layer 8 1 family journal))) at
-          ∙ ap (λ d. option_and_then (λ k. option_map (λ copy. copy.place) (copy_in (copies_of (layer 8 1 family journal)) k)) d) moves
-          ∙ ap (option_map (λ copy. copy.place)) back.found,
+      ap (λ (k : KeptRows). last_place k.undo) is ∙ given_back journal m sound ends ∙ ap (option_map (λ copy. copy.place)) back.is,
       ap (option_and_then (λ copy. taken_from copy (living journal))) back.is,
       back.number,
     )

@@ -109,14 +109,14 @@ module _ {most m : ℕ} {journal : List Entry} (sound : IsSound most journal) (e
   back_in_table c moves = back_before c moves ∙ ap (λ l. copy_in l c) (sym (table_own most 1 (families journal m) journal sound ∙ ap copies_of layer_before))
 
 -- there is one
-pub record Back (journal : List Entry) (m c : ℕ) : Type 0 where
+pub record Back (journal : List Entry) (m c : ℕ) (entries : List Entry) : Type 0 where
   pub copy : Copy
   pub is : brought_back m journal ≡ Some copy
   pub number : copy.number ≡ c
-  pub found : copy_in (copies_of (layer 8 1 (families journal m) journal)) c ≡ Some copy
+  pub found : copy_in (copies_of entries) c ≡ Some copy
   pub family : copy.family ≡ families journal m
 
-pub back_at : (journal : List Entry) (m c : ℕ) → IsAccepted 8 journal → (ends : EndsIn 8 m journal) → displaced ends.last.report ≡ Some c → Back journal m c
+pub back_at : (journal : List Entry) (m c : ℕ) → IsAccepted 8 journal → (ends : EndsIn 8 m journal) → displaced ends.last.report ≡ Some c → Back journal m c ends.entries
 back_at journal m c accepted ends moves =
     let sound = accepted_is_sound 8 journal accepted in
     let lives = layer_founded journal accepted 0 (families journal m) ends.entries ends.last (layer_now 8 (families journal m) journal ∙ ends.own) c (displaced_named ends.last.report c moves) in
@@ -124,13 +124,7 @@ back_at journal m c accepted ends moves =
     let left = left_out (m ∷ []) (effective journal) in
     let fit = found_fits (families journal) (length journal) c (copies_of left) lives.0 (copies_fit (families journal) (length journal) left (each_filter _ _ (effective journal) (effective_well 8 journal sound)))
     (left_here sound ends c of ∙ lives.1) in
-    record {
-      copy = lives.0;
-      is = back_before sound ends c moves ∙ lives.1;
-      number = fit.0;
-      found = ap (λ l. copy_in (copies_of l) c) (layer_before sound ends) ∙ lives.1;
-      family = fit.1.family ∙ ap (families journal) fit.0 ∙ of;
-    }
+    record { copy = lives.0; is = back_before sound ends c moves ∙ lives.1; number = fit.0; found = lives.1; family = fit.1.family ∙ ap (families journal) fit.0 ∙ of }
 
 -- Where the copies are kept, as entries come and are withdrawn.
 
