@@ -1,8 +1,6 @@
 -- Causes and answers read off what a hall keeps.
 use Rattle.std.specs.Prelude.{◌≡◌, ◌⊎◌, ℕ, ◌+◌, ◌-◌, ◌<◌, ◌≤◌, Bool, true, false, cond, not, ◌&&◌, ◌||◌, ◌==◌, nat_le, List, [], ◌∷◌, ◌++◌, length, filter, reverse, find, count_by, Option, Some, None, option_map, option_and_then, zero, suc, nat_lt, slice_index_or, map}
 use Rattle.std.specs.Bool.{then_some}
-use Rattle.std.specs.Str.{bytes_eq}
-use Rattle.std.proofs.lemmas.Slice.Eq.{bytes_eq-Decides}
 use Rattle.std.specs.List.{AllByRecursion, list_any}
 use Rattle.std.proofs.Common.{refl, sym, ap, ◌∙◌, subst, inl, inr, arith}
 use Rattle.std.proofs.Math.Bool.{or-true, or_comm}
@@ -11,7 +9,8 @@ use Rattle.std.proofs.lemmas.List.{reverse-append, map-append}
 use Rattle.std.proofs.lemmas.List.Sums.{length-filter}
 use Rattle.pana_copies.specs.declared.place.Place.{Place}
 use Rattle.pana_copies.specs.Places.{same_place}
-use Rattle.pana_copies.specs.Spots.{Spot, Table, kept, place_of}
+use Rattle.pana_copies.proofs.Kept.{one_place}
+use Rattle.pana_copies.specs.Spots.{Spot, Table, kept}
 use Rattle.pana_journal.specs.declared.entry.Entry.{Entry}
 use Rattle.pana_journal.specs.Entries.{entry_at}
 use Rattle.pana_family.specs.Updates.{has}
@@ -28,7 +27,7 @@ use Rattle.pana_hall.specs.laws.Tables.{layer}
 use Rattle.pana_hall.specs.inner.Kept.{of_each, AreSpots, family_of, undone_of, families_of}
 use Rattle.pana_hall.specs.StampRows.{rows_of, stamp_rows}
 use Rattle.pana_hall.specs.inner.Spots.{spot_of, IsThere, other_there}
-use Rattle.pana_hall.proofs.Lists.{is_last_push, each_weaker, any_push, is_last-push, map_map, entry_at_place, slice_get-each}
+use Rattle.pana_hall.proofs.Lists.{is_last_push, each_weaker, any_push, is_last-push, map_map, entry_at_place, slice_get-each, found_by}
 use Rattle.pana_hall.proofs.Sound.{accepted_is_sound, first_none, known, none_false, one_family}
 use Rattle.pana_hall.proofs.Tables.{ends_at, layer_now, each_has, merged, pending_each}
 use Rattle.pana_hall.proofs.Places.{same_place-itself, none_passes, living_found, back_at}
@@ -55,71 +54,53 @@ use Rattle.pana_hall.proofs.Knowns.{row_in, known_row, set_at, touch_at, sets_ol
 
 -- Causes read off what a hall keeps.
 
--- what is found by a test passes it
-found_by : (p : Copy → Bool) (P : Copy → Type 0) (copies : List Copy) (x : Copy) → AllByRecursion P copies → find p copies ≡ Some x → (p x ≡ true) × P x
-found_by p P [] x each found = absurd (cc)
-found_by p P (c ∷ copies) x each found =
-    elim (p c) as (λ b. p c ≡ b → cond b (Some c) (find p copies) ≡ Some x → (p x ≡ true) × P x) [
-      | true ↦ λ e f. let same : c ≡ x = cc in subst (λ y. (p y ≡ true) × P y) same (e, each.0)
-      | false ↦ λ e f. found_by p P copies x each.1 f
-    ] refl found
-
--- a place that tests the same is the same
-same_is : (a b : Place) → same_place a b ≡ true → a ≡ b
-same_is a b e =
-    let tests = both_true (bytes_eq a.device b.device) (bytes_eq a.path b.path) e in
-    let device : a.device ≡ b.device = (bytes_eq-Decides a.device b.device).0 tests.0 in
-    let path : a.path ≡ b.path = (bytes_eq-Decides a.path b.path).0 tests.1 in
-    ap (λ d. record { device = d; path = a.path }) device ∙ ap (λ q. record { device = b.device; path = q }) path
-  where
-    both_true : (x y : Bool) → (x && y) ≡ true → (x ≡ true) × (y ≡ true)
-    both_true true true e = (refl, refl)
-    both_true true false e = absurd (cc)
-    both_true false y e = absurd (cc)
+-- what a test finds among the living copies is the number that the table gives, where the two agree
+find_is : (p : Copy → Bool) (journal : List Entry) (found : Option ℕ) → IsAccepted 8 journal → ((x : Copy) → copy_in (living journal) x.number ≡ Some x → p x ≡ true → found ≡ Some x.number)
+    → ((n : ℕ) → found ≡ Some n → (x : Copy) × (copy_in (living journal) n ≡ Some x) × (p x ≡ true)) → option_map PlaceTaken found ≡ option_map (λ x. PlaceTaken x.number) (find p (living journal))
+find_is p journal found accepted to from =
+    elim (find p (living journal)) as (λ o. find p (living journal) ≡ o → option_map PlaceTaken found ≡ option_map (λ x. PlaceTaken x.number) o) [
+      | Some x ↦ λ e. let here = found_by p (λ c. copy_in (living journal) c.number ≡ Some c) (living journal) x (living_found 8 journal accepted) e in ap (option_map PlaceTaken) (to x here.1 here.0)
+      | None ↦ λ e. elim found as (λ o. found ≡ o → option_map PlaceTaken o ≡ None) [
+        | None ↦ λ f. refl
+        | Some n ↦ λ f. let y = from n f in let fails : p y.0 ≡ false = none_passes p (living journal) n y.0 e y.1 in absurd (let passes = y.2 in cc)
+      ] refl
+    ] refl
 
 pub taken_is : (journal : List Entry) (copies : Table) (place : Place) (found : Option ℕ) → IsAccepted 8 journal → AreSpots journal copies → IsThere copies place found
     → option_map PlaceTaken found ≡ taken place (living journal)
 taken_is journal copies place found accepted spots there =
-    elim (find (λ copy. same_place copy.place place) (living journal)) as (λ o. find (λ copy. same_place copy.place place) (living journal) ≡ o → option_map PlaceTaken found ≡ option_map (λ copy. PlaceTaken copy.number) o) [
-      | Some x ↦ λ e.
-          let here = found_by (λ copy. same_place copy.place place) (λ c. copy_in (living journal) c.number ≡ Some c) (living journal) x (living_found 8 journal accepted) e in
-          let at : place_of copies x.number ≡ Some place = place_spots journal copies spots x.number ∙ ap (option_map (λ copy. copy.place)) here.1 ∙ ap (λ p. Some p) (same_is x.place place here.0) in
-          ap (option_map PlaceTaken) ((there x.number).1 at)
-      | None ↦ λ e. elim found as (λ o. found ≡ o → option_map PlaceTaken o ≡ None) [
-        | None ↦ λ f. refl
-        | Some n ↦ λ f.
-            let y = at_spots journal copies spots n place ((there n).0 f) in
-            let fails : same_place y.0.place place ≡ false = none_passes (λ copy. same_place copy.place place) (living journal) n y.0 e y.1 in
-            let passes : same_place y.0.place place ≡ true = ap (λ p. same_place p place) y.2 ∙ same_place-itself place in
-            absurd (cc)
-      ] refl
-    ] refl
+    find_is (λ copy. same_place copy.place place) journal found accepted
+    (λ x at is. (there x.number).1 (place_spots journal copies spots x.number ∙ ap (option_map (λ copy. copy.place)) at ∙ ap (λ p. Some p) (one_place x.place place is)))
+    (λ n e. let y = at_spots journal copies spots n place ((there n).0 e) in (y.0, y.1, ap (λ p. same_place p place) y.2 ∙ same_place-itself place))
 
 pub taken_from_is : (journal : List Entry) (copies : Table) (back : Copy) (found : Option ℕ) → IsAccepted 8 journal → AreSpots journal copies → IsThere copies back.place found
     → other_there back.number found ≡ taken_from back (living journal)
 taken_from_is journal copies back found accepted spots there =
-    let test : Copy → Bool = λ other. not (other.number == back.number) && same_place other.place back.place in
-    elim (find test (living journal)) as (λ o. find test (living journal) ≡ o → other_there back.number found ≡ option_map (λ other. PlaceTaken other.number) o) [
-      | Some x ↦ λ e.
-          let here = found_by test (λ c. copy_in (living journal) c.number ≡ Some c) (living journal) x (living_found 8 journal accepted) e in
-          let both = parts (x.number == back.number) (same_place x.place back.place) here.0 in
-          let at : place_of copies x.number ≡ Some back.place = place_spots journal copies spots x.number ∙ ap (option_map (λ copy. copy.place)) here.1 ∙ ap (λ p. Some p) (same_is x.place back.place both.1) in
-          ap (other_there back.number) ((there x.number).1 at) ∙ ap (λ b. cond b None (Some (PlaceTaken x.number))) both.0
-      | None ↦ λ e. elim found as (λ o. found ≡ o → other_there back.number o ≡ None) [
-        | None ↦ λ f. refl
-        | Some n ↦ λ f.
-            let y = at_spots journal copies spots n back.place ((there n).0 f) in
-            let fails : test y.0 ≡ false = none_passes test (living journal) n y.0 e y.1 in
-            let passes : same_place y.0.place back.place ≡ true = ap (λ p. same_place p back.place) y.2 ∙ same_place-itself back.place in
-            let number : y.0.number ≡ n = found_number (living journal) n y.0 y.1 in
-            ap (λ k. cond (k == back.number) None (Some (PlaceTaken n))) (sym number)
-            ∙ ap (λ b. cond b None (Some (PlaceTaken n))) (must (y.0.number == back.number) (same_place y.0.place back.place) passes fails)
-      ] refl
-    ] refl
+    let other : Option ℕ = option_and_then (λ n. cond (n == back.number) None (Some n)) found in
+    other_map found ∙ find_is (λ x. not (x.number == back.number) && same_place x.place back.place) journal other accepted
+    (λ x at is.
+    let both = parts (x.number == back.number) (same_place x.place back.place) is in
+    let here = (there x.number).1 (place_spots journal copies spots x.number ∙ ap (option_map (λ copy. copy.place)) at ∙ ap (λ p. Some p) (one_place x.place back.place both.1)) in
+    ap (option_and_then (λ n. cond (n == back.number) None (Some n))) here ∙ ap (λ b. cond b None (Some x.number)) both.0)
+    (λ n e.
+    let is = other_is found n e in
+    let y = at_spots journal copies spots n back.place ((there n).0 is.0) in
+    (y.0, y.1, rw (found_number (living journal) n y.0 y.1, is.1, y.2, same_place-itself back.place) refl))
   where
     parts : (a b : Bool) → (not a && b) ≡ true → (a ≡ false) × (b ≡ true)
     parts true b e = absurd (cc)
     parts false b e = (refl, e)
+
+    other_map : (o : Option ℕ) → other_there back.number o ≡ option_map PlaceTaken (option_and_then (λ n. cond (n == back.number) None (Some n)) o)
+    other_map None = refl
+    other_map (Some n) = elim (n == back.number) as (λ b. cond b None (Some (PlaceTaken n)) ≡ option_map PlaceTaken (cond b None (Some n))) [ true ↦ refl | false ↦ refl ]
+
+    other_is : (o : Option ℕ) (n : ℕ) → option_and_then (λ k. cond (k == back.number) None (Some k)) o ≡ Some n → (o ≡ Some n) × ((n == back.number) ≡ false)
+    other_is None n e = absurd (cc)
+    other_is (Some k) n e = elim (k == back.number) as (λ b. (k == back.number) ≡ b → cond b None (Some k) ≡ Some n → (Some k ≡ Some n) × ((n == back.number) ≡ false)) [
+      | true ↦ λ t f. absurd (cc)
+      | false ↦ λ t f. let same : k ≡ n = cc in (f, ap (λ i. i == back.number) (sym same) ∙ t)
+    ] refl e
 
     must : (a b : Bool) → b ≡ true → (not a && b) ≡ false → a ≡ true
     must true b e f = refl

@@ -16,7 +16,7 @@ use Rattle.pana_hall.specs.Accepted.{Accepts}
 use Rattle.pana_hall.specs.laws.Tables.{layer}
 use Rattle.pana_hall.specs.laws.Layers.{family_of_next, AreRising}
 use Rattle.pana_hall.specs.inner.Kept.{of_each, of_pending, family_of, next_entry, place_before, undone_of}
-use Rattle.pana_hall.proofs.Lists.{each_append, each_weaker, entry_at-push}
+use Rattle.pana_hall.proofs.Lists.{each_append, each_weaker, at-push, rises_each}
 use Rattle.pana_hall.proofs.Sound.{first_none, none_false, IsSound, family_named, family_new}
 use Rattle.pana_hall.proofs.Tables.{pending_report, pending_other, pending_rises, layer_undone, layer_confirm, layer_withdraw, layer_other, pends, pending_withdraw, none_of, entry_at-other, layer_report, layer_new, pending_each}
 use Rattle.pana_copies.specs.declared.place.Place.{Place}
@@ -144,10 +144,6 @@ rises_after low m (n ∷ prefix) numbers rises =
     below_end bound k [] ys up = up.0
     below_end bound k (x ∷ xs) ys up = let first = up.0 in let rest : x < k = below_end x k xs ys up.1 in omega arith
 
-all_above : (m : ℕ) (numbers : List ℕ) → AreRising (λ n. n) m numbers → AllByRecursion (λ n. m < n) numbers
-all_above m [] rises = tt
-all_above m (n ∷ numbers) rises = let first = rises.0 in (rises.0, each_weaker (λ k. n < k) (λ k. m < k) numbers (λ k h. omega arith) (all_above n numbers rises.1))
-
 pub each_reverse : (P : ℕ → Type 0) (numbers : List ℕ) → AllByRecursion P numbers → AllByRecursion P (reverse numbers)
 each_reverse P [] each = tt
 each_reverse P (n ∷ numbers) each = subst (AllByRecursion P) (sym (reverse-append (n ∷ []) numbers)) (each_append P (reverse numbers) (n ∷ []) (each_reverse P numbers each.1) (each.0, tt))
@@ -188,7 +184,7 @@ pending_confirmed make key keyed m journal entry sound accepts is =
     let back : length (reverse rest) ≡ length rest = length-reverse rest in
     ap (λ l. of_each make family (journal ++ entry ∷ []) 1 (reverse l)) rest_is
     ∙ each_same make family journal (journal ++ entry ∷ []) 1 1 (reverse rest) (λ j within. layer_confirm 8 m (1 + j) journal entry sound accepts is (omega arith))
-    ∙ sym (later_behind make key keyed family journal 1 m (reverse rest) (reverse cut.0) (each_reverse (λ n. m < n) rest (all_above m rest parts.1)))
+    ∙ sym (later_behind make key keyed family journal 1 m (reverse rest) (reverse cut.0) (each_reverse (λ n. m < n) rest (rises_each (λ n. n) m rest parts.1)))
     ∙ ap (λ l. later key m (of_each make family journal 1 l)) (sym turned)
 
 -- nothing is pending in the family that the next entry may begin
@@ -230,7 +226,7 @@ family_report journal entry sound accepts is =
     let now : rows_of (layer 8 0 family journal') ≡ rows_after entry.number entry.report (rows_of old) = ap rows_of (layer_report 8 journal entry sound accepts is) ∙ rows_of-push old entry in
     let before : of_pending (undone_of journal') family journal' ≡ take 8 (undone entry.number (rows_of old) (place_before (Some entry) (copies_of old)) ∷ of_pending (undone_of journal) family journal) =
     pending_made (undone_of journal') journal entry sound accepts is
-    ∙ ap (λ e. take 8 (undone entry.number (rows_of old) (place_before e (copies_of old)) ∷ of_pending (undone_of journal') family journal)) (ap (entry_at journal') accepts.next ∙ entry_at-push journal entry)
+    ∙ ap (λ e. take 8 (undone entry.number (rows_of old) (place_before e (copies_of old)) ∷ of_pending (undone_of journal') family journal)) (ap (entry_at journal') accepts.next ∙ at-push journal entry)
     ∙ ap (λ l. take 8 (undone entry.number (rows_of old) (place_before (Some entry) (copies_of old)) ∷ l)) (undone_stays journal entry family sound) in
     ap (λ r. kept_rows family r (of_pending (undone_of journal') family journal')) now ∙ ap (kept_rows family (rows_after entry.number entry.report (rows_of old))) before
 

@@ -2,7 +2,7 @@
 use Rattle.std.specs.Prelude.{◌≡◌, ℕ, Bool, true, false, cond, not, ◌&&◌, ◌||◌, List, [], ◌∷◌, length, map, filter, count_by, ◌<◌, ◌≤◌, ◌==◌, ◌++◌, find, Option, Some, None, is_some, option_map, zero, suc, ◌+◌, ◌-◌, drop}
 use Rattle.std.specs.List.{AllByRecursion, list_any}
 use Rattle.std.proofs.Common.{refl, sym, ap, ap₂, ◌∙◌, subst, inl, inr, arith, append-nil}
-use Rattle.std.proofs.lemmas.Bool.{eqb-true, ne_eqb, or_cases, cases_eq, cases_lt}
+use Rattle.std.proofs.lemmas.Bool.{eqb-true, or_cases, cases_eq, cases_lt}
 use Rattle.std.proofs.lemmas.List.Sums.{length-filter, fold-append}
 use Rattle.std.proofs.lemmas.List.Elements.{filter_agree, filter-append}
 use Rattle.pana_event.specs.declared.rel.Rel.{Rel}
@@ -13,7 +13,7 @@ use Rattle.pana_hall.specs.declared.board.BoardRow.{BoardRow}
 use Rattle.pana_hall.specs.Living.{Copy, copy_in, known_to, after_report, with_updates, moved, copies_of}
 use Rattle.pana_hall.specs.Board.{copy_relation, has_conflict, is_of, number_of, relates, row_of, is_newest, newest, board_of}
 use Rattle.pana_hall.specs.Queries.{family_row}
-use Rattle.pana_hall.proofs.Lists.{each_filter, filter_filter, filter_all, each_append, filter_swap, filter_true, map_filter, rises_filter, rises_push, each_weaker, each_last, each_left}
+use Rattle.pana_hall.proofs.Lists.{each_filter, filter_filter, filter_all, each_append, filter_swap, filter_true, map_filter, rises_filter, rises_push, each_weaker, each_last, each_left, none_under}
 use Rattle.std.proofs.lemmas.List.{map-append, map-id, length-drop, same_from_push}
 use Rattle.std.proofs.Math.Bool.{and_comm, or-false}
 use Rattle.pana_journal.specs.declared.report.Report.{Report}
@@ -200,10 +200,6 @@ row_known : (copies : List Copy) (c : ℕ) → row_in (map as_known copies) c �
 row_known [] c = refl
 row_known (x ∷ copies) c = elim (x.number == c) as (λ b. cond b (Some (as_known x)) (row_in (map as_known copies) c) ≡ option_map as_known (cond b (Some x) (copy_in copies c))) [ true ↦ refl | false ↦ row_known copies c ]
 
-none_in : (low c : ℕ) (table : List Known) → AreRising (λ t. t.copy) low table → c ≤ low → row_in table c ≡ None
-none_in low c [] rises below = refl
-none_in low c (t ∷ table) rises below = let first = rises.0 in ap (λ b. cond b (Some t) (row_in table c)) (ne_eqb t.copy c (λ h. omega arith)) ∙ none_in t.copy c table rises.1 (omega arith)
-
 -- a copy's row is found among the copies, and the other way round
 row_copies : (low c : ℕ) (table : List Known) (t : Known) → AreRising (λ k. k.copy) low table → row_in (known_copies table) c ≡ Some t → row_in table c ≡ Some t
 row_copies low c [] t rises at = at
@@ -213,7 +209,7 @@ row_copies low c (k ∷ table) t rises at =
       | false ↦ λ e.
           let later = row_copies k.copy c table t rises.1 e in
           elim (k.copy == c) as (λ b. (k.copy == c) ≡ b → cond b (Some k) (row_in table c) ≡ Some t) [
-            | true ↦ λ f. let same = eqb-true k.copy c f in let none = none_in k.copy c table rises.1 (omega arith) in absurd (cc)
+            | true ↦ λ f. let same = eqb-true k.copy c f in let none = none_under (λ t. t.copy) k.copy c table rises.1 (omega arith) in absurd (cc)
             | false ↦ λ f. later
           ] refl
     ] at

@@ -1,5 +1,5 @@
 -- The families that have begun, as a hall keeps them.
-use Rattle.std.specs.Prelude.{◌≡◌, ℕ, ◌<◌, ◌≤◌, Bool, true, false, cond, ◌==◌, List, [], ◌∷◌, ◌++◌, map, filter, find, Option, Some, None, option_map, option_and_then, ◌≢◌, zero, suc, ◌+◌, length, slice_get, slice_set, slice_index_or, ◌-◌, is_none}
+use Rattle.std.specs.Prelude.{◌≡◌, ℕ, ◌<◌, ◌≤◌, Bool, true, false, cond, ◌==◌, List, [], ◌∷◌, ◌++◌, map, filter, Some, None, option_map, option_and_then, ◌≢◌, zero, suc, ◌+◌, length, slice_get, slice_set, slice_index_or, ◌-◌, is_none}
 use Rattle.std.specs.Bool.{then_some}
 use Rattle.std.specs.Str.{bytes_eq}
 use Rattle.std.proofs.Common.{refl, sym, ap, ◌∙◌, subst, inl, inr, arith, append-nil}
@@ -11,7 +11,7 @@ use Rattle.pana_hall.specs.Family.{is_register, families, begun_or_joined, subje
 use Rattle.pana_hall.specs.Living.{Copy, copy_in, living}
 use Rattle.pana_hall.specs.Queries.{begun, holding, holdings}
 use Rattle.pana_hall.specs.laws.Layers.{AreRising, family_of_next}
-use Rattle.pana_hall.proofs.Lists.{rises_filter, each_weaker, entry_at_place, slice_get-append, slice_get-push}
+use Rattle.pana_hall.proofs.Lists.{rises_filter, each_weaker, entry_at_place, slice_get-append, slice_get-push, under, rises_map, found_by, at-append, none_under, rises_each, at-push}
 use Rattle.std.specs.List.{AllByRecursion}
 use Rattle.pana_copies.specs.declared.place.Place.{Place}
 use Rattle.pana_copies.specs.Spots.{Table, kept}
@@ -37,16 +37,6 @@ use Rattle.pana_hall.specs.inner.Families.{family_at, position_at}
 use Rattle.pana_hall.proofs.Runs.{next_accepted, rising}
 
 -- Lists by rising keys are one where the same is found under each key; holdings and families as such lists.
-
--- what has a key
-abbrev pub under : {X : Type 0} → (X → ℕ) → List X → ℕ → Option X
-under key xs n = find (λ x. key x == n) xs
-
-none_under : {X : Type 0} (key : X → ℕ) (low n : ℕ) (xs : List X) → AreRising key low xs → n ≤ low → under key xs n ≡ None
-none_under key low n [] rises below = refl
-none_under key low n (x ∷ xs) rises below =
-    let first = rises.0 in
-    ap (λ b. cond b (Some x) (under key xs n)) (ne_eqb (key x) n (λ h. omega arith)) ∙ none_under key (key x) n xs rises.1 (omega arith)
 
 first_under : {X : Type 0} (key : X → ℕ) (x : X) (xs : List X) → under key (x ∷ xs) (key x) ≡ Some x
 first_under key x xs = ap (λ b. cond b (Some x) (under key xs (key x))) (eq-eqb (key x) (key x) refl)
@@ -105,10 +95,6 @@ under_map f key key' same n (x ∷ xs) =
       | false ↦ under_map f key key' same n xs
     ]
 
-rises_map : {X Y : Type 0} (f : X → Y) (key : X → ℕ) (key' : Y → ℕ) → ((x : X) → key' (f x) ≡ key x) → (low : ℕ) (xs : List X) → AreRising key low xs → AreRising key' low (map f xs)
-rises_map f key key' same low [] rises = tt
-rises_map f key key' same low (x ∷ xs) rises = (subst (λ k. low < k) (sym (same x)) rises.0, rises_map f key key' same (key' (f x)) xs (subst (λ k. AreRising key k xs) (sym (same x)) rises.1))
-
 -- the holdings of a device, by rising copy, and the one of a copy
 pub holdings_rise : (device : List ℕ) (copies : List Copy) → AreRising (λ c. c.number) 0 copies → AreRising (λ h. h.copy) 0 (holdings copies device)
 holdings_rise device copies rises = rises_map holding (λ c. c.number) (λ h. h.copy) (λ c. refl) 0 _ (rises_filter (λ c. c.number) 0 (λ c. bytes_eq c.place.device device) copies rises)
@@ -124,6 +110,9 @@ pub begun-next : (journal : List Entry) (entry : Entry) → begun (journal ++ en
 begun-next journal entry =
     ap (map (λ e. e.number)) (filter-append (λ e. is_register e.report) journal (entry ∷ [])) ∙ map-append (λ e. e.number) (filter (λ e. is_register e.report) journal) _
     ∙ ap (λ l. begun journal ++ l) (elim (is_register entry.report) as (λ b. map (λ e. e.number) (cond b (entry ∷ []) []) ≡ cond b (entry.number ∷ []) []) [ true ↦ refl | false ↦ refl ])
+
+begun_later : (journal : List Entry) (entry : Entry) → is_register entry.report ≡ false → begun (journal ++ entry ∷ []) ≡ begun journal
+begun_later journal entry later = begun-next journal entry ∙ ap (λ b. begun journal ++ cond b (entry.number ∷ []) []) later ∙ append-nil (begun journal)
 
 -- and they rise
 pub begun_rises : (journal : List Entry) → AreRising (λ e. e.number) 0 journal → AreRising (λ n. n) 0 (begun journal)
@@ -258,7 +247,7 @@ module _ (list : List ListedFamily) {journal : List Entry} {by : List ℕ} {repo
       ∙ ap (slice_set (families_of journal) position) (made ∙ ap (family_of journal') number)
       ∙ map_set (family_of journal) (family_of journal') 0 (begun journal) position own (begun_rises journal sound.rising) (ready.at later)
       (λ k other. family_other k journal entry sound (accepts_next journal by report ready.free) (λ h. other (sym h)))
-      ∙ ap (map (family_of journal')) (sym (begun-next journal entry ∙ ap (λ b. begun journal ++ cond b ((length journal + 1) ∷ []) []) later ∙ append-nil (begun journal)))
+      ∙ ap (map (family_of journal')) (sym (begun_later journal entry later))
 
   -- or kept in another form
   pub still_there : IsReadyAt journal by report (all_listed list) position copies → is_register report ≡ false → (it d after_it : ListedFamily) → it ≡ slice_index_or list position d → listed after_it ≡ listed it
@@ -320,18 +309,14 @@ not_register report never = refl
 -- What a hall keeps of its journal, as entries come.
 
 -- a living copy's number is that of an entry
-found_within : (low last n : ℕ) (copies : List Copy) (copy : Copy) → AreRising (λ c. c.number) low copies → AllByRecursion (λ c. c.number ≤ last) copies → copy_in copies n ≡ Some copy → (low < n) × (n ≤ last)
-found_within low last n [] copy rises within found = absurd (cc)
-found_within low last n (c ∷ copies) copy rises within found =
-    let first = rises.0 in
-    let below = within.0 in
-    elim (c.number == n) as (λ b. (c.number == n) ≡ b → cond b (Some c) (copy_in copies n) ≡ Some copy → (low < n) × (n ≤ last)) [
-      | true ↦ λ e f. let same : c.number ≡ n = eqb-true c.number n e in (omega arith, omega arith)
-      | false ↦ λ e f. let rest = found_within c.number last n copies copy rises.1 within.1 f in let above = rest.0 in (omega arith, rest.1)
-    ] refl found
-
 pub lives_within : (journal : List Entry) (family n : ℕ) → IsAccepted 8 journal → LivesIn journal family n → IsWithin journal n
-lives_within journal family n accepted lives = let up = rising 8 journal accepted in found_within 0 (length journal) n (living journal) lives.copy up.0 up.1 lives.found
+lives_within journal family n accepted lives =
+    let up = rising 8 journal accepted in
+    let below = found_by (λ c. c.number == n) (λ c. c.number ≤ length journal) (living journal) lives.copy up.1 lives.found in
+    let above = (found_by (λ c. c.number == n) (λ c. 0 < c.number) (living journal) lives.copy (rises_each (λ c. c.number) 0 (living journal) up.0) lives.found).1 in
+    let within = below.1 in
+    let same = eqb-true lives.copy.number n below.0 in
+    (omega arith, omega arith)
 
 pub found_entry : (journal : List Entry) (n : ℕ) (copy : Copy) → IsAccepted 8 journal → copy_in (living journal) n ≡ Some copy → IsWithin journal n
 found_entry journal n copy accepted found = lives_within journal (families journal n) n accepted (record { copy = copy; found = found; of = refl })
@@ -359,26 +344,6 @@ found_at journal list positions n listed placed some within =
     let at = placed.at n some within in
     ap (option_and_then (slice_get list)) at.1 ∙ ap (λ l. slice_get l at.0) listed ∙ get_map (family_of journal) (begun journal) at.0 (families journal n) at.2
 
--- a report without a subject is a Register
-registers : (report : Report) → subject report ≡ None → is_register report ≡ true
-registers report e = subject_none report ∙ ap is_none e
-
-none_registers : (report : Report) → subject report ≡ None → is_register report ≡ false → ⊥
-none_registers report e f = let yes = registers report e in absurd (cc)
-
-position_append : (positions more : List ℕ) (n p : ℕ) → position_at positions n ≡ Some p → position_at (positions ++ more) n ≡ Some p
-position_append positions more n p at =
-    elim (n == 0) as (λ b. cond b None (slice_get positions (n - 1)) ≡ Some p → cond b None (slice_get (positions ++ more) (n - 1)) ≡ Some p) [
-      | true ↦ λ h. absurd (cc)
-      | false ↦ λ h. slice_get-append positions more (n - 1) p h
-    ] at
-
-position_push : (positions : List ℕ) (p : ℕ) → position_at (positions ++ p ∷ []) (length positions + 1) ≡ Some p
-position_push positions p =
-    let place : length positions + 1 - 1 ≡ length positions = omega arith in
-    ap (λ b. cond b None (slice_get (positions ++ p ∷ []) (length positions + 1 - 1))) (ne_eqb (length positions + 1) 0 (λ h. omega arith))
-    ∙ ap (slice_get (positions ++ p ∷ [])) place ∙ slice_get-push positions p
-
 -- with the copies in another table
 pub ready_same : {journal : List Entry} {by : List ℕ} {report : Report} {list : List KeptRows} {position : ℕ} {copies : Table} → IsReadyAt journal by report list position copies → (copies' : Table)
     → ((number : ℕ) → kept copies' number ≡ kept copies number) → IsReadyAt journal by report list position copies'
@@ -396,26 +361,38 @@ module _ (journal : List Entry) (by : List ℕ) (report : Report) (list : List K
             (at.0, at.1)
       ] refl
 
-  -- and its family is there
+  -- which is that of the family among those that have begun then
+  own_position : IsKept journal list positions copies → report_refusal 8 journal (living journal) by report ≡ None → (p : ℕ) → position_for list positions report ≡ Some p
+      → slice_get (begun (journal ++ next_entry journal by report ∷ [])) p ≡ Some (family_of_next journal (next_entry journal by report))
+  own_position all free p at =
+      let entry = next_entry journal by report in
+      let more = cond (is_register report) ((length journal + 1) ∷ []) [] in
+      let long : length list ≡ length (begun journal) = ap length all.listed ∙ length-map (begun journal) (family_of journal) in
+      ap (λ l. slice_get l p) (begun-next journal entry)
+      ∙ elim (subject report) as (λ s. subject report ≡ s → position_of_subject list positions s ≡ Some p → slice_get (begun journal ++ more) p ≡ Some (begun_or_joined (families journal) (length journal + 1) s)) [
+        | None ↦ λ e f.
+            let same : length (begun journal) ≡ p = sym long ∙ (cc) in
+            ap (λ b. slice_get (begun journal ++ cond b ((length journal + 1) ∷ []) []) p) (subject_none report ∙ ap is_none e)
+            ∙ ap (slice_get (begun journal ++ (length journal + 1) ∷ [])) (sym same) ∙ slice_get-push (begun journal) (length journal + 1)
+        | Some m ↦ λ e f.
+            let inside = subject_within journal by report m all.accepted free e in
+            let old = all.placed.at m inside.0 inside.1 in
+            let both : Some old.0 ≡ Some p = sym old.1 ∙ f in
+            let same : old.0 ≡ p = cc in
+            slice_get-append (begun journal) more p (families journal m) (ap (slice_get (begun journal)) (sym same) ∙ old.2)
+      ] refl at ∙ ap (λ k. Some k) (sym (family_new journal entry))
+
   pub ready_for : IsKept journal list positions copies → report_refusal 8 journal (living journal) by report ≡ None → (p : ℕ) → position_for list positions report ≡ Some p
       → IsReadyAt journal by report list p copies
-  ready_for all free p at = record {
-    accepted = all.accepted;
-    free = free;
-    listed = all.listed;
-    spots = all.spots;
-    at = λ later.
-        let next = family_of_next journal (next_entry journal by report) in
-        elim (subject report) as (λ s. subject report ≡ s → position_of_subject list positions s ≡ Some p → next ≡ begun_or_joined (families journal) (length journal + 1) s → slice_get (begun journal) p ≡ Some next) [
-          | None ↦ λ e f g. absurd (none_registers report e later)
-          | Some n ↦ λ e f g.
-              let within = subject_within journal by report n all.accepted free e in
-              let there = all.placed.at n within.0 within.1 in
-              let both : Some there.0 ≡ Some p = sym there.1 ∙ f in
-              let same : there.0 ≡ p = cc in
-              ap (slice_get (begun journal)) (sym same) ∙ there.2 ∙ ap (λ k. Some k) (sym g)
-        ] refl at (family_new journal (next_entry journal by report));
-  }
+  ready_for all free p at =
+      let entry = next_entry journal by report in
+      record {
+        accepted = all.accepted;
+        free = free;
+        listed = all.listed;
+        spots = all.spots;
+        at = λ later. subst (λ l. slice_get l p ≡ Some (family_of_next journal entry)) (begun_later journal entry later) (own_position all free p at);
+      }
 
   -- what is kept then
   pub kept_next : IsKept journal list positions copies → report_refusal 8 journal (living journal) by report ≡ None → (p : ℕ) → position_for list positions report ≡ Some p
@@ -424,48 +401,26 @@ module _ (journal : List Entry) (by : List ℕ) (report : Report) (list : List K
   kept_next all free p at list' copies' listed spots =
       let entry = next_entry journal by report in
       let journal' = journal ++ entry ∷ [] in
-      let long : length list ≡ length (begun journal) = ap length all.listed ∙ length-map (begun journal) (family_of journal) in
+      let longer = length-append journal (entry ∷ []) in
       record {
         accepted = next_accepted 8 journal entry all.accepted (accepts_next journal by report free);
         listed = listed;
         spots = spots;
         placed = record {
-          count = length-append positions (p ∷ []) ∙ ap (λ n. n + 1) all.placed.count ∙ sym (length-append journal (entry ∷ []));
-          at = λ n some within.
-              let longer = length-append journal (entry ∷ []) in
-              elim (cases_lt n (length journal + 1)) [
-                | inl before ↦
-                    let old = all.placed.at n some (omega arith) in (
-                      old.0,
-                      position_append positions (p ∷ []) n old.0 old.1,
-                      ap (λ l. slice_get l old.0) (begun-next journal entry)
-                          ∙ slice_get-append (begun journal) (cond (is_register report) ((length journal + 1) ∷ []) []) old.0 (families journal n) old.2
-                          ∙ ap (λ f. Some f) (sym (family_old journal entry n before)),
-                    )
-                | inr beyond ↦
-                    let last : n ≡ length journal + 1 = omega arith in (
-                      p,
-                      ap (position_at (positions ++ p ∷ [])) (last ∙ ap (λ k. k + 1) (sym all.placed.count)) ∙ position_push positions p,
-                      ap (λ l. slice_get l p) (begun-next journal entry)
-                          ∙ elim (subject report) as (λ s. subject report ≡ s → position_of_subject list positions s ≡ Some p → families journal' (length journal + 1) ≡ begun_or_joined (families journal) (length journal + 1) s
-                          → slice_get (begun journal ++ cond (is_register report) ((length journal + 1) ∷ []) []) p ≡ Some (families journal' (length journal + 1))) [
-                            | None ↦ λ e f g.
-                                let here : Some (length list) ≡ Some p = f in
-                                let same : length (begun journal) ≡ p = sym long ∙ (cc) in
-                                ap (λ b. slice_get (begun journal ++ cond b ((length journal + 1) ∷ []) []) p) (registers report e)
-                                ∙ ap (slice_get (begun journal ++ (length journal + 1) ∷ [])) (sym same)
-                                ∙ slice_get-push (begun journal) (length journal + 1)
-                                ∙ ap (λ k. Some k) (sym g)
-                            | Some m ↦ λ e f g.
-                                let inside = subject_within journal by report m all.accepted free e in
-                                let old = all.placed.at m inside.0 inside.1 in
-                                let both : Some old.0 ≡ Some p = sym old.1 ∙ f in
-                                let same : old.0 ≡ p = cc in
-                                slice_get-append (begun journal) (cond (is_register report) ((length journal + 1) ∷ []) []) p (families journal m) (ap (slice_get (begun journal)) (sym same) ∙ old.2)
-                                ∙ ap (λ k. Some k) (sym g)
-                          ] refl at (family_new journal entry)
-                          ∙ ap (λ k. Some (families journal' k)) (sym last),
-                    )
-              ];
+          count = length-append positions (p ∷ []) ∙ ap (λ n. n + 1) all.placed.count ∙ sym longer;
+          at = λ n some within. elim (cases_lt n (length journal + 1)) [
+            | inl before ↦
+                let old = all.placed.at n some (omega arith) in (
+                  old.0,
+                  at-append positions (p ∷ []) n old.0 old.1,
+                  ap (λ l. slice_get l old.0) (begun-next journal entry) ∙ slice_get-append (begun journal) _ old.0 (families journal n) old.2 ∙ ap (λ f. Some f) (sym (family_old journal entry n before)),
+                )
+            | inr beyond ↦
+                let last : n ≡ length journal + 1 = omega arith in (
+                  p,
+                  ap (position_at (positions ++ p ∷ [])) (last ∙ ap (λ k. k + 1) (sym all.placed.count)) ∙ at-push positions p,
+                  own_position all free p at ∙ ap (λ k. Some (families journal' k)) (sym last),
+                )
+          ];
         };
       }

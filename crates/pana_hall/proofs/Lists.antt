@@ -1,7 +1,7 @@
 -- Lists: members that a test keeps, last numbers, rising keys, items by index.
 use Rattle.std.specs.Prelude.{◌≡◌, ℕ, suc, ◌+◌, ◌-◌, ◌≤◌, Bool, true, false, cond, ◌&&◌, ◌||◌, ◌==◌, List, [], ◌∷◌, ◌++◌, length, take, map, filter, ◌≢◌, ◌⊎◌, ◌<◌, zero, Some, None, slice_get}
 use Rattle.std.specs.List.{AllByRecursion, list_any}
-use Rattle.std.proofs.Common.{refl, sym, ap, ◌∙◌, arith, subst, inl, inr}
+use Rattle.std.proofs.Common.{refl, sym, ap, ◌∙◌, arith, subst, inl, inr, Option, find}
 use Rattle.std.proofs.Math.Bool.{and_comm}
 use Rattle.std.proofs.lemmas.Bool.{eqb-true, ne_eqb, eqb-false}
 use Rattle.std.proofs.lemmas.List.{drop-append-le, length-append, take-append-drop}
@@ -142,6 +142,34 @@ rises_filter key low q (x ∷ xs) rises =
       | false ↦ rises_lower key (key x) low (filter q xs) (omega arith) (rises_filter key (key x) q xs rises.1)
     ]
 
+pub rises_map : {X Y : Type 0} (f : X → Y) (key : X → ℕ) (key' : Y → ℕ) → ((x : X) → key' (f x) ≡ key x) → (low : ℕ) (xs : List X) → AreRising key low xs → AreRising key' low (map f xs)
+rises_map f key key' same low [] rises = tt
+rises_map f key key' same low (x ∷ xs) rises = (subst (λ k. low < k) (sym (same x)) rises.0, rises_map f key key' same (key' (f x)) xs (subst (λ k. AreRising key k xs) (sym (same x)) rises.1))
+
+-- each is above the bound
+pub rises_each : {X : Type 0} (key : X → ℕ) (low : ℕ) (xs : List X) → AreRising key low xs → AllByRecursion (λ x. low < key x) xs
+rises_each key low [] rises = tt
+rises_each key low (x ∷ xs) rises = let first = rises.0 in (rises.0, each_weaker (λ y. key x < key y) (λ y. low < key y) xs (λ y h. omega arith) (rises_each key (key x) xs rises.1))
+
+-- what has a key
+abbrev pub under : {X : Type 0} → (X → ℕ) → List X → ℕ → Option X
+under key xs n = find (λ x. key x == n) xs
+
+pub none_under : {X : Type 0} (key : X → ℕ) (low n : ℕ) (xs : List X) → AreRising key low xs → n ≤ low → under key xs n ≡ None
+none_under key low n [] rises below = refl
+none_under key low n (x ∷ xs) rises below =
+    let first = rises.0 in
+    ap (λ b. cond b (Some x) (under key xs n)) (ne_eqb (key x) n (λ h. omega arith)) ∙ none_under key (key x) n xs rises.1 (omega arith)
+
+-- what is found by a test passes it
+pub found_by : {X : Type 0} (p : X → Bool) (P : X → Type 0) (xs : List X) (x : X) → AllByRecursion P xs → find p xs ≡ Some x → (p x ≡ true) × P x
+found_by p P [] x each found = absurd (cc)
+found_by p P (y ∷ xs) x each found =
+    elim (p y) as (λ b. p y ≡ b → cond b (Some y) (find p xs) ≡ Some x → (p x ≡ true) × P x) [
+      | true ↦ λ e f. let same : y ≡ x = cc in subst (λ z. (p z ≡ true) × P z) same (e, each.0)
+      | false ↦ λ e f. found_by p P xs x each.1 f
+    ] refl found
+
 pub rises_push : {X : Type 0} (key : X → ℕ) (low : ℕ) (xs : List X) (y : X) → AreRising key low xs → AllByRecursion (λ x. key x < key y) xs → low < key y → AreRising key low (xs ++ y ∷ [])
 rises_push key low [] y rises below more = (more, tt)
 rises_push key low (x ∷ xs) y rises below more = (rises.0, rises_push key (key x) xs y rises.1 below.1 below.0)
@@ -164,18 +192,18 @@ pub slice_get-push : {X : Type 0} (xs : List X) (x : X) → slice_get (xs ++ x �
 slice_get-push [] x = refl
 slice_get-push (z ∷ xs) x = slice_get-push xs x
 
-pub entry_at-append : (journal more : List Entry) (n : ℕ) (entry : Entry) → entry_at journal n ≡ Some entry → entry_at (journal ++ more) n ≡ Some entry
-entry_at-append journal more n entry e =
-    elim (n == 0) as (λ b. cond b None (slice_get journal (n - 1)) ≡ Some entry → cond b None (slice_get (journal ++ more) (n - 1)) ≡ Some entry) [
+-- an item with a number, from 1, keeps it where more come
+pub at-append : {X : Type 0} (xs more : List X) (n : ℕ) (x : X) → cond (n == 0) None (slice_get xs (n - 1)) ≡ Some x → cond (n == 0) None (slice_get (xs ++ more) (n - 1)) ≡ Some x
+at-append xs more n x e =
+    elim (n == 0) as (λ b. cond b None (slice_get xs (n - 1)) ≡ Some x → cond b None (slice_get (xs ++ more) (n - 1)) ≡ Some x) [
       | true ↦ λ h. absurd (cc)
-      | false ↦ λ h. slice_get-append journal more (n - 1) entry h
+      | false ↦ λ h. slice_get-append xs more (n - 1) x h
     ] e
 
-pub entry_at-push : (journal : List Entry) (entry : Entry) → entry_at (journal ++ entry ∷ []) (length journal + 1) ≡ Some entry
-entry_at-push journal entry =
-    let place : length journal + 1 - 1 ≡ length journal = omega arith in
-    ap (λ b. cond b None (slice_get (journal ++ entry ∷ []) (length journal + 1 - 1))) (ne_eqb (length journal + 1) 0 (λ h. omega arith))
-    ∙ ap (slice_get (journal ++ entry ∷ [])) place ∙ slice_get-push journal entry
+pub at-push : {X : Type 0} (xs : List X) (x : X) → cond (length xs + 1 == 0) None (slice_get (xs ++ x ∷ []) (length xs + 1 - 1)) ≡ Some x
+at-push xs x =
+    let place : length xs + 1 - 1 ≡ length xs = omega arith in
+    ap (λ b. cond b None (slice_get (xs ++ x ∷ []) (length xs + 1 - 1))) (ne_eqb (length xs + 1) 0 (λ h. omega arith)) ∙ ap (slice_get (xs ++ x ∷ [])) place ∙ slice_get-push xs x
 
 -- an entry that is found in a journal and one more is the new one, or was found before
 pub slice_get-push_cases : {X : Type 0} (xs : List X) (y : X) (i : ℕ) (x : X) → slice_get (xs ++ y ∷ []) i ≡ Some x → (slice_get xs i ≡ Some x) ⊎ ((i ≡ length xs) × (y ≡ x))

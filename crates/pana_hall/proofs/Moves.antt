@@ -14,7 +14,7 @@ use Rattle.pana_hall.specs.Family.{family_report, is_register, subject, entries_
 use Rattle.pana_hall.specs.Living.{Copy, copy_in, known_to, without, registered, duplicated, with_updates, edited, moved, after_report, after_entry, copies_of}
 use Rattle.pana_hall.specs.Refusal.{displaced}
 use Rattle.pana_hall.specs.laws.Layers.{AreRising}
-use Rattle.pana_hall.proofs.Lists.{each_append, rises_lower, rises_push, each_weaker}
+use Rattle.pana_hall.proofs.Lists.{each_append, rises_lower, rises_push, each_weaker, found_by}
 use Rattle.std.proofs.lemmas.List.Elements.{filter-append}
 use Rattle.std.proofs.lemmas.List.Sums.{fold-append}
 use Rattle.pana_journal.specs.declared.entry.Entry.{Entry}
@@ -151,12 +151,11 @@ Lives copies c = (x : Copy) × (copy_in copies c ≡ Some x)
 
 -- a copy that is found has the number
 pub found_number : (copies : List Copy) (a : ℕ) (copy : Copy) → copy_in copies a ≡ Some copy → copy.number ≡ a
-found_number [] a copy found = absurd (cc)
-found_number (c ∷ copies) a copy found =
-    elim (c.number == a) as (λ b. (c.number == a) ≡ b → cond b (Some c) (copy_in copies a) ≡ Some copy → copy.number ≡ a) [
-      | true ↦ λ e f. let is : c ≡ copy = cc in ap (λ x. x.number) (sym is) ∙ eqb-true c.number a e
-      | false ↦ λ e f. found_number copies a copy f
-    ] refl found
+found_number copies a copy found = eqb-true copy.number a (found_by (λ c. c.number == a) (λ c. Unit {0}) copies copy (all_unit copies) found).0
+  where
+    all_unit : (xs : List Copy) → AllByRecursion (λ c. Unit {0}) xs
+    all_unit [] = tt
+    all_unit (x ∷ xs) = (tt, all_unit xs)
 
 pub none_below : (n : ℕ) (copies : List Copy) → AreBelow n copies → copy_in copies n ≡ None
 none_below n [] below = refl
@@ -304,12 +303,7 @@ pub record Fits (of : ℕ → ℕ) (last : ℕ) (copy : Copy) : Type 0 where
 -- a copy that is found has the number, and fits
 pub found_fits : (of : ℕ → ℕ) (last number : ℕ) (copies : List Copy) (copy : Copy) → AllByRecursion (Fits of last) copies → copy_in copies number ≡ Some copy
     → (copy.number ≡ number) × Fits of last copy
-found_fits of last number [] copy fits found = absurd (cc)
-found_fits of last number (c ∷ copies) copy fits found =
-    elim (c.number == number) as (λ b. (c.number == number) ≡ b → cond b (Some c) (copy_in copies number) ≡ Some copy → (copy.number ≡ number) × Fits of last copy) [
-      | true ↦ λ e f. let same : c ≡ copy = cc in rw (sym same) (eqb-true c.number number e, fits.0)
-      | false ↦ λ e f. found_fits of last number copies copy fits.1 f
-    ] refl found
+found_fits of last number copies copy fits found = let here = found_by (λ c. c.number == number) (Fits of last) copies copy fits found in (eqb-true copy.number number here.0, here.1)
 
 -- what a report leaves fits
 new_fits : (of : ℕ → ℕ) (last n : ℕ) (report : Report) (copies : List Copy) → Belongs of n report → n ≤ last → AllByRecursion (Fits of last) copies → IfSome (comes n report copies) (Fits of last)

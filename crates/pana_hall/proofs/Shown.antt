@@ -24,7 +24,7 @@ use Rattle.pana_hall.specs.laws.Sets.{sets_at}
 use Rattle.pana_hall.specs.inner.Spots.{spot_of}
 use Rattle.pana_hall.specs.inner.Kept.{AreSpots}
 use Rattle.pana_hall.specs.inner.Rows.{placed_row, row_of_sets, holding_in}
-use Rattle.pana_hall.proofs.Lists.{each_filter, map_map, filter_all}
+use Rattle.pana_hall.proofs.Lists.{each_filter, map_map, filter_all, none_under}
 use Rattle.pana_hall.proofs.Tables.{table_living}
 use Rattle.pana_hall.proofs.Knowns.{each_passes, map_same, row_own, newest_own, split_own}
 use Rattle.pana_hall.specs.Stamps.{as_known}
@@ -145,11 +145,6 @@ upto_none low n (c ∷ copies) below rises =
 pub holdings_none : (low n : ℕ) (copies : List Copy) (device : List ℕ) → n ≤ low → AreRising (λ c. c.number) low copies → holdings_to copies device n ≡ []
 holdings_none low n copies device below rises = ap (λ l. holdings l device) (upto_none low n copies below rises)
 
-none_found : (low n : ℕ) (copies : List Copy) → n ≤ low → AreRising (λ c. c.number) low copies → copy_in copies n ≡ None
-none_found low n [] below rises = refl
-none_found low n (c ∷ copies) below rises =
-    let first = rises.0 in ap (λ b. cond b (Some c) (copy_in copies n)) (ne_eqb c.number n (λ h. omega arith)) ∙ none_found c.number n copies (omega arith) rises.1
-
 -- one number more adds its copy
 upto_more : (low n : ℕ) (copies : List Copy) → AreRising (λ c. c.number) low copies → upto (n + 1) copies ≡ upto n copies ++ option_to_list (copy_in copies (n + 1))
 upto_more low n [] rises = refl
@@ -171,7 +166,7 @@ upto_more low n (c ∷ copies) rises =
         | inl later ↦
             step false false false (lt-leb c.number (n + 1) later) (lt-leb c.number n past) (ne_eqb c.number (n + 1) (λ h. omega arith))
             (upto_none c.number (n + 1) copies (omega arith) rises.1
-            ∙ ap option_to_list (sym (none_found c.number (n + 1) copies (omega arith) rises.1)) ∙ ap (λ l. l ++ option_to_list (copy_in copies (n + 1))) (sym (upto_none c.number n copies (omega arith) rises.1)))
+            ∙ ap option_to_list (sym (none_under (λ x. x.number) c.number (n + 1) copies rises.1 (omega arith))) ∙ ap (λ l. l ++ option_to_list (copy_in copies (n + 1))) (sym (upto_none c.number n copies (omega arith) rises.1)))
       ]
     ]
 

@@ -20,7 +20,7 @@ use Rattle.std.proofs.lemmas.List.Sums.{fold-append}
 use Rattle.pana_journal.specs.declared.report.Report.{Report}
 use Rattle.pana_journal.specs.declared.report.Report.TheVariants.{Confirm, Withdraw, Duplicate, Edit, Reconcile, Merge, Relocate, Remove}
 use Rattle.pana_hall.specs.Pending.{pending, pend, last, behind}
-use Rattle.pana_hall.proofs.Lists.{filter_true, each_filter, each_weaker, filter_same, filter_all, filter_swap, any_push, each_append, last_is_end, behind_is_end, map_filter, rises_push, slice_get-push_cases, slice_get-each, entry_at-append, entry_at-push, entry_at_place}
+use Rattle.pana_hall.proofs.Lists.{filter_true, each_filter, each_weaker, filter_same, filter_all, filter_swap, any_push, each_append, last_is_end, behind_is_end, map_filter, rises_push, slice_get-push_cases, slice_get-each, at-append, at-push, entry_at_place}
 use Rattle.std.proofs.lemmas.List.{length-append, map-append}
 use Rattle.pana_hall.specs.Accepted.{Accepts, AcceptsAll, IsAccepted}
 use Rattle.pana_hall.specs.laws.Layers.{AreRising}
@@ -424,8 +424,8 @@ sound_grows most journal entry sound accepts =
             tt,
           );
       found = each_append _ journal (entry ∷ [])
-          (each_weaker (λ e. entry_at journal e.number ≡ Some e) _ journal (λ e h. entry_at-append journal (entry ∷ []) e.number e h) sound.found)
-          (ap (entry_at (journal ++ entry ∷ [])) next ∙ entry_at-push journal entry, tt);
+          (each_weaker (λ e. entry_at journal e.number ≡ Some e) _ journal (λ e h. at-append journal (entry ∷ []) e.number e h) sound.found)
+          (ap (entry_at (journal ++ entry ∷ [])) next ∙ at-push journal entry, tt);
       numbered = λ i e at. elim (slice_get-push_cases journal entry i e at) [
         | inl before ↦ sound.numbered i e before
         | inr now ↦ let place = now.0 in let number : entry.number ≡ e.number = ap (λ x. x.number) now.1 in omega arith

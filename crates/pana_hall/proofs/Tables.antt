@@ -19,7 +19,7 @@ use Rattle.pana_hall.specs.Refusal.{report_refusal, full, unknown_entry, not_you
 use Rattle.pana_hall.specs.Accepted.{Accepts, IsAccepted}
 use Rattle.pana_hall.specs.laws.Tables.{table, layer}
 use Rattle.pana_hall.specs.laws.Layers.{family_of_next, AddsLayer, DropsLayer, KeepsLayers, LeavesAlone, AreRising, AreMerged}
-use Rattle.pana_hall.proofs.Lists.{each_filter, each_weaker, filter_all, filter_swap, filter_filter, any_push, last_push, last_end, behind_is_end, is_last_push, each_last, rises_lower, rises_filter, rises_last, each_right, entry_at-push, each_map}
+use Rattle.pana_hall.proofs.Lists.{each_filter, each_weaker, filter_all, filter_swap, filter_filter, any_push, last_push, last_end, behind_is_end, is_last_push, each_last, rises_lower, rises_filter, rises_last, each_right, at-push, each_map, rises_map}
 use Rattle.pana_hall.proofs.Moves.{IsWell, Fits, copies_of-family, copies_of-push, copy_in-family, report_fits, rises_after, found_fits}
 use Rattle.pana_hall.proofs.Sound.{own, each_effective, own_copies, own_confirm, own_withdraw, own_other, pending-push, pending_is, first_none, none_false, IsSound, keeps_families, living_fit, family_named, OfCopies, Confirms, Withdraws, kind_of, pend_copies, family_new, effective_well, in_accepted}
 use Rattle.std.proofs.lemmas.Option.{slice_get_past}
@@ -179,10 +179,6 @@ rises_effective low (x ∷ journal) rises =
       | false ↦ rises_lower (λ e. e.number) x.number low (effective journal) (omega arith) (rises_effective x.number journal rises.1)
     ]
 
-rises_numbers : (low : ℕ) (entries : List Entry) → AreRising (λ e. e.number) low entries → AreRising (λ n. n) low (map (λ e. e.number) entries)
-rises_numbers low [] rises = tt
-rises_numbers low (e ∷ entries) rises = (rises.0, rises_numbers e.number entries rises.1)
-
 rises_end : (low : ℕ) (prefix numbers : List ℕ) → AreRising (λ n. n) low (prefix ++ numbers) → AreRising (λ n. n) low numbers
 rises_end low [] numbers rises = rises
 rises_end low (n ∷ prefix) numbers rises = let first = rises.0 in rises_lower (λ k. k) n low numbers (omega arith) (rises_end n prefix numbers rises.1)
@@ -194,7 +190,7 @@ own_rises family journal rises = rises_filter (λ e. e.number) 0 _ (effective jo
 pub pending_rises : (most family : ℕ) (journal : List Entry) → IsSound most journal → AreRising (λ n. n) 0 (pending most family journal)
 pending_rises most family journal sound =
     let ends = sound.ends family in
-    rises_end 0 ends.0 (pending most family journal) (subst (AreRising (λ n. n) 0) ends.1 (rises_numbers 0 (own family journal) (own_rises family journal sound.rising)))
+    rises_end 0 ends.0 (pending most family journal) (subst (AreRising (λ n. n) 0) ends.1 (rises_map (λ e. e.number) (λ e. e.number) (λ n. n) (λ e. refl) 0 (own family journal) (own_rises family journal sound.rising)))
 
 -- a family whose last pending entry is m: it is the last of the family's effective entries, and all others are below it
 pub record EndsIn (most m : ℕ) (journal : List Entry) : Type 0 where
@@ -417,7 +413,7 @@ known_grows most journal entry accepts known n =
       | true ↦ λ e.
           let here : n ≡ length journal + 1 = sym (eqb-true entry.number n e) ∙ next in
           let none : has (begun journal) n ≡ false = sym (known n) ∙ ap (λ k. has_report is_register (entry_at journal k)) here ∙ ap (has_report is_register) (entry_at-past journal) in
-          ap (λ k. has_report is_register (entry_at (journal ++ entry ∷ []) k)) here ∙ ap (has_report is_register) (entry_at-push journal entry)
+          ap (λ k. has_report is_register (entry_at (journal ++ entry ∷ []) k)) here ∙ ap (has_report is_register) (at-push journal entry)
           ∙ elim (is_register entry.report) as (λ r. r ≡ cond r true false) [ true ↦ refl | false ↦ refl ]
           ∙ ap (λ t. t || cond (is_register entry.report) true false) (sym none)
       | false ↦ λ e.
