@@ -17,8 +17,8 @@ use Rattle.pana_hall.specs.laws.Tables.{layer}
 use Rattle.pana_hall.specs.laws.Layers.{family_of_next, AreRising}
 use Rattle.pana_hall.specs.inner.Kept.{of_each, of_pending, family_of, next_entry, place_before, undone_of}
 use Rattle.pana_hall.proofs.Lists.{each_append, each_weaker, at-push, rises_each}
-use Rattle.pana_hall.proofs.Sound.{first_none, none_false, IsSound, family_named, family_new}
-use Rattle.pana_hall.proofs.Tables.{pending_report, pending_other, pending_rises, layer_undone, layer_confirm, layer_withdraw, layer_other, pends, pending_withdraw, none_of, entry_at-other, layer_report, layer_new, pending_each}
+use Rattle.pana_hall.proofs.Sound.{first_none, none_false, IsSound, family_named, family_new, pends}
+use Rattle.pana_hall.proofs.Tables.{layer_undone, layer_confirm, layer_withdraw, layer_other, none_of, entry_at-other, layer_report, layer_new, pending_report, pending_withdraw, pending_other, pending_each, pending_rises}
 use Rattle.pana_copies.specs.declared.place.Place.{Place}
 use Rattle.pana_journal.specs.Entries.{entry_at}
 use Rattle.pana_hall.specs.StampRows.{rows_after, rows_of}

@@ -86,17 +86,6 @@ module _ {journal : List Entry} {by : List ℕ} {report : Report} {it : KeptRows
       let above = next_above journal entry (accepted_is_sound 8 journal ready.accepted) (accepts_next journal by report ready.free) (layers_stand journal ready.accepted 0 (family_of_next journal entry)) in
       subst (λ k. AreBefore (k + 1) it.rows) (sym is) (subst (λ (k : KeptRows). AreBefore (length journal + 1) k.rows) (sym ready.kept) above.0)
 
-  -- where a copy is kept
-  pub place_there : IsReady journal by report it copies → (c : ℕ) → place_of copies c ≡ option_map (λ copy. copy.place) (copy_in (living journal) c)
-  place_there ready c = place_spots journal copies ready.spots c
-
-  pub at_place : IsReady journal by report it copies → (c : ℕ) (place : Place) → place_of copies c ≡ Some place → (copy : Copy) × (copy_in (living journal) c ≡ Some copy) × (copy.place ≡ place)
-  at_place ready c place at = at_spots journal copies ready.spots c place at
-
-  -- a place that isn't taken is free
-  pub is_free : IsReady journal by report it copies → (place : Place) → taken place (living journal) ≡ None → IsFree place copies
-  is_free ready place free = free_spots journal copies ready.spots place free
-
   -- the next number is no copy's
   pub is_fresh : IsReady journal by report it copies → (n : ℕ) → n ≡ length journal → kept copies (n + 1) ≡ None
   is_fresh ready n is =
@@ -256,11 +245,11 @@ module _ {journal : List Entry} {by : List ℕ} {report : Report} {it : KeptRows
   -- a place that a report gives a copy is free
   free_duplicate : {source : ℕ} {place : Place} → report ≡ Duplicate source place → IsFree place copies
   free_duplicate {source} {place} is =
-      is_free ready place (first_none (taken place (living journal)) _ (first_none (unknown source (living journal)) _ (first_none (full journal) _ (as_is ready is).free).1).1).0
+      free_spots journal copies ready.spots place (first_none (taken place (living journal)) _ (first_none (unknown source (living journal)) _ (first_none (full journal) _ (as_is ready is).free).1).1).0
 
   free_relocate : {c : ℕ} {place : Place} → report ≡ Relocate c place → IsFreeFor c place copies
   free_relocate {c} {place} is number at =
-      absurd (is_free ready place (first_none (taken place (living journal)) [] (first_none (unknown c (living journal)) _ (first_none (full journal) _ (as_is ready is).free).1).1).0 number at)
+      absurd (free_spots journal copies ready.spots place (first_none (taken place (living journal)) [] (first_none (unknown c (living journal)) _ (first_none (full journal) _ (as_is ready is).free).1).1).0 number at)
 
   -- so the copy can be kept as it says
   pub can_place : (n : ℕ) → n ≡ length journal → (r : Report) → report ≡ r → CanPlace (n + 1) r it.number copies
@@ -275,7 +264,7 @@ module _ {journal : List Entry} {by : List ℕ} {report : Report} {it : KeptRows
   place_now =
       elim (displaced report) as (λ o. displaced report ≡ o → option_and_then (place_of copies) o ≡ option_and_then (λ c. option_map (λ copy. copy.place) (copy_in (copies_of (layer 8 0 it.number journal)) c)) o) [
         | None ↦ λ e. refl
-        | Some c ↦ λ e. place_there ready c ∙ ap (option_map (λ copy. copy.place)) (sym (own_copy ready c (named ready c (displaced_named report c e)).of))
+        | Some c ↦ λ e. place_spots journal copies ready.spots c ∙ ap (option_map (λ copy. copy.place)) (sym (own_copy ready c (named ready c (displaced_named report c e)).of))
       ] refl
 
   -- the family, once the report is accepted

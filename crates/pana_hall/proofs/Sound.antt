@@ -2,7 +2,7 @@
 use Rattle.std.specs.Prelude.{◌≡◌, ℕ, Bool, true, false, not, List, ◌∷◌, Option, Some, None, is_none, option_map, find, ◌≢◌, ◌<◌, cond, ◌&&◌, ◌||◌, ◌==◌, [], ◌++◌, filter, fold, ◌+◌, ◌≤◌, length, map, slice_get, ◌-◌, ◌⊎◌}
 use Rattle.std.specs.Bool.{then_some}
 use Rattle.std.proofs.Common.{refl, ap, ◌∙◌, arith, append-nil, sym, subst, inl, inr, append_assoc}
-use Rattle.std.proofs.lemmas.Bool.{eqb-true, not-false, eq-eqb, ne_eqb, eqb-false}
+use Rattle.std.proofs.lemmas.Bool.{eqb-true, not-false, eq-eqb, ne_eqb, cases_eq}
 use Rattle.pana_copies.specs.declared.place.Place.{Place}
 use Rattle.pana_copies.specs.Places.{same_place}
 use Rattle.pana_journal.specs.declared.entry.Entry.{Entry}
@@ -23,7 +23,7 @@ use Rattle.pana_hall.specs.Pending.{pending, pend, last, behind}
 use Rattle.pana_hall.proofs.Lists.{filter_true, each_filter, each_weaker, filter_same, filter_all, filter_swap, any_push, each_append, last_is_end, behind_is_end, map_filter, rises_push, slice_get-push_cases, slice_get-each, at-append, at-push, entry_at_place}
 use Rattle.std.proofs.lemmas.List.{length-append, map-append}
 use Rattle.pana_hall.specs.Accepted.{Accepts, AcceptsAll, IsAccepted}
-use Rattle.pana_hall.specs.laws.Layers.{AreRising}
+use Rattle.pana_hall.specs.laws.Layers.{AreRising, family_of_next}
 use Rattle.pana_hall.proofs.Moves.{Names, subject_none, subject_named, Joins, Belongs, IsWell, Fits, found_fits, copies_fit}
 
 -- What follows for the journal where a report isn't refused.
@@ -320,56 +320,6 @@ pend_copies most n (Confirm m) numbers e = absurd (cc)
 pend_copies most n (Withdraw m) numbers e = absurd (cc)
 pend_copies most n report numbers e = refl
 
-ends_copies : (most family : ℕ) (journal : List Entry) (entry : Entry) → IsSound most journal → KeepsFamilies journal entry → is_of_copies entry.report ≡ true → EndsInPending most family (journal ++ entry ∷ [])
-ends_copies most family journal entry sound keeps of_copies =
-    let ends = sound.ends family in
-    let numbers = pending most family journal in
-    rw (own_copies family journal entry keeps of_copies, pending-push most family journal entry keeps)
-    (elim (families (journal ++ entry ∷ []) entry.number == family) as (λ b. (prefix : List ℕ)
-    × (map (λ e. e.number) (own family journal ++ cond b (entry ∷ []) []) ≡ prefix ++ cond b (pend most entry.number entry.report numbers) numbers)) [
-      | true ↦
-          let cut = last_is_end most (numbers ++ entry.number ∷ []) in (
-            ends.0 ++ cut.0,
-            map-append (λ e. e.number) (own family journal) (entry ∷ [])
-                ∙ ap (λ l. l ++ entry.number ∷ []) ends.1
-                ∙ append_assoc ends.0 numbers (entry.number ∷ [])
-                ∙ ap (λ l. ends.0 ++ l) cut.1
-                ∙ sym (append_assoc ends.0 cut.0 _)
-                ∙ ap (λ l. (ends.0 ++ cut.0) ++ l) (sym (pend_copies most entry.number entry.report numbers of_copies)),
-          )
-      | false ↦ (ends.0, ap (map (λ e. e.number)) (append-nil (own family journal)) ∙ ends.1)
-    ])
-
-ends_confirm : (most family : ℕ) (journal : List Entry) (entry : Entry) (m : ℕ) → IsSound most journal → KeepsFamilies journal entry → entry.report ≡ Confirm m → EndsInPending most family (journal ++ entry ∷ [])
-ends_confirm most family journal entry m sound keeps is =
-    let ends = sound.ends family in
-    let numbers = pending most family journal in
-    let cut = behind_is_end m numbers in
-    rw (own_confirm family journal entry m keeps is, pending_is most family journal entry (Confirm m) keeps is)
-    (elim (families (journal ++ entry ∷ []) entry.number == family) as (λ b. (prefix : List ℕ)
-    × (map (λ e. e.number) (own family journal) ≡ prefix ++ cond b (behind m numbers) numbers)) [
-      | true ↦ (ends.0 ++ cut.0, ends.1 ∙ ap (λ l. ends.0 ++ l) cut.1 ∙ sym (append_assoc ends.0 cut.0 (behind m numbers)))
-      | false ↦ ends
-    ])
-
-ends_withdraw : (most family : ℕ) (journal : List Entry) (entry : Entry) (m : ℕ) → IsSound most journal → KeepsFamilies journal entry → entry.report ≡ Withdraw m → EndsInPending most family (journal ++ entry ∷ [])
-ends_withdraw most family journal entry m sound keeps is =
-    let ends = sound.ends family in
-    let numbers = pending most family journal in
-    let here = family_named most journal entry m (inr is) in
-    rw (own_withdraw family journal entry m keeps is, pending_is most family journal entry (Withdraw m) keeps is)
-    (elim (families (journal ++ entry ∷ []) entry.number == family) as (λ b. (families (journal ++ entry ∷ []) entry.number == family) ≡ b → (prefix : List ℕ)
-    × (map (λ e. e.number) (filter (λ e. not (m == e.number)) (own family journal)) ≡ prefix ++ cond b (filter (λ n. not (m == n)) numbers) numbers)) [
-      | true ↦ λ e. (
-        filter (λ n. not (m == n)) ends.0,
-        map_filter (λ e. e.number) (λ n. not (m == n)) (own family journal) ∙ ap (filter (λ n. not (m == n))) ends.1 ∙ filter-append _ ends.0 numbers,
-      )
-      | false ↦ λ e. (
-        ends.0,
-        ap (map (λ e. e.number)) (own_other family (families journal) m (effective journal) (λ h. eqb-false _ family e (here ∙ h))) ∙ ends.1,
-      )
-    ] refl)
-
 -- the family of the next entry is its own number, or an earlier one
 bounded_new : (most : ℕ) (journal : List Entry) (n : ℕ) (by : List ℕ) (report : Report) → IsSound most journal → n ≡ length journal + 1
     → report_refusal most journal (living journal) by report ≡ None → begun_or_joined (families journal) n (subject report) ≤ n
@@ -396,6 +346,60 @@ bounded_new most journal n by report sound next free =
             omega arith
       ]
     ] refl
+
+-- a report of copies is the last of its family's entries
+pub own_report : (most : ℕ) (journal : List Entry) (entry : Entry) → IsSound most journal → Accepts most journal entry → is_of_copies entry.report ≡ true
+    → own (family_of_next journal entry) (journal ++ entry ∷ []) ≡ own (family_of_next journal entry) journal ++ entry ∷ []
+own_report most journal entry sound accepts of_copies =
+    let family = family_of_next journal entry in
+    own_copies family journal entry (keeps_families most journal entry sound accepts.next) of_copies ∙ ap (λ b. own family journal ++ cond b (entry ∷ []) []) (eq-eqb family family refl)
+
+-- the family's pending list after its next entry
+pub pends : (most : ℕ) (journal : List Entry) (entry : Entry) (report : Report) → IsSound most journal → Accepts most journal entry → entry.report ≡ report
+    → pending most (family_of_next journal entry) (journal ++ entry ∷ []) ≡ pend most entry.number report (pending most (family_of_next journal entry) journal)
+pends most journal entry report sound accepts is =
+    let family = family_of_next journal entry in
+    pending_is most family journal entry report (keeps_families most journal entry sound accepts.next) is
+    ∙ ap (λ b. cond b (pend most entry.number report (pending most family journal)) (pending most family journal)) (eq-eqb family family refl)
+
+-- it leaves the entries of the other families, and what is pending there
+pub left_by : (most family : ℕ) (journal : List Entry) (entry : Entry) → KeepsFamilies journal entry → families (journal ++ entry ∷ []) entry.number ≢ family
+    → (own family (journal ++ entry ∷ []) ≡ own family journal) × (pending most family (journal ++ entry ∷ []) ≡ pending most family journal)
+left_by most family journal entry keeps other =
+    let apart : (families (journal ++ entry ∷ []) entry.number == family) ≡ false = ne_eqb (families (journal ++ entry ∷ []) entry.number) family other in (
+      elim (kind_of entry.report) [
+        | OfCopies is ↦ own_copies family journal entry keeps is ∙ ap (λ b. own family journal ++ cond b (entry ∷ []) []) apart ∙ append-nil (own family journal)
+        | Confirms m is ↦ own_confirm family journal entry m keeps is
+        | Withdraws m is ↦ own_withdraw family journal entry m keeps is ∙ own_other family (families journal) m (effective journal) (λ h. other (family_named most journal entry m (inr is) ∙ h))
+      ],
+      pending-push most family journal entry keeps ∙ ap (λ b. cond b (pend most entry.number entry.report (pending most family journal)) (pending most family journal)) apart,
+    )
+
+end_of : (whole middle end : List ℕ) → ((prefix : List ℕ) × (whole ≡ prefix ++ middle)) → ((prefix : List ℕ) × (middle ≡ prefix ++ end)) → (prefix : List ℕ) × (whole ≡ prefix ++ end)
+end_of whole middle end first second = (first.0 ++ second.0, first.1 ∙ ap (λ l. first.0 ++ l) second.1 ∙ sym (append_assoc first.0 second.0 end))
+
+-- and each family's pending numbers stay the last ones of its effective entries
+ends_next : (most : ℕ) (journal : List Entry) (entry : Entry) → IsSound most journal → Accepts most journal entry → (family : ℕ) → EndsInPending most family (journal ++ entry ∷ [])
+ends_next most journal entry sound accepts family =
+    let keeps = keeps_families most journal entry sound accepts.next in
+    let own_family = family_of_next journal entry in
+    let ends = sound.ends own_family in
+    let numbers = pending most own_family journal in
+    elim (cases_eq own_family family) [
+      | inr other ↦ let left = left_by most family journal entry keeps other in rw (left.0, left.1) (sound.ends family)
+      | inl here ↦ subst (λ f. EndsInPending most f (journal ++ entry ∷ [])) here (elim (kind_of entry.report) [
+        | OfCopies is ↦
+            rw (own_report most journal entry sound accepts is, pends most journal entry entry.report sound accepts refl, pend_copies most entry.number entry.report numbers is)
+            (end_of _ (numbers ++ entry.number ∷ []) (last most (numbers ++ entry.number ∷ []))
+            (ends.0, map-append (λ e. e.number) (own own_family journal) (entry ∷ []) ∙ ap (λ l. l ++ entry.number ∷ []) ends.1 ∙ append_assoc ends.0 numbers (entry.number ∷ []))
+            (last_is_end most (numbers ++ entry.number ∷ [])))
+        | Confirms m is ↦ rw (own_confirm own_family journal entry m keeps is, pends most journal entry (Confirm m) sound accepts is) (end_of _ numbers (behind m numbers) ends (behind_is_end m numbers))
+        | Withdraws m is ↦ rw (own_withdraw own_family journal entry m keeps is, pends most journal entry (Withdraw m) sound accepts is) (
+          filter (λ n. not (m == n)) ends.0,
+          map_filter (λ e. e.number) (λ n. not (m == n)) (own own_family journal) ∙ ap (filter (λ n. not (m == n))) ends.1 ∙ filter-append _ ends.0 numbers,
+        )
+      ])
+    ]
 
 -- one entry more that isn't refused
 pub sound_grows : (most : ℕ) (journal : List Entry) (entry : Entry) → IsSound most journal → Accepts most journal entry → IsSound most (journal ++ entry ∷ [])
@@ -432,11 +436,7 @@ sound_grows most journal entry sound accepts =
       ];
       rising = rises_push (λ e. e.number) 0 journal entry sound.rising
           (each_weaker (IsWell (families journal) (length journal)) _ journal (λ e well. let within = well.within in omega arith) sound.well) (omega arith);
-      ends = λ family. elim (kind_of entry.report) [
-        | OfCopies is ↦ ends_copies most family journal entry sound keeps is
-        | Confirms m is ↦ ends_confirm most family journal entry m sound keeps is
-        | Withdraws m is ↦ ends_withdraw most family journal entry m sound keeps is
-      ];
+      ends = ends_next most journal entry sound accepts;
     }
 
 pub empty_is_sound : (most : ℕ) → IsSound most []

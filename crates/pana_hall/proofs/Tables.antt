@@ -18,10 +18,10 @@ use Rattle.pana_journal.specs.Entries.{entry_at}
 use Rattle.pana_hall.specs.Refusal.{report_refusal, full, unknown_entry, not_yours, settled_or_followed, pending_with, taken_since}
 use Rattle.pana_hall.specs.Accepted.{Accepts, IsAccepted}
 use Rattle.pana_hall.specs.laws.Tables.{table, layer}
-use Rattle.pana_hall.specs.laws.Layers.{family_of_next, AddsLayer, DropsLayer, KeepsLayers, LeavesAlone, AreRising, AreMerged}
+use Rattle.pana_hall.specs.laws.Layers.{family_of_next, AddsLayer, AreRising, AreMerged}
 use Rattle.pana_hall.proofs.Lists.{each_filter, each_weaker, filter_all, filter_swap, filter_filter, any_push, last_push, last_end, behind_is_end, is_last_push, each_last, rises_lower, rises_filter, rises_last, each_right, at-push, each_map, rises_map}
 use Rattle.pana_hall.proofs.Moves.{IsWell, Fits, copies_of-family, copies_of-push, copy_in-family, report_fits, rises_after, found_fits}
-use Rattle.pana_hall.proofs.Sound.{own, each_effective, own_copies, own_confirm, own_withdraw, own_other, pending-push, pending_is, first_none, none_false, IsSound, keeps_families, living_fit, family_named, OfCopies, Confirms, Withdraws, kind_of, pend_copies, family_new, effective_well, in_accepted}
+use Rattle.pana_hall.proofs.Sound.{own, each_effective, own_confirm, own_withdraw, first_none, none_false, IsSound, keeps_families, living_fit, family_named, pend_copies, family_new, effective_well, in_accepted, pends, own_report, left_by, accepted_is_sound, sound_grows}
 use Rattle.std.proofs.lemmas.Option.{slice_get_past}
 use Rattle.std.proofs.Math.Bool.{or-false}
 use Rattle.pana_hall.specs.Queries.{begun}
@@ -68,21 +68,6 @@ own_below most family n journal sound next =
     each_filter _ _ (effective journal) (each_effective _ journal
     (each_weaker (IsWell (families journal) (length journal)) _ journal (λ e well. let within = well.within in ap not (ne_eqb n e.number (λ h. omega arith))) sound.well))
 
--- a report of copies is the last of its family's entries
-pub own_report : (most : ℕ) (journal : List Entry) (entry : Entry) → IsSound most journal → Accepts most journal entry → is_of_copies entry.report ≡ true
-    → own (family_of_next journal entry) (journal ++ entry ∷ []) ≡ own (family_of_next journal entry) journal ++ entry ∷ []
-own_report most journal entry sound accepts of_copies =
-    let family = family_of_next journal entry in
-    own_copies family journal entry (keeps_families most journal entry sound accepts.next) of_copies ∙ ap (λ b. own family journal ++ cond b (entry ∷ []) []) (eq-eqb family family refl)
-
--- the family's pending list after its next entry
-pub pends : (most : ℕ) (journal : List Entry) (entry : Entry) (report : Report) → IsSound most journal → Accepts most journal entry → entry.report ≡ report
-    → pending most (family_of_next journal entry) (journal ++ entry ∷ []) ≡ pend most entry.number report (pending most (family_of_next journal entry) journal)
-pends most journal entry report sound accepts is =
-    let family = family_of_next journal entry in
-    pending_is most family journal entry report (keeps_families most journal entry sound accepts.next) is
-    ∙ ap (λ b. cond b (pend most entry.number report (pending most family journal)) (pending most family journal)) (eq-eqb family family refl)
-
 pub pending_report : (most : ℕ) (journal : List Entry) (entry : Entry) → IsSound most journal → Accepts most journal entry → is_of_copies entry.report ≡ true
     → pending most (family_of_next journal entry) (journal ++ entry ∷ []) ≡ last most (pending most (family_of_next journal entry) journal ++ entry.number ∷ [])
 pending_report most journal entry sound accepts of_copies = pends most journal entry entry.report sound accepts refl ∙ pend_copies most entry.number entry.report _ of_copies
@@ -127,22 +112,20 @@ layer_confirm most m k journal entry sound accepts is within =
 
 pub pending_other : (most family : ℕ) (journal : List Entry) (entry : Entry) → IsSound most journal → Accepts most journal entry → family_of_next journal entry ≢ family
     → pending most family (journal ++ entry ∷ []) ≡ pending most family journal
-pending_other most family journal entry sound accepts other =
-    pending-push most family journal entry (keeps_families most journal entry sound accepts.next)
-    ∙ ap (λ b. cond b (pend most entry.number entry.report (pending most family journal)) (pending most family journal)) (ne_eqb (families (journal ++ entry ∷ []) entry.number) family other)
+pending_other most family journal entry sound accepts other = (left_by most family journal entry (keeps_families most journal entry sound accepts.next) other).1
 
 pub layer_other : (most k family : ℕ) (journal : List Entry) (entry : Entry) → IsSound most journal → Accepts most journal entry → family_of_next journal entry ≢ family
     → layer most k family (journal ++ entry ∷ []) ≡ layer most k family journal
 layer_other most k family journal entry sound accepts other =
-    let keeps = keeps_families most journal entry sound accepts.next in
-    let apart : (families (journal ++ entry ∷ []) entry.number == family) ≡ false = ne_eqb (families (journal ++ entry ∷ []) entry.number) family other in
-    let own' : own family (journal ++ entry ∷ []) ≡ own family journal = elim (kind_of entry.report) [
-      | OfCopies is ↦ own_copies family journal entry keeps is ∙ ap (λ b. own family journal ++ cond b (entry ∷ []) []) apart ∙ append-nil (own family journal)
-      | Confirms m is ↦ own_confirm family journal entry m keeps is
-      | Withdraws m is ↦ own_withdraw family journal entry m keeps is ∙ own_other family (families journal) m (effective journal) (λ h. other (family_named most journal entry m (inr is) ∙ h))
-    ] in
-    ap (λ l. left_out (last k l) (own family (journal ++ entry ∷ []))) (pending_other most family journal entry sound accepts other)
-    ∙ ap (λ l. left_out (last k (pending most family journal)) l) own'
+    let left = left_by most family journal entry (keeps_families most journal entry sound accepts.next) other in
+    ap (λ l. left_out (last k l) (own family (journal ++ entry ∷ []))) left.1 ∙ ap (left_out (last k (pending most family journal))) left.0
+
+-- what is one for the entries is one for the tables
+pub tables_by : (i k family : ℕ) (journal : List Entry) (entry : Entry) → IsAccepted 8 journal → Accepts 8 journal entry
+    → layer 8 i family (journal ++ entry ∷ []) ≡ layer 8 k family journal → table 8 i family (journal ++ entry ∷ []) ≡ table 8 k family journal
+tables_by i k family journal entry accepted accepts same =
+    let sound = accepted_is_sound 8 journal accepted in
+    table_own 8 i family (journal ++ entry ∷ []) (sound_grows 8 journal entry sound accepts) ∙ ap copies_of same ∙ sym (table_own 8 k family journal sound)
 
 -- the tables, of the entries
 pub adds_layer : (most : ℕ) (journal : List Entry) (entry : Entry) → IsSound most journal → IsSound most (journal ++ entry ∷ []) → Accepts most journal entry
@@ -154,20 +137,6 @@ adds_layer most journal entry sound sound' accepts of_copies =
           ∙ copies_of-push (layer most 0 family journal) entry ∙ ap (λ l. after_entry l entry) (sym (table_own most 0 family journal sound));
       undone = λ k within. table_own most (k + 1) family (journal ++ entry ∷ []) sound'
           ∙ ap copies_of (layer_undone most k journal entry sound accepts of_copies within) ∙ sym (table_own most k family journal sound);
-    }
-
-pub keeps_layers : (most m : ℕ) (journal : List Entry) (entry : Entry) → IsSound most journal → IsSound most (journal ++ entry ∷ []) → Accepts most journal entry
-    → entry.report ≡ Confirm m → KeepsLayers most (family_of_next journal entry) journal entry
-keeps_layers most m journal entry sound sound' accepts is k within =
-    let family = family_of_next journal entry in
-    table_own most k family (journal ++ entry ∷ []) sound' ∙ ap copies_of (layer_confirm most m k journal entry sound accepts is within) ∙ sym (table_own most k family journal sound)
-
-pub leaves_alone : (most family : ℕ) (journal : List Entry) (entry : Entry) → IsSound most journal → IsSound most (journal ++ entry ∷ []) → Accepts most journal entry
-    → family_of_next journal entry ≢ family → LeavesAlone most family journal entry
-leaves_alone most family journal entry sound sound' accepts other =
-    record {
-      tables = λ k. table_own most k family (journal ++ entry ∷ []) sound' ∙ ap copies_of (layer_other most k family journal entry sound accepts other) ∙ sym (table_own most k family journal sound);
-      pending = pending_other most family journal entry sound accepts other;
     }
 
 pub rises_effective : (low : ℕ) (journal : List Entry) → AreRising (λ e. e.number) low journal → AreRising (λ e. e.number) low (effective journal)
@@ -271,12 +240,6 @@ layer_withdraw most m k journal entry sound accepts is =
     ap (left_out (last k rest)) (own_withdraw family journal entry m (keeps_families most journal entry sound accepts.next) is)
     ∙ sym (left_out_push (last k rest) m (own family journal))
     ∙ ap (λ l. left_out l (own family journal)) (sym (last_push k rest m) ∙ ap (last (k + 1)) (sym (pending_withdraw most m journal entry sound accepts is)))
-
-pub drops_layer : (most m : ℕ) (journal : List Entry) (entry : Entry) → IsSound most journal → IsSound most (journal ++ entry ∷ []) → Accepts most journal entry
-    → entry.report ≡ Withdraw m → DropsLayer most (family_of_next journal entry) journal entry
-drops_layer most m journal entry sound sound' accepts is k =
-    let family = family_of_next journal entry in
-    table_own most k family (journal ++ entry ∷ []) sound' ∙ ap copies_of (layer_withdraw most m k journal entry sound accepts is) ∙ sym (table_own most (k + 1) family journal sound)
 
 -- rising numbers
 rises_fold : (low last : ℕ) (of : ℕ → ℕ) (copies : List Copy) (entries : List Entry) → AreRising (λ e. e.number) low entries → AllByRecursion (IsWell of last) entries
