@@ -13,7 +13,7 @@ use Rattle.pana_hall.specs.declared.board.BoardRow.{BoardRow}
 use Rattle.pana_hall.specs.Living.{Copy, copy_in, known_to, after_report, with_updates, moved, copies_of}
 use Rattle.pana_hall.specs.Board.{copy_relation, has_conflict, is_of, number_of, relates, row_of, is_newest, newest, board_of}
 use Rattle.pana_hall.specs.Queries.{family_row}
-use Rattle.pana_hall.proofs.Lists.{each_filter, filter_filter, filter_all, each_append, filter_swap, filter_true, map_filter, rises_filter, rises_push, each_weaker, each_last, each_left, none_under}
+use Rattle.pana_hall.proofs.Lists.{each_filter, filter_filter, filter_all, each_append, filter_swap, filter_true, map_filter, rises_filter, rises_push, each_weaker, each_last, each_left, none_under, rises_map, each_map}
 use Rattle.std.proofs.lemmas.List.{map-append, map-id, length-drop, same_from_push}
 use Rattle.std.proofs.Math.Bool.{and_comm, or-false}
 use Rattle.pana_journal.specs.declared.report.Report.{Report}
@@ -269,15 +269,10 @@ pub record AreOld (last : ℕ) (table : List Known) : Type 0 where
   pub each : AllByRecursion (IsOldKnown last) table
 
 old_map : (last : ℕ) (g : Known → Known) → ((t : Known) → (g t).copy ≡ t.copy) → ((t : Known) → IsOldKnown last t → IsOldKnown last (g t)) → (table : List Known) → AreOld last table → AreOld last (map g table)
-old_map last g kept keeps table old = record { rising = rises 0 table old.rising; each = each table old.each }
-  where
-    rises : (low : ℕ) (ts : List Known) → AreRising (λ t. t.copy) low ts → AreRising (λ t. t.copy) low (map g ts)
-    rises low [] up = tt
-    rises low (t ∷ ts) up = (subst (λ n. low < n) (sym (kept t)) up.0, subst (λ n. AreRising (λ k. k.copy) n (map g ts)) (sym (kept t)) (rises t.copy ts up.1))
-
-    each : (ts : List Known) → AllByRecursion (IsOldKnown last) ts → AllByRecursion (IsOldKnown last) (map g ts)
-    each [] all = tt
-    each (t ∷ ts) all = (keeps t all.0, each ts all.1)
+old_map last g kept keeps table old = record {
+  rising = rises_map g (λ t. t.copy) (λ t. t.copy) kept 0 table old.rising;
+  each = each_map (IsOldKnown last) g table (each_weaker (IsOldKnown last) _ table keeps old.each);
+}
 
 old_change : (last c : ℕ) (g : Known → Known) → ((t : Known) → (g t).copy ≡ t.copy) → ((t : Known) → IsOldKnown last t → IsOldKnown last (g t)) → (table : List Known) → AreOld last table → AreOld last (change c g table)
 old_change last c g kept keeps table old =

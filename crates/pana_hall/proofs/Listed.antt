@@ -4,7 +4,9 @@ use Rattle.std.specs.Bool.{then_some}
 use Rattle.std.specs.Str.{bytes_eq}
 use Rattle.std.proofs.Common.{refl, sym, ap, ◌∙◌, subst, inl, inr, arith, append-nil}
 use Rattle.std.proofs.lemmas.Bool.{eqb-true, eq-eqb, ne_eqb, cases_lt, cases_order}
-use Rattle.std.proofs.lemmas.List.{map-append, length-append, length-map}
+use Rattle.std.proofs.lemmas.Option.{get_or_from_slice_get, slice_get-map, slice_get_within}
+use Rattle.circular_buffer.proofs.Places.{slice_get-set_same}
+use Rattle.std.proofs.lemmas.List.{map-set, set-get_or, map-append, length-append, length-map}
 use Rattle.std.proofs.lemmas.List.Elements.{filter-append}
 use Rattle.pana_journal.specs.declared.entry.Entry.{Entry}
 use Rattle.pana_hall.specs.Family.{is_register, families, begun_or_joined, subject}
@@ -120,41 +122,14 @@ begun_rises journal rises = rises_map (λ e. e.number) (λ e. e.number) (λ n. n
 
 -- The families that have begun, as a list.
 
-pub get_at : {X : Type 0} (xs : List X) (p : ℕ) (x d : X) → slice_get xs p ≡ Some x → slice_index_or xs p d ≡ x
-get_at [] p x d at = absurd (cc)
-get_at (y ∷ xs) zero x d at = cc
-get_at (y ∷ xs) (suc p) x d at = get_at xs p x d at
-
-pub within_length : {X : Type 0} (xs : List X) (p : ℕ) (x : X) → slice_get xs p ≡ Some x → p < length xs
-within_length [] p x at = absurd (cc)
-within_length (y ∷ xs) zero x at = omega arith
-within_length (y ∷ xs) (suc p) x at = let rest = within_length xs p x at in omega arith
-
-set_same : {X : Type 0} (xs : List X) (p : ℕ) (x : X) → slice_get xs p ≡ Some x → slice_set xs p x ≡ xs
-set_same [] p x at = absurd (cc)
-set_same (y ∷ xs) zero x at = let same : y ≡ x = cc in ap (λ z. z ∷ xs) (sym same)
-set_same (y ∷ xs) (suc p) x at = ap (λ l. y ∷ l) (set_same xs p x at)
-
 get_unmap : {X Y : Type 0} (f : X → Y) (xs : List X) (p : ℕ) (y : Y) → slice_get (map f xs) p ≡ Some y → (x : X) × (slice_get xs p ≡ Some x) × (f x ≡ y)
 get_unmap f [] p y at = absurd (cc)
 get_unmap f (x ∷ xs) zero y at = (x, refl, cc)
 get_unmap f (x ∷ xs) (suc p) y at = get_unmap f xs p y at
 
-map_slice_set : {X Y : Type 0} (f : X → Y) (xs : List X) (p : ℕ) (x : X) → map f (slice_set xs p x) ≡ slice_set (map f xs) p (f x)
-map_slice_set f [] p x = refl
-map_slice_set f (y ∷ xs) zero x = refl
-map_slice_set f (y ∷ xs) (suc p) x = ap (λ l. f y ∷ l) (map_slice_set f xs p x)
-
-get_set : {X : Type 0} (xs : List X) (p : ℕ) (old x : X) → slice_get xs p ≡ Some old → slice_get (slice_set xs p x) p ≡ Some x
-get_set [] p old x at = absurd (cc)
-get_set (y ∷ xs) zero old x at = refl
-get_set (y ∷ xs) (suc p) old x at = get_set xs p old x at
-
 -- what is made of a number in a list
 pub get_map : {X : Type 0} (f : ℕ → X) (numbers : List ℕ) (p n : ℕ) → slice_get numbers p ≡ Some n → slice_get (map f numbers) p ≡ Some (f n)
-get_map f [] p n at = absurd (cc)
-get_map f (m ∷ numbers) zero n at = let same : m ≡ n = cc in ap (λ k. Some (f k)) same
-get_map f (m ∷ numbers) (suc p) n at = get_map f numbers p n at
+get_map f numbers p n at = slice_get-map f numbers p ∙ ap (option_map f) at
 
 rises_found : (low : ℕ) (numbers : List ℕ) (p n : ℕ) → AreRising (λ k. k) low numbers → slice_get numbers p ≡ Some n → low < n
 rises_found low [] p n rises at = absurd (cc)
@@ -212,7 +187,7 @@ takes_later {n} {list} {position} {copies} {report} {step} takes = step_later n 
 pub takes_at : {n : ℕ} {list : List ListedFamily} {position : ℕ} {copies : Table} {report : Report} {step : Step} → Takes n list position copies report step → (it d : ListedFamily) → it ≡ slice_index_or list position d
     → IsStepOf n it copies report step
 takes_at {n} {list} {position} {copies} {report} {step} takes it d is =
-    subst (λ (k : ListedFamily). IsStepOf n k copies report step) (sym (is ∙ get_at list position takes.it d takes.found)) takes.is
+    subst (λ (k : ListedFamily). IsStepOf n k copies report step) (sym (is ∙ get_or_from_slice_get list position takes.it d takes.found)) takes.is
 
 module _ (list : List ListedFamily) {journal : List Entry} {by : List ℕ} {report : Report} {position : ℕ} {copies : Table} where
   -- the family at the position
@@ -229,7 +204,7 @@ module _ (list : List ListedFamily) {journal : List Entry} {by : List ℕ} {repo
         accepted = ready.accepted;
         free = ready.free;
         later = later;
-        kept = ap listed (is ∙ get_at list position there.0 d there.1) ∙ there.2;
+        kept = ap listed (is ∙ get_or_from_slice_get list position there.0 d there.1) ∙ there.2;
         spots = ready.spots;
       }
 
@@ -242,7 +217,7 @@ module _ (list : List ListedFamily) {journal : List Entry} {by : List ℕ} {repo
       let own = family_of_next journal entry in
       let sound = accepted_is_sound 8 journal ready.accepted in
       let number : (listed it).number ≡ own = ap (λ (k : KeptRows). k.number) (ready_at ready later it d is).kept in
-      map_slice_set listed list position after_it
+      map-set listed list position after_it
       ∙ ap (λ (l : List KeptRows). slice_set l position (listed after_it)) ready.listed
       ∙ ap (slice_set (families_of journal) position) (made ∙ ap (family_of journal') number)
       ∙ map_set (family_of journal) (family_of journal') 0 (begun journal) position own (begun_rises journal sound.rising) (ready.at later)
@@ -254,18 +229,19 @@ module _ (list : List ListedFamily) {journal : List Entry} {by : List ℕ} {repo
       → all_listed (slice_set list position after_it) ≡ all_listed list
   still_there ready later it d after_it is same =
       let there = found_there ready later in
-      map_slice_set listed list position after_it
-      ∙ set_same (all_listed list) position (listed after_it)
-      (ap (λ l. slice_get l position) ready.listed ∙ get_map (family_of journal) (begun journal) position _ (ready.at later) ∙ ap (λ k. Some k) (sym (same ∙ (ready_at ready later it d is).kept)))
+      map-set listed list position after_it
+      ∙ ap (slice_set (all_listed list) position) (sym (get_or_from_slice_get (all_listed list) position (listed after_it) (listed after_it)
+      (ap (λ l. slice_get l position) ready.listed ∙ get_map (family_of journal) (begun journal) position _ (ready.at later) ∙ ap (λ k. Some k) (sym (same ∙ (ready_at ready later it d is).kept)))))
+      ∙ set-get_or (all_listed list) position (listed after_it)
 
   -- which takes what was prepared for it
   pub takes_set : IsReadyAt journal by report (all_listed list) position copies → is_register report ≡ false → (n : ℕ) (after_it : ListedFamily) (step : Step) → IsStepOf n after_it copies report step
       → Takes n (slice_set list position after_it) position copies report step
   takes_set ready later n after_it step is =
-      let there = found_there ready later in record { it = after_it; found = get_set list position there.0 after_it there.1; is = is }
+      let there = found_there ready later in record { it = after_it; found = slice_get-set_same list position after_it (slice_get_within list position there.0 there.1); is = is }
 
   pub position_within : IsReadyAt journal by report (all_listed list) position copies → is_register report ≡ false → position < length list
-  position_within ready later = let there = found_there ready later in within_length list position there.0 there.1
+  position_within ready later = let there = found_there ready later in slice_get_within list position there.0 there.1
 
 module _ {journal : List Entry} {by : List ℕ} {place : Place} {list : List KeptRows} {position : ℕ} {copies : Table} where
   pub fresh_register : IsReadyAt journal by (Register place) list position copies → kept copies (length journal + 1) ≡ None
@@ -325,7 +301,7 @@ pub entry_within : (journal : List Entry) (m : ℕ) (entry : Entry) → entry_at
 entry_within journal m entry at =
     let place = entry_at_place journal m entry at in
     let not_zero = place.0 in
-    let within = within_length journal (m - 1) entry place.1 in
+    let within = slice_get_within journal (m - 1) entry place.1 in
     (omega arith, omega arith)
 
 -- what a report names as its subject is a copy or an entry of the journal

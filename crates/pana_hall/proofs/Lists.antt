@@ -7,6 +7,8 @@ use Rattle.std.proofs.lemmas.Bool.{eqb-true, ne_eqb, eqb-false}
 use Rattle.std.proofs.lemmas.List.{drop-append-le, length-append, take-append-drop}
 use Rattle.std.proofs.lemmas.List.Elements.{filter_agree}
 use Rattle.pana_hall.specs.Pending.{last, behind, is_last}
+use Rattle.std.proofs.lemmas.Option.{slice_get_within}
+use Rattle.circular_buffer.proofs.Places.{slice_get-append_left}
 use Rattle.pana_journal.specs.declared.entry.Entry.{Entry}
 use Rattle.pana_journal.specs.Entries.{entry_at}
 use Rattle.pana_hall.specs.laws.Layers.{AreRising}
@@ -184,9 +186,7 @@ rises_last key low [] y rises = tt
 rises_last key low (x ∷ xs) y rises = (rises_above key (key x) xs y rises.1, rises_last key (key x) xs y rises.1)
 
 pub slice_get-append : {X : Type 0} (xs ys : List X) (i : ℕ) (x : X) → slice_get xs i ≡ Some x → slice_get (xs ++ ys) i ≡ Some x
-slice_get-append [] ys i x e = absurd (cc)
-slice_get-append (z ∷ xs) ys zero x e = e
-slice_get-append (z ∷ xs) ys (suc i) x e = slice_get-append xs ys i x e
+slice_get-append xs ys i x e = slice_get-append_left xs ys i (slice_get_within xs i x e) ∙ e
 
 pub slice_get-push : {X : Type 0} (xs : List X) (x : X) → slice_get (xs ++ x ∷ []) (length xs) ≡ Some x
 slice_get-push [] x = refl

@@ -14,7 +14,7 @@ use Rattle.pana_hall.specs.Family.{family_report, is_register, subject, entries_
 use Rattle.pana_hall.specs.Living.{Copy, copy_in, known_to, without, registered, duplicated, with_updates, edited, moved, after_report, after_entry, copies_of}
 use Rattle.pana_hall.specs.Refusal.{displaced}
 use Rattle.pana_hall.specs.laws.Layers.{AreRising}
-use Rattle.pana_hall.proofs.Lists.{each_append, rises_lower, rises_push, each_weaker, found_by}
+use Rattle.pana_hall.proofs.Lists.{each_append, rises_lower, rises_push, each_weaker, found_by, map_map}
 use Rattle.std.proofs.lemmas.List.Elements.{filter-append}
 use Rattle.std.proofs.lemmas.List.Sums.{fold-append}
 use Rattle.pana_journal.specs.declared.entry.Entry.{Entry}
@@ -54,8 +54,7 @@ by_map f [] = refl
 by_map f (x ∷ xs) = ap (λ l. f x ∷ l) (by_map f xs)
 
 by_maps : (f g : Copy → Copy) (xs : List Copy) → map g (map f xs) ≡ filter_map (λ x. Some (g (f x))) xs
-by_maps f g [] = refl
-by_maps f g (x ∷ xs) = ap (λ l. g (f x) ∷ l) (by_maps f g xs)
+by_maps f g xs = map_map f g xs ∙ by_map (λ x. g (f x)) xs
 
 by_filter : (c : ℕ) (xs : List Copy) → without c xs ≡ filter_map (λ x. cond (x.number == c) None (Some x)) xs
 by_filter c [] = refl

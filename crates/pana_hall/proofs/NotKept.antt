@@ -3,7 +3,7 @@ use Rattle.std.specs.Prelude.{◌≡◌, ℕ, ◌+◌, Bool, true, false, cond, 
 use Rattle.std.specs.Bool.{then_some}
 use Rattle.std.proofs.Common.{refl, sym, ap, ◌∙◌, inl, inr, subst}
 use Rattle.std.proofs.Math.Bool.{or-true}
-use Rattle.std.proofs.lemmas.Bool.{eqb-true, eq-eqb, not-false}
+use Rattle.std.proofs.lemmas.Bool.{eqb-true, eq-eqb, not-false, cases_eq}
 use Rattle.pana_journal.specs.declared.report.Report.{Report}
 use Rattle.pana_journal.specs.declared.report.Report.TheVariants.{Remove, Confirm, Withdraw}
 use Rattle.pana_journal.specs.declared.entry.Entry.{Entry}
@@ -12,11 +12,11 @@ use Rattle.pana_hall.specs.declared.cause.Cause.TheVariants.{Settled, JournalFul
 use Rattle.pana_family.specs.Updates.{has}
 use Rattle.pana_hall.specs.Family.{families}
 use Rattle.pana_hall.specs.Living.{living, Copy}
-use Rattle.pana_hall.specs.Pending.{pending, pend, last, behind, is_last}
+use Rattle.pana_hall.specs.Pending.{pending, last, behind, is_last}
 use Rattle.pana_hall.specs.Refusal.{against, report_refusal, full, unknown_entry, not_yours, settled, settled_or_followed, taken_since, first, pending_with, unknown, other_family, unknown_family, query_refusal, refusal}
 use Rattle.pana_hall.specs.Accepted.{Accepts, AcceptsAll, IsAccepted}
 use Rattle.pana_hall.proofs.Lists.{any_push, last_push, is_last-push}
-use Rattle.pana_hall.proofs.Sound.{pending-push, pending_is, first_none, none_false, IsSound, keeps_families, family_named, sound_grows, empty_is_sound, OfCopies, Confirms, Withdraws, kind_of, pend_copies}
+use Rattle.pana_hall.proofs.Sound.{first_none, none_false, IsSound, keeps_families, family_named, sound_grows, empty_is_sound, OfCopies, Confirms, Withdraws, kind_of, pend_copies, withdraw_free, left_by, pends_by}
 use Rattle.pana_hall.proofs.Tables.{last_none}
 use Rattle.std.specs.List.{AllByRecursion}
 use Rattle.pana_hall.specs.declared.call.Query.{Query}
@@ -25,6 +25,7 @@ use Rattle.pana_hall.specs.declared.call.Call.{Call}
 use Rattle.pana_hall.specs.declared.call.Call.TheVariants as calls
 use Rattle.pana_hall.specs.declared.reply.Reply.TheVariants as replies
 use Rattle.pana_hall.specs.Permit.{Permits, PermitsBy, Grants, IsShortage}
+use Rattle.pana_hall.specs.laws.Layers.{family_of_next}
 
 -- A longer pending list refuses no more than a list of one.
 
@@ -59,10 +60,10 @@ refuses_no_more k journal by (Confirm m) ends free =
     let none' : settled (k + 1) m journal ≡ None = not_refused _ Settled (has-long m (pending_with 1 m journal) (pending_with (k + 1) m journal) (ends (families journal m)) (not-false _ (none_false _ _ none))) in
     ap (λ s. first (full journal ∷ unknown_entry m journal ∷ not_yours by m journal ∷ s ∷ [])) (none' ∙ sym none) ∙ free
 refuses_no_more k journal by (Withdraw m) ends free =
-    let none = (first_none (settled_or_followed 1 m journal) _ (first_none (not_yours by m journal) _ (first_none (unknown_entry m journal) _ (first_none (full journal) _ free).1).1).1).0 in
+    let open_ = withdraw_free 1 m journal by (Withdraw m) refl free in
     let none' : settled_or_followed (k + 1) m journal ≡ None =
-    not_refused _ Settled (is_last-long m (pending_with 1 m journal) (pending_with (k + 1) m journal) (ends (families journal m)) (not-false _ (none_false _ _ none))) in
-    ap (λ s. first (full journal ∷ unknown_entry m journal ∷ not_yours by m journal ∷ s ∷ taken_since m journal ∷ [])) (none' ∙ sym none) ∙ free
+    not_refused _ Settled (is_last-long m (pending_with 1 m journal) (pending_with (k + 1) m journal) (ends (families journal m)) open_.0) in
+    ap (λ s. first (full journal ∷ unknown_entry m journal ∷ not_yours by m journal ∷ s ∷ taken_since m journal ∷ [])) (none' ∙ sym open_.1) ∙ free
 refuses_no_more k journal by (Remove c None) ends free = free
 refuses_no_more k journal by (Remove c (Some heir)) ends free = free
 refuses_no_more k journal by report ends free = free
@@ -81,35 +82,23 @@ withdrawn_one m short long (inr end) is =
 ends_grow : (k : ℕ) (journal : List Entry) (entry : Entry) → IsSound 1 journal → Accepts 1 journal entry → EndsEach (k + 1) journal → EndsEach (k + 1) (journal ++ entry ∷ [])
 ends_grow k journal entry sound accepts ends family =
     let keeps = keeps_families 1 journal entry sound accepts.next in
-    let short = pending 1 family journal in
-    let long = pending (k + 1) family journal in
-    let here = families (journal ++ entry ∷ []) entry.number == family in
-    elim (kind_of entry.report) [
-      | OfCopies is ↦ rw (pending-push 1 family journal entry keeps, pending-push (k + 1) family journal entry keeps)
-          (elim here as (λ b. EndsIt (cond b (pend 1 entry.number entry.report short) short) (cond b (pend (k + 1) entry.number entry.report long) long)) [
-            | true ↦ inr (
-              last k long,
-              entry.number,
-              pend_copies 1 entry.number entry.report short is ∙ last_push 0 short entry.number ∙ ap (λ l. l ++ entry.number ∷ []) (last_none short),
-              pend_copies (k + 1) entry.number entry.report long is ∙ last_push k long entry.number,
-            )
-            | false ↦ ends family
-          ])
-      | Confirms m is ↦ rw (pending_is 1 family journal entry (Confirm m) keeps is, pending_is (k + 1) family journal entry (Confirm m) keeps is)
-          (elim here as (λ b. EndsIt (cond b (behind m short) short) (cond b (behind m long) long)) [
-            | true ↦ inl (behind_one m short long (ends family))
-            | false ↦ ends family
-          ])
-      | Withdraws m is ↦
-          let alone : report_refusal 1 journal (living journal) entry.by (Withdraw m) ≡ None = ap (report_refusal 1 journal (living journal) entry.by) (sym is) ∙ accepts.free in
-          let none = (first_none (settled_or_followed 1 m journal) _ (first_none (not_yours entry.by m journal) _ (first_none (unknown_entry m journal) _ (first_none (full journal) _ alone).1).1).1).0 in
-          let last_one : is_last m (pending_with 1 m journal) ≡ true = not-false _ (none_false _ _ none) in
-          let named = family_named 1 journal entry m (inr is) in
-          rw (pending_is 1 family journal entry (Withdraw m) keeps is, pending_is (k + 1) family journal entry (Withdraw m) keeps is)
-          (elim here as (λ b. here ≡ b → EndsIt (cond b (filter (λ n. not (m == n)) short) short) (cond b (filter (λ n. not (m == n)) long) long)) [
-            | true ↦ λ e. inl (withdrawn_one m short long (ends family) (ap (λ f. is_last m (pending 1 f journal)) (sym (eqb-true _ family e) ∙ named) ∙ last_one))
-            | false ↦ λ e. ends family
-          ] refl)
+    let own = family_of_next journal entry in
+    let short = pending 1 own journal in
+    let long = pending (k + 1) own journal in
+    elim (cases_eq own family) [
+      | inr other ↦ rw ((left_by 1 family journal entry keeps other).1, (left_by (k + 1) family journal entry keeps other).1) (ends family)
+      | inl here ↦ subst (λ f. EndsIt (pending 1 f (journal ++ entry ∷ [])) (pending (k + 1) f (journal ++ entry ∷ []))) here (elim (kind_of entry.report) [
+        | OfCopies is ↦ rw (pends_by 1 journal entry entry.report keeps refl, pends_by (k + 1) journal entry entry.report keeps refl) (inr (
+          last k long,
+          entry.number,
+          pend_copies 1 entry.number entry.report short is ∙ last_push 0 short entry.number ∙ ap (λ l. l ++ entry.number ∷ []) (last_none short),
+          pend_copies (k + 1) entry.number entry.report long is ∙ last_push k long entry.number,
+        ))
+        | Confirms m is ↦ rw (pends_by 1 journal entry (Confirm m) keeps is, pends_by (k + 1) journal entry (Confirm m) keeps is) (inl (behind_one m short long (ends own)))
+        | Withdraws m is ↦
+            let last_one : is_last m short ≡ true = ap (λ f. is_last m (pending 1 f journal)) (family_named 1 journal entry m (inr is)) ∙ (withdraw_free 1 m journal entry.by entry.report is accepts.free).0 in
+            rw (pends_by 1 journal entry (Withdraw m) keeps is, pends_by (k + 1) journal entry (Withdraw m) keeps is) (inl (withdrawn_one m short long (ends own) last_one))
+      ])
     ]
 
 accepted_more_from : (k : ℕ) (journal entries : List Entry) → IsSound 1 journal → EndsEach (k + 1) journal → AcceptsAll 1 journal entries → AcceptsAll (k + 1) journal entries

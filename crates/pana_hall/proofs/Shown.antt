@@ -1,5 +1,5 @@
 -- Boards and holdings, as they are answered.
-use Rattle.std.specs.Prelude.{◌≡◌, ℕ, Bool, true, List, [], ◌∷◌, length, map, filter, count_by, Option, Some, IsSome, is_some, option_map, unwrap_or, ◌+◌, ◌≤◌, false, cond, ◌==◌, nat_le, ◌++◌, None, option_and_then}
+use Rattle.std.specs.Prelude.{◌≡◌, ℕ, Bool, true, List, [], ◌∷◌, length, map, filter, count_by, Option, Some, IsSome, is_some, option_map, unwrap_or, ◌+◌, ◌≤◌, false, cond, nat_le, ◌++◌, None, option_and_then}
 use Rattle.std.specs.List.{AllByRecursion}
 use Rattle.std.proofs.Common.{refl, sym, ap, ◌∙◌, subst, inl, inr, arith}
 use Rattle.std.proofs.lemmas.List.{length-map, map-append}
@@ -149,24 +149,13 @@ holdings_none low n copies device below rises = ap (λ l. holdings l device) (up
 upto_more : (low n : ℕ) (copies : List Copy) → AreRising (λ c. c.number) low copies → upto (n + 1) copies ≡ upto n copies ++ option_to_list (copy_in copies (n + 1))
 upto_more low n [] rises = refl
 upto_more low n (c ∷ copies) rises =
-    let step : (a b e : Bool) → nat_le c.number (n + 1) ≡ a → nat_le c.number n ≡ b → (c.number == n + 1) ≡ e
-    → cond a (c ∷ upto (n + 1) copies) (upto (n + 1) copies) ≡ cond b (c ∷ upto n copies) (upto n copies) ++ option_to_list (cond e (Some c) (copy_in copies (n + 1)))
-    → upto (n + 1) (c ∷ copies) ≡ upto n (c ∷ copies) ++ option_to_list (copy_in (c ∷ copies) (n + 1)) =
-    λ a b e ha hb he whole.
-    ap (λ t. cond t (c ∷ upto (n + 1) copies) (upto (n + 1) copies)) ha ∙ whole
-    ∙ sym (ap (λ t. cond t (c ∷ upto n copies) (upto n copies) ++ option_to_list (copy_in (c ∷ copies) (n + 1))) hb
-    ∙ ap (λ t. cond b (c ∷ upto n copies) (upto n copies) ++ option_to_list (cond t (Some c) (copy_in copies (n + 1)))) he) in
     elim (cases_lt n c.number) [
-      | inr before ↦ step true true false (le-leb c.number (n + 1) (omega arith)) (le-leb c.number n before) (ne_eqb c.number (n + 1) (λ h. omega arith)) (ap (λ l. c ∷ l) (upto_more c.number n copies rises.1))
+      | inr before ↦ rw (le-leb c.number (n + 1) (omega arith), le-leb c.number n before, ne_eqb c.number (n + 1) (λ h. omega arith)) (ap (λ l. c ∷ l) (upto_more c.number n copies rises.1))
       | inl past ↦ elim (cases_lt (n + 1) c.number) [
-        | inr last ↦
-            let here : c.number ≡ n + 1 = omega arith in
-            step true false true (le-leb c.number (n + 1) (omega arith)) (lt-leb c.number n past) (eq-eqb c.number (n + 1) here)
-            (ap (λ l. c ∷ l) (upto_none c.number (n + 1) copies (omega arith) rises.1) ∙ ap (λ l. l ++ c ∷ []) (sym (upto_none c.number n copies (omega arith) rises.1)))
-        | inl later ↦
-            step false false false (lt-leb c.number (n + 1) later) (lt-leb c.number n past) (ne_eqb c.number (n + 1) (λ h. omega arith))
-            (upto_none c.number (n + 1) copies (omega arith) rises.1
-            ∙ ap option_to_list (sym (none_under (λ x. x.number) c.number (n + 1) copies rises.1 (omega arith))) ∙ ap (λ l. l ++ option_to_list (copy_in copies (n + 1))) (sym (upto_none c.number n copies (omega arith) rises.1)))
+        | inr last ↦ rw (le-leb c.number (n + 1) (omega arith), lt-leb c.number n past, eq-eqb c.number (n + 1) (omega arith))
+            (rw (upto_none c.number (n + 1) copies (omega arith) rises.1, upto_none c.number n copies (omega arith) rises.1) refl)
+        | inl later ↦ rw (lt-leb c.number (n + 1) later, lt-leb c.number n past, ne_eqb c.number (n + 1) (λ h. omega arith))
+            (rw (upto_none c.number (n + 1) copies (omega arith) rises.1, upto_none c.number n copies (omega arith) rises.1, none_under (λ x. x.number) c.number (n + 1) copies rises.1 (omega arith)) refl)
       ]
     ]
 

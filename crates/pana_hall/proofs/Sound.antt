@@ -13,13 +13,13 @@ use Rattle.pana_hall.specs.Family.{has_report, families, with_entry, begun_or_jo
 use Rattle.pana_hall.specs.Effective.{is_of_copies, effective, withdraws, is_withdrawn}
 use Rattle.pana_hall.specs.Living.{Copy, copy_in, living}
 use Rattle.pana_hall.specs.Board.{is_of}
-use Rattle.pana_hall.specs.Refusal.{unknown, taken, other_family, unknown_entry, first, report_refusal, full, same, against_two}
+use Rattle.pana_hall.specs.Refusal.{unknown, taken, other_family, unknown_entry, first, report_refusal, full, same, against_two, pending_with, settled_or_followed, taken_since, not_yours}
 use Rattle.std.specs.List.{AllByRecursion}
 use Rattle.std.proofs.lemmas.List.Elements.{filter-append, filter_agree}
 use Rattle.std.proofs.lemmas.List.Sums.{fold-append}
 use Rattle.pana_journal.specs.declared.report.Report.{Report}
 use Rattle.pana_journal.specs.declared.report.Report.TheVariants.{Confirm, Withdraw, Duplicate, Edit, Reconcile, Merge, Relocate, Remove}
-use Rattle.pana_hall.specs.Pending.{pending, pend, last, behind}
+use Rattle.pana_hall.specs.Pending.{pending, pend, last, behind, is_last}
 use Rattle.pana_hall.proofs.Lists.{filter_true, each_filter, each_weaker, filter_same, filter_all, filter_swap, any_push, each_append, last_is_end, behind_is_end, map_filter, rises_push, slice_get-push_cases, slice_get-each, at-append, at-push, entry_at_place}
 use Rattle.std.proofs.lemmas.List.{length-append, map-append}
 use Rattle.pana_hall.specs.Accepted.{Accepts, AcceptsAll, IsAccepted}
@@ -297,6 +297,14 @@ named_by most journal by report m (inr is) free =
     let alone : report_refusal most journal (living journal) by (Withdraw m) ≡ None = rw is at free in
     known_entry m journal (first_none (unknown_entry m journal) _ (first_none (full journal) _ alone).1).0
 
+-- what that of a Withdraw says besides: the entry is the last that is pending
+pub withdraw_free : (most m : ℕ) (journal : List Entry) (by : List ℕ) (report : Report) → report ≡ Withdraw m → report_refusal most journal (living journal) by report ≡ None
+    → (is_last m (pending_with most m journal) ≡ true) × (settled_or_followed most m journal ≡ None) × (taken_since m journal ≡ None)
+withdraw_free most m journal by report is free =
+    let alone : report_refusal most journal (living journal) by (Withdraw m) ≡ None = rw is at free in
+    let at_end = first_none (settled_or_followed most m journal) _ (first_none (not_yours by m journal) _ (first_none (unknown_entry m journal) _ (first_none (full journal) _ alone).1).1).1 in
+    (not-false _ (none_false _ _ at_end.0), at_end.0, (first_none (taken_since m journal) [] at_end.1).0)
+
 -- the family of a Confirm or a Withdraw is that of the entry that it names
 pub family_named : (most : ℕ) (journal : List Entry) (entry : Entry) (m : ℕ) → (entry.report ≡ Confirm m) ⊎ (entry.report ≡ Withdraw m)
     → families (journal ++ entry ∷ []) entry.number ≡ families journal m
@@ -355,12 +363,15 @@ own_report most journal entry sound accepts of_copies =
     own_copies family journal entry (keeps_families most journal entry sound accepts.next) of_copies ∙ ap (λ b. own family journal ++ cond b (entry ∷ []) []) (eq-eqb family family refl)
 
 -- the family's pending list after its next entry
+pub pends_by : (most : ℕ) (journal : List Entry) (entry : Entry) (report : Report) → KeepsFamilies journal entry → entry.report ≡ report
+    → pending most (family_of_next journal entry) (journal ++ entry ∷ []) ≡ pend most entry.number report (pending most (family_of_next journal entry) journal)
+pends_by most journal entry report keeps is =
+    let family = family_of_next journal entry in
+    pending_is most family journal entry report keeps is ∙ ap (λ b. cond b (pend most entry.number report (pending most family journal)) (pending most family journal)) (eq-eqb family family refl)
+
 pub pends : (most : ℕ) (journal : List Entry) (entry : Entry) (report : Report) → IsSound most journal → Accepts most journal entry → entry.report ≡ report
     → pending most (family_of_next journal entry) (journal ++ entry ∷ []) ≡ pend most entry.number report (pending most (family_of_next journal entry) journal)
-pends most journal entry report sound accepts is =
-    let family = family_of_next journal entry in
-    pending_is most family journal entry report (keeps_families most journal entry sound accepts.next) is
-    ∙ ap (λ b. cond b (pend most entry.number report (pending most family journal)) (pending most family journal)) (eq-eqb family family refl)
+pends most journal entry report sound accepts is = pends_by most journal entry report (keeps_families most journal entry sound accepts.next) is
 
 -- it leaves the entries of the other families, and what is pending there
 pub left_by : (most family : ℕ) (journal : List Entry) (entry : Entry) → KeepsFamilies journal entry → families (journal ++ entry ∷ []) entry.number ≢ family

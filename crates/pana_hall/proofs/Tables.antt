@@ -1,10 +1,11 @@
 -- The tables of the families, as entries come.
-use Rattle.std.specs.Prelude.{◌≡◌, ◌≢◌, ℕ, ◌+◌, ◌-◌, ◌<◌, ◌≤◌, Bool, true, false, cond, not, ◌&&◌, ◌||◌, ◌==◌, List, [], ◌∷◌, ◌++◌, length, map, filter, fold, drop, Some, None, zero, suc, slice_get}
+use Rattle.std.specs.Prelude.{◌≡◌, ◌≢◌, ℕ, ◌+◌, ◌-◌, ◌<◌, ◌≤◌, Bool, true, false, cond, not, ◌&&◌, ◌||◌, ◌==◌, List, [], ◌∷◌, ◌++◌, length, map, filter, fold, drop, Some, None, slice_get}
 use Rattle.std.specs.List.{AllByRecursion}
 use Rattle.std.proofs.Common.{refl, sym, ap, ◌∙◌, subst, inr, arith, append-nil, append_assoc}
-use Rattle.std.proofs.lemmas.Bool.{eq-eqb, ne_eqb, not-false, eqb-true, eqb-false}
+use Rattle.std.proofs.lemmas.Bool.{eq-eqb, ne_eqb, eqb-true, eqb-false}
 use Rattle.std.proofs.lemmas.List.{length-drop, drop-drop, drop_all, same_from_push, map-append}
 use Rattle.std.proofs.lemmas.List.Elements.{filter_agree, filter-append}
+use Rattle.circular_buffer.proofs.Places.{slice_get-push}
 use Rattle.pana_journal.specs.declared.report.Report.{Report}
 use Rattle.pana_journal.specs.declared.report.Report.TheVariants.{Confirm, Withdraw}
 use Rattle.pana_journal.specs.declared.entry.Entry.{Entry}
@@ -15,13 +16,13 @@ use Rattle.pana_hall.specs.Living.{copy_in, living, copies_of, after_entry, Copy
 use Rattle.pana_hall.specs.Pending.{pending, pend, last, behind, is_last}
 use Rattle.pana_hall.specs.Board.{is_of}
 use Rattle.pana_journal.specs.Entries.{entry_at}
-use Rattle.pana_hall.specs.Refusal.{report_refusal, full, unknown_entry, not_yours, settled_or_followed, pending_with, taken_since}
+use Rattle.pana_hall.specs.Refusal.{report_refusal, pending_with, taken_since}
 use Rattle.pana_hall.specs.Accepted.{Accepts, IsAccepted}
 use Rattle.pana_hall.specs.laws.Tables.{table, layer}
 use Rattle.pana_hall.specs.laws.Layers.{family_of_next, AddsLayer, AreRising, AreMerged}
 use Rattle.pana_hall.proofs.Lists.{each_filter, each_weaker, filter_all, filter_swap, filter_filter, any_push, last_push, last_end, behind_is_end, is_last_push, each_last, rises_lower, rises_filter, rises_last, each_right, at-push, each_map, rises_map}
 use Rattle.pana_hall.proofs.Moves.{IsWell, Fits, copies_of-family, copies_of-push, copy_in-family, report_fits, rises_after, found_fits}
-use Rattle.pana_hall.proofs.Sound.{own, each_effective, own_confirm, own_withdraw, first_none, none_false, IsSound, keeps_families, living_fit, family_named, pend_copies, family_new, effective_well, in_accepted, pends, own_report, left_by, accepted_is_sound, sound_grows}
+use Rattle.pana_hall.proofs.Sound.{own, each_effective, own_confirm, own_withdraw, IsSound, keeps_families, living_fit, family_named, pend_copies, family_new, effective_well, in_accepted, pends, own_report, left_by, accepted_is_sound, sound_grows, withdraw_free}
 use Rattle.std.proofs.lemmas.Option.{slice_get_past}
 use Rattle.std.proofs.Math.Bool.{or-false}
 use Rattle.pana_hall.specs.Queries.{begun}
@@ -209,9 +210,7 @@ pub record Open (most m : ℕ) (journal : List Entry) : Type 0 where
 
 pub open_withdraw : (most m : ℕ) (journal : List Entry) (by : List ℕ) (report : Report) → IsSound most journal → report ≡ Withdraw m → report_refusal most journal (living journal) by report ≡ None → Open most m journal
 open_withdraw most m journal by report sound is free =
-    let alone : report_refusal most journal (living journal) by (Withdraw m) ≡ None = rw is at free in
-    let at_end = first_none (settled_or_followed most m journal) _ (first_none (not_yours by m journal) _ (first_none (unknown_entry m journal) _ (first_none (full journal) _ alone).1).1).1 in
-    record { ends = ends_at most m journal sound (not-false _ (none_false _ _ at_end.0)); free = (first_none (taken_since m journal) [] at_end.1).0 }
+    let open_ = withdraw_free most m journal by report is free in record { ends = ends_at most m journal sound open_.0; free = open_.2 }
 
 -- such a last one is taken out, and the others stay
 pub all_but_last : {X : Type 0} (key : X → ℕ) (m : ℕ) (xs : List X) (x : X) → AllByRecursion (λ y. key y < m) xs → key x ≡ m → filter (λ y. not (m == key y)) (xs ++ x ∷ []) ≡ xs
@@ -340,17 +339,11 @@ layer_new journal sound =
 
 -- The families that a journal has begun.
 
-slice_get-other : {X : Type 0} (xs : List X) (y : X) (i : ℕ) → i ≢ length xs → slice_get (xs ++ y ∷ []) i ≡ slice_get xs i
-slice_get-other [] y zero other = absurd (other refl)
-slice_get-other [] y (suc i) other = refl
-slice_get-other (x ∷ xs) y zero other = refl
-slice_get-other (x ∷ xs) y (suc i) other = slice_get-other xs y i (λ h. other (ap suc h))
-
 pub entry_at-other : (journal : List Entry) (entry : Entry) (n : ℕ) → n ≢ length journal + 1 → entry_at (journal ++ entry ∷ []) n ≡ entry_at journal n
 entry_at-other journal entry n other =
     elim (n == 0) as (λ b. (n == 0) ≡ b → cond b None (slice_get (journal ++ entry ∷ []) (n - 1)) ≡ cond b None (slice_get journal (n - 1))) [
       | true ↦ λ e. refl
-      | false ↦ λ e. let not_zero = eqb-false n 0 e in slice_get-other journal entry (n - 1) (λ h. other (omega arith))
+      | false ↦ λ e. let not_zero = eqb-false n 0 e in slice_get-push journal entry (n - 1) (λ h. other (omega arith))
     ] refl
 
 pub entry_at-past : (journal : List Entry) → entry_at journal (length journal + 1) ≡ None
