@@ -1,11 +1,11 @@
 -- Causes and answers read off what a hall keeps.
-use Rattle.std.specs.Prelude.{◌≡◌, ◌⊎◌, ℕ, ◌+◌, ◌-◌, ◌<◌, ◌≤◌, Bool, true, false, cond, not, ◌&&◌, ◌||◌, ◌==◌, nat_le, List, [], ◌∷◌, ◌++◌, length, filter, reverse, find, count_by, Option, Some, None, option_map, option_and_then, zero, suc, nat_lt, slice_index_or, map}
+use Rattle.std.specs.Prelude.{◌≡◌, ℕ, ◌+◌, ◌-◌, ◌<◌, ◌≤◌, Bool, true, false, cond, not, ◌&&◌, ◌||◌, ◌==◌, nat_le, List, [], ◌∷◌, ◌++◌, length, filter, reverse, find, count_by, Option, Some, None, option_map, option_and_then, zero, suc, nat_lt, slice_index_or, map}
 use Rattle.std.specs.Bool.{then_some}
 use Rattle.std.specs.List.{AllByRecursion, list_any}
 use Rattle.std.proofs.Common.{refl, sym, ap, ◌∙◌, subst, inl, inr, arith}
 use Rattle.std.proofs.Math.Bool.{or-true, or_comm}
 use Rattle.std.proofs.lemmas.Bool.{eq-eqb, cases_Bool, not-false, lt-ltb}
-use Rattle.std.proofs.lemmas.List.{reverse-append, map-append}
+use Rattle.std.proofs.lemmas.List.{reverse-append, map-append, reverse-reverse}
 use Rattle.std.proofs.lemmas.List.Sums.{length-filter}
 use Rattle.pana_copies.specs.declared.place.Place.{Place}
 use Rattle.pana_copies.specs.Places.{same_place}
@@ -111,32 +111,20 @@ has-reverse : (xs : List ℕ) (n : ℕ) → has (reverse xs) n ≡ has xs n
 has-reverse [] n = refl
 has-reverse (x ∷ xs) n = ap (λ l. has l n) (reverse-append (x ∷ []) xs) ∙ any_push (λ k. k == n) (reverse xs) x ∙ or_comm (has (reverse xs) n) (x == n) ∙ ap (λ b. (x == n) || b) (has-reverse xs n)
 
-pends_each : (journal : List Entry) (family n k : ℕ) (numbers : List ℕ) → list_any (λ u. u.entry == n) (of_each (undone_of journal) family journal k numbers) ≡ has numbers n
-pends_each journal family n k [] = refl
-pends_each journal family n k (m ∷ numbers) = ap (λ b. (m == n) || b) (pends_each journal family n (k + 1) numbers)
+pends_each : (journal : List Entry) (layers : ℕ → List Entry) (n : ℕ) (numbers : List ℕ) → list_any (λ u. u.entry == n) (of_each (undone_of journal) layers numbers) ≡ has numbers n
+pends_each journal layers n [] = refl
+pends_each journal layers n (m ∷ numbers) = ap (λ b. (m == n) || b) (pends_each journal (λ k. layers (k + 1)) n numbers)
 
 pends_is : (journal : List Entry) (family n : ℕ) → list_any (λ u. u.entry == n) (family_of journal family).undo ≡ has (pending 8 family journal) n
-pends_is journal family n = pends_each journal family n 1 (reverse (pending 8 family journal)) ∙ has-reverse (pending 8 family journal) n
+pends_is journal family n = pends_each journal (λ k. layer 8 (k + 1) family journal) n (reverse (pending 8 family journal)) ∙ has-reverse (pending 8 family journal) n
 
 -- the last of a list that is written the other way round is its first
-reversed : (numbers : List ℕ) → (numbers ≡ []) ⊎ ((prefix : List ℕ) × (x : ℕ) × (numbers ≡ prefix ++ x ∷ []))
-reversed [] = inl refl
-reversed (a ∷ numbers) = elim (reversed numbers) [
-  | inl none ↦ inr ([], a, ap (λ l. a ∷ l) none)
-  | inr some ↦ inr (a ∷ some.0, some.1, ap (λ l. a ∷ l) some.2)
-]
-
-ends_each : (journal : List Entry) (family n k : ℕ) (numbers : List ℕ) → ends_in n (of_each (undone_of journal) family journal k (reverse numbers)) ≡ is_last n numbers
-ends_each journal family n k numbers =
-    elim (reversed numbers) [
-      | inl none ↦ ap (λ l. ends_in n (of_each (undone_of journal) family journal k (reverse l))) none ∙ ap (is_last n) (sym none)
-      | inr some ↦
-          ap (λ l. ends_in n (of_each (undone_of journal) family journal k l)) (ap reverse some.2 ∙ reverse-append some.0 (some.1 ∷ []))
-          ∙ sym (ap (is_last n) some.2 ∙ is_last-push some.0 some.1 n)
-    ]
+ends_each : (journal : List Entry) (layers : ℕ → List Entry) (n : ℕ) (numbers : List ℕ) → ends_in n (of_each (undone_of journal) layers numbers) ≡ is_last n (reverse numbers)
+ends_each journal layers n [] = refl
+ends_each journal layers n (m ∷ numbers) = sym (ap (is_last n) (reverse-append (m ∷ []) numbers) ∙ is_last-push (reverse numbers) m n)
 
 lasts_is : (journal : List Entry) (family n : ℕ) → ends_in n (family_of journal family).undo ≡ is_last n (pending 8 family journal)
-lasts_is journal family n = ends_each journal family n 1 (pending 8 family journal)
+lasts_is journal family n = ends_each journal (λ k. layer 8 (k + 1) family journal) n (reverse (pending 8 family journal)) ∙ ap (is_last n) (reverse-reverse (pending 8 family journal))
 
 -- whether an entry is pending, or the last that is, as its family has it
 pub kept_pends : (journal : List Entry) (n : ℕ) (it : KeptRows) → it ≡ family_of journal (families journal n) → list_any (λ u. u.entry == n) it.undo ≡ has (pending_with 8 n journal) n

@@ -18,7 +18,7 @@ use Rattle.pana_hall.specs.laws.Layers.{family_of_next, AreRising}
 use Rattle.pana_hall.specs.inner.Kept.{of_each, of_pending, family_of, next_entry, place_before, undone_of}
 use Rattle.pana_hall.proofs.Lists.{each_append, each_weaker, at-push, rises_each}
 use Rattle.pana_hall.proofs.Sound.{first_none, none_false, IsSound, family_named, family_new, pends}
-use Rattle.pana_hall.proofs.Tables.{layer_undone, layer_confirm, layer_withdraw, layer_other, none_of, entry_at-other, layer_report, layer_new, pending_report, pending_withdraw, pending_other, pending_each, pending_rises}
+use Rattle.pana_hall.proofs.Tables.{layer_undone, layer_confirm, layer_withdraw, layer_other, none_of, entry_at-other, layer_report, layer_new, pending_report, pending_withdraw, pending_other, pending_each, pending_rises, rises_end}
 use Rattle.pana_copies.specs.declared.place.Place.{Place}
 use Rattle.pana_journal.specs.Entries.{entry_at}
 use Rattle.pana_hall.specs.StampRows.{rows_after, rows_of}
@@ -52,32 +52,23 @@ reverse-last k numbers =
           sym (ap (take k) whole ∙ take_at (reverse (drop cut numbers)) (reverse (take cut numbers)) k long)
     ]
 
--- what is made of pending entries, of two journals that agree
-each_same : {X : Type 0} (make : ℕ → List Entry → X) (family : ℕ) (journal journal' : List Entry) (i k : ℕ) (numbers : List ℕ)
-    → ((j : ℕ) → j < length numbers → layer 8 (i + j) family journal' ≡ layer 8 (k + j) family journal)
-    → of_each make family journal' i numbers ≡ of_each make family journal k numbers
-each_same make family journal journal' i k [] same = refl
-each_same make family journal journal' i k (n ∷ numbers) same =
-    let i_is : i + 0 ≡ i = omega arith in
-    let k_is : k + 0 ≡ k = omega arith in
-    let here : layer 8 i family journal' ≡ layer 8 k family journal = ap (λ j. layer 8 j family journal') (sym i_is) ∙ same 0 (omega arith) ∙ ap (λ j. layer 8 j family journal) k_is in
-    ap (λ l. make n l ∷ of_each make family journal' (i + 1) numbers) here
-    ∙ ap (λ l. make n (layer 8 k family journal) ∷ l) (each_same make family journal journal' (i + 1) (k + 1) numbers (λ j within.
-    let i_next : i + 1 + j ≡ i + (j + 1) = omega arith in
-    let k_next : k + 1 + j ≡ k + (j + 1) = omega arith in
-    ap (λ m. layer 8 m family journal') i_next ∙ same (j + 1) (omega arith) ∙ ap (λ m. layer 8 m family journal) (sym k_next)))
+-- what is made of pending entries with layers that agree
+each_same : {X : Type 0} (make : ℕ → List Entry → X) (layers others : ℕ → List Entry) (numbers : List ℕ) → ((k : ℕ) → k < length numbers → layers k ≡ others k) → of_each make layers numbers ≡ of_each make others numbers
+each_same make layers others [] same = refl
+each_same make layers others (n ∷ numbers) same =
+    ap (λ l. make n l ∷ of_each make (λ k. layers (k + 1)) numbers) (same 0 (omega arith))
+    ∙ ap (λ l. make n (others 0) ∷ l) (each_same make (λ k. layers (k + 1)) (λ k. others (k + 1)) numbers (λ k within. same (k + 1) (omega arith)))
 
-each_take : {X : Type 0} (make : ℕ → List Entry → X) (family : ℕ) (journal : List Entry) (k m : ℕ) (numbers : List ℕ) → of_each make family journal k (take m numbers) ≡ take m (of_each make family journal k numbers)
-each_take make family journal k zero numbers = refl
-each_take make family journal k (suc m) [] = refl
-each_take make family journal k (suc m) (n ∷ numbers) = ap (λ l. make n (layer 8 k family journal) ∷ l) (each_take make family journal (k + 1) m numbers)
+each_take : {X : Type 0} (make : ℕ → List Entry → X) (layers : ℕ → List Entry) (m : ℕ) (numbers : List ℕ) → of_each make layers (take m numbers) ≡ take m (of_each make layers numbers)
+each_take make layers zero numbers = refl
+each_take make layers (suc m) [] = refl
+each_take make layers (suc m) (n ∷ numbers) = ap (λ l. make n (layers 0) ∷ l) (each_take make (λ k. layers (k + 1)) m numbers)
 
 -- and by two ways that agree on the entries
-pub each_alike : {X : Type 0} (make other : ℕ → List Entry → X) (family : ℕ) (journal : List Entry) (k : ℕ) (numbers : List ℕ) → AllByRecursion (λ n. (l : List Entry) → make n l ≡ other n l) numbers
-    → of_each make family journal k numbers ≡ of_each other family journal k numbers
-each_alike make other family journal k [] alike = refl
-each_alike make other family journal k (n ∷ numbers) alike =
-    ap (λ x. x ∷ of_each make family journal (k + 1) numbers) (alike.0 (layer 8 k family journal)) ∙ ap (λ l. other n (layer 8 k family journal) ∷ l) (each_alike make other family journal (k + 1) numbers alike.1)
+each_alike : {X : Type 0} (make other : ℕ → List Entry → X) (layers : ℕ → List Entry) (numbers : List ℕ) → AllByRecursion (λ n. (l : List Entry) → make n l ≡ other n l) numbers → of_each make layers numbers ≡ of_each other layers numbers
+each_alike make other layers [] alike = refl
+each_alike make other layers (n ∷ numbers) alike =
+    ap (λ x. x ∷ of_each make (λ k. layers (k + 1)) numbers) (alike.0 (layers 0)) ∙ ap (λ l. other n (layers 0) ∷ l) (each_alike make other (λ k. layers (k + 1)) numbers alike.1)
 
 length-take-within : (m : ℕ) (numbers : List ℕ) → length (take m numbers) ≤ m
 length-take-within m numbers = let e = length-take m numbers in omega arith
@@ -94,16 +85,11 @@ pending_made make journal entry sound accepts is =
     let numbers = pending 8 family journal in
     let turned : reverse (pending 8 family (journal ++ entry ∷ [])) ≡ entry.number ∷ take 7 (reverse numbers) =
     ap reverse (pending_report 8 journal entry sound accepts is) ∙ reverse-last 8 (numbers ++ entry.number ∷ []) ∙ ap (take 8) (reverse-push numbers entry.number) in
-    let one : layer 8 1 family (journal ++ entry ∷ []) ≡ layer 8 0 family journal = layer_undone 8 0 journal entry sound accepts is (omega arith) in
-    let rest : of_each make family (journal ++ entry ∷ []) 2 (take 7 (reverse numbers)) ≡ take 7 (of_each make family journal 1 (reverse numbers)) =
-    each_same make family journal (journal ++ entry ∷ []) 2 1 (take 7 (reverse numbers)) (λ j within.
+    let undone_by : (k : ℕ) → k < 8 → layer 8 (k + 1) family (journal ++ entry ∷ []) ≡ layer 8 k family journal = λ k within. layer_undone 8 k journal entry sound accepts is within in
     let few = length-take-within 7 (reverse numbers) in
-    let i_is : 2 + j ≡ 1 + j + 1 = omega arith in
-    ap (λ k. layer 8 k family (journal ++ entry ∷ [])) i_is ∙ layer_undone 8 (1 + j) journal entry sound accepts is (omega arith))
-    ∙ each_take make family journal 1 7 (reverse numbers) in
-    ap (of_each make family (journal ++ entry ∷ []) 1) turned
-    ∙ ap (λ l. make entry.number l ∷ of_each make family (journal ++ entry ∷ []) 2 (take 7 (reverse numbers))) one
-    ∙ ap (λ l. make entry.number (layer 8 0 family journal) ∷ l) rest
+    ap (of_each make (λ k. layer 8 (k + 1) family (journal ++ entry ∷ []))) turned
+    ∙ each_same make (λ k. layer 8 (k + 1) family (journal ++ entry ∷ [])) (λ k. layer 8 k family journal) (entry.number ∷ take 7 (reverse numbers)) (λ k within. undone_by k (omega arith))
+    ∙ ap (λ l. make entry.number (layer 8 0 family journal) ∷ l) (each_take make (λ k. layer 8 (k + 1) family journal) 7 (reverse numbers))
 
 -- after a Withdraw: the first is no longer there
 pub pending_undone : {X : Type 0} (make : ℕ → List Entry → X) (m : ℕ) (journal : List Entry) (entry : Entry) → IsSound 8 journal → Accepts 8 journal entry → entry.report ≡ Withdraw m
@@ -114,17 +100,15 @@ pending_undone make m journal entry sound accepts is =
     let drops : (k : ℕ) → layer 8 k family (journal ++ entry ∷ []) ≡ layer 8 (k + 1) family journal = λ k. layer_withdraw 8 m k journal entry sound accepts is in
     let rest = pending 8 family (journal ++ entry ∷ []) in
     let turned : reverse (pending 8 family journal) ≡ m ∷ reverse rest = ap reverse (pending_withdraw 8 m journal entry sound accepts is) ∙ reverse-push rest m in
-    ap (of_each make family journal 1) turned
-    ∙ ap (λ l. make m (layer 8 1 family journal) ∷ l)
-    (sym (each_same make family journal (journal ++ entry ∷ []) 1 2 (reverse rest) (λ j within.
-    let k_is : 1 + j + 1 ≡ 2 + j = omega arith in drops (1 + j) ∙ ap (λ k. layer 8 k family journal) k_is)))
+    ap (of_each make (λ k. layer 8 (k + 1) family journal)) turned
+    ∙ ap (λ l. make m (layer 8 1 family journal) ∷ l) (sym (each_same make (λ k. layer 8 (k + 1) family (journal ++ entry ∷ [])) (λ k. layer 8 (k + 1 + 1) family journal) (reverse rest) (λ k within. drops (k + 1))))
 
 -- after an entry of another family
 pub pending_left : {X : Type 0} (make : ℕ → List Entry → X) (family : ℕ) (journal : List Entry) (entry : Entry) → IsSound 8 journal → Accepts 8 journal entry → family_of_next journal entry ≢ family
     → of_pending make family (journal ++ entry ∷ []) ≡ of_pending make family journal
 pending_left make family journal entry sound accepts other =
-    ap (λ l. of_each make family (journal ++ entry ∷ []) 1 (reverse l)) (pending_other 8 family journal entry sound accepts other)
-    ∙ each_same make family journal (journal ++ entry ∷ []) 1 1 (reverse (pending 8 family journal)) (λ j within. layer_other 8 (1 + j) family journal entry sound accepts other)
+    ap (λ l. of_each make (λ k. layer 8 (k + 1) family (journal ++ entry ∷ [])) (reverse l)) (pending_other 8 family journal entry sound accepts other)
+    ∙ each_same make (λ k. layer 8 (k + 1) family (journal ++ entry ∷ [])) (λ k. layer 8 (k + 1) family journal) (reverse (pending 8 family journal)) (λ k within. layer_other 8 (k + 1) family journal entry sound accepts other)
 
 -- a pending number parts the list into those before it and those behind it
 parted : (m : ℕ) (numbers : List ℕ) → has numbers m ≡ true → (prefix : List ℕ) × (numbers ≡ prefix ++ m ∷ behind m numbers)
@@ -135,39 +119,22 @@ parted m (n ∷ numbers) is =
       | false ↦ λ e h. let rest = parted m numbers h in (n ∷ rest.0, ap (λ l. n ∷ l) rest.1)
     ] refl is
 
-rises_after : (low m : ℕ) (prefix numbers : List ℕ) → AreRising (λ n. n) low (prefix ++ m ∷ numbers) → AllByRecursion (λ n. n < m) prefix × AreRising (λ n. n) m numbers
-rises_after low m [] numbers rises = (tt, rises.1)
-rises_after low m (n ∷ prefix) numbers rises =
-    let rest = rises_after n m prefix numbers rises.1 in ((below_end n m prefix numbers rises.1, rest.0), rest.1)
-  where
-    below_end : (bound k : ℕ) (xs ys : List ℕ) → AreRising (λ n. n) bound (xs ++ k ∷ ys) → bound < k
-    below_end bound k [] ys up = up.0
-    below_end bound k (x ∷ xs) ys up = let first = up.0 in let rest : x < k = below_end x k xs ys up.1 in omega arith
-
 pub each_reverse : (P : ℕ → Type 0) (numbers : List ℕ) → AllByRecursion P numbers → AllByRecursion P (reverse numbers)
 each_reverse P [] each = tt
 each_reverse P (n ∷ numbers) each = subst (AllByRecursion P) (sym (reverse-append (n ∷ []) numbers)) (each_append P (reverse numbers) (n ∷ []) (each_reverse P numbers each.1) (each.0, tt))
 
--- the items of a list up to the one of a number
-abbrev pub later : {X : Type 0} → (X → ℕ) → ℕ → List X → List X
-later key m [] = []
-later key m (x ∷ xs) = cond (key x == m) [] (x ∷ later key m xs)
-
-later_behind : {X : Type 0} (make : ℕ → List Entry → X) (key : X → ℕ) → ((n : ℕ) (l : List Entry) → key (make n l) ≡ n) → (family : ℕ) (journal : List Entry) (k m : ℕ) (numbers more : List ℕ)
-    → AllByRecursion (λ n. m < n) numbers → later key m (of_each make family journal k (numbers ++ m ∷ more)) ≡ of_each make family journal k numbers
-later_behind make key keyed family journal k m [] more above =
-    ap (λ b. cond b [] (make m (layer 8 k family journal) ∷ later key m (of_each make family journal (k + 1) more))) (eq-eqb _ m (keyed m (layer 8 k family journal)))
-later_behind make key keyed family journal k m (n ∷ numbers) more above =
+later_behind : (journal : List Entry) (layers : ℕ → List Entry) (m : ℕ) (numbers more : List ℕ) → AllByRecursion (λ n. m < n) numbers
+    → later_than m (of_each (undone_of journal) layers (numbers ++ m ∷ more)) ≡ of_each (undone_of journal) layers numbers
+later_behind journal layers m [] more above = ap (λ b. cond b [] (undone_of journal m (layers 0) ∷ later_than m (of_each (undone_of journal) (λ k. layers (k + 1)) more))) (eq-eqb m m refl)
+later_behind journal layers m (n ∷ numbers) more above =
     let first = above.0 in
-    let is = keyed n (layer 8 k family journal) in
-    ap (λ b. cond b [] (make n (layer 8 k family journal) ∷ later key m (of_each make family journal (k + 1) (numbers ++ m ∷ more)))) (ne_eqb _ m (λ h. omega arith))
-    ∙ ap (λ l. make n (layer 8 k family journal) ∷ l) (later_behind make key keyed family journal (k + 1) m numbers more above.1)
+    ap (λ b. cond b [] (undone_of journal n (layers 0) ∷ later_than m (of_each (undone_of journal) (λ k. layers (k + 1)) (numbers ++ m ∷ more)))) (ne_eqb n m (λ h. omega arith))
+    ∙ ap (λ l. undone_of journal n (layers 0) ∷ l) (later_behind journal (λ k. layers (k + 1)) m numbers more above.1)
 
 -- after a Confirm: what is later than the confirmed entry
-pub pending_confirmed : {X : Type 0} (make : ℕ → List Entry → X) (key : X → ℕ) → ((n : ℕ) (l : List Entry) → key (make n l) ≡ n) → (m : ℕ) (journal : List Entry) (entry : Entry)
-    → IsSound 8 journal → Accepts 8 journal entry → entry.report ≡ Confirm m
-    → of_pending make (family_of_next journal entry) (journal ++ entry ∷ []) ≡ later key m (of_pending make (family_of_next journal entry) journal)
-pending_confirmed make key keyed m journal entry sound accepts is =
+pending_confirmed : (before : List Entry) (m : ℕ) (journal : List Entry) (entry : Entry) → IsSound 8 journal → Accepts 8 journal entry → entry.report ≡ Confirm m
+    → of_pending (undone_of before) (family_of_next journal entry) (journal ++ entry ∷ []) ≡ later_than m (of_pending (undone_of before) (family_of_next journal entry) journal)
+pending_confirmed before m journal entry sound accepts is =
     let family = family_of_next journal entry in
     let numbers = pending 8 family journal in
     let rest = behind m numbers in
@@ -176,22 +143,22 @@ pending_confirmed make key keyed m journal entry sound accepts is =
     let none = (first_none (settled 8 m journal) [] (first_none (not_yours entry.by m journal) _ (first_none (unknown_entry m journal) _ (first_none (full journal) _ alone).1).1).1).0 in
     let in_it : has numbers m ≡ true = ap (λ f. has (pending 8 f journal) m) (family_named 8 journal entry m (inl is)) ∙ not-false _ (none_false _ _ none) in
     let cut = parted m numbers in_it in
-    let rising : AreRising (λ n. n) 0 numbers = pending_rises 8 family journal sound in
-    let parts = rises_after 0 m cut.0 rest (subst (AreRising (λ n. n) 0) cut.1 rising) in
+    let above : AreRising (λ n. n) m rest = (rises_end 0 cut.0 (m ∷ rest) (subst (AreRising (λ n. n) 0) cut.1 (pending_rises 8 family journal sound))).1 in
     let turned : reverse numbers ≡ reverse rest ++ m ∷ reverse cut.0 =
     ap reverse (cut.1 ∙ sym (append_assoc cut.0 (m ∷ []) rest)) ∙ reverse-append (cut.0 ++ m ∷ []) rest ∙ ap (λ l. reverse rest ++ l) (reverse-push cut.0 m) in
     let long : length (pending 8 family (journal ++ entry ∷ [])) ≡ length rest = ap length rest_is in
     let back : length (reverse rest) ≡ length rest = length-reverse rest in
-    ap (λ l. of_each make family (journal ++ entry ∷ []) 1 (reverse l)) rest_is
-    ∙ each_same make family journal (journal ++ entry ∷ []) 1 1 (reverse rest) (λ j within. layer_confirm 8 m (1 + j) journal entry sound accepts is (omega arith))
-    ∙ sym (later_behind make key keyed family journal 1 m (reverse rest) (reverse cut.0) (each_reverse (λ n. m < n) rest (rises_each (λ n. n) m rest parts.1)))
-    ∙ ap (λ l. later key m (of_each make family journal 1 l)) (sym turned)
+    let layers : ℕ → List Entry = λ k. layer 8 (k + 1) family journal in
+    ap (λ l. of_each (undone_of before) (λ k. layer 8 (k + 1) family (journal ++ entry ∷ [])) (reverse l)) rest_is
+    ∙ each_same (undone_of before) (λ k. layer 8 (k + 1) family (journal ++ entry ∷ [])) layers (reverse rest) (λ k within. layer_confirm 8 m (k + 1) journal entry sound accepts is (omega arith))
+    ∙ sym (later_behind before layers m (reverse rest) (reverse cut.0) (each_reverse (λ n. m < n) rest (rises_each (λ n. n) m rest above)))
+    ∙ ap (λ l. later_than m (of_each (undone_of before) layers l)) (sym turned)
 
 -- nothing is pending in the family that the next entry may begin
 pub pending_begun : {X : Type 0} (make : ℕ → List Entry → X) (journal : List Entry) → IsSound 8 journal → of_pending make (length journal + 1) journal ≡ []
 pending_begun make journal sound =
     let no_pending : pending 8 (length journal + 1) journal ≡ [] = ap (λ l. fold (λ numbers e. pend 8 e.number e.report numbers) [] l) (none_of (length journal + 1) (length journal) (families journal) journal sound.well (omega arith)) in
-    ap (λ l. of_each make (length journal + 1) journal 1 (reverse l)) no_pending
+    ap (λ l. of_each make (λ k. layer 8 (k + 1) (length journal + 1) journal) (reverse l)) no_pending
 
 -- A family of a journal, as entries come.
 
@@ -210,7 +177,7 @@ pending_within journal family sound =
 -- so what is given back stays as entries come
 undone_stays : (journal : List Entry) (entry : Entry) (family : ℕ) → IsSound 8 journal → of_pending (undone_of (journal ++ entry ∷ [])) family journal ≡ of_pending (undone_of journal) family journal
 undone_stays journal entry family sound =
-    each_alike (undone_of (journal ++ entry ∷ [])) (undone_of journal) family journal 1 (reverse (pending 8 family journal))
+    each_alike (undone_of (journal ++ entry ∷ [])) (undone_of journal) (λ k. layer 8 (k + 1) family journal) (reverse (pending 8 family journal))
     (undone_alike journal entry (reverse (pending 8 family journal)) (each_reverse (λ n. n ≤ length journal) (pending 8 family journal) (pending_within journal family sound)))
 
 -- a report of copies
@@ -256,10 +223,6 @@ family_withdraw m journal entry sound accepts is =
     ap (λ l. kept_rows family (rows_of l) (of_pending (undone_of journal') family journal')) (layer_withdraw 8 m 0 journal entry sound accepts is)
     ∙ ap (λ u. withdrawn (kept_rows family rows u)) (sym back)
 
-later_is : (m : ℕ) (undo : List Undone) → later (λ u. u.entry) m undo ≡ later_than m undo
-later_is m [] = refl
-later_is m (u ∷ undo) = ap (λ l. cond (u.entry == m) [] (u ∷ l)) (later_is m undo)
-
 -- a Confirm
 pub family_confirm : (m : ℕ) (journal : List Entry) (entry : Entry) → IsSound 8 journal → Accepts 8 journal entry → entry.report ≡ Confirm m
     → family_of (journal ++ entry ∷ []) (family_of_next journal entry) ≡ confirmed m (family_of journal (family_of_next journal entry))
@@ -267,8 +230,7 @@ family_confirm m journal entry sound accepts is =
     let family = family_of_next journal entry in
     let journal' = journal ++ entry ∷ [] in
     let rest : of_pending (undone_of journal') family journal' ≡ later_than m (of_pending (undone_of journal) family journal) =
-    pending_confirmed (undone_of journal') (λ u. u.entry) (λ n l. refl) m journal entry sound accepts is
-    ∙ later_is m (of_pending (undone_of journal') family journal) ∙ ap (later_than m) (undone_stays journal entry family sound) in
+    pending_confirmed journal' m journal entry sound accepts is ∙ ap (later_than m) (undone_stays journal entry family sound) in
     ap (λ l. kept_rows family (rows_of l) (of_pending (undone_of journal') family journal')) (layer_confirm 8 m 0 journal entry sound accepts is (omega arith))
     ∙ ap (kept_rows family (rows_of (layer 8 0 family journal))) rest
 

@@ -106,7 +106,7 @@ given_back journal m sound ends =
     let family = families journal m in
     let place_of_copy : Option Copy → Option Place = option_map (λ copy. copy.place) in
     let turned : reverse (pending 8 family journal) ≡ m ∷ reverse ends.numbers = ap reverse ends.pending ∙ reverse-append ends.numbers (m ∷ []) in
-    ap (λ l. last_place (of_each (undone_of journal) family journal 1 l)) turned
+    ap (λ l. last_place (of_each (undone_of journal) (λ k. layer 8 (k + 1) family journal) l)) turned
     ∙ ap (λ e. place_before e (copies_of (layer 8 1 family journal))) ends.at
     ∙ elim (displaced ends.last.report) as (λ d. displaced ends.last.report ≡ d → option_and_then (λ c. place_of_copy (copy_in (copies_of (layer 8 1 family journal)) c)) d ≡ place_of_copy (brought_back m journal)) [
       | None ↦ λ e. ap place_of_copy (sym (back_none sound ends e))

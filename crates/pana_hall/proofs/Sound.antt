@@ -187,19 +187,13 @@ own_other family of m entries other = filter_all _ _ (each_other entries)
           | false ↦ λ h. each_other es
         ] refl
 
-pub pending-push : (most family : ℕ) (journal : List Entry) (entry : Entry) → KeepsFamilies journal entry
-    → pending most family (journal ++ entry ∷ []) ≡ cond (families (journal ++ entry ∷ []) entry.number == family) (pend most entry.number entry.report (pending most family journal)) (pending most family journal)
-pending-push most family journal entry same =
-    ap (λ l. fold (λ numbers e. pend most e.number e.report numbers) [] l) (entries_of-push family journal entry journal same)
-    ∙ fold-append (λ numbers e. pend most e.number e.report numbers) [] (entries_of family (families journal) journal) _
-    ∙ elim (families (journal ++ entry ∷ []) entry.number == family) as (λ b. fold (λ numbers e. pend most e.number e.report numbers) (pending most family journal) (cond b (entry ∷ []) [])
-    ≡ cond b (pend most entry.number entry.report (pending most family journal)) (pending most family journal)) [ true ↦ refl | false ↦ refl ]
-
 pub pending_is : (most family : ℕ) (journal : List Entry) (entry : Entry) (report : Report) → KeepsFamilies journal entry → entry.report ≡ report
     → pending most family (journal ++ entry ∷ []) ≡ cond (families (journal ++ entry ∷ []) entry.number == family) (pend most entry.number report (pending most family journal)) (pending most family journal)
 pending_is most family journal entry report same is =
-    pending-push most family journal entry same
-    ∙ ap (λ r. cond (families (journal ++ entry ∷ []) entry.number == family) (pend most entry.number r (pending most family journal)) (pending most family journal)) is
+    ap (λ l. fold (λ numbers e. pend most e.number e.report numbers) [] l) (entries_of-push family journal entry journal same)
+    ∙ fold-append (λ numbers e. pend most e.number e.report numbers) [] (entries_of family (families journal) journal) _
+    ∙ elim (families (journal ++ entry ∷ []) entry.number == family) as (λ b. fold (λ numbers e. pend most e.number e.report numbers) (pending most family journal) (cond b (entry ∷ []) [])
+    ≡ cond b (pend most entry.number report (pending most family journal)) (pending most family journal)) [ true ↦ ap (λ r. pend most entry.number r (pending most family journal)) is | false ↦ refl ]
 
 -- What holds of each journal that refuses none of its entries.
 
@@ -383,7 +377,7 @@ left_by most family journal entry keeps other =
         | Confirms m is ↦ own_confirm family journal entry m keeps is
         | Withdraws m is ↦ own_withdraw family journal entry m keeps is ∙ own_other family (families journal) m (effective journal) (λ h. other (family_named most journal entry m (inr is) ∙ h))
       ],
-      pending-push most family journal entry keeps ∙ ap (λ b. cond b (pend most entry.number entry.report (pending most family journal)) (pending most family journal)) apart,
+      pending_is most family journal entry entry.report keeps refl ∙ ap (λ b. cond b (pend most entry.number entry.report (pending most family journal)) (pending most family journal)) apart,
     )
 
 end_of : (whole middle end : List ℕ) → ((prefix : List ℕ) × (whole ≡ prefix ++ middle)) → ((prefix : List ℕ) × (middle ≡ prefix ++ end)) → (prefix : List ℕ) × (whole ≡ prefix ++ end)

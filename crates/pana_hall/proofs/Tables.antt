@@ -149,7 +149,7 @@ rises_effective low (x ∷ journal) rises =
       | false ↦ rises_lower (λ e. e.number) x.number low (effective journal) (omega arith) (rises_effective x.number journal rises.1)
     ]
 
-rises_end : (low : ℕ) (prefix numbers : List ℕ) → AreRising (λ n. n) low (prefix ++ numbers) → AreRising (λ n. n) low numbers
+pub rises_end : (low : ℕ) (prefix numbers : List ℕ) → AreRising (λ n. n) low (prefix ++ numbers) → AreRising (λ n. n) low numbers
 rises_end low [] numbers rises = rises
 rises_end low (n ∷ prefix) numbers rises = let first = rises.0 in rises_lower (λ k. k) n low numbers (omega arith) (rises_end n prefix numbers rises.1)
 
