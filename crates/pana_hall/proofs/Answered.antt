@@ -1,56 +1,210 @@
--- Answers read off the families.
-use Rattle.std.specs.Prelude.{◌≡◌, ℕ, zero, suc, Bool, ◌-◌, ◌||◌, nat_lt, slice_index_or, ◌+◌, ◌<◌, ◌≤◌, true, false, cond, List, [], ◌∷◌, ◌++◌, length, map, filter, Some, None}
+-- Causes and answers read off what a hall keeps.
+use Rattle.std.specs.Prelude.{◌≡◌, ℕ, ◌+◌, ◌-◌, ◌<◌, ◌≤◌, Bool, true, false, cond, not, ◌&&◌, ◌||◌, ◌==◌, nat_le, List, [], ◌∷◌, ◌++◌, length, filter, reverse, find, count_by, Option, Some, None, option_map, option_and_then, zero, suc, nat_lt, slice_index_or, map}
+use Rattle.std.specs.Bool.{then_some}
 use Rattle.std.specs.List.{AllByRecursion, list_any}
-use Rattle.std.proofs.Common.{refl, sym, ap, ◌∙◌, subst, arith}
-use Rattle.std.proofs.lemmas.Bool.{not-false, lt-ltb}
-use Rattle.std.proofs.lemmas.List.{map-append}
+use Rattle.std.proofs.Common.{refl, sym, ap, ◌∙◌, subst, inl, inr, arith}
+use Rattle.std.proofs.Math.Bool.{or-true, or_comm}
+use Rattle.std.proofs.lemmas.Bool.{eq-eqb, cases_Bool, not-false, lt-ltb}
+use Rattle.std.proofs.lemmas.List.{reverse-append, map-append, reverse-reverse}
+use Rattle.std.proofs.lemmas.List.Sums.{length-filter}
+use Rattle.pana_copies.specs.declared.place.Place.{Place}
+use Rattle.pana_copies.specs.Places.{same_place}
+use Rattle.pana_copies.proofs.Kept.{one_place}
+use Rattle.pana_copies.specs.Spots.{Spot, Table, kept}
+use Rattle.pana_journal.specs.declared.entry.Entry.{Entry}
+use Rattle.pana_journal.specs.Entries.{entry_at}
+use Rattle.pana_family.specs.Updates.{has}
+use Rattle.pana_family.specs.Rows.{copy_rows, divides, lives}
+use Rattle.pana_hall.specs.declared.cause.Cause.TheVariants.{PlaceTaken, FamilyFull, TooDeep, UnknownFamily}
+use Rattle.pana_hall.specs.inner.Undo.{KeptRows, ends_in, last_place}
+use Rattle.pana_hall.specs.Family.{families, is_family, has_report, is_register}
+use Rattle.pana_hall.specs.Living.{Copy, copy_in, living, known_to}
+use Rattle.pana_hall.specs.Pending.{pending, is_last}
+use Rattle.pana_hall.specs.Refusal.{displaced, taken, taken_from, taken_since, family_full, too_deep, pending_with, unknown_family, unknown, other_family, first}
+use Rattle.pana_hall.specs.Board.{is_of}
+use Rattle.pana_hall.specs.Accepted.{IsAccepted}
+use Rattle.pana_hall.specs.laws.Tables.{layer}
+use Rattle.pana_hall.specs.inner.Kept.{of_each, AreSpots, family_of, undone_of, families_of}
+use Rattle.pana_hall.specs.StampRows.{rows_of, stamp_rows}
+use Rattle.pana_hall.specs.inner.Spots.{spot_of, IsThere, other_there}
+use Rattle.pana_hall.proofs.Lists.{is_last_push, each_weaker, any_push, is_last-push, map_map, entry_at_place, slice_get-each, found_by}
+use Rattle.pana_hall.proofs.Sound.{accepted_is_sound, first_none, known, none_false, one_family}
+use Rattle.pana_hall.proofs.Tables.{ends_at, layer_now, each_has, merged, pending_each}
+use Rattle.pana_hall.proofs.Places.{same_place-itself, none_passes, living_found, back_at}
+use Rattle.pana_hall.proofs.Stood.{count_rows, copies_sets, layers_stand, lives_rows}
+use Rattle.pana_hall.proofs.Ready.{place_spots, at_spots, family_of as family_of_copy, given_back}
+use Rattle.pana_hall.proofs.Listed.{entry_within}
+use Rattle.pana_hall.proofs.Moves.{found_number, IsWell}
 use Rattle.std.proofs.lemmas.List.Elements.{filter-append}
-use Rattle.pana_copies.specs.Spots.{Table}
 use Rattle.pana_family.specs.Table.{touch_in, Known, set_in}
 use Rattle.pana_family.specs.Table as table
-use Rattle.pana_family.specs.Rows.{copy_rows, lives}
 use Rattle.pana_family.specs.Stands.{StandsFor}
 use Rattle.pana_family.specs.declared.stamps.CopyStamp.{CopyStamp}
 use Rattle.pana_family.specs.Stamps.{AreStamps, stamps_in, text_of}
-use Rattle.pana_hall.specs.inner.Undo.{KeptRows}
 use Rattle.pana_hall.specs.inner.Listed.{all_listed, listed}
 use Rattle.pana_hall.specs.declared.listed_family.ListedFamily.{ListedFamily}
-use Rattle.pana_hall.proofs.Lists.{map_map}
-use Rattle.pana_hall.specs.Family.{families, is_family, has_report, is_register}
-use Rattle.pana_hall.specs.Living.{Copy, copy_in, known_to, living}
-use Rattle.pana_hall.specs.declared.cause.Cause.TheVariants.{UnknownFamily}
 use Rattle.pana_hall.specs.declared.family_row.FamilyRow.{FamilyRow}
-use Rattle.pana_hall.specs.Board.{is_of}
 use Rattle.pana_hall.specs.Queries.{begun, family_row}
-use Rattle.pana_hall.specs.Refusal.{unknown_family, unknown, other_family, first}
-use Rattle.pana_hall.specs.Accepted.{IsAccepted}
 use Rattle.pana_hall.specs.laws.Tables as tables
 use Rattle.pana_hall.specs.laws.Sets.{sets_at}
-use Rattle.pana_hall.specs.StampRows.{stamp_rows}
 use Rattle.pana_hall.specs.StampRows as rows
-use Rattle.pana_hall.specs.laws.Tables.{layer}
 use Rattle.pana_family.specs.declared.row.StampRow.{StampRow}
-use Rattle.pana_hall.specs.inner.Families.{family_at}
-use Rattle.pana_hall.specs.inner.Kept.{IsKept, families_of, family_of}
-use Rattle.pana_journal.specs.declared.entry.Entry.{Entry}
-use Rattle.pana_journal.specs.Entries.{entry_at}
-use Rattle.pana_hall.proofs.Locality.{IsWell}
-use Rattle.pana_hall.proofs.Rising.{entry_at_place, slice_get-each}
-use Rattle.pana_hall.proofs.Records.{found_at, entry_within}
-use Rattle.pana_hall.proofs.Allowed.{first_none, known, none_false, one_family}
-use Rattle.pana_hall.proofs.Sound.{accepted_is_sound}
-use Rattle.pana_hall.proofs.Tables.{merged}
 use Rattle.pana_hall.specs.Stamps.{AreStampsOf, as_known}
-use Rattle.pana_hall.proofs.Knowns.{row_in, row_of, set_at, touch_at}
-use Rattle.pana_hall.proofs.Mirrors.{sets_old}
-use Rattle.pana_hall.proofs.Stood.{copies_sets, count_rows, layers_stand, lives_rows}
-use Rattle.pana_hall.proofs.Ready.{family_of as family_of_copy}
+use Rattle.pana_hall.proofs.Knowns.{row_in, known_row, set_at, touch_at, sets_old}
+
+-- Causes read off what a hall keeps.
+
+-- what a test finds among the living copies is the number that the table gives, where the two agree
+find_is : (p : Copy → Bool) (journal : List Entry) (found : Option ℕ) → IsAccepted 8 journal → ((x : Copy) → copy_in (living journal) x.number ≡ Some x → p x ≡ true → found ≡ Some x.number)
+    → ((n : ℕ) → found ≡ Some n → (x : Copy) × (copy_in (living journal) n ≡ Some x) × (p x ≡ true)) → option_map PlaceTaken found ≡ option_map (λ x. PlaceTaken x.number) (find p (living journal))
+find_is p journal found accepted to from =
+    elim (find p (living journal)) as (λ o. find p (living journal) ≡ o → option_map PlaceTaken found ≡ option_map (λ x. PlaceTaken x.number) o) [
+      | Some x ↦ λ e. let here = found_by p (λ c. copy_in (living journal) c.number ≡ Some c) (living journal) x (living_found 8 journal accepted) e in ap (option_map PlaceTaken) (to x here.1 here.0)
+      | None ↦ λ e. elim found as (λ o. found ≡ o → option_map PlaceTaken o ≡ None) [
+        | None ↦ λ f. refl
+        | Some n ↦ λ f. let y = from n f in let fails : p y.0 ≡ false = none_passes p (living journal) n y.0 e y.1 in absurd (let passes = y.2 in cc)
+      ] refl
+    ] refl
+
+pub taken_is : (journal : List Entry) (copies : Table) (place : Place) (found : Option ℕ) → IsAccepted 8 journal → AreSpots journal copies → IsThere copies place found
+    → option_map PlaceTaken found ≡ taken place (living journal)
+taken_is journal copies place found accepted spots there =
+    find_is (λ copy. same_place copy.place place) journal found accepted
+    (λ x at is. (there x.number).1 (place_spots journal copies spots x.number ∙ ap (option_map (λ copy. copy.place)) at ∙ ap (λ p. Some p) (one_place x.place place is)))
+    (λ n e. let y = at_spots journal copies spots n place ((there n).0 e) in (y.0, y.1, ap (λ p. same_place p place) y.2 ∙ same_place-itself place))
+
+pub taken_from_is : (journal : List Entry) (copies : Table) (back : Copy) (found : Option ℕ) → IsAccepted 8 journal → AreSpots journal copies → IsThere copies back.place found
+    → other_there back.number found ≡ taken_from back (living journal)
+taken_from_is journal copies back found accepted spots there =
+    let other : Option ℕ = option_and_then (λ n. cond (n == back.number) None (Some n)) found in
+    other_map found ∙ find_is (λ x. not (x.number == back.number) && same_place x.place back.place) journal other accepted
+    (λ x at is.
+    let both = parts (x.number == back.number) (same_place x.place back.place) is in
+    let here = (there x.number).1 (place_spots journal copies spots x.number ∙ ap (option_map (λ copy. copy.place)) at ∙ ap (λ p. Some p) (one_place x.place back.place both.1)) in
+    ap (option_and_then (λ n. cond (n == back.number) None (Some n))) here ∙ ap (λ b. cond b None (Some x.number)) both.0)
+    (λ n e.
+    let is = other_is found n e in
+    let y = at_spots journal copies spots n back.place ((there n).0 is.0) in
+    (y.0, y.1, rw (found_number (living journal) n y.0 y.1, is.1, y.2, same_place-itself back.place) refl))
+  where
+    parts : (a b : Bool) → (not a && b) ≡ true → (a ≡ false) × (b ≡ true)
+    parts true b e = absurd (cc)
+    parts false b e = (refl, e)
+
+    other_map : (o : Option ℕ) → other_there back.number o ≡ option_map PlaceTaken (option_and_then (λ n. cond (n == back.number) None (Some n)) o)
+    other_map None = refl
+    other_map (Some n) = elim (n == back.number) as (λ b. cond b None (Some (PlaceTaken n)) ≡ option_map PlaceTaken (cond b None (Some n))) [ true ↦ refl | false ↦ refl ]
+
+    other_is : (o : Option ℕ) (n : ℕ) → option_and_then (λ k. cond (k == back.number) None (Some k)) o ≡ Some n → (o ≡ Some n) × ((n == back.number) ≡ false)
+    other_is None n e = absurd (cc)
+    other_is (Some k) n e = elim (k == back.number) as (λ b. (k == back.number) ≡ b → cond b None (Some k) ≡ Some n → (Some k ≡ Some n) × ((n == back.number) ≡ false)) [
+      | true ↦ λ t f. absurd (cc)
+      | false ↦ λ t f. let same : k ≡ n = cc in (f, ap (λ i. i == back.number) (sym same) ∙ t)
+    ] refl e
+
+    must : (a b : Bool) → b ≡ true → (not a && b) ≡ false → a ≡ true
+    must true b e f = refl
+    must false b e f = absurd (cc)
+
+-- an entry is pending, or is the last
+has-reverse : (xs : List ℕ) (n : ℕ) → has (reverse xs) n ≡ has xs n
+has-reverse [] n = refl
+has-reverse (x ∷ xs) n = ap (λ l. has l n) (reverse-append (x ∷ []) xs) ∙ any_push (λ k. k == n) (reverse xs) x ∙ or_comm (has (reverse xs) n) (x == n) ∙ ap (λ b. (x == n) || b) (has-reverse xs n)
+
+pends_each : (journal : List Entry) (layers : ℕ → List Entry) (n : ℕ) (numbers : List ℕ) → list_any (λ u. u.entry == n) (of_each (undone_of journal) layers numbers) ≡ has numbers n
+pends_each journal layers n [] = refl
+pends_each journal layers n (m ∷ numbers) = ap (λ b. (m == n) || b) (pends_each journal (λ k. layers (k + 1)) n numbers)
+
+pends_is : (journal : List Entry) (family n : ℕ) → list_any (λ u. u.entry == n) (family_of journal family).undo ≡ has (pending 8 family journal) n
+pends_is journal family n = pends_each journal (λ k. layer 8 (k + 1) family journal) n (reverse (pending 8 family journal)) ∙ has-reverse (pending 8 family journal) n
+
+-- the last of a list that is written the other way round is its first
+ends_each : (journal : List Entry) (layers : ℕ → List Entry) (n : ℕ) (numbers : List ℕ) → ends_in n (of_each (undone_of journal) layers numbers) ≡ is_last n (reverse numbers)
+ends_each journal layers n [] = refl
+ends_each journal layers n (m ∷ numbers) = sym (ap (is_last n) (reverse-append (m ∷ []) numbers) ∙ is_last-push (reverse numbers) m n)
+
+lasts_is : (journal : List Entry) (family n : ℕ) → ends_in n (family_of journal family).undo ≡ is_last n (pending 8 family journal)
+lasts_is journal family n = ends_each journal (λ k. layer 8 (k + 1) family journal) n (reverse (pending 8 family journal)) ∙ ap (is_last n) (reverse-reverse (pending 8 family journal))
+
+-- whether an entry is pending, or the last that is, as its family has it
+pub kept_pends : (journal : List Entry) (n : ℕ) (it : KeptRows) → it ≡ family_of journal (families journal n) → list_any (λ u. u.entry == n) it.undo ≡ has (pending_with 8 n journal) n
+kept_pends journal n it is = ap (λ (k : KeptRows). list_any (λ u. u.entry == n) k.undo) is ∙ pends_is journal (families journal n) n
+
+pub kept_lasts : (journal : List Entry) (n : ℕ) (it : KeptRows) → it ≡ family_of journal (families journal n) → ends_in n it.undo ≡ is_last n (pending_with 8 n journal)
+kept_lasts journal n it is = ap (λ (k : KeptRows). ends_in n k.undo) is ∙ lasts_is journal (families journal n) n
+
+-- nothing is pending under a number without an entry
+pub none_pending : (journal : List Entry) (n : ℕ) → IsAccepted 8 journal → entry_at journal n ≡ None → has (pending_with 8 n journal) n ≡ false
+none_pending journal n accepted none =
+    let sound = accepted_is_sound 8 journal accepted in
+    let HasEntry : ℕ → Type 0 = λ k. (e : Entry) × (entry_at journal k ≡ Some e) in
+    elim (cases_Bool (has (pending_with 8 n journal) n)) [
+      | inr out ↦ out
+      | inl in_it ↦
+          let there = each_has HasEntry (pending_with 8 n journal) n (pending_each HasEntry 8 (families journal n) journal sound (each_weaker _ _ journal (λ e at. (e, at)) sound.found)) in_it in
+          absurd (let at = there.1 in cc)
+    ]
+
+-- and none is the last
+pub none_last : (numbers : List ℕ) (n : ℕ) → has numbers n ≡ false → is_last n numbers ≡ false
+none_last numbers n out =
+    elim (cases_Bool (is_last n numbers)) [
+      | inr never ↦ never
+      | inl ends ↦
+          let cut = is_last_push n numbers ends in
+          let in_it : has numbers n ≡ true = ap (λ l. has l n) cut.1 ∙ any_push (λ k. k == n) cut.0 n ∙ ap (λ b. has cut.0 n || b) (eq-eqb n n refl) ∙ or-true (has cut.0 n) in
+          absurd (cc)
+    ]
+
+-- the family of a living copy has all the copies that it takes
+pub full_is : (journal : List Entry) (n : ℕ) (copy : Copy) (it : KeptRows) → IsAccepted 8 journal → copy_in (living journal) n ≡ Some copy → it ≡ family_of journal (families journal n)
+    → then_some (nat_le 256 (length (copy_rows it.rows))) FamilyFull ≡ family_full n (living journal)
+full_is journal n copy it accepted found is =
+    let long : length (copy_rows it.rows) ≡ count_by (is_of copy.family) (living journal) =
+    ap (λ (k : KeptRows). length (copy_rows k.rows)) is ∙ count_rows journal (families journal n) accepted
+    ∙ ap (λ f. length (filter (is_of f) (living journal))) (sym (family_of_copy journal n copy (accepted_is_sound 8 journal accepted) found)) ∙ length-filter (is_of copy.family) (living journal) in
+    ap (λ k. then_some (nat_le 256 k) FamilyFull) long
+    ∙ ap (option_and_then (λ x. then_some (nat_le 256 (count_by (is_of x.family) (living journal))) FamilyFull)) (sym found)
+
+-- whether a living copy's id can be divided
+pub deep_is : (journal : List Entry) (n : ℕ) (copy : Copy) (it : KeptRows) → IsAccepted 8 journal → copy_in (living journal) n ≡ Some copy → it ≡ family_of journal (families journal n)
+    → then_some (not (divides it.rows n)) TooDeep ≡ too_deep n journal (living journal)
+deep_is journal n copy it accepted found is =
+    let own = family_of_copy journal n copy (accepted_is_sound 8 journal accepted) found in
+    ap (λ r. then_some (not (divides r n)) TooDeep)
+    (ap (λ (k : KeptRows). k.rows) is ∙ ap rows_of (layer_now 8 (families journal n) journal) ∙ ap (λ f. stamp_rows f journal) (sym own))
+    ∙ ap (option_and_then (λ c. then_some (not (divides (stamp_rows c.family journal) n)) TooDeep)) (sym found)
+
+-- what the last pending entry's copy gets back, and what stands against that
+pub back_place : (journal : List Entry) (m c : ℕ) (it : KeptRows) (undone : Entry) → IsAccepted 8 journal → is_last m (pending_with 8 m journal) ≡ true
+    → entry_at journal m ≡ Some undone → displaced undone.report ≡ Some c → it ≡ family_of journal (families journal m)
+    → (back : Copy) × (last_place it.undo ≡ Some back.place) × (taken_since m journal ≡ taken_from back (living journal)) × (back.number ≡ c)
+back_place journal m c it undone accepted at_end at moves is =
+    let sound = accepted_is_sound 8 journal accepted in
+    let ends = ends_at 8 m journal sound at_end in
+    let same : undone ≡ ends.last = let here = ends.at in cc in
+    let back = back_at journal m c accepted ends (ap (λ (e : Entry). displaced e.report) (sym same) ∙ moves) in (
+      back.copy,
+      ap (λ (k : KeptRows). last_place k.undo) is ∙ given_back journal m sound ends ∙ ap (option_map (λ copy. copy.place)) back.is,
+      ap (option_and_then (λ copy. taken_from copy (living journal))) back.is,
+      back.number,
+    )
+
+-- a copy that is kept lives
+pub found_spot : (journal : List Entry) (copies : Table) (n : ℕ) (spot : Spot) → AreSpots journal copies → kept copies n ≡ Some spot → (copy : Copy) × (copy_in (living journal) n ≡ Some copy) × (spot_of copy ≡ spot)
+found_spot journal copies n spot spots at =
+    elim (copy_in (living journal) n) as (λ o. option_map spot_of o ≡ Some spot → (copy : Copy) × (o ≡ Some copy) × (spot_of copy ≡ spot)) [
+      | None ↦ λ e. absurd (cc)
+      | Some copy ↦ λ e. (copy, refl, cc)
+    ] (sym (spots n) ∙ at)
+
+-- Answers read off the families.
 
 -- a living copy's row is found in its family's table
 row_of_copy : (journal : List Entry) (family n : ℕ) (copy : Copy) → IsAccepted 8 journal → copy_in (living journal) n ≡ Some copy → families journal n ≡ family
     → row_in (sets_at 0 family journal) n ≡ Some (as_known copy)
 row_of_copy journal family n copy accepted found of =
-    row_of (sets_at 0 family journal) (tables.table 8 0 family journal) n copy (copies_sets journal family accepted) (sets_old journal 0 family accepted).rising
+    known_row (sets_at 0 family journal) (tables.table 8 0 family journal) n copy (copies_sets journal family accepted) (sets_old journal 0 family accepted).rising
     (ap (λ f. copy_in (tables.table 8 0 f journal) n) (sym of) ∙ sym ((merged 8 journal (accepted_is_sound 8 journal accepted)).found n) ∙ found)
 
 -- what it knows is read there, and the entry that touched it last
@@ -103,21 +257,15 @@ begun_at journal family accepted free =
           (within.0, within.1, ap (families journal) (sym is_it) ∙ here.belongs.own f ∙ is_it)
     ] refl begun
 
-pub family_there : (journal : List Entry) (list : List KeptRows) (positions : List ℕ) (copies : Table) (family : ℕ) → IsKept journal list positions copies → first (unknown_family family journal ∷ []) ≡ None
-    → family_at list positions family ≡ Some (family_of journal family)
-family_there journal list positions copies family all free =
-    let begun = begun_at journal family all.accepted free in
-    found_at journal list positions family all.listed all.placed begun.0 begun.1 ∙ ap (λ f. Some (family_of journal f)) begun.2
-
 -- the families of a list, one after another
-abbrev pub rows_of : List Copy → List ℕ → List FamilyRow
-rows_of copies numbers = map (family_row copies) (filter (λ family. list_any (is_of family) copies) numbers)
+abbrev pub rows_of_families : List Copy → List ℕ → List FamilyRow
+rows_of_families copies numbers = map (family_row copies) (filter (λ family. list_any (is_of family) copies) numbers)
 
-pub rows_push : (copies : List Copy) (numbers : List ℕ) (n : ℕ) → rows_of copies (numbers ++ n ∷ []) ≡ rows_of copies numbers ++ cond (list_any (is_of n) copies) (family_row copies n ∷ []) []
+pub rows_push : (copies : List Copy) (numbers : List ℕ) (n : ℕ) → rows_of_families copies (numbers ++ n ∷ []) ≡ rows_of_families copies numbers ++ cond (list_any (is_of n) copies) (family_row copies n ∷ []) []
 rows_push copies numbers n =
     ap (map (family_row copies)) (filter-append _ numbers (n ∷ []))
     ∙ map-append (family_row copies) (filter (λ family. list_any (is_of family) copies) numbers) (cond (list_any (is_of n) copies) (n ∷ []) [])
-    ∙ ap (λ l. rows_of copies numbers ++ l) (elim (list_any (is_of n) copies) as (λ b. map (family_row copies) (cond b (n ∷ []) []) ≡ cond b (family_row copies n ∷ []) []) [ true ↦ refl | false ↦ refl ])
+    ∙ ap (λ l. rows_of_families copies numbers ++ l) (elim (list_any (is_of n) copies) as (λ b. map (family_row copies) (cond b (n ∷ []) []) ≡ cond b (family_row copies n ∷ []) []) [ true ↦ refl | false ↦ refl ])
 
 any_count : {X : Type 0} (p : X → Bool) (xs : List X) → list_any p xs ≡ nat_lt 0 (length (filter p xs))
 any_count p [] = refl
@@ -160,11 +308,9 @@ stands_of journal family it accepted is = subst (λ (k : KeptRows). StandsFor k.
 pub lives_of : (journal : List Entry) (family n : ℕ) (copy : Copy) (it : KeptRows) → IsAccepted 8 journal → it ≡ family_of journal family → copy_in (living journal) n ≡ Some copy → families journal n ≡ family → lives it.rows n ≡ true
 lives_of journal family n copy it accepted is found of = subst (λ (k : KeptRows). lives k.rows n ≡ true) (sym is) (lives_rows journal family n copy accepted found of)
 
--- what a question finds under a family's number
-pub found_is : (journal : List Entry) (list : List KeptRows) (positions : List ℕ) (copies : Table) (family : ℕ) (it : KeptRows) → IsKept journal list positions copies → first (unknown_family family journal ∷ []) ≡ None
-    → family_at list positions family ≡ Some it → it ≡ family_of journal family
-found_is journal list positions copies family it all free at =
-    let both : Some (family_of journal family) ≡ Some it = sym (family_there journal list positions copies family all free) ∙ at in cc
+-- so with a family that has begun
+pub own_begun : (journal : List Entry) (family : ℕ) (it : KeptRows) → IsAccepted 8 journal → first (unknown_family family journal ∷ []) ≡ None → it ≡ family_of journal (families journal family) → it ≡ family_of journal family
+own_begun journal family it accepted free is = is ∙ ap (family_of journal) (begun_at journal family accepted free).2
 
 -- the stamps of a family's copies are those of the copies that live
 pub stamps_are : (journal : List Entry) (family : ℕ) (rows : List StampRow) (stamps : List CopyStamp) → IsAccepted 8 journal → rows ≡ stamp_rows family journal → map text_of stamps ≡ stamps_in rows

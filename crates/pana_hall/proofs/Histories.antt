@@ -1,11 +1,31 @@
--- What the records of a family's pending entries give back.
-use Rattle.std.specs.Prelude.{◌≡◌, ℕ, zero, suc, ◌+◌, ◌≤◌, Bool, true, false, ◌==◌, nat_lt, not, ◌&&◌, ◌||◌, cond, List, [], ◌∷◌, length, Option, Some, None, option_map, position, slice_get, take, drop}
-use Rattle.std.specs.List.{position_or_len, list_any}
-use Rattle.std.proofs.Common.{refl, sym, ap, subst, ◌∙◌, inl, inr, arith}
-use Rattle.std.proofs.lemmas.Bool.{cases_Bool, eqb-true, ltb-false}
-use Rattle.std.proofs.lemmas.List.{take_all}
-use Rattle.circular_buffer.specs.Buffer.{Buffer, buffer}
+-- What is pending in a family, and what takes it back.
+use Rattle.std.specs.Prelude.{◌≡◌, ◌≢◌, ℕ, zero, suc, ◌+◌, ◌-◌, ◌<◌, ◌≤◌, true, false, cond, ◌||◌, ◌==◌, List, [], ◌∷◌, ◌++◌, length, take, drop, reverse, fold, None, Some, Bool, nat_lt, not, ◌&&◌, Option, option_map, position, slice_get}
+use Rattle.std.specs.List.{AllByRecursion, position_or_len, list_any}
+use Rattle.std.proofs.Common.{refl, sym, ap, ◌∙◌, subst, inl, inr, arith, append_assoc}
+use Rattle.std.proofs.lemmas.Bool.{eqb-true, eq-eqb, ne_eqb, not-false, cases_lt, cases_Bool, ltb-false}
+use Rattle.std.proofs.lemmas.List.{length-drop, length-take, length-reverse, reverse-append, take-append-drop, take_at, take_all}
+use Rattle.pana_journal.specs.declared.report.Report.TheVariants.{Confirm, Withdraw, Register}
+use Rattle.pana_journal.specs.declared.entry.Entry.{Entry}
+use Rattle.pana_family.specs.Updates.{has}
+use Rattle.pana_hall.specs.Family.{families}
+use Rattle.pana_hall.specs.Effective.{is_of_copies}
+use Rattle.pana_hall.specs.Living.{living, copies_of}
+use Rattle.pana_hall.specs.Pending.{pending, pend, last, behind}
+use Rattle.pana_hall.specs.Refusal.{report_refusal, full, unknown_entry, not_yours, settled}
+use Rattle.pana_hall.specs.Accepted.{Accepts}
+use Rattle.pana_hall.specs.laws.Tables.{layer}
+use Rattle.pana_hall.specs.laws.Layers.{family_of_next, AreRising}
+use Rattle.pana_hall.specs.inner.Kept.{of_each, of_pending, family_of, next_entry, place_before, undone_of}
+use Rattle.pana_hall.proofs.Lists.{each_append, each_weaker, at-push, rises_each}
+use Rattle.pana_hall.proofs.Sound.{first_none, none_false, IsSound, family_named, family_new, pends}
+use Rattle.pana_hall.proofs.Tables.{layer_undone, layer_confirm, layer_withdraw, layer_other, none_of, entry_at-other, layer_report, layer_new, pending_report, pending_withdraw, pending_other, pending_each, pending_rises, rises_end}
 use Rattle.pana_copies.specs.declared.place.Place.{Place}
+use Rattle.pana_journal.specs.Entries.{entry_at}
+use Rattle.pana_hall.specs.StampRows.{rows_after, rows_of}
+use Rattle.pana_hall.specs.inner.Undo.{KeptRows, Undone, confirmed, kept_rows, later_than, new_kept, undone, withdrawn, CanGoBack, history}
+use Rattle.pana_hall.proofs.Moves.{IsWell}
+use Rattle.pana_hall.proofs.Stood.{rows_none, rows_of-push}
+use Rattle.circular_buffer.specs.Buffer.{Buffer, buffer}
 use Rattle.pana_family.specs.declared.row.StampRow.{StampRow}
 use Rattle.pana_family.specs.Change.{after as after_change, Fits, IsRoomier, Room}
 use Rattle.pana_family.specs.Kept.{IsKept}
@@ -15,7 +35,214 @@ use Rattle.pana_family.specs.View.{NamesLiving}
 use Rattle.pana_family.specs.declared.report.FamilyReport.{FamilyReport}
 use Rattle.pana_family.specs.declared.report.FamilyReport.TheVariants.{Duplicate, Edit, Reconcile, Merge, Remove, Touch}
 use Rattle.pana_hall.specs.declared.undo.Undo.{Undo}
-use Rattle.pana_hall.specs.inner.Undo.{CanGoBack, history, later_than, undone}
+
+-- What is made of a family's pending entries, as entries come.
+
+-- the last ones of a list, the other way round
+reverse-last : (k : ℕ) (numbers : List ℕ) → reverse (last k numbers) ≡ take k (reverse numbers)
+reverse-last k numbers =
+    let cut = length numbers - k in
+    let whole : reverse numbers ≡ reverse (drop cut numbers) ++ reverse (take cut numbers) = ap reverse (sym (take-append-drop cut numbers)) ∙ reverse-append (take cut numbers) (drop cut numbers) in
+    elim (cases_lt (length numbers) k) [
+      | inl short ↦
+          let none : cut ≡ 0 = omega arith in
+          ap (λ i. reverse (drop i numbers)) none ∙ sym (take_all k (reverse numbers) (let long = length-reverse numbers in omega arith))
+      | inr enough ↦
+          let long : length (reverse (drop cut numbers)) ≡ k = length-reverse (drop cut numbers) ∙ length-drop cut numbers ∙ omega arith in
+          sym (ap (take k) whole ∙ take_at (reverse (drop cut numbers)) (reverse (take cut numbers)) k long)
+    ]
+
+-- what is made of pending entries with layers that agree
+each_same : {X : Type 0} (make : ℕ → List Entry → X) (layers others : ℕ → List Entry) (numbers : List ℕ) → ((k : ℕ) → k < length numbers → layers k ≡ others k) → of_each make layers numbers ≡ of_each make others numbers
+each_same make layers others [] same = refl
+each_same make layers others (n ∷ numbers) same =
+    ap (λ l. make n l ∷ of_each make (λ k. layers (k + 1)) numbers) (same 0 (omega arith))
+    ∙ ap (λ l. make n (others 0) ∷ l) (each_same make (λ k. layers (k + 1)) (λ k. others (k + 1)) numbers (λ k within. same (k + 1) (omega arith)))
+
+each_take : {X : Type 0} (make : ℕ → List Entry → X) (layers : ℕ → List Entry) (m : ℕ) (numbers : List ℕ) → of_each make layers (take m numbers) ≡ take m (of_each make layers numbers)
+each_take make layers zero numbers = refl
+each_take make layers (suc m) [] = refl
+each_take make layers (suc m) (n ∷ numbers) = ap (λ l. make n (layers 0) ∷ l) (each_take make (λ k. layers (k + 1)) m numbers)
+
+-- and by two ways that agree on the entries
+each_alike : {X : Type 0} (make other : ℕ → List Entry → X) (layers : ℕ → List Entry) (numbers : List ℕ) → AllByRecursion (λ n. (l : List Entry) → make n l ≡ other n l) numbers → of_each make layers numbers ≡ of_each other layers numbers
+each_alike make other layers [] alike = refl
+each_alike make other layers (n ∷ numbers) alike =
+    ap (λ x. x ∷ of_each make (λ k. layers (k + 1)) numbers) (alike.0 (layers 0)) ∙ ap (λ l. other n (layers 0) ∷ l) (each_alike make other (λ k. layers (k + 1)) numbers alike.1)
+
+length-take-within : (m : ℕ) (numbers : List ℕ) → length (take m numbers) ≤ m
+length-take-within m numbers = let e = length-take m numbers in omega arith
+
+reverse-push : (numbers : List ℕ) (n : ℕ) → reverse (numbers ++ n ∷ []) ≡ n ∷ reverse numbers
+reverse-push numbers n = reverse-append numbers (n ∷ [])
+
+-- what is made of a family's pending entries, after a report of copies
+pub pending_made : {X : Type 0} (make : ℕ → List Entry → X) (journal : List Entry) (entry : Entry) → IsSound 8 journal → Accepts 8 journal entry → is_of_copies entry.report ≡ true
+    → of_pending make (family_of_next journal entry) (journal ++ entry ∷ [])
+    ≡ take 8 (make entry.number (layer 8 0 (family_of_next journal entry) journal) ∷ of_pending make (family_of_next journal entry) journal)
+pending_made make journal entry sound accepts is =
+    let family = family_of_next journal entry in
+    let numbers = pending 8 family journal in
+    let turned : reverse (pending 8 family (journal ++ entry ∷ [])) ≡ entry.number ∷ take 7 (reverse numbers) =
+    ap reverse (pending_report 8 journal entry sound accepts is) ∙ reverse-last 8 (numbers ++ entry.number ∷ []) ∙ ap (take 8) (reverse-push numbers entry.number) in
+    let undone_by : (k : ℕ) → k < 8 → layer 8 (k + 1) family (journal ++ entry ∷ []) ≡ layer 8 k family journal = λ k within. layer_undone 8 k journal entry sound accepts is within in
+    let few = length-take-within 7 (reverse numbers) in
+    ap (of_each make (λ k. layer 8 (k + 1) family (journal ++ entry ∷ []))) turned
+    ∙ each_same make (λ k. layer 8 (k + 1) family (journal ++ entry ∷ [])) (λ k. layer 8 k family journal) (entry.number ∷ take 7 (reverse numbers)) (λ k within. undone_by k (omega arith))
+    ∙ ap (λ l. make entry.number (layer 8 0 family journal) ∷ l) (each_take make (λ k. layer 8 (k + 1) family journal) 7 (reverse numbers))
+
+-- after a Withdraw: the first is no longer there
+pub pending_undone : {X : Type 0} (make : ℕ → List Entry → X) (m : ℕ) (journal : List Entry) (entry : Entry) → IsSound 8 journal → Accepts 8 journal entry → entry.report ≡ Withdraw m
+    → of_pending make (family_of_next journal entry) journal
+    ≡ make m (layer 8 1 (family_of_next journal entry) journal) ∷ of_pending make (family_of_next journal entry) (journal ++ entry ∷ [])
+pending_undone make m journal entry sound accepts is =
+    let family = family_of_next journal entry in
+    let drops : (k : ℕ) → layer 8 k family (journal ++ entry ∷ []) ≡ layer 8 (k + 1) family journal = λ k. layer_withdraw 8 m k journal entry sound accepts is in
+    let rest = pending 8 family (journal ++ entry ∷ []) in
+    let turned : reverse (pending 8 family journal) ≡ m ∷ reverse rest = ap reverse (pending_withdraw 8 m journal entry sound accepts is) ∙ reverse-push rest m in
+    ap (of_each make (λ k. layer 8 (k + 1) family journal)) turned
+    ∙ ap (λ l. make m (layer 8 1 family journal) ∷ l) (sym (each_same make (λ k. layer 8 (k + 1) family (journal ++ entry ∷ [])) (λ k. layer 8 (k + 1 + 1) family journal) (reverse rest) (λ k within. drops (k + 1))))
+
+-- after an entry of another family
+pub pending_left : {X : Type 0} (make : ℕ → List Entry → X) (family : ℕ) (journal : List Entry) (entry : Entry) → IsSound 8 journal → Accepts 8 journal entry → family_of_next journal entry ≢ family
+    → of_pending make family (journal ++ entry ∷ []) ≡ of_pending make family journal
+pending_left make family journal entry sound accepts other =
+    ap (λ l. of_each make (λ k. layer 8 (k + 1) family (journal ++ entry ∷ [])) (reverse l)) (pending_other 8 family journal entry sound accepts other)
+    ∙ each_same make (λ k. layer 8 (k + 1) family (journal ++ entry ∷ [])) (λ k. layer 8 (k + 1) family journal) (reverse (pending 8 family journal)) (λ k within. layer_other 8 (k + 1) family journal entry sound accepts other)
+
+-- a pending number parts the list into those before it and those behind it
+parted : (m : ℕ) (numbers : List ℕ) → has numbers m ≡ true → (prefix : List ℕ) × (numbers ≡ prefix ++ m ∷ behind m numbers)
+parted m [] is = absurd (cc)
+parted m (n ∷ numbers) is =
+    elim (n == m) as (λ b. (n == m) ≡ b → (b || has numbers m) ≡ true → (prefix : List ℕ) × (n ∷ numbers ≡ prefix ++ m ∷ cond b numbers (behind m numbers))) [
+      | true ↦ λ e h. ([], ap (λ k. k ∷ numbers) (eqb-true n m e))
+      | false ↦ λ e h. let rest = parted m numbers h in (n ∷ rest.0, ap (λ l. n ∷ l) rest.1)
+    ] refl is
+
+pub each_reverse : (P : ℕ → Type 0) (numbers : List ℕ) → AllByRecursion P numbers → AllByRecursion P (reverse numbers)
+each_reverse P [] each = tt
+each_reverse P (n ∷ numbers) each = subst (AllByRecursion P) (sym (reverse-append (n ∷ []) numbers)) (each_append P (reverse numbers) (n ∷ []) (each_reverse P numbers each.1) (each.0, tt))
+
+later_behind : (journal : List Entry) (layers : ℕ → List Entry) (m : ℕ) (numbers more : List ℕ) → AllByRecursion (λ n. m < n) numbers
+    → later_than m (of_each (undone_of journal) layers (numbers ++ m ∷ more)) ≡ of_each (undone_of journal) layers numbers
+later_behind journal layers m [] more above = ap (λ b. cond b [] (undone_of journal m (layers 0) ∷ later_than m (of_each (undone_of journal) (λ k. layers (k + 1)) more))) (eq-eqb m m refl)
+later_behind journal layers m (n ∷ numbers) more above =
+    let first = above.0 in
+    ap (λ b. cond b [] (undone_of journal n (layers 0) ∷ later_than m (of_each (undone_of journal) (λ k. layers (k + 1)) (numbers ++ m ∷ more)))) (ne_eqb n m (λ h. omega arith))
+    ∙ ap (λ l. undone_of journal n (layers 0) ∷ l) (later_behind journal (λ k. layers (k + 1)) m numbers more above.1)
+
+-- after a Confirm: what is later than the confirmed entry
+pending_confirmed : (before : List Entry) (m : ℕ) (journal : List Entry) (entry : Entry) → IsSound 8 journal → Accepts 8 journal entry → entry.report ≡ Confirm m
+    → of_pending (undone_of before) (family_of_next journal entry) (journal ++ entry ∷ []) ≡ later_than m (of_pending (undone_of before) (family_of_next journal entry) journal)
+pending_confirmed before m journal entry sound accepts is =
+    let family = family_of_next journal entry in
+    let numbers = pending 8 family journal in
+    let rest = behind m numbers in
+    let rest_is : pending 8 family (journal ++ entry ∷ []) ≡ rest = pends 8 journal entry (Confirm m) sound accepts is in
+    let alone : report_refusal 8 journal (living journal) entry.by (Confirm m) ≡ None = ap (report_refusal 8 journal (living journal) entry.by) (sym is) ∙ accepts.free in
+    let none = (first_none (settled 8 m journal) [] (first_none (not_yours entry.by m journal) _ (first_none (unknown_entry m journal) _ (first_none (full journal) _ alone).1).1).1).0 in
+    let in_it : has numbers m ≡ true = ap (λ f. has (pending 8 f journal) m) (family_named 8 journal entry m (inl is)) ∙ not-false _ (none_false _ _ none) in
+    let cut = parted m numbers in_it in
+    let above : AreRising (λ n. n) m rest = (rises_end 0 cut.0 (m ∷ rest) (subst (AreRising (λ n. n) 0) cut.1 (pending_rises 8 family journal sound))).1 in
+    let turned : reverse numbers ≡ reverse rest ++ m ∷ reverse cut.0 =
+    ap reverse (cut.1 ∙ sym (append_assoc cut.0 (m ∷ []) rest)) ∙ reverse-append (cut.0 ++ m ∷ []) rest ∙ ap (λ l. reverse rest ++ l) (reverse-push cut.0 m) in
+    let long : length (pending 8 family (journal ++ entry ∷ [])) ≡ length rest = ap length rest_is in
+    let back : length (reverse rest) ≡ length rest = length-reverse rest in
+    let layers : ℕ → List Entry = λ k. layer 8 (k + 1) family journal in
+    ap (λ l. of_each (undone_of before) (λ k. layer 8 (k + 1) family (journal ++ entry ∷ [])) (reverse l)) rest_is
+    ∙ each_same (undone_of before) (λ k. layer 8 (k + 1) family (journal ++ entry ∷ [])) layers (reverse rest) (λ k within. layer_confirm 8 m (k + 1) journal entry sound accepts is (omega arith))
+    ∙ sym (later_behind before layers m (reverse rest) (reverse cut.0) (each_reverse (λ n. m < n) rest (rises_each (λ n. n) m rest above)))
+    ∙ ap (λ l. later_than m (of_each (undone_of before) layers l)) (sym turned)
+
+-- nothing is pending in the family that the next entry may begin
+pub pending_begun : {X : Type 0} (make : ℕ → List Entry → X) (journal : List Entry) → IsSound 8 journal → of_pending make (length journal + 1) journal ≡ []
+pending_begun make journal sound =
+    let no_pending : pending 8 (length journal + 1) journal ≡ [] = ap (λ l. fold (λ numbers e. pend 8 e.number e.report numbers) [] l) (none_of (length journal + 1) (length journal) (families journal) journal sound.well (omega arith)) in
+    ap (λ l. of_each make (λ k. layer 8 (k + 1) (length journal + 1) journal) (reverse l)) no_pending
+
+-- A family of a journal, as entries come.
+
+undone_alike : (journal : List Entry) (entry : Entry) (numbers : List ℕ) → AllByRecursion (λ n. n ≤ length journal) numbers
+    → AllByRecursion (λ n. (l : List Entry) → undone_of (journal ++ entry ∷ []) n l ≡ undone_of journal n l) numbers
+undone_alike journal entry [] within = tt
+undone_alike journal entry (n ∷ numbers) within =
+    let first = within.0 in
+    (λ l. ap (λ e. undone n (rows_of l) (place_before e (copies_of l))) (entry_at-other journal entry n (λ h. omega arith)), undone_alike journal entry numbers within.1)
+
+-- what is pending are numbers of entries
+pub pending_within : (journal : List Entry) (family : ℕ) → IsSound 8 journal → AllByRecursion (λ n. n ≤ length journal) (pending 8 family journal)
+pending_within journal family sound =
+    pending_each (λ n. n ≤ length journal) 8 family journal sound (each_weaker (IsWell (families journal) (length journal)) _ journal (λ e well. well.within) sound.well)
+
+-- so what is given back stays as entries come
+undone_stays : (journal : List Entry) (entry : Entry) (family : ℕ) → IsSound 8 journal → of_pending (undone_of (journal ++ entry ∷ [])) family journal ≡ of_pending (undone_of journal) family journal
+undone_stays journal entry family sound =
+    each_alike (undone_of (journal ++ entry ∷ [])) (undone_of journal) (λ k. layer 8 (k + 1) family journal) (reverse (pending 8 family journal))
+    (undone_alike journal entry (reverse (pending 8 family journal)) (each_reverse (λ n. n ≤ length journal) (pending 8 family journal) (pending_within journal family sound)))
+
+-- a report of copies
+pub family_report : (journal : List Entry) (entry : Entry) → IsSound 8 journal → Accepts 8 journal entry → is_of_copies entry.report ≡ true
+    → family_of (journal ++ entry ∷ []) (family_of_next journal entry)
+    ≡ kept_rows (family_of_next journal entry) (rows_after entry.number entry.report (rows_of (layer 8 0 (family_of_next journal entry) journal)))
+    (take 8 (undone entry.number (rows_of (layer 8 0 (family_of_next journal entry) journal)) (place_before (Some entry) (copies_of (layer 8 0 (family_of_next journal entry) journal)))
+    ∷ of_pending (undone_of journal) (family_of_next journal entry) journal))
+family_report journal entry sound accepts is =
+    let family = family_of_next journal entry in
+    let journal' = journal ++ entry ∷ [] in
+    let old = layer 8 0 family journal in
+    let now : rows_of (layer 8 0 family journal') ≡ rows_after entry.number entry.report (rows_of old) = ap rows_of (layer_report 8 journal entry sound accepts is) ∙ rows_of-push old entry in
+    let before : of_pending (undone_of journal') family journal' ≡ take 8 (undone entry.number (rows_of old) (place_before (Some entry) (copies_of old)) ∷ of_pending (undone_of journal) family journal) =
+    pending_made (undone_of journal') journal entry sound accepts is
+    ∙ ap (λ e. take 8 (undone entry.number (rows_of old) (place_before e (copies_of old)) ∷ of_pending (undone_of journal') family journal)) (ap (entry_at journal') accepts.next ∙ at-push journal entry)
+    ∙ ap (λ l. take 8 (undone entry.number (rows_of old) (place_before (Some entry) (copies_of old)) ∷ l)) (undone_stays journal entry family sound) in
+    ap (λ r. kept_rows family r (of_pending (undone_of journal') family journal')) now ∙ ap (kept_rows family (rows_after entry.number entry.report (rows_of old))) before
+
+-- a Register begins a family
+pub family_begun : (journal : List Entry) (by : List ℕ) (place : Place) → IsSound 8 journal → Accepts 8 journal (next_entry journal by (Register place))
+    → family_of (journal ++ next_entry journal by (Register place) ∷ []) (length journal + 1) ≡ new_kept (length journal + 1)
+family_begun journal by place sound accepts =
+    let entry = next_entry journal by (Register place) in
+    let n = length journal + 1 in
+    let first : List Entry → List Undone → KeptRows = λ old before. kept_rows n (rows_after n (Register place) (rows_of old)) (take 8 (undone n (rows_of old) None ∷ before)) in
+    let own_is : family_of_next journal entry ≡ n = family_new journal entry in
+    subst (λ f. family_of (journal ++ entry ∷ []) f ≡ kept_rows f (rows_after n (Register place) (rows_of (layer 8 0 f journal))) (take 8 (undone n (rows_of (layer 8 0 f journal)) None ∷ of_pending (undone_of journal) f journal))) own_is
+    (family_report journal entry sound accepts refl)
+    ∙ ap (λ l. first l (of_pending (undone_of journal) n journal)) (layer_new journal sound)
+    ∙ ap (first []) (pending_begun (undone_of journal) journal sound)
+    ∙ ap (λ r. kept_rows n (rows_after n (Register place) r) (undone n r None ∷ [])) rows_none
+
+-- a Withdraw
+pub family_withdraw : (m : ℕ) (journal : List Entry) (entry : Entry) → IsSound 8 journal → Accepts 8 journal entry → entry.report ≡ Withdraw m
+    → family_of (journal ++ entry ∷ []) (family_of_next journal entry) ≡ withdrawn (family_of journal (family_of_next journal entry))
+family_withdraw m journal entry sound accepts is =
+    let family = family_of_next journal entry in
+    let journal' = journal ++ entry ∷ [] in
+    let rows = rows_of (layer 8 0 family journal) in
+    let back : of_pending (undone_of journal) family journal ≡ undone_of journal' m (layer 8 1 family journal) ∷ of_pending (undone_of journal') family journal' =
+    sym (undone_stays journal entry family sound) ∙ pending_undone (undone_of journal') m journal entry sound accepts is in
+    ap (λ l. kept_rows family (rows_of l) (of_pending (undone_of journal') family journal')) (layer_withdraw 8 m 0 journal entry sound accepts is)
+    ∙ ap (λ u. withdrawn (kept_rows family rows u)) (sym back)
+
+-- a Confirm
+pub family_confirm : (m : ℕ) (journal : List Entry) (entry : Entry) → IsSound 8 journal → Accepts 8 journal entry → entry.report ≡ Confirm m
+    → family_of (journal ++ entry ∷ []) (family_of_next journal entry) ≡ confirmed m (family_of journal (family_of_next journal entry))
+family_confirm m journal entry sound accepts is =
+    let family = family_of_next journal entry in
+    let journal' = journal ++ entry ∷ [] in
+    let rest : of_pending (undone_of journal') family journal' ≡ later_than m (of_pending (undone_of journal) family journal) =
+    pending_confirmed journal' m journal entry sound accepts is ∙ ap (later_than m) (undone_stays journal entry family sound) in
+    ap (λ l. kept_rows family (rows_of l) (of_pending (undone_of journal') family journal')) (layer_confirm 8 m 0 journal entry sound accepts is (omega arith))
+    ∙ ap (kept_rows family (rows_of (layer 8 0 family journal))) rest
+
+-- an entry of another family
+pub family_other : (family : ℕ) (journal : List Entry) (entry : Entry) → IsSound 8 journal → Accepts 8 journal entry → family_of_next journal entry ≢ family
+    → family_of (journal ++ entry ∷ []) family ≡ family_of journal family
+family_other family journal entry sound accepts other =
+    let journal' = journal ++ entry ∷ [] in
+    ap (λ l. kept_rows family (rows_of l) (of_pending (undone_of journal') family journal')) (layer_other 8 0 family journal entry sound accepts other)
+    ∙ ap (kept_rows family (rows_of (layer 8 0 family journal))) (pending_left (undone_of journal') family journal entry sound accepts other ∙ undone_stays journal entry family sound)
+
+-- What the records of a family's pending entries give back.
 
 -- the place that a record keeps
 abbrev pub place_of : Undo → Option Place

@@ -1,18 +1,25 @@
--- The families that have begun, as a list.
-use Rattle.std.specs.Prelude.{◌≡◌, ◌≢◌, ℕ, zero, suc, ◌+◌, ◌<◌, ◌≤◌, true, false, cond, ◌==◌, List, [], ◌∷◌, ◌++◌, length, map, filter, Some, None, slice_get, slice_set, slice_index_or, option_map}
+-- The families that have begun, as a hall keeps them.
+use Rattle.std.specs.Prelude.{◌≡◌, ℕ, ◌<◌, ◌≤◌, Bool, true, false, cond, ◌==◌, List, [], ◌∷◌, ◌++◌, map, filter, Some, None, option_map, option_and_then, ◌≢◌, zero, suc, ◌+◌, length, slice_get, slice_set, slice_index_or, ◌-◌, is_none}
+use Rattle.std.specs.Bool.{then_some}
+use Rattle.std.specs.Str.{bytes_eq}
+use Rattle.std.proofs.Common.{refl, sym, ap, ◌∙◌, subst, inl, inr, arith, append-nil}
+use Rattle.std.proofs.lemmas.Bool.{eqb-true, eq-eqb, ne_eqb, cases_lt, cases_order}
+use Rattle.std.proofs.lemmas.Option.{get_or_from_slice_get, slice_get-map, slice_get_within}
+use Rattle.circular_buffer.proofs.Places.{slice_get-set_same}
+use Rattle.std.proofs.lemmas.List.{map-set, set-get_or, map-append, length-append, length-map}
+use Rattle.std.proofs.lemmas.List.Elements.{filter-append}
+use Rattle.pana_journal.specs.declared.entry.Entry.{Entry}
+use Rattle.pana_hall.specs.Family.{is_register, families, begun_or_joined, subject}
+use Rattle.pana_hall.specs.Living.{Copy, copy_in, living}
+use Rattle.pana_hall.specs.Queries.{begun, holding, holdings}
+use Rattle.pana_hall.specs.laws.Layers.{AreRising, family_of_next}
+use Rattle.pana_hall.proofs.Lists.{rises_filter, each_weaker, entry_at_place, slice_get-append, slice_get-push, under, rises_map, found_by, at-append, none_under, rises_each, at-push}
 use Rattle.std.specs.List.{AllByRecursion}
-use Rattle.std.proofs.Common.{refl, sym, ap, ◌∙◌, subst, arith, append-nil}
-use Rattle.std.proofs.lemmas.List.{map-append}
 use Rattle.pana_copies.specs.declared.place.Place.{Place}
 use Rattle.pana_copies.specs.Spots.{Table, kept}
 use Rattle.pana_journal.specs.declared.report.Report.{Report}
 use Rattle.pana_journal.specs.declared.report.Report.TheVariants.{Register}
-use Rattle.pana_journal.specs.declared.entry.Entry.{Entry}
-use Rattle.pana_hall.specs.Family.{families, is_register}
-use Rattle.pana_hall.specs.Living.{living}
-use Rattle.pana_hall.specs.Queries.{begun}
-use Rattle.pana_hall.specs.Refusal.{full, taken}
-use Rattle.pana_hall.specs.laws.Layers.{AreRising, family_of_next}
+use Rattle.pana_hall.specs.Refusal.{full, taken, report_refusal}
 use Rattle.pana_hall.specs.inner.Undo.{KeptRows, new_kept}
 use Rattle.pana_hall.specs.inner.Spots.{IsFree}
 use Rattle.pana_hall.specs.inner.Listed.{all_listed, listed}
@@ -20,53 +27,109 @@ use Rattle.pana_hall.specs.inner.Next.{IsStep, IsStepOf, Takes}
 use Rattle.pana_hall.specs.declared.listed_family.ListedFamily.{ListedFamily}
 use Rattle.pana_hall.specs.declared.next.Step.{Step}
 use Rattle.pana_hall.specs.declared.next.Step.TheVariants.{Begin, Change, Settle}
-use Rattle.pana_hall.specs.inner.Kept.{next_entry, AreSpots, IsReady, IsReadyAt, families_of, family_of}
-use Rattle.pana_hall.proofs.Lists.{each_weaker}
-use Rattle.pana_hall.proofs.Allowed.{first_none}
-use Rattle.pana_hall.proofs.Grown.{family_new}
-use Rattle.pana_hall.proofs.Locality.{IsWell}
-use Rattle.pana_hall.proofs.Sound.{accepted_is_sound}
-use Rattle.pana_hall.proofs.Sorted.{begun-next, begun_rises}
-use Rattle.pana_hall.proofs.Spots.{living_below, spots_next}
-use Rattle.pana_hall.proofs.KeptFamilies.{family_begun, family_other}
+use Rattle.pana_hall.specs.inner.Kept.{next_entry, AreSpots, IsReady, IsReadyAt, families_of, family_of, ArePlaced, IsKept, position_for, position_of_subject, IsWithin}
+use Rattle.pana_hall.proofs.Sound.{first_none, family_new, accepted_is_sound, family_old, named_by, living_fit, LivesIn, named_report}
+use Rattle.pana_hall.proofs.Moves.{IsWell, none_below, subject_none, subject_named}
+use Rattle.pana_hall.proofs.Places.{living_below, spots_next}
+use Rattle.pana_hall.proofs.Histories.{family_begun, family_other}
 use Rattle.pana_hall.proofs.Ready.{accepts_next, free_spots}
-use Rattle.pana_hall.proofs.Moves.{none_below}
+use Rattle.pana_journal.specs.Entries.{entry_at}
+use Rattle.pana_hall.specs.Accepted.{IsAccepted}
+use Rattle.pana_hall.specs.inner.Families.{family_at, position_at}
+use Rattle.pana_hall.proofs.Runs.{next_accepted, rising}
 
-pub get_at : {X : Type 0} (xs : List X) (p : ℕ) (x d : X) → slice_get xs p ≡ Some x → slice_index_or xs p d ≡ x
-get_at [] p x d at = absurd (cc)
-get_at (y ∷ xs) zero x d at = cc
-get_at (y ∷ xs) (suc p) x d at = get_at xs p x d at
+-- Lists by rising keys are one where the same is found under each key; holdings and families as such lists.
 
-pub within_length : {X : Type 0} (xs : List X) (p : ℕ) (x : X) → slice_get xs p ≡ Some x → p < length xs
-within_length [] p x at = absurd (cc)
-within_length (y ∷ xs) zero x at = omega arith
-within_length (y ∷ xs) (suc p) x at = let rest = within_length xs p x at in omega arith
+first_under : {X : Type 0} (key : X → ℕ) (x : X) (xs : List X) → under key (x ∷ xs) (key x) ≡ Some x
+first_under key x xs = ap (λ b. cond b (Some x) (under key xs (key x))) (eq-eqb (key x) (key x) refl)
 
-set_same : {X : Type 0} (xs : List X) (p : ℕ) (x : X) → slice_get xs p ≡ Some x → slice_set xs p x ≡ xs
-set_same [] p x at = absurd (cc)
-set_same (y ∷ xs) zero x at = let same : y ≡ x = cc in ap (λ z. z ∷ xs) (sym same)
-set_same (y ∷ xs) (suc p) x at = ap (λ l. y ∷ l) (set_same xs p x at)
+-- two lists by rising keys in which the same has each key are one
+pub same_by_key : {X : Type 0} (key : X → ℕ) (low : ℕ) (xs ys : List X) → AreRising key low xs → AreRising key low ys → ((n : ℕ) → under key xs n ≡ under key ys n) → xs ≡ ys
+same_by_key key low [] [] rises rises' same = refl
+same_by_key key low [] (y ∷ ys) rises rises' same = let here : None ≡ Some y = same (key y) ∙ first_under key y ys in absurd (cc)
+same_by_key key low (x ∷ xs) [] rises rises' same = let here : Some x ≡ None = sym (first_under key x xs) ∙ same (key x) in absurd (cc)
+same_by_key key low (x ∷ xs) (y ∷ ys) rises rises' same =
+    let one : key x ≡ key y = elim (cases_order (key x) (key y)) [
+      | inl e ↦ e
+      | inr (inl less) ↦
+          let none : under key (y ∷ ys) (key x) ≡ None = ap (λ b. cond b (Some y) (under key ys (key x))) (ne_eqb (key y) (key x) (λ h. omega arith)) ∙ none_under key (key y) (key x) ys rises'.1 (omega arith) in
+          let odd : Some x ≡ None = sym (first_under key x xs) ∙ same (key x) ∙ none in absurd (cc)
+      | inr (inr more) ↦
+          let none : under key (x ∷ xs) (key y) ≡ None = ap (λ b. cond b (Some x) (under key xs (key y))) (ne_eqb (key x) (key y) (λ h. omega arith)) ∙ none_under key (key x) (key y) xs rises.1 (omega arith) in
+          let odd : Some y ≡ None = sym (first_under key y ys) ∙ sym (same (key y)) ∙ none in absurd (cc)
+    ] in
+    let both : Some x ≡ Some y = sym (first_under key x xs) ∙ same (key x) ∙ ap (under key (y ∷ ys)) one ∙ first_under key y ys in
+    let first : x ≡ y = cc in
+    let rising : AreRising key (key x) ys = subst (λ n. AreRising key n ys) (sym one) rises'.1 in
+    let rest : xs ≡ ys = same_by_key key (key x) xs ys rises.1 rising (λ n.
+    elim (cases_lt (key x) n) [
+      | inl above ↦ ap (λ b. cond b (Some x) (under key xs n)) (sym (ne_eqb (key x) n (λ h. omega arith))) ∙ same n ∙ ap (λ b. cond b (Some y) (under key ys n)) (ne_eqb (key y) n (λ h. omega arith))
+      | inr below ↦ none_under key (key x) n xs rises.1 below ∙ sym (none_under key (key x) n ys rising below)
+    ]) in
+    ap (λ c. c ∷ xs) first ∙ ap (λ l. y ∷ l) rest
+
+-- what has a key once a test has chosen
+under_filter : {X : Type 0} (key : X → ℕ) (p : X → Bool) (low n : ℕ) (xs : List X) → AreRising key low xs → under key (filter p xs) n ≡ option_and_then (λ x. then_some (p x) x) (under key xs n)
+under_filter key p low n [] rises = refl
+under_filter key p low n (x ∷ xs) rises =
+    let rest = under_filter key p (key x) n xs rises.1 in
+    elim (key x == n) as (λ b. (key x == n) ≡ b → under key (filter p (x ∷ xs)) n ≡ option_and_then (λ y. then_some (p y) y) (cond b (Some x) (under key xs n))) [
+      | true ↦ λ e.
+          let is : key x ≡ n = eqb-true (key x) n e in
+          let gone : under key (filter p xs) n ≡ None = none_under key (key x) n (filter p xs) (rises_filter key (key x) p xs rises.1) (omega arith) in
+          elim (p x) as (λ t. under key (cond t (x ∷ filter p xs) (filter p xs)) n ≡ then_some t x) [
+            | true ↦ ap (λ b. cond b (Some x) (under key (filter p xs) n)) e
+            | false ↦ gone
+          ]
+      | false ↦ λ e. elim (p x) as (λ t. under key (cond t (x ∷ filter p xs) (filter p xs)) n ≡ option_and_then (λ y. then_some (p y) y) (under key xs n)) [
+        | true ↦ ap (λ b. cond b (Some x) (under key (filter p xs) n)) e ∙ rest
+        | false ↦ rest
+      ]
+    ] refl
+
+-- and once each was shown as another with its key
+under_map : {X Y : Type 0} (f : X → Y) (key : X → ℕ) (key' : Y → ℕ) → ((x : X) → key' (f x) ≡ key x) → (n : ℕ) (xs : List X) → under key' (map f xs) n ≡ option_map f (under key xs n)
+under_map f key key' same n [] = refl
+under_map f key key' same n (x ∷ xs) =
+    ap (λ k. cond (k == n) (Some (f x)) (under key' (map f xs) n)) (same x)
+    ∙ elim (key x == n) as (λ b. cond b (Some (f x)) (under key' (map f xs) n) ≡ option_map f (cond b (Some x) (under key xs n))) [
+      | true ↦ refl
+      | false ↦ under_map f key key' same n xs
+    ]
+
+-- the holdings of a device, by rising copy, and the one of a copy
+pub holdings_rise : (device : List ℕ) (copies : List Copy) → AreRising (λ c. c.number) 0 copies → AreRising (λ h. h.copy) 0 (holdings copies device)
+holdings_rise device copies rises = rises_map holding (λ c. c.number) (λ h. h.copy) (λ c. refl) 0 _ (rises_filter (λ c. c.number) 0 (λ c. bytes_eq c.place.device device) copies rises)
+
+pub holdings_under : (device : List ℕ) (n : ℕ) (copies : List Copy) → AreRising (λ c. c.number) 0 copies
+    → under (λ h. h.copy) (holdings copies device) n ≡ option_map holding (option_and_then (λ copy. then_some (bytes_eq copy.place.device device) copy) (copy_in copies n))
+holdings_under device n copies rises =
+    under_map holding (λ c. c.number) (λ h. h.copy) (λ c. refl) n (filter (λ c. bytes_eq c.place.device device) copies)
+    ∙ ap (option_map holding) (under_filter (λ c. c.number) (λ c. bytes_eq c.place.device device) 0 n copies rises)
+
+-- the families that one entry more has begun
+pub begun-next : (journal : List Entry) (entry : Entry) → begun (journal ++ entry ∷ []) ≡ begun journal ++ cond (is_register entry.report) (entry.number ∷ []) []
+begun-next journal entry =
+    ap (map (λ e. e.number)) (filter-append (λ e. is_register e.report) journal (entry ∷ [])) ∙ map-append (λ e. e.number) (filter (λ e. is_register e.report) journal) _
+    ∙ ap (λ l. begun journal ++ l) (elim (is_register entry.report) as (λ b. map (λ e. e.number) (cond b (entry ∷ []) []) ≡ cond b (entry.number ∷ []) []) [ true ↦ refl | false ↦ refl ])
+
+begun_later : (journal : List Entry) (entry : Entry) → is_register entry.report ≡ false → begun (journal ++ entry ∷ []) ≡ begun journal
+begun_later journal entry later = begun-next journal entry ∙ ap (λ b. begun journal ++ cond b (entry.number ∷ []) []) later ∙ append-nil (begun journal)
+
+-- and they rise
+pub begun_rises : (journal : List Entry) → AreRising (λ e. e.number) 0 journal → AreRising (λ n. n) 0 (begun journal)
+begun_rises journal rises = rises_map (λ e. e.number) (λ e. e.number) (λ n. n) (λ e. refl) 0 _ (rises_filter (λ e. e.number) 0 (λ e. is_register e.report) journal rises)
+
+-- The families that have begun, as a list.
 
 get_unmap : {X Y : Type 0} (f : X → Y) (xs : List X) (p : ℕ) (y : Y) → slice_get (map f xs) p ≡ Some y → (x : X) × (slice_get xs p ≡ Some x) × (f x ≡ y)
 get_unmap f [] p y at = absurd (cc)
 get_unmap f (x ∷ xs) zero y at = (x, refl, cc)
 get_unmap f (x ∷ xs) (suc p) y at = get_unmap f xs p y at
 
-map_slice_set : {X Y : Type 0} (f : X → Y) (xs : List X) (p : ℕ) (x : X) → map f (slice_set xs p x) ≡ slice_set (map f xs) p (f x)
-map_slice_set f [] p x = refl
-map_slice_set f (y ∷ xs) zero x = refl
-map_slice_set f (y ∷ xs) (suc p) x = ap (λ l. f y ∷ l) (map_slice_set f xs p x)
-
-get_set : {X : Type 0} (xs : List X) (p : ℕ) (old x : X) → slice_get xs p ≡ Some old → slice_get (slice_set xs p x) p ≡ Some x
-get_set [] p old x at = absurd (cc)
-get_set (y ∷ xs) zero old x at = refl
-get_set (y ∷ xs) (suc p) old x at = get_set xs p old x at
-
 -- what is made of a number in a list
 pub get_map : {X : Type 0} (f : ℕ → X) (numbers : List ℕ) (p n : ℕ) → slice_get numbers p ≡ Some n → slice_get (map f numbers) p ≡ Some (f n)
-get_map f [] p n at = absurd (cc)
-get_map f (m ∷ numbers) zero n at = let same : m ≡ n = cc in ap (λ k. Some (f k)) same
-get_map f (m ∷ numbers) (suc p) n at = get_map f numbers p n at
+get_map f numbers p n at = slice_get-map f numbers p ∙ ap (option_map f) at
 
 rises_found : (low : ℕ) (numbers : List ℕ) (p n : ℕ) → AreRising (λ k. k) low numbers → slice_get numbers p ≡ Some n → low < n
 rises_found low [] p n rises at = absurd (cc)
@@ -124,7 +187,7 @@ takes_later {n} {list} {position} {copies} {report} {step} takes = step_later n 
 pub takes_at : {n : ℕ} {list : List ListedFamily} {position : ℕ} {copies : Table} {report : Report} {step : Step} → Takes n list position copies report step → (it d : ListedFamily) → it ≡ slice_index_or list position d
     → IsStepOf n it copies report step
 takes_at {n} {list} {position} {copies} {report} {step} takes it d is =
-    subst (λ (k : ListedFamily). IsStepOf n k copies report step) (sym (is ∙ get_at list position takes.it d takes.found)) takes.is
+    subst (λ (k : ListedFamily). IsStepOf n k copies report step) (sym (is ∙ get_or_from_slice_get list position takes.it d takes.found)) takes.is
 
 module _ (list : List ListedFamily) {journal : List Entry} {by : List ℕ} {report : Report} {position : ℕ} {copies : Table} where
   -- the family at the position
@@ -141,7 +204,7 @@ module _ (list : List ListedFamily) {journal : List Entry} {by : List ℕ} {repo
         accepted = ready.accepted;
         free = ready.free;
         later = later;
-        kept = ap listed (is ∙ get_at list position there.0 d there.1) ∙ there.2;
+        kept = ap listed (is ∙ get_or_from_slice_get list position there.0 d there.1) ∙ there.2;
         spots = ready.spots;
       }
 
@@ -154,30 +217,31 @@ module _ (list : List ListedFamily) {journal : List Entry} {by : List ℕ} {repo
       let own = family_of_next journal entry in
       let sound = accepted_is_sound 8 journal ready.accepted in
       let number : (listed it).number ≡ own = ap (λ (k : KeptRows). k.number) (ready_at ready later it d is).kept in
-      map_slice_set listed list position after_it
+      map-set listed list position after_it
       ∙ ap (λ (l : List KeptRows). slice_set l position (listed after_it)) ready.listed
       ∙ ap (slice_set (families_of journal) position) (made ∙ ap (family_of journal') number)
       ∙ map_set (family_of journal) (family_of journal') 0 (begun journal) position own (begun_rises journal sound.rising) (ready.at later)
       (λ k other. family_other k journal entry sound (accepts_next journal by report ready.free) (λ h. other (sym h)))
-      ∙ ap (map (family_of journal')) (sym (begun-next journal entry ∙ ap (λ b. begun journal ++ cond b ((length journal + 1) ∷ []) []) later ∙ append-nil (begun journal)))
+      ∙ ap (map (family_of journal')) (sym (begun_later journal entry later))
 
   -- or kept in another form
   pub still_there : IsReadyAt journal by report (all_listed list) position copies → is_register report ≡ false → (it d after_it : ListedFamily) → it ≡ slice_index_or list position d → listed after_it ≡ listed it
       → all_listed (slice_set list position after_it) ≡ all_listed list
   still_there ready later it d after_it is same =
       let there = found_there ready later in
-      map_slice_set listed list position after_it
-      ∙ set_same (all_listed list) position (listed after_it)
-      (ap (λ l. slice_get l position) ready.listed ∙ get_map (family_of journal) (begun journal) position _ (ready.at later) ∙ ap (λ k. Some k) (sym (same ∙ (ready_at ready later it d is).kept)))
+      map-set listed list position after_it
+      ∙ ap (slice_set (all_listed list) position) (sym (get_or_from_slice_get (all_listed list) position (listed after_it) (listed after_it)
+      (ap (λ l. slice_get l position) ready.listed ∙ get_map (family_of journal) (begun journal) position _ (ready.at later) ∙ ap (λ k. Some k) (sym (same ∙ (ready_at ready later it d is).kept)))))
+      ∙ set-get_or (all_listed list) position (listed after_it)
 
   -- which takes what was prepared for it
   pub takes_set : IsReadyAt journal by report (all_listed list) position copies → is_register report ≡ false → (n : ℕ) (after_it : ListedFamily) (step : Step) → IsStepOf n after_it copies report step
       → Takes n (slice_set list position after_it) position copies report step
   takes_set ready later n after_it step is =
-      let there = found_there ready later in record { it = after_it; found = get_set list position there.0 after_it there.1; is = is }
+      let there = found_there ready later in record { it = after_it; found = slice_get-set_same list position after_it (slice_get_within list position there.0 there.1); is = is }
 
   pub position_within : IsReadyAt journal by report (all_listed list) position copies → is_register report ≡ false → position < length list
-  position_within ready later = let there = found_there ready later in within_length list position there.0 there.1
+  position_within ready later = let there = found_there ready later in slice_get_within list position there.0 there.1
 
 module _ {journal : List Entry} {by : List ℕ} {place : Place} {list : List KeptRows} {position : ℕ} {copies : Table} where
   pub fresh_register : IsReadyAt journal by (Register place) list position copies → kept copies (length journal + 1) ≡ None
@@ -217,3 +281,122 @@ module _ {journal : List Entry} {by : List ℕ} {place : Place} {list : List Kep
 pub not_register : (report : Report) → ((place : Place) → report ≡ Register place → ⊥) → is_register report ≡ false
 not_register (Register place) never = absurd (never place refl)
 not_register report never = refl
+
+-- What a hall keeps of its journal, as entries come.
+
+-- a living copy's number is that of an entry
+pub lives_within : (journal : List Entry) (family n : ℕ) → IsAccepted 8 journal → LivesIn journal family n → IsWithin journal n
+lives_within journal family n accepted lives =
+    let up = rising 8 journal accepted in
+    let below = found_by (λ c. c.number == n) (λ c. c.number ≤ length journal) (living journal) lives.copy up.1 lives.found in
+    let above = (found_by (λ c. c.number == n) (λ c. 0 < c.number) (living journal) lives.copy (rises_each (λ c. c.number) 0 (living journal) up.0) lives.found).1 in
+    let within = below.1 in
+    let same = eqb-true lives.copy.number n below.0 in
+    (omega arith, omega arith)
+
+pub found_entry : (journal : List Entry) (n : ℕ) (copy : Copy) → IsAccepted 8 journal → copy_in (living journal) n ≡ Some copy → IsWithin journal n
+found_entry journal n copy accepted found = lives_within journal (families journal n) n accepted (record { copy = copy; found = found; of = refl })
+
+pub entry_within : (journal : List Entry) (m : ℕ) (entry : Entry) → entry_at journal m ≡ Some entry → IsWithin journal m
+entry_within journal m entry at =
+    let place = entry_at_place journal m entry at in
+    let not_zero = place.0 in
+    let within = slice_get_within journal (m - 1) entry place.1 in
+    (omega arith, omega arith)
+
+-- what a report names as its subject is a copy or an entry of the journal
+pub subject_within : (journal : List Entry) (by : List ℕ) (report : Report) (n : ℕ) → IsAccepted 8 journal → report_refusal 8 journal (living journal) by report ≡ None → subject report ≡ Some n → IsWithin journal n
+subject_within journal by report n accepted free about =
+    let sound = accepted_is_sound 8 journal accepted in
+    elim (subject_named report n about) [
+      | inl names ↦ lives_within journal _ n accepted (named_report 8 0 journal by report n (living_fit 8 journal sound) free names)
+      | inr is ↦ let there = named_by 8 journal by report n is free in entry_within journal n there.0 there.1
+    ]
+
+-- the family of an entry is found
+pub found_at : (journal : List Entry) (list : List KeptRows) (positions : List ℕ) (n : ℕ) → list ≡ families_of journal → ArePlaced journal positions → 0 < n → n ≤ length journal
+    → family_at list positions n ≡ Some (family_of journal (families journal n))
+found_at journal list positions n listed placed some within =
+    let at = placed.at n some within in
+    ap (option_and_then (slice_get list)) at.1 ∙ ap (λ l. slice_get l at.0) listed ∙ get_map (family_of journal) (begun journal) at.0 (families journal n) at.2
+
+-- with the copies in another table
+pub ready_same : {journal : List Entry} {by : List ℕ} {report : Report} {list : List KeptRows} {position : ℕ} {copies : Table} → IsReadyAt journal by report list position copies → (copies' : Table)
+    → ((number : ℕ) → kept copies' number ≡ kept copies number) → IsReadyAt journal by report list position copies'
+ready_same ready copies' same = record { accepted = ready.accepted; free = ready.free; listed = ready.listed; spots = λ number. same number ∙ ready.spots number; at = ready.at }
+
+module _ (journal : List Entry) (by : List ℕ) (report : Report) (list : List KeptRows) (positions : List ℕ) (copies : Table) where
+  -- a report has a position for its family
+  pub has_position : IsKept journal list positions copies → report_refusal 8 journal (living journal) by report ≡ None → (p : ℕ) × (position_for list positions report ≡ Some p)
+  has_position all free =
+      elim (subject report) as (λ s. subject report ≡ s → (p : ℕ) × (position_of_subject list positions s ≡ Some p)) [
+        | None ↦ λ e. (length list, refl)
+        | Some n ↦ λ e.
+            let within = subject_within journal by report n all.accepted free e in
+            let at = all.placed.at n within.0 within.1 in
+            (at.0, at.1)
+      ] refl
+
+  -- which is that of the family among those that have begun then
+  own_position : IsKept journal list positions copies → report_refusal 8 journal (living journal) by report ≡ None → (p : ℕ) → position_for list positions report ≡ Some p
+      → slice_get (begun (journal ++ next_entry journal by report ∷ [])) p ≡ Some (family_of_next journal (next_entry journal by report))
+  own_position all free p at =
+      let entry = next_entry journal by report in
+      let more = cond (is_register report) ((length journal + 1) ∷ []) [] in
+      let long : length list ≡ length (begun journal) = ap length all.listed ∙ length-map (begun journal) (family_of journal) in
+      ap (λ l. slice_get l p) (begun-next journal entry)
+      ∙ elim (subject report) as (λ s. subject report ≡ s → position_of_subject list positions s ≡ Some p → slice_get (begun journal ++ more) p ≡ Some (begun_or_joined (families journal) (length journal + 1) s)) [
+        | None ↦ λ e f.
+            let same : length (begun journal) ≡ p = sym long ∙ (cc) in
+            ap (λ b. slice_get (begun journal ++ cond b ((length journal + 1) ∷ []) []) p) (subject_none report ∙ ap is_none e)
+            ∙ ap (slice_get (begun journal ++ (length journal + 1) ∷ [])) (sym same) ∙ slice_get-push (begun journal) (length journal + 1)
+        | Some m ↦ λ e f.
+            let inside = subject_within journal by report m all.accepted free e in
+            let old = all.placed.at m inside.0 inside.1 in
+            let both : Some old.0 ≡ Some p = sym old.1 ∙ f in
+            let same : old.0 ≡ p = cc in
+            slice_get-append (begun journal) more p (families journal m) (ap (slice_get (begun journal)) (sym same) ∙ old.2)
+      ] refl at ∙ ap (λ k. Some k) (sym (family_new journal entry))
+
+  pub ready_for : IsKept journal list positions copies → report_refusal 8 journal (living journal) by report ≡ None → (p : ℕ) → position_for list positions report ≡ Some p
+      → IsReadyAt journal by report list p copies
+  ready_for all free p at =
+      let entry = next_entry journal by report in
+      record {
+        accepted = all.accepted;
+        free = free;
+        listed = all.listed;
+        spots = all.spots;
+        at = λ later. subst (λ l. slice_get l p ≡ Some (family_of_next journal entry)) (begun_later journal entry later) (own_position all free p at);
+      }
+
+  -- what is kept then
+  pub kept_next : IsKept journal list positions copies → report_refusal 8 journal (living journal) by report ≡ None → (p : ℕ) → position_for list positions report ≡ Some p
+      → (list' : List KeptRows) (copies' : Table) → list' ≡ families_of (journal ++ next_entry journal by report ∷ []) → AreSpots (journal ++ next_entry journal by report ∷ []) copies'
+      → IsKept (journal ++ next_entry journal by report ∷ []) list' (positions ++ p ∷ []) copies'
+  kept_next all free p at list' copies' listed spots =
+      let entry = next_entry journal by report in
+      let journal' = journal ++ entry ∷ [] in
+      let longer = length-append journal (entry ∷ []) in
+      record {
+        accepted = next_accepted 8 journal entry all.accepted (accepts_next journal by report free);
+        listed = listed;
+        spots = spots;
+        placed = record {
+          count = length-append positions (p ∷ []) ∙ ap (λ n. n + 1) all.placed.count ∙ sym longer;
+          at = λ n some within. elim (cases_lt n (length journal + 1)) [
+            | inl before ↦
+                let old = all.placed.at n some (omega arith) in (
+                  old.0,
+                  at-append positions (p ∷ []) n old.0 old.1,
+                  ap (λ l. slice_get l old.0) (begun-next journal entry) ∙ slice_get-append (begun journal) _ old.0 (families journal n) old.2 ∙ ap (λ f. Some f) (sym (family_old journal entry n before)),
+                )
+            | inr beyond ↦
+                let last : n ≡ length journal + 1 = omega arith in (
+                  p,
+                  ap (position_at (positions ++ p ∷ [])) (last ∙ ap (λ k. k + 1) (sym all.placed.count)) ∙ at-push positions p,
+                  own_position all free p at ∙ ap (λ k. Some (families journal' k)) (sym last),
+                )
+          ];
+        };
+      }

@@ -1,12 +1,19 @@
--- Lists of which a test keeps some members, and their last numbers.
-use Rattle.std.specs.Prelude.{◌≡◌, ℕ, suc, ◌+◌, ◌-◌, ◌≤◌, Bool, true, false, cond, ◌&&◌, ◌||◌, ◌==◌, List, [], ◌∷◌, ◌++◌, length, take, map, filter}
+-- Lists: members that a test keeps, last numbers, rising keys, items by index.
+use Rattle.std.specs.Prelude.{◌≡◌, ℕ, suc, ◌+◌, ◌-◌, ◌≤◌, Bool, true, false, cond, ◌&&◌, ◌||◌, ◌==◌, List, [], ◌∷◌, ◌++◌, length, take, map, filter, ◌≢◌, ◌⊎◌, ◌<◌, zero, Some, None, slice_get}
 use Rattle.std.specs.List.{AllByRecursion, list_any}
-use Rattle.std.proofs.Common.{refl, sym, ap, ◌∙◌, arith}
+use Rattle.std.proofs.Common.{refl, sym, ap, ◌∙◌, arith, subst, inl, inr, Option, find}
 use Rattle.std.proofs.Math.Bool.{and_comm}
-use Rattle.std.proofs.lemmas.Bool.{eqb-true}
+use Rattle.std.proofs.lemmas.Bool.{eqb-true, ne_eqb, eqb-false}
 use Rattle.std.proofs.lemmas.List.{drop-append-le, length-append, take-append-drop}
 use Rattle.std.proofs.lemmas.List.Elements.{filter_agree}
 use Rattle.pana_hall.specs.Pending.{last, behind, is_last}
+use Rattle.std.proofs.lemmas.Option.{slice_get_within}
+use Rattle.circular_buffer.proofs.Places.{slice_get-append_left}
+use Rattle.pana_journal.specs.declared.entry.Entry.{Entry}
+use Rattle.pana_journal.specs.Entries.{entry_at}
+use Rattle.pana_hall.specs.laws.Layers.{AreRising}
+
+-- Lists of which a test keeps some members, and their last numbers.
 
 pub each_append : {X : Type 0} (P : X → Type 0) (xs ys : List X) → AllByRecursion P xs → AllByRecursion P ys → AllByRecursion P (xs ++ ys)
 each_append P [] ys a b = b
@@ -38,6 +45,10 @@ each_filter P q (x ∷ xs) a =
       | true ↦ (a.0, each_filter P q xs a.1)
       | false ↦ each_filter P q xs a.1
     ]
+
+pub each_map : {X Y : Type 0} (P : Y → Type 0) (f : X → Y) (xs : List X) → AllByRecursion (λ x. P (f x)) xs → AllByRecursion P (map f xs)
+each_map P f [] each = tt
+each_map P f (x ∷ xs) each = (each.0, each_map P f xs each.1)
 
 pub map_map : {X Y Z : Type 0} (f : X → Y) (g : Y → Z) (xs : List X) → map g (map f xs) ≡ map (λ x. g (f x)) xs
 map_map f g [] = refl
@@ -117,3 +128,103 @@ pub is_last-push : (numbers : List ℕ) (x n : ℕ) → is_last n (numbers ++ x 
 is_last-push [] x n = refl
 is_last-push (a ∷ []) x n = refl
 is_last-push (a ∷ b ∷ numbers) x n = is_last-push (b ∷ numbers) x n
+
+-- Lists by rising numbers.
+
+pub rises_lower : {X : Type 0} (key : X → ℕ) (low low' : ℕ) (xs : List X) → low' ≤ low → AreRising key low xs → AreRising key low' xs
+rises_lower key low low' [] below rises = tt
+rises_lower key low low' (x ∷ xs) below rises = let first = rises.0 in (omega arith, rises.1)
+
+pub rises_filter : {X : Type 0} (key : X → ℕ) (low : ℕ) (q : X → Bool) (xs : List X) → AreRising key low xs → AreRising key low (filter q xs)
+rises_filter key low q [] rises = tt
+rises_filter key low q (x ∷ xs) rises =
+    let first = rises.0 in
+    elim (q x) as (λ b. AreRising key low (cond b (x ∷ filter q xs) (filter q xs))) [
+      | true ↦ (rises.0, rises_filter key (key x) q xs rises.1)
+      | false ↦ rises_lower key (key x) low (filter q xs) (omega arith) (rises_filter key (key x) q xs rises.1)
+    ]
+
+pub rises_map : {X Y : Type 0} (f : X → Y) (key : X → ℕ) (key' : Y → ℕ) → ((x : X) → key' (f x) ≡ key x) → (low : ℕ) (xs : List X) → AreRising key low xs → AreRising key' low (map f xs)
+rises_map f key key' same low [] rises = tt
+rises_map f key key' same low (x ∷ xs) rises = (subst (λ k. low < k) (sym (same x)) rises.0, rises_map f key key' same (key' (f x)) xs (subst (λ k. AreRising key k xs) (sym (same x)) rises.1))
+
+-- each is above the bound
+pub rises_each : {X : Type 0} (key : X → ℕ) (low : ℕ) (xs : List X) → AreRising key low xs → AllByRecursion (λ x. low < key x) xs
+rises_each key low [] rises = tt
+rises_each key low (x ∷ xs) rises = let first = rises.0 in (rises.0, each_weaker (λ y. key x < key y) (λ y. low < key y) xs (λ y h. omega arith) (rises_each key (key x) xs rises.1))
+
+-- what has a key
+abbrev pub under : {X : Type 0} → (X → ℕ) → List X → ℕ → Option X
+under key xs n = find (λ x. key x == n) xs
+
+pub none_under : {X : Type 0} (key : X → ℕ) (low n : ℕ) (xs : List X) → AreRising key low xs → n ≤ low → under key xs n ≡ None
+none_under key low n [] rises below = refl
+none_under key low n (x ∷ xs) rises below =
+    let first = rises.0 in
+    ap (λ b. cond b (Some x) (under key xs n)) (ne_eqb (key x) n (λ h. omega arith)) ∙ none_under key (key x) n xs rises.1 (omega arith)
+
+-- what is found by a test passes it
+pub found_by : {X : Type 0} (p : X → Bool) (P : X → Type 0) (xs : List X) (x : X) → AllByRecursion P xs → find p xs ≡ Some x → (p x ≡ true) × P x
+found_by p P [] x each found = absurd (cc)
+found_by p P (y ∷ xs) x each found =
+    elim (p y) as (λ b. p y ≡ b → cond b (Some y) (find p xs) ≡ Some x → (p x ≡ true) × P x) [
+      | true ↦ λ e f. let same : y ≡ x = cc in subst (λ z. (p z ≡ true) × P z) same (e, each.0)
+      | false ↦ λ e f. found_by p P xs x each.1 f
+    ] refl found
+
+pub rises_push : {X : Type 0} (key : X → ℕ) (low : ℕ) (xs : List X) (y : X) → AreRising key low xs → AllByRecursion (λ x. key x < key y) xs → low < key y → AreRising key low (xs ++ y ∷ [])
+rises_push key low [] y rises below more = (more, tt)
+rises_push key low (x ∷ xs) y rises below more = (rises.0, rises_push key (key x) xs y rises.1 below.1 below.0)
+
+pub rises_above : {X : Type 0} (key : X → ℕ) (low : ℕ) (xs : List X) (y : X) → AreRising key low (xs ++ y ∷ []) → low < key y
+rises_above key low [] y rises = rises.0
+rises_above key low (x ∷ xs) y rises = let first = rises.0 in let rest : key x < key y = rises_above key (key x) xs y rises.1 in omega arith
+
+-- the last is above all others
+pub rises_last : {X : Type 0} (key : X → ℕ) (low : ℕ) (xs : List X) (y : X) → AreRising key low (xs ++ y ∷ []) → AllByRecursion (λ x. key x < key y) xs
+rises_last key low [] y rises = tt
+rises_last key low (x ∷ xs) y rises = (rises_above key (key x) xs y rises.1, rises_last key (key x) xs y rises.1)
+
+pub slice_get-append : {X : Type 0} (xs ys : List X) (i : ℕ) (x : X) → slice_get xs i ≡ Some x → slice_get (xs ++ ys) i ≡ Some x
+slice_get-append xs ys i x e = slice_get-append_left xs ys i (slice_get_within xs i x e) ∙ e
+
+pub slice_get-push : {X : Type 0} (xs : List X) (x : X) → slice_get (xs ++ x ∷ []) (length xs) ≡ Some x
+slice_get-push [] x = refl
+slice_get-push (z ∷ xs) x = slice_get-push xs x
+
+-- an item with a number, from 1, keeps it where more come
+pub at-append : {X : Type 0} (xs more : List X) (n : ℕ) (x : X) → cond (n == 0) None (slice_get xs (n - 1)) ≡ Some x → cond (n == 0) None (slice_get (xs ++ more) (n - 1)) ≡ Some x
+at-append xs more n x e =
+    elim (n == 0) as (λ b. cond b None (slice_get xs (n - 1)) ≡ Some x → cond b None (slice_get (xs ++ more) (n - 1)) ≡ Some x) [
+      | true ↦ λ h. absurd (cc)
+      | false ↦ λ h. slice_get-append xs more (n - 1) x h
+    ] e
+
+pub at-push : {X : Type 0} (xs : List X) (x : X) → cond (length xs + 1 == 0) None (slice_get (xs ++ x ∷ []) (length xs + 1 - 1)) ≡ Some x
+at-push xs x =
+    let place : length xs + 1 - 1 ≡ length xs = omega arith in
+    ap (λ b. cond b None (slice_get (xs ++ x ∷ []) (length xs + 1 - 1))) (ne_eqb (length xs + 1) 0 (λ h. omega arith)) ∙ ap (slice_get (xs ++ x ∷ [])) place ∙ slice_get-push xs x
+
+-- an entry that is found in a journal and one more is the new one, or was found before
+pub slice_get-push_cases : {X : Type 0} (xs : List X) (y : X) (i : ℕ) (x : X) → slice_get (xs ++ y ∷ []) i ≡ Some x → (slice_get xs i ≡ Some x) ⊎ ((i ≡ length xs) × (y ≡ x))
+slice_get-push_cases [] y zero x e = inr (refl, cc)
+slice_get-push_cases [] y (suc i) x e = absurd (cc)
+slice_get-push_cases (z ∷ xs) y zero x e = inl e
+slice_get-push_cases (z ∷ xs) y (suc i) x e =
+    elim (slice_get-push_cases xs y i x e) [
+      | inl old ↦ inl old
+      | inr new ↦ inr (ap suc new.0, new.1)
+    ]
+
+pub slice_get-each : {X : Type 0} (P : X → Type 0) (xs : List X) (i : ℕ) (x : X) → AllByRecursion P xs → slice_get xs i ≡ Some x → P x
+slice_get-each P [] i x each e = absurd (cc)
+slice_get-each P (z ∷ xs) zero x each e = let same : z ≡ x = cc in subst P same each.0
+slice_get-each P (z ∷ xs) (suc i) x each e = slice_get-each P xs i x each.1 e
+
+-- an entry with number n is at index n - 1
+pub entry_at_place : (journal : List Entry) (n : ℕ) (entry : Entry) → entry_at journal n ≡ Some entry → (n ≢ 0) × (slice_get journal (n - 1) ≡ Some entry)
+entry_at_place journal n entry e =
+    elim (n == 0) as (λ b. (n == 0) ≡ b → cond b None (slice_get journal (n - 1)) ≡ Some entry → (n ≢ 0) × (slice_get journal (n - 1) ≡ Some entry)) [
+      | true ↦ λ z h. absurd (cc)
+      | false ↦ λ z h. (eqb-false n 0 z, h)
+    ] refl e

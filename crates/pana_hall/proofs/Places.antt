@@ -1,30 +1,265 @@
--- No two living copies are kept at one place, also where entries are withdrawn.
-use Rattle.std.specs.Prelude.{◌≡◌, ℕ, ◌<◌, Bool, true, false, cond, not, ◌&&◌, ◌==◌, List, [], ◌∷◌, ◌++◌, find, Option, Some, None, option_map, option_and_then, ◌≢◌}
+-- Where the copies are kept, as entries come and are withdrawn.
+use Rattle.std.specs.Prelude.{◌≡◌, ◌≢◌, ℕ, not, ◌==◌, List, [], ◌∷◌, ◌++◌, length, filter, Some, None, option_and_then, ◌+◌, ◌<◌, Bool, true, false, cond, fold, Option, option_map, ◌&&◌, find, map}
 use Rattle.std.specs.List.{AllByRecursion}
+use Rattle.std.proofs.Common.{refl, sym, ap, ◌∙◌, subst, inl, inr, arith, append-nil}
+use Rattle.std.proofs.Math.Bool.{or-false}
+use Rattle.std.proofs.lemmas.List.Elements.{filter_agree}
+use Rattle.pana_journal.specs.declared.report.Report.TheVariants.{Withdraw, Register, Duplicate, Edit, Reconcile, Merge, Relocate, Remove, Confirm}
+use Rattle.pana_journal.specs.declared.entry.Entry.{Entry}
+use Rattle.pana_hall.specs.Family.{families, entries_of}
+use Rattle.pana_hall.specs.Effective.{effective, left_out, is_of_copies}
+use Rattle.pana_hall.specs.Living.{Copy, copy_in, copies_of, living, after_report, known_to, after_entry, registered, duplicated, edited, moved, with_updates}
+use Rattle.pana_hall.specs.Pending.{last}
+use Rattle.pana_hall.specs.Refusal.{brought_back, displaced, report_refusal, full, unknown, taken, taken_from}
+use Rattle.pana_hall.specs.Accepted.{IsAccepted, Accepts}
+use Rattle.pana_hall.specs.laws.Tables.{table, layer}
+use Rattle.pana_hall.proofs.Lists.{each_filter, filter_swap, last_push, each_weaker, each_two}
+use Rattle.pana_hall.proofs.Moves.{displaced_named, found_number, IsWell, found_fits, copies_fit, copies_of-family, copies_of-push, copy_in-family, AreBelow, Same, at_copy, unite, stays, comes, stays_same, new_number, each_after, if_some, none_below, found_push, found_after, Fits}
+use Rattle.pana_hall.proofs.Sound.{own, own_other, effective-withdraw, IsSound, accepted_is_sound, effective_well, effective-copies, living_fit, effective-confirm, first_none, free_place, in_accepted, OfCopies, Confirms, Withdraws, kind_of}
+use Rattle.pana_hall.proofs.Tables.{EndsIn, all_but_last, last_none, layer_now, table_own, open_withdraw, living_rises}
+use Rattle.pana_hall.proofs.Knowns.{layer_founded}
+use Rattle.std.specs.Option.{option_to_list}
+use Rattle.std.proofs.lemmas.Bool.{eqb-true, eqb-false, eq-eqb, ne_eqb, cases_eq}
+use Rattle.pana_copies.specs.Spots.{Spot, placed}
+use Rattle.pana_journal.specs.declared.report.Report.{Report}
+use Rattle.pana_family.specs.Updates.{union}
+use Rattle.pana_hall.specs.inner.Spots.{spot_of, spot_in, mover, spot_to, put, spot_after}
 use Rattle.std.specs.Str.{bytes_eq}
-use Rattle.std.proofs.Common.{refl, sym, ap, ◌∙◌, arith}
-use Rattle.std.proofs.lemmas.Bool.{eqb-true, eq-eqb, ne_eqb}
 use Rattle.std.proofs.lemmas.Slice.Eq.{bytes_eq-Decides}
 use Rattle.pana_copies.specs.declared.place.Place.{Place}
 use Rattle.pana_copies.specs.Places.{same_place}
-use Rattle.pana_copies.specs.Spots.{Spot, placed}
-use Rattle.pana_journal.specs.declared.report.Report.{Report}
-use Rattle.pana_journal.specs.declared.report.Report.TheVariants.{Register, Duplicate, Relocate, Confirm}
-use Rattle.pana_journal.specs.declared.entry.Entry.{Entry}
 use Rattle.pana_hall.specs.declared.cause.Cause.TheVariants.{PlaceTaken}
-use Rattle.pana_hall.specs.Living.{Copy, copy_in, living, copies_of}
-use Rattle.pana_hall.specs.Refusal.{report_refusal, full, unknown, taken, taken_from, brought_back, displaced}
-use Rattle.pana_hall.specs.Accepted.{Accepts, IsAccepted}
 use Rattle.pana_hall.specs.laws.Layers.{AreApart, AreRising}
-use Rattle.pana_hall.specs.inner.Spots.{spot_of, spot_in, mover, spot_to, put}
-use Rattle.pana_hall.proofs.Lists.{each_two, each_weaker}
-use Rattle.pana_hall.proofs.Moves.{found_number}
-use Rattle.pana_hall.proofs.Grown.{effective-confirm}
-use Rattle.pana_hall.proofs.Allowed.{first_none, free_place}
-use Rattle.pana_hall.proofs.Sound.{IsSound, accepted_is_sound, in_accepted, OfCopies, Confirms, Withdraws, kind_of}
-use Rattle.pana_hall.proofs.Tables.{open_withdraw, living_rises}
-use Rattle.pana_hall.proofs.Undone.{back_number}
-use Rattle.pana_hall.proofs.Spots.{spots_next, spots_withdrawn}
+use Rattle.pana_hall.specs.declared.holding.Holding.{Holding}
+use Rattle.pana_hall.specs.Holdings.{HaveOwnPaths}
+use Rattle.pana_hall.specs.Queries.{holding, holdings}
+
+-- The copies that are left where the last pending entry of a family is left out.
+
+left_out_one : (m : ℕ) (entries : List Entry) → left_out (m ∷ []) entries ≡ filter (λ e. not (m == e.number)) entries
+left_out_one m entries = filter_agree _ _ (λ e. ap not (or-false (m == e.number))) entries
+
+-- what a Withdraw leaves
+pub living_withdrawn : (journal : List Entry) (entry : Entry) (m : ℕ) → entry.report ≡ Withdraw m → living (journal ++ entry ∷ []) ≡ copies_of (left_out (m ∷ []) (effective journal))
+living_withdrawn journal entry m is = ap copies_of (effective-withdraw journal entry m is ∙ sym (left_out_one m (effective journal)))
+
+-- a copy is found among those of its family's entries
+found_own : (of : ℕ → ℕ) (last a : ℕ) (entries : List Entry) → AllByRecursion (IsWell of last) entries → copy_in (copies_of entries) a ≡ copy_in (copies_of (entries_of (of a) of entries)) a
+found_own of last a entries well =
+    sym (copy_in-family of last (of a) a (copies_of entries) (copies_fit of last entries well) refl)
+    ∙ ap (λ l. copy_in l a) (copies_of-family of last (of a) entries well)
+
+module _ {most m : ℕ} {journal : List Entry} (sound : IsSound most journal) (ends : EndsIn most m journal) where
+  rest_is : filter (λ e. not (m == e.number)) (own (families journal m) journal) ≡ ends.entries
+  rest_is = ap (filter (λ e. not (m == e.number))) ends.own ∙ all_but_last (λ e. e.number) m ends.entries ends.last ends.below ends.number
+
+  pub layer_before : layer most 1 (families journal m) journal ≡ ends.entries
+  layer_before =
+      let own_entries = own (families journal m) journal in
+      ap (λ l. left_out l own_entries) (ap (last 1) ends.pending ∙ last_push 0 ends.numbers m ∙ ap (λ l. l ++ m ∷ []) (last_none ends.numbers)) ∙ left_out_one m own_entries ∙ rest_is
+
+  -- each copy that is left, by its family
+  left_own : (a : ℕ) → copy_in (copies_of (left_out (m ∷ []) (effective journal))) a ≡ copy_in (copies_of (filter (λ e. not (m == e.number)) (own (families journal a) journal))) a
+  left_own a =
+      found_own (families journal) (length journal) a (left_out (m ∷ []) (effective journal)) (each_filter _ _ (effective journal) (effective_well most journal sound))
+      ∙ ap (λ l. copy_in (copies_of l) a) (filter_swap _ _ (effective journal) ∙ left_out_one m (own (families journal a) journal))
+
+  pub left_here : (a : ℕ) → families journal a ≡ families journal m → copy_in (copies_of (left_out (m ∷ []) (effective journal))) a ≡ copy_in (copies_of ends.entries) a
+  left_here a of = left_own a ∙ ap (λ f. copy_in (copies_of (filter (λ e. not (m == e.number)) (own f journal))) a) of ∙ ap (λ l. copy_in (copies_of l) a) rest_is
+
+  pub left_other : (a : ℕ) → families journal a ≢ families journal m → copy_in (copies_of (left_out (m ∷ []) (effective journal))) a ≡ copy_in (living journal) a
+  left_other a other =
+      left_own a ∙ ap (λ l. copy_in (copies_of l) a) (own_other (families journal a) (families journal) m (effective journal) (λ h. other (sym h)))
+      ∙ sym (found_own (families journal) (length journal) a (effective journal) (effective_well most journal sound))
+
+  -- and each that lives now
+  pub now_here : (a : ℕ) → families journal a ≡ families journal m → copy_in (living journal) a ≡ copy_in (after_report m ends.last.report (copies_of ends.entries)) a
+  now_here a of =
+      found_own (families journal) (length journal) a (effective journal) (effective_well most journal sound)
+      ∙ ap (λ f. copy_in (copies_of (own f journal)) a) of
+      ∙ ap (λ l. copy_in (copies_of l) a) ends.own
+      ∙ ap (λ l. copy_in l a) (copies_of-push ends.entries ends.last)
+      ∙ ap (λ k. copy_in (after_report k ends.last.report (copies_of ends.entries)) a) ends.number
+
+  -- the copy that the entry moved or removed is of its family
+  pub displaced_of : (c : ℕ) → displaced ends.last.report ≡ Some c → families journal c ≡ families journal m
+  displaced_of c moves = (ends.well.belongs.joins c (displaced_named ends.last.report c moves)).family ∙ ap (families journal) ends.number
+
+  -- and what is brought back is that copy as the entries before make it
+  pub back_before : (c : ℕ) → displaced ends.last.report ≡ Some c → brought_back m journal ≡ copy_in (copies_of ends.entries) c
+  back_before c moves =
+      ap (option_and_then (λ x. option_and_then (copy_in (copies_of (left_out (m ∷ []) (effective journal)))) (displaced x.report))) ends.at
+      ∙ ap (option_and_then (copy_in (copies_of (left_out (m ∷ []) (effective journal))))) moves
+      ∙ left_here c (displaced_of c moves)
+
+  pub back_none : displaced ends.last.report ≡ None → brought_back m journal ≡ None
+  back_none none =
+      ap (option_and_then (λ x. option_and_then (copy_in (copies_of (left_out (m ∷ []) (effective journal)))) (displaced x.report))) ends.at
+      ∙ ap (option_and_then (copy_in (copies_of (left_out (m ∷ []) (effective journal))))) none
+
+  pub back_number : (back : Copy) → brought_back m journal ≡ Some back → displaced ends.last.report ≡ Some back.number
+  back_number back is =
+      elim (displaced ends.last.report) as (λ d. displaced ends.last.report ≡ d → d ≡ Some back.number) [
+        | None ↦ λ e. let none = back_none e in absurd (cc)
+        | Some c ↦ λ e. ap (λ k. Some k) (sym (found_number (copies_of ends.entries) c back (sym (back_before c e) ∙ is)))
+      ] refl
+
+  -- it is in the table that leaves out one
+  pub back_in_table : (c : ℕ) → displaced ends.last.report ≡ Some c → brought_back m journal ≡ copy_in (table most 1 (families journal m) journal) c
+  back_in_table c moves = back_before c moves ∙ ap (λ l. copy_in l c) (sym (table_own most 1 (families journal m) journal sound ∙ ap copies_of layer_before))
+
+-- there is one
+pub record Back (journal : List Entry) (m c : ℕ) (entries : List Entry) : Type 0 where
+  pub copy : Copy
+  pub is : brought_back m journal ≡ Some copy
+  pub number : copy.number ≡ c
+  pub found : copy_in (copies_of entries) c ≡ Some copy
+  pub family : copy.family ≡ families journal m
+
+pub back_at : (journal : List Entry) (m c : ℕ) → IsAccepted 8 journal → (ends : EndsIn 8 m journal) → displaced ends.last.report ≡ Some c → Back journal m c ends.entries
+back_at journal m c accepted ends moves =
+    let sound = accepted_is_sound 8 journal accepted in
+    let lives = layer_founded journal accepted 0 (families journal m) ends.entries ends.last (layer_now 8 (families journal m) journal ∙ ends.own) c (displaced_named ends.last.report c moves) in
+    let of = displaced_of sound ends c moves in
+    let left = left_out (m ∷ []) (effective journal) in
+    let fit = found_fits (families journal) (length journal) c (copies_of left) lives.0 (copies_fit (families journal) (length journal) left (each_filter _ _ (effective journal) (effective_well 8 journal sound)))
+    (left_here sound ends c of ∙ lives.1) in
+    record { copy = lives.0; is = back_before sound ends c moves ∙ lives.1; number = fit.0; found = lives.1; family = fit.1.family ∙ ap (families journal) fit.0 ∙ of }
+
+-- Where the copies are kept, as entries come and are withdrawn.
+
+still_at : (c : ℕ) (f : Copy → Copy) → ((x : Copy) → spot_of (f x) ≡ spot_of x) → (x : Copy) → spot_of (at_copy c f x) ≡ spot_of x
+still_at c f still x = elim (x.number == c) as (λ b. spot_of (cond b (f x) x) ≡ spot_of x) [ true ↦ still x | false ↦ refl ]
+
+still_united : (n a b : ℕ) (both : List ℕ) (x : Copy) → spot_of (unite n a b both x) ≡ spot_of x
+still_united n a b both x = still_at b (with_updates n both) (λ z. refl) (at_copy a (with_updates n both) x) ∙ still_at a (with_updates n both) (λ z. refl) x
+
+-- a copy that the report doesn't move or remove stays where it is kept
+still : (n : ℕ) (report : Report) (copies : List Copy) (x : Copy) → (displaced report ≡ Some x.number → ⊥) → option_map spot_of (stays n report copies x) ≡ Some (spot_of x)
+still n (Edit c) copies x other = ap (λ s. Some s) (still_at c (edited n) (λ z. refl) x)
+still n (Reconcile a b) copies x other = ap (λ s. Some s) (still_united n a b (union (known_to copies a) (known_to copies b)) x)
+still n (Merge a b) copies x other = ap (λ s. Some s) (still_united n a b (union (n ∷ known_to copies a) (known_to copies b)) x)
+still n (Relocate c place) copies x other = ap (λ b. Some (spot_of (cond b (moved n place x) x))) (ne_eqb x.number c (λ h. other (ap (λ k. Some k) (sym h))))
+still n (Remove c heir) copies x other = ap (λ b. option_map spot_of (cond b None (Some x))) (ne_eqb x.number c (λ h. other (ap (λ k. Some k) (sym h))))
+still n report copies x other = refl
+
+spot_still : (n : ℕ) (report : Report) (copies : List Copy) (a : ℕ) → comes n report copies ≡ None → (displaced report ≡ Some a → ⊥) → spot_in (after_report n report copies) a ≡ spot_in copies a
+spot_still n report copies a none other =
+    ap (option_map spot_of) (found_after n report copies a none)
+    ∙ elim (copy_in copies a) as (λ o. copy_in copies a ≡ o → option_map spot_of (option_and_then (stays n report copies) o) ≡ option_map spot_of o) [
+      | None ↦ λ f. refl
+      | Some x ↦ λ f. still n report copies x (λ h. other (h ∙ ap (λ k. Some k) (found_number copies a x f)))
+    ] refl
+
+-- one that it moves or removes is kept where it goes
+spot_gone : (n : ℕ) (report : Report) (copies : List Copy) (c : ℕ) (to : Option Spot) → comes n report copies ≡ None → displaced report ≡ Some c
+    → ((x : Copy) → copy_in copies c ≡ Some x → option_map spot_of (stays n report copies x) ≡ to) → (copy_in copies c ≡ None → None ≡ to)
+    → (a : ℕ) → spot_in (after_report n report copies) a ≡ cond (a == c) to (spot_in copies a)
+spot_gone n report copies c to none moves goes nothing a =
+    elim (a == c) as (λ b. (a == c) ≡ b → spot_in (after_report n report copies) a ≡ cond b to (spot_in copies a)) [
+      | true ↦ λ e.
+          ap (spot_in (after_report n report copies)) (eqb-true a c e) ∙ ap (option_map spot_of) (found_after n report copies c none)
+          ∙ elim (copy_in copies c) as (λ o. copy_in copies c ≡ o → option_map spot_of (option_and_then (stays n report copies) o) ≡ to) [ None ↦ nothing | Some x ↦ goes x ] refl
+      | false ↦ λ e. spot_still n report copies a none (λ h. eqb-false a c e (let both : Some c ≡ Some a = sym moves ∙ h in cc))
+    ] refl
+
+cond_map : {X Y : Type 0} (f : X → Y) (b : Bool) (x y : X) → f (cond b x y) ≡ cond b (f x) (f y)
+cond_map f true x y = refl
+cond_map f false x y = refl
+
+-- what a report of copies changes, the next number being above all others
+pub spots_report : (n : ℕ) (report : Report) (copies : List Copy) → AreBelow n copies → (a : ℕ) → spot_in (after_report n report copies) a ≡ spot_after n report (spot_in copies) a
+spots_report n (Register place) copies below a = ap (option_map spot_of) (found_push copies (registered n place) a below) ∙ cond_map (option_map spot_of) (a == n) _ _
+spots_report n (Duplicate source place) copies below a =
+    elim (copy_in copies source) as (λ o. spot_in (copies ++ option_to_list (option_map (duplicated n place) o)) a ≡ cond (a == n) (placed place (option_map spot_of o)) (spot_in copies a)) [
+      | None ↦ ap (λ l. spot_in l a) (append-nil copies)
+          ∙ elim (a == n) as (λ b. (a == n) ≡ b → spot_in copies a ≡ cond b None (spot_in copies a)) [
+            | true ↦ λ e. ap (spot_in copies) (eqb-true a n e) ∙ ap (option_map spot_of) (none_below n copies below)
+            | false ↦ λ e. refl
+          ] refl
+      | Some c ↦ ap (option_map spot_of) (found_push copies (duplicated n place c) a below) ∙ cond_map (option_map spot_of) (a == n) _ _
+    ]
+spots_report n (Relocate c place) copies below a =
+    spot_gone n (Relocate c place) copies c (placed place (spot_in copies c)) refl refl
+    (λ x f. ap (λ b. Some (spot_of (cond b (moved n place x) x))) (eq-eqb x.number c (found_number copies c x f)) ∙ ap (λ o. placed place (option_map spot_of o)) (sym f))
+    (λ f. ap (λ o. placed place (option_map spot_of o)) (sym f)) a
+spots_report n (Remove c heir) copies below a =
+    spot_gone n (Remove c heir) copies c None refl refl (λ x f. ap (λ b. option_map spot_of (cond b None (Some x))) (eq-eqb x.number c (found_number copies c x f))) (λ f. refl) a
+spots_report n report copies below a = spot_still n report copies a refl (λ h. absurd (cc))
+
+-- what undoing it brings back: what was there at the number that it changed
+undone_at : (n : ℕ) (report : Report) (copies : List Copy) (back : Option Copy) → AreBelow n copies → ((c : ℕ) → displaced report ≡ Some c → back ≡ copy_in copies c) → (displaced report ≡ None → back ≡ None)
+    → (k : ℕ) → mover n report ≡ Some k → option_map spot_of back ≡ spot_in copies k
+undone_at n (Register place) copies back below is none k at = let same : n ≡ k = cc in ap (option_map spot_of) (none refl ∙ sym (none_below n copies below)) ∙ ap (spot_in copies) same
+undone_at n (Duplicate source place) copies back below is none k at = let same : n ≡ k = cc in ap (option_map spot_of) (none refl ∙ sym (none_below n copies below)) ∙ ap (spot_in copies) same
+undone_at n report copies back below is none k at = ap (option_map spot_of) (is k at)
+
+put_back : (o : Option ℕ) (new back : Option Spot) (spots after : ℕ → Option Spot) (a : ℕ) → ((k : ℕ) → o ≡ Some k → back ≡ spots k) → after a ≡ put o new spots a → spots a ≡ put o back after a
+put_back None new back spots after a is e = sym e
+put_back (Some k) new back spots after a is e =
+    elim (a == k) as (λ b. (a == k) ≡ b → after a ≡ cond b new (spots a) → spots a ≡ cond b back (after a)) [
+      | true ↦ λ same h. ap spots (eqb-true a k same) ∙ sym (is k refl)
+      | false ↦ λ same h. sym h
+    ] refl e
+
+pub put_same : (o : Option ℕ) (back other : Option Spot) (spots others : ℕ → Option Spot) (a : ℕ) → back ≡ other → spots a ≡ others a → put o back spots a ≡ put o other others a
+put_same None back other spots others a same e = e
+put_same (Some k) back other spots others a same e = ap (λ s. cond (a == k) s (spots a)) same ∙ ap (λ s. cond (a == k) other s) e
+
+put_other : (o : Option ℕ) (back : Option Spot) (spots : ℕ → Option Spot) (a : ℕ) → (o ≡ Some a → ⊥) → put o back spots a ≡ spots a
+put_other None back spots a other = refl
+put_other (Some k) back spots a other = ap (λ b. cond b back (spots a)) (ne_eqb a k (λ h. other (ap (λ i. Some i) (sym h))))
+
+pub living_below : (most n : ℕ) (journal : List Entry) → IsSound most journal → n ≡ length journal + 1 → AreBelow n (living journal)
+living_below most n journal sound next =
+    each_weaker (Fits (families journal) (length journal)) _ (living journal) (λ c fit. let within = fit.within in omega arith) (living_fit most journal sound)
+
+-- where copies are kept after a report of copies
+pub spots_next : (most : ℕ) (journal : List Entry) (entry : Entry) → IsSound most journal → Accepts most journal entry → is_of_copies entry.report ≡ true
+    → (a : ℕ) → spot_in (living (journal ++ entry ∷ [])) a ≡ spot_after entry.number entry.report (spot_in (living journal)) a
+spots_next most journal entry sound accepts is a =
+    let more : living (journal ++ entry ∷ []) ≡ after_entry (living journal) entry = ap copies_of (effective-copies journal entry is) ∙ copies_of-push (effective journal) entry in
+    ap (λ l. spot_in l a) more ∙ spots_report entry.number entry.report (living journal) (living_below most entry.number journal sound accepts.next) a
+
+-- the copies of entries below a number are below it
+below_fold : (m : ℕ) (copies : List Copy) (entries : List Entry) → AllByRecursion (λ e. e.number < m) entries → AreBelow m copies → AreBelow m (fold after_entry copies entries)
+below_fold m copies [] numbers below = below
+below_fold m copies (e ∷ entries) numbers below =
+    below_fold m (after_entry copies e) entries numbers.1
+    (each_after (λ c. c.number < m) e.number e.report copies (λ x h. if_some (Same x) (λ y. y.number < m) (stays e.number e.report copies x) (λ y is. subst (λ k. k < m) (sym is.number) h) (stays_same e.number e.report copies x))
+    (if_some (λ y. y.number ≡ e.number) (λ y. y.number < m) (comes e.number e.report copies) (λ y is. subst (λ k. k < m) (sym is) numbers.0) (new_number e.number e.report copies)) below)
+
+pub copies_below : (m : ℕ) (entries : List Entry) → AllByRecursion (λ e. e.number < m) entries → AreBelow m (copies_of entries)
+unfolding copies_of
+copies_below m entries numbers = below_fold m [] entries numbers tt
+
+mover_of : (of : ℕ → ℕ) (n : ℕ) (report : Report) → ((c : ℕ) → displaced report ≡ Some c → of c ≡ of n) → (a : ℕ) → mover n report ≡ Some a → of a ≡ of n
+mover_of of n (Register place) its a at = let same : n ≡ a = cc in ap of (sym same)
+mover_of of n (Duplicate source place) its a at = let same : n ≡ a = cc in ap of (sym same)
+mover_of of n report its a at = its a at
+
+-- where copies are kept after a Withdraw
+pub spots_withdrawn : (most m : ℕ) (journal : List Entry) (entry : Entry) → IsSound most journal → entry.report ≡ Withdraw m → (ends : EndsIn most m journal)
+    → (a : ℕ) → spot_in (living (journal ++ entry ∷ [])) a ≡ put (mover m ends.last.report) (option_map spot_of (brought_back m journal)) (spot_in (living journal)) a
+spots_withdrawn most m journal entry sound is ends a =
+    let of = families journal in
+    let report = ends.last.report in
+    let before = copies_of ends.entries in
+    let back = brought_back m journal in
+    let below = copies_below m ends.entries ends.below in
+    ap (λ l. spot_in l a) (living_withdrawn journal entry m is)
+    ∙ elim (cases_eq (of a) (of m)) [
+      | inl here ↦
+          ap (option_map spot_of) (left_here sound ends a here)
+          ∙ put_back (mover m report) (spot_to m report (spot_in before)) (option_map spot_of back) (spot_in before) (spot_in (after_report m report before)) a
+          (undone_at m report before back below (back_before sound ends) (back_none sound ends)) (spots_report m report before below a)
+          ∙ put_same (mover m report) (option_map spot_of back) (option_map spot_of back) (spot_in (after_report m report before)) (spot_in (living journal)) a refl (ap (option_map spot_of) (sym (now_here sound ends a here)))
+      | inr other ↦
+          ap (option_map spot_of) (left_other sound ends a other)
+          ∙ sym (put_other (mover m report) (option_map spot_of back) (spot_in (living journal)) a (λ h. other (mover_of of m report (displaced_of sound ends) a h)))
+    ]
+
+-- No two living copies are kept at one place, also where entries are withdrawn.
 
 pub same_place-itself : (place : Place) → same_place place place ≡ true
 same_place-itself place =
@@ -181,3 +416,38 @@ pub accepted_is_apart : (most : ℕ) (journal : List Entry) → IsAccepted most 
 accepted_is_apart most journal accepted =
     apart_in 0 (living journal) (living journal) (in_accepted most (λ j. OwnPlaces (spot_in (living j))) none_own (own_grows most) journal accepted)
     (living_rises most journal (accepted_is_sound most journal accepted)) (living_found most journal accepted)
+
+-- The living copies on a device have paths of their own, since no two have one place.
+
+abbrev on_device : List ℕ → List Copy → List Copy
+on_device device copies = filter (λ copy. bytes_eq copy.place.device device) copies
+
+one_place : (p q : Place) → p.device ≡ q.device → p.path ≡ q.path → p ≡ q
+one_place p q device path = ap (λ d. record { device = d; path = p.path }) device ∙ ap (λ x. record { device = q.device; path = x }) path
+
+paths_apart : (place : Place) (device : List ℕ) (copies : List Copy) → place.device ≡ device
+    → AllByRecursion (λ other. place ≢ other.place) copies → AllByRecursion (λ other. place.path ≢ other.path) (holdings copies device)
+paths_apart place device [] on apart = tt
+paths_apart place device (copy ∷ copies) on apart =
+    elim (bytes_eq copy.place.device device) as (λ b. bytes_eq copy.place.device device ≡ b
+    → AllByRecursion (λ other. place.path ≢ other.path) (map holding (cond b (copy ∷ on_device device copies) (on_device device copies)))) [
+      | true ↦ λ e. (
+        (λ same. apart.0 (one_place place copy.place (on ∙ sym ((bytes_eq-Decides copy.place.device device).0 e)) same)),
+        paths_apart place device copies on apart.1,
+      )
+      | false ↦ λ e. paths_apart place device copies on apart.1
+    ] refl
+
+own_paths : (device : List ℕ) (copies : List Copy) → AreApart copies → HaveOwnPaths (holdings copies device)
+own_paths device [] apart = tt
+own_paths device (copy ∷ copies) apart =
+    elim (bytes_eq copy.place.device device) as (λ b. bytes_eq copy.place.device device ≡ b
+    → HaveOwnPaths (map holding (cond b (copy ∷ on_device device copies) (on_device device copies)))) [
+      | true ↦ λ e. (paths_apart copy.place device copies ((bytes_eq-Decides copy.place.device device).0 e) apart.0, own_paths device copies apart.1)
+      | false ↦ λ e. own_paths device copies apart.1
+    ] refl
+
+pub found_have_own_paths : (journal : List Entry) (copies : List Copy) (device : List ℕ) (found : List Holding)
+    → IsAccepted 8 journal → copies ≡ living journal → found ≡ holdings copies device → HaveOwnPaths found
+found_have_own_paths journal copies device found accepted kept is =
+    subst HaveOwnPaths (sym is) (own_paths device copies (subst AreApart (sym kept) (accepted_is_apart 8 journal accepted)))

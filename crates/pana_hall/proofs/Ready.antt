@@ -1,30 +1,41 @@
--- What holds where nothing stands against a report: of its family and of the table of copies.
-use Rattle.std.specs.Prelude.{◌≡◌, ℕ, ◌+◌, List, length, Some, None, option_map}
-use Rattle.std.proofs.Common.{refl, sym, ap, ◌∙◌, subst}
+-- What holds where nothing stands against a report, and what it leaves.
+use Rattle.std.specs.Prelude.{◌≡◌, ℕ, ◌+◌, List, length, Some, None, option_map, cond, [], ◌∷◌, ◌++◌, Option, is_some, option_and_then, true, false, take, IfSome, IsSome}
+use Rattle.std.proofs.Common.{refl, sym, ap, ◌∙◌, subst, inl, inr, reverse}
 use Rattle.pana_copies.specs.declared.place.Place.{Place}
-use Rattle.pana_copies.specs.Spots.{Table, kept, place_of}
+use Rattle.pana_copies.specs.Spots.{Table, kept, place_of, Spot, placed}
 use Rattle.pana_journal.specs.declared.report.Report.{Report}
 use Rattle.pana_journal.specs.declared.entry.Entry.{Entry}
 use Rattle.pana_family.specs.Rows.{AreBefore}
 use Rattle.pana_family.specs.Report.{CanReport}
 use Rattle.pana_family.specs.declared.report.FamilyReport.{FamilyReport}
-use Rattle.pana_hall.specs.Family.{families, family_report, begun_or_joined, subject}
+use Rattle.pana_hall.specs.Pending.{pending}
+use Rattle.pana_hall.specs.Family.{families, family_report, begun_or_joined, subject, is_register}
 use Rattle.pana_hall.specs.Living.{Copy, copy_in, copies_of, living}
-use Rattle.pana_hall.specs.Refusal.{report_refusal, taken}
+use Rattle.pana_hall.specs.Refusal.{report_refusal, taken, taken_from, brought_back, displaced, full, unknown}
 use Rattle.pana_hall.specs.Accepted.{Accepts}
 use Rattle.pana_hall.specs.laws.Tables.{layer}
 use Rattle.pana_hall.specs.laws.Tables as tables
 use Rattle.pana_hall.specs.laws.Layers.{family_of_next}
-use Rattle.pana_hall.specs.inner.Undo.{KeptRows}
-use Rattle.pana_hall.specs.inner.Spots.{spot_of, IsFree}
-use Rattle.pana_hall.specs.inner.Kept.{next_entry, AreSpots, IsReady}
-use Rattle.pana_hall.proofs.Grown.{family_new}
-use Rattle.pana_hall.proofs.Sound.{IsSound, accepted_is_sound, living_fit, LivesIn, found_family, named_report}
-use Rattle.pana_hall.proofs.Tables.{table_own, merged}
-use Rattle.pana_hall.proofs.Places.{free_of}
-use Rattle.pana_hall.proofs.Spots.{living_below}
-use Rattle.pana_hall.proofs.Stood.{can_report, layers_stand, next_above}
-use Rattle.pana_hall.proofs.Moves.{Names, none_below}
+use Rattle.pana_hall.specs.inner.Undo.{KeptRows, last_place, confirmed, kept_rows, reported_kept, undone, withdrawn}
+use Rattle.pana_hall.specs.inner.Spots.{spot_of, IsFree, spot_in, mover, spot_to, put, spot_after, undone_spot, CanUndo, IsFreeFor, CanPlace}
+use Rattle.pana_hall.specs.inner.Kept.{next_entry, AreSpots, IsReady, place_before, undone_of, of_pending, family_of as family_kept, of_each}
+use Rattle.pana_hall.proofs.Sound.{family_new, IsSound, accepted_is_sound, living_fit, LivesIn, found_family, named_report, first_none, family_named}
+use Rattle.pana_hall.proofs.Tables.{table_own, merged, Open, open_withdraw, layer_now, EndsIn}
+use Rattle.pana_hall.proofs.Places.{free_of, living_below, Back, back_at, back_none, now_here, displaced_of, layer_before, copies_below, spots_report, spots_withdrawn, put_same, not_taken, living_confirmed, spots_next, back_before}
+use Rattle.pana_hall.proofs.Stood.{can_report, layers_stand, next_above, rows_changed}
+use Rattle.pana_hall.proofs.Moves.{Names, none_below, displaced_named, made_of, removed_named}
+use Rattle.std.proofs.lemmas.Bool.{eq-eqb}
+use Rattle.pana_journal.specs.declared.report.Report.TheVariants.{Register, Duplicate, Relocate, Remove, Withdraw, Confirm}
+use Rattle.pana_hall.proofs.Knowns.{layer_founded}
+use Rattle.pana_hall.proofs.Histories.{pending_undone}
+use Rattle.std.proofs.Math.Path.{fun_ext}
+use Rattle.pana_family.specs.declared.row.StampRow.{StampRow}
+use Rattle.pana_hall.specs.Effective.{is_of_copies}
+use Rattle.pana_hall.specs.StampRows.{rows_of}
+use Rattle.pana_hall.proofs.Histories as kept_families
+use Rattle.std.proofs.lemmas.List.{reverse-append}
+
+-- What holds where nothing stands against a report: of its family and of the table of copies.
 
 pub family_of : (journal : List Entry) (c : ℕ) (copy : Copy) → IsSound 8 journal → copy_in (living journal) c ≡ Some copy → copy.family ≡ families journal c
 family_of journal c copy sound found = found_family journal c copy (living_fit 8 journal sound) found
@@ -66,25 +77,14 @@ module _ {journal : List Entry} {by : List ℕ} {report : Report} {it : KeptRows
   pub able_there : IsReady journal by report it copies → {of : FamilyReport} → family_report report ≡ Some of → CanReport of it.rows
   able_there ready {of} about =
       let entry = next_entry journal by report in
-      subst (λ (k : KeptRows). CanReport of k.rows) (sym ready.kept)
-      (can_report journal entry report of (accepted_is_sound 8 journal ready.accepted) (accepts_next journal by report ready.free) refl about (layers_stand journal ready.accepted 0 (family_of_next journal entry)))
+      let able = can_report journal entry (accepted_is_sound 8 journal ready.accepted) (accepts_next journal by report ready.free) (layers_stand journal ready.accepted 0 (family_of_next journal entry)) in
+      subst (λ (k : KeptRows). CanReport of k.rows) (sym ready.kept) (subst (λ o. IfSome o (λ f. CanReport f (rows_of (layer 8 0 (family_of_next journal entry) journal)))) about able)
 
   pub new_there : IsReady journal by report it copies → (n : ℕ) → n ≡ length journal → AreBefore (n + 1) it.rows
   new_there ready n is =
       let entry = next_entry journal by report in
       let above = next_above journal entry (accepted_is_sound 8 journal ready.accepted) (accepts_next journal by report ready.free) (layers_stand journal ready.accepted 0 (family_of_next journal entry)) in
       subst (λ k. AreBefore (k + 1) it.rows) (sym is) (subst (λ (k : KeptRows). AreBefore (length journal + 1) k.rows) (sym ready.kept) above.0)
-
-  -- where a copy is kept
-  pub place_there : IsReady journal by report it copies → (c : ℕ) → place_of copies c ≡ option_map (λ copy. copy.place) (copy_in (living journal) c)
-  place_there ready c = place_spots journal copies ready.spots c
-
-  pub at_place : IsReady journal by report it copies → (c : ℕ) (place : Place) → place_of copies c ≡ Some place → (copy : Copy) × (copy_in (living journal) c ≡ Some copy) × (copy.place ≡ place)
-  at_place ready c place at = at_spots journal copies ready.spots c place at
-
-  -- a place that isn't taken is free
-  pub is_free : IsReady journal by report it copies → (place : Place) → taken place (living journal) ≡ None → IsFree place copies
-  is_free ready place free = free_spots journal copies ready.spots place free
 
   -- the next number is no copy's
   pub is_fresh : IsReady journal by report it copies → (n : ℕ) → n ≡ length journal → kept copies (n + 1) ≡ None
@@ -97,3 +97,205 @@ module _ {journal : List Entry} {by : List ℕ} {report : Report} {it : KeptRows
   own_copy ready c of =
       let sound = accepted_is_sound 8 journal ready.accepted in
       ap (λ l. copy_in l c) (sym (table_own 8 0 it.number journal sound)) ∙ ap (λ f. copy_in (tables.table 8 0 f journal) c) (sym of) ∙ sym ((merged 8 journal sound).found c)
+
+-- What holds where a Withdraw isn't refused: how the entry can be undone.
+
+-- the record of a family's last pending entry has the place of the copy that undoing it brings back
+pub given_back : (journal : List Entry) (m : ℕ) → IsSound 8 journal → (ends : EndsIn 8 m journal) → last_place (family_kept journal (families journal m)).undo ≡ option_map (λ copy. copy.place) (brought_back m journal)
+given_back journal m sound ends =
+    let family = families journal m in
+    let place_of_copy : Option Copy → Option Place = option_map (λ copy. copy.place) in
+    let turned : reverse (pending 8 family journal) ≡ m ∷ reverse ends.numbers = ap reverse ends.pending ∙ reverse-append ends.numbers (m ∷ []) in
+    ap (λ l. last_place (of_each (undone_of journal) (λ k. layer 8 (k + 1) family journal) l)) turned
+    ∙ ap (λ e. place_before e (copies_of (layer 8 1 family journal))) ends.at
+    ∙ elim (displaced ends.last.report) as (λ d. displaced ends.last.report ≡ d → option_and_then (λ c. place_of_copy (copy_in (copies_of (layer 8 1 family journal)) c)) d ≡ place_of_copy (brought_back m journal)) [
+      | None ↦ λ e. ap place_of_copy (sym (back_none sound ends e))
+      | Some c ↦ λ e. ap (λ l. place_of_copy (copy_in (copies_of l) c)) (layer_before sound ends) ∙ ap place_of_copy (sym (back_before sound ends c e))
+    ] refl
+
+module _ {journal : List Entry} {by : List ℕ} {m : ℕ} {it : KeptRows} {copies : Table} (ready : IsReady journal by (Withdraw m) it copies) where
+  abbrev sound : IsSound 8 journal
+  sound = accepted_is_sound 8 journal ready.accepted
+
+  pub opened : Open 8 m journal
+  opened = open_withdraw 8 m journal by (Withdraw m) sound refl ready.free
+
+  abbrev ends : EndsIn 8 m journal
+  ends = opened.ends
+
+  -- the place that the entry gives back
+  front : last_place it.undo ≡ option_map (λ copy. copy.place) (brought_back m journal)
+  front = ap (λ (k : KeptRows). last_place k.undo) (ready.kept ∙ ap (family_kept journal) (family_named 8 journal (next_entry journal by (Withdraw m)) m (inr refl))) ∙ given_back journal m sound ends
+
+  front_back : (c : ℕ) → (back : Back journal m c ends.entries) → last_place it.undo ≡ Some back.copy.place
+  front_back c back = front ∙ ap (option_map (λ copy. copy.place)) back.is
+
+  front_none : displaced ends.last.report ≡ None → last_place it.undo ≡ None
+  front_none none = front ∙ ap (option_map (λ copy. copy.place)) (back_none sound ends none)
+
+  -- no other copy has the place of the one that lived before the entry
+  back_free : (c : ℕ) → (back : Back journal m c ends.entries) → (number : ℕ) → place_of copies number ≡ Some back.copy.place → number ≡ c
+  back_free c back number at_it =
+      let there = at_spots journal copies ready.spots number back.copy.place at_it in
+      let free : taken_from back.copy (living journal) ≡ None = ap (option_and_then (λ copy. taken_from copy (living journal))) (sym back.is) ∙ opened.free in
+      not_taken back.copy (living journal) number there.0 free there.1 there.2 ∙ back.number
+
+  -- where the copy that the entry made, moved or removed is kept since
+  kept_moved : (c : ℕ) → mover m ends.last.report ≡ Some c → families journal c ≡ families journal m → kept copies c ≡ spot_to m ends.last.report (spot_in (copies_of ends.entries))
+  kept_moved c moves of =
+      let report = ends.last.report in
+      let before = spot_in (copies_of ends.entries) in
+      ready.spots c ∙ ap (option_map spot_of) (now_here sound ends c of) ∙ spots_report m report (copies_of ends.entries) (copies_below m ends.entries ends.below) c
+      ∙ ap (λ k. put k (spot_to m report before) before c) moves ∙ ap (λ b. cond b (spot_to m report before) (before c)) (eq-eqb c c refl)
+
+  undo_by : (report : Report) → ends.last.report ≡ report → CanUndo m report it.number (last_place it.undo) copies
+  undo_by (Register place) e = (front_none (ap displaced e), ap is_some (kept_moved m (ap (mover m) e) refl ∙ ap (λ r. spot_to m r (spot_in (copies_of ends.entries))) e))
+  undo_by (Duplicate source place) e =
+      let lives = layer_founded journal ready.accepted 0 (families journal m) ends.entries ends.last (layer_now 8 (families journal m) journal ∙ ends.own) source (subst (λ r. Names r source) (sym e) refl) in (
+        front_none (ap displaced e),
+        ap is_some (kept_moved m (ap (mover m) e) refl ∙ ap (λ r. spot_to m r (spot_in (copies_of ends.entries))) e ∙ ap (λ x. placed place (option_map spot_of x)) lives.1),
+      )
+  undo_by (Relocate c place) e =
+      let back = back_at journal m c ready.accepted ends (ap displaced e) in
+      record {
+        place = back.copy.place;
+        back_is = front_back c back;
+        from = place;
+        lives = kept_moved c (ap (mover m) e) (displaced_of sound ends c (ap displaced e))
+            ∙ ap (λ r. spot_to m r (spot_in (copies_of ends.entries))) e ∙ ap (λ x. placed place (option_map spot_of x)) back.found
+            ∙ ap (λ f. Some (record { family = f; place = place })) (back.family ∙ sym (own_is ready));
+        free = back_free c back;
+      }
+  undo_by (Remove c heir) e =
+      let back = back_at journal m c ready.accepted ends (ap displaced e) in
+      let gone : kept copies c ≡ None = kept_moved c (ap (mover m) e) (displaced_of sound ends c (ap displaced e)) ∙ ap (λ r. spot_to m r (spot_in (copies_of ends.entries))) e in
+      record {
+        place = back.copy.place;
+        back_is = front_back c back;
+        gone = gone;
+        free = λ number at_it.
+            let none : place_of copies number ≡ None = ap (place_of copies) (back_free c back number at_it) ∙ ap (option_map (λ s. s.place)) gone in
+            absurd (cc);
+      }
+  undo_by report e = tt
+
+  pub can_undo : CanUndo m ends.last.report it.number (last_place it.undo) copies
+  can_undo = undo_by ends.last.report refl
+
+  -- and the table has the living copies then
+  pub undone_spots : (number : ℕ) → undone_spot m ends.last.report it.number (last_place it.undo) copies number ≡ spot_in (living (journal ++ next_entry journal by (Withdraw m) ∷ [])) number
+  undone_spots number =
+      let report = ends.last.report in
+      let spot_back : Option Place → Option Spot = option_map (λ p. record { family = it.number; place = p }) in
+      let same : spot_back (last_place it.undo) ≡ option_map spot_of (brought_back m journal) =
+      elim (displaced report) as (λ d. displaced report ≡ d → spot_back (last_place it.undo) ≡ option_map spot_of (brought_back m journal)) [
+        | None ↦ λ e. ap spot_back (front_none e) ∙ ap (option_map spot_of) (sym (back_none sound ends e))
+        | Some c ↦ λ e.
+            let back = back_at journal m c ready.accepted ends e in
+            ap spot_back (front_back c back) ∙ ap (λ f. Some (record { family = f; place = back.copy.place })) (own_is ready ∙ sym back.family) ∙ ap (option_map spot_of) (sym back.is)
+      ] refl in
+      put_same (mover m report) _ _ (kept copies) (spot_in (living journal)) number same (ready.spots number)
+      ∙ sym (spots_withdrawn 8 m journal (next_entry journal by (Withdraw m)) sound refl ends number)
+
+-- What a report that isn't refused leaves: its family, and the table of copies.
+
+-- a report that is neither a Register nor of an entry is one of a family that has begun
+pub of_family : (report : Report) → is_register report ≡ false → is_of_copies report ≡ true → (of : FamilyReport) × (family_report report ≡ Some of)
+of_family report later is = elim (made_of report is) [ inl begins ↦ absurd (let begun : is_register report ≡ true = ap is_register begins.1 in cc) | inr changes ↦ changes ]
+
+pub of_copies : (report : Report) → ((m : ℕ) → report ≡ Confirm m → ⊥) → ((m : ℕ) → report ≡ Withdraw m → ⊥) → is_of_copies report ≡ true
+of_copies (Confirm m) first second = absurd (first m refl)
+of_copies (Withdraw m) first second = absurd (second m refl)
+of_copies report first second = refl
+
+pub reports_copies : (report : Report) {of : FamilyReport} → family_report report ≡ Some of → is_of_copies report ≡ true
+reports_copies (Confirm m) about = absurd (cc)
+reports_copies (Withdraw m) about = absurd (cc)
+reports_copies report about = refl
+
+module _ {journal : List Entry} {by : List ℕ} {report : Report} {it : KeptRows} {copies : Table} (ready : IsReady journal by report it copies) where
+  -- the table goes by the report
+  pub spots_reported : is_of_copies report ≡ true → (n : ℕ) → n ≡ length journal → (after_it : Table) → ((number : ℕ) → kept after_it number ≡ spot_after (n + 1) report (kept copies) number)
+      → AreSpots (journal ++ next_entry journal by report ∷ []) after_it
+  spots_reported is n n_is after_it goes number =
+      goes number
+      ∙ ap (λ k. spot_after (k + 1) report (kept copies) number) n_is ∙ ap (λ s. spot_after (length journal + 1) report s number) (fun_ext ready.spots)
+      ∙ sym (spots_next 8 journal (next_entry journal by report) (accepted_is_sound 8 journal ready.accepted) (accepts_next journal by report ready.free) is number)
+
+  pub spots_confirm : {m : ℕ} → report ≡ Confirm m → AreSpots (journal ++ next_entry journal by report ∷ []) copies
+  spots_confirm {m} is number = ready.spots number ∙ ap (λ l. spot_in l number) (sym (living_confirmed journal (next_entry journal by report) m is))
+
+  -- a copy that the report names is kept
+  kept_named : {r : Report} → report ≡ r → (c : ℕ) → Names r c → IsSome (kept copies c)
+  kept_named is c names =
+      let there = named ready c (subst (λ x. Names x c) (sym is) names) in ap is_some (ready.spots c ∙ ap (option_map spot_of) there.found)
+
+  -- so is the one that it moves or removes
+  pub lives_displaced : IfSome (displaced report) (λ copy. IsSome (kept copies copy))
+  lives_displaced =
+      elim (displaced report) as (λ o. displaced report ≡ o → IfSome o (λ copy. IsSome (kept copies copy))) [ None ↦ λ e. tt | Some c ↦ λ e. kept_named refl c (displaced_named report c e) ] refl
+
+  -- a duplicate is kept beside its source
+  spot_duplicate : {source : ℕ} {place : Place} → report ≡ Duplicate source place → Some (record { family = it.number; place = place }) ≡ placed place (kept copies source)
+  spot_duplicate {source} {place} is =
+      let there = named ready source (subst (λ r. Names r source) (sym is) refl) in
+      ap (λ f. Some (record { family = f; place = place })) (sym there.of ∙ sym (family_of journal source there.copy (accepted_is_sound 8 journal ready.accepted) there.found))
+      ∙ ap (λ o. placed place (option_map spot_of o)) (sym there.found) ∙ ap (placed place) (sym (ready.spots source))
+
+  -- a place that a report gives a copy is free
+  free_duplicate : {source : ℕ} {place : Place} → report ≡ Duplicate source place → IsFree place copies
+  free_duplicate {source} {place} is =
+      free_spots journal copies ready.spots place (first_none (taken place (living journal)) _ (first_none (unknown source (living journal)) _ (first_none (full journal) _ (as_is ready is).free).1).1).0
+
+  free_relocate : {c : ℕ} {place : Place} → report ≡ Relocate c place → IsFreeFor c place copies
+  free_relocate {c} {place} is number at =
+      absurd (free_spots journal copies ready.spots place (first_none (taken place (living journal)) [] (first_none (unknown c (living journal)) _ (first_none (full journal) _ (as_is ready is).free).1).1).0 number at)
+
+  -- so the copy can be kept as it says
+  pub can_place : (n : ℕ) → n ≡ length journal → (r : Report) → report ≡ r → CanPlace (n + 1) r it.number copies
+  can_place n n_is (Register place) is = absurd (let later = ready.later in let yes : is_register report ≡ true = ap is_register is in cc)
+  can_place n n_is (Duplicate source place) is = (is_fresh ready n n_is, free_duplicate is, spot_duplicate is)
+  can_place n n_is (Relocate c place) is = (kept_named is c refl, free_relocate is)
+  can_place n n_is (Remove c heir) is = kept_named is c (removed_named c heir)
+  can_place n n_is r is = tt
+
+  -- the copy that the report moves or removes is where it is kept
+  place_now : option_and_then (place_of copies) (displaced report) ≡ place_before (Some (next_entry journal by report)) (copies_of (layer 8 0 it.number journal))
+  place_now =
+      elim (displaced report) as (λ o. displaced report ≡ o → option_and_then (place_of copies) o ≡ option_and_then (λ c. option_map (λ copy. copy.place) (copy_in (copies_of (layer 8 0 it.number journal)) c)) o) [
+        | None ↦ λ e. refl
+        | Some c ↦ λ e. place_spots journal copies ready.spots c ∙ ap (option_map (λ copy. copy.place)) (sym (own_copy ready c (named ready c (displaced_named report c e)).of))
+      ] refl
+
+  -- the family, once the report is accepted
+  pub family_reported : {of : FamilyReport} → family_report report ≡ Some of → (n : ℕ) → n ≡ length journal → (after_it : KeptRows)
+      → IfSome (family_report report) (λ f. after_it ≡ reported_kept (n + 1) f (option_and_then (place_of copies) (displaced report)) it) → is_of_copies report ≡ true
+      → after_it ≡ family_kept (journal ++ next_entry journal by report ∷ []) it.number
+  family_reported {of} about n n_is after_it made is =
+      let entry = next_entry journal by report in
+      let own = family_of_next journal entry in
+      let number : it.number ≡ own = ap (λ (k : KeptRows). k.number) ready.kept in
+      let done : after_it ≡ reported_kept (n + 1) of (option_and_then (place_of copies) (displaced report)) it = subst (λ o. IfSome o (λ f. after_it ≡ reported_kept (n + 1) f (option_and_then (place_of copies) (displaced report)) it)) about made in
+      let rows = rows_of (layer 8 0 own journal) in
+      let place = place_before (Some entry) (copies_of (layer 8 0 own journal)) in
+      done
+      ∙ ap (λ k. reported_kept (k + 1) of (option_and_then (place_of copies) (displaced report)) it) n_is
+      ∙ ap (λ p. reported_kept (length journal + 1) of p it) (place_now ∙ ap (λ f. place_before (Some entry) (copies_of (layer 8 0 f journal))) number)
+      ∙ ap (reported_kept (length journal + 1) of place) ready.kept
+      ∙ ap (λ (l : List StampRow). kept_rows own l (take 8 (undone (length journal + 1) rows place ∷ of_pending (undone_of journal) own journal))) (sym (rows_changed (length journal + 1) report of rows about))
+      ∙ sym (kept_families.family_report journal entry (accepted_is_sound 8 journal ready.accepted) (accepts_next journal by report ready.free) is)
+      ∙ ap (family_kept (journal ++ entry ∷ [])) (sym number)
+
+  pub family_confirmed : {m : ℕ} → report ≡ Confirm m → (after_it : KeptRows) → after_it ≡ confirmed m it → after_it ≡ family_kept (journal ++ next_entry journal by report ∷ []) it.number
+  family_confirmed {m} is after_it made =
+      let entry = next_entry journal by report in
+      made ∙ ap (confirmed m) ready.kept
+      ∙ sym (kept_families.family_confirm m journal entry (accepted_is_sound 8 journal ready.accepted) (accepts_next journal by report ready.free) is)
+      ∙ ap (λ (k : KeptRows). family_kept (journal ++ entry ∷ []) k.number) (sym ready.kept)
+
+  pub family_withdrawn : {m : ℕ} → report ≡ Withdraw m → (after_it : KeptRows) → after_it ≡ withdrawn it → after_it ≡ family_kept (journal ++ next_entry journal by report ∷ []) it.number
+  family_withdrawn {m} is after_it made =
+      let entry = next_entry journal by report in
+      made ∙ ap withdrawn ready.kept
+      ∙ sym (kept_families.family_withdraw m journal entry (accepted_is_sound 8 journal ready.accepted) (accepts_next journal by report ready.free) is)
+      ∙ ap (λ (k : KeptRows). family_kept (journal ++ entry ∷ []) k.number) (sym ready.kept)

@@ -1,5 +1,5 @@
 -- Runs, and the journals that refuse none of their entries.
-use Rattle.std.specs.Prelude.{◌≡◌, ℕ, ◌+◌, List, [], ◌∷◌, ◌++◌, length, Option, Some, None}
+use Rattle.std.specs.Prelude.{◌≡◌, ℕ, ◌+◌, List, [], ◌∷◌, ◌++◌, length, Option, Some, None, ◌≤◌, ◌⊎◌}
 use Rattle.std.proofs.Common.{refl, sym, ap, ◌∙◌, subst, inl, inr, append-nil, append_assoc}
 use Rattle.pana_journal.specs.declared.report.Report.{Report}
 use Rattle.pana_journal.specs.declared.entry.Entry.{Entry}
@@ -11,8 +11,25 @@ use Rattle.pana_hall.specs.declared.reply.Reply.TheVariants as replies
 use Rattle.pana_hall.specs.Living.{living}
 use Rattle.pana_hall.specs.Refusal.{refusal, report_refusal}
 use Rattle.pana_hall.specs.Permit.{Permits, PermitsBy, journal_after}
-use Rattle.pana_hall.specs.Run.{Exchange, IsRun, IsRunFrom, journal_from}
+use Rattle.pana_hall.specs.Run.{Exchange, IsRun, IsRunFrom, journal_from, RunsTo}
 use Rattle.pana_hall.specs.Accepted.{Accepts, AcceptsAll, IsAccepted}
+use Rattle.std.proofs.lemmas.List.{map-append}
+use Rattle.std.specs.List.{AllByRecursion}
+use Rattle.pana_journal.specs.Entries.{IsNumbered}
+use Rattle.pana_hall.specs.Family.{families}
+use Rattle.pana_hall.specs.laws.Layers.{AreRising, IsOrderly}
+use Rattle.pana_hall.proofs.Lists.{each_weaker}
+use Rattle.pana_hall.proofs.Sound.{accepted_is_sound}
+use Rattle.pana_hall.proofs.Tables.{merged}
+use Rattle.pana_hall.proofs.Places.{accepted_is_apart}
+use Rattle.pana_hall.specs.declared.reply.Reply.TheVariants.{Done, Refused}
+use Rattle.pana_hall.specs.declared.cause.Cause.TheVariants.{OutOfMemory}
+use Rattle.pana_hall.specs.declared.loading.LoadFault.{LoadFault}
+use Rattle.pana_hall.specs.declared.loading.LoadCause.{LoadCause}
+use Rattle.pana_hall.specs.declared.loading.LoadCause.TheVariants.{OutOfOrder, Refused as LoadRefused}
+use Rattle.pana_hall.specs.Load.{IsLoadFault, Stops}
+
+-- Runs, and the journals that refuse none of their entries.
 
 -- a report that is done wasn't refused, and has the next number
 done_means : (cause : Option Cause) (journal : List Entry) (report : Report) (n : ℕ) → PermitsBy cause journal (calls.Report report) (replies.Done n)
@@ -60,3 +77,102 @@ run_of_accepted_from journal (entry ∷ entries) all =
 -- and each such journal is that of a run
 pub run_of_accepted : (journal : List Entry) → IsAccepted 8 journal → IsRun (run_of journal) × (journal_from [] (run_of journal) ≡ journal)
 run_of_accepted journal accepted = run_of_accepted_from [] journal accepted
+
+-- Runs that go on, exchange by exchange.
+
+pub journal_from-append : (journal : List Entry) (run : List Exchange) (x : Exchange)
+    → journal_from journal (run ++ x ∷ []) ≡ journal_after (journal_from journal run) x.by x.call x.reply
+journal_from-append journal [] x = refl
+journal_from-append journal (y ∷ run) x = journal_from-append (journal_after journal y.by y.call y.reply) run x
+
+pub IsRunFrom-append : (journal : List Entry) (run : List Exchange) (x : Exchange) → IsRunFrom journal run
+    → Permits (journal_from journal run) x.by x.call x.reply → IsRunFrom journal (run ++ x ∷ [])
+IsRunFrom-append journal [] x permitted last = (last, tt)
+IsRunFrom-append journal (y ∷ run) x permitted last = (permitted.0, IsRunFrom-append (journal_after journal y.by y.call y.reply) run x permitted.1 last)
+
+-- one call more
+pub runs_on : (old new : List Entry) (calls : List (List ℕ × Call)) (replies : List Reply) (by : List ℕ) (call : Call) (reply : Reply) → RunsTo old calls replies new
+    → Permits new by call reply → RunsTo old (calls ++ (by, call) ∷ []) (replies ++ reply ∷ []) (journal_after new by call reply)
+runs_on old new calls replies by call reply so_far permitted =
+    let x : Exchange = record { by = by; call = call; reply = reply } in
+    record {
+      run = so_far.run ++ x ∷ [];
+      permitted = IsRunFrom-append old so_far.run x so_far.permitted (rw (so_far.left) permitted);
+      left = journal_from-append old so_far.run x ∙ ap (λ journal. journal_after journal by call reply) so_far.left;
+      called = map-append (λ y. (y.by, y.call)) so_far.run (x ∷ []) ∙ ap (λ l. l ++ (by, call) ∷ []) so_far.called;
+      replied = map-append (λ y. y.reply) so_far.run (x ∷ []) ∙ ap (λ l. l ++ reply ∷ []) so_far.replied;
+    }
+
+-- What one entry more makes of an accepted journal: the facts that the hall's functions are proved from.
+
+-- an accepted journal stays one with an entry more that it accepts
+pub next_accepted : (most : ℕ) (journal : List Entry) (entry : Entry) → IsAccepted most journal → Accepts most journal entry → IsAccepted most (journal ++ entry ∷ [])
+next_accepted most journal entry accepted accepts = accepts_on most [] journal entry accepted accepts
+
+-- its nth entry has number n
+pub numbers : (most : ℕ) (journal : List Entry) → IsAccepted most journal → IsNumbered journal
+numbers most journal accepted = (accepted_is_sound most journal accepted).numbered
+
+-- the living copies rise, and none has a number above the journal's length
+pub rising : (most : ℕ) (journal : List Entry) → IsAccepted most journal
+    → AreRising (λ copy. copy.number) 0 (living journal) × AllByRecursion (λ copy. copy.number ≤ length journal) (living journal)
+rising most journal accepted =
+    let all = merged most journal (accepted_is_sound most journal accepted) in
+    (all.rising, each_weaker (λ copy. (copy.family ≡ families journal copy.number) × (copy.number ≤ length journal)) _ (living journal) (λ copy h. h.1) all.families)
+
+-- and they are in order
+pub orderly : (most : ℕ) (journal : List Entry) → IsAccepted most journal → IsOrderly journal
+orderly most journal accepted =
+    let all = merged most journal (accepted_is_sound most journal accepted) in
+    let up = rising most journal accepted in
+    record {
+      apart = accepted_is_apart most journal accepted;
+      rising = up.0;
+      numbers = up.1;
+      families = each_weaker (λ copy. (copy.family ≡ families journal copy.number) × (copy.number ≤ length journal)) _ (living journal) (λ copy h. h.0) all.families;
+    }
+
+-- What a permitted reply to a report leaves.
+
+done_or_refused : (cause : Option Cause) (journal : List Entry) (report : Report) (reply : Reply) → PermitsBy cause journal (calls.Report report) reply
+    → (reply ≡ Done (length journal + 1)) ⊎ ((c : Cause) × (reply ≡ Refused c))
+done_or_refused (Some c) journal report reply permitted = inr (c, permitted)
+done_or_refused None journal report reply permitted = elim permitted [ inl done ↦ inl done | inr short ↦ inr (short.0, short.2) ]
+
+-- an entry with the next number, whose report isn't refused, is the next entry
+pub entry_taken : (journal : List Entry) (entry : Entry) (reply : Reply) → entry.number ≡ length journal + 1 → Permits journal entry.by (calls.Report entry.report) reply
+    → ((c : Cause) → reply ≡ Refused c → ⊥) → journal_after journal entry.by (calls.Report entry.report) reply ≡ journal ++ entry ∷ []
+unfolding Permits journal_after
+entry_taken journal entry reply number permitted other =
+    elim (done_or_refused (refusal journal entry.by (calls.Report entry.report)) journal entry.report reply permitted) [
+      | inl done ↦ rw done (ap (λ n. journal ++ record { number = n; by = entry.by; report = entry.report } ∷ []) (sym number))
+      | inr refused ↦ absurd (other refused.0 refused.1)
+    ]
+
+-- Entries that a hall recorded load again.
+
+-- each entry is accepted after those before it
+accepts_at : (journal before rest : List Entry) (entry : Entry) → AcceptsAll 8 journal (before ++ entry ∷ rest) → Accepts 8 (journal ++ before) entry
+accepts_at journal [] rest entry all = subst (λ j. Accepts 8 j entry) (sym (append-nil journal)) all.0
+accepts_at journal (e ∷ before) rest entry all =
+    subst (λ j. Accepts 8 j entry) (append_assoc journal (e ∷ []) before) (accepts_at (journal ++ e ∷ []) before rest entry all.1)
+
+granted : (journal : List Entry) (entry : Entry) (cause : Cause) → report_refusal 8 journal (living journal) entry.by entry.report ≡ None
+    → Permits journal entry.by (calls.Report entry.report) (replies.Refused cause) → cause ≡ OutOfMemory
+unfolding Permits refusal
+granted journal entry cause free permitted =
+    let by_none = subst (λ r. PermitsBy r journal (calls.Report entry.report) (replies.Refused cause)) free permitted in
+    elim by_none [
+      | inl done ↦ absurd (cc)
+      | inr short ↦ let same : short.0 ≡ cause = cc (short.2) in sym same ∙ short.1
+    ]
+
+stops_for_shortage : (journal : List Entry) (entry : Entry) (cause : LoadCause) → Accepts 8 journal entry → Stops journal entry cause → cause ≡ LoadRefused OutOfMemory
+stops_for_shortage journal entry OutOfOrder accepts other = absurd (other accepts.next)
+stops_for_shortage journal entry (LoadRefused cause) accepts stops = ap LoadRefused (granted journal entry cause accepts.free stops.1)
+
+-- nothing but memory stops the entries of an accepted journal
+pub own_entries : (entries : List Entry) (fault : LoadFault) → IsAccepted 8 entries → IsLoadFault entries fault → fault.cause ≡ LoadRefused OutOfMemory
+own_entries entries fault accepted (inl new) = new.1
+own_entries entries fault accepted (inr at) =
+    stops_for_shortage at.before at.entry fault.cause (accepts_at [] at.before at.rest at.entry (subst (λ l. AcceptsAll 8 [] l) at.whole accepted)) at.stops

@@ -1,27 +1,201 @@
 -- What holds of each journal that refuses none of its entries.
-use Rattle.std.specs.Prelude.{◌≡◌, ℕ, ◌+◌, ◌<◌, ◌≤◌, true, false, cond, not, ◌==◌, List, [], ◌∷◌, ◌++◌, length, map, filter, Some, None, is_none, slice_get, ◌-◌, ◌⊎◌}
-use Rattle.std.specs.List.{AllByRecursion}
-use Rattle.std.proofs.Common.{refl, sym, ap, ◌∙◌, subst, inl, inr, arith, append-nil, append_assoc}
-use Rattle.std.proofs.lemmas.Bool.{eqb-false}
-use Rattle.std.proofs.lemmas.List.{length-append, map-append}
-use Rattle.std.proofs.lemmas.List.Elements.{filter-append}
-use Rattle.pana_journal.specs.declared.report.Report.{Report}
-use Rattle.pana_journal.specs.declared.report.Report.TheVariants.{Duplicate, Edit, Reconcile, Merge, Relocate, Remove, Confirm, Withdraw}
+use Rattle.std.specs.Prelude.{◌≡◌, ℕ, Bool, true, false, not, List, ◌∷◌, Option, Some, None, is_none, option_map, find, ◌≢◌, ◌<◌, cond, ◌&&◌, ◌||◌, ◌==◌, [], ◌++◌, filter, fold, ◌+◌, ◌≤◌, length, map, slice_get, ◌-◌, ◌⊎◌}
+use Rattle.std.specs.Bool.{then_some}
+use Rattle.std.proofs.Common.{refl, ap, ◌∙◌, arith, append-nil, sym, subst, inl, inr, append_assoc}
+use Rattle.std.proofs.lemmas.Bool.{eqb-true, not-false, eq-eqb, ne_eqb, cases_eq}
+use Rattle.pana_copies.specs.declared.place.Place.{Place}
+use Rattle.pana_copies.specs.Places.{same_place}
 use Rattle.pana_journal.specs.declared.entry.Entry.{Entry}
 use Rattle.pana_journal.specs.Entries.{entry_at}
-use Rattle.pana_hall.specs.Family.{families, begun_or_joined, subject}
-use Rattle.pana_hall.specs.Effective.{effective, is_of_copies}
+use Rattle.pana_hall.specs.declared.cause.Cause.{Cause}
+use Rattle.pana_hall.specs.declared.cause.Cause.TheVariants.{UnknownCopy, PlaceTaken, UnknownEntry}
+use Rattle.pana_hall.specs.Family.{has_report, families, with_entry, begun_or_joined, subject, entries_of}
+use Rattle.pana_hall.specs.Effective.{is_of_copies, effective, withdraws, is_withdrawn}
 use Rattle.pana_hall.specs.Living.{Copy, copy_in, living}
-use Rattle.pana_hall.specs.Pending.{pending, pend, last, behind}
-use Rattle.pana_hall.specs.Refusal.{report_refusal, full, unknown, same, other_family, against_two, unknown_entry, first}
+use Rattle.pana_hall.specs.Board.{is_of}
+use Rattle.pana_hall.specs.Refusal.{unknown, taken, other_family, unknown_entry, first, report_refusal, full, same, against_two, pending_with, settled_or_followed, taken_since, not_yours}
+use Rattle.std.specs.List.{AllByRecursion}
+use Rattle.std.proofs.lemmas.List.Elements.{filter-append, filter_agree}
+use Rattle.std.proofs.lemmas.List.Sums.{fold-append}
+use Rattle.pana_journal.specs.declared.report.Report.{Report}
+use Rattle.pana_journal.specs.declared.report.Report.TheVariants.{Confirm, Withdraw, Duplicate, Edit, Reconcile, Merge, Relocate, Remove}
+use Rattle.pana_hall.specs.Pending.{pending, pend, last, behind, is_last}
+use Rattle.pana_hall.proofs.Lists.{filter_true, each_filter, each_weaker, filter_same, filter_all, filter_swap, any_push, each_append, last_is_end, behind_is_end, map_filter, rises_push, slice_get-push_cases, slice_get-each, at-append, at-push, entry_at_place}
+use Rattle.std.proofs.lemmas.List.{length-append, map-append}
 use Rattle.pana_hall.specs.Accepted.{Accepts, AcceptsAll, IsAccepted}
-use Rattle.pana_hall.specs.laws.Layers.{AreRising}
-use Rattle.pana_hall.proofs.Lists.{each_append, each_weaker, last_is_end, behind_is_end, map_filter}
-use Rattle.pana_hall.proofs.Moves.{Names, subject_none, subject_named}
-use Rattle.pana_hall.proofs.Locality.{Joins, Belongs, IsWell, Fits, found_fits, copies_fit}
-use Rattle.pana_hall.proofs.Grown.{KeepsFamilies, own, each_effective, family_new, family_old, own_copies, own_confirm, own_withdraw, own_other, pending-push, pending_is}
-use Rattle.pana_hall.proofs.Allowed.{first_none, known, one_family, known_entry}
-use Rattle.pana_hall.proofs.Rising.{rises_push, slice_get-push_cases, slice_get-each, entry_at-append, entry_at-push, entry_at_place}
+use Rattle.pana_hall.specs.laws.Layers.{AreRising, family_of_next}
+use Rattle.pana_hall.proofs.Moves.{Names, subject_none, subject_named, Joins, Belongs, IsWell, Fits, found_fits, copies_fit}
+
+-- What follows for the journal where a report isn't refused.
+
+pub first_none : (cause : Option Cause) (causes : List (Option Cause)) → first (cause ∷ causes) ≡ None → (cause ≡ None) × (first causes ≡ None)
+first_none None causes e = (refl, e)
+first_none (Some cause) causes e = absurd (cc)
+
+pub none_false : (b : Bool) (cause : Cause) → then_some b cause ≡ None → b ≡ false
+none_false true cause e = absurd (cc)
+none_false false cause e = refl
+
+pub known : (number : ℕ) (copies : List Copy) → unknown number copies ≡ None → (copy : Copy) × (copy_in copies number ≡ Some copy)
+known number copies e =
+    elim (copy_in copies number) as (λ o. then_some (is_none o) (UnknownCopy number) ≡ None → (copy : Copy) × (o ≡ Some copy)) [
+      | None ↦ λ n. absurd (cc)
+      | Some copy ↦ λ n. (copy, refl)
+    ] e
+
+pub one_family : (a b : ℕ) (copies : List Copy) (x y : Copy) → other_family a b copies ≡ None → copy_in copies a ≡ Some x → copy_in copies b ≡ Some y → y.family ≡ x.family
+one_family a b copies x y e first second =
+    let none : then_some (not (is_of x.family y)) _ ≡ None = rw (first, second) at e in
+    eqb-true y.family x.family (not-false (is_of x.family y) (none_false _ _ none))
+
+pub known_entry : (number : ℕ) (journal : List Entry) → unknown_entry number journal ≡ None → (entry : Entry) × (entry_at journal number ≡ Some entry) × (is_of_copies entry.report ≡ true)
+known_entry number journal e =
+    elim (entry_at journal number) as (λ o. then_some (not (has_report is_of_copies o)) UnknownEntry ≡ None → (entry : Entry) × (o ≡ Some entry) × (is_of_copies entry.report ≡ true)) [
+      | None ↦ λ n. absurd (cc)
+      | Some entry ↦ λ n. (entry, refl, not-false _ (none_false _ _ n))
+    ] e
+
+pub free_place : (place : Place) (copies : List Copy) → taken place copies ≡ None → find (λ copy. same_place copy.place place) copies ≡ None
+free_place place copies e =
+    elim (find (λ copy. same_place copy.place place) copies) as (λ o. option_map (λ copy. PlaceTaken copy.number) o ≡ None → o ≡ None) [
+      | None ↦ λ n. refl
+      | Some copy ↦ λ n. absurd (cc)
+    ] e
+
+-- What one entry more makes of a journal's families, effective entries and pending lists.
+
+-- the entry, where it is a report of copies
+abbrev pub counted : Entry → List Entry
+counted entry = cond (is_of_copies entry.report) (entry ∷ []) []
+
+-- the entries that this one leaves
+abbrev pub kept_by : Entry → List Entry → List Entry
+kept_by entry entries = filter (λ e. not (withdraws e.number entry.report)) entries
+
+pub effective-push : (journal : List Entry) (entry : Entry) → effective (journal ++ entry ∷ []) ≡ kept_by entry (effective journal) ++ counted entry
+effective-push [] entry = elim (is_of_copies entry.report) as (λ b. cond (b && true) (entry ∷ []) [] ≡ cond b (entry ∷ []) []) [ true ↦ refl | false ↦ refl ]
+effective-push (x ∷ journal) entry =
+    let rest = effective-push journal entry in
+    let more = effective (journal ++ entry ∷ []) in
+    ap (λ b. cond (is_of_copies x.report && not b) (x ∷ more) more) (any_push (λ e. withdraws x.number e.report) journal entry)
+    ∙ elim (is_of_copies x.report) as (λ b. cond (b && not (is_withdrawn x.number journal || withdraws x.number entry.report)) (x ∷ more) more
+    ≡ kept_by entry (cond (b && not (is_withdrawn x.number journal)) (x ∷ effective journal) (effective journal)) ++ counted entry) [
+      | false ↦ rest
+      | true ↦ elim (is_withdrawn x.number journal) as (λ w. cond (not (w || withdraws x.number entry.report)) (x ∷ more) more
+          ≡ kept_by entry (cond (not w) (x ∷ effective journal) (effective journal)) ++ counted entry) [
+            | true ↦ rest
+            | false ↦ elim (withdraws x.number entry.report) as (λ w. cond (not w) (x ∷ more) more ≡ cond (not w) (x ∷ kept_by entry (effective journal)) (kept_by entry (effective journal)) ++ counted entry) [
+              | true ↦ rest
+              | false ↦ ap (λ l. x ∷ l) rest
+            ]
+          ]
+    ]
+
+-- what holds of each entry holds of the effective ones
+pub each_effective : (P : Entry → Type 0) (journal : List Entry) → AllByRecursion P journal → AllByRecursion P (effective journal)
+each_effective P [] each = tt
+each_effective P (x ∷ journal) each =
+    elim (is_of_copies x.report && not (is_withdrawn x.number journal)) as (λ b. AllByRecursion P (cond b (x ∷ effective journal) (effective journal))) [
+      | true ↦ (each.0, each_effective P journal each.1)
+      | false ↦ each_effective P journal each.1
+    ]
+
+-- a report of copies withdraws nothing
+withdraws_nothing : (report : Report) (n : ℕ) → is_of_copies report ≡ true → withdraws n report ≡ false
+withdraws_nothing (Withdraw entry) n e = absurd (cc)
+withdraws_nothing report n e = refl
+
+pub effective-copies : (journal : List Entry) (entry : Entry) → is_of_copies entry.report ≡ true → effective (journal ++ entry ∷ []) ≡ effective journal ++ entry ∷ []
+effective-copies journal entry of_copies =
+    effective-push journal entry
+    ∙ ap (λ l. l ++ counted entry) (filter_agree _ (λ e. true) (λ e. ap not (withdraws_nothing entry.report e.number of_copies)) (effective journal) ∙ filter_true (effective journal))
+    ∙ ap (λ b. effective journal ++ cond b (entry ∷ []) []) of_copies
+
+pub effective-confirm : (journal : List Entry) (entry : Entry) (m : ℕ) → entry.report ≡ Confirm m → effective (journal ++ entry ∷ []) ≡ effective journal
+effective-confirm journal entry m is =
+    effective-push journal entry
+    ∙ ap (λ r. filter (λ e. not (withdraws e.number r)) (effective journal) ++ cond (is_of_copies r) (entry ∷ []) []) is ∙ append-nil _ ∙ filter_true (effective journal)
+
+pub effective-withdraw : (journal : List Entry) (entry : Entry) (m : ℕ) → entry.report ≡ Withdraw m → effective (journal ++ entry ∷ []) ≡ filter (λ e. not (m == e.number)) (effective journal)
+effective-withdraw journal entry m is =
+    effective-push journal entry ∙ ap (λ r. filter (λ e. not (withdraws e.number r)) (effective journal) ++ cond (is_of_copies r) (entry ∷ []) []) is ∙ append-nil _
+
+pub families-push : (journal : List Entry) (entry : Entry) (n : ℕ)
+    → families (journal ++ entry ∷ []) n ≡ cond (n == entry.number) (begun_or_joined (families journal) entry.number (subject entry.report)) (families journal n)
+families-push journal entry n = ap (λ (of : ℕ → ℕ). of n) (fold-append with_entry (λ k. k) journal (entry ∷ []))
+
+-- the new entry's family, and the families of those before it
+pub family_new : (journal : List Entry) (entry : Entry) → families (journal ++ entry ∷ []) entry.number ≡ begun_or_joined (families journal) entry.number (subject entry.report)
+family_new journal entry =
+    families-push journal entry entry.number
+    ∙ ap (λ b. cond b (begun_or_joined (families journal) entry.number (subject entry.report)) (families journal entry.number)) (eq-eqb entry.number entry.number refl)
+
+pub family_old : (journal : List Entry) (entry : Entry) (n : ℕ) → n < entry.number → families (journal ++ entry ∷ []) n ≡ families journal n
+family_old journal entry n earlier =
+    families-push journal entry n
+    ∙ ap (λ b. cond b (begun_or_joined (families journal) entry.number (subject entry.report)) (families journal n)) (ne_eqb n entry.number (omega arith))
+
+-- entries with numbers of which two tables of families say the same
+pub entries_of-same : (family : ℕ) (of of' : ℕ → ℕ) (entries : List Entry) → AllByRecursion (λ e. of' e.number ≡ of e.number) entries → entries_of family of' entries ≡ entries_of family of entries
+entries_of-same family of of' entries same =
+    filter_same _ _ entries (each_weaker _ (λ e. (of' e.number == family) ≡ (of e.number == family)) entries (λ e h. ap (λ n. n == family) h) same)
+
+-- the effective entries of a family
+abbrev pub own : ℕ → List Entry → List Entry
+own family journal = entries_of family (families journal) (effective journal)
+
+-- the entries so far are of the families that they were of
+abbrev pub KeepsFamilies : List Entry → Entry → Type 0
+KeepsFamilies journal entry = AllByRecursion (λ e. families (journal ++ entry ∷ []) e.number ≡ families journal e.number) journal
+
+entries_of-push : (family : ℕ) (journal : List Entry) (entry : Entry) (entries : List Entry)
+    → AllByRecursion (λ e. families (journal ++ entry ∷ []) e.number ≡ families journal e.number) entries
+    → entries_of family (families (journal ++ entry ∷ [])) (entries ++ entry ∷ [])
+    ≡ entries_of family (families journal) entries ++ cond (families (journal ++ entry ∷ []) entry.number == family) (entry ∷ []) []
+entries_of-push family journal entry entries same =
+    filter-append _ entries (entry ∷ [])
+    ∙ ap (λ l. l ++ cond (families (journal ++ entry ∷ []) entry.number == family) (entry ∷ []) []) (entries_of-same family (families journal) (families (journal ++ entry ∷ [])) entries same)
+
+pub own_copies : (family : ℕ) (journal : List Entry) (entry : Entry) → KeepsFamilies journal entry → is_of_copies entry.report ≡ true
+    → own family (journal ++ entry ∷ []) ≡ own family journal ++ cond (families (journal ++ entry ∷ []) entry.number == family) (entry ∷ []) []
+own_copies family journal entry same of_copies =
+    ap (entries_of family (families (journal ++ entry ∷ []))) (effective-copies journal entry of_copies)
+    ∙ entries_of-push family journal entry (effective journal) (each_effective _ journal same)
+
+pub own_confirm : (family : ℕ) (journal : List Entry) (entry : Entry) (m : ℕ) → KeepsFamilies journal entry → entry.report ≡ Confirm m
+    → own family (journal ++ entry ∷ []) ≡ own family journal
+own_confirm family journal entry m same is =
+    ap (entries_of family (families (journal ++ entry ∷ []))) (effective-confirm journal entry m is)
+    ∙ entries_of-same family (families journal) (families (journal ++ entry ∷ [])) (effective journal) (each_effective _ journal same)
+
+pub own_withdraw : (family : ℕ) (journal : List Entry) (entry : Entry) (m : ℕ) → KeepsFamilies journal entry → entry.report ≡ Withdraw m
+    → own family (journal ++ entry ∷ []) ≡ filter (λ e. not (m == e.number)) (own family journal)
+own_withdraw family journal entry m same is =
+    ap (entries_of family (families (journal ++ entry ∷ []))) (effective-withdraw journal entry m is)
+    ∙ entries_of-same family (families journal) (families (journal ++ entry ∷ [])) _ (each_filter _ _ (effective journal) (each_effective _ journal same))
+    ∙ filter_swap _ _ (effective journal)
+
+-- none of the family's entries has a number of another family
+pub own_other : (family : ℕ) (of : ℕ → ℕ) (m : ℕ) (entries : List Entry) → of m ≢ family → filter (λ e. not (m == e.number)) (entries_of family of entries) ≡ entries_of family of entries
+own_other family of m entries other = filter_all _ _ (each_other entries)
+  where
+    each_other : (es : List Entry) → AllByRecursion (λ e. not (m == e.number) ≡ true) (entries_of family of es)
+    each_other [] = tt
+    each_other (e ∷ es) =
+        elim (of e.number == family) as (λ b. (of e.number == family) ≡ b → AllByRecursion (λ x. not (m == x.number) ≡ true) (cond b (e ∷ entries_of family of es) (entries_of family of es))) [
+          | true ↦ λ h. (ap not (ne_eqb m e.number (λ d. other (ap of d ∙ eqb-true (of e.number) family h))), each_other es)
+          | false ↦ λ h. each_other es
+        ] refl
+
+pub pending_is : (most family : ℕ) (journal : List Entry) (entry : Entry) (report : Report) → KeepsFamilies journal entry → entry.report ≡ report
+    → pending most family (journal ++ entry ∷ []) ≡ cond (families (journal ++ entry ∷ []) entry.number == family) (pend most entry.number report (pending most family journal)) (pending most family journal)
+pending_is most family journal entry report same is =
+    ap (λ l. fold (λ numbers e. pend most e.number e.report numbers) [] l) (entries_of-push family journal entry journal same)
+    ∙ fold-append (λ numbers e. pend most e.number e.report numbers) [] (entries_of family (families journal) journal) _
+    ∙ elim (families (journal ++ entry ∷ []) entry.number == family) as (λ b. fold (λ numbers e. pend most e.number e.report numbers) (pending most family journal) (cond b (entry ∷ []) [])
+    ≡ cond b (pend most entry.number report (pending most family journal)) (pending most family journal)) [ true ↦ ap (λ r. pend most entry.number r (pending most family journal)) is | false ↦ refl ]
+
+-- What holds of each journal that refuses none of its entries.
 
 -- the pending numbers of a family are the last ones of its effective entries
 abbrev pub EndsInPending : ℕ → ℕ → List Entry → Type 0
@@ -33,6 +207,9 @@ pub record IsSound (most : ℕ) (journal : List Entry) : Type 0 where
   pub numbered : (i : ℕ) (e : Entry) → slice_get journal i ≡ Some e → e.number ≡ i + 1
   pub rising : AreRising (λ e. e.number) 0 journal
   pub ends : (family : ℕ) → EndsInPending most family journal
+
+pub effective_well : (most : ℕ) (journal : List Entry) → IsSound most journal → AllByRecursion (IsWell (families journal) (length journal)) (effective journal)
+effective_well most journal sound = each_effective _ journal sound.well
 
 pub living_fit : (most : ℕ) (journal : List Entry) → IsSound most journal → AllByRecursion (Fits (families journal) (length journal)) (living journal)
 living_fit most journal sound = copies_fit (families journal) (length journal) (effective journal) (each_effective _ journal sound.well)
@@ -114,6 +291,14 @@ named_by most journal by report m (inr is) free =
     let alone : report_refusal most journal (living journal) by (Withdraw m) ≡ None = rw is at free in
     known_entry m journal (first_none (unknown_entry m journal) _ (first_none (full journal) _ alone).1).0
 
+-- what that of a Withdraw says besides: the entry is the last that is pending
+pub withdraw_free : (most m : ℕ) (journal : List Entry) (by : List ℕ) (report : Report) → report ≡ Withdraw m → report_refusal most journal (living journal) by report ≡ None
+    → (is_last m (pending_with most m journal) ≡ true) × (settled_or_followed most m journal ≡ None) × (taken_since m journal ≡ None)
+withdraw_free most m journal by report is free =
+    let alone : report_refusal most journal (living journal) by (Withdraw m) ≡ None = rw is at free in
+    let at_end = first_none (settled_or_followed most m journal) _ (first_none (not_yours by m journal) _ (first_none (unknown_entry m journal) _ (first_none (full journal) _ alone).1).1).1 in
+    (not-false _ (none_false _ _ at_end.0), at_end.0, (first_none (taken_since m journal) [] at_end.1).0)
+
 -- the family of a Confirm or a Withdraw is that of the entry that it names
 pub family_named : (most : ℕ) (journal : List Entry) (entry : Entry) (m : ℕ) → (entry.report ≡ Confirm m) ⊎ (entry.report ≡ Withdraw m)
     → families (journal ++ entry ∷ []) entry.number ≡ families journal m
@@ -136,56 +321,6 @@ pub pend_copies : (most n : ℕ) (report : Report) (numbers : List ℕ) → is_o
 pend_copies most n (Confirm m) numbers e = absurd (cc)
 pend_copies most n (Withdraw m) numbers e = absurd (cc)
 pend_copies most n report numbers e = refl
-
-ends_copies : (most family : ℕ) (journal : List Entry) (entry : Entry) → IsSound most journal → KeepsFamilies journal entry → is_of_copies entry.report ≡ true → EndsInPending most family (journal ++ entry ∷ [])
-ends_copies most family journal entry sound keeps of_copies =
-    let ends = sound.ends family in
-    let numbers = pending most family journal in
-    rw (own_copies family journal entry keeps of_copies, pending-push most family journal entry keeps)
-    (elim (families (journal ++ entry ∷ []) entry.number == family) as (λ b. (prefix : List ℕ)
-    × (map (λ e. e.number) (own family journal ++ cond b (entry ∷ []) []) ≡ prefix ++ cond b (pend most entry.number entry.report numbers) numbers)) [
-      | true ↦
-          let cut = last_is_end most (numbers ++ entry.number ∷ []) in (
-            ends.0 ++ cut.0,
-            map-append (λ e. e.number) (own family journal) (entry ∷ [])
-                ∙ ap (λ l. l ++ entry.number ∷ []) ends.1
-                ∙ append_assoc ends.0 numbers (entry.number ∷ [])
-                ∙ ap (λ l. ends.0 ++ l) cut.1
-                ∙ sym (append_assoc ends.0 cut.0 _)
-                ∙ ap (λ l. (ends.0 ++ cut.0) ++ l) (sym (pend_copies most entry.number entry.report numbers of_copies)),
-          )
-      | false ↦ (ends.0, ap (map (λ e. e.number)) (append-nil (own family journal)) ∙ ends.1)
-    ])
-
-ends_confirm : (most family : ℕ) (journal : List Entry) (entry : Entry) (m : ℕ) → IsSound most journal → KeepsFamilies journal entry → entry.report ≡ Confirm m → EndsInPending most family (journal ++ entry ∷ [])
-ends_confirm most family journal entry m sound keeps is =
-    let ends = sound.ends family in
-    let numbers = pending most family journal in
-    let cut = behind_is_end m numbers in
-    rw (own_confirm family journal entry m keeps is, pending_is most family journal entry (Confirm m) keeps is)
-    (elim (families (journal ++ entry ∷ []) entry.number == family) as (λ b. (prefix : List ℕ)
-    × (map (λ e. e.number) (own family journal) ≡ prefix ++ cond b (behind m numbers) numbers)) [
-      | true ↦ (ends.0 ++ cut.0, ends.1 ∙ ap (λ l. ends.0 ++ l) cut.1 ∙ sym (append_assoc ends.0 cut.0 (behind m numbers)))
-      | false ↦ ends
-    ])
-
-ends_withdraw : (most family : ℕ) (journal : List Entry) (entry : Entry) (m : ℕ) → IsSound most journal → KeepsFamilies journal entry → entry.report ≡ Withdraw m → EndsInPending most family (journal ++ entry ∷ [])
-ends_withdraw most family journal entry m sound keeps is =
-    let ends = sound.ends family in
-    let numbers = pending most family journal in
-    let here = family_named most journal entry m (inr is) in
-    rw (own_withdraw family journal entry m keeps is, pending_is most family journal entry (Withdraw m) keeps is)
-    (elim (families (journal ++ entry ∷ []) entry.number == family) as (λ b. (families (journal ++ entry ∷ []) entry.number == family) ≡ b → (prefix : List ℕ)
-    × (map (λ e. e.number) (filter (λ e. not (m == e.number)) (own family journal)) ≡ prefix ++ cond b (filter (λ n. not (m == n)) numbers) numbers)) [
-      | true ↦ λ e. (
-        filter (λ n. not (m == n)) ends.0,
-        map_filter (λ e. e.number) (λ n. not (m == n)) (own family journal) ∙ ap (filter (λ n. not (m == n))) ends.1 ∙ filter-append _ ends.0 numbers,
-      )
-      | false ↦ λ e. (
-        ends.0,
-        ap (map (λ e. e.number)) (own_other family (families journal) m (effective journal) (λ h. eqb-false _ family e (here ∙ h))) ∙ ends.1,
-      )
-    ] refl)
 
 -- the family of the next entry is its own number, or an earlier one
 bounded_new : (most : ℕ) (journal : List Entry) (n : ℕ) (by : List ℕ) (report : Report) → IsSound most journal → n ≡ length journal + 1
@@ -214,6 +349,63 @@ bounded_new most journal n by report sound next free =
       ]
     ] refl
 
+-- a report of copies is the last of its family's entries
+pub own_report : (most : ℕ) (journal : List Entry) (entry : Entry) → IsSound most journal → Accepts most journal entry → is_of_copies entry.report ≡ true
+    → own (family_of_next journal entry) (journal ++ entry ∷ []) ≡ own (family_of_next journal entry) journal ++ entry ∷ []
+own_report most journal entry sound accepts of_copies =
+    let family = family_of_next journal entry in
+    own_copies family journal entry (keeps_families most journal entry sound accepts.next) of_copies ∙ ap (λ b. own family journal ++ cond b (entry ∷ []) []) (eq-eqb family family refl)
+
+-- the family's pending list after its next entry
+pub pends_by : (most : ℕ) (journal : List Entry) (entry : Entry) (report : Report) → KeepsFamilies journal entry → entry.report ≡ report
+    → pending most (family_of_next journal entry) (journal ++ entry ∷ []) ≡ pend most entry.number report (pending most (family_of_next journal entry) journal)
+pends_by most journal entry report keeps is =
+    let family = family_of_next journal entry in
+    pending_is most family journal entry report keeps is ∙ ap (λ b. cond b (pend most entry.number report (pending most family journal)) (pending most family journal)) (eq-eqb family family refl)
+
+pub pends : (most : ℕ) (journal : List Entry) (entry : Entry) (report : Report) → IsSound most journal → Accepts most journal entry → entry.report ≡ report
+    → pending most (family_of_next journal entry) (journal ++ entry ∷ []) ≡ pend most entry.number report (pending most (family_of_next journal entry) journal)
+pends most journal entry report sound accepts is = pends_by most journal entry report (keeps_families most journal entry sound accepts.next) is
+
+-- it leaves the entries of the other families, and what is pending there
+pub left_by : (most family : ℕ) (journal : List Entry) (entry : Entry) → KeepsFamilies journal entry → families (journal ++ entry ∷ []) entry.number ≢ family
+    → (own family (journal ++ entry ∷ []) ≡ own family journal) × (pending most family (journal ++ entry ∷ []) ≡ pending most family journal)
+left_by most family journal entry keeps other =
+    let apart : (families (journal ++ entry ∷ []) entry.number == family) ≡ false = ne_eqb (families (journal ++ entry ∷ []) entry.number) family other in (
+      elim (kind_of entry.report) [
+        | OfCopies is ↦ own_copies family journal entry keeps is ∙ ap (λ b. own family journal ++ cond b (entry ∷ []) []) apart ∙ append-nil (own family journal)
+        | Confirms m is ↦ own_confirm family journal entry m keeps is
+        | Withdraws m is ↦ own_withdraw family journal entry m keeps is ∙ own_other family (families journal) m (effective journal) (λ h. other (family_named most journal entry m (inr is) ∙ h))
+      ],
+      pending_is most family journal entry entry.report keeps refl ∙ ap (λ b. cond b (pend most entry.number entry.report (pending most family journal)) (pending most family journal)) apart,
+    )
+
+end_of : (whole middle end : List ℕ) → ((prefix : List ℕ) × (whole ≡ prefix ++ middle)) → ((prefix : List ℕ) × (middle ≡ prefix ++ end)) → (prefix : List ℕ) × (whole ≡ prefix ++ end)
+end_of whole middle end first second = (first.0 ++ second.0, first.1 ∙ ap (λ l. first.0 ++ l) second.1 ∙ sym (append_assoc first.0 second.0 end))
+
+-- and each family's pending numbers stay the last ones of its effective entries
+ends_next : (most : ℕ) (journal : List Entry) (entry : Entry) → IsSound most journal → Accepts most journal entry → (family : ℕ) → EndsInPending most family (journal ++ entry ∷ [])
+ends_next most journal entry sound accepts family =
+    let keeps = keeps_families most journal entry sound accepts.next in
+    let own_family = family_of_next journal entry in
+    let ends = sound.ends own_family in
+    let numbers = pending most own_family journal in
+    elim (cases_eq own_family family) [
+      | inr other ↦ let left = left_by most family journal entry keeps other in rw (left.0, left.1) (sound.ends family)
+      | inl here ↦ subst (λ f. EndsInPending most f (journal ++ entry ∷ [])) here (elim (kind_of entry.report) [
+        | OfCopies is ↦
+            rw (own_report most journal entry sound accepts is, pends most journal entry entry.report sound accepts refl, pend_copies most entry.number entry.report numbers is)
+            (end_of _ (numbers ++ entry.number ∷ []) (last most (numbers ++ entry.number ∷ []))
+            (ends.0, map-append (λ e. e.number) (own own_family journal) (entry ∷ []) ∙ ap (λ l. l ++ entry.number ∷ []) ends.1 ∙ append_assoc ends.0 numbers (entry.number ∷ []))
+            (last_is_end most (numbers ++ entry.number ∷ [])))
+        | Confirms m is ↦ rw (own_confirm own_family journal entry m keeps is, pends most journal entry (Confirm m) sound accepts is) (end_of _ numbers (behind m numbers) ends (behind_is_end m numbers))
+        | Withdraws m is ↦ rw (own_withdraw own_family journal entry m keeps is, pends most journal entry (Withdraw m) sound accepts is) (
+          filter (λ n. not (m == n)) ends.0,
+          map_filter (λ e. e.number) (λ n. not (m == n)) (own own_family journal) ∙ ap (filter (λ n. not (m == n))) ends.1 ∙ filter-append _ ends.0 numbers,
+        )
+      ])
+    ]
+
 -- one entry more that isn't refused
 pub sound_grows : (most : ℕ) (journal : List Entry) (entry : Entry) → IsSound most journal → Accepts most journal entry → IsSound most (journal ++ entry ∷ [])
 sound_grows most journal entry sound accepts =
@@ -241,19 +433,15 @@ sound_grows most journal entry sound accepts =
             tt,
           );
       found = each_append _ journal (entry ∷ [])
-          (each_weaker (λ e. entry_at journal e.number ≡ Some e) _ journal (λ e h. entry_at-append journal (entry ∷ []) e.number e h) sound.found)
-          (ap (entry_at (journal ++ entry ∷ [])) next ∙ entry_at-push journal entry, tt);
+          (each_weaker (λ e. entry_at journal e.number ≡ Some e) _ journal (λ e h. at-append journal (entry ∷ []) e.number e h) sound.found)
+          (ap (entry_at (journal ++ entry ∷ [])) next ∙ at-push journal entry, tt);
       numbered = λ i e at. elim (slice_get-push_cases journal entry i e at) [
         | inl before ↦ sound.numbered i e before
         | inr now ↦ let place = now.0 in let number : entry.number ≡ e.number = ap (λ x. x.number) now.1 in omega arith
       ];
       rising = rises_push (λ e. e.number) 0 journal entry sound.rising
           (each_weaker (IsWell (families journal) (length journal)) _ journal (λ e well. let within = well.within in omega arith) sound.well) (omega arith);
-      ends = λ family. elim (kind_of entry.report) [
-        | OfCopies is ↦ ends_copies most family journal entry sound keeps is
-        | Confirms m is ↦ ends_confirm most family journal entry m sound keeps is
-        | Withdraws m is ↦ ends_withdraw most family journal entry m sound keeps is
-      ];
+      ends = ends_next most journal entry sound accepts;
     }
 
 pub empty_is_sound : (most : ℕ) → IsSound most []

@@ -1,55 +1,67 @@
 -- The rows that a journal gives a family stand for the sets that it gives it.
-use Rattle.std.specs.Prelude.{◌≡◌, ◌≢◌, ℕ, ◌+◌, ◌<◌, ◌≤◌, ◌^◌, Bool, true, false, cond, not, ◌==◌, List, [], ◌∷◌, ◌++◌, length, map, count_by, filter, Some, None, is_some, option_and_then}
-use Rattle.std.specs.Bool.{then_some}
+use Rattle.std.specs.Prelude.{◌≡◌, ℕ, zero, suc, ◌+◌, ◌<◌, ◌≤◌, List, [], ◌∷◌, length, filter, count_by, nat_le, Some, None, IfSome, ◌≢◌, ◌^◌, Bool, true, false, cond, not, ◌==◌, ◌++◌, map, is_some, option_and_then}
 use Rattle.std.specs.List.{AllByRecursion}
-use Rattle.std.proofs.Common.{refl, sym, ap, ◌∙◌, subst, inl, inr, arith}
-use Rattle.std.proofs.lemmas.Bool.{eq-eqb, leb-false}
+use Rattle.std.specs.Bool.{then_some}
+use Rattle.std.proofs.Common.{refl, sym, ap, ◌∙◌, subst, arith, inl, inr}
+use Rattle.std.proofs.lemmas.Bool.{leb-false, eq-eqb, not-false}
 use Rattle.std.proofs.lemmas.List.{length-map}
-use Rattle.std.proofs.lemmas.List.Sums.{fold-append}
+use Rattle.std.proofs.lemmas.List.Sums.{length-filter, fold-append}
 use Rattle.pana_journal.specs.declared.report.Report.{Report}
 use Rattle.pana_journal.specs.declared.report.Report.TheVariants.{Register, Duplicate, Edit, Reconcile, Merge, Relocate, Remove, Confirm, Withdraw}
 use Rattle.pana_journal.specs.declared.entry.Entry.{Entry}
+use Rattle.pana_hall.specs.declared.cause.Cause.TheVariants.{FamilyFull, TooDeep}
+use Rattle.pana_hall.specs.Family.{families, subject, begun_or_joined, entries_of, family_report, is_duplicate}
+use Rattle.pana_hall.specs.Living.{Copy, copy_in, copies_of, living}
+use Rattle.pana_hall.specs.Pending.{pending}
+use Rattle.pana_hall.specs.Board.{is_of}
+use Rattle.pana_hall.specs.Refusal.{against, full, unknown, taken, family_full, against_two, first, same, too_deep}
+use Rattle.pana_hall.specs.Accepted.{Accepts, IsAccepted}
+use Rattle.pana_hall.specs.laws.Tables.{layer}
+use Rattle.pana_hall.specs.laws.Layers.{family_of_next, duplicates_in}
+use Rattle.pana_hall.proofs.Moves.{is_later, made_of, Lives, Names}
+use Rattle.pana_hall.proofs.Sound.{family_new, first_none, known, none_false, IsSound, accepted_is_sound, found_family, living_fit}
+use Rattle.pana_hall.proofs.Tables.{table_living, table_own, family_of_copy, layer_now, merged, layer_new}
+use Rattle.pana_hall.proofs.Knowns.{layers_hold, IsOldKnown, knowns_of-push, lives_known, IsMirrored, layer_within, layers_mirrored, mirrored_grows, read_lives, sets_old}
 use Rattle.pana_family.specs.declared.report.FamilyReport.{FamilyReport}
-use Rattle.pana_family.specs.declared.report.FamilyReport.TheVariants as family
 use Rattle.pana_family.specs.Kept.{IsKept}
+use Rattle.pana_family.specs.declared.row.StampRow.{StampRow}
+use Rattle.pana_copies.specs.declared.place.Place.{Place}
 use Rattle.pana_family.specs.Stands.{StandsFor}
 use Rattle.pana_family.specs.Rows.{AreBefore, copy_rows, deepest, divides, lives, seed_row}
 use Rattle.pana_family.specs.Report.{Asks, CanReport, IsReported, deeper}
 use Rattle.pana_family.specs.Report as by_family
 use Rattle.pana_family.specs.Table.{AreBelow, In, IsAbove, Known, is_in}
-use Rattle.pana_family.specs.Table as table
+use Rattle.pana_family.specs.Table as by_table
 use Rattle.pana_family.specs.After.{reported_rows}
 use Rattle.pana_family.specs.inner.Making.{AreSound}
 use Rattle.pana_family.proofs.BySets.{same_before, same_copies, same_living}
 use Rattle.pana_family.proofs.Members.{same_length}
 use Rattle.pana_family.proofs.Exacts.{asked, report_law}
 use Rattle.pana_family.proofs.Within.{divides_is, seed_sound, sound_after, undivided_deep}
-use Rattle.pana_family.proofs.Keeps.{seed_kept}
+use Rattle.pana_family.proofs.Keeps.{seed_kept, empty_kept}
 use Rattle.pana_family.proofs.Changes.{empty_stands, seed_stands}
-use Rattle.pana_family.proofs.Keeps.{empty_kept}
-use Rattle.pana_hall.specs.Family.{begun_or_joined, entries_of, families, family_report, is_duplicate, is_register, subject}
 use Rattle.pana_hall.specs.Effective.{effective, is_of_copies}
-use Rattle.pana_hall.specs.Living.{Copy, copies_of, copy_in, living}
-use Rattle.pana_hall.specs.Refusal.{against_two, family_full, first, full, report_refusal, same, taken, too_deep, unknown}
-use Rattle.pana_hall.specs.Accepted.{Accepts, IsAccepted}
-use Rattle.pana_hall.specs.laws.Tables.{layer}
 use Rattle.pana_hall.specs.laws.Tables as tables
-use Rattle.pana_hall.specs.laws.Layers.{duplicates_in, family_of_next}
-use Rattle.pana_hall.specs.laws.Sets.{knowns_of, reported, sets_at}
+use Rattle.pana_hall.specs.laws.Sets.{changed_table, knowns_of, reported, sets_at}
 use Rattle.pana_hall.specs.StampRows.{changed_rows, rows_after, rows_by, rows_of, stamp_rows}
 use Rattle.pana_hall.specs.Stamps.{as_known}
-use Rattle.pana_hall.proofs.Allowed.{first_none, none_false}
-use Rattle.pana_hall.proofs.Knowns.{IsOldKnown, knowns_of-push, lives_known}
-use Rattle.pana_hall.proofs.Moves.{Lives, Names}
-use Rattle.pana_hall.proofs.Sound.{IsSound, accepted_is_sound, found_family, living_fit}
-use Rattle.pana_hall.proofs.Tables.{layer_now, merged, table_living, table_own}
-use Rattle.pana_hall.proofs.Layers.{room_for}
-use Rattle.pana_hall.proofs.Grown.{family_new}
-use Rattle.pana_hall.proofs.PendingEntries.{layer_new}
-use Rattle.pana_hall.proofs.More.{family_of_copy}
-use Rattle.pana_hall.specs.Board.{is_of}
-use Rattle.pana_hall.specs.declared.cause.Cause.TheVariants.{TooDeep}
-use Rattle.pana_hall.proofs.Mirrors.{IsMirrored, layer_within, layers_hold, layers_mirrored, mirrored_grows, read_lives, sets_old}
+
+-- where a Duplicate isn't refused its source lives in a family with room
+room_for : (number : ℕ) (copies : List Copy) → unknown number copies ≡ None → family_full number copies ≡ None → (copy : Copy) × (copy_in copies number ≡ Some copy) × (length (filter (is_of copy.family) copies) < 256)
+room_for number copies open_ room =
+    let copy = known number copies open_ in
+    let none : then_some (nat_le 256 (count_by (is_of copy.0.family) copies)) FamilyFull ≡ None = rw (copy.1) at room in
+    let below : count_by (is_of copy.0.family) copies < 256 = leb-false 256 (count_by (is_of copy.0.family) copies) (none_false _ FamilyFull none) in
+    let count = length-filter (is_of copy.0.family) copies in
+    (copy.0, copy.1, omega arith)
+
+-- two copies that a report names are two
+differ : (a b : ℕ) (copies : List Copy) → first (against_two a b copies) ≡ None → a ≢ b
+differ a b copies free same_ =
+    let none = (first_none (same a b) _ (first_none (unknown b copies) _ (first_none (unknown a copies) _ free).1).1).0 in
+    let is : (a == b) ≡ true = eq-eqb a b same_ in
+    let odd : (a == b) ≡ false = none_false _ _ none in
+    absurd (cc)
 
 -- members of a table
 pub each_in : (P : Known → Type 0) (table : List Known) (t : Known) → AllByRecursion P table → In t table → P t
@@ -61,40 +73,6 @@ pub rows_of-push : (entries : List Entry) (entry : Entry) → rows_of (entries +
 unfolding rows_of
 rows_of-push entries entry = fold-append rows_by [] entries (entry ∷ [])
 
--- what the rows of these entries keep, and what they stand for
-pub record IsStood (entries : List Entry) : Type 0 where
-  pub mirrored : IsMirrored entries
-  pub kept : IsKept (rows_of entries)
-  pub sound : AreSound (rows_of entries)
-  pub stands : StandsFor (rows_of entries) (knowns_of entries)
-  pub deep : deepest (rows_of entries) ≤ count_by (λ e. is_duplicate e.report) entries
-
--- an accepted entry's number has room
-not_full : (journal : List Entry) (by : List ℕ) (report : Report) → report_refusal 8 journal (living journal) by report ≡ None → full journal ≡ None
-not_full journal by (Remove copy None) free = (first_none (full journal) _ free).0
-not_full journal by (Remove copy (Some heir)) free = (first_none (full journal) _ free).0
-not_full journal by (Register place) free = (first_none (full journal) _ free).0
-not_full journal by (Duplicate copy place) free = (first_none (full journal) _ free).0
-not_full journal by (Edit copy) free = (first_none (full journal) _ free).0
-not_full journal by (Reconcile a b) free = (first_none (full journal) _ free).0
-not_full journal by (Merge a b) free = (first_none (full journal) _ free).0
-not_full journal by (Relocate copy place) free = (first_none (full journal) _ free).0
-not_full journal by (Confirm entry) free = (first_none (full journal) _ free).0
-not_full journal by (Withdraw entry) free = (first_none (full journal) _ free).0
-
-number_fits : (journal : List Entry) (entry : Entry) → Accepts 8 journal entry → entry.number < 2 ^ 64
-number_fits journal entry accepts =
-    let few : length journal < 1000000 = leb-false 1000000 (length journal) (none_false _ _ (not_full journal entry.by entry.report accepts.free)) in
-    let next = accepts.next in
-    omega arith
-
--- a copy that lives among those that the entries make lives in their rows
-pub lives_there : (entries : List Entry) (c : ℕ) → IsStood entries → Lives (copies_of entries) c → lives (rows_of entries) c ≡ true
-lives_there entries c stood there =
-    same_living (rows_of entries) (knowns_of entries) c stood.stands.same
-    ∙ lives_known (knowns_of entries) (copies_of entries) c stood.mirrored.copies
-    ∙ ap is_some there.1
-
 pub rows_none : rows_of [] ≡ []
 unfolding rows_of
 rows_none = refl
@@ -103,178 +81,157 @@ pub knowns_none : knowns_of [] ≡ []
 unfolding knowns_of
 knowns_none = refl
 
+-- what is reported of a family that has begun, of its rows and of its sets
+pub rows_changed : (n : ℕ) (report : Report) (of : FamilyReport) (rows : List StampRow) → family_report report ≡ Some of → rows_after n report rows ≡ reported_rows n of rows
+rows_changed n report of rows about =
+    ap (λ b. cond b (rows ++ seed_row n ∷ []) (changed_rows n (family_report report) rows)) (is_later report about) ∙ ap (λ o. changed_rows n o rows) about
+
+sets_changed : (n : ℕ) (report : Report) (of : FamilyReport) (table : List Known) → family_report report ≡ Some of → reported n report table ≡ by_family.reported n of table
+sets_changed n report of table about =
+    ap (λ b. cond b (table ++ by_table.registered n) (changed_table n (family_report report) table)) (is_later report about) ∙ ap (λ o. changed_table n o table) about
+
+-- how much deeper ids get
+deeper_is : (report : Report) → IfSome (family_report report) (λ of. deeper of ≡ cond (is_duplicate report) 1 0)
+deeper_is (Register place) = tt
+deeper_is (Confirm m) = tt
+deeper_is (Withdraw m) = tt
+deeper_is report = refl
+
+-- what the rows of these entries keep, and what they stand for
+pub record IsStood (entries : List Entry) : Type 0 where
+  pub mirrored : IsMirrored entries
+  pub kept : IsKept (rows_of entries)
+  pub sound : AreSound (rows_of entries)
+  pub stands : StandsFor (rows_of entries) (knowns_of entries)
+  pub deep : deepest (rows_of entries) ≤ count_by (λ e. is_duplicate e.report) entries
+
 none_stood : IsStood []
 unfolding knowns_of rows_of
 none_stood = record { mirrored = mirrored_grows.none; kept = empty_kept; sound = λ r i. absurd i; stands = empty_stands; deep = omega arith }
 
--- a report of a family that has begun
-step_report : (journal : List Entry) (entry : Entry) (report : FamilyReport) → Accepts 8 journal entry → IsStood (layer 8 0 (family_of_next journal entry) journal)
-    → CanReport report (rows_of (layer 8 0 (family_of_next journal entry) journal)) → AreBefore entry.number (rows_of (layer 8 0 (family_of_next journal entry) journal))
-    → Asks entry.number report (knowns_of (layer 8 0 (family_of_next journal entry) journal))
-    → reported entry.number entry.report ≡ by_family.reported entry.number report → rows_after entry.number entry.report ≡ reported_rows entry.number report
-    → deeper report ≡ cond (is_duplicate entry.report) 1 0
-    → IsMirrored (layer 8 0 (family_of_next journal entry) journal ++ entry ∷ []) → IsStood (layer 8 0 (family_of_next journal entry) journal ++ entry ∷ [])
-step_report journal entry report accepts stood can before asks table_is rows_are deeper_is mirrored =
-    let entries = layer 8 0 (family_of_next journal entry) journal in
-    let rows = rows_of entries in
-    let new = reported_rows entry.number report rows in
-    let fits = number_fits journal entry accepts in
-    let done = report_law entry.number report rows fits stood.kept stood.sound can before in
-    let sound = sound_after entry.number report rows fits stood.kept stood.sound can before in
-    let rows_is : rows_of (entries ++ entry ∷ []) ≡ new = rows_of-push entries entry ∙ ap (λ f. f rows) rows_are in
-    let table_new : knowns_of (entries ++ entry ∷ []) ≡ by_family.reported entry.number report (knowns_of entries) = knowns_of-push entries entry ∙ ap (λ f. f (knowns_of entries)) table_is in
-    let counted : count_by (λ e. is_duplicate e.report) (entries ++ entry ∷ []) ≡ count_by (λ e. is_duplicate e.report) entries + cond (is_duplicate entry.report) 1 0 =
-    fold-append (λ a e. a + cond (is_duplicate e.report) 1 0) 0 entries (entry ∷ []) in
-    let old_deep = stood.deep in
-    let new_deep = done.deep in
-    record {
-      mirrored = mirrored;
-      kept = subst IsKept (sym rows_is) done.kept;
-      sound = subst AreSound (sym rows_is) sound;
-      stands = subst (StandsFor (rows_of (entries ++ entry ∷ []))) (sym table_new) (subst (λ r. StandsFor r (by_family.reported entry.number report (knowns_of entries))) (sym rows_is) (done.stands (knowns_of entries) stood.stands asks));
-      deep = omega (arith, ap deepest rows_is, new_deep, old_deep, deeper_is, counted);
-    }
+-- a copy that lives among those that the entries make lives in their rows
+pub lives_there : (entries : List Entry) (c : ℕ) → IsStood entries → Lives (copies_of entries) c → lives (rows_of entries) c ≡ true
+lives_there entries c stood there =
+    same_living (rows_of entries) (knowns_of entries) c stood.stands.same
+    ∙ lives_known (knowns_of entries) (copies_of entries) c stood.mirrored.copies
+    ∙ ap is_some there.1
 
--- all numbers in the rows and sets of a family are below that of the next entry
-pub next_above : (journal : List Entry) (entry : Entry) → IsSound 8 journal → Accepts 8 journal entry → IsStood (layer 8 0 (family_of_next journal entry) journal)
-    → AreBefore entry.number (rows_of (layer 8 0 (family_of_next journal entry) journal)) × AreBelow entry.number (knowns_of (layer 8 0 (family_of_next journal entry) journal))
-next_above journal entry sound accepts stood =
-    let entries = layer 8 0 (family_of_next journal entry) journal in
-    let old = stood.mirrored.old (length journal) (layer_within journal 0 (family_of_next journal entry) sound) in
-    let next = accepts.next in (
-      same_before (rows_of entries) (knowns_of entries) entry.number stood.stands.same
-          (λ t i. let is = each_in (IsOldKnown (length journal)) (knowns_of entries) t old.each i in let copy = is.copy in let touch = is.touch in (omega arith, omega arith)),
-      λ t u i member. let within = (each_in (IsOldKnown (length journal)) (knowns_of entries) t old.each i).updates u member in omega arith,
-    )
+-- how many copies live, by the rows as by the sets
+counted : (k family : ℕ) (journal : List Entry) → IsSound 8 journal → IsStood (layer 8 k family journal) → length (copy_rows (rows_of (layer 8 k family journal))) ≡ length (tables.table 8 k family journal)
+counted k family journal sound stood =
+    let entries = layer 8 k family journal in
+    sym (same_length (copy_rows (rows_of entries)) (by_table.copies_of (knowns_of entries)) (same_copies (rows_of entries) (knowns_of entries) stood.stands.same))
+    ∙ ap length stood.mirrored.copies ∙ length-map (copies_of entries) as_known ∙ ap length (sym (table_own 8 k family journal sound))
 
--- two copies that a report names are two
-differ : (journal : List Entry) (a b : ℕ) → first (against_two a b (living journal)) ≡ None → a ≢ b
-differ journal a b free same_ =
-    let none = (first_none (same a b) _ (first_none (unknown b (living journal)) _ (first_none (unknown a (living journal)) _ free).1).1).0 in
-    let is : (a == b) ≡ true = eq-eqb a b same_ in
-    let odd : (a == b) ≡ false = none_false _ _ none in
-    absurd (cc)
+module _ (journal : List Entry) (entry : Entry) (sound : IsSound 8 journal) (accepts : Accepts 8 journal entry) where
+  -- the entries of its family
+  abbrev before : List Entry
+  before = layer 8 0 (family_of_next journal entry) journal
 
--- a report that isn't refused can be made
-pub can_report : (journal : List Entry) (entry : Entry) (r : Report) (report : FamilyReport) → IsSound 8 journal → Accepts 8 journal entry → entry.report ≡ r → family_report r ≡ Some report
-    → IsStood (layer 8 0 (family_of_next journal entry) journal) → CanReport report (rows_of (layer 8 0 (family_of_next journal entry) journal))
-can_report journal entry (Edit c) report sound accepts is about stood =
-    let same : family.Edit c ≡ report = cc in
-    subst (λ x. CanReport x (rows_of (layer 8 0 (family_of_next journal entry) journal))) same
-    (lives_there _ c stood (read_lives journal entry sound accepts c (subst (λ x. Names x c) (sym is) refl)))
-can_report journal entry (Relocate c place) report sound accepts is about stood =
-    let same : family.Touch c ≡ report = cc in
-    subst (λ x. CanReport x (rows_of (layer 8 0 (family_of_next journal entry) journal))) same
-    (lives_there _ c stood (read_lives journal entry sound accepts c (subst (λ x. Names x c) (sym is) refl)))
-can_report journal entry (Reconcile a b) report sound accepts is about stood =
-    let same : family.Reconcile a b ≡ report = cc in
-    let free : report_refusal 8 journal (living journal) entry.by (Reconcile a b) ≡ None = ap (report_refusal 8 journal (living journal) entry.by) (sym is) ∙ accepts.free in
-    subst (λ x. CanReport x (rows_of (layer 8 0 (family_of_next journal entry) journal))) same (
-      lives_there _ a stood (read_lives journal entry sound accepts a (subst (λ x. Names x a) (sym is) (inl refl))),
-      lives_there _ b stood (read_lives journal entry sound accepts b (subst (λ x. Names x b) (sym is) (inr refl))),
-      differ journal a b (first_none (full journal) _ free).1,
-    )
-can_report journal entry (Merge a b) report sound accepts is about stood =
-    let same : family.Merge a b ≡ report = cc in
-    let free : report_refusal 8 journal (living journal) entry.by (Merge a b) ≡ None = ap (report_refusal 8 journal (living journal) entry.by) (sym is) ∙ accepts.free in
-    subst (λ x. CanReport x (rows_of (layer 8 0 (family_of_next journal entry) journal))) same (
-      lives_there _ a stood (read_lives journal entry sound accepts a (subst (λ x. Names x a) (sym is) (inl refl))),
-      lives_there _ b stood (read_lives journal entry sound accepts b (subst (λ x. Names x b) (sym is) (inr refl))),
-      differ journal a b (first_none (full journal) _ free).1,
-    )
-can_report journal entry (Remove c None) report sound accepts is about stood =
-    let same : family.Remove c None ≡ report = cc in
-    subst (λ x. CanReport x (rows_of (layer 8 0 (family_of_next journal entry) journal))) same
-    (lives_there _ c stood (read_lives journal entry sound accepts c (subst (λ x. Names x c) (sym is) refl)), tt, λ e. absurd (cc))
-can_report journal entry (Remove c (Some heir)) report sound accepts is about stood =
-    let same : family.Remove c (Some heir) ≡ report = cc in
-    let free : report_refusal 8 journal (living journal) entry.by (Remove c (Some heir)) ≡ None = ap (report_refusal 8 journal (living journal) entry.by) (sym is) ∙ accepts.free in
-    let other = differ journal c heir (first_none (full journal) _ free).1 in
-    subst (λ x. CanReport x (rows_of (layer 8 0 (family_of_next journal entry) journal))) same (
-      lives_there _ c stood (read_lives journal entry sound accepts c (subst (λ x. Names x c) (sym is) (inl refl))),
-      lives_there _ heir stood (read_lives journal entry sound accepts heir (subst (λ x. Names x heir) (sym is) (inr refl))),
-      λ e. let one : heir ≡ c = cc in other (sym one),
-    )
-can_report journal entry (Duplicate source place) report sound accepts is about stood =
-    let same : family.Duplicate source ≡ report = cc in
-    let own = family_of_next journal entry in
-    let entries = layer 8 0 own journal in
-    let rows = rows_of entries in
-    let free : report_refusal 8 journal (living journal) entry.by (Duplicate source place) ≡ None = ap (report_refusal 8 journal (living journal) entry.by) (sym is) ∙ accepts.free in
-    let known_c = first_none (unknown source (living journal)) _ (first_none (full journal) _ free).1 in
-    let open_ = first_none (family_full source (living journal)) _ (first_none (taken place (living journal)) _ known_c.1).1 in
-    let room = room_for source (living journal) known_c.0 open_.0 in
-    let of_own : room.0.family ≡ own = sym (family_of_copy 8 journal entry source room.0 sound (ap subject is) room.1) in
-    let long : length (copy_rows rows) ≡ length (filter (is_of own) (living journal)) =
-    sym (same_length (copy_rows rows) (table.copies_of (knowns_of entries)) (same_copies rows (knowns_of entries) stood.stands.same))
-    ∙ ap length stood.mirrored.copies ∙ length-map (copies_of entries) as_known
-    ∙ ap length (sym (table_own 8 0 own journal sound) ∙ sym (table_living 8 own journal)) in
-    let few : length (filter (is_of own) (living journal)) < 256 = subst (λ f. length (filter (is_of f) (living journal)) < 256) of_own room.2 in
-    let deep : then_some (not (divides (stamp_rows room.0.family journal) source)) TooDeep ≡ None =
-    ap (option_and_then (λ copy. then_some (not (divides (stamp_rows copy.family journal) source)) TooDeep)) (sym room.1) ∙ (first_none (too_deep source journal (living journal)) [] open_.1).0 in
-    let shown : stamp_rows room.0.family journal ≡ rows = ap (λ f. stamp_rows f journal) of_own ∙ ap rows_of (sym (layer_now 8 own journal)) in
-    let can : divides rows source ≡ true = subst (λ r. divides r source ≡ true) shown (not_false _ (none_false _ _ deep)) in
-    subst (λ x. CanReport x rows) same (
-      lives_there entries source stood (read_lives journal entry sound accepts source (subst (λ x. Names x source) (sym is) refl)),
-      omega arith,
-      divides_is rows source can,
-    )
-  where
-    not_false : (b : Bool) → not b ≡ false → b ≡ true
-    not_false true e = refl
-    not_false false e = absurd (cc)
-can_report journal entry (Register place) report sound accepts is about stood = absurd (cc)
-can_report journal entry (Confirm m) report sound accepts is about stood = absurd (cc)
-can_report journal entry (Withdraw m) report sound accepts is about stood = absurd (cc)
+  -- all numbers in the rows and sets of a family are below that of the next entry
+  pub next_above : IsStood before → AreBefore entry.number (rows_of before) × AreBelow entry.number (knowns_of before)
+  next_above stood =
+      let old = stood.mirrored.old (length journal) (layer_within journal 0 (family_of_next journal entry) sound) in
+      let next = accepts.next in (
+        same_before (rows_of before) (knowns_of before) entry.number stood.stands.same
+            (λ t i. let is = each_in (IsOldKnown (length journal)) (knowns_of before) t old.each i in let copy = is.copy in let touch = is.touch in (omega arith, omega arith)),
+        λ t u i member. let within = (each_in (IsOldKnown (length journal)) (knowns_of before) t old.each i).updates u member in omega arith,
+      )
 
--- a Register begins with the row of its copy
-step_register : (journal : List Entry) (entry : Entry) → IsSound 8 journal → Accepts 8 journal entry → is_register entry.report ≡ true → reported entry.number entry.report ≡ (λ t. t ++ table.registered entry.number)
-    → is_duplicate entry.report ≡ false → layer 8 0 (family_of_next journal entry) journal ≡ [] → IsMirrored (layer 8 0 (family_of_next journal entry) journal ++ entry ∷ []) → IsStood (layer 8 0 (family_of_next journal entry) journal ++ entry ∷ [])
-step_register journal entry sound accepts is table_is plain none mirrored =
-    let entries = layer 8 0 (family_of_next journal entry) journal in
-    let n = entry.number in
-    let rows_is : rows_of (entries ++ entry ∷ []) ≡ seed_row n ∷ [] =
-    rows_of-push entries entry ∙ ap (λ l. rows_after n entry.report (rows_of l)) none
-    ∙ ap (rows_after n entry.report) rows_none ∙ ap (λ b. cond b ([] ++ seed_row n ∷ []) (changed_rows n (family_report entry.report) [])) is in
-    let table_new : knowns_of (entries ++ entry ∷ []) ≡ table.registered n =
-    knowns_of-push entries entry ∙ ap (λ f. f (knowns_of entries)) table_is ∙ ap (λ l. knowns_of l ++ table.registered n) none ∙ ap (λ l. l ++ table.registered n) knowns_none in
-    record {
-      mirrored = mirrored;
-      kept = subst IsKept (sym rows_is) (seed_kept n);
-      sound = subst AreSound (sym rows_is) (seed_sound n);
-      stands = subst (StandsFor (rows_of (entries ++ entry ∷ []))) (sym table_new) (subst (λ r. StandsFor r (table.registered n)) (sym rows_is) (seed_stands n));
-      deep = omega (arith, ap deepest rows_is);
-    }
+  can_divide : (source : ℕ) (place : Place) → entry.report ≡ Duplicate source place → first (against 8 journal (living journal) entry.by (Duplicate source place)) ≡ None → IsStood before
+      → (length (copy_rows (rows_of before)) < 256) × (divides (rows_of before) source ≡ true)
+  can_divide source place is free stood =
+      let own = family_of_next journal entry in
+      let known_c = first_none (unknown source (living journal)) _ free in
+      let open_ = first_none (family_full source (living journal)) _ (first_none (taken place (living journal)) _ known_c.1).1 in
+      let room = room_for source (living journal) known_c.0 open_.0 in
+      let of_own : room.0.family ≡ own = sym (family_of_copy 8 journal entry source room.0 sound (ap subject is) room.1) in
+      let few : length (filter (is_of own) (living journal)) < 256 = subst (λ f. length (filter (is_of f) (living journal)) < 256) of_own room.2 in
+      let deep : then_some (not (divides (stamp_rows room.0.family journal) source)) TooDeep ≡ None =
+      ap (option_and_then (λ copy. then_some (not (divides (stamp_rows copy.family journal) source)) TooDeep)) (sym room.1) ∙ (first_none (too_deep source journal (living journal)) [] open_.1).0 in
+      let shown : stamp_rows room.0.family journal ≡ rows_of before = ap (λ f. stamp_rows f journal) of_own ∙ ap rows_of (sym (layer_now 8 own journal)) in (
+        omega (arith, counted 0 own journal sound stood, ap length (table_living 8 own journal)),
+        subst (λ r. divides r source ≡ true) shown (not-false _ (none_false _ _ deep)),
+      )
 
--- what a report that isn't refused leaves
-step_is : (journal : List Entry) (entry : Entry) (r : Report) (report : FamilyReport) → IsSound 8 journal → Accepts 8 journal entry → entry.report ≡ r → family_report r ≡ Some report → is_of_copies entry.report ≡ true
-    → reported entry.number r ≡ by_family.reported entry.number report → rows_after entry.number r ≡ reported_rows entry.number report → deeper report ≡ cond (is_duplicate r) 1 0
-    → IsStood (layer 8 0 (family_of_next journal entry) journal) → IsStood (layer 8 0 (family_of_next journal entry) journal ++ entry ∷ [])
-step_is journal entry r report sound accepts is about of_copies table_is rows_are deeper_is stood =
-    let above = next_above journal entry sound accepts stood in
-    step_report journal entry report accepts stood (can_report journal entry r report sound accepts is about stood) above.0 (asked entry.number report _ above.1)
-    (ap (reported entry.number) is ∙ table_is) (ap (rows_after entry.number) is ∙ rows_are) (deeper_is ∙ ap (λ x. cond (is_duplicate x) 1 0) (sym is))
-    (mirrored_grows.step journal entry sound accepts of_copies stood.mirrored)
+  can_by : (report : Report) → entry.report ≡ report → first (against 8 journal (living journal) entry.by report) ≡ None → ((c : ℕ) → Names report c → lives (rows_of before) c ≡ true) → IsStood before
+      → IfSome (family_report report) (λ of. CanReport of (rows_of before))
+  can_by (Duplicate source place) is free named stood = let can = can_divide source place is free stood in (named source refl, can.0, divides_is (rows_of before) source can.1)
+  can_by (Edit c) is free named stood = named c refl
+  can_by (Reconcile a b) is free named stood = (named a (inl refl), named b (inr refl), differ a b (living journal) free)
+  can_by (Merge a b) is free named stood = (named a (inl refl), named b (inr refl), differ a b (living journal) free)
+  can_by (Relocate c place) is free named stood = named c refl
+  can_by (Remove c None) is free named stood = (named c refl, tt, λ e. absurd (cc))
+  can_by (Remove c (Some heir)) is free named stood = (named c (inl refl), named heir (inr refl), λ e. let one : heir ≡ c = cc in differ c heir (living journal) free (sym one))
+  can_by report is free named stood = tt
 
-step : (journal : List Entry) (entry : Entry) (r : Report) → IsSound 8 journal → Accepts 8 journal entry → entry.report ≡ r → is_of_copies entry.report ≡ true
-    → IsStood (layer 8 0 (family_of_next journal entry) journal) → IsStood (layer 8 0 (family_of_next journal entry) journal ++ entry ∷ [])
-step journal entry (Register place) sound accepts is of_copies stood =
-    let new : family_of_next journal entry ≡ length journal + 1 = family_new journal entry ∙ ap (λ r. begun_or_joined (families journal) entry.number (subject r)) is ∙ accepts.next in
-    step_register journal entry sound accepts (ap is_register is) (ap (reported entry.number) is) (ap is_duplicate is) (ap (λ f. layer 8 0 f journal) new ∙ layer_new journal sound)
-    (mirrored_grows.step journal entry sound accepts of_copies stood.mirrored)
-step journal entry (Duplicate source place) sound accepts is of_copies stood = step_is journal entry (Duplicate source place) (family.Duplicate source) sound accepts is refl of_copies refl refl refl stood
-step journal entry (Edit c) sound accepts is of_copies stood = step_is journal entry (Edit c) (family.Edit c) sound accepts is refl of_copies refl refl refl stood
-step journal entry (Reconcile a b) sound accepts is of_copies stood = step_is journal entry (Reconcile a b) (family.Reconcile a b) sound accepts is refl of_copies refl refl refl stood
-step journal entry (Merge a b) sound accepts is of_copies stood = step_is journal entry (Merge a b) (family.Merge a b) sound accepts is refl of_copies refl refl refl stood
-step journal entry (Relocate c place) sound accepts is of_copies stood = step_is journal entry (Relocate c place) (family.Touch c) sound accepts is refl of_copies refl refl refl stood
-step journal entry (Remove c heir) sound accepts is of_copies stood = step_is journal entry (Remove c heir) (family.Remove c heir) sound accepts is refl of_copies refl refl refl stood
-step journal entry (Confirm m) sound accepts is of_copies stood = absurd (let odd : is_of_copies (Confirm m) ≡ true = ap is_of_copies (sym is) ∙ of_copies in cc)
-step journal entry (Withdraw m) sound accepts is of_copies stood = absurd (let odd : is_of_copies (Withdraw m) ≡ true = ap is_of_copies (sym is) ∙ of_copies in cc)
+  -- a report that isn't refused can be made
+  pub can_report : IsStood before → IfSome (family_report entry.report) (λ of. CanReport of (rows_of before))
+  can_report stood =
+      can_by entry.report refl (first_none (full journal) _ accepts.free).1 (λ c names. lives_there before c stood (read_lives journal entry sound accepts c names)) stood
+
+  -- so what it leaves of a family that has begun keeps what the rows keep
+  step_changes : (of : FamilyReport) → family_report entry.report ≡ Some of → is_of_copies entry.report ≡ true → IsStood before → IsStood (before ++ entry ∷ [])
+  step_changes of about is stood =
+      let rows = rows_of before in
+      let new = reported_rows entry.number of rows in
+      let few : length journal < 1000000 = leb-false 1000000 (length journal) (none_false _ _ (first_none (full journal) _ accepts.free).0) in
+      let next = accepts.next in
+      let fits : entry.number < 2 ^ 64 = omega arith in
+      let above = next_above stood in
+      let can = subst (λ o. IfSome o (λ f. CanReport f rows)) about (can_report stood) in
+      let done = report_law entry.number of rows fits stood.kept stood.sound can above.0 in
+      let rows_is : rows_of (before ++ entry ∷ []) ≡ new = rows_of-push before entry ∙ rows_changed entry.number entry.report of rows about in
+      let table_new : knowns_of (before ++ entry ∷ []) ≡ by_family.reported entry.number of (knowns_of before) = knowns_of-push before entry ∙ sets_changed entry.number entry.report of (knowns_of before) about in
+      let count : count_by (λ e. is_duplicate e.report) (before ++ entry ∷ []) ≡ count_by (λ e. is_duplicate e.report) before + cond (is_duplicate entry.report) 1 0 =
+      fold-append (λ a e. a + cond (is_duplicate e.report) 1 0) 0 before (entry ∷ []) in
+      let deeper_by = subst (λ o. IfSome o (λ f. deeper f ≡ cond (is_duplicate entry.report) 1 0)) about (deeper_is entry.report) in
+      record {
+        mirrored = mirrored_grows.step journal entry sound accepts is stood.mirrored;
+        kept = subst IsKept (sym rows_is) done.kept;
+        sound = subst AreSound (sym rows_is) (sound_after entry.number of rows fits stood.kept stood.sound can above.0);
+        stands = subst (StandsFor (rows_of (before ++ entry ∷ []))) (sym table_new)
+            (subst (λ r. StandsFor r (by_family.reported entry.number of (knowns_of before))) (sym rows_is) (done.stands (knowns_of before) stood.stands (asked entry.number of _ above.1)));
+        deep = omega (arith, ap deepest rows_is, done.deep, stood.deep, deeper_by, count);
+      }
+
+  -- a Register begins with the row of its copy
+  step_begins : (place : Place) → entry.report ≡ Register place → IsStood before → IsStood (before ++ entry ∷ [])
+  step_begins place is stood =
+      let n = entry.number in
+      let new : family_of_next journal entry ≡ length journal + 1 = family_new journal entry ∙ ap (λ r. begun_or_joined (families journal) n (subject r)) is ∙ accepts.next in
+      let none : before ≡ [] = ap (λ f. layer 8 0 f journal) new ∙ layer_new journal sound in
+      let rows_is : rows_of (before ++ entry ∷ []) ≡ seed_row n ∷ [] =
+      rows_of-push before entry ∙ ap (rows_after n entry.report) (ap rows_of none ∙ rows_none) ∙ ap (λ r. rows_after n r []) is in
+      let table_new : knowns_of (before ++ entry ∷ []) ≡ by_table.registered n =
+      knowns_of-push before entry ∙ ap (reported n entry.report) (ap knowns_of none ∙ knowns_none) ∙ ap (λ r. reported n r []) is in
+      record {
+        mirrored = mirrored_grows.step journal entry sound accepts (ap is_of_copies is) stood.mirrored;
+        kept = subst IsKept (sym rows_is) (seed_kept n);
+        sound = subst AreSound (sym rows_is) (seed_sound n);
+        stands = subst (StandsFor (rows_of (before ++ entry ∷ []))) (sym table_new) (subst (λ r. StandsFor r (by_table.registered n)) (sym rows_is) (seed_stands n));
+        deep = omega (arith, ap deepest rows_is);
+      }
+
+  step : is_of_copies entry.report ≡ true → IsStood before → IsStood (before ++ entry ∷ [])
+  step is stood = elim (made_of entry.report is) [ inl begins ↦ step_begins begins.0 begins.1 stood | inr changes ↦ step_changes changes.0 changes.1 is stood ]
 
 -- so the rows of each layer of each accepted journal stand for its sets
 pub layers_stand : (journal : List Entry) → IsAccepted 8 journal → (k family : ℕ) → IsStood (layer 8 k family journal)
 layers_stand journal accepted k family =
-    layers_hold IsStood (record { none = none_stood; step = λ j e sound accepts is stood. step j e e.report sound accepts refl is stood }) journal accepted k family
+    layers_hold IsStood (record { none = none_stood; step = step }) journal accepted k family
+
+small_from : (family : ℕ) (journal : List Entry) (k n : ℕ) → ((i : ℕ) → length (tables.table 8 i family journal) ≤ 256) → AllByRecursion (λ t. length t ≤ 256) (tables.tables_from 8 family journal k n)
+small_from family journal k zero each = (each k, tt)
+small_from family journal k (suc n) each = (each k, small_from family journal (k + 1) n each)
+
+-- no family has more living copies than it takes, also with pending entries left out
+pub accepted_small : (family : ℕ) (journal : List Entry) → IsAccepted 8 journal → AllByRecursion (λ t. length t ≤ 256) (tables.tables 8 family journal)
+accepted_small family journal accepted =
+    small_from family journal 0 (length (pending 8 family journal)) (λ k.
+    let stood = layers_stand journal accepted k family in
+    let few = stood.kept.few in
+    omega (arith, counted k family journal (accepted_is_sound 8 journal accepted) stood))
 
 -- a family's rows stand for its sets
 pub rows_stand : (journal : List Entry) (family : ℕ) → IsAccepted 8 journal → StandsFor (stamp_rows family journal) (knowns_of (entries_of family (families journal) (effective journal)))
@@ -306,7 +263,7 @@ too_deep_duplicates journal number accepted is =
     must false e = refl
 
 -- the copies of a family's table of sets are its living copies
-pub copies_sets : (journal : List Entry) (family : ℕ) → IsAccepted 8 journal → table.copies_of (sets_at 0 family journal) ≡ map as_known (tables.table 8 0 family journal)
+pub copies_sets : (journal : List Entry) (family : ℕ) → IsAccepted 8 journal → by_table.copies_of (sets_at 0 family journal) ≡ map as_known (tables.table 8 0 family journal)
 copies_sets journal family accepted =
     (layers_mirrored journal accepted 0 family).copies ∙ ap (map as_known) (sym (table_own 8 0 family journal (accepted_is_sound 8 journal accepted)))
 
@@ -322,12 +279,9 @@ pub below_sets : (journal : List Entry) (family n : ℕ) → IsAccepted 8 journa
 below_sets journal family n accepted next t u at member =
     let within = (each_in (IsOldKnown (length journal)) _ t (sets_old journal 0 family accepted).each at).updates u member in omega arith
 
--- how many copies live, by the rows as by the sets
+-- how many copies live
 pub count_rows : (journal : List Entry) (family : ℕ) → IsAccepted 8 journal → length (copy_rows (rows_of (layer 8 0 family journal))) ≡ length (filter (is_of family) (living journal))
-count_rows journal family accepted =
-    let entries = layer 8 0 family journal in
-    sym (same_length (copy_rows (rows_of entries)) (table.copies_of (knowns_of entries)) (same_copies (rows_of entries) (knowns_of entries) (layers_stand journal accepted 0 family).stands.same))
-    ∙ ap length (copies_sets journal family accepted) ∙ length-map (tables.table 8 0 family journal) as_known ∙ ap length (sym (table_living 8 family journal))
+count_rows journal family accepted = counted 0 family journal (accepted_is_sound 8 journal accepted) (layers_stand journal accepted 0 family) ∙ ap length (sym (table_living 8 family journal))
 
 -- a living copy lives in the rows of its family
 pub lives_rows : (journal : List Entry) (family c : ℕ) (copy : Copy) → IsAccepted 8 journal → copy_in (living journal) c ≡ Some copy → families journal c ≡ family → lives (rows_of (layer 8 0 family journal)) c ≡ true

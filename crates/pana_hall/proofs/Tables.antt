@@ -1,31 +1,33 @@
 -- The tables of the families, as entries come.
-use Rattle.std.specs.Prelude.{◌≡◌, ◌≢◌, ℕ, ◌+◌, ◌-◌, ◌<◌, ◌≤◌, Bool, true, false, cond, not, ◌&&◌, ◌||◌, ◌==◌, List, [], ◌∷◌, ◌++◌, length, map, filter, fold, drop, Some, None}
+use Rattle.std.specs.Prelude.{◌≡◌, ◌≢◌, ℕ, ◌+◌, ◌-◌, ◌<◌, ◌≤◌, Bool, true, false, cond, not, ◌&&◌, ◌||◌, ◌==◌, List, [], ◌∷◌, ◌++◌, length, map, filter, fold, drop, Some, None, slice_get}
 use Rattle.std.specs.List.{AllByRecursion}
 use Rattle.std.proofs.Common.{refl, sym, ap, ◌∙◌, subst, inr, arith, append-nil, append_assoc}
-use Rattle.std.proofs.lemmas.Bool.{eq-eqb, ne_eqb, not-false}
-use Rattle.std.proofs.lemmas.List.{length-drop, drop-drop, drop_all, same_from_push}
+use Rattle.std.proofs.lemmas.Bool.{eq-eqb, ne_eqb, eqb-true, eqb-false}
+use Rattle.std.proofs.lemmas.List.{length-drop, drop-drop, drop_all, same_from_push, map-append}
 use Rattle.std.proofs.lemmas.List.Elements.{filter_agree, filter-append}
+use Rattle.circular_buffer.proofs.Places.{slice_get-push}
 use Rattle.pana_journal.specs.declared.report.Report.{Report}
 use Rattle.pana_journal.specs.declared.report.Report.TheVariants.{Confirm, Withdraw}
 use Rattle.pana_journal.specs.declared.entry.Entry.{Entry}
 use Rattle.pana_family.specs.Updates.{has}
-use Rattle.pana_hall.specs.Family.{families}
+use Rattle.pana_hall.specs.Family.{families, begun_or_joined, subject, entries_of, is_register, has_report, is_family}
 use Rattle.pana_hall.specs.Effective.{effective, is_of_copies, is_withdrawn, left_out}
 use Rattle.pana_hall.specs.Living.{copy_in, living, copies_of, after_entry, Copy}
 use Rattle.pana_hall.specs.Pending.{pending, pend, last, behind, is_last}
 use Rattle.pana_hall.specs.Board.{is_of}
 use Rattle.pana_journal.specs.Entries.{entry_at}
-use Rattle.pana_hall.specs.Refusal.{report_refusal, full, unknown_entry, not_yours, settled_or_followed, pending_with, taken_since}
-use Rattle.pana_hall.specs.Accepted.{Accepts}
+use Rattle.pana_hall.specs.Refusal.{report_refusal, pending_with, taken_since}
+use Rattle.pana_hall.specs.Accepted.{Accepts, IsAccepted}
 use Rattle.pana_hall.specs.laws.Tables.{table, layer}
-use Rattle.pana_hall.specs.laws.Layers.{family_of_next, AddsLayer, DropsLayer, KeepsLayers, LeavesAlone, AreRising, AreMerged}
-use Rattle.pana_hall.proofs.Lists.{each_filter, each_weaker, filter_all, filter_swap, filter_filter, any_push, last_push, last_end, behind_is_end, is_last_push, each_last}
-use Rattle.pana_hall.proofs.Locality.{IsWell, Fits, copies_of-family, copies_of-push, copy_in-family, report_fits}
-use Rattle.pana_hall.proofs.Grown.{own, each_effective, own_copies, own_confirm, own_withdraw, own_other, pending-push, pending_is}
-use Rattle.pana_hall.proofs.Allowed.{first_none, none_false}
-use Rattle.pana_hall.proofs.Moves.{rises_after}
-use Rattle.pana_hall.proofs.Rising.{rises_lower, rises_filter, rises_last}
-use Rattle.pana_hall.proofs.Sound.{IsSound, keeps_families, living_fit, family_named, OfCopies, Confirms, Withdraws, kind_of, pend_copies}
+use Rattle.pana_hall.specs.laws.Layers.{family_of_next, AddsLayer, AreRising, AreMerged}
+use Rattle.pana_hall.proofs.Lists.{each_filter, each_weaker, filter_all, filter_swap, filter_filter, any_push, last_push, last_end, behind_is_end, is_last_push, each_last, rises_lower, rises_filter, rises_last, each_right, at-push, each_map, rises_map}
+use Rattle.pana_hall.proofs.Moves.{IsWell, Fits, copies_of-family, copies_of-push, copy_in-family, report_fits, rises_after, found_fits}
+use Rattle.pana_hall.proofs.Sound.{own, each_effective, own_confirm, own_withdraw, IsSound, keeps_families, living_fit, family_named, pend_copies, family_new, effective_well, in_accepted, pends, own_report, left_by, accepted_is_sound, sound_grows, withdraw_free}
+use Rattle.std.proofs.lemmas.Option.{slice_get_past}
+use Rattle.std.proofs.Math.Bool.{or-false}
+use Rattle.pana_hall.specs.Queries.{begun}
+
+-- The tables of the families, as entries come.
 
 -- nothing is left out
 pub last_none : (numbers : List ℕ) → last 0 numbers ≡ []
@@ -66,21 +68,6 @@ pub own_below : (most family n : ℕ) (journal : List Entry) → IsSound most jo
 own_below most family n journal sound next =
     each_filter _ _ (effective journal) (each_effective _ journal
     (each_weaker (IsWell (families journal) (length journal)) _ journal (λ e well. let within = well.within in ap not (ne_eqb n e.number (λ h. omega arith))) sound.well))
-
--- a report of copies is the last of its family's entries
-pub own_report : (most : ℕ) (journal : List Entry) (entry : Entry) → IsSound most journal → Accepts most journal entry → is_of_copies entry.report ≡ true
-    → own (family_of_next journal entry) (journal ++ entry ∷ []) ≡ own (family_of_next journal entry) journal ++ entry ∷ []
-own_report most journal entry sound accepts of_copies =
-    let family = family_of_next journal entry in
-    own_copies family journal entry (keeps_families most journal entry sound accepts.next) of_copies ∙ ap (λ b. own family journal ++ cond b (entry ∷ []) []) (eq-eqb family family refl)
-
--- the family's pending list after its next entry
-pub pends : (most : ℕ) (journal : List Entry) (entry : Entry) (report : Report) → IsSound most journal → Accepts most journal entry → entry.report ≡ report
-    → pending most (family_of_next journal entry) (journal ++ entry ∷ []) ≡ pend most entry.number report (pending most (family_of_next journal entry) journal)
-pends most journal entry report sound accepts is =
-    let family = family_of_next journal entry in
-    pending_is most family journal entry report (keeps_families most journal entry sound accepts.next) is
-    ∙ ap (λ b. cond b (pend most entry.number report (pending most family journal)) (pending most family journal)) (eq-eqb family family refl)
 
 pub pending_report : (most : ℕ) (journal : List Entry) (entry : Entry) → IsSound most journal → Accepts most journal entry → is_of_copies entry.report ≡ true
     → pending most (family_of_next journal entry) (journal ++ entry ∷ []) ≡ last most (pending most (family_of_next journal entry) journal ++ entry.number ∷ [])
@@ -126,22 +113,20 @@ layer_confirm most m k journal entry sound accepts is within =
 
 pub pending_other : (most family : ℕ) (journal : List Entry) (entry : Entry) → IsSound most journal → Accepts most journal entry → family_of_next journal entry ≢ family
     → pending most family (journal ++ entry ∷ []) ≡ pending most family journal
-pending_other most family journal entry sound accepts other =
-    pending-push most family journal entry (keeps_families most journal entry sound accepts.next)
-    ∙ ap (λ b. cond b (pend most entry.number entry.report (pending most family journal)) (pending most family journal)) (ne_eqb (families (journal ++ entry ∷ []) entry.number) family other)
+pending_other most family journal entry sound accepts other = (left_by most family journal entry (keeps_families most journal entry sound accepts.next) other).1
 
 pub layer_other : (most k family : ℕ) (journal : List Entry) (entry : Entry) → IsSound most journal → Accepts most journal entry → family_of_next journal entry ≢ family
     → layer most k family (journal ++ entry ∷ []) ≡ layer most k family journal
 layer_other most k family journal entry sound accepts other =
-    let keeps = keeps_families most journal entry sound accepts.next in
-    let apart : (families (journal ++ entry ∷ []) entry.number == family) ≡ false = ne_eqb (families (journal ++ entry ∷ []) entry.number) family other in
-    let own' : own family (journal ++ entry ∷ []) ≡ own family journal = elim (kind_of entry.report) [
-      | OfCopies is ↦ own_copies family journal entry keeps is ∙ ap (λ b. own family journal ++ cond b (entry ∷ []) []) apart ∙ append-nil (own family journal)
-      | Confirms m is ↦ own_confirm family journal entry m keeps is
-      | Withdraws m is ↦ own_withdraw family journal entry m keeps is ∙ own_other family (families journal) m (effective journal) (λ h. other (family_named most journal entry m (inr is) ∙ h))
-    ] in
-    ap (λ l. left_out (last k l) (own family (journal ++ entry ∷ []))) (pending_other most family journal entry sound accepts other)
-    ∙ ap (λ l. left_out (last k (pending most family journal)) l) own'
+    let left = left_by most family journal entry (keeps_families most journal entry sound accepts.next) other in
+    ap (λ l. left_out (last k l) (own family (journal ++ entry ∷ []))) left.1 ∙ ap (left_out (last k (pending most family journal))) left.0
+
+-- what is one for the entries is one for the tables
+pub tables_by : (i k family : ℕ) (journal : List Entry) (entry : Entry) → IsAccepted 8 journal → Accepts 8 journal entry
+    → layer 8 i family (journal ++ entry ∷ []) ≡ layer 8 k family journal → table 8 i family (journal ++ entry ∷ []) ≡ table 8 k family journal
+tables_by i k family journal entry accepted accepts same =
+    let sound = accepted_is_sound 8 journal accepted in
+    table_own 8 i family (journal ++ entry ∷ []) (sound_grows 8 journal entry sound accepts) ∙ ap copies_of same ∙ sym (table_own 8 k family journal sound)
 
 -- the tables, of the entries
 pub adds_layer : (most : ℕ) (journal : List Entry) (entry : Entry) → IsSound most journal → IsSound most (journal ++ entry ∷ []) → Accepts most journal entry
@@ -155,20 +140,6 @@ adds_layer most journal entry sound sound' accepts of_copies =
           ∙ ap copies_of (layer_undone most k journal entry sound accepts of_copies within) ∙ sym (table_own most k family journal sound);
     }
 
-pub keeps_layers : (most m : ℕ) (journal : List Entry) (entry : Entry) → IsSound most journal → IsSound most (journal ++ entry ∷ []) → Accepts most journal entry
-    → entry.report ≡ Confirm m → KeepsLayers most (family_of_next journal entry) journal entry
-keeps_layers most m journal entry sound sound' accepts is k within =
-    let family = family_of_next journal entry in
-    table_own most k family (journal ++ entry ∷ []) sound' ∙ ap copies_of (layer_confirm most m k journal entry sound accepts is within) ∙ sym (table_own most k family journal sound)
-
-pub leaves_alone : (most family : ℕ) (journal : List Entry) (entry : Entry) → IsSound most journal → IsSound most (journal ++ entry ∷ []) → Accepts most journal entry
-    → family_of_next journal entry ≢ family → LeavesAlone most family journal entry
-leaves_alone most family journal entry sound sound' accepts other =
-    record {
-      tables = λ k. table_own most k family (journal ++ entry ∷ []) sound' ∙ ap copies_of (layer_other most k family journal entry sound accepts other) ∙ sym (table_own most k family journal sound);
-      pending = pending_other most family journal entry sound accepts other;
-    }
-
 pub rises_effective : (low : ℕ) (journal : List Entry) → AreRising (λ e. e.number) low journal → AreRising (λ e. e.number) low (effective journal)
 rises_effective low [] rises = tt
 rises_effective low (x ∷ journal) rises =
@@ -178,11 +149,7 @@ rises_effective low (x ∷ journal) rises =
       | false ↦ rises_lower (λ e. e.number) x.number low (effective journal) (omega arith) (rises_effective x.number journal rises.1)
     ]
 
-rises_numbers : (low : ℕ) (entries : List Entry) → AreRising (λ e. e.number) low entries → AreRising (λ n. n) low (map (λ e. e.number) entries)
-rises_numbers low [] rises = tt
-rises_numbers low (e ∷ entries) rises = (rises.0, rises_numbers e.number entries rises.1)
-
-rises_end : (low : ℕ) (prefix numbers : List ℕ) → AreRising (λ n. n) low (prefix ++ numbers) → AreRising (λ n. n) low numbers
+pub rises_end : (low : ℕ) (prefix numbers : List ℕ) → AreRising (λ n. n) low (prefix ++ numbers) → AreRising (λ n. n) low numbers
 rises_end low [] numbers rises = rises
 rises_end low (n ∷ prefix) numbers rises = let first = rises.0 in rises_lower (λ k. k) n low numbers (omega arith) (rises_end n prefix numbers rises.1)
 
@@ -193,7 +160,7 @@ own_rises family journal rises = rises_filter (λ e. e.number) 0 _ (effective jo
 pub pending_rises : (most family : ℕ) (journal : List Entry) → IsSound most journal → AreRising (λ n. n) 0 (pending most family journal)
 pending_rises most family journal sound =
     let ends = sound.ends family in
-    rises_end 0 ends.0 (pending most family journal) (subst (AreRising (λ n. n) 0) ends.1 (rises_numbers 0 (own family journal) (own_rises family journal sound.rising)))
+    rises_end 0 ends.0 (pending most family journal) (subst (AreRising (λ n. n) 0) ends.1 (rises_map (λ e. e.number) (λ e. e.number) (λ n. n) (λ e. refl) 0 (own family journal) (own_rises family journal sound.rising)))
 
 -- a family whose last pending entry is m: it is the last of the family's effective entries, and all others are below it
 pub record EndsIn (most m : ℕ) (journal : List Entry) : Type 0 where
@@ -243,9 +210,7 @@ pub record Open (most m : ℕ) (journal : List Entry) : Type 0 where
 
 pub open_withdraw : (most m : ℕ) (journal : List Entry) (by : List ℕ) (report : Report) → IsSound most journal → report ≡ Withdraw m → report_refusal most journal (living journal) by report ≡ None → Open most m journal
 open_withdraw most m journal by report sound is free =
-    let alone : report_refusal most journal (living journal) by (Withdraw m) ≡ None = rw is at free in
-    let at_end = first_none (settled_or_followed most m journal) _ (first_none (not_yours by m journal) _ (first_none (unknown_entry m journal) _ (first_none (full journal) _ alone).1).1).1 in
-    record { ends = ends_at most m journal sound (not-false _ (none_false _ _ at_end.0)); free = (first_none (taken_since m journal) [] at_end.1).0 }
+    let open_ = withdraw_free most m journal by report is free in record { ends = ends_at most m journal sound open_.0; free = open_.2 }
 
 -- such a last one is taken out, and the others stay
 pub all_but_last : {X : Type 0} (key : X → ℕ) (m : ℕ) (xs : List X) (x : X) → AllByRecursion (λ y. key y < m) xs → key x ≡ m → filter (λ y. not (m == key y)) (xs ++ x ∷ []) ≡ xs
@@ -274,12 +239,6 @@ layer_withdraw most m k journal entry sound accepts is =
     ap (left_out (last k rest)) (own_withdraw family journal entry m (keeps_families most journal entry sound accepts.next) is)
     ∙ sym (left_out_push (last k rest) m (own family journal))
     ∙ ap (λ l. left_out l (own family journal)) (sym (last_push k rest m) ∙ ap (last (k + 1)) (sym (pending_withdraw most m journal entry sound accepts is)))
-
-pub drops_layer : (most m : ℕ) (journal : List Entry) (entry : Entry) → IsSound most journal → IsSound most (journal ++ entry ∷ []) → Accepts most journal entry
-    → entry.report ≡ Withdraw m → DropsLayer most (family_of_next journal entry) journal entry
-drops_layer most m journal entry sound sound' accepts is k =
-    let family = family_of_next journal entry in
-    table_own most k family (journal ++ entry ∷ []) sound' ∙ ap copies_of (layer_withdraw most m k journal entry sound accepts is) ∙ sym (table_own most (k + 1) family journal sound)
 
 -- rising numbers
 rises_fold : (low last : ℕ) (of : ℕ → ℕ) (copies : List Copy) (entries : List Entry) → AreRising (λ e. e.number) low entries → AllByRecursion (IsWell of last) entries
@@ -313,3 +272,113 @@ merged most journal sound =
       rising = living_rises most journal sound;
       families = each_weaker (Fits (families journal) (length journal)) _ (living journal) (λ c fit. (fit.family, fit.within)) fits;
     }
+
+-- What the hall's bodies need beside the tables: pending lists, families of entries, and what a Withdraw brings back.
+
+-- a report about a copy that lives is of the copy's family
+pub family_of_copy : (most : ℕ) (journal : List Entry) (entry : Entry) (number : ℕ) (copy : Copy) → IsSound most journal → subject entry.report ≡ Some number → copy_in (living journal) number ≡ Some copy
+    → family_of_next journal entry ≡ copy.family
+family_of_copy most journal entry number copy sound about found =
+    let here = found_fits (families journal) (length journal) number (living journal) copy (living_fit most journal sound) found in
+    family_new journal entry ∙ ap (begun_or_joined (families journal) entry.number) about ∙ ap (families journal) (sym here.0) ∙ sym here.1.family
+
+own_family : (family : ℕ) (of : ℕ → ℕ) (entries : List Entry) → AllByRecursion (λ n. of n ≡ family) (map (λ e. e.number) (entries_of family of entries))
+own_family family of [] = tt
+own_family family of (e ∷ entries) =
+    elim (of e.number == family) as (λ b. (of e.number == family) ≡ b → AllByRecursion (λ n. of n ≡ family) (map (λ x. x.number) (cond b (e ∷ entries_of family of entries) (entries_of family of entries)))) [
+      | true ↦ λ h. (eqb-true (of e.number) family h, own_family family of entries)
+      | false ↦ λ h. own_family family of entries
+    ] refl
+
+pub each_has : (P : ℕ → Type 0) (numbers : List ℕ) (n : ℕ) → AllByRecursion P numbers → has numbers n ≡ true → P n
+each_has P [] n each is = absurd (cc)
+each_has P (k ∷ numbers) n each is =
+    elim (k == n) as (λ b. (k == n) ≡ b → (b || has numbers n) ≡ true → P n) [
+      | true ↦ λ e h. subst P (eqb-true k n e) each.0
+      | false ↦ λ e h. each_has P numbers n each.1 h
+    ] refl is
+
+-- what holds of the numbers of entries holds of those that are pending
+pub pending_each : (P : ℕ → Type 0) (most family : ℕ) (journal : List Entry) → IsSound most journal → AllByRecursion (λ e. P e.number) journal → AllByRecursion P (pending most family journal)
+pending_each P most family journal sound each =
+    let ends = sound.ends family in
+    each_right P ends.0 (pending most family journal) (subst (AllByRecursion P) ends.1 (each_map P (λ e. e.number) (own family journal) (each_filter _ _ (effective journal) (each_effective _ journal each))))
+
+-- what is pending in a family is of the family
+pub family_of_pending : (most family number : ℕ) (journal : List Entry) → IsSound most journal → has (pending most family journal) number ≡ true → families journal number ≡ family
+family_of_pending most family number journal sound is =
+    let ends = sound.ends family in
+    each_has (λ n. families journal n ≡ family) (pending most family journal) number
+    (each_right (λ n. families journal n ≡ family) ends.0 (pending most family journal) (subst (AllByRecursion (λ n. families journal n ≡ family)) ends.1 (own_family family (families journal) (effective journal)))) is
+
+copies_of_none : copies_of [] ≡ []
+unfolding copies_of
+copies_of_none = refl
+
+-- no entry so far is of the family that the next number would begin
+pub none_of : (family last : ℕ) (of : ℕ → ℕ) (entries : List Entry) → AllByRecursion (IsWell of last) entries → last < family → entries_of family of entries ≡ []
+none_of family last of [] well above = refl
+none_of family last of (e ∷ entries) well above =
+    let bounded = well.0.bounded in
+    ap (λ b. cond b (e ∷ entries_of family of entries) (entries_of family of entries)) (ne_eqb (of e.number) family (λ h. omega arith)) ∙ none_of family last of entries well.1 above
+
+pub next_family : (most k : ℕ) (journal : List Entry) → IsSound most journal → (table most k (length journal + 1) journal ≡ []) × (pending most (length journal + 1) journal ≡ [])
+next_family most k journal sound =
+    let family = length journal + 1 in
+    let of = families journal in
+    let no_own : own family journal ≡ [] = none_of family (length journal) of (effective journal) (effective_well most journal sound) (omega arith) in (
+      table_own most k family journal sound ∙ ap (λ l. copies_of (left_out (last k (pending most family journal)) l)) no_own ∙ copies_of_none,
+      ap (λ l. fold (λ numbers e. pend most e.number e.report numbers) [] l) (none_of family (length journal) of journal sound.well (omega arith)),
+    )
+
+-- it has no entry
+pub layer_new : (journal : List Entry) → IsSound 8 journal → layer 8 0 (length journal + 1) journal ≡ []
+layer_new journal sound =
+    let family = length journal + 1 in
+    ap (left_out (last 0 (pending 8 family journal))) (none_of family (length journal) (families journal) (effective journal) (effective_well 8 journal sound) (omega arith))
+
+-- The families that a journal has begun.
+
+pub entry_at-other : (journal : List Entry) (entry : Entry) (n : ℕ) → n ≢ length journal + 1 → entry_at (journal ++ entry ∷ []) n ≡ entry_at journal n
+entry_at-other journal entry n other =
+    elim (n == 0) as (λ b. (n == 0) ≡ b → cond b None (slice_get (journal ++ entry ∷ []) (n - 1)) ≡ cond b None (slice_get journal (n - 1))) [
+      | true ↦ λ e. refl
+      | false ↦ λ e. let not_zero = eqb-false n 0 e in slice_get-push journal entry (n - 1) (λ h. other (omega arith))
+    ] refl
+
+pub entry_at-past : (journal : List Entry) → entry_at journal (length journal + 1) ≡ None
+entry_at-past journal =
+    ap (λ b. cond b None (slice_get journal (length journal + 1 - 1))) (ne_eqb (length journal + 1) 0 (λ h. omega arith))
+    ∙ slice_get_past journal (length journal + 1 - 1) (omega arith)
+
+begun-push : (journal : List Entry) (entry : Entry) (n : ℕ) → has (begun (journal ++ entry ∷ [])) n ≡ (has (begun journal) n || cond (is_register entry.report) (entry.number == n) false)
+begun-push journal entry n =
+    ap (λ l. has l n) (ap (map (λ e. e.number)) (filter-append (λ e. is_register e.report) journal (entry ∷ [])) ∙ map-append (λ e. e.number) (filter (λ e. is_register e.report) journal) _)
+    ∙ elim (is_register entry.report) as (λ b. has (begun journal ++ map (λ e. e.number) (cond b (entry ∷ []) [])) n ≡ (has (begun journal) n || cond b (entry.number == n) false)) [
+      | true ↦ any_push (λ k. k == n) (begun journal) entry.number
+      | false ↦ ap (λ l. has l n) (append-nil (begun journal)) ∙ sym (or-false (has (begun journal) n))
+    ]
+
+abbrev pub AreKnown : List Entry → Type 0
+AreKnown journal = (n : ℕ) → is_family journal n ≡ has (begun journal) n
+
+known_grows : (most : ℕ) (journal : List Entry) (entry : Entry) → Accepts most journal entry → AreKnown journal → AreKnown (journal ++ entry ∷ [])
+known_grows most journal entry accepts known n =
+    let next = accepts.next in
+    elim (entry.number == n) as (λ b. (entry.number == n) ≡ b → has_report is_register (entry_at (journal ++ entry ∷ []) n) ≡ (has (begun journal) n || cond (is_register entry.report) b false)) [
+      | true ↦ λ e.
+          let here : n ≡ length journal + 1 = sym (eqb-true entry.number n e) ∙ next in
+          let none : has (begun journal) n ≡ false = sym (known n) ∙ ap (λ k. has_report is_register (entry_at journal k)) here ∙ ap (has_report is_register) (entry_at-past journal) in
+          ap (λ k. has_report is_register (entry_at (journal ++ entry ∷ []) k)) here ∙ ap (has_report is_register) (at-push journal entry)
+          ∙ elim (is_register entry.report) as (λ r. r ≡ cond r true false) [ true ↦ refl | false ↦ refl ]
+          ∙ ap (λ t. t || cond (is_register entry.report) true false) (sym none)
+      | false ↦ λ e.
+          ap (has_report is_register) (entry_at-other journal entry n (λ h. eqb-false entry.number n e (next ∙ sym h)))
+          ∙ known n ∙ sym (or-false (has (begun journal) n))
+          ∙ ap (λ t. has (begun journal) n || t) (elim (is_register entry.report) as (λ r. false ≡ cond r false false) [ true ↦ refl | false ↦ refl ])
+    ] refl ∙ sym (begun-push journal entry n)
+
+-- the known families are those that were begun
+pub accepted_known : (most : ℕ) (journal : List Entry) → IsAccepted most journal → AreKnown journal
+accepted_known most journal accepted =
+    in_accepted most AreKnown (λ n. elim (n == 0) as (λ b. has_report is_register (cond b None None) ≡ false) [ true ↦ refl | false ↦ refl ]) (λ j entry sound accepts known. known_grows most j entry accepts known) journal accepted

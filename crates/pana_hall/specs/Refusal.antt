@@ -103,18 +103,22 @@ first [] = None
 first (None ∷ causes) = first causes
 first (Some cause ∷ causes) = Some cause
 
--- why a device's report is refused, on a journal and its living copies
+-- what may stand against a device's report, on a journal that isn't full and its living copies
+abbrev pub against : ℕ → List Entry → List Copy → List ℕ → Report → List (Option Cause)
+against most journal copies by (Register place) = taken place copies ∷ []
+against most journal copies by (Duplicate copy place) = unknown copy copies ∷ taken place copies ∷ family_full copy copies ∷ too_deep copy journal copies ∷ []
+against most journal copies by (Edit copy) = unknown copy copies ∷ []
+against most journal copies by (Reconcile a b) = against_two a b copies
+against most journal copies by (Merge a b) = against_two a b copies
+against most journal copies by (Relocate copy place) = unknown copy copies ∷ taken place copies ∷ []
+against most journal copies by (Remove copy None) = unknown copy copies ∷ []
+against most journal copies by (Remove copy (Some heir)) = against_two copy heir copies
+against most journal copies by (Confirm entry) = unknown_entry entry journal ∷ not_yours by entry journal ∷ settled most entry journal ∷ []
+against most journal copies by (Withdraw entry) = unknown_entry entry journal ∷ not_yours by entry journal ∷ settled_or_followed most entry journal ∷ taken_since entry journal ∷ []
+
+-- why a device's report is refused
 abbrev pub report_refusal : ℕ → List Entry → List Copy → List ℕ → Report → Option Cause
-report_refusal most journal copies by (Register place) = first (full journal ∷ taken place copies ∷ [])
-report_refusal most journal copies by (Duplicate copy place) = first (full journal ∷ unknown copy copies ∷ taken place copies ∷ family_full copy copies ∷ too_deep copy journal copies ∷ [])
-report_refusal most journal copies by (Edit copy) = first (full journal ∷ unknown copy copies ∷ [])
-report_refusal most journal copies by (Reconcile a b) = first (full journal ∷ against_two a b copies)
-report_refusal most journal copies by (Merge a b) = first (full journal ∷ against_two a b copies)
-report_refusal most journal copies by (Relocate copy place) = first (full journal ∷ unknown copy copies ∷ taken place copies ∷ [])
-report_refusal most journal copies by (Remove copy None) = first (full journal ∷ unknown copy copies ∷ [])
-report_refusal most journal copies by (Remove copy (Some heir)) = first (full journal ∷ against_two copy heir copies)
-report_refusal most journal copies by (Confirm entry) = first (full journal ∷ unknown_entry entry journal ∷ not_yours by entry journal ∷ settled most entry journal ∷ [])
-report_refusal most journal copies by (Withdraw entry) = first (full journal ∷ unknown_entry entry journal ∷ not_yours by entry journal ∷ settled_or_followed most entry journal ∷ taken_since entry journal ∷ [])
+report_refusal most journal copies by report = first (full journal ∷ against most journal copies by report)
 
 -- why a query is refused
 abbrev pub query_refusal : List Entry → List Copy → Query → Option Cause

@@ -35,7 +35,7 @@ impl State {
         requires free { query_refusal self.now.journal.entries (living self.now.journal.entries) (Query.Pair a b) ≡ None }
         ensures { result ≡ pair_of (living self.now.journal.entries) a b }
     {
-        self.families.of_entry(a).unwrap().rel(a, b)
+        self.family(a).rel(a, b)
     }
 
     /// The answer to a query that nothing stands against. Fails only where memory runs out; a Pair takes none.
@@ -77,7 +77,7 @@ impl State {
         requires free { query_refusal self.now.journal.entries (living self.now.journal.entries) (Query.Board family) ≡ None }
         ensures { IfOk result (λ view. view ≡ board_of family (living self.now.journal.entries)) }
     {
-        let board = self.families.of_entry(family).unwrap().board(alloc)?;
+        let board = self.family(family).board(alloc)?;
         let rows = board_rows(alloc, &self.copies, board.rows.as_slice())?;
         Ok(BoardView {
             family,
@@ -93,7 +93,7 @@ impl State {
         requires free { query_refusal self.now.journal.entries (living self.now.journal.entries) (Query.Stamps family) ≡ None }
         ensures { IfOk result (AreStampsOf family self.now.journal.entries) }
     {
-        self.families.of_entry(family).unwrap().stamps(alloc)
+        self.family(family).stamps(alloc)
     }
 
     /// The living copy with this number as a holding, if it is on the device.
@@ -108,12 +108,11 @@ impl State {
             return Ok(None);
         }
         let path = found.place.path.copy_of()?;
-        let it = self.families.of_entry(number).unwrap();
         Ok(Some(Holding {
             copy: number,
             family: found.family,
             path,
-            touch: it.touch(number),
+            touch: self.family(number).touch(number),
         }))
     }
 

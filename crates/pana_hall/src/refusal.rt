@@ -1,7 +1,5 @@
 //! Why calls are refused, memory aside. None of this takes memory.
-ghost use Rattle.std.specs.Prelude.{◌≡◌, ◌==◌, not, [], ◌∷◌, true, None, Some, Option, ℕ, option_copied};
-ghost use Rattle.pana_hall.specs.inner.Families.{old_place};
-ghost use Rattle.pana_hall.specs.inner.Listed.{all_listed};
+ghost use Rattle.std.specs.Prelude.{◌≡◌, ◌==◌, not, [], ◌∷◌, true, None, Some, Option, ℕ};
 ghost use Rattle.pana_hall.specs.inner.Spots.{IsThere, other_there};
 ghost use Rattle.pana_journal.specs.declared.report.Report.TheVariants as reports;
 ghost use Rattle.pana_hall.specs.Accepted.{IsAccepted};
@@ -94,8 +92,7 @@ impl State {
         ensures { result ≡ family_full number (living self.now.journal.entries) }
     {
         let _ = self.copies.get(number)?;
-        let it = self.families.of_entry(number)?;
-        (it.count() >= MOST_COPIES).then_some(Cause::FamilyFull)
+        (self.family(number).count() >= MOST_COPIES).then_some(Cause::FamilyFull)
     }
 
     /// The id of the copy can't be divided.
@@ -104,8 +101,7 @@ impl State {
         ensures { result ≡ too_deep number self.now.journal.entries (living self.now.journal.entries) }
     {
         let _ = self.copies.get(number)?;
-        let it = self.families.of_entry(number)?;
-        (!it.splits(number)).then_some(Cause::TooDeep)
+        (!self.family(number).splits(number)).then_some(Cause::TooDeep)
     }
 
     fn unknown_entry(&self, number: u64) -> Option<Cause>
@@ -128,8 +124,8 @@ impl State {
         requires { IsHeld self.now }
         ensures { result ≡ settled 8 number self.now.journal.entries }
     {
-        match self.families.of_entry(number) {
-            Some(it) if it.has_pending(number) => None,
+        match self.journal.entry(number) {
+            Some(_) if self.family(number).has_pending(number) => None,
             _ => Some(Cause::Settled),
         }
     }
@@ -138,17 +134,10 @@ impl State {
         requires { IsHeld self.now }
         ensures { result ≡ settled_or_followed 8 number self.now.journal.entries }
     {
-        match self.families.of_entry(number) {
-            Some(it) if it.ends_in(number) => None,
+        match self.journal.entry(number) {
+            Some(_) if self.family(number).ends_in(number) => None,
             _ => Some(Cause::Settled),
         }
-    }
-
-    /// The place where the copy was that the last pending entry of an entry's family moved or removed.
-    fn old_place(&self, number: u64) -> Option<&Place>
-        ensures { option_copied result ≡ old_place (all_listed self.now.families.list.items) self.now.families.positions.items number }
-    {
-        self.families.of_entry(number)?.last_place()
     }
 
     /// Another living copy than this one has the place.
@@ -168,7 +157,7 @@ impl State {
         ensures { result ≡ taken_since number self.now.journal.entries }
     {
         let copy = displaced(&self.journal.entry(number)?.report)?;
-        self.taken_from(copy, self.old_place(number)?)
+        self.taken_from(copy, self.family(number).last_place()?)
     }
 
     fn withdraw_refusal(&self, by: &DeviceName, entry: u64) -> Option<Cause>

@@ -1,8 +1,12 @@
 //! What a hall keeps.
+ghost use Rattle.pana_hall.specs.Family.{families};
+ghost use Rattle.pana_hall.specs.inner.Kept.{IsWithin, family_of};
+ghost use Rattle.pana_hall.specs.inner.Listed.{listed};
 ghost use Rattle.pana_hall.specs.inner.State.{IsHeld};
 ghost use Rattle.std.specs.Prelude.{◌≡◌, []};
 
 use crate::families::Families;
+use crate::listed_family::ListedFamily;
 use pana_copies::CopyTable;
 use pana_journal::Journal;
 use std::alloc::Global;
@@ -27,5 +31,13 @@ impl State {
             families: Families::new(alloc),
             copies: CopyTable::new(alloc),
         }
+    }
+    /// The family of an entry that the journal has. Takes no memory.
+    pub fn family(&self, entry: u64) -> &ListedFamily
+        requires kept { IsHeld self.now }
+        requires has { IsWithin self.now.journal.entries entry }
+        ensures { listed result.now ≡ family_of self.now.journal.entries (families self.now.journal.entries entry) }
+    {
+        self.families.of_entry(entry).unwrap()
     }
 }

@@ -1,7 +1,6 @@
 -- The families as the hall keeps them: a list of those that have begun, and for each entry the position of its family.
 use Rattle.std.specs.Prelude.{ℕ, ◌-◌, ◌==◌, List, Option, None, slice_get, option_and_then, if◌then◌else◌}
-use Rattle.pana_copies.specs.declared.place.Place.{Place}
-use Rattle.pana_hall.specs.inner.Undo.{KeptRows, last_place}
+use Rattle.pana_hall.specs.inner.Undo.{KeptRows}
 
 -- the position of entry n's family
 abbrev pub position_at : List ℕ → ℕ → Option ℕ
@@ -10,7 +9,3 @@ position_at positions n = if n == 0 then None else slice_get positions (n - 1)
 -- the family of entry n
 abbrev pub family_at : List KeptRows → List ℕ → ℕ → Option KeptRows
 family_at list positions n = option_and_then (slice_get list) (position_at positions n)
-
--- where the copy was that the last pending entry of entry n's family moved or removed
-abbrev pub old_place : List KeptRows → List ℕ → ℕ → Option Place
-old_place list positions n = option_and_then (λ it. last_place it.undo) (family_at list positions n)

@@ -30,15 +30,14 @@ place_before entry copies = option_and_then (λ e. option_and_then (λ c. option
 abbrev pub undone_of : List Entry → ℕ → List Entry → Undone
 undone_of journal n entries = undone n (rows_of entries) (place_before (entry_at journal n) (copies_of entries))
 
--- something of each of these pending entries, the latest first, and of the family's entries before it; the last k pending
--- entries are left out before the first
-abbrev pub of_each : {X : Type 0} → (ℕ → List Entry → X) → ℕ → List Entry → (k : ℕ) → List ℕ → List X
-of_each make family journal k [] = []
-of_each make family journal k (n ∷ numbers) = make n (layer 8 k family journal) ∷ of_each make family journal (k + 1) numbers
+-- something of each of these pending entries, the latest first, and of the layer that goes with it
+abbrev pub of_each : {X : Type 0} → (ℕ → List Entry → X) → (ℕ → List Entry) → List ℕ → List X
+of_each make layers [] = []
+of_each make layers (n ∷ numbers) = make n (layers 0) ∷ of_each make (λ k. layers (k + 1)) numbers
 
 -- something of each pending entry of a family, the latest first, and of the family's entries before it
 abbrev pub of_pending : {X : Type 0} → (ℕ → List Entry → X) → ℕ → List Entry → List X
-of_pending make family journal = of_each make family journal 1 (reverse (pending 8 family journal))
+of_pending make family journal = of_each make (λ k. layer 8 (k + 1) family journal) (reverse (pending 8 family journal))
 
 -- a family of a journal: its rows are those that its entries make, now and before each pending entry
 abbrev pub family_of : List Entry → ℕ → KeptRows
@@ -56,6 +55,10 @@ AreSpots journal copies = (number : ℕ) → kept copies number ≡ spot_in (liv
 pub record ArePlaced (journal : List Entry) (positions : List ℕ) : Type 0 where
   pub count : length positions ≡ length journal
   pub at : (number : ℕ) → 0 < number → number ≤ length journal → (p : ℕ) × (position_at positions number ≡ Some p) × (slice_get (begun journal) p ≡ Some (families journal number))
+
+-- the journal has entry n
+abbrev pub IsWithin : List Entry → ℕ → Type 0
+IsWithin journal n = (0 < n) × (n ≤ length journal)
 
 -- what a hall keeps of its journal: the families that have begun, the family of each entry, and the living copies' places
 pub record IsKept (journal : List Entry) (list : List KeptRows) (positions : List ℕ) (copies : Table) : Type 0 where

@@ -9,7 +9,7 @@ use Rattle.pana_hall.proofs.Sound.{accepted_is_sound}
 use Rattle.pana_hall.specs.Board.{is_of, board_of}
 use Rattle.pana_hall.specs.Queries.{family_row}
 use Rattle.pana_hall.proofs.Tables.{merged, table_living}
-use Rattle.pana_hall.proofs.Seen.{board_table, family_row_table, any_table}
+use Rattle.pana_hall.proofs.Knowns.{board_table, family_row_table, any_table}
 use Rattle.pana_hall.proofs.laws.answers_come_from_tables.Goals as goal
 
 known_same : (number : ℕ) (xs ys : List Copy) → copy_in xs number ≡ copy_in ys number → known_to xs number ≡ known_to ys number

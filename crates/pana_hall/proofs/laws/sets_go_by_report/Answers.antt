@@ -5,12 +5,10 @@ use Rattle.pana_hall.specs.Effective.{is_of_copies}
 use Rattle.pana_hall.specs.laws.Layers.{family_of_next}
 use Rattle.pana_hall.specs.laws.Sets.{knowns_of, reported, sets_at}
 use Rattle.pana_hall.specs.laws.Tables.{layer}
-use Rattle.pana_hall.proofs.Grown.{family_new}
+use Rattle.pana_hall.proofs.Sound.{family_new, accepted_is_sound}
 use Rattle.pana_hall.proofs.Knowns.{knowns_of-push}
-use Rattle.pana_hall.proofs.Sound.{accepted_is_sound}
-use Rattle.pana_hall.proofs.PendingEntries.{layer_new}
+use Rattle.pana_hall.proofs.Tables.{layer_new, layer_confirm, layer_other, layer_report, layer_undone, layer_withdraw}
 use Rattle.pana_hall.proofs.Stood.{above_sets, below_sets, knowns_none}
-use Rattle.pana_hall.proofs.Tables.{layer_confirm, layer_other, layer_report, layer_undone, layer_withdraw}
 use Rattle.pana_hall.proofs.laws.sets_go_by_report.Goals as goal
 
 pub returns : goal.returns

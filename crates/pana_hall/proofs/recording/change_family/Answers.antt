@@ -3,7 +3,7 @@ use Rattle.std.proofs.Common.{refl, sym, subst}
 use Rattle.pana_hall.specs.declared.next.Step.TheVariants.{Change}
 use Rattle.pana_hall.specs.inner.Listed.{listed}
 use Rattle.pana_hall.specs.inner.Next.{IsStepOf}
-use Rattle.pana_hall.proofs.Changes.{can_place, family_reported, reports_copies, spots_reported}
+use Rattle.pana_hall.proofs.Ready.{can_place, family_reported, reports_copies, spots_reported}
 use Rattle.pana_hall.proofs.recording.change_family.Goals as goal
 
 pub apply_change-requires-clause-step : goal.apply_change-requires-clause-step

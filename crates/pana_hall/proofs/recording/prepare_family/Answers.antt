@@ -1,5 +1,4 @@
-use Rattle.pana_hall.proofs.Ready.{able_there, new_there}
-use Rattle.pana_hall.proofs.Changes.{lives_displaced, of_copies, of_family}
+use Rattle.pana_hall.proofs.Ready.{able_there, new_there, lives_displaced, of_copies, of_family}
 use Rattle.pana_hall.proofs.recording.prepare_family.Goals as goal
 
 pub prepare_change-requires-clause-able : goal.prepare_change-requires-clause-able

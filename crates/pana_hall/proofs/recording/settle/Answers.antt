@@ -4,9 +4,7 @@ use Rattle.pana_hall.specs.inner.Undo.{last_place}
 use Rattle.pana_hall.specs.inner.Listed.{listed}
 use Rattle.pana_hall.specs.inner.Spots.{CanUndo, undone_spot}
 use Rattle.pana_hall.specs.inner.Kept.{next_entry, AreSpots}
-use Rattle.pana_hall.proofs.Ready.{as_is}
-use Rattle.pana_hall.proofs.Undoing.{opened, can_undo, undone_spots}
-use Rattle.pana_hall.proofs.Changes.{family_confirmed, family_withdrawn, spots_confirm}
+use Rattle.pana_hall.proofs.Ready.{as_is, opened, can_undo, undone_spots, family_confirmed, family_withdrawn, spots_confirm}
 use Rattle.pana_hall.proofs.recording.settle.Goals as goal
 
 pub withdraw-requires-clause-undo : goal.withdraw-requires-clause-undo
@@ -15,7 +13,7 @@ withdraw-requires-clause-undo c =
     let o = opened ready in
     let both : Some o.ends.last ≡ Some c.unwrap.result.now = sym o.ends.at ∙ sym c.entry.ensures.entry ∙ ap option_copied c.unwrap.ensures in
     let same : o.ends.last ≡ c.unwrap.result.now = cc in
-    subst (λ e. CanUndo c.in-Withdraw.entry e.report (listed c.args.it.now).number (last_place (listed c.args.it.now).undo) c.args.copies.now) same (can_undo ready o)
+    subst (λ e. CanUndo c.in-Withdraw.entry e.report (listed c.args.it.now).number (last_place (listed c.args.it.now).undo) c.args.copies.now) same (can_undo ready)
 
 pub returns-in-Confirm-clause-family : goal.returns-in-Confirm-clause-family
 returns-in-Confirm-clause-family c = family_confirmed c.requires.ready c.in-Confirm.is (listed c.confirm.new.self) c.confirm.ensures
@@ -33,4 +31,4 @@ returns-in-Withdraw-clause-spots c =
     let both : Some o.ends.last ≡ Some c.unwrap.result.now = sym o.ends.at ∙ sym c.entry.ensures.entry ∙ ap option_copied c.unwrap.ensures in
     let same : o.ends.last ≡ c.unwrap.result.now = cc in
     subst (λ r. AreSpots (c.args.journal.now.entries ++ next_entry c.args.journal.now.entries c.args.by.now r ∷ []) c.withdraw.new.copies) (sym c.in-Withdraw.is)
-    (λ number. c.withdraw.ensures.spots number ∙ ap (λ e. undone_spot c.in-Withdraw.entry e.report (listed c.args.it.now).number (last_place (listed c.args.it.now).undo) c.args.copies.now number) (sym same) ∙ undone_spots ready o number)
+    (λ number. c.withdraw.ensures.spots number ∙ ap (λ e. undone_spot c.in-Withdraw.entry e.report (listed c.args.it.now).number (last_place (listed c.args.it.now).undo) c.args.copies.now number) (sym same) ∙ undone_spots ready number)

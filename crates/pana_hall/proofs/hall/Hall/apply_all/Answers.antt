@@ -1,5 +1,5 @@
 use Rattle.std.proofs.Common.{sym, ap, ◌∙◌, [], ◌∷◌, ◌++◌, length, append_assoc, length-append, arith}
-use Rattle.pana_hall.proofs.Exchanges.{runs_on}
+use Rattle.pana_hall.proofs.Runs.{runs_on}
 use Rattle.pana_hall.proofs.hall.Hall.apply_all.Goals as goal
 
 pub loop-by-preserved : goal.loop-by-preserved

@@ -1,5 +1,5 @@
 use Rattle.std.proofs.Common.{◌+◌, ◌∙◌, ap}
-use Rattle.pana_hall.proofs.Taken.{entry_taken}
+use Rattle.pana_hall.proofs.Runs.{entry_taken}
 use Rattle.pana_hall.proofs.hall.Hall.take.Goals.{in-Refused, in_default}
 use Rattle.pana_hall.proofs.hall.Hall.take.Goals as goal
 

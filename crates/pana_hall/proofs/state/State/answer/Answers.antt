@@ -1,5 +1,5 @@
 use Rattle.std.proofs.Common.{refl}
-use Rattle.pana_hall.proofs.OwnPaths.{found_have_own_paths}
+use Rattle.pana_hall.proofs.Places.{found_have_own_paths}
 use Rattle.pana_hall.proofs.state.State.answer.Goals as goal
 
 pub from_vec-requires-in-Holdings : goal.from_vec-requires-in-Holdings

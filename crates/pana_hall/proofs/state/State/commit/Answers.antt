@@ -3,7 +3,7 @@ use Rattle.std.proofs.Common.{sym, ap, ◌∙◌, subst}
 use Rattle.pana_journal.specs.declared.entry.Entry.{Entry}
 use Rattle.pana_hall.specs.inner.Listed.{all_listed}
 use Rattle.pana_hall.specs.inner.Kept.{next_entry, IsKept}
-use Rattle.pana_hall.proofs.Records.{ready_for, kept_next}
+use Rattle.pana_hall.proofs.Listed.{ready_for, kept_next}
 use Rattle.pana_hall.proofs.state.State.commit.Goals as goal
 
 pub make_step-requires-clause-ready : goal.make_step-requires-clause-ready

@@ -1,26 +1,20 @@
-use Rattle.std.specs.Prelude.{◌≡◌, Some, None, nat_le, option_map, option_copied}
+use Rattle.std.specs.Prelude.{nat_le, option_map}
 use Rattle.std.specs.Bool.{then_some}
 use Rattle.std.proofs.Common.{sym, ap, ◌∙◌}
 use Rattle.pana_hall.specs.declared.cause.Cause.TheVariants.{FamilyFull}
-use Rattle.pana_hall.specs.inner.Families.{family_at}
-use Rattle.pana_hall.specs.inner.Listed.{all_listed, listed}
-use Rattle.pana_hall.proofs.Refusals.{found_spot, full_is, copy_has_family}
+use Rattle.pana_hall.proofs.Answered.{found_spot, full_is}
+use Rattle.pana_hall.proofs.Listed.{found_entry}
 use Rattle.pana_hall.proofs.state.State.family_full.Goals as goal
 
-pub returns-in_err-it : goal.returns-in_err-it
-returns-in_err-it c =
-    let journal = c.args.self.now.journal.entries in
-    let families = c.args.self.now.families in
-    let copy = found_spot journal c.args.self.now.copies c.args.number _ c.requires.spots (sym c.get.ensures ∙ ap (option_map _) c.in_ok-get.was) in
-    let odd : None ≡ Some _ = sym (sym c.of_entry.ensures ∙ ap (λ o. option_map listed (option_copied o)) c.in_err-it.was) ∙ copy_has_family journal (all_listed families.list.items) families.positions.items c.args.self.now.copies c.args.number copy.0 c.requires copy.1 in
-    absurd (cc)
+pub family-requires-clause-has : goal.family-requires-clause-has
+family-requires-clause-has c =
+    let copy = found_spot c.args.self.now.journal.entries c.args.self.now.copies c.args.number _ c.requires.spots (sym c.get.ensures ∙ ap (option_map _) c.in_ok-get.was) in
+    found_entry c.args.self.now.journal.entries c.args.number copy.0 c.requires.accepted copy.1
 
 pub returns : goal.returns
 returns c =
     let journal = c.args.self.now.journal.entries in
-    let families = c.args.self.now.families in
     let copy = found_spot journal c.args.self.now.copies c.args.number _ c.requires.spots (sym c.get.ensures ∙ ap (option_map _) c.in_ok-get.was) in
-    let at : family_at (all_listed families.list.items) families.positions.items c.args.number ≡ Some (listed c.in_ok-it.it.now) = sym c.of_entry.ensures ∙ ap (λ o. option_map listed (option_copied o)) c.in_ok-it.was in
     c.then_some.ensures
     ∙ ap (λ k. then_some (nat_le 256 k) FamilyFull) c.count.ensures
-    ∙ full_is journal (all_listed families.list.items) families.positions.items c.args.self.now.copies c.args.number copy.0 (listed c.in_ok-it.it.now) c.requires copy.1 at
+    ∙ full_is journal c.args.number copy.0 _ c.requires.accepted copy.1 c.family.ensures

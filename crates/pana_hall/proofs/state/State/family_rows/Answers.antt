@@ -11,8 +11,8 @@ use Rattle.pana_hall.specs.Queries.{family_row}
 use Rattle.pana_hall.specs.laws.Sets.{sets_at}
 use Rattle.pana_family.specs.Rows.{copy_rows}
 use Rattle.pana_hall.specs.inner.Kept.{family_of}
-use Rattle.pana_hall.proofs.Answered.{rows_of, rows_push, lives_is, each_get, each_own, numbers_own, stands_of}
-use Rattle.pana_hall.proofs.SeenSets.{row_is}
+use Rattle.pana_hall.proofs.Answered.{rows_of_families, rows_push, lives_is, each_get, each_own, numbers_own, stands_of}
+use Rattle.pana_hall.proofs.Shown.{row_is}
 use Rattle.pana_hall.proofs.state.State.family_rows.Goals as goal
 use Rattle.pana_hall.proofs.state.State.family_rows.Goals.{then-has_copies+in_ok-family_row+in_ok-push, else-has_copies}
 
@@ -31,9 +31,9 @@ loop-it-preserved c =
     let n = (listed it).number in
     let more : take (i + 1) list ≡ take i list ++ it ∷ [] = take_more list i it within ∙ ap (λ e. take i list ++ e ∷ []) (sym same) in
     let copies = living journal in
-    let step : rows_of copies (map (λ k. (listed k).number) (take (i + 1) list)) ≡ rows_of copies (map (λ k. (listed k).number) (take i list)) ++ cond (list_any (is_of n) copies) (family_row copies n ∷ []) [] =
-    ap (λ (l : List ListedFamily). rows_of copies (map (λ k. (listed k).number) l)) more
-    ∙ ap (rows_of copies) (map-append (λ (k : ListedFamily). (listed k).number) (take i list) (it ∷ []))
+    let step : rows_of_families copies (map (λ k. (listed k).number) (take (i + 1) list)) ≡ rows_of_families copies (map (λ k. (listed k).number) (take i list)) ++ cond (list_any (is_of n) copies) (family_row copies n ∷ []) [] =
+    ap (λ (l : List ListedFamily). rows_of_families copies (map (λ k. (listed k).number) l)) more
+    ∙ ap (rows_of_families copies) (map-append (λ (k : ListedFamily). (listed k).number) (take i list) (it ∷ []))
     ∙ rows_push copies (map (λ k. (listed k).number) (take i list)) n in
     let lives : c.has_copies.result ≡ list_any (is_of n) copies = c.has_copies.ensures ∙ ap (λ (k : KeptRows). nat_lt 0 (length (copy_rows k.rows))) own ∙ lives_is journal n c.requires.kept.accepted in
     let numbers = map (λ (k : ListedFamily). (listed k).number) (take i list) in
@@ -43,12 +43,12 @@ loop-it-preserved c =
           let row : w.in_ok-family_row.field-0 ≡ family_row copies n = w.in_ok-family_row.ensures (sets_at 0 n journal) (stands_of journal n (listed it) c.requires.kept.accepted own) ∙ row_is journal n c.requires.kept.accepted in
           ap (λ r. r.items) w.rows-is ∙ w.in_ok-push.ensures.items
           ∙ ap (λ l. l ++ w.in_ok-family_row.field-0 ∷ []) c.loop-it.invariant
-          ∙ ap (λ r. rows_of copies numbers ++ r ∷ []) row
-          ∙ sym (step ∙ ap (λ b. rows_of copies numbers ++ cond b (family_row copies n ∷ []) []) some)
+          ∙ ap (λ r. rows_of_families copies numbers ++ r ∷ []) row
+          ∙ sym (step ∙ ap (λ b. rows_of_families copies numbers ++ cond b (family_row copies n ∷ []) []) some)
       | else-has_copies w ↦
           let none : list_any (is_of n) copies ≡ false = sym lives ∙ w.if-has_copies.false in
           ap (λ r. r.items) w.rows-is ∙ c.loop-it.invariant
-          ∙ sym (step ∙ ap (λ b. rows_of copies numbers ++ cond b (family_row copies n ∷ []) []) none ∙ append-nil (rows_of copies numbers))
+          ∙ sym (step ∙ ap (λ b. rows_of_families copies numbers ++ cond b (family_row copies n ∷ []) []) none ∙ append-nil (rows_of_families copies numbers))
     ]
 
 pub returns : goal.returns
@@ -58,5 +58,5 @@ returns c =
     let items : c.as_slice-it-items.result.now ≡ list = c.as_slice-it-items.ensures in
     let all : take c.loop-it.it-index list ≡ list = take_all c.loop-it.it-index list (subst (λ (l : List ListedFamily). length l ≤ c.loop-it.it-index) items (c.loop-it-test.false)) in
     c.loop-it.invariant
-    ∙ ap (λ (l : List ListedFamily). rows_of (living journal) (map (λ k. (listed k).number) l)) all
-    ∙ ap (rows_of (living journal)) (numbers_own journal list c.requires.kept.listed)
+    ∙ ap (λ (l : List ListedFamily). rows_of_families (living journal) (map (λ k. (listed k).number) l)) all
+    ∙ ap (rows_of_families (living journal)) (numbers_own journal list c.requires.kept.listed)

@@ -1,47 +1,35 @@
-use Rattle.std.specs.Prelude.{◌≡◌, ℕ, true, cond, Some, None, IsSome, List, option_map, option_copied, option_and_then}
+use Rattle.std.specs.Prelude.{◌≡◌, ℕ, true, cond, Some, None, List, option_map, option_and_then}
 use Rattle.std.specs.Str.{bytes_eq}
 use Rattle.std.proofs.Common.{refl, sym, ap, ◌∙◌}
 use Rattle.pana_copies.specs.declared.place.Place.{Place}
 use Rattle.pana_copies.specs.Spots.{Spot}
 use Rattle.pana_hall.specs.Queries.{holding}
 use Rattle.pana_hall.specs.Family.{families}
-use Rattle.pana_hall.specs.inner.Kept.{family_of}
 use Rattle.pana_hall.specs.Living.{Copy, living}
 use Rattle.pana_hall.specs.laws.Sets.{sets_at}
-use Rattle.pana_hall.specs.inner.Families.{family_at}
-use Rattle.pana_hall.specs.inner.Listed.{all_listed, listed}
-use Rattle.pana_hall.proofs.Refusals.{found_spot, copy_has_family, has_family}
-use Rattle.pana_hall.proofs.state.State.holding_at.Goals as goal
+use Rattle.pana_hall.proofs.Answered.{found_spot, lives_of, stands_of, touch_of_copy}
 use Rattle.pana_hall.proofs.Moves.{found_number}
-use Rattle.pana_hall.proofs.Answered.{lives_of, stands_of, touch_of_copy}
+use Rattle.pana_hall.proofs.Listed.{found_entry}
+use Rattle.pana_hall.proofs.state.State.holding_at.Goals as goal
 
-pub unwrap-it-requires : goal.unwrap-it-requires
-unwrap-it-requires c =
-    let journal = c.args.self.now.journal.entries in
-    let fs = c.args.self.now.families in
-    let copy = found_spot journal c.args.self.now.copies c.args.number _ c.requires.kept.spots (sym c.get.ensures ∙ ap (option_map _) c.in-Some.is) in
-    let at = copy_has_family journal (all_listed fs.list.items) fs.positions.items c.args.self.now.copies c.args.number copy.0 c.requires.kept copy.1 in
-    elim c.of_entry.result as (λ o. option_map listed (option_copied o) ≡ Some (family_of journal (families journal c.args.number)) → IsSome o) [ None ↦ λ e. absurd (cc) | Some x ↦ λ e. refl ] (c.of_entry.ensures ∙ at)
+pub family-requires-clause-has : goal.family-requires-clause-has
+family-requires-clause-has c =
+    let copy = found_spot c.args.self.now.journal.entries c.args.self.now.copies c.args.number _ c.requires.kept.spots (sym c.get.ensures ∙ ap (option_map _) c.in-Some.is) in
+    found_entry c.args.self.now.journal.entries c.args.number copy.0 c.requires.kept.accepted copy.1
 
 pub touch-requires : goal.touch-requires
 touch-requires c =
     let journal = c.args.self.now.journal.entries in
-    let fs = c.args.self.now.families in
     let copy = found_spot journal c.args.self.now.copies c.args.number _ c.requires.kept.spots (sym c.get.ensures ∙ ap (option_map _) c.in-Some.is) in
-    let at : family_at (all_listed fs.list.items) fs.positions.items c.args.number ≡ Some (listed c.unwrap-it.result.now) = sym c.of_entry.ensures ∙ ap (λ o. option_map listed (option_copied o)) c.unwrap-it.ensures in
-    let it = has_family journal (all_listed fs.list.items) fs.positions.items c.args.self.now.copies c.args.number c.requires.kept (listed c.unwrap-it.result.now) at in
-    lives_of journal (families journal c.args.number) c.args.number copy.0 (listed c.unwrap-it.result.now) c.requires.kept.accepted it copy.1 refl
+    lives_of journal (families journal c.args.number) c.args.number copy.0 _ c.requires.kept.accepted c.family.ensures copy.1 refl
 
 pub returns : goal.returns
 returns c =
     let journal = c.args.self.now.journal.entries in
-    let fs = c.args.self.now.families in
     let copy = found_spot journal c.args.self.now.copies c.args.number _ c.requires.kept.spots (sym c.get.ensures ∙ ap (option_map _) c.in-Some.is) in
-    let at : family_at (all_listed fs.list.items) fs.positions.items c.args.number ≡ Some (listed c.unwrap-it.result.now) = sym c.of_entry.ensures ∙ ap (λ o. option_map listed (option_copied o)) c.unwrap-it.ensures in
-    let it = has_family journal (all_listed fs.list.items) fs.positions.items c.args.self.now.copies c.args.number c.requires.kept (listed c.unwrap-it.result.now) at in
     let family = families journal c.args.number in
     let touch : c.touch.result ≡ copy.0.touch =
-    c.touch.ensures (sets_at 0 family journal) (stands_of journal family (listed c.unwrap-it.result.now) c.requires.kept.accepted it) ∙ touch_of_copy journal family c.args.number copy.0 c.requires.kept.accepted copy.1 refl in
+    c.touch.ensures (sets_at 0 family journal) (stands_of journal family _ c.requires.kept.accepted c.family.ensures) ∙ touch_of_copy journal family c.args.number copy.0 c.requires.kept.accepted copy.1 refl in
     let number : copy.0.number ≡ c.args.number = found_number (living journal) c.args.number copy.0 copy.1 in
     let there : copy.0.place ≡ c.in-Some.found.place.now = ap (λ (s : Spot). s.place) copy.2 in
     let own : copy.0.family ≡ c.in-Some.found.family = ap (λ (s : Spot). s.family) copy.2 in

@@ -2,8 +2,8 @@ use Rattle.std.specs.Prelude.{◌≡◌, [], ◌∷◌, ◌++◌, length}
 use Rattle.std.specs.Option.{option_to_list}
 use Rattle.std.proofs.Common.{sym, ap, ◌∙◌, append-nil, arith}
 use Rattle.pana_hall.specs.Living.{living}
-use Rattle.pana_hall.proofs.Steps.{rising}
-use Rattle.pana_hall.proofs.Held.{holdings_to, holdings_none, holdings_more, holdings_all}
+use Rattle.pana_hall.proofs.Runs.{rising}
+use Rattle.pana_hall.proofs.Shown.{holdings_to, holdings_none, holdings_more, holdings_all}
 use Rattle.pana_hall.proofs.state.State.holdings.Goals as goal
 use Rattle.pana_hall.proofs.state.State.holdings.Goals.{in-Some+in_ok-push, in_default}
 

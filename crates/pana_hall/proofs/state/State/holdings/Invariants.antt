@@ -1,6 +1,6 @@
 use Rattle.std.proofs.Common.{◌≡◌}
 use Rattle.pana_hall.specs.Living.{living}
-use Rattle.pana_hall.proofs.Held.{holdings_to}
+use Rattle.pana_hall.proofs.Shown.{holdings_to}
 use Rattle.pana_hall.proofs.state.State.holdings.Given as goal
 
 abbrev pub invariant-loop-earlier : goal.invariant-loop-earlier

@@ -3,7 +3,7 @@ use Rattle.std.proofs.Common.{refl, sym, ap, ◌∙◌, subst}
 use Rattle.pana_journal.specs.declared.entry.Entry.{Entry}
 use Rattle.pana_hall.specs.inner.Listed.{all_listed}
 use Rattle.pana_hall.specs.inner.Kept.{IsReadyAt, position_for}
-use Rattle.pana_hall.proofs.Records.{has_position, ready_for, ready_same}
+use Rattle.pana_hall.proofs.Listed.{has_position, ready_for, ready_same}
 use Rattle.pana_hall.proofs.state.State.prepare_free.Goals as goal
 
 pub unwrap-position-requires : goal.unwrap-position-requires

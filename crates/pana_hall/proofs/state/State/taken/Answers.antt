@@ -1,7 +1,7 @@
 use Rattle.std.proofs.Common.{sym, ap, ◌∙◌}
 use Rattle.std.specs.Prelude.{option_map}
 use Rattle.pana_hall.specs.declared.cause.Cause.TheVariants.{PlaceTaken}
-use Rattle.pana_hall.proofs.Refusals.{taken_is}
+use Rattle.pana_hall.proofs.Answered.{taken_is}
 use Rattle.pana_hall.proofs.state.State.taken.Goals as goal
 
 pub returns-in-Some : goal.returns-in-Some

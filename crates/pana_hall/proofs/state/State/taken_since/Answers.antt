@@ -2,31 +2,28 @@ use Rattle.std.specs.Prelude.{◌≡◌, Some, None, option_copied}
 use Rattle.std.proofs.Common.{sym, ap, ◌∙◌, subst}
 use Rattle.pana_copies.specs.declared.place.Place.{Place}
 use Rattle.pana_journal.specs.Entries.{entry_at}
-use Rattle.pana_hall.specs.inner.Families.{old_place}
 use Rattle.pana_hall.specs.inner.Spots.{IsThere, other_there}
-use Rattle.pana_hall.specs.inner.Listed.{all_listed}
-use Rattle.pana_hall.proofs.Refusals.{back_place, taken_from_is}
+use Rattle.pana_hall.proofs.Listed.{entry_within}
+use Rattle.pana_hall.proofs.Answered.{back_place, taken_from_is}
 use Rattle.pana_hall.proofs.state.State.taken_since.Goals as goal
 
-pub returns-in_err-old_place : goal.returns-in_err-old_place
-returns-in_err-old_place c =
-    let journal = c.args.self.now.journal.entries in
-    let families = c.args.self.now.families in
-    let at : entry_at journal c.args.number ≡ Some c.in_ok-entry.field-0.now = sym c.entry.ensures.entry ∙ ap option_copied c.in_ok-entry.was in
-    let back = back_place journal (all_listed families.list.items) families.positions.items c.args.self.now.copies c.args.number c.in_ok-copy.copy c.in_ok-entry.field-0.now c.requires.kept c.requires.last at (sym c.displaced.ensures ∙ c.in_ok-copy.was) in
-    let none : old_place (all_listed families.list.items) families.positions.items c.args.number ≡ None = sym c.old_place.ensures ∙ ap option_copied c.in_err-old_place.was in
-    let odd : None ≡ Some back.0.place = sym none ∙ back.1 in
+pub family-requires-clause-has : goal.family-requires-clause-has
+family-requires-clause-has c = entry_within c.args.self.now.journal.entries c.args.number _ (sym c.entry.ensures.entry ∙ ap option_copied c.in_ok-entry.was)
+
+pub returns-in_err-last_place : goal.returns-in_err-last_place
+returns-in_err-last_place c =
+    let at : entry_at c.args.self.now.journal.entries c.args.number ≡ Some c.in_ok-entry.field-0.now = sym c.entry.ensures.entry ∙ ap option_copied c.in_ok-entry.was in
+    let back = back_place c.args.self.now.journal.entries c.args.number c.in_ok-copy.copy _ _ c.requires.kept.accepted c.requires.last at (sym c.displaced.ensures ∙ c.in_ok-copy.was) c.family.ensures in
+    let odd : None ≡ Some back.0.place = sym (sym c.last_place.ensures ∙ ap option_copied c.in_err-last_place.was) ∙ back.1 in
     absurd (cc)
 
 pub returns : goal.returns
 returns c =
     let journal = c.args.self.now.journal.entries in
-    let families = c.args.self.now.families in
     let at : entry_at journal c.args.number ≡ Some c.in_ok-entry.field-0.now = sym c.entry.ensures.entry ∙ ap option_copied c.in_ok-entry.was in
-    let back = back_place journal (all_listed families.list.items) families.positions.items c.args.self.now.copies c.args.number c.in_ok-copy.copy c.in_ok-entry.field-0.now c.requires.kept c.requires.last at (sym c.displaced.ensures ∙ c.in_ok-copy.was) in
-    let there : old_place (all_listed families.list.items) families.positions.items c.args.number ≡ Some c.in_ok-old_place.field-0.now = sym c.old_place.ensures ∙ ap option_copied c.in_ok-old_place.was in
-    let both : Some c.in_ok-old_place.field-0.now ≡ Some back.0.place = sym there ∙ back.1 in
-    let same : c.in_ok-old_place.field-0.now ≡ back.0.place = cc in
+    let back = back_place journal c.args.number c.in_ok-copy.copy _ _ c.requires.kept.accepted c.requires.last at (sym c.displaced.ensures ∙ c.in_ok-copy.was) c.family.ensures in
+    let both : Some c.in_ok-last_place.field-0.now ≡ Some back.0.place = sym (sym c.last_place.ensures ∙ ap option_copied c.in_ok-last_place.was) ∙ back.1 in
+    let same : c.in_ok-last_place.field-0.now ≡ back.0.place = cc in
     let found = c.taken_from.ensures in
     found.2
     ∙ ap (λ n. other_there n found.0) (sym back.3)

@@ -1,8 +1,8 @@
--- A family's board from its table of sets: the one of its copies.
-use Rattle.std.specs.Prelude.{◌≡◌, ℕ, Bool, true, List, [], ◌∷◌, length, map, filter, count_by, Option, Some, IsSome, is_some, option_map, unwrap_or}
+-- Boards and holdings, as they are answered.
+use Rattle.std.specs.Prelude.{◌≡◌, ℕ, Bool, true, List, [], ◌∷◌, length, map, filter, count_by, Option, Some, IsSome, is_some, option_map, unwrap_or, ◌+◌, ◌≤◌, false, cond, nat_le, ◌++◌, None, option_and_then}
 use Rattle.std.specs.List.{AllByRecursion}
-use Rattle.std.proofs.Common.{refl, sym, ap, ◌∙◌, subst}
-use Rattle.std.proofs.lemmas.List.{length-map}
+use Rattle.std.proofs.Common.{refl, sym, ap, ◌∙◌, subst, inl, inr, arith}
+use Rattle.std.proofs.lemmas.List.{length-map, map-append}
 use Rattle.std.proofs.lemmas.List.Sums.{length-filter}
 use Rattle.pana_copies.specs.declared.place.Place.{Place}
 use Rattle.pana_copies.specs.Spots.{Table, kept, place_of}
@@ -18,19 +18,27 @@ use Rattle.pana_hall.specs.declared.board.BoardView.{BoardView}
 use Rattle.pana_hall.specs.declared.family_row.FamilyRow.{FamilyRow}
 use Rattle.pana_hall.specs.Living.{Copy, copy_in, living}
 use Rattle.pana_hall.specs.Board.{copy_relation, is_of, number_of, row_of, newest, has_conflict, board_of}
-use Rattle.pana_hall.specs.Queries.{family_row}
+use Rattle.pana_hall.specs.Queries.{family_row, holding, holdings}
 use Rattle.pana_hall.specs.Accepted.{IsAccepted}
 use Rattle.pana_hall.specs.laws.Sets.{sets_at}
 use Rattle.pana_hall.specs.inner.Spots.{spot_of}
 use Rattle.pana_hall.specs.inner.Kept.{AreSpots}
-use Rattle.pana_hall.specs.inner.Rows.{placed_row, row_of_sets}
-use Rattle.pana_hall.proofs.Lists.{each_filter, map_map}
+use Rattle.pana_hall.specs.inner.Rows.{placed_row, row_of_sets, holding_in}
+use Rattle.pana_hall.proofs.Lists.{each_filter, map_map, filter_all, none_under}
 use Rattle.pana_hall.proofs.Tables.{table_living}
-use Rattle.pana_hall.proofs.Seen.{each_passes, map_same, row_own, newest_own, split_own}
+use Rattle.pana_hall.proofs.Knowns.{each_passes, map_same, row_own, newest_own, split_own}
 use Rattle.pana_hall.specs.Stamps.{as_known}
 use Rattle.pana_hall.proofs.Stood.{copies_sets}
 use Rattle.pana_hall.proofs.Ready.{place_spots}
 use Rattle.pana_hall.proofs.Places.{living_found}
+use Rattle.std.specs.Option.{option_to_list}
+use Rattle.std.specs.Str.{bytes_eq}
+use Rattle.std.proofs.lemmas.Bool.{eq-eqb, ne_eqb, le-leb, lt-leb, cases_lt}
+use Rattle.pana_hall.specs.declared.holding.Holding.{Holding}
+use Rattle.pana_hall.specs.laws.Layers.{AreRising}
+use Rattle.std.proofs.lemmas.List.Elements.{filter-append}
+
+-- A family's board from its table of sets: the one of its copies.
 
 -- the copies of a family are as its table of sets has them
 alike : (family : ℕ) → AreAlike (λ c. is_of family c ≡ true) number_of copy_relation board.number_of board.known_relation as_known
@@ -119,3 +127,56 @@ board_is journal family rows new split copies accepted spots rows_are new_are sp
   where
     view : List BoardRow → List ℕ → Bool → BoardView
     view r n s = record { family = family; rows = r; newest = n; split = s }
+
+-- The holdings of a device, number by number.
+
+-- the copies up to a number, and the holdings among them
+abbrev upto : ℕ → List Copy → List Copy
+upto n copies = filter (λ copy. nat_le copy.number n) copies
+
+abbrev pub holdings_to : List Copy → List ℕ → ℕ → List Holding
+holdings_to copies device n = holdings (upto n copies) device
+
+upto_none : (low n : ℕ) (copies : List Copy) → n ≤ low → AreRising (λ c. c.number) low copies → upto n copies ≡ []
+upto_none low n [] below rises = refl
+upto_none low n (c ∷ copies) below rises =
+    let first = rises.0 in ap (λ b. cond b (c ∷ upto n copies) (upto n copies)) (lt-leb c.number n (omega arith)) ∙ upto_none c.number n copies (omega arith) rises.1
+
+pub holdings_none : (low n : ℕ) (copies : List Copy) (device : List ℕ) → n ≤ low → AreRising (λ c. c.number) low copies → holdings_to copies device n ≡ []
+holdings_none low n copies device below rises = ap (λ l. holdings l device) (upto_none low n copies below rises)
+
+-- one number more adds its copy
+upto_more : (low n : ℕ) (copies : List Copy) → AreRising (λ c. c.number) low copies → upto (n + 1) copies ≡ upto n copies ++ option_to_list (copy_in copies (n + 1))
+upto_more low n [] rises = refl
+upto_more low n (c ∷ copies) rises =
+    elim (cases_lt n c.number) [
+      | inr before ↦ rw (le-leb c.number (n + 1) (omega arith), le-leb c.number n before, ne_eqb c.number (n + 1) (λ h. omega arith)) (ap (λ l. c ∷ l) (upto_more c.number n copies rises.1))
+      | inl past ↦ elim (cases_lt (n + 1) c.number) [
+        | inr last ↦ rw (le-leb c.number (n + 1) (omega arith), lt-leb c.number n past, eq-eqb c.number (n + 1) (omega arith))
+            (rw (upto_none c.number (n + 1) copies (omega arith) rises.1, upto_none c.number n copies (omega arith) rises.1) refl)
+        | inl later ↦ rw (lt-leb c.number (n + 1) later, lt-leb c.number n past, ne_eqb c.number (n + 1) (λ h. omega arith))
+            (rw (upto_none c.number (n + 1) copies (omega arith) rises.1, upto_none c.number n copies (omega arith) rises.1, none_under (λ x. x.number) c.number (n + 1) copies rises.1 (omega arith)) refl)
+      ]
+    ]
+
+holdings_push : (copies : List Copy) (device : List ℕ) (o : Option Copy)
+    → holdings (copies ++ option_to_list o) device ≡ holdings copies device ++ option_to_list (option_and_then (λ copy. cond (bytes_eq copy.place.device device) (Some (holding copy)) None) o)
+holdings_push copies device o =
+    ap (map holding) (filter-append (λ x. bytes_eq x.place.device device) copies (option_to_list o))
+    ∙ map-append holding (filter (λ x. bytes_eq x.place.device device) copies) (filter (λ x. bytes_eq x.place.device device) (option_to_list o))
+    ∙ ap (λ l. holdings copies device ++ l)
+    (elim o as (λ w. map holding (filter (λ x. bytes_eq x.place.device device) (option_to_list w)) ≡ option_to_list (option_and_then (λ copy. cond (bytes_eq copy.place.device device) (Some (holding copy)) None) w)) [
+      | None ↦ refl
+      | Some c ↦ elim (bytes_eq c.place.device device) as (λ b. map holding (cond b (c ∷ []) []) ≡ option_to_list (cond b (Some (holding c)) None)) [ true ↦ refl | false ↦ refl ]
+    ])
+
+pub holdings_more : (low n : ℕ) (copies : List Copy) (device : List ℕ) → AreRising (λ c. c.number) low copies
+    → holdings_to copies device (n + 1) ≡ holdings_to copies device n ++ option_to_list (holding_in copies device (n + 1))
+holdings_more low n copies device rises = ap (λ l. holdings l device) (upto_more low n copies rises) ∙ holdings_push (upto n copies) device (copy_in copies (n + 1))
+
+pub holdings_all : (copies : List Copy) (device : List ℕ) (last : ℕ) → AllByRecursion (λ c. c.number ≤ last) copies → holdings_to copies device last ≡ holdings copies device
+holdings_all copies device last within = ap (λ l. holdings l device) (filter_all (λ c. nat_le c.number last) copies (each_le copies within))
+  where
+    each_le : (cs : List Copy) → AllByRecursion (λ c. c.number ≤ last) cs → AllByRecursion (λ c. nat_le c.number last ≡ true) cs
+    each_le [] all = tt
+    each_le (c ∷ cs) all = (le-leb c.number last all.0, each_le cs all.1)
