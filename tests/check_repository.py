@@ -177,7 +177,9 @@ def edits():
 def kit_line():
     """The version names the line of the kit that is here, and so does README, where it says what is proved."""
     rt = shutil.which("rt") or "/opt/rattle/bin/rt"
-    kit = subprocess.run([rt, "version"], stdin=subprocess.DEVNULL, capture_output=True, text=True, check=True).stdout.strip()
+    printed = subprocess.run([rt, "version"], stdin=subprocess.DEVNULL, capture_output=True, text=True, check=True).stdout.strip()
+    # a letter behind the number tells kits of one line apart, which have one logic
+    kit = re.sub(r"^(rattle-kit-\d+)[a-z]\b", r"\1", printed)
     source, page = TOP / "crates/panad/src/version.rt", TOP / "README.md"
     version = VERSION.search("\n".join(lines_of(source)))
     if not version:

@@ -12,11 +12,13 @@ from __future__ import annotations
 import contextlib
 import importlib.machinery
 import importlib.util
+import inspect
 import io
 import os
 import re
 import subprocess
 import sys
+import tempfile
 from pathlib import Path
 
 import edits
@@ -43,11 +45,25 @@ def stopped(call, *given):
             return f"the check could not run with this kit: {error!r}", None
 
 
+def crates_of(rt, top):
+    """The crates, lowest first. Some kits move what stands in the crates' folders out/ to a folder that they are given: it goes back."""
+    if "aside" not in inspect.signature(rt.crates_of).parameters:
+        return rt.crates_of(top)
+    built = Path(top) / ".build"
+    built.mkdir(exist_ok=True)
+    with tempfile.TemporaryDirectory(prefix="aside-", dir=built) as aside:
+        try:
+            return rt.crates_of(top, aside)
+        finally:
+            for it in Path(aside).iterdir():
+                it.rename(Path(top) / "crates" / it.name / "out")
+
+
 def repository(rt):
     """The crates, once the repository's files are as rt ci wants them."""
     top = str(edits.TOP)
     rt.Crate.allowed = rt.handles_of(top)
-    crates = rt.crates_of(top)
+    crates = crates_of(rt, top)
     for name in os.listdir(top):
         if name not in (".git", ".build") and os.path.isdir(f"{top}/{name}"):
             rt.rtlib.stop_on_unread(f"{top}/{name}", crates)

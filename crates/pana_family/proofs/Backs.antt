@@ -1,7 +1,7 @@
 -- Rows that are put back.
-use Rattle.std.specs.Prelude.{fold, count_by, ◌≡◌, ◌≢◌, ℕ, ◌≤◌, ◌+◌, true, false, ◌==◌, nat_lt, cond, ◌⊎◌, List, [], ◌∷◌, ◌++◌, length}
+use Rattle.std.specs.Prelude.{fold, count_by, ◌≡◌, ◌≢◌, ℕ, ◌≤◌, ◌+◌, true, false, ◌==◌, nat_lt, cond, List, [], ◌∷◌, length}
 use Rattle.std.proofs.Common.{refl, sym, ap, subst, ◌∙◌, inl, inr, arith}
-use Rattle.std.proofs.lemmas.Bool.{cases_Bool, eqb-true, eqb-false, ltb-true, ltb-false}
+use Rattle.std.proofs.lemmas.Bool.{eqb-true, eqb-false, ltb-true, ltb-false}
 use Rattle.pana_family.specs.declared.row.StampRow.{StampRow}
 use Rattle.pana_family.specs.Table.{In}
 use Rattle.pana_family.specs.Holders.{is_copy}

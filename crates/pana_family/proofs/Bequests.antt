@@ -1,5 +1,5 @@
 -- A copy goes, and its heir holds it as a parcel, and what it held, and is settled.
-use Rattle.std.specs.Prelude.{◌≡◌, ◌≢◌, ℕ, ◌<◌, Bool, true, false, cond, not, ◌&&◌, ◌||◌, ◌==◌, List, [], ◌∷◌, Option, Some, None}
+use Rattle.std.specs.Prelude.{◌≡◌, ◌≢◌, ℕ, Bool, true, false, cond, not, ◌&&◌, ◌||◌, ◌==◌, List, [], ◌∷◌, Option, Some, None}
 use Rattle.std.proofs.Common.{refl, sym, ap, subst, ◌∙◌, inl, inr, arith}
 use Rattle.std.proofs.lemmas.Bool.{and_parts, both_ways, cases_Bool, eq-eqb, eqb-false, eqb-true, ne_eqb, or_from}
 use Rattle.pana_event.specs.Event.{Event}
@@ -17,7 +17,7 @@ use Rattle.pana_family.specs.Kept.{IsKept}
 use Rattle.pana_family.specs.After.{bequeathed, ends, is_bound, parcel_row, settled}
 use Rattle.pana_family.specs.inner.Making.{CanGather, IsRowOf, passed_row}
 use Rattle.pana_family.proofs.Sound.{Sound, Renumbered, renumbered}
-use Rattle.pana_family.proofs.Sums.{Ending, Gathered, gathers, within_is}
+use Rattle.pana_family.proofs.Sums.{Gathered, gathers, within_is}
 use Rattle.pana_family.proofs.Members.{Holds, held, holds_found, not_held, one_known, one_row, set_of, to_sound}
 use Rattle.pana_family.proofs.Tables.{comes_known, made_known, pass, passed_heir, unless}
 use Rattle.pana_family.proofs.Images.{Alike, Outcome, some, none, alike_row, stay_outcome}

@@ -18,7 +18,7 @@ use Rattle.pana_family.specs.laws.Relations.{RelatesSets}
 use Rattle.pana_family.specs.Holders.{is_held}
 use Rattle.pana_family.specs.Table.{Known, known, knowing, In, set_in, registered, touch_in, AreBelow}
 use Rattle.pana_family.specs.Stands.{top, AreSame, StandsFor}
-use Rattle.pana_family.specs.Rows.{IsRising, row, seed_row}
+use Rattle.pana_family.specs.Rows.{IsRising, seed_row}
 use Rattle.pana_family.specs.After.{first_part, lost, made, restamped, second_part, updated_stamp}
 use Rattle.pana_family.specs.inner.Making.{IsRowOf}
 use Rattle.pana_family.proofs.Sound.{Sound, Put, Updated, edit_keeps, share_keeps, below_subset, subset_below}

@@ -153,36 +153,3 @@ copies_are rows cs up places same =
     same_numbers 0 cs (map (λ r. r.copy) (copy_rows rows)) (rises_places 0 cs places (λ c here. omega arith)) (rises_rows 0 rows up)
     (λ c here. has_contains (map (λ r. r.copy) (copy_rows rows)) c (has_rows rows c ∙ (same c).0 here))
     (λ c here. (same c).1 (sym (has_rows rows c) ∙ contains_has (map (λ r. r.copy) (copy_rows rows)) c here))
-
--- How many they are.
-
-shorter : (low : ℕ) (xs ys : List ℕ) → Rises low xs → Rises low ys → ((c : ℕ) → Contains xs c → Contains ys c) → length xs ≤ length ys
-shorter low [] ys up top f = omega arith
-shorter low (x ∷ xs) [] up top f = absurd (omega (arith, (f x (zero, omega arith, refl)).1))
-shorter low (x ∷ xs) (y ∷ ys) up top f = elim (first_or_later y ys x (f x (zero, omega arith, refl))) [
-  | inl e ↦
-      let rest = shorter (x + 1) xs ys up.1 (subst (λ (k : ℕ). Rises (k + 1) ys) (sym e) top.1) (λ c i. elim (first_or_later y ys c (f c (contains_more x xs c i))) [
-        | inl same ↦ absurd (omega (arith, rises_above (x + 1) xs c up.1 i, e, same))
-        | inr j ↦ j
-      ]) in
-      omega (arith, rest)
-  | inr later ↦
-      let least : y + 1 ≤ x = rises_above (y + 1) ys x top.1 later in
-      let rest = shorter (y + 1) (x ∷ xs) ys (least, up.1) top.1 (λ c i. elim (first_or_later y ys c (f c i)) [
-        | inl same ↦ absurd (omega (arith, rises_above x (x ∷ xs) c (omega arith, up.1) i, least, same))
-        | inr j ↦ j
-      ]) in
-      omega (arith, rest)
-]
-
--- no more copies live where each lived before
-pub few_lives : (rows new : List StampRow) → IsRising 0 rows → IsRising 0 new → ((c : ℕ) → lives new c ≡ true → lives rows c ≡ true) → length (copy_rows new) ≤ length (copy_rows rows)
-few_lives rows new up up' f =
-    let number : StampRow → ℕ = λ r. r.copy in
-    omega (
-      arith,
-      length-map (copy_rows new) number,
-      length-map (copy_rows rows) number,
-      shorter 0 (map number (copy_rows new)) (map number (copy_rows rows)) (rises_rows 0 new up') (rises_rows 0 rows up)
-          (λ c here. has_contains (map number (copy_rows rows)) c (has_rows rows c ∙ f c (sym (has_rows new c) ∙ contains_has (map number (copy_rows new)) c here))),
-    )

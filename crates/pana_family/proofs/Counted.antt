@@ -1,6 +1,6 @@
 -- What a report makes of the copies, and how the table of relations follows it that compares no stamps.
-use Rattle.std.specs.Prelude.{◌≡◌, ℕ, ◌+◌, ◌≤◌, Bool, true, false, cond, ◌==◌, ◌||◌, not, List, [], ◌∷◌, ◌++◌, map, filter, Some, None, Option, Contains, length}
-use Rattle.std.proofs.Common.{refl, sym, ap, ◌∙◌, arith}
+use Rattle.std.specs.Prelude.{◌≡◌, ℕ, ◌+◌, ◌≤◌, List, [], ◌∷◌, ◌++◌, Contains, length}
+use Rattle.std.proofs.Common.{sym, ap, ◌∙◌, arith}
 use Rattle.std.proofs.lemmas.List.{length-append}
 use Rattle.std.proofs.lemmas.List.Elements.{filter-append}
 use Rattle.pana_event.specs.declared.rel.Rel.TheVariants.{Equal}
@@ -8,14 +8,12 @@ use Rattle.pana_rel.specs.Pairs.{Table, Holds, edited_row, rel_of, with_copy, wi
 use Rattle.pana_family.specs.declared.row.StampRow.{StampRow}
 use Rattle.pana_family.specs.declared.report.FamilyReport.{FamilyReport}
 use Rattle.pana_family.specs.declared.report.FamilyReport.TheVariants.{Duplicate, Edit, Reconcile, Merge, Remove, Touch}
-use Rattle.pana_family.specs.Updates.{union}
-use Rattle.pana_family.specs.Holders.{is_copy, is_held, passed}
-use Rattle.pana_family.specs.Table.{Known, change, copies_of, duplicated, edited, ends, known, knowing, parcel, passed_on, set_in, settled, united}
+use Rattle.pana_family.specs.Holders.{is_copy}
+use Rattle.pana_family.specs.Table.{Known, copies_of, duplicated, edited, known, set_in}
 use Rattle.pana_family.specs.Stands.{StandsFor}
-use Rattle.pana_family.specs.Rows.{AreBefore, copy_rows}
-use Rattle.pana_family.specs.Kept.{IsKept}
+use Rattle.pana_family.specs.Rows.{copy_rows}
 use Rattle.pana_family.specs.Paired.{ArePaired}
-use Rattle.pana_family.specs.Report.{Asks, IsMade, reported}
+use Rattle.pana_family.specs.Report.{IsMade, reported}
 use Rattle.pana_family.proofs.Members.{of_known, same_length, one_known}
 use Rattle.pana_family.proofs.BySets.{same_copies}
 use Rattle.pana_family.proofs.Copies.{ByPlaces}

@@ -1,11 +1,11 @@
 -- What a report leaves, from the exact rows alone.
-use Rattle.std.specs.Prelude.{◌≡◌, ◌≢◌, ℕ, ◌≤◌, ◌<◌, ◌+◌, ◌^◌, Bool, true, false, cond, ◌&&◌, ◌||◌, ◌==◌, List, [], ◌∷◌, ◌++◌, filter_map, length, Option, Some, None}
+use Rattle.std.specs.Prelude.{◌≡◌, ℕ, ◌≤◌, ◌<◌, ◌+◌, ◌^◌, Bool, true, false, cond, ◌&&◌, ◌||◌, ◌==◌, List, [], ◌∷◌, ◌++◌, filter_map, length, Option, Some, None}
 use Rattle.std.specs.List.{list_any}
 use Rattle.std.proofs.Common.{refl, sym, ap, subst, ◌∙◌, inl, inr, arith}
-use Rattle.std.proofs.lemmas.Bool.{and_from, cases_Bool, eq-eqb, eqb-true, eqb-false, ne_eqb, or_cases, or_from, or_left, or_right}
+use Rattle.std.proofs.lemmas.Bool.{and_from, cases_Bool, eq-eqb, eqb-true, ne_eqb, or_cases, or_from, or_left, or_right}
 use Rattle.std.proofs.lemmas.List.{append-nil}
 use Rattle.pana_id.specs.Id.{has as owns, parts}
-use Rattle.pana_event.specs.Event.{Event, greatest}
+use Rattle.pana_event.specs.Event.{Event}
 use Rattle.pana_event.specs.Order.{is_leq}
 use Rattle.pana_stamp.specs.declared.stamp.Stamp.{Stamp}
 use Rattle.pana_family.specs.declared.row.StampRow.{StampRow}
@@ -24,12 +24,12 @@ use Rattle.pana_family.proofs.Sound.{Sound}
 use Rattle.pana_family.proofs.Members.{Holds, any_from, any_some, from_both, in_left, in_right, of_known, of_row, one_known, one_row, to_sound}
 use Rattle.pana_family.proofs.Places.{deepest_by, rising_pushed}
 use Rattle.pana_family.proofs.Copies.{living_at}
-use Rattle.pana_family.proofs.Shares.{AreTwo, IsShared, Twice, IsWhole, merged_shared, reconciled_shared, shared_outcome, twice_sound, whole_is}
-use Rattle.pana_family.proofs.Bequests.{AreHeirs, Bequeathed, bequeathed_outcome, bequeathed_sound, parcel_comes, parcel_holds, parcel_left}
+use Rattle.pana_family.proofs.Shares.{Twice, IsWhole, merged_shared, reconciled_shared, shared_outcome, twice_sound, whole_is}
+use Rattle.pana_family.proofs.Bequests.{AreHeirs, Bequeathed, bequeathed_outcome, bequeathed_sound, parcel_comes, parcel_holds}
 use Rattle.pana_family.proofs.Changes.{Duplicated, Edited, duplicate_holds, duplicated_outcome, duplicated_sound, edited_outcome, edited_sound, lost_outcome, touched_outcome}
 use Rattle.pana_family.proofs.Tables.{Lives, NamesOf, held_reported, made_known, comes_known, numbers_reported, reported_is, know_two_copy, know_two, pass, unless}
 use Rattle.pana_family.proofs.Images.{AreImages, images_stand, in_made, one_of, rising_made, to_made, unless_of}
-use Rattle.pana_family.proofs.Keeps.{KeptRow, Ready, Whole, adds, comes_numbered, edit_raised, few_after, made_stays, merge_raised, merge_whole, owned_in, reconcile_whole, reported_kept, row_lives, settled_owns, source_parted}
+use Rattle.pana_family.proofs.Keeps.{Ready, Whole, adds, comes_numbered, edit_raised, few_after, made_stays, merge_raised, merge_whole, owned_in, reconcile_whole, reported_kept, row_lives, settled_owns, source_parted}
 
 -- The points that rows own.
 

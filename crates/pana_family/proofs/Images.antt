@@ -3,7 +3,6 @@ use Rattle.std.specs.Prelude.{◌≡◌, ◌≢◌, ℕ, ◌≤◌, ◌<◌, ◌
 use Rattle.std.specs.List.{cons_option}
 use Rattle.std.proofs.Common.{refl, sym, ap, subst, ◌∙◌, inl, inr, arith}
 use Rattle.std.proofs.lemmas.Bool.{cases_Bool, eqb-true, eqb-false, not-true, not_from_false}
-use Rattle.std.proofs.lemmas.List.{append-nil}
 use Rattle.pana_stamp.specs.declared.stamp.Stamp.{Stamp}
 use Rattle.pana_family.specs.declared.row.StampRow.{StampRow}
 use Rattle.pana_family.specs.Holders.{leave, is_copy}
@@ -132,9 +131,6 @@ pub record Alike (r : StampRow) (t : Known) : Type 0 where
 
 pub alike_row : (rows : List StampRow) (table : List Known) → AreSame rows table → (r : StampRow) → In r rows → (t : Known) × In t table × Alike r t
 alike_row rows table same r i = let m = of_row rows table same r i in (m.0, m.1, record { copy = m.2; touch = m.3; holder = m.4 })
-
-pub alike_known : (rows : List StampRow) (table : List Known) → AreSame rows table → (t : Known) → In t table → (r : StampRow) × In r rows × Alike r t
-alike_known rows table same t i = let m = of_known rows table same t i in (m.0, m.1, record { copy = m.2; touch = m.3; holder = m.4 })
 
 -- what is made of a row and of what is known of it: a row of P's and what is known of that, alike, or nothing of both
 pub data Outcome (P : ℕ → Stamp → List ℕ → Type 0) (o : Option StampRow) (p : Option Known) : Type 0 where

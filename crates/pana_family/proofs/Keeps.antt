@@ -1,11 +1,11 @@
 -- What a report keeps of each row: limits, touches, and the points that rows own together.
-use Rattle.std.specs.Prelude.{◌≡◌, ◌≢◌, ℕ, ◌≤◌, ◌<◌, ◌+◌, ◌^◌, max, Bool, true, false, cond, not, ◌&&◌, ◌||◌, ◌==◌, List, [], ◌∷◌, ◌++◌, length, Option, Some, None, filter_map}
+use Rattle.std.specs.Prelude.{◌≡◌, ◌≢◌, ℕ, ◌≤◌, ◌<◌, ◌+◌, ◌^◌, max, Bool, true, false, cond, not, ◌&&◌, ◌||◌, ◌==◌, List, [], ◌∷◌, length, Option, Some, None, filter_map}
 use Rattle.std.specs.List.{list_any}
 use Rattle.std.proofs.Common.{refl, sym, ap, subst, ◌∙◌, inl, inr, arith}
 use Rattle.std.proofs.lemmas.Bool.{and_parts, eqb-true, not-true, or_cases, or_left, or_right}
 use Rattle.std.proofs.lemmas.List.{length-append}
 use Rattle.std.proofs.lemmas.List.Elements.{filter-append}
-use Rattle.pana_id.specs.Id.{Id, has as owns, depth, is_single, is_zero, parts, sum_of, IsParted, IsSum, IsValid}
+use Rattle.pana_id.specs.Id.{Id, has as owns, depth, is_single, is_zero, parts, sum_of, IsParted, IsValid}
 use Rattle.pana_id.proofs.Parts.{depth-parts-le, parted-parts, valid-parts}
 use Rattle.pana_event.specs.Event.{Event, greatest, IsSound}
 use Rattle.pana_event.specs.Join.{joined}
@@ -18,12 +18,12 @@ use Rattle.pana_family.specs.declared.report.FamilyReport.{FamilyReport}
 use Rattle.pana_family.specs.declared.report.FamilyReport.TheVariants.{Duplicate, Edit, Reconcile, Merge, Remove, Touch}
 use Rattle.pana_family.specs.Holders.{is_copy, is_held, passed}
 use Rattle.pana_family.specs.Table.{In, registered}
-use Rattle.pana_family.specs.Rows.{AreBefore, IsRising, AreSound, OwnSame, copy_rows, deepest, divides, lives, owned, row, row_in, seed_row}
+use Rattle.pana_family.specs.Rows.{AreBefore, IsRising, AreSound, copy_rows, deepest, divides, lives, owned, row, row_in, seed_row}
 use Rattle.pana_family.specs.Kept.{IsKept}
-use Rattle.pana_family.specs.After.{bequeathed, comes, ends, first_part, joined_stamp, lost, made, parcel_row, reported_rows, restamped, second_part, settled, shared, updated_stamp}
-use Rattle.pana_family.specs.Report.{CanReport, deeper, loses}
+use Rattle.pana_family.specs.After.{bequeathed, comes, ends, first_part, joined_stamp, made, parcel_row, reported_rows, restamped, second_part, settled, shared, updated_stamp}
+use Rattle.pana_family.specs.Report.{CanReport, deeper}
 use Rattle.pana_family.specs.inner.Making.{IsRowOf, passed_row}
-use Rattle.pana_family.proofs.Members.{any_from, any_some, from_both, in_append, in_left, in_right, one_row}
+use Rattle.pana_family.proofs.Members.{any_from, any_some, in_append}
 use Rattle.pana_family.proofs.Places.{deepest_in, row_found}
 use Rattle.pana_family.proofs.Copies.{living_at}
 use Rattle.pana_family.proofs.Sums.{AreSummed, with_summed}
@@ -33,7 +33,7 @@ use Rattle.pana_family.proofs.Computed.{updated_is}
 use Rattle.pana_family.proofs.Searches.{single_deep}
 use Rattle.pana_family.proofs.Changes.{empty_stands, no_update, seed_stands}
 use Rattle.pana_family.proofs.Tables.{held_registered}
-use Rattle.pana_family.proofs.Images.{copies_made, in_made, one_of, some_or, to_made, unless_of}
+use Rattle.pana_family.proofs.Images.{copies_made, in_made, one_of, some_or, unless_of}
 
 -- rows of which a report can be made, with entry n
 pub record Ready (n : ℕ) (report : FamilyReport) (rows : List StampRow) : Type 0 where

@@ -8,7 +8,7 @@ use Rattle.pana_event.specs.Event.{level}
 use Rattle.pana_stamp.specs.declared.stamp.Stamp.{Stamp}
 use Rattle.pana_family.specs.declared.row.StampRow.{StampRow}
 use Rattle.pana_family.specs.Updates.{has, union}
-use Rattle.pana_family.specs.Holders.{leave, is_held}
+use Rattle.pana_family.specs.Holders.{is_held}
 use Rattle.pana_family.specs.Table.{Known, In, AreBelow, change, set_in}
 use Rattle.pana_family.specs.Stands.{top, AreSame, IsMarked, StandsFor}
 use Rattle.pana_family.specs.Rows.{IsRising}

@@ -1,7 +1,7 @@
 -- Rows by their places, and rising rows after a change.
 use Rattle.std.specs.Prelude.{◌≡◌, ◌≢◌, ℕ, ◌≤◌, ◌<◌, ◌+◌, Bool, true, false, ◌||◌, ◌==◌, cond, not, List, [], ◌∷◌, ◌++◌, length, Option, Some, None, position, nat_lt, nat_le, unwrap_or}
 use Rattle.std.specs.List.{remove, insert, position_or_len, list_any}
-use Rattle.std.proofs.Common.{refl, sym, ap, subst, ◌∙◌, inl, inr, arith, get_or, set, zero, suc}
+use Rattle.std.proofs.Common.{refl, sym, ap, subst, ◌∙◌, inl, inr, arith, get_or, zero, suc}
 use Rattle.std.proofs.lemmas.Bool.{cases_Bool, eq-eqb, ne_eqb, eqb-true, lt-ltb, le-ltb, leb-true, leb-false, ltb-false}
 use Rattle.pana_id.specs.Id.{depth, zero_id}
 use Rattle.pana_event.specs.Event.{leaf}

@@ -1,7 +1,7 @@
 -- Two copies share a stamp, and are settled.
 use Rattle.std.specs.Prelude.{◌≡◌, ◌≢◌, ℕ, ◌≤◌, max, Bool, true, false, cond, ◌&&◌, ◌||◌, ◌==◌, List, ◌∷◌, Option, Some, None}
-use Rattle.std.proofs.Common.{refl, sym, ap, subst, ◌∙◌, inl, inr, arith}
-use Rattle.std.proofs.lemmas.Bool.{cases_Bool, both_ways, and_parts, or_parts, eq-eqb, eqb-true, eqb-false, ne_eqb}
+use Rattle.std.proofs.Common.{refl, sym, ap, subst, ◌∙◌, inl, inr}
+use Rattle.std.proofs.lemmas.Bool.{cases_Bool, both_ways, and_parts, or_parts, eqb-true, eqb-false}
 use Rattle.pana_id.specs.Id.{Id, has as owns, depth, is_single, parts, sum_of, IsParted, IsSum, IsValid, SharesNoPoint}
 use Rattle.pana_id.proofs.Divides.{sum_of_divides, parts_of_sum}
 use Rattle.pana_id.proofs.Parts.{parted-parts, valid-parts}
@@ -27,7 +27,7 @@ use Rattle.pana_family.proofs.Sums.{Ending, Gathered, gathers, within_is}
 use Rattle.pana_family.proofs.Unions.{union_members}
 use Rattle.pana_family.proofs.Members.{Holds, held, holds_found, not_held, one_row, put_more, to_sound, union_fresh, unknown_yet}
 use Rattle.pana_family.proofs.Tables.{know_first, know_other, know_second, know_two, united_known, unless}
-use Rattle.pana_family.proofs.Images.{Alike, Outcome, some, none, alike_row, stay_outcome}
+use Rattle.pana_family.proofs.Images.{Alike, Outcome, some, alike_row, stay_outcome}
 
 -- Two copies and their stamp.
 

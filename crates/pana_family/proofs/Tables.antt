@@ -1,6 +1,6 @@
 -- What a report makes of each copy and parcel of a table of sets, and what comes behind them.
 use Rattle.std.specs.Prelude.{◌≡◌, ◌≢◌, ℕ, ◌≤◌, ◌<◌, Bool, true, false, ◌&&◌, ◌||◌, ◌==◌, cond, not, ◌⊎◌, List, [], ◌∷◌, ◌++◌, filter_map, map, Option, Some, None}
-use Rattle.std.proofs.Common.{refl, sym, ap, ap₂, subst, ◌∙◌, inl, inr, arith}
+use Rattle.std.proofs.Common.{refl, sym, ap, subst, ◌∙◌, inl, inr, arith}
 use Rattle.std.proofs.lemmas.Bool.{or_cases, or_parts, or_from, both_ways, cases_Bool, eq-eqb, eqb-true, eqb-false, ne_eqb}
 use Rattle.std.proofs.lemmas.List.{append-nil, map-append}
 use Rattle.std.proofs.lemmas.List.Elements.{filter-append}
@@ -9,12 +9,12 @@ use Rattle.pana_family.specs.declared.report.FamilyReport.{FamilyReport}
 use Rattle.pana_family.specs.declared.report.FamilyReport.TheVariants.{Duplicate, Edit, Reconcile, Merge, Remove, Touch}
 use Rattle.pana_family.specs.Updates.{has, is_within, union, IsSubset}
 use Rattle.pana_family.specs.Holders.{is_held, leave, passed}
-use Rattle.pana_family.specs.Table.{Known, In, known, knowing, change, set_in, parcel, ends, settled, passed_on, without, wrapped, united, registered, AreHeld, AreBelow, IsHeldBy, bequeathed}
+use Rattle.pana_family.specs.Table.{Known, In, known, knowing, set_in, parcel, ends, settled, without, united, registered, AreHeld, AreBelow, IsHeldBy, bequeathed}
 use Rattle.pana_family.specs.Report.{reported}
 use Rattle.pana_family.proofs.Unions.{union_members}
 use Rattle.pana_family.proofs.Relations.{subset_within}
-use Rattle.pana_family.proofs.Members.{in_append, in_left, in_right, not_held, One, set_of, found_in}
-use Rattle.pana_family.proofs.Images.{in_leave, in_made, in_map, leave_map, leave_map_leave, leave_twice, made_itself, map_made, one_of, some_or, stays_in, to_made, to_map, unless_of}
+use Rattle.pana_family.proofs.Members.{in_append, in_left, not_held, One, set_of}
+use Rattle.pana_family.proofs.Images.{in_leave, in_made, in_map, leave_map, leave_map_leave, leave_twice, made_itself, map_made, one_of, stays_in, to_made, to_map, unless_of}
 
 -- the copy of this number knows a set
 abbrev pub know : ℕ → List ℕ → ℕ → Known → Known

@@ -1,10 +1,9 @@
 -- The texts of rows' stamps, for the table that the rows stand for.
-use Rattle.std.specs.Prelude.{◌≡◌, ◌↔◌, ℕ, ◌+◌, Bool, cond, ◌==◌, List, [], ◌∷◌, map, filter}
+use Rattle.std.specs.Prelude.{◌≡◌, ◌↔◌, ℕ, List, map, filter}
 use Rattle.std.specs.List.{AllZip}
-use Rattle.std.proofs.Common.{refl, sym, ap, subst, ◌∙◌, inl, inr, arith}
-use Rattle.std.proofs.lemmas.Bool.{eq-eqb, ne_eqb}
+use Rattle.std.proofs.Common.{refl, sym, ap, subst, ◌∙◌}
 use Rattle.pana_id.specs.Id.{Id, IsValid, SharesNoPoint, is_zero}
-use Rattle.pana_event.specs.Event.{Event, IsSound, leaf}
+use Rattle.pana_event.specs.Event.{Event, IsSound}
 use Rattle.pana_event.specs.Order.{IsBelow}
 use Rattle.pana_event.specs.Relation.{IsRelation}
 use Rattle.pana_event.specs.declared.rel.Rel.{Rel}
@@ -20,7 +19,7 @@ use Rattle.pana_family.specs.Stamps.{AreStamps}
 use Rattle.pana_family.specs.Stamps.{row_text}
 use Rattle.pana_family.specs.Rows.{IsRising, row_in}
 use Rattle.pana_family.proofs.Sound.{below_subset, subset_below}
-use Rattle.pana_family.proofs.Members.{Holds, held, to_sound, of_known, above_low, in_filter}
+use Rattle.pana_family.proofs.Members.{Holds, held, to_sound, of_known, in_filter}
 use Rattle.pana_family.proofs.Places.{row_found}
 use Rattle.pana_family.proofs.Relations.{relates}
 use Rattle.pana_family.proofs.Boards.{OfOne, all_of_one, map_same, filter_same}

@@ -162,12 +162,7 @@ fn lost_fate(row: &StampRow, copy: u64) -> Fate
 }
 
 /// A parcel that the heir holds from now on, where the copy held it, and any other row as it is.
-fn passed_fate(
-    alloc: Global,
-    row: &StampRow,
-    copy: u64,
-    heir: u64,
-) -> Result<Fate, AllocError>
+fn passed_fate(alloc: Global, row: &StampRow, copy: u64, heir: u64) -> Result<Fate, AllocError>
     ensures { IfOk result (λ fate. left_of row.now fate ≡ Some (passed_row copy heir row.now)) }
 {
     if is_held(row, copy) {
@@ -218,14 +213,7 @@ fn planned_fate(
 {
     match plan {
         Plan::Share(a, b, first, second) => shared_fate(
-            alloc,
-            rows,
-            row,
-            entry,
-            *a,
-            *b,
-            first,
-            second,
+            alloc, rows, row, entry, *a, *b, first, second,
         ),
         Plan::Lose(copy) => Ok(lost_fate(row, *copy)),
         Plan::Bequeath(copy, heir, event) => bequeathed_fate(alloc, rows, row, *copy, *heir, event),

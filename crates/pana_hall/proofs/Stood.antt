@@ -27,18 +27,16 @@ use Rattle.pana_family.specs.Kept.{IsKept}
 use Rattle.pana_family.specs.declared.row.StampRow.{StampRow}
 use Rattle.pana_copies.specs.declared.place.Place.{Place}
 use Rattle.pana_family.specs.Stands.{StandsFor}
-use Rattle.pana_family.specs.Rows.{AreBefore, copy_rows, deepest, divides, lives, seed_row}
+use Rattle.pana_family.specs.Rows.{AreBefore, AreSound, copy_rows, deepest, divides, lives, seed_row}
 use Rattle.pana_family.specs.Report.{Asks, CanReport, IsReported, deeper}
 use Rattle.pana_family.specs.Report as by_family
 use Rattle.pana_family.specs.Table.{AreBelow, In, IsAbove, Known, is_in}
 use Rattle.pana_family.specs.Table as by_table
 use Rattle.pana_family.specs.After.{reported_rows}
-use Rattle.pana_family.specs.inner.Making.{AreSound}
 use Rattle.pana_family.proofs.BySets.{same_before, same_copies, same_living}
 use Rattle.pana_family.proofs.Members.{same_length}
-use Rattle.pana_family.proofs.Exacts.{asked, report_law}
-use Rattle.pana_family.proofs.Within.{divides_is, seed_sound, sound_after, undivided_deep}
-use Rattle.pana_family.proofs.Keeps.{seed_kept, empty_kept}
+use Rattle.pana_family.proofs.Exacts.{asked, report_law, sound_after}
+use Rattle.pana_family.proofs.Keeps.{divides_is, seed_kept, empty_kept, seed_sound, undivided_deep}
 use Rattle.pana_family.proofs.Changes.{empty_stands, seed_stands}
 use Rattle.pana_hall.specs.Effective.{effective, is_of_copies}
 use Rattle.pana_hall.specs.laws.Tables as tables

@@ -1,4 +1,4 @@
-use Rattle.std.proofs.Common.{ap, ap₂, [], List, sym, ◌++◌, ◌∙◌, ◌∷◌, ◌≡◌}
+use Rattle.std.proofs.Common.{ap, [], List, ◌++◌, ◌∙◌, ◌∷◌}
 use Rattle.pana_id.specs.Id.{is_single}
 use Rattle.pana_stamp.specs.declared.stamp.Stamp.{Stamp}
 use Rattle.pana_family.specs.After.{restamped}

@@ -1,4 +1,4 @@
-use Rattle.std.proofs.Common.{None, ap, false, subst, sym, ◌∙◌, ◌≡◌}
+use Rattle.std.proofs.Common.{None, ap, subst, sym, ◌∙◌}
 use Rattle.pana_id.specs.Id.{Id, is_single}
 use Rattle.pana_stamp.specs.declared.stamp.Stamp.{Stamp}
 use Rattle.pana_family.specs.Rows.{row_in}

@@ -1,11 +1,10 @@
-use Rattle.std.proofs.Common.{[], List, Option, ap, sym, ◌++◌, ◌∙◌, ◌∷◌, ◌≡◌, ℕ}
+use Rattle.std.proofs.Common.{List, Option, ap, sym, ◌∙◌, ℕ}
 use Rattle.smallvec.specs.SmallVec.{SmallVec}
 use Rattle.pana_family.specs.Change.{exchanged_all}
 use Rattle.pana_family.specs.Rows.{dropped, put_back}
 use Rattle.pana_family.specs.declared.change.Exchange.{Exchange}
 use Rattle.pana_family.specs.declared.change.Exchange.TheVariants.{Put, Take}
 use Rattle.pana_family.specs.declared.row.StampRow.{StampRow}
-use Rattle.pana_family.specs.declared.settling.Fate.{Fate}
 use Rattle.pana_family.specs.inner.Making.{left_of, planned}
 use Rattle.pana_family.proofs.Places.{in_read}
 use Rattle.pana_family.proofs.Planned.{exchanged_more, one_becomes, one_goes, one_stays, planned_named}

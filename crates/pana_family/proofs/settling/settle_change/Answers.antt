@@ -1,4 +1,4 @@
-use Rattle.std.proofs.Common.{None, Option, [], List, Some, ap, arith, subst, sym, ◌++◌, ◌∙◌, ◌∷◌, ◌≡◌}
+use Rattle.std.proofs.Common.{Option, List, ap, arith, subst, sym, ◌++◌, ◌∙◌, ◌≡◌}
 use Rattle.std.specs.List.{filter_map}
 use Rattle.std.specs.Option.{option_to_list}
 use Rattle.std.specs.Prelude.{IfSome}
