@@ -80,9 +80,13 @@ def names_and_texts(unpacked, version, kit):
     help_text = scenario.read(scenario.FOLDER / "help").runs[0].output.decode()
     yield from (f"panad.1 lacks the command {it}" for it in COMMAND.findall(help_text) if it not in manual)
     said = dict(it.split(None, 1) for it in (unpacked / "BUILT-FROM").read_text().splitlines())
-    sums = {"sources": (TOP / ".build/stamp").read_text().split()[0]}
+    sum, built_by = (TOP / ".build/stamp").read_text().splitlines()
+    # the version names the kit's line, without the letter behind its number
+    if re.sub(r"^(rattle-kit-\d+)[a-z]\b", r"\1", built_by) != kit:
+        yield f"it was built by {built_by}, and the version names {kit}"
+    sums = {"sources": sum.split()[0]}
     sums["program"] = subprocess.run(["sha256sum", unpacked / "panad"], capture_output=True, text=True).stdout.split()[0]
-    if said != {"version": version, "kit": kit, **sums}:
+    if said != {"version": version, "kit": built_by, **sums}:
         yield f"BUILT-FROM says {said}"
 
 
