@@ -270,7 +270,17 @@ def named_in_pages():
                     yield f"{named(page)}:{number} names {name}, which is not there"
 
 
-CHECKS = (long_sources, crates_and_folders, crate_folders, dead_links, citations, dialect, edits, uncited_lemmas, untried_names, named_in_pages, kit_line)
+def shown_and_run():
+    """The machine on the page of pana_turn is the one that its tests run."""
+    page, tests = TOP / "crates/pana_turn/README.md", TOP / "crates/pana_clock_tests/src/turn.rt"
+    shown = re.search(r"```rust\n(.*?)```", page.read_text(encoding="utf-8"), re.DOTALL)
+    if not shown:
+        yield f"{named(page)} has no example"
+    elif shown[1] not in tests.read_text(encoding="utf-8"):
+        yield f"the first example of {named(page)} doesn't stand in {named(tests)}"
+
+
+CHECKS = (long_sources, crates_and_folders, crate_folders, dead_links, citations, dialect, edits, uncited_lemmas, untried_names, named_in_pages, shown_and_run, kit_line)
 
 
 def main():

@@ -5,9 +5,8 @@ usage: each_test.py MODULE..
 
 A module stands in one of the crates OF_TESTS, as src/MODULE.rt; one that stands in none of them has failed.
 A test passes with no failed allocation. With one it ends with an error that says so, AllocError, AllocFailed
-or OutOfMemory: not with another answer, a failed assertion or a crash. A test of STARTS_THREADS may also pass: a
-thread that can't be made, as memory runs out, is done without. What a test leaves in the folder for temporary files
-is taken away. Of a test with more than MOST allocations, MOST fail in turn, evenly spread. The tests are those that
+or OutOfMemory: not with another answer, a failed assertion or a crash. What a test leaves in the folder for temporary
+files is taken away. Of a test with more than MOST allocations, MOST fail in turn, evenly spread. The tests are those that
 `rt ci` or `rt test` has built.
 The last line is 'N passed, M failed', one for each module.
 """
@@ -29,7 +28,6 @@ PROCESSES = 4
 SECONDS = 60
 SHOWN = 5
 MOST = 2000
-STARTS_THREADS = {"turn::two_threads"}
 LISTED = re.compile(r"^(\S+): test$", re.MULTILINE)
 OUT_OF_MEMORY = re.compile(rb"error: (AllocError|AllocFailed \{ \.\. \}|OutOfMemory|Kind\(OutOfMemory\))\nthe test failed: its result gives status 1\n")
 
@@ -62,8 +60,6 @@ def fault_of(program, test, library, at):
         return f"allocation {at} failed: {fault}"
     if failed != 1:
         return f"allocation {at} is never asked for"
-    if test in STARTS_THREADS and status == 0 and not error:
-        return None
     if status == 0 or not OUT_OF_MEMORY.fullmatch(error):
         return f"allocation {at} failed: it ended with status {status} and {error[:200]!r}"
     return None

@@ -1,4 +1,4 @@
-//! The tests of the clocks, families, names, places and kept lines: what no clause says of their calls.
+//! The tests of the clocks, families, names, places, kept lines and desks: what no clause says of their calls.
 #![tactic(auto)]
 
 #[cfg(test)]
@@ -19,3 +19,5 @@ mod rel;
 mod stamp;
 #[cfg(test)]
 mod text;
+#[cfg(test)]
+mod turn;

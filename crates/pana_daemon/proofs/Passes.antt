@@ -10,7 +10,8 @@ use Rattle.pana_hall.specs.Run.{Exchange}
 use Rattle.pana_scan.specs.declared.scan_fault.ScanFault.{ScanFault}
 use Rattle.pana_scan.specs.Listing.{Contents}
 use Rattle.pana_turn.specs.Closing.{HasAll, LacksOne, has_pass}
-use Rattle.pana_turn.specs.Passes.{DeskId, PassView, new_pass, new_passes}
+use Rattle.pana_turn.specs.Passes.{new_pass, new_passes}
+use Rattle.pana_host.specs.Desk.{DeskId, PassView}
 use Rattle.pana_host.specs.declared.scanners.Scanner.{Scanner}
 use Rattle.pana_host.specs.declared.scanning.ScanTally.{ScanTally}
 use Rattle.pana_host.specs.Listen.{AreOf, HaveGrown}
@@ -20,7 +21,11 @@ use Rattle.pana_host.specs.Session.{GetsNone, GrowsTo, MakesCall}
 use Rattle.pana_host.proofs.Sessions.{grows_on, grows_same, call_grows, none_grows}
 use Rattle.pana_daemon.specs.Serve.{passes_of}
 
-of_numbers : (desk : DeskId) (numbers : List ℕ) → AreOf desk (map (new_pass desk) numbers)
+-- new passes with these numbers
+abbrev numbered : DeskId → List ℕ → List PassView
+numbered desk numbers = map (new_pass desk) numbers
+
+of_numbers : (desk : DeskId) (numbers : List ℕ) → AreOf desk (numbered desk numbers)
 of_numbers desk [] = tt
 of_numbers desk (number ∷ numbers) = (refl, of_numbers desk numbers)
 
@@ -42,19 +47,19 @@ same_number : (n : ℕ) → (n == n) ≡ true
 same_number n = grind (arith, nat_tests)
 
 -- passes numbered from a number on have each of these numbers
-numbered_have : (desk : DeskId) (first count k : ℕ) → k < count → has_pass (map (new_pass desk) (range_with_len first count)) (first + k) ≡ true
+numbered_have : (desk : DeskId) (first count k : ℕ) → k < count → has_pass (numbered desk (range_with_len first count)) (first + k) ≡ true
 numbered_have desk first zero k within = absurd (omega (arith, within))
 numbered_have desk first (suc count) zero within =
     let same : first + 0 ≡ first = omega arith in
     or_left (first == first + 0) _ (ap (λ n. first == n) same ∙ same_number first)
 numbered_have desk first (suc count) (suc k) within =
     let same : first + suc k ≡ (first + 1) + k = omega arith in
-    or_right (first == first + suc k) _ (ap (λ n. has_pass (map (new_pass desk) (range_with_len (first + 1) count)) n) same ∙ numbered_have desk (first + 1) count k (omega (arith, within)))
+    or_right (first == first + suc k) _ (ap (λ n. has_pass (numbered desk (range_with_len (first + 1) count)) n) same ∙ numbered_have desk (first + 1) count k (omega (arith, within)))
 
 -- a new desk has all its passes
 pub new_all : (desk : DeskId) (seats : ℕ) (passes : List PassView) → passes ≡ new_passes desk seats → HasAll seats passes
 new_all desk seats passes is = subst (HasAll seats) (sym is) (λ number within.
-    let same : 0 + number ≡ number = omega arith in subst (λ n. has_pass (new_passes desk seats) n ≡ true) same (numbered_have desk 0 seats number within))
+    let same : 0 + number ≡ number = omega arith in subst (λ n. has_pass (numbered desk (range_with_len 0 seats)) n ≡ true) same (numbered_have desk 0 seats number within))
 
 -- passes that have grown are of the same desk, and have the same numbers
 pub grown_of : (desk : DeskId) (olds news : List PassView) → HaveGrown olds news → AreOf desk olds → AreOf desk news

@@ -6,7 +6,7 @@ use denote.Param.SendFields.{declared_send}
 use denote.Param.Send.{IsSend, IsSync, sendable, shr_send}
 use Rattle.std.proofs.rt.LibcRuntime.TheSendSync as runtime
 use Rattle.std.proofs.option.Option.TheSendSync as options
-use Rattle.pana_turn.proofs.Sending.{desk_sync}
+use Rattle.pana_host.proofs.Sending.{desk_sync}
 use Rattle.pana_host.proofs.Sending.{scanner_send}
 use Rattle.pana_host.proofs.listening.Entrance.TheSendSync as entrances
 use Rattle.pana_host.specs.contracts.scanners.Scanner as scanner

@@ -1,17 +1,17 @@
--- What a daemon leaves of the hall that all share.
+-- What a daemon leaves of the store that all share.
 use Rattle.std.specs.Prelude.{◌≡◌, ◌<◌, ℕ, All, List, length, map}
-use Rattle.pana_turn.specs.declared.finished_call.FinishedCall.{FinishedCall}
-use Rattle.pana_turn.specs.Hall.{HallView}
-use Rattle.pana_turn.specs.History.{IsHistory, hall_of}
-use Rattle.pana_turn.specs.Passes.{PassView}
+use Rattle.pana_turn.specs.History.{IsHistory, left_by}
+use Rattle.pana_kept.specs.Store.{StoreView, StoreSteps}
+use Rattle.pana_kept.specs.Histories.{Finished}
+use Rattle.pana_host.specs.Desk.{PassView}
 use Rattle.pana_host.specs.declared.scanners.Scanner.{Scanner}
 
--- the hall and the number of calls are those that one history leaves, from the hall that the daemon began with; each of
+-- the store and the number of calls are those that one history leaves, from the store that the daemon began with; each of
 -- its calls was made by one of the passes, numbered from 0
-pub record Ends (seats : ℕ) (begun hall : HallView) (calls : ℕ) : Type 0 where
-  pub history : List FinishedCall
-  pub run : IsHistory begun history
-  pub left : hall ≡ hall_of begun history
+pub record Ends (seats : ℕ) (begun store : StoreView) (calls : ℕ) : Type 0 where
+  pub history : List Finished
+  pub run : IsHistory StoreSteps begun history
+  pub left : store ≡ left_by begun history
   pub counted : calls ≡ length history
   pub passes : All (λ finished. finished.pass < seats) history
 

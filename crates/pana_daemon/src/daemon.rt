@@ -10,7 +10,8 @@ use crate::running::can_run;
 use crate::signals::Signals;
 use crate::standard_input::StandardInput;
 use pana_host::{DeskSession, Entrance, Scanner, listen, scan_all};
-use pana_turn::{Closed, Desk, DeskHall, Pass};
+use pana_kept::Store;
+use pana_turn::{Closed, Desk, Pass};
 use std::alloc::{AllocError, Global};
 use std::marker::Sync;
 use std::net::SocketAddr;
@@ -32,7 +33,7 @@ type RootScanner<'a, 'b, T> = Scanner<'a, T, Alarm<'b>, RootFolder<'a, T>>;
 /// Where connections come in, the desk that they are served at, and who is asked about each call.
 #[derive(Drop)]
 struct Front<'d, 'g, 'r> {
-    desk: &'d Desk,
+    desk: &'d Desk<Store>,
     entrance: Entrance,
     gate: &'g Alarm<'r>,
 }
@@ -74,11 +75,11 @@ fn alarm_of<'a>(
 fn scanners<'a, 'b, T>(
     rt: &'a HostRuntime,
     threads: &'a T,
-    desk: &'a Desk,
+    desk: &'a Desk<Store>,
     gate: &'a Alarm<'b>,
     signals: &'a Signals,
     roots: &'a [Root<'a>],
-    passes: Vec<Pass>,
+    passes: Vec<Pass<Store>>,
 ) -> Result<Vec<RootScanner<'a, 'b, T>>, AllocError>
     requires of { AreOf desk.now.id passes.items }
     requires enough { length passes.items ≡ length roots.now }
@@ -101,7 +102,7 @@ fn scanners<'a, 'b, T>(
 }
 
 /// The scanners' passes, in order. Takes no memory where there is room for them.
-fn take_passes<T>(scanners: Vec<RootScanner<'_, '_, T>>, passes: &mut Vec<Pass>)
+fn take_passes<T>(scanners: Vec<RootScanner<'_, '_, T>>, passes: &mut Vec<Pass<Store>>)
     requires empty { length passes.old.items ≡ 0 }
     requires room { length scanners.items ≤ vec_capacity passes.old }
     ensures passes { passes.new.items ≡ passes_of scanners.entry.items }
@@ -117,8 +118,8 @@ fn scan<T: Threads + Wait + Clock + Sync>(
     threads: &T,
     alloc: Global,
     mut scanners: Vec<RootScanner<'_, '_, T>>,
-    mut back: Vec<Pass>,
-) -> Vec<Pass>
+    mut back: Vec<Pass<Store>>,
+) -> Vec<Pass<Store>>
     requires empty { length back.items ≡ 0 }
     requires room { length scanners.items ≤ vec_capacity back }
     ensures passes { HaveGrown (passes_of scanners.entry.items) result.items }
@@ -145,8 +146,8 @@ fn scan_by_newlines<T: Threads + Wait + Clock + Sync>(
     signals: &Signals,
     alarm: &Alarm<'_>,
     scanners: Vec<RootScanner<'_, '_, T>>,
-    back: Vec<Pass>,
-) -> Vec<Pass>
+    back: Vec<Pass<Store>>,
+) -> Vec<Pass<Store>>
     requires empty { length back.items ≡ 0 }
     requires room { length scanners.items ≤ vec_capacity back }
     ensures passes { HaveGrown (passes_of scanners.entry.items) result.items }
@@ -172,8 +173,8 @@ fn serve_connections<T: Threads + Wait + Clock + Sync>(
     threads: &T,
     alloc: Global,
     front: Front<'_, '_, '_>,
-    passes: Vec<Pass>,
-) -> (bool, Vec<Pass>)
+    passes: Vec<Pass<Store>>,
+) -> (bool, Vec<Pass<Store>>)
     requires few { length passes.items ≤ 64 }
     requires of { AreOf front.desk.now.id passes.items }
     ensures { HaveGrown passes.items result.1.items }
@@ -195,10 +196,10 @@ fn serve_and_scan<T: Threads + Wait + Clock + Sync>(
     threads: &T,
     signals: &Signals,
     front: Box<Front<'_, '_, '_>>,
-    others: Vec<Pass>,
+    others: Vec<Pass<Store>>,
     scanners: Vec<RootScanner<'_, '_, T>>,
-    back: Vec<Pass>,
-) -> ((bool, Vec<Pass>), Vec<Pass>)
+    back: Vec<Pass<Store>>,
+) -> ((bool, Vec<Pass<Store>>), Vec<Pass<Store>>)
     requires few { length others.items ≤ 64 }
     requires of { AreOf front.value.desk.now.id others.items }
     requires empty { length back.items ≡ 0 }
@@ -210,7 +211,7 @@ fn serve_and_scan<T: Threads + Wait + Clock + Sync>(
     let (alloc, alarm) = (rt.alloc(), front.gate);
     thread::join(
         threads,
-        move || -> (bool, Vec<Pass>)
+        move || -> (bool, Vec<Pass<Store>>)
             requires { (length others.items ≤ 64) × AreOf front.value.desk.now.id others.items }
             ensures { HaveGrown others.items result.1.items }
         { serve_connections(threads, alloc, Box::into_inner(front), others) },
@@ -247,19 +248,19 @@ fn look_back(has_listened: bool, signals: &Signals, gate: &Alarm<'_>) -> Result<
     Ok(())
 }
 
-/// Prints where it listens, and then serves the listener's connections at a desk with this hall, 16 at a time, and scans
+/// Prints where it listens, and then serves the listener's connections at a desk with this store, 16 at a time, and scans
 /// the roots: each by a thread of its own, at the start and after newlines on standard input. It ends once as many
 /// connections were taken as are wanted, these have ended and, where there is a root, standard input has ended too; where
-/// no number is given, only where the hall's file fails and it isn't to stay: it takes no further connection then, closes
+/// no number is given, only where the store's file fails and it isn't to stay: it takes no further connection then, closes
 /// those that are open still after 5 to 10 seconds, and doesn't wait for standard input. Then it closes the desk, and
-/// returns the hall, with the number of calls that were made.
+/// returns the store, with the number of calls that were made.
 ///
 /// # Errors
 ///
 /// `OutOfMemory`, before a connection is taken; `NoThreads`, before anything is printed, or where threads can't be made
 /// after all, some ten seconds later, before a connection is taken or a folder is read; `NoDescriptor`, before anything is
 /// printed; `Write`;
-/// `Unanswered` at the end, where the hall's file has failed. That is printed once it has.
+/// `Unanswered` at the end, where the store's file has failed. That is printed once it has.
 pub fn serve<'a, T: Threads + Wait + Clock + Sync>(
     rt: &'a HostRuntime,
     threads: &'a T,
@@ -267,13 +268,13 @@ pub fn serve<'a, T: Threads + Wait + Clock + Sync>(
     entrance: Entrance,
     stays: bool,
     roots: &'a [Root<'a>],
-    hall: DeskHall,
-) -> Result<Closed, DaemonFault>
+    store: Store,
+) -> Result<Closed<Store>, DaemonFault>
     requires few { length roots.now ≤ 8 }
-    ensures closed { IfOk result (λ closed. Ends (16 + length roots.now) hall closed.hall closed.calls) }
+    ensures closed { IfOk result (λ closed. Ends (16 + length roots.now) store closed.machine closed.calls) }
 {
     let alloc = rt.alloc();
-    let (desk, mut passes) = Desk::open_with(alloc, SESSIONS + roots.len() as u32, hall)?;
+    let (desk, mut passes) = Desk::open(alloc, SESSIONS + roots.len() as u32, store)?;
     let room = Vec::with_capacity(alloc, passes.len())?;
     let others = passes.split_off(roots.len())?;
     let signals = Signals::new(roots.len());

@@ -1,4 +1,4 @@
-//! The tests of the kept hall, of the desk and of the threads at it: what no clause says of their calls.
+//! The tests of the kept hall, of a store at a desk and of the threads at it: what no clause says of their calls.
 #![tactic(auto)]
 
 #[cfg(test)]
@@ -6,4 +6,4 @@ mod host;
 #[cfg(test)]
 mod kept;
 #[cfg(test)]
-mod turn;
+mod store;

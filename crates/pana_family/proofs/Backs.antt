@@ -1,7 +1,8 @@
 -- Rows that are put back.
 use Rattle.std.specs.Prelude.{fold, count_by, ◌≡◌, ◌≢◌, ℕ, ◌≤◌, ◌+◌, true, false, ◌==◌, nat_lt, cond, List, [], ◌∷◌, length}
-use Rattle.std.proofs.Common.{refl, sym, ap, subst, ◌∙◌, inl, inr, arith}
-use Rattle.std.proofs.lemmas.Bool.{eqb-true, eqb-false, ltb-true, ltb-false}
+use Rattle.std.proofs.Common.{refl, sym, ◌∙◌, inl, inr, arith}
+use Rattle.std.proofs.lemmas.Bool.{eqb-false, ltb-true, ltb-false}
+use Rattle.std.proofs.lemmas.Bool.Decides.{nat_tests}
 use Rattle.pana_family.specs.declared.row.StampRow.{StampRow}
 use Rattle.pana_family.specs.Table.{In}
 use Rattle.pana_family.specs.Holders.{is_copy}
@@ -21,22 +22,16 @@ same_rows low (x ∷ xs) (y ∷ ys) up down to from =
         | inr j ↦ absurd (omega (arith, above_low (y.copy + 1) ys x down.1 i, above_low (x.copy + 1) xs y up.1 j))
       ]
     ] in
-    let tail : xs ≡ ys = same_rows (x.copy + 1) xs ys up.1 (subst (λ (w : StampRow). IsRising (w.copy + 1) ys) (sym head) down.1)
-    (λ r i. elim (to r (inr i)) [
-      | inl e ↦ absurd (omega (arith, above_low (x.copy + 1) xs r up.1 i, ap (λ (w : StampRow). w.copy) (e ∙ sym head)))
-      | inr j ↦ j
-    ])
-    (λ r i. elim (from r (inr i)) [
-      | inl e ↦ absurd (omega (arith, above_low (y.copy + 1) ys r down.1 i, ap (λ (w : StampRow). w.copy) (e ∙ head)))
-      | inr j ↦ j
-    ]) in
-    ap (λ (w : StampRow). w ∷ xs) head ∙ ap (λ (l : List StampRow). y ∷ l) tail
+    let tail : xs ≡ ys = same_rows (x.copy + 1) xs ys up.1 (grind (arith, nat_tests))
+    (λ r i. grind (arith, nat_tests, above_low))
+    (λ r i. grind (arith, nat_tests, above_low)) in
+    grind (arith, nat_tests)
 
 pub rising_put : (low : ℕ) (x : StampRow) (rows : List StampRow) → IsRising low rows → low ≤ x.copy → IsRising low (put_back x rows)
 rising_put low x [] up least = (least, tt)
 rising_put low x (r ∷ rows) up least =
     elim (r.copy == x.copy) as (λ b. (r.copy == x.copy) ≡ b → IsRising low (cond b (x ∷ rows) (cond (nat_lt x.copy r.copy) (x ∷ (r ∷ rows)) (r ∷ put_back x rows)))) [
-      | true ↦ λ w. (least, subst (λ (k : ℕ). IsRising (k + 1) rows) (eqb-true r.copy x.copy w) up.1)
+      | true ↦ λ w. grind (arith, nat_tests)
       | false ↦ λ w. elim (nat_lt x.copy r.copy) as (λ b. nat_lt x.copy r.copy ≡ b → IsRising low (cond b (x ∷ (r ∷ rows)) (r ∷ put_back x rows))) [
         | true ↦ λ v. (least, (omega (arith, ltb-true x.copy r.copy v), up.1))
         | false ↦ λ v. let ne : r.copy ≢ x.copy = eqb-false r.copy x.copy w in (up.0, rising_put (r.copy + 1) x rows up.1 (omega (arith, ltb-false x.copy r.copy v, ne)))
@@ -47,9 +42,7 @@ rising_put low x (r ∷ rows) up least =
 
 count_from : (s : ℕ) (rows : List StampRow) → fold (λ a r. a + cond (is_copy r.holder) 1 0) s rows ≡ s + length (copy_rows rows)
 count_from s [] = omega arith
-count_from s (r ∷ rows) =
-    count_from (s + cond (is_copy r.holder) 1 0) rows
-    ∙ elim (is_copy r.holder) as (λ b. s + cond b 1 0 + length (copy_rows rows) ≡ s + length (cond b (r ∷ copy_rows rows) (copy_rows rows))) [ true ↦ omega arith | false ↦ omega arith ]
+count_from s (r ∷ rows) = grind (arith, nat_tests, count_from (s + cond (is_copy r.holder) 1 0) rows)
 
 pub count_is : (rows : List StampRow) → count_by (λ r. is_copy r.holder) rows ≡ length (copy_rows rows)
 count_is rows = count_from 0 rows ∙ omega arith

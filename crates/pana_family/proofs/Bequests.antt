@@ -1,7 +1,8 @@
 -- A copy goes, and its heir holds it as a parcel, and what it held, and is settled.
 use Rattle.std.specs.Prelude.{◌≡◌, ◌≢◌, ℕ, Bool, true, false, cond, not, ◌&&◌, ◌||◌, ◌==◌, List, [], ◌∷◌, Option, Some, None}
 use Rattle.std.proofs.Common.{refl, sym, ap, subst, ◌∙◌, inl, inr, arith}
-use Rattle.std.proofs.lemmas.Bool.{and_parts, both_ways, cases_Bool, eq-eqb, eqb-false, eqb-true, ne_eqb, or_from}
+use Rattle.std.proofs.lemmas.Bool.{and_parts, both_ways, cases_Bool, eq-eqb}
+use Rattle.std.proofs.lemmas.Bool.Decides.{nat_tests}
 use Rattle.pana_event.specs.Event.{Event}
 use Rattle.pana_event.specs.Order.{is_leq}
 use Rattle.pana_event.proofs.Orders.{leq-is-below}
@@ -16,11 +17,11 @@ use Rattle.pana_family.specs.Rows.{AreBefore, IsRising, stamp, with_ids, AreSoun
 use Rattle.pana_family.specs.Kept.{IsKept}
 use Rattle.pana_family.specs.After.{bequeathed, ends, is_bound, parcel_row, settled}
 use Rattle.pana_family.specs.inner.Making.{CanGather, IsRowOf, passed_row}
-use Rattle.pana_family.proofs.Sound.{Sound, Renumbered, renumbered}
+use Rattle.pana_family.proofs.Sound.{Sound, Renumbered}
 use Rattle.pana_family.proofs.Sums.{Gathered, gathers, within_is}
-use Rattle.pana_family.proofs.Members.{Holds, held, holds_found, not_held, one_known, one_row, set_of, to_sound}
-use Rattle.pana_family.proofs.Tables.{comes_known, made_known, pass, passed_heir, unless}
-use Rattle.pana_family.proofs.Images.{Alike, Outcome, some, none, alike_row, stay_outcome}
+use Rattle.pana_family.proofs.Members.{Holds, held, holds_found, one_known, one_row, set_of, to_sound}
+use Rattle.pana_family.proofs.Tables.{comes_known, made_known, pass, passed_heir}
+use Rattle.pana_family.proofs.Images.{Alike, Outcome, some, alike_row, stay_outcome}
 
 -- the rows of a copy that goes with entry n, and of its heir
 pub record AreHeirs (rows : List StampRow) (n c h : ℕ) (r q : StampRow) : Type 0 where
@@ -35,14 +36,11 @@ number n c z = cond (z.copy == c) n z.copy
 
 -- a copy doesn't end, but for the removed one
 free_ends : (c h : ℕ) (e : Event) (z : StampRow) → z.holder ≡ None → z.copy ≢ c → ends (Some c) h e z ≡ false
-free_ends c h e z free differ =
-    ap (λ (b : Bool). b && is_leq z.stamp.event e) (or_from (is_bound (Some c) z) (is_held h z.holder) (or_from (z.copy == c) (is_held c z.holder) (ne_eqb z.copy c differ) (not_held c z.holder free)) (not_held h z.holder free))
+free_ends c h e z free differ = grind (arith, nat_tests)
 
 -- what ends isn't the heir
 not_heir : (rows : List StampRow) (n c h : ℕ) (r q z : StampRow) → AreHeirs rows n c h r q → In z rows → ends (Some c) h q.stamp.event z ≡ true → z.copy ≢ h
-not_heir rows n c h r q z w i t e =
-    both_ways (ends (Some c) h q.stamp.event q) (free_ends c h q.stamp.event q w.heir.free (λ f. w.differ (sym w.heir.named ∙ f)))
-    (ap (ends (Some c) h q.stamp.event) (sym (one_row 0 rows z q w.rising i w.heir.there (e ∙ sym w.heir.named))) ∙ t)
+not_heir rows n c h r q z w i t e = grind (arith, nat_tests, free_ends, one_row)
 
 pub heir_gather : (rows : List StampRow) (n c h : ℕ) (r q : StampRow) → IsKept rows → AreSound rows → AreHeirs rows n c h r q → CanGather (Some c) rows h q.stamp
 heir_gather rows n c h r q k fine w = record {
@@ -51,23 +49,14 @@ heir_gather rows n c h r q k fine w = record {
 }
 
 number_same : (rows : List StampRow) (n c h : ℕ) (r q y z : StampRow) → AreHeirs rows n c h r q → In y rows → In z rows → number n c y ≡ number n c z → y ≡ z
-number_same rows n c h r q y z w i j e = elim (cases_Bool (y.copy == c)) [
-  | inl a ↦ elim (cases_Bool (z.copy == c)) [
-    | inl b ↦ one_row 0 rows y z w.rising i j (eqb-true y.copy c a ∙ sym (eqb-true z.copy c b))
-    | inr b ↦ absurd (omega (arith, (w.before z j).0, sym (ap (λ (v : Bool). cond v n y.copy) a) ∙ e ∙ ap (λ (v : Bool). cond v n z.copy) b))
-  ]
-  | inr a ↦ elim (cases_Bool (z.copy == c)) [
-    | inl b ↦ absurd (omega (arith, (w.before y i).0, sym (ap (λ (v : Bool). cond v n y.copy) a) ∙ e ∙ ap (λ (v : Bool). cond v n z.copy) b))
-    | inr b ↦ one_row 0 rows y z w.rising i j (sym (ap (λ (v : Bool). cond v n y.copy) a) ∙ e ∙ ap (λ (v : Bool). cond v n z.copy) b)
-  ]
-]
+number_same rows n c h r q y z w i j e = grind (arith, nat_tests, one_row)
 
 heir_number : (rows : List StampRow) (n c h : ℕ) (r q : StampRow) → AreHeirs rows n c h r q → number n c q ≡ h
-heir_number rows n c h r q w = ap (λ (b : Bool). cond b n q.copy) (ne_eqb q.copy c (λ e. w.differ (sym w.heir.named ∙ e))) ∙ w.heir.named
+heir_number rows n c h r q w = grind (arith, nat_tests)
 
 -- the heir's number is another's
 number_other : (rows : List StampRow) (n c h : ℕ) (r q z : StampRow) → AreHeirs rows n c h r q → In z rows → z.copy ≢ h → number n c z ≢ h
-number_other rows n c h r q z w i ne e = ne (ap (λ (v : StampRow). v.copy) (number_same rows n c h r q z q w i w.heir.there (e ∙ sym (heir_number rows n c h r q w))) ∙ w.heir.named)
+number_other rows n c h r q z w i ne e = grind (arith, nat_tests)
 
 -- What copies hold.
 
@@ -82,7 +71,7 @@ pub bequeathed_sound : (rows : List StampRow) (table : List Known) (n c h : ℕ)
 bequeathed_sound rows table n c h r q fine w st =
     let heir = alike_row rows table st.same q w.heir.there in
     gathers (Wrapped rows table n c) h q.stamp heir.0.set rows (number n c) (ends (Some c) h q.stamp.event) fine (fine q w.heir.there).0
-    (renumbered (Holds rows table) (λ k. cond (k == c) n k) (to_sound rows table st)) (q.copy, held rows table q heir.0 w.heir.there heir.1 heir.2.copy, heir_number rows n c h r q w)
+    (grind (arith, nat_tests)) (q.copy, held rows table q heir.0 w.heir.there heir.1 heir.2.copy, heir_number rows n c h r q w)
     (λ z i t. let k = alike_row rows table st.same z i in record {
       other = number_other rows n c h r q z w i (not_heir rows n c h r q z w i t);
       set = k.0.set;
@@ -103,8 +92,7 @@ kept_holds rows table n c h r q z t w i j same ne stays = inr (
 
 -- the heir holds what it held, and what the copy held
 passed_held : (c h : ℕ) (o : Option ℕ) → is_held h (passed c h o) ≡ (is_held c o || is_held h o)
-passed_held c h None = refl
-passed_held c h (Some k) = elim (k == c) as (λ b. is_held h (cond b (Some h) (Some k)) ≡ (b || (k == h))) [ true ↦ eq-eqb h h refl | false ↦ refl ]
+passed_held c h o = grind (arith, nat_tests)
 
 -- a row's event is below the heir's exactly where its set is within the heir's
 within_heir : (rows : List StampRow) (table : List Known) (n c h : ℕ) (r q z : StampRow) (t : Known) → AreSound rows → AreHeirs rows n c h r q → StandsFor rows table → In z rows → In t table → z.copy ≡ t.copy
@@ -121,9 +109,8 @@ heir_outcome rows table n c h r q t w j like =
     let other : t.copy ≢ c = λ e. w.differ (sym w.heir.named ∙ like.copy ∙ e) in
     let x : StampRow = settled (Some c) rows q.stamp q.touch q in
     let rest : Option StampRow = cond (q.copy == c || ends (Some c) h q.stamp.event q) None (Some (passed_row c h q)) in
-    some x (pass c h t) (ap (λ (b : Bool). cond b (Some x) rest) (eq-eqb q.copy h w.heir.named))
-    (ap (λ (b : Bool). cond b None (unless (over h (set_in table h) (pass c h t)) (pass c h t))) (ne_eqb t.copy c other)
-    ∙ ap (λ (o : Option ℕ). unless (is_held h o && is_within t.set (set_in table h)) (pass c h t)) still)
+    some x (pass c h t) (grind (arith, nat_tests))
+    (grind (arith, nat_tests))
     record { copy = like.copy; touch = like.touch; holder = w.heir.free ∙ sym still }
     (inl (w.heir.named, ap (λ (k : ℕ). stamp (with_ids (ends (Some c) k q.stamp.event) q.stamp.id rows) q.stamp.event) w.heir.named, (q.copy, held rows table q t w.heir.there j like.copy, heir_number rows n c h r q w)))
 
@@ -138,20 +125,20 @@ bequeathed_outcome rows table n c h r q fine w st z t i j like =
     let out : Bool = over h (set_in table h) k in
     elim (cases_Bool (z.copy == h)) [
       | inl f ↦
-          let is : z ≡ q = one_row 0 rows z q w.rising i w.heir.there (eqb-true z.copy h f ∙ sym w.heir.named) in
+          let is : z ≡ q = grind (arith, nat_tests, one_row) in
           subst (λ (v : StampRow). Outcome P (bequeathed c h e rows v) (made_known n (Remove c (Some h)) table t)) (sym is) (heir_outcome rows table n c h r q t w j (subst (λ (v : StampRow). Alike v t) is like))
       | inr not_h ↦
-          let first : bequeathed c h e rows z ≡ cond (z.copy == c || ends (Some c) h e z) None (Some y) = ap (λ (b : Bool). cond b (Some x) (cond (z.copy == c || ends (Some c) h e z) None (Some y))) not_h in
+          let first : bequeathed c h e rows z ≡ cond (z.copy == c || ends (Some c) h e z) None (Some y) = grind (arith, nat_tests) in
           elim (cases_Bool (z.copy == c)) [
-            | inl f ↦ none (first ∙ ap (λ (b : Bool). cond (b || ends (Some c) h e z) None (Some y)) f) (ap (λ (b : Bool). cond b None (unless out k)) (ap (λ (m : ℕ). m == c) (sym like.copy) ∙ f))
+            | inl f ↦ grind (arith, nat_tests)
             | inr not_c ↦
                 let same : ends (Some c) h e z ≡ out =
                 ap (λ (b : Bool). ((b || is_held c z.holder) || is_held h z.holder) && is_leq z.stamp.event e) not_c ∙ ap (λ (b : Bool). b && is_leq z.stamp.event e) (sym (passed_held c h z.holder))
                 ∙ ap (λ (o : Option ℕ). is_held h (passed c h o) && is_leq z.stamp.event e) like.holder ∙ ap (λ (b : Bool). is_held h k.holder && b) (within_heir rows table n c h r q z t fine w st i j like.copy) in
-                subst (λ (o : Option StampRow). Outcome P o (made_known n (Remove c (Some h)) table t)) (sym (first ∙ ap (λ (b : Bool). cond (b || ends (Some c) h e z) None (Some y)) not_c))
-                (subst (λ (o : Option Known). Outcome P (cond (ends (Some c) h e z) None (Some y)) o) (sym (ap (λ (b : Bool). cond b None (unless out k)) (ap (λ (m : ℕ). m == c) (sym like.copy) ∙ not_c)))
+                subst (λ (o : Option StampRow). Outcome P o (made_known n (Remove c (Some h)) table t)) (grind (arith, nat_tests))
+                (subst (λ (o : Option Known). Outcome P (cond (ends (Some c) h e z) None (Some y)) o) (grind (arith, nat_tests))
                 (stay_outcome P (ends (Some c) h e z) out y k same record { copy = like.copy; touch = like.touch; holder = ap (passed c h) like.holder }
-                (λ stays. subst (λ (m : ℕ). P m z.stamp t.set) (ap (λ (b : Bool). cond b n z.copy) not_c) (kept_holds rows table n c h r q z t w i j like.copy (eqb-false z.copy h not_h) stays))))
+                (λ stays. subst (λ (m : ℕ). P m z.stamp t.set) (ap (λ (b : Bool). cond b n z.copy) not_c) (grind (arith, nat_tests, kept_holds)))))
           ]
     ]
 
@@ -165,7 +152,7 @@ gone_ends : (rows : List StampRow) (table : List Known) (n c h : ℕ) (r q : Sta
     → over h (set_in table h) (pass c h (parcel n h (set_in table c))) ≡ is_leq r.stamp.event q.stamp.event
 gone_ends rows table n c h r q fine w st =
     let t = alike_row rows table st.same r w.gone.there in
-    let own : set_in table c ≡ t.0.set = ap (set_in table) (sym w.gone.named ∙ t.2.copy) ∙ set_of table t.0 (one_known 0 rows table st.same w.rising) t.1 in
+    let own : set_in table c ≡ t.0.set = grind (arith, nat_tests, set_of, one_known) in
     ap (λ (o : Option ℕ). is_held h o && is_within (set_in table c) (set_in table h)) (passed_heir c h) ∙ ap (λ (b : Bool). b && is_within (set_in table c) (set_in table h)) (eq-eqb h h refl)
     ∙ ap (λ (xs : List ℕ). is_within xs (set_in table h)) own ∙ sym (within_heir rows table n c h r q r t.0 fine w st w.gone.there t.1 t.2.copy)
 
@@ -173,14 +160,11 @@ pub parcel_comes : (rows : List StampRow) (table : List Known) (n c h : ℕ) (r 
 parcel_comes rows table n c h r q fine w st =
     let own : Known = pass c h (parcel n h (set_in table c)) in
     subst (λ (b : Bool). AreSame (parcel_left n h r q) (cond (not b) (own ∷ []) [])) (sym (gone_ends rows table n c h r q fine w st))
-    (elim (is_leq r.stamp.event q.stamp.event) as (λ b. AreSame (cond b [] (parcel_row n h r.stamp ∷ [])) (cond (not b) (own ∷ []) [])) [ true ↦ tt | false ↦ (refl, refl, sym (passed_heir c h), tt) ])
+    (grind (arith, nat_tests))
 
 -- there is one only where the copy doesn't end
 pub left_is : (n h : ℕ) (r q x : StampRow) → In x (parcel_left n h r q) → (x ≡ parcel_row n h r.stamp) × (is_leq r.stamp.event q.stamp.event ≡ false)
-left_is n h r q x i = elim (is_leq r.stamp.event q.stamp.event) as (λ b. In x (cond b [] (parcel_row n h r.stamp ∷ [])) → (x ≡ parcel_row n h r.stamp) × (b ≡ false)) [
-  | true ↦ λ never. absurd never
-  | false ↦ λ j. elim j [ inl e ↦ (e, refl) | inr never ↦ absurd never ]
-] i
+left_is n h r q x i = grind (arith, nat_tests)
 
 pub parcel_holds : (rows : List StampRow) (table : List Known) (n c h : ℕ) (r q : StampRow) → AreHeirs rows n c h r q → StandsFor rows table → (x : StampRow) (s : Known) → In x (parcel_left n h r q) → In s (comes_known n (Remove c (Some h)) table)
     → Bequeathed rows table n c h q x.copy x.stamp s.set
@@ -190,11 +174,8 @@ parcel_holds rows table n c h r q w st x s i j =
     let is = left_is n h r q x i in
     let t = alike_row rows table st.same r w.gone.there in
     let at : (r.copy == c) ≡ true = eq-eqb r.copy c w.gone.named in
-    let stays : ends (Some c) h q.stamp.event r ≡ false = ap (λ (b : Bool). ((b || is_held c r.holder) || is_held h r.holder) && is_leq r.stamp.event q.stamp.event) at ∙ is.1 in
-    let set_is : t.0.set ≡ set_in table c = sym (ap (set_in table) (sym w.gone.named ∙ t.2.copy) ∙ set_of table t.0 (one_known 0 rows table st.same w.rising) t.1) in
-    let known : s.set ≡ set_in table c = elim (cases_Bool (over h (set_in table h) own)) [
-      | inl e ↦ absurd (subst (λ (b : Bool). In s (cond (not b) (own ∷ []) [])) e j)
-      | inr e ↦ elim (subst (λ (b : Bool). In s (cond (not b) (own ∷ []) [])) e j) [ inl f ↦ ap (λ (k : Known). k.set) f | inr never ↦ absurd never ]
-    ] in
+    let stays : ends (Some c) h q.stamp.event r ≡ false = grind (arith, nat_tests) in
+    let set_is : t.0.set ≡ set_in table c = grind (arith, nat_tests, set_of, one_known) in
+    let known : s.set ≡ set_in table c = grind (arith, nat_tests) in
     subst (λ (v : StampRow). P v.copy v.stamp s.set) (sym is.0) (subst (P n r.stamp) (set_is ∙ sym known)
     (subst (λ (m : ℕ). P m r.stamp t.0.set) (ap (λ (b : Bool). cond b n r.copy) at) (kept_holds rows table n c h r q r t.0 w w.gone.there t.1 t.2.copy (λ e. w.differ (sym e ∙ w.gone.named)) stays)))

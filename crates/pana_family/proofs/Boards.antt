@@ -1,8 +1,8 @@
 -- Boards of a table of relations and of the table of sets that its rows stand for.
-use Rattle.std.specs.Prelude.{◌≡◌, ◌≢◌, ℕ, Bool, true, false, cond, List, [], ◌∷◌, map, filter, Contains}
+use Rattle.std.specs.Prelude.{◌≡◌, ◌≢◌, ℕ, Bool, true, List, [], ◌∷◌, map, filter, Contains}
 use Rattle.std.specs.List.{AllByRecursion, AllZip}
 use Rattle.std.proofs.Common.{refl, sym, ap, ap₂, subst, ◌∙◌, inl, inr, arith, zero}
-use Rattle.std.proofs.lemmas.Bool.{cases_eq}
+use Rattle.std.proofs.lemmas.Bool.Decides.{nat_tests}
 use Rattle.pana_event.specs.declared.rel.Rel.{Rel}
 use Rattle.pana_event.specs.declared.rel.Rel.TheVariants.{Equal}
 use Rattle.pana_rel.specs.Board.{counts_of, is_split, newest_of}
@@ -27,19 +27,12 @@ use Rattle.pana_family.proofs.Relations.{relates as relates_sets}
 -- Lists side by side.
 
 pub map_same : {A B C : Type 0} (R : A → B → Type 0) (f : A → C) (g : B → C) → ((x : A) (y : B) → R x y → f x ≡ g y) → (xs : List A) (ys : List B) → AllZip R xs ys → map f xs ≡ map g ys
-map_same R f g same [] [] z = refl
-map_same R f g same [] (y ∷ ys) z = absurd z
-map_same R f g same (x ∷ xs) [] z = absurd z
-map_same R f g same (x ∷ xs) (y ∷ ys) z = ap (λ c. c ∷ map f xs) (same x y z.0) ∙ ap (λ l. g y ∷ l) (map_same R f g same xs ys z.1)
+map_same R f g same (x ∷ xs) (y ∷ ys) z = grind (arith, nat_tests, map_same R f g same xs ys z.1)
+map_same R f g same xs ys z = grind (arith, nat_tests)
 
 pub filter_same : {A B : Type 0} (R : A → B → Type 0) (p : A → Bool) (q : B → Bool) → ((x : A) (y : B) → R x y → p x ≡ q y) → (xs : List A) (ys : List B) → AllZip R xs ys → AllZip R (filter p xs) (filter q ys)
-filter_same R p q same [] [] z = tt
-filter_same R p q same [] (y ∷ ys) z = absurd z
-filter_same R p q same (x ∷ xs) [] z = absurd z
-filter_same R p q same (x ∷ xs) (y ∷ ys) z =
-    let rest : AllZip R (filter p xs) (filter q ys) = filter_same R p q same xs ys z.1 in
-    subst (λ (b : Bool). AllZip R (filter p (x ∷ xs)) (cond b (y ∷ filter q ys) (filter q ys))) (same x y z.0)
-    (elim (p x) as (λ b. AllZip R (cond b (x ∷ filter p xs) (filter p xs)) (cond b (y ∷ filter q ys) (filter q ys))) [ true ↦ (z.0, rest) | false ↦ rest ])
+filter_same R p q same (x ∷ xs) (y ∷ ys) z = grind (arith, nat_tests, filter_same R p q same xs ys z.1)
+filter_same R p q same xs ys z = grind (arith, nat_tests)
 
 -- a row and what the table knows of its copy
 abbrev pub OfOne : List StampRow → List Known → StampRow → Known → Type 0
@@ -47,10 +40,8 @@ OfOne rows table r t = In r rows × In t table × (r.copy ≡ t.copy) × (r.hold
 
 pub all_of_one : (rows : List StampRow) (table : List Known) (some : List StampRow) (few : List Known) → ((r : StampRow) → In r some → In r rows) → ((t : Known) → In t few → In t table)
     → AreSame some few → AllZip (OfOne rows table) some few
-all_of_one rows table [] [] f g same = tt
-all_of_one rows table [] (t ∷ few) f g same = absurd same
-all_of_one rows table (r ∷ some) [] f g same = absurd same
-all_of_one rows table (r ∷ some) (t ∷ few) f g same = ((f r (inl refl), g t (inl refl), same.0, same.2), all_of_one rows table some few (λ q i. f q (inr i)) (λ s i. g s (inr i)) same.3)
+all_of_one rows table (r ∷ some) (t ∷ few) f g same = grind (arith, nat_tests, all_of_one rows table some few (λ q i. f q (inr i)) (λ s i. g s (inr i)) same.3)
+all_of_one rows table some few f g same = grind (arith, nat_tests)
 
 -- The two boards.
 
@@ -64,20 +55,12 @@ by_sets table a b = relation (set_in table a) (set_in table b)
 -- the relation that the table of relations beside rows holds of two copies
 pub paired_relation : (rows : List StampRow) (table : List Known) (pairs : Table) (a b : ℕ) → StandsFor rows table → ArePaired rows pairs → lives rows a ≡ true → lives rows b ≡ true → a ≢ b
     → rel_of pairs a b ≡ by_sets table a b
-paired_relation rows table pairs a b st p here there ne =
-    let r = living_at rows a here in
-    let q = living_at rows b there in
-    ap (λ (k : ℕ). rel_of pairs k b) (sym r.2) ∙ ap (rel_of pairs r.0.copy) (sym q.2)
-    ∙ relation_is rows table r.0 q.0 (rel_of pairs r.0.copy q.0.copy) st r.1 q.1 (p.rels r.0 q.0 r.1 q.1 r.3 q.3 (λ e. ne (sym r.2 ∙ e ∙ q.2)))
-    ∙ ap (λ (k : ℕ). by_sets table k q.0.copy) r.2 ∙ ap (by_sets table a) q.2
+paired_relation rows table pairs a b st p here there ne = grind (arith, nat_tests, living_at, relation_is)
 
 -- it holds the relations of the sets
 holds_sets : (rows : List StampRow) (table : List Known) (pairs : Table) → StandsFor rows table → ArePaired rows pairs → ((c : ℕ) → Contains pairs.copies c → rel_of pairs c c ≡ Equal)
     → HoldsAll pairs (by_sets table)
-holds_sets rows table pairs st p itself a b here there = elim (cases_eq a b) [
-  | inl e ↦ ap (rel_of pairs a) (sym e) ∙ itself a here ∙ sym (same_equal (set_in table a)) ∙ ap (by_sets table a) e
-  | inr ne ↦ paired_relation rows table pairs a b st p ((p.copies a).0 here) ((p.copies b).0 there) ne
-]
+holds_sets rows table pairs st p itself a b here there = grind (arith, nat_tests, same_equal, paired_relation)
 
 -- each of a table's copies, and it is in the table
 each_copy : (table ts : List Known) → ((t : Known) → In t ts → In t table) → AllByRecursion (λ t. In t table) ts

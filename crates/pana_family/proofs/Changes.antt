@@ -1,7 +1,8 @@
 -- What rows that stand for a table say of it, the first rows, and reports that change one row or take rows out.
-use Rattle.std.specs.Prelude.{◌≡◌, ◌≢◌, ◌↔◌, ℕ, ◌+◌, ◌<◌, Bool, true, false, ◌||◌, ◌==◌, cond, List, [], ◌∷◌, Option, Some, None}
+use Rattle.std.specs.Prelude.{◌≡◌, ◌≢◌, ◌↔◌, ℕ, ◌+◌, ◌<◌, Bool, true, false, ◌||◌, ◌==◌, cond, List, [], ◌∷◌, Some, None}
 use Rattle.std.proofs.Common.{refl, sym, ap, subst, ◌∙◌, inl, inr, arith}
-use Rattle.std.proofs.lemmas.Bool.{cases_Bool, eq-eqb, eqb-true, eqb-false, ne_eqb}
+use Rattle.std.proofs.lemmas.Bool.{cases_Bool, eqb-true, ne_eqb}
+use Rattle.std.proofs.lemmas.Bool.Decides.{nat_tests}
 use Rattle.pana_id.specs.Id.{is_zero, IsParted, parts}
 use Rattle.pana_event.specs.Event.{leaf, level}
 use Rattle.pana_event.specs.Order.{IsBelow}
@@ -21,8 +22,8 @@ use Rattle.pana_family.specs.Stands.{top, AreSame, StandsFor}
 use Rattle.pana_family.specs.Rows.{IsRising, seed_row}
 use Rattle.pana_family.specs.After.{first_part, lost, made, restamped, second_part, updated_stamp}
 use Rattle.pana_family.specs.inner.Making.{IsRowOf}
-use Rattle.pana_family.proofs.Sound.{Sound, Put, Updated, edit_keeps, share_keeps, below_subset, subset_below}
-use Rattle.pana_family.proofs.Members.{holds_found, Holds, held, one_row, to_sound, unknown_yet, above_low}
+use Rattle.pana_family.proofs.Sound.{Sound, Put, Updated, edit_keeps, below_subset, subset_below}
+use Rattle.pana_family.proofs.Members.{holds_at, holds_found, Holds, held, one_row, to_sound, unknown_yet, above_low}
 use Rattle.pana_family.proofs.Relations.{relates}
 use Rattle.pana_family.proofs.Tables.{made_known}
 use Rattle.pana_family.proofs.Images.{Alike, Outcome, some, one_outcome, stay_outcome}
@@ -66,9 +67,7 @@ only_known : (n : ℕ) (t : Known) → In t (registered n) → t ≡ known n [] 
 only_known n t i = elim i [ inl e ↦ e | inr never ↦ absurd never ]
 
 pub no_update : (n : ℕ) (t : Known) (u : ℕ) → In t (registered n) → has t.set u ≡ true → ⊥
-no_update n t u i m =
-    let none : false ≡ true = sym (ap (λ (w : Known). has w.set u) (only_known n t i)) ∙ m in
-    absurd (cc)
+no_update n t u i m = grind (arith, nat_tests)
 
 pub empty_stands : StandsFor [] []
 empty_stands = record {
@@ -84,8 +83,8 @@ pub seed_stands : (n : ℕ) → StandsFor (seed_row n ∷ []) (registered n)
 seed_stands n = record {
   same = (refl, refl, refl, tt);
   owning = λ r i. subst (λ (q : StampRow). is_zero q.stamp.id ≡ false) (sym (only_row n r i)) refl;
-  apart = λ r q i j ne. absurd (ne (ap (λ (w : StampRow). w.copy) (only_row n r i ∙ sym (only_row n q j))));
-  owner = λ r q i j p long o. omega (arith, ap (λ (w : StampRow). level w.stamp.event p) (only_row n r i), ap (λ (w : StampRow). level w.stamp.event p) (only_row n q j));
+  apart = grind (arith, nat_tests);
+  owner = grind (arith, nat_tests);
   marked = λ t u i m. absurd (no_update n t u i m);
   made = record {
     event_of = λ u. leaf 0;
@@ -94,24 +93,18 @@ seed_stands n = record {
 }
 
 pub touch_found : (low : ℕ) (rows : List StampRow) (table : List Known) (r : StampRow) → IsRising low rows → AreSame rows table → In r rows → touch_in table r.copy ≡ r.touch
-touch_found low [] table r up same i = absurd i
-touch_found low (q ∷ rows) [] r up same i = absurd same
 touch_found low (q ∷ rows) (t ∷ table) r up same i = elim i [
-  | inl e ↦ ap (λ (b : Bool). cond b t.touch (touch_in table r.copy)) (eq-eqb t.copy r.copy (sym same.0 ∙ ap (λ (w : StampRow). w.copy) (sym e))) ∙ sym same.1 ∙ ap (λ (w : StampRow). w.touch) (sym e)
+  | inl e ↦ grind (arith, nat_tests)
   | inr j ↦ ap (λ (b : Bool). cond b t.touch (touch_in table r.copy)) (ne_eqb t.copy r.copy (λ e. omega (arith, above_low (q.copy + 1) rows r up.1 j, same.0, e)))
       ∙ touch_found (q.copy + 1) rows table r up.1 same.3 j
 ]
+touch_found low rows table r up same i = grind (arith, nat_tests)
 
 -- Reports that change one row.
 
 -- the sets of a copy's row are those of its number
 holds_here : (rows : List StampRow) (table : List Known) (c : ℕ) (r z : StampRow) (t : Known) → IsRising 0 rows → IsRowOf rows c r → In z rows → In t table → Alike z t → z.copy ≡ c → Holds rows table c r.stamp t.set
-holds_here rows table c r z t up at i j like same =
-    subst (λ (s : Stamp). Holds rows table c s t.set) (ap (λ (w : StampRow). w.stamp) (one_row 0 rows z r up i at.there (same ∙ sym at.named)))
-    (subst (λ (d : ℕ). Holds rows table d z.stamp t.set) same (held rows table z t i j like.copy))
-
-holds_at : (rows : List StampRow) (table : List Known) (c : ℕ) (r : StampRow) → StandsFor rows table → IsRowOf rows c r → Holds rows table c r.stamp (set_in table c)
-holds_at rows table c r st at = subst (λ (d : ℕ). Holds rows table d r.stamp (set_in table d)) at.named (holds_found rows table st.same r at.there)
+holds_here rows table c r z t up at i j like same = grind (arith, nat_tests)
 
 abbrev pub Edited : List StampRow → List Known → ℕ → ℕ → StampRow → ℕ → Stamp → List ℕ → Type 0
 Edited rows table n c r = Put (Holds rows table) c (updated_stamp r.stamp) (Updated (Holds rows table c r.stamp) n)
@@ -125,34 +118,29 @@ pub edited_outcome : (rows : List StampRow) (table : List Known) (n c : ℕ) (r 
     → Outcome (Edited rows table n c r) (made n (Edit c) rows z) (made_known n (Edit c) table t)
 edited_outcome rows table n c r z t up at i j like =
     one_outcome (Edited rows table n c r) c (restamped (updated_stamp z.stamp) n z) z (knowing (n ∷ t.set) n t) t like
-    (λ same. (
-      record { copy = like.copy; touch = refl; holder = like.holder },
-      inl (same, ap (λ (w : StampRow). updated_stamp w.stamp) (one_row 0 rows z r up i at.there (same ∙ sym at.named)), (t.set, holds_here rows table c r z t up at i j like same, refl)),
-    ))
+    (λ same. grind (arith, nat_tests, one_row, holds_here))
     (λ ne. inr (held rows table z t i j like.copy, ne))
 
 pub touched_outcome : (rows : List StampRow) (table : List Known) (n c : ℕ) (z : StampRow) (t : Known) → In z rows → In t table → Alike z t → Outcome (Holds rows table) (made n (Touch c) rows z) (made_known n (Touch c) table t)
 touched_outcome rows table n c z t i j like =
-    one_outcome (Holds rows table) c (restamped z.stamp n z) z (knowing t.set n t) t like (λ same. (record { copy = like.copy; touch = refl; holder = like.holder }, held rows table z t i j like.copy)) (λ ne. held rows table z t i j like.copy)
+    one_outcome (Holds rows table) c (restamped z.stamp n z) z (knowing t.set n t) t like (λ same. grind (arith, nat_tests)) (λ ne. held rows table z t i j like.copy)
 
 abbrev pub Duplicated : List StampRow → List Known → ℕ → ℕ → StampRow → ℕ → Stamp → List ℕ → Type 0
 Duplicated rows table n c r = Put (Put (Holds rows table) c (first_part r.stamp) (Holds rows table c r.stamp)) n (second_part r.stamp) (Holds rows table c r.stamp)
 
 pub duplicated_sound : (rows : List StampRow) (table : List Known) (n c : ℕ) (r : StampRow) → IsRowOf rows c r → IsParted r.stamp.id (parts r.stamp.id).0 (parts r.stamp.id).1 → StandsFor rows table → Sound (Duplicated rows table n c r)
-duplicated_sound rows table n c r at parted st =
-    share_keeps (Holds rows table) c n r.stamp (first_part r.stamp) (second_part r.stamp) (set_in table c) (to_sound rows table st) (holds_at rows table c r st at) parted refl refl
+duplicated_sound rows table n c r at parted st = grind (arith, nat_tests)
 
 pub duplicated_outcome : (rows : List StampRow) (table : List Known) (n c : ℕ) (r z : StampRow) (t : Known) → IsRising 0 rows → IsRowOf rows c r → z.copy < n → In z rows → In t table → Alike z t
     → Outcome (Duplicated rows table n c r) (made n (Duplicate c) rows z) (made_known n (Duplicate c) table t)
 duplicated_outcome rows table n c r z t up at less i j like =
-    let P : ℕ → Stamp → List ℕ → Type 0 = Duplicated rows table n c r in
     let new : z.copy ≢ n = λ e. omega (arith, less, e) in
     let x : StampRow = restamped (first_part z.stamp) z.touch z in
     elim (cases_Bool (z.copy == c)) [
       | inl e ↦ let same : z.copy ≡ c = eqb-true z.copy c e in
           some x t (ap (λ (b : Bool). Some (cond b x z)) e) refl record { copy = like.copy; touch = like.touch; holder = like.holder }
-          (inr (inl (same, ap (λ (w : StampRow). first_part w.stamp) (one_row 0 rows z r up i at.there (same ∙ sym at.named)), holds_here rows table c r z t up at i j like same), new))
-      | inr ne ↦ some z t (ap (λ (b : Bool). Some (cond b x z)) ne) refl like (inr (inr (held rows table z t i j like.copy, eqb-false z.copy c ne), new))
+          (grind (arith, nat_tests, one_row, holds_here))
+      | inr ne ↦ some z t (ap (λ (b : Bool). Some (cond b x z)) ne) refl like (grind (arith, nat_tests))
     ]
 
 pub duplicate_holds : (rows : List StampRow) (table : List Known) (n c : ℕ) (r : StampRow) → IsRowOf rows c r → StandsFor rows table → Duplicated rows table n c r n (second_part r.stamp) (set_in table c)
@@ -163,4 +151,4 @@ duplicate_holds rows table n c r at st = inl (refl, refl, holds_at rows table c 
 pub lost_outcome : (rows : List StampRow) (table : List Known) (n c : ℕ) (z : StampRow) (t : Known) → In z rows → In t table → Alike z t → Outcome (Holds rows table) (lost c z) (made_known n (Remove c None) table t)
 lost_outcome rows table n c z t i j like =
     stay_outcome (Holds rows table) (z.copy == c || is_held c z.holder) (t.copy == c || is_held c t.holder) z t
-    (ap (λ (m : ℕ). m == c || is_held c z.holder) like.copy ∙ ap (λ (o : Option ℕ). t.copy == c || is_held c o) like.holder) like (λ stays. held rows table z t i j like.copy)
+    (grind (arith, nat_tests)) like (λ stays. held rows table z t i j like.copy)

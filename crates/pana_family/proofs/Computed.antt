@@ -1,14 +1,14 @@
 -- The event after an update is the one that the function gives, and is raised.
-use Rattle.std.specs.Prelude.{◌≡◌, ◌<◌, ◌+◌, ◌^◌, Bool, true, false, cond, ◌==◌, ◌&&◌}
-use Rattle.std.proofs.Common.{refl, sym, ap, subst, ◌∙◌, inl, inr, arith}
-use Rattle.std.proofs.lemmas.Bool.{both_ways, cases_Bool, eq-eqb, eqb-true}
+use Rattle.std.specs.Prelude.{◌≡◌, ◌<◌, ◌+◌, ◌^◌, Bool, true, false, ◌==◌, ◌&&◌}
+use Rattle.std.proofs.Common.{refl, sym, ◌∙◌, inl, inr, arith}
+use Rattle.std.proofs.lemmas.Bool.{cases_Bool, eq-eqb}
+use Rattle.std.proofs.lemmas.Bool.Decides.{nat_tests}
 use Rattle.pana_id.specs.Id.{Id, is_zero, IsValid}
 use Rattle.pana_event.specs.Event.{Event, leaf, fork, greatest, IsSound}
-use Rattle.pana_event.specs.Order.{IsBelow, is_leq}
+use Rattle.pana_event.specs.Order.{is_leq}
 use Rattle.pana_event.proofs.Orders.{leq-is-below, below-is-leq}
 use Rattle.pana_event.proofs.Sound.{same_below}
 use Rattle.pana_stamp.specs.Fill.{fill}
-use Rattle.pana_stamp.specs.Grow.{grow}
 use Rattle.pana_stamp.specs.Raised.{IsRaised}
 use Rattle.pana_stamp.proofs.Calls.{raised_fill, raised_grow, sound_fill, sound_grow}
 use Rattle.pana_stamp.proofs.Fills.{IsFilled-fill, IsSound-fill}
@@ -16,40 +16,26 @@ use Rattle.pana_family.specs.After.{same_event, updated}
 use Rattle.pana_family.specs.inner.Making.{IsUpdate}
 
 both : (a b : Bool) → (a && b) ≡ true → (a ≡ true) × (b ≡ true)
-both true true e = (refl, refl)
-both true false e = absurd (cc)
-both false b e = absurd (cc)
+both a b e = grind (arith, nat_tests)
 
 same_itself : (e : Event) → same_event e e ≡ true
 same_itself (leaf n) = eq-eqb n n refl
-same_itself (fork n l r) = ap (λ b. b && (same_event l l && same_event r r)) (eq-eqb n n refl) ∙ ap (λ b. b && same_event r r) (same_itself l) ∙ same_itself r
+same_itself (fork n l r) = grind (arith, nat_tests, same_itself l, same_itself r)
 
 same_is : (e f : Event) → same_event e f ≡ true → e ≡ f
-same_is (leaf m) (leaf n) h = ap leaf (eqb-true m n h)
-same_is (leaf m) (fork n l r) h = absurd (cc)
-same_is (fork m c d) (leaf n) h = absurd (cc)
 same_is (fork m c d) (fork n l r) h =
     let first = both (m == n) (same_event c l && same_event d r) h in
     let rest = both (same_event c l) (same_event d r) first.1 in
-    ap (λ k. fork k c d) (eqb-true m n first.0) ∙ ap (λ x. fork n x d) (same_is c l rest.0) ∙ ap (fork n l) (same_is d r rest.1)
+    grind (arith, nat_tests, same_is c l rest.0, same_is d r rest.1)
+same_is e f h = grind (arith, nat_tests)
 
 -- an update is the one that the function gives
 pub update_is : (i : Id) (e new : Event) → IsUpdate i e new → new ≡ updated i e
-update_is i e new up =
-    elim (same_event (fill i e) e) as (λ b. same_event (fill i e) e ≡ b → new ≡ cond b (grow i e) (fill i e)) [
-      | true ↦ λ h. up.grown (same_is (fill i e) e h)
-      | false ↦ λ h. up.filled (λ same. let is : same_event (fill i e) e ≡ true = ap (λ f. same_event f e) same ∙ same_itself e in absurd (cc (is, h)))
-    ] refl
+update_is i e new up = grind (arith, nat_tests, same_is, same_itself)
 
 -- and the function gives one
 pub is_update : (i : Id) (e : Event) → IsUpdate i e (updated i e)
-is_update i e = record {
-  grown = λ same. ap (λ b. cond b (grow i e) (fill i e)) (ap (λ f. same_event f e) same ∙ same_itself e);
-  filled = λ other. elim (same_event (fill i e) e) as (λ b. same_event (fill i e) e ≡ b → cond b (grow i e) (fill i e) ≡ fill i e) [
-    | true ↦ λ h. absurd (other (same_is (fill i e) e h))
-    | false ↦ λ h. refl
-  ] refl;
-}
+is_update i e = grind (arith, nat_tests, same_itself, same_is)
 
 -- an event after an update is raised, and within the limits
 raised_by : (i : Id) (e new : Event) → IsValid i → is_zero i ≡ false → IsSound e → greatest e + 1 < 2 ^ 64 → IsUpdate i e new → IsRaised i e new × IsSound new
@@ -60,7 +46,7 @@ raised_by i e new valid some fine room up =
           let same : fill i e ≡ e = same_below (fill i e) e filled.normal fine.normal filled.shallow fine.shallow (leq-is-below (fill i e) e filled.shallow fine.shallow t) (record { levels = (IsFilled-fill i e fine.shallow).kept }) in
           (raised_grow i e new (up.grown same) valid some fine.normal same, sound_grow i e new (up.grown same) valid some fine.normal fine.shallow room same)
       | inr out ↦
-          let other : fill i e ≡ e → ⊥ = λ same. both_ways (is_leq (fill i e) e) out (below-is-leq (fill i e) e filled.shallow fine.shallow fine.normal (subst (λ (f : Event). IsBelow f e) (sym same) (record { levels = λ p long. omega arith }))) in
+          let other : fill i e ≡ e → ⊥ = λ same. grind (arith, nat_tests, below-is-leq) in
           let is : new ≡ fill i e = up.filled other in
           (raised_fill i i e e (fill i e) new refl refl refl is fine.normal fine.shallow (λ same. other (sym is ∙ same)), sound_fill i i e e new refl refl is fine.normal fine.shallow fine.fits)
     ]

@@ -1,14 +1,14 @@
 -- The copies of a table of relations, and those of rows.
-use Rattle.std.specs.Prelude.{◌≡◌, ◌≢◌, ◌↔◌, ℕ, ◌+◌, ◌<◌, ◌≤◌, Bool, true, false, cond, ◌==◌, ◌&&◌, ◌||◌, not, ◌⊎◌, List, [], ◌∷◌, length, map, filter, None, nat_lt, Contains, slice_index_or}
-use Rattle.std.proofs.Common.{refl, sym, ap, subst, ◌∙◌, inl, inr, arith, suc, zero}
-use Rattle.std.proofs.lemmas.Bool.{cases_order, and_from, and_parts, eq-eqb, eqb-true, eqb-false, ne_eqb, lt-ltb, not-true, not_from_false}
-use Rattle.std.proofs.lemmas.List.{get_or_default, length-map}
+use Rattle.std.specs.Prelude.{◌≡◌, ◌≢◌, ◌↔◌, ℕ, ◌+◌, ◌<◌, ◌≤◌, true, ◌==◌, not, ◌⊎◌, List, [], ◌∷◌, length, map, filter, None, nat_lt, Contains, slice_index_or}
+use Rattle.std.proofs.Common.{refl, sym, subst, inl, inr, arith, suc, zero}
+use Rattle.std.proofs.lemmas.Bool.{cases_order, eq-eqb}
+use Rattle.std.proofs.lemmas.List.{get_or_default}
 use Rattle.std.proofs.lemmas.List.Elements.{Contains-append_cases, Contains-append_left, Contains-append_right}
+use Rattle.std.proofs.lemmas.Bool.Decides.{nat_tests}
 use Rattle.pana_rel.specs.Pairs.{with_copy, without}
 use Rattle.pana_rel.proofs.Boards.{any_at, contains_filter, contains_more, filter_contains, found}
 use Rattle.pana_family.specs.declared.row.StampRow.{StampRow}
 use Rattle.pana_family.specs.Updates.{has}
-use Rattle.pana_family.specs.Holders.{is_copy}
 use Rattle.pana_family.specs.Table.{In}
 use Rattle.pana_family.specs.Rows.{IsRising, lives, copy_rows}
 use Rattle.pana_family.proofs.Places.{free_from}
@@ -20,11 +20,12 @@ pub contains_has : (xs : List ℕ) (c : ℕ) → Contains xs c → has xs c ≡ 
 contains_has xs c here = any_at (λ m. m == c) xs c here (eq-eqb c c refl)
 
 pub has_contains : (xs : List ℕ) (c : ℕ) → has xs c ≡ true → Contains xs c
-has_contains xs c some = let f = found (λ m. m == c) xs some in subst (Contains xs) (eqb-true f.item c f.passes) f.here
+has_contains xs c some =
+    let f = found (λ m. m == c) xs some in
+    grind (arith, nat_tests)
 
 pub first_or_later : (x : ℕ) (xs : List ℕ) (c : ℕ) → Contains (x ∷ xs) c → (c ≡ x) ⊎ Contains xs c
-first_or_later x xs c (zero, h, e) = inl (sym e)
-first_or_later x xs c (suc k, h, e) = inr (k, omega (arith, h), e)
+first_or_later x xs c here = grind (arith, nat_tests)
 
 pub in_with_copy : (n c : ℕ) (cs : List ℕ) → Contains (with_copy n cs) c → (c ≡ n) ⊎ Contains cs c
 in_with_copy n c cs here = elim (Contains-append_cases (filter (λ other. nat_lt other n) cs) (n ∷ filter (λ other. nat_lt n other) cs) c here) [
@@ -42,48 +43,32 @@ pub with_copy_old : (n c : ℕ) (cs : List ℕ) → Contains cs c → Contains (
 with_copy_old n c cs here = elim (cases_order c n) [
   | inl e ↦ subst (Contains (with_copy n cs)) (sym e) (with_copy_new n cs)
   | inr o ↦ elim o [
-    | inl less ↦ Contains-append_left (filter (λ other. nat_lt other n) cs) (n ∷ filter (λ other. nat_lt n other) cs) c (contains_filter (λ other. nat_lt other n) cs c here (lt-ltb c n less))
+    | inl less ↦ Contains-append_left (filter (λ other. nat_lt other n) cs) (n ∷ filter (λ other. nat_lt n other) cs) c (grind (arith, nat_tests, contains_filter))
     | inr more ↦ Contains-append_right (filter (λ other. nat_lt other n) cs) (n ∷ filter (λ other. nat_lt n other) cs) c
-        (contains_more n (filter (λ other. nat_lt n other) cs) c (contains_filter (λ other. nat_lt n other) cs c here (lt-ltb n c more)))
+        (grind (arith, nat_tests, contains_more, contains_filter))
   ]
 ]
 
 pub in_without_copy : (n c : ℕ) (cs : List ℕ) → Contains (without n cs) c → Contains cs c × (c ≢ n)
 in_without_copy n c cs here =
     let f = filter_contains (λ other. not (other == n)) cs c here in
-    (f.0, eqb-false c n (not-true (c == n) f.1))
+    grind (arith, nat_tests)
 
 pub without_other : (n c : ℕ) (cs : List ℕ) → Contains cs c → c ≢ n → Contains (without n cs) c
-without_other n c cs here ne = contains_filter (λ other. not (other == n)) cs c here (not_from_false (c == n) (ne_eqb c n ne))
+without_other n c cs here ne = grind (arith, nat_tests, contains_filter)
 
 -- Living copies.
 
 pub lives_from : (rows : List StampRow) (r : StampRow) → In r rows → r.holder ≡ None → lives rows r.copy ≡ true
-lives_from rows r i free =
-    any_from (λ q. q.copy == r.copy && is_copy q.holder) rows r i (and_from (r.copy == r.copy) (is_copy r.holder) (eq-eqb r.copy r.copy refl) (ap is_copy free))
+lives_from rows r i free = grind (arith, nat_tests, any_from)
 
 -- a living copy has a row
 pub living_at : (rows : List StampRow) (copy : ℕ) → lives rows copy ≡ true → (r : StampRow) × In r rows × (r.copy ≡ copy) × (r.holder ≡ None)
-living_at rows copy here =
-    let m = any_some (λ r. r.copy == copy && is_copy r.holder) rows here in
-    let p = and_parts (m.0.copy == copy) (is_copy m.0.holder) m.2 in
-    (m.0, m.1, eqb-true m.0.copy copy p.0, free_from m.0.holder p.1)
+living_at rows copy here = grind (arith, nat_tests, any_some, free_from)
 
 pub has_rows : (rows : List StampRow) (c : ℕ) → has (map (λ r. r.copy) (copy_rows rows)) c ≡ lives rows c
 has_rows [] c = refl
-has_rows (r ∷ rows) c =
-    elim (is_copy r.holder) as (λ b. has (map (λ q. q.copy) (cond b (r ∷ copy_rows rows) (copy_rows rows))) c ≡ ((r.copy == c && b) || lives rows c)) [
-      | true ↦ one (r.copy == c) (has_rows rows c)
-      | false ↦ none (r.copy == c) (has_rows rows c)
-    ]
-  where
-    one : (a : Bool) {x y : Bool} → x ≡ y → (a || x) ≡ ((a && true) || y)
-    one true e = refl
-    one false e = e
-
-    none : (a : Bool) {x y : Bool} → x ≡ y → x ≡ ((a && false) || y)
-    none true e = e
-    none false e = e
+has_rows (r ∷ rows) c = grind (arith, nat_tests, has_rows rows c)
 
 -- Rising numbers.
 
@@ -98,12 +83,7 @@ rises_lower low least (c ∷ cs) le up = (omega (arith, up.0), up.1)
 
 rises_rows : (low : ℕ) (rows : List StampRow) → IsRising low rows → Rises low (map (λ r. r.copy) (copy_rows rows))
 rises_rows low [] up = tt
-rises_rows low (r ∷ rows) up =
-    let rest = rises_rows (r.copy + 1) rows up.1 in
-    elim (is_copy r.holder) as (λ b. Rises low (map (λ q. q.copy) (cond b (r ∷ copy_rows rows) (copy_rows rows)))) [
-      | true ↦ (up.0, rest)
-      | false ↦ rises_lower (r.copy + 1) low (map (λ q. q.copy) (copy_rows rows)) (omega (arith, up.0)) rest
-    ]
+rises_rows low (r ∷ rows) up = grind (arith, nat_tests, rises_rows (r.copy + 1) rows up.1, rises_lower)
 
 -- each number is greater than those before it, by their places
 abbrev pub ByPlaces : List ℕ → Type 0
@@ -145,11 +125,11 @@ same_numbers low (x ∷ xs) (y ∷ ys) up top f g =
       | inl e ↦ absurd (omega (arith, rises_above (y + 1) ys c top.1 i, e, first))
       | inr j ↦ j
     ]) in
-    ap (λ (k : ℕ). k ∷ xs) first ∙ ap (λ (l : List ℕ). y ∷ l) rest
+    grind (arith, nat_tests)
 
 -- a table with the living copies has them in the order of the rows
 pub copies_are : (rows : List StampRow) (cs : List ℕ) → IsRising 0 rows → ByPlaces cs → ((c : ℕ) → Contains cs c ↔ (lives rows c ≡ true)) → cs ≡ map (λ r. r.copy) (copy_rows rows)
 copies_are rows cs up places same =
     same_numbers 0 cs (map (λ r. r.copy) (copy_rows rows)) (rises_places 0 cs places (λ c here. omega arith)) (rises_rows 0 rows up)
-    (λ c here. has_contains (map (λ r. r.copy) (copy_rows rows)) c (has_rows rows c ∙ (same c).0 here))
-    (λ c here. (same c).1 (sym (has_rows rows c) ∙ contains_has (map (λ r. r.copy) (copy_rows rows)) c here))
+    (λ c here. grind (arith, nat_tests, has_contains, has_rows))
+    (λ c here. (same c).1 (grind (arith, nat_tests, has_rows, contains_has)))

@@ -1,267 +1,141 @@
--- The table of relations after each report, by the table of sets that the rows stand for.
-use Rattle.std.specs.Prelude.{◌≡◌, ◌≢◌, ◌↔◌, ℕ, ◌<◌, Bool, true, false, cond, ◌==◌, ◌&&◌, ◌||◌, List, [], ◌∷◌, ◌++◌, None, Contains}
-use Rattle.std.proofs.Common.{refl, sym, ap, ap₂, subst, ◌∙◌, inl, inr, arith}
-use Rattle.std.proofs.lemmas.Bool.{cases_Bool, eq-eqb, eqb-true, eqb-false, false_from_ne_true, ne_eqb, or_parts}
-use Rattle.pana_event.specs.Order.{IsBelow}
-use Rattle.pana_event.specs.Relation.{IsRelation, reverse_of}
+-- The table of relations after an Edit and a Duplicate, where no stamps are compared.
+use Rattle.std.specs.Prelude.{◌≡◌, ◌≢◌, ◌↔◌, ℕ, ◌+◌, ◌≤◌, Bool, true, false, cond, ◌==◌, ◌||◌, List, [], ◌∷◌, Option, Some, None, Contains, length}
+use Rattle.std.specs.Option.{option_map}
+use Rattle.std.proofs.Common.{refl, sym, ap, subst, ◌∙◌, inl, inr, arith}
+use Rattle.std.proofs.lemmas.Bool.{cases_Bool, eq-eqb, eqb-true, eqb-false, ne_eqb, or_parts}
+use Rattle.std.proofs.lemmas.List.{append-nil}
+use Rattle.std.proofs.lemmas.Bool.Decides.{nat_tests}
+use Rattle.pana_id.specs.Id.{Id, has as owns, AtPoints}
+use Rattle.pana_event.specs.Event.{Event, level}
+use Rattle.pana_event.specs.Relation.{IsRelation}
 use Rattle.pana_event.specs.declared.rel.Rel.{Rel}
-use Rattle.pana_event.specs.declared.rel.Rel.TheVariants.{Equal, Older, Newer, Conflict}
+use Rattle.pana_event.specs.declared.rel.Rel.TheVariants.{Equal}
 use Rattle.pana_rel.specs.Pairs.{Table, Holds, edited_rel, edited_row, rel_of, with_copy, with_row}
+use Rattle.pana_stamp.specs.Raised.{IsRaised}
 use Rattle.pana_family.specs.declared.row.StampRow.{StampRow}
-use Rattle.pana_family.specs.Updates.{has, is_within, IsSubset}
-use Rattle.pana_family.specs.Relation.{relation}
-use Rattle.pana_family.specs.Table.{Known, In, known, knowing, change, set_in, duplicated, edited, AreBelow}
-use Rattle.pana_family.specs.Stands.{AreSame, StandsFor}
-use Rattle.pana_family.specs.Rows.{lives}
+use Rattle.pana_family.specs.declared.report.FamilyReport.{FamilyReport}
+use Rattle.pana_family.specs.declared.report.FamilyReport.TheVariants.{Duplicate, Edit}
+use Rattle.pana_family.specs.Updates.{has}
+use Rattle.pana_family.specs.Table.{In}
+use Rattle.pana_family.specs.Rows.{IsRising, copy_rows, lives, renewed, row, row_at, row_in}
+use Rattle.pana_family.specs.Change.{mapped}
 use Rattle.pana_family.specs.Paired.{ArePaired}
-use Rattle.pana_family.specs.inner.Comparing.{AreCompared, HasCopies}
-use Rattle.pana_family.proofs.Members.{Holds as HoldsOf, held, in_append, in_change, in_left, of_known, of_row, to_sound, One, set_of}
-use Rattle.pana_family.proofs.Sound.{below_subset, subset_below}
-use Rattle.pana_family.proofs.Copies.{living_at}
-use Rattle.pana_family.proofs.Relations.{relates}
-use Rattle.pana_family.proofs.Boards.{same_equal}
-use Rattle.pana_family.proofs.Copies.{in_with_copy, lives_from, with_copy_new, with_copy_old}
+use Rattle.pana_family.specs.Report.{IsMade, IsReady}
+use Rattle.pana_family.specs.After.{first_part, reported_rows, restamped, second_part, updated_stamp}
+use Rattle.pana_family.proofs.Members.{in_right, one_row}
+use Rattle.pana_family.proofs.Places.{row_in_at}
+use Rattle.pana_family.proofs.Copies.{ByPlaces, in_with_copy, lives_from, living_at, with_copy_new, with_copy_old}
+use Rattle.pana_family.proofs.Inverses.{in_from_at, named_at, row_renewed}
+use Rattle.pana_family.proofs.Compared.{row_compared}
+use Rattle.pana_family.proofs.Keeps.{edit_raised, few_after, row_lives}
+use Rattle.pana_family.proofs.Exacts.{rising_reported}
+use Rattle.pana_family.proofs.Following.{all_followed, followed_from, look, room_for, row_pushed, seen_lives, seen_row}
 
--- a table has a copy of this number
-abbrev pub Living : List Known → ℕ → Type 0
-Living table c = (t : Known) × In t table × (t.copy ≡ c) × (t.holder ≡ None)
+pub few_made : (n : ℕ) (report : FamilyReport) (rows new : List StampRow) → IsMade n report rows new → length (copy_rows new) ≤ length (copy_rows rows) + 1
+few_made n report rows new m = grind (arith, nat_tests, few_after)
 
--- of the copies of a table of sets but these, the table of relations holds the relations
-pub record Follows (but : List ℕ) (table : List Known) (pairs : Table) : Type 0 where
-  pub copies : (c : ℕ) → Contains pairs.copies c ↔ Living table c
-  pub rels : (t s : Known) → In t table → In s table → t.holder ≡ None → s.holder ≡ None → t.copy ≢ s.copy → has but t.copy ≡ false → has but s.copy ≡ false
-      → rel_of pairs t.copy s.copy ≡ relation t.set s.set
+-- One row is changed.
 
--- Rows and the table of sets.
+-- a raised event relates to one that is nowhere above the old event where the id owns the point
+raised_relates : (i : Id) (e new f : Event) (rel : Rel) → IsRaised i e new → AtPoints (λ p. owns i p ≡ true → level f p ≤ level e p) → IsRelation e f rel → IsRelation new f (edited_rel rel)
+raised_relates i e new f rel up owner is = grind (arith, nat_tests)
 
--- a row and what the table knows of its copy
-abbrev Knows : List StampRow → List Known → StampRow → Known → Type 0
-Knows rows table r t = In r rows × In t table × (r.copy ≡ t.copy)
+-- x is the row of a number, and those of others look as they did
+record IsChanged (n : ℕ) (x : StampRow) (rows new : List StampRow) : Type 0 where
+  up : IsRising 0 rows
+  rising : IsRising 0 new
+  free : x.holder ≡ None
+  there : row_at new n ≡ Some x
+  same : (m : ℕ) → has (n ∷ []) m ≡ false → look (row_at rows m) ≡ look (row_at new m)
 
-below_known : (rows : List StampRow) (table : List Known) (r q : StampRow) (t s : Known) → StandsFor rows table → Knows rows table r t → Knows rows table q s → IsBelow r.stamp.event q.stamp.event ↔ IsSubset t.set s.set
-below_known rows table r q t s st a b =
-    let first = held rows table r t a.0 a.1 a.2 in
-    let second = held rows table q s b.0 b.1 b.2 in (
-      below_subset (HoldsOf rows table) r.copy q.copy r.stamp q.stamp t.set s.set (to_sound rows table st) first second,
-      subset_below (HoldsOf rows table) r.copy q.copy r.stamp q.stamp t.set s.set (to_sound rows table st) first second,
-    )
+other : (n m : ℕ) → m ≢ n → has (n ∷ []) m ≡ false
+other n m ne = ap (λ (b : Bool). b || false) (ne_eqb n m (λ e. ne (sym e)))
 
-to_relation : (rows : List StampRow) (table : List Known) (r q : StampRow) (t s : Known) (rel : Rel) → StandsFor rows table → Knows rows table r t → Knows rows table q s
-    → IsRelation r.stamp.event q.stamp.event rel → rel ≡ relation t.set s.set
-to_relation rows table r q t s Equal st a b is = sym ((relates t.set s.set).equal.1 ((below_known rows table r q t s st a b).0 is.0, (below_known rows table q r s t st b a).0 is.1))
-to_relation rows table r q t s Older st a b is = sym ((relates t.set s.set).older.1 ((below_known rows table r q t s st a b).0 is.0, λ h. is.1 ((below_known rows table q r s t st b a).1 h)))
-to_relation rows table r q t s Newer st a b is = sym ((relates t.set s.set).newer.1 ((below_known rows table q r s t st b a).0 is.0, λ h. is.1 ((below_known rows table r q t s st a b).1 h)))
-to_relation rows table r q t s Conflict st a b is =
-    sym ((relates t.set s.set).conflict.1 ((λ h. is.0 ((below_known rows table r q t s st a b).1 h)), λ h. is.1 ((below_known rows table q r s t st b a).1 h)))
-
-is_relation : (rows : List StampRow) (table : List Known) (r q : StampRow) (t s : Known) (rel : Rel) → StandsFor rows table → Knows rows table r t → Knows rows table q s
-    → relation t.set s.set ≡ rel → IsRelation r.stamp.event q.stamp.event rel
-is_relation rows table r q t s Equal st a b is =
-    let m = (relates t.set s.set).equal.0 is in
-    ((below_known rows table r q t s st a b).1 m.0, (below_known rows table q r s t st b a).1 m.1)
-is_relation rows table r q t s Older st a b is =
-    let m = (relates t.set s.set).older.0 is in
-    ((below_known rows table r q t s st a b).1 m.0, λ h. m.1 ((below_known rows table q r s t st b a).0 h))
-is_relation rows table r q t s Newer st a b is =
-    let m = (relates t.set s.set).newer.0 is in
-    ((below_known rows table q r s t st b a).1 m.0, λ h. m.1 ((below_known rows table r q t s st a b).0 h))
-is_relation rows table r q t s Conflict st a b is =
-    let m = (relates t.set s.set).conflict.0 is in
-    ((λ h. m.0 ((below_known rows table r q t s st a b).0 h)), λ h. m.1 ((below_known rows table q r s t st b a).0 h))
-
-pub living_known : (rows : List StampRow) (table : List Known) (c : ℕ) → AreSame rows table → lives rows c ≡ true → Living table c
-living_known rows table c same here =
-    let r = living_at rows c here in
-    let t = of_row rows table same r.0 r.1 in
-    (t.0, t.1, sym t.2 ∙ r.2, sym t.4 ∙ r.3)
-
-known_living : (rows : List StampRow) (table : List Known) (c : ℕ) → AreSame rows table → Living table c → lives rows c ≡ true
-known_living rows table c same (t, i, named, free) =
-    let r = of_known rows table same t i in
-    subst (λ (k : ℕ). lives rows k ≡ true) (r.2 ∙ named) (lives_from rows r.0 r.1 (r.4 ∙ free))
-
-pub to_follow : (rows : List StampRow) (table : List Known) (pairs : Table) → StandsFor rows table → ArePaired rows pairs → Follows [] table pairs
-to_follow rows table pairs st p = record {
-  copies = λ c. ((λ here. living_known rows table c st.same ((p.copies c).0 here)), λ there. (p.copies c).1 (known_living rows table c st.same there));
-  rels = λ t s i j free free' ne out out'.
-      let r = of_known rows table st.same t i in
-      let q = of_known rows table st.same s j in
-      ap (λ (k : ℕ). rel_of pairs k s.copy) (sym r.2) ∙ ap (rel_of pairs r.0.copy) (sym q.2)
-      ∙ to_relation rows table r.0 q.0 t s (rel_of pairs r.0.copy q.0.copy) st (r.1, i, r.2) (q.1, j, q.2) (p.rels r.0 q.0 r.1 q.1 (r.4 ∙ free) (q.4 ∙ free') (λ e. ne (sym r.2 ∙ e ∙ q.2)));
-}
-
-pub of_copies : (rows : List StampRow) (table : List Known) (pairs : Table) (but : List ℕ) → StandsFor rows table → Follows but table pairs → HasCopies rows pairs
-of_copies rows table pairs but st f c = ((λ here. known_living rows table c st.same ((f.copies c).0 here)), λ there. (f.copies c).1 (living_known rows table c st.same there))
-
-pub of_rels : (rows : List StampRow) (table : List Known) (pairs : Table) (but : List ℕ) → StandsFor rows table → Follows but table pairs → AreCompared but rows pairs
-of_rels rows table pairs but st f r q i j free free' ne out out' =
-    let t = of_row rows table st.same r i in
-    let s = of_row rows table st.same q j in
-    is_relation rows table r q t.0 s.0 (rel_of pairs r.copy q.copy) st (i, t.1, t.2) (j, s.1, s.2)
-    (sym (f.rels t.0 s.0 t.1 s.1 (sym t.4 ∙ free) (sym s.4 ∙ free') (λ e. ne (t.2 ∙ e ∙ sym s.2)) (ap (has but) (sym t.2) ∙ out) (ap (has but) (sym s.2) ∙ out'))
-    ∙ ap (λ (k : ℕ). rel_of pairs k s.0.copy) (sym t.2) ∙ ap (rel_of pairs r.copy) (sym s.2))
-
-pub of_follow : (rows : List StampRow) (table : List Known) (pairs : Table) → StandsFor rows table → Follows [] table pairs → ArePaired rows pairs
-of_follow rows table pairs st f = record {
-  copies = of_copies rows table pairs [] st f;
-  rels = λ r q i j free free' ne. of_rels rows table pairs [] st f r q i j free free' ne refl refl;
-}
-
--- A copy is edited.
-
-to_change : (c : ℕ) (g : Known → Known) (table : List Known) (t : Known) → In t table → In (cond (t.copy == c) (g t) t) (change c g table)
-to_change c g [] t i = absurd i
-to_change c g (s ∷ table) t i = elim i [
-  | inl e ↦ inl (ap (λ (w : Known). cond (w.copy == c) (g w) w) e)
-  | inr j ↦ inr (to_change c g table t j)
-]
-
--- changes that leave numbers and holders
-living_changed : (c n : ℕ) (set_of : Known → List ℕ) (table : List Known) (d : ℕ) → Living (change c (λ t. knowing (set_of t) n t) table) d ↔ Living table d
-living_changed c n set_of table d = (
-  (λ l. elim (in_change c (λ t. knowing (set_of t) n t) table l.0 l.1) [
-    | inl k ↦ (k.0, k.1, ap (λ (w : Known). w.copy) (sym k.3) ∙ l.2, ap (λ (w : Known). w.holder) (sym k.3) ∙ l.3)
-    | inr k ↦ (l.0, k.0, l.2, l.3)
-  ]),
-  λ l. (
-    cond (l.0.copy == c) (knowing (set_of l.0) n l.0) l.0,
-    to_change c (λ t. knowing (set_of t) n t) table l.0 l.1,
-    elim (l.0.copy == c) as (λ b. (cond b (knowing (set_of l.0) n l.0) l.0).copy ≡ d) [ true ↦ l.2 | false ↦ l.2 ],
-    elim (l.0.copy == c) as (λ b. (cond b (knowing (set_of l.0) n l.0) l.0).holder ≡ None) [ true ↦ l.3 | false ↦ l.3 ],
-  ),
-)
-
-within_more : (n : ℕ) (a b : List ℕ) → has b n ≡ false → is_within b (n ∷ a) ≡ is_within b a
-within_more n a [] out = refl
-within_more n a (x ∷ b) out =
-    let p = or_parts (x == n) (has b n) out in
-    ap₂ (λ u v. u && v) (ap (λ (t : Bool). t || has a x) (ne_eqb n x (λ e. eqb-false x n p.0 (sym e)))) (within_more n a b p.1)
-
-edited_relation : (n : ℕ) (a b : List ℕ) → has b n ≡ false → edited_rel (relation a b) ≡ relation (n ∷ a) b
-edited_relation n a b out =
-    by_two (is_within a b) (is_within b a)
-    ∙ ap (λ (v : Bool). cond v Newer Conflict) (sym (within_more n a b out))
-    ∙ ap (λ (v : Bool). cond v (cond (is_within b (n ∷ a)) Equal Older) (cond (is_within b (n ∷ a)) Newer Conflict)) (sym (ap (λ (v : Bool). v && is_within a b) out))
-  where
-    by_two : (x y : Bool) → edited_rel (cond x (cond y Equal Older) (cond y Newer Conflict)) ≡ cond y Newer Conflict
-    by_two true true = refl
-    by_two true false = refl
-    by_two false true = refl
-    by_two false false = refl
-
-reversed_relation : (a b : List ℕ) → reverse_of (relation a b) ≡ relation b a
-reversed_relation a b = by_two (is_within a b) (is_within b a)
-  where
-    by_two : (x y : Bool) → reverse_of (cond x (cond y Equal Older) (cond y Newer Conflict)) ≡ cond y (cond x Equal Older) (cond x Newer Conflict)
-    by_two true true = refl
-    by_two true false = refl
-    by_two false true = refl
-    by_two false false = refl
-
--- what a row that was set reads as
-row_of_own : (c : ℕ) (row : ℕ → Rel) (rel : ℕ → ℕ → Rel) (a b : ℕ) → a ≡ c → with_row c row rel a b ≡ row b
-row_of_own c row rel a b e = ap (λ (v : Bool). cond v (row b) (cond (b == c) (reverse_of (row a)) (rel a b))) (eq-eqb a c e)
-
-row_of_other : (c : ℕ) (row : ℕ → Rel) (rel : ℕ → ℕ → Rel) (a b : ℕ) → a ≢ c → b ≡ c → with_row c row rel a b ≡ reverse_of (row a)
-row_of_other c row rel a b ne e =
-    ap (λ (v : Bool). cond v (row b) (cond (b == c) (reverse_of (row a)) (rel a b))) (ne_eqb a c ne) ∙ ap (λ (v : Bool). cond v (reverse_of (row a)) (rel a b)) (eq-eqb b c e)
-
-row_of_rest : (c : ℕ) (row : ℕ → Rel) (rel : ℕ → ℕ → Rel) (a b : ℕ) → a ≢ c → b ≢ c → with_row c row rel a b ≡ rel a b
-row_of_rest c row rel a b ne ne' =
-    ap (λ (v : Bool). cond v (row b) (cond (b == c) (reverse_of (row a)) (rel a b))) (ne_eqb a c ne) ∙ ap (λ (v : Bool). cond v (reverse_of (row a)) (rel a b)) (ne_eqb b c ne')
-
-pub edit_follows : (n c : ℕ) (table : List Known) (pairs pairs' : Table) → AreBelow n table → Follows [] table pairs → pairs'.copies ≡ pairs.copies
-    → Holds pairs' (with_row c (edited_row c (rel_of pairs c)) (rel_of pairs)) → Follows [] (edited n c table) pairs'
-edit_follows n c table pairs pairs' below f are holds =
-    let g : Known → Known = λ t. knowing (n ∷ t.set) n t in
-    let new : List Known = edited n c table in
-    let row : ℕ → Rel = edited_row c (rel_of pairs c) in
-    let back = living_changed c n (λ t. n ∷ t.set) table in
-    let there : (t : Known) → In t new → t.holder ≡ None → Contains pairs'.copies t.copy =
-    λ t i free. subst (λ (cs : List ℕ). Contains cs t.copy) (sym are) ((f.copies t.copy).1 ((back t.copy).0 (t, i, refl, free))) in
-    let unknown : (t : Known) → In t table → has t.set n ≡ false = λ t i. false_from_ne_true (has t.set n) (λ m. omega (arith, below t n i m)) in
-    -- how the edited copy relates to another
-    let own : (t s : Known) → In t table → In s table → t.copy ≡ c → s.copy ≢ c → t.holder ≡ None → s.holder ≡ None → row s.copy ≡ relation (n ∷ t.set) s.set =
-    λ t s i j e ne free free'. ap (λ (v : Bool). cond v Equal (edited_rel (rel_of pairs c s.copy))) (ne_eqb s.copy c ne)
-    ∙ ap (λ (k : ℕ). edited_rel (rel_of pairs k s.copy)) (sym e) ∙ ap edited_rel (f.rels t s i j free free' (λ m. ne (sym m ∙ e)) refl refl) ∙ edited_relation n t.set s.set (unknown s j) in
-    record {
-      copies = λ d. ((λ here. (back d).1 ((f.copies d).0 (subst (λ (cs : List ℕ). Contains cs d) are here))), λ l. subst (λ (cs : List ℕ). Contains cs d) (sym are) ((f.copies d).1 ((back d).0 l)));
-      rels = λ t s i j free free' ne out out'.
-          let value : rel_of pairs' t.copy s.copy ≡ with_row c row (rel_of pairs) t.copy s.copy = holds t.copy s.copy (there t i free) (there s j free') in
-          elim (in_change c g table t i) [
-            | inl k ↦
-                let named : t.copy ≡ c = ap (λ (w : Known). w.copy) k.3 ∙ k.2 in
-                elim (in_change c g table s j) [
-                  | inl m ↦ absurd (ne (named ∙ sym (ap (λ (w : Known). w.copy) m.3 ∙ m.2)))
-                  | inr m ↦ value ∙ row_of_own c row (rel_of pairs) t.copy s.copy named ∙ own k.0 s k.1 m.0 k.2 m.1 (ap (λ (w : Known). w.holder) (sym k.3) ∙ free) free'
-                      ∙ ap (λ (w : Known). relation w.set s.set) (sym k.3)
-                ]
-            | inr k ↦ elim (in_change c g table s j) [
-              | inl m ↦ value ∙ row_of_other c row (rel_of pairs) t.copy s.copy k.1 (ap (λ (w : Known). w.copy) m.3 ∙ m.2)
-                  ∙ ap reverse_of (own m.0 t m.1 k.0 m.2 k.1 (ap (λ (w : Known). w.holder) (sym m.3) ∙ free') free) ∙ reversed_relation (n ∷ m.0.set) t.set ∙ ap (λ (w : Known). relation t.set w.set) (sym m.3)
-              | inr m ↦ value ∙ row_of_rest c row (rel_of pairs) t.copy s.copy k.1 m.1 ∙ f.rels t s k.0 m.0 free free' ne refl refl
-            ]
-          ];
-    }
-
--- A copy is duplicated.
-
-pub duplicate_follows : (n c : ℕ) (table : List Known) (pairs pairs' : Table) → One table → ((t : Known) → In t table → t.copy < n) → Living table c → rel_of pairs c c ≡ Equal → Follows [] table pairs
-    → pairs'.copies ≡ with_copy n pairs.copies → Holds pairs' (with_row n (rel_of pairs c) (rel_of pairs)) → Follows [] (duplicated n c table) pairs'
-duplicate_follows n c table pairs pairs' one before (k, k_in, k_is, k_free) itself f are holds =
-    let new : List Known = duplicated n c table in
-    let last : Known = known n (set_in table c) n in
-    let set_is : set_in table c ≡ k.set = ap (set_in table) (sym k_is) ∙ set_of table k one k_in in
-    let old : (d : ℕ) → Living table d → Living new d = λ d l. (l.0, in_left l.0 table (last ∷ []) l.1, l.2, l.3) in
-    let copies : (d : ℕ) → Contains pairs'.copies d ↔ Living new d = λ d. (
-      (λ here. elim (in_with_copy n d pairs.copies (subst (λ (cs : List ℕ). Contains cs d) are here)) [
-        | inl e ↦ (last, at_end last table, sym e, refl)
-        | inr there ↦ old d ((f.copies d).0 there)
-      ]),
-      λ l. subst (λ (cs : List ℕ). Contains cs d) (sym are) (elim (in_append l.0 table (last ∷ []) l.1) [
-        | inl i ↦ with_copy_old n d pairs.copies ((f.copies d).1 (l.0, i, l.2, l.3))
-        | inr i ↦ elim i [
-          | inl e ↦ subst (Contains (with_copy n pairs.copies)) (ap (λ (w : Known). w.copy) (sym e) ∙ l.2) (with_copy_new n pairs.copies)
-          | inr never ↦ absurd never
-        ]
-      ]),
-    ) in
-    -- how the source related to a copy
-    let own : (s : Known) → In s table → s.holder ≡ None → rel_of pairs c s.copy ≡ relation last.set s.set =
-    λ s j free. elim (cases_Bool (s.copy == c)) [
-      | inl e ↦
-          let is : s ≡ k = one s k j k_in (eqb-true s.copy c e ∙ sym k_is) in
-          ap (rel_of pairs c) (eqb-true s.copy c e) ∙ itself ∙ sym (same_equal last.set) ∙ ap (relation last.set) (set_is ∙ ap (λ (w : Known). w.set) (sym is))
-      | inr ne ↦ ap (λ (m : ℕ). rel_of pairs m s.copy) (sym k_is) ∙ f.rels k s k_in j k_free free (λ m. eqb-false s.copy c ne (sym m ∙ k_is)) refl refl ∙ ap (λ (xs : List ℕ). relation xs s.set) (sym set_is)
+-- the table has that number and those that it had, and x relates to each as it says
+change_paired : (n : ℕ) (x : StampRow) (relate : ℕ → Rel) (rows new : List StampRow) (pairs pairs' : Table) → IsChanged n x rows new → ArePaired rows pairs
+    → Contains pairs'.copies n → ((m : ℕ) → m ≢ n → Contains pairs'.copies m ↔ Contains pairs.copies m) → Holds pairs' (with_row n relate (rel_of pairs))
+    → ((q : StampRow) → In q rows → q.holder ≡ None → q.copy ≢ n → IsRelation x.stamp.event q.stamp.event (relate q.copy)) → ArePaired new pairs'
+change_paired n x relate rows new pairs pairs' h p here others holds own =
+    let f = followed_from rows new (n ∷ []) pairs h.up h.rising h.same p in
+    let x_in : In x new = in_from_at new n x h.there in
+    let named : x.copy ≡ n = named_at new n x h.there in
+    let copies : (m : ℕ) → Contains pairs'.copies m ↔ (lives new m ≡ true) = λ m. elim (cases_Bool (m == n)) [
+      | inl e ↦ ((λ _. subst (λ (k : ℕ). lives new k ≡ true) (named ∙ sym (eqb-true m n e)) (lives_from new x x_in h.free)), λ _. subst (Contains pairs'.copies) (sym (eqb-true m n e)) here)
+      | inr ne ↦ let differs = eqb-false m n ne in
+          ((λ c. f.inside m (other n m differs) ((others m differs).0 c)), λ l. (others m differs).1 (f.there m (other n m differs) l))
     ] in
-    record {
-      copies = copies;
-      rels = λ t s i j free free' ne out out'.
-          let value : rel_of pairs' t.copy s.copy ≡ with_row n (rel_of pairs c) (rel_of pairs) t.copy s.copy =
-          holds t.copy s.copy ((copies t.copy).1 (t, i, refl, free)) ((copies s.copy).1 (s, j, refl, free')) in
-          let not_new : (w : Known) → In w table → w.copy ≢ n = λ w l e. omega (arith, before w l, e) in
-          elim (in_append t table (last ∷ []) i) [
-            | inl x ↦ elim (in_append s table (last ∷ []) j) [
-              | inl y ↦ value ∙ row_of_rest n (rel_of pairs c) (rel_of pairs) t.copy s.copy (not_new t x) (not_new s y) ∙ f.rels t s x y free free' ne refl refl
-              | inr y ↦ elim y [
-                | inl e ↦ value ∙ row_of_other n (rel_of pairs c) (rel_of pairs) t.copy s.copy (not_new t x) (ap (λ (w : Known). w.copy) e) ∙ ap reverse_of (own t x free) ∙ reversed_relation last.set t.set
-                    ∙ ap (λ (w : Known). relation t.set w.set) (sym e)
-                | inr never ↦ absurd never
-              ]
-            ]
-            | inr x ↦ elim x [
-              | inl e ↦ elim (in_append s table (last ∷ []) j) [
-                | inl y ↦ value ∙ row_of_own n (rel_of pairs c) (rel_of pairs) t.copy s.copy (ap (λ (w : Known). w.copy) e) ∙ own s y free' ∙ ap (λ (w : Known). relation w.set s.set) (sym e)
-                | inr y ↦ elim y [
-                  | inl e' ↦ absurd (ne (ap (λ (w : Known). w.copy) e ∙ ap (λ (w : Known). w.copy) (sym e')))
-                  | inr never ↦ absurd never
-                ]
-              ]
-              | inr never ↦ absurd never
-            ]
-          ];
+    all_followed new pairs' copies (row_compared n x relate new pairs pairs' [] h.rising x_in named copies holds
+    (λ y i free ne.
+    let q = seen_row new rows y.copy y (h.same y.copy (other n y.copy ne)) (row_in_at 0 y new h.rising i) in
+    subst (λ (e : Event). IsRelation x.stamp.event e (relate y.copy)) q.4 (subst (λ (k : ℕ). IsRelation x.stamp.event q.0.stamp.event (relate k)) q.2 (own q.0 q.1 (q.3 ∙ free) (λ e. ne (sym q.2 ∙ e)))))
+    f.rels)
+
+-- a copy that is renewed as it looks
+look_mapped : (c : ℕ) (f : StampRow → StampRow) (rows : ℕ → Option StampRow) (m : ℕ) → ((r : StampRow) → look (Some (f r)) ≡ look (Some r)) → look (mapped c f rows m) ≡ look (rows m)
+look_mapped c f rows m same = grind (arith, nat_tests)
+
+-- An edit.
+
+pub edit_paired : (n c : ℕ) (rows : List StampRow) (pairs pairs' : Table) → IsReady n (Edit c) rows → ArePaired rows pairs → pairs'.copies ≡ pairs.copies → Holds pairs' (with_row c (edited_row c (rel_of pairs c)) (rel_of pairs))
+    → ArePaired (reported_rows n (Edit c) rows) pairs'
+edit_paired n c rows pairs pairs' w p same holds =
+    let up = w.kept.rising in
+    let r = row_in rows c in
+    let at = row_lives rows c up w.able in
+    let f : StampRow → StampRow = λ q. restamped (updated_stamp q.stamp) n q in
+    let new = reported_rows n (Edit c) rows in
+    let rows_at : row_at new ≡ mapped c f (row_at rows) = ap row_at (append-nil (renewed c f rows)) ∙ row_renewed c f rows (λ q. refl) in
+    let was : row_at rows c ≡ Some r = subst (λ (k : ℕ). row_at rows k ≡ Some r) at.named (row_in_at 0 r rows up at.there) in
+    change_paired c (f r) (edited_row c (rel_of pairs c)) rows new pairs pairs' record {
+      up = up;
+      rising = rising_reported n (Edit c) rows w;
+      free = at.free;
+      there = ap (λ (g : ℕ → Option StampRow). g c) rows_at ∙ ap (λ (b : Bool). cond b (option_map f (row_at rows c)) (row_at rows c)) (eq-eqb c c refl) ∙ ap (option_map f) was;
+      same = λ m out. sym (ap (λ (g : ℕ → Option StampRow). look (g m)) rows_at ∙ ap (λ (b : Bool). look (cond b (option_map f (row_at rows m)) (row_at rows m))) (or_parts (c == m) false out).0);
     }
-  where
-    at_end : (x : Known) (xs : List Known) → In x (xs ++ x ∷ [])
-    at_end x [] = inl refl
-    at_end x (y ∷ xs) = inr (at_end x xs)
+    p (subst (λ (cs : List ℕ). Contains cs c) (sym same) ((p.copies c).1 w.able)) (λ m ne. subst (λ (cs : List ℕ). Contains cs m ↔ Contains pairs.copies m) (sym same) ((λ h. h), λ h. h)) holds
+    (λ q i free ne. subst (IsRelation (f r).stamp.event q.stamp.event) (ap (λ (k : ℕ). edited_rel (rel_of pairs k q.copy)) at.named ∙ ap (λ (b : Bool). cond b Equal (edited_rel (rel_of pairs c q.copy))) (sym (ne_eqb q.copy c ne)))
+    (raised_relates r.stamp.id r.stamp.event (f r).stamp.event q.stamp.event (rel_of pairs r.copy q.copy) (edit_raised n c rows r w at.there).0 (w.kept.stands.owner r q at.there i)
+    (p.rels r q at.there i at.free free (λ e. ne (sym e ∙ at.named)))))
+
+-- A duplicate.
+
+-- the entry's number is new
+pub new_copy : (n : ℕ) (report : FamilyReport) (rows : List StampRow) (pairs : Table) → IsReady n report rows → ArePaired rows pairs → ¬ Contains pairs.copies n
+new_copy n report rows pairs w p here =
+    let r = living_at rows n ((p.copies n).0 here) in
+    grind (arith, nat_tests)
+
+duplicate_changed : (n c : ℕ) (rows : List StampRow) → IsReady n (Duplicate c) rows → IsChanged n (row n (second_part (row_in rows c).stamp) n) rows (reported_rows n (Duplicate c) rows)
+duplicate_changed n c rows w =
+    let x = row n (second_part (row_in rows c).stamp) n in
+    let f : StampRow → StampRow = λ q. restamped (first_part q.stamp) q.touch q in
+    let rising = rising_reported n (Duplicate c) rows w in
+    record {
+      up = w.kept.rising;
+      rising = rising;
+      free = refl;
+      there = row_in_at 0 x (reported_rows n (Duplicate c) rows) rising (in_right x (renewed c f rows) (x ∷ []) (inl refl));
+      same = λ m out. sym (ap look (row_pushed (renewed c f rows) x m (or_parts (n == m) false out).0 ∙ ap (λ (g : ℕ → Option StampRow). g m) (row_renewed c f rows (λ q. refl))) ∙ look_mapped c f (row_at rows) m (λ q. refl));
+    }
+
+pub duplicate_room : (n c : ℕ) (rows : List StampRow) (pairs : Table) → IsReady n (Duplicate c) rows → ArePaired rows pairs → ByPlaces pairs.copies → length pairs.copies + 1 ≤ length (copy_rows (reported_rows n (Duplicate c) rows))
+duplicate_room n c rows pairs w p places =
+    let new = reported_rows n (Duplicate c) rows in
+    let x = row n (second_part (row_in rows c).stamp) n in
+    let h = duplicate_changed n c rows w in
+    let gone = new_copy n (Duplicate c) rows pairs w p in
+    room_for new pairs.copies n places (λ d here. seen_lives rows new d w.kept.rising (sym (h.same d (other n d (λ e. gone (subst (Contains pairs.copies) e here))))) ((p.copies d).0 here)) gone
+    (lives_from new x (in_from_at new n x h.there) refl)
+
+pub duplicate_paired : (n c : ℕ) (rows : List StampRow) (pairs pairs' : Table) → IsReady n (Duplicate c) rows → ArePaired rows pairs → ((d : ℕ) → Contains pairs.copies d → rel_of pairs d d ≡ Equal)
+    → pairs'.copies ≡ with_copy n pairs.copies → Holds pairs' (with_row n (rel_of pairs c) (rel_of pairs)) → ArePaired (reported_rows n (Duplicate c) rows) pairs'
+duplicate_paired n c rows pairs pairs' w p itself same holds =
+    let up = w.kept.rising in
+    let r = row_in rows c in
+    let at = row_lives rows c up w.able.0 in
+    let x = row n (second_part r.stamp) n in
+    change_paired n x (rel_of pairs c) rows (reported_rows n (Duplicate c) rows) pairs pairs' (duplicate_changed n c rows w) p (subst (λ (cs : List ℕ). Contains cs n) (sym same) (with_copy_new n pairs.copies))
+    (λ m ne. subst (λ (cs : List ℕ). Contains cs m ↔ Contains pairs.copies m) (sym same)
+    ((λ here. elim (in_with_copy n m pairs.copies here) [ inl e ↦ absurd (ne e) | inr was ↦ was ]), with_copy_old n m pairs.copies)) holds
+    (λ q i free ne. grind (arith, nat_tests, one_row))

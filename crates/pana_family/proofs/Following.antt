@@ -1,25 +1,24 @@
 -- A table of relations follows the rows: copies are taken out of it and put into it.
-use Rattle.std.specs.Prelude.{◌≡◌, ◌≢◌, ◌↔◌, ℕ, ◌+◌, ◌<◌, ◌≤◌, Bool, true, false, cond, ◌==◌, ◌||◌, not, List, [], ◌∷◌, ◌++◌, map, drop, Some, None, Option, Contains, IfSome, slice_index_or, length}
+use Rattle.std.specs.Prelude.{◌≡◌, ◌↔◌, ℕ, ◌+◌, ◌<◌, ◌≤◌, Bool, true, false, cond, ◌==◌, ◌||◌, not, List, [], ◌∷◌, ◌++◌, map, drop, Some, None, Option, Contains, IfSome, slice_index_or, length}
 use Rattle.std.specs.Option.{option_map}
 use Rattle.std.proofs.Common.{refl, sym, ap, subst, ◌∙◌, inl, inr, arith, zero, suc}
-use Rattle.std.proofs.lemmas.Bool.{cases_Bool, both_ways, eqb-true, ne_eqb, or_from, or_parts}
+use Rattle.std.proofs.lemmas.Bool.{cases_Bool, eqb-true, or_parts}
 use Rattle.std.proofs.lemmas.List.{length-append, length-map}
 use Rattle.std.proofs.lemmas.List.Elements.{filter-append}
+use Rattle.std.proofs.lemmas.Bool.Decides.{nat_tests}
 use Rattle.pana_event.specs.Event.{Event}
-use Rattle.pana_event.specs.Relation.{IsRelation}
 use Rattle.pana_event.specs.declared.rel.Rel.{Rel}
 use Rattle.pana_rel.specs.Pairs.{Table, Holds, rel_of, with_copy, with_row, without}
 use Rattle.pana_family.specs.declared.row.StampRow.{StampRow}
 use Rattle.pana_family.specs.declared.change.Exchange.{Exchange}
 use Rattle.pana_family.specs.declared.change.Exchange.TheVariants.{Put, Take}
 use Rattle.pana_family.specs.declared.change.Change.{Change}
-use Rattle.pana_family.specs.declared.change.Change.TheVariants.{Event as Renew, Touch, Rows}
+use Rattle.pana_family.specs.declared.change.Change.TheVariants.{Rows}
 use Rattle.pana_family.specs.declared.report.FamilyReport.{FamilyReport}
 use Rattle.pana_family.specs.Report.{IsMade}
 use Rattle.pana_family.specs.Updates.{has}
-use Rattle.pana_family.specs.Holders.{is_copy}
 use Rattle.pana_family.specs.Table.{In}
-use Rattle.pana_family.specs.Change.{after, changed, inverse, number_of, numbers_in, placed, placed_all, with_touch}
+use Rattle.pana_family.specs.Change.{after, changed, inverse, number_of, numbers_in, placed, placed_all}
 use Rattle.pana_family.specs.Rows.{IsRising, copy_rows, lives, row_at}
 use Rattle.pana_family.specs.Kept.{IsKept}
 use Rattle.pana_family.specs.Paired.{ArePaired}
@@ -29,9 +28,6 @@ use Rattle.pana_family.proofs.Copies.{ByPlaces, Rises, contains_has, copies_are,
 use Rattle.pana_family.proofs.Inverses.{after_back, after_is, in_from_at, named_at, rising_after, row_after}
 use Rattle.pana_family.proofs.Places.{row_in_at}
 
-with_row_rest : (n : ℕ) (row : ℕ → Rel) (rel : ℕ → ℕ → Rel) (a b : ℕ) → a ≢ n → b ≢ n → with_row n row rel a b ≡ rel a b
-with_row_rest n row rel a b ne ne' = rw (ne_eqb a n ne, ne_eqb b n ne') refl
-
 -- the copies that are compared nowhere are in the table
 there_still : (gone coming but : List ℕ) (rows : List StampRow) (pairs : Table) (r : StampRow) → IsFollowed gone coming but rows pairs → In r rows → r.holder ≡ None → has but r.copy ≡ false → Contains pairs.copies r.copy
 there_still gone coming but rows pairs r f i free out = f.there r.copy (f.later r.copy out) (lives_from rows r i free)
@@ -39,8 +35,7 @@ there_still gone coming but rows pairs r f i free out = f.there r.copy (f.later 
 -- the same relations hold in another table that has these copies
 same_compared : (gone coming but : List ℕ) (rows : List StampRow) (old new : Table) → IsFollowed gone coming but rows old
     → ((r q : StampRow) → In r rows → In q rows → r.holder ≡ None → q.holder ≡ None → has but r.copy ≡ false → has but q.copy ≡ false → rel_of new r.copy q.copy ≡ rel_of old r.copy q.copy) → AreCompared but rows new
-same_compared gone coming but rows old new f same r q i j free free' ne out out' =
-    subst (IsRelation r.stamp.event q.stamp.event) (sym (same r q i j free free' out out')) (f.rels r q i j free free' ne out out')
+same_compared gone coming but rows old new f same r q i j free free' ne out out' = grind (arith, nat_tests)
 
 -- A copy that doesn't live is taken out.
 
@@ -48,15 +43,14 @@ pub taken_out : (n : ℕ) (rows : List StampRow) (old new : Table) → lives row
     → IsFollowed gone coming but rows new
 taken_out n rows old new dead are holds gone coming but f =
     let still : (c : ℕ) → Contains old.copies c → lives rows c ≡ true → Contains new.copies c = λ c here alive.
-    subst (λ (cs : List ℕ). Contains cs c) (sym are) (without_other n c old.copies here (λ e. both_ways (lives rows n) dead (subst (λ (k : ℕ). lives rows k ≡ true) e alive))) in
+    subst (λ (cs : List ℕ). Contains cs c) (sym are) (grind (arith, nat_tests, without_other)) in
     record {
       inside = λ c out here.
           let k = in_without_copy n c old.copies (subst (λ (cs : List ℕ). Contains cs c) are here) in
-          f.inside c (or_from (n == c) (has gone c) (ne_eqb n c (λ e. k.1 (sym e))) out) k.0;
+          f.inside c (grind (arith, nat_tests)) k.0;
       there = λ c out alive. still c (f.there c out alive) alive;
       later = f.later;
-      rels = same_compared (n ∷ gone) coming but rows old new f (λ r q i j free free' out out'.
-          holds r.copy q.copy (still r.copy (there_still (n ∷ gone) coming but rows old r f i free out) (lives_from rows r i free)) (still q.copy (there_still (n ∷ gone) coming but rows old q f j free' out') (lives_from rows q j free')));
+      rels = grind (arith, nat_tests, same_compared, there_still, lives_from);
     }
 
 -- A living copy is put in.
@@ -73,16 +67,14 @@ was_put n rows row old new alive gone are holds coming but f =
       ];
       there = λ c out here. elim (cases_Bool (n == c)) [
         | inl e ↦ subst (Contains new.copies) (eqb-true n c e) (subst (λ (cs : List ℕ). Contains cs n) (sym are) (with_copy_new n old.copies))
-        | inr ne ↦ still c (f.there c (or_from (n == c) (has coming c) ne out) here)
+        | inr ne ↦ grind (arith, nat_tests)
       ];
       later = λ c out. (or_parts (n == c) (has coming c) (f.later c out)).1;
-      rels = same_compared [] (n ∷ coming) but rows old new f (λ r q i j free free' out out'.
-          holds r.copy q.copy (still r.copy (known r i free out)) (still q.copy (known q j free' out'))
-          ∙ with_row_rest n row (rel_of old) r.copy q.copy (λ e. gone (subst (Contains old.copies) e (known r i free out))) (λ e. gone (subst (Contains old.copies) e (known q j free' out'))));
+      rels = grind (arith, nat_tests);
     }
 
 pub not_had : (pairs : Table) (n : ℕ) {cs : List ℕ} {b : Bool} → cs ≡ pairs.copies → b ≡ has cs n → b ≡ false → ¬ Contains pairs.copies n
-not_had pairs n {b = b} same is out here = both_ways b out (is ∙ ap (λ (l : List ℕ). has l n) same ∙ contains_has pairs.copies n here)
+not_had pairs n {b = b} same is out here = grind (arith, nat_tests, contains_has)
 
 -- How many they are.
 
@@ -113,7 +105,7 @@ room_for rows cs n places inside gone alive =
     let ys : List ℕ = map (λ r. r.copy) (copy_rows rows) in
     let member : (c : ℕ) → lives rows c ≡ true → Contains ys c = λ c h. has_contains ys c (has_rows rows c ∙ h) in
     let rest = no_more 0 cs (without n ys) (rises_places 0 cs places (λ c h. omega arith)) (λ c h. without_other n c ys (member c (inside c h)) (λ e. gone (subst (Contains cs) e h))) in
-    omega (arith, rest, one_out n ys (contains_has ys n (member n alive)), length-map (copy_rows rows) (λ r. r.copy))
+    grind (arith, nat_tests, one_out, contains_has, length-map)
 
 -- a table with the living copies has as many as there are
 pub as_many : (rows : List StampRow) (cs : List ℕ) → IsRising 0 rows → ByPlaces cs → ((c : ℕ) → Contains cs c ↔ (lives rows c ≡ true)) → length cs ≡ length (copy_rows rows)
@@ -125,20 +117,17 @@ pub has_copies : (but : List ℕ) (rows : List StampRow) (pairs : Table) → IsF
 has_copies but rows pairs f c = ((λ here. f.inside c refl here), λ alive. f.there c refl alive)
 
 pub all_followed : (rows : List StampRow) (pairs : Table) → HasCopies rows pairs → AreCompared [] rows pairs → ArePaired rows pairs
-all_followed rows pairs has_all compared = record { copies = has_all; rels = λ r q i j free free' ne. compared r q i j free free' ne refl refl }
+all_followed rows pairs has_all compared = grind (arith, nat_tests)
 
 pub reserved_paired : (rows : List StampRow) (old new : Table) → ArePaired rows old → new.copies ≡ old.copies → ((a b : ℕ) → rel_of new a b ≡ rel_of old a b) → ArePaired rows new
-reserved_paired rows old new p same rels = record {
-  copies = λ copy. subst (λ (cs : List ℕ). Contains cs copy ↔ (lives rows copy ≡ true)) (sym same) (p.copies copy);
-  rels = λ r q i j free free' ne. subst (IsRelation r.stamp.event q.stamp.event) (sym (rels r.copy q.copy)) (p.rels r q i j free free' ne);
-}
+reserved_paired rows old new p same rels = grind (arith, nat_tests)
 
 -- what the table is made of, of a row
 abbrev pub look : Option StampRow → Option (Option ℕ × Event)
 look o = option_map (λ r. (r.holder, r.stamp.event)) o
 
 -- a row that looks the same stands in the other list
-seen_row : (rows new : List StampRow) (n : ℕ) (r : StampRow) → look (row_at new n) ≡ look (row_at rows n) → row_at rows n ≡ Some r → (q : StampRow) × In q new × (q.copy ≡ n) × (q.holder ≡ r.holder) × (q.stamp.event ≡ r.stamp.event)
+pub seen_row : (rows new : List StampRow) (n : ℕ) (r : StampRow) → look (row_at new n) ≡ look (row_at rows n) → row_at rows n ≡ Some r → (q : StampRow) × In q new × (q.copy ≡ n) × (q.holder ≡ r.holder) × (q.stamp.event ≡ r.stamp.event)
 seen_row rows new n r same is = find (row_at new n) refl (same ∙ ap look is)
   where
     find : (o : Option StampRow) → row_at new n ≡ o → look o ≡ Some (r.holder, r.stamp.event) → (q : StampRow) × In q new × (q.copy ≡ n) × (q.holder ≡ r.holder) × (q.stamp.event ≡ r.stamp.event)
@@ -147,45 +136,23 @@ seen_row rows new n r same is = find (row_at new n) refl (same ∙ ap look is)
         let both : ◌≡◌ {A = Option ℕ × Event} (q.holder, q.stamp.event) (r.holder, r.stamp.event) = cc e in
         (q, in_from_at new n q there, named_at new n q there, ap (λ (p : Option ℕ × Event). p.0) both, ap (λ (p : Option ℕ × Event). p.1) both)
 
-seen_lives : (rows new : List StampRow) (n : ℕ) → IsRising 0 rows → look (row_at new n) ≡ look (row_at rows n) → lives rows n ≡ true → lives new n ≡ true
-seen_lives rows new n up same alive =
-    let r = living_at rows n alive in
-    let q = seen_row rows new n r.0 same (subst (λ (k : ℕ). row_at rows k ≡ Some r.0) r.2 (row_in_at 0 r.0 rows up r.1)) in
-    subst (λ (k : ℕ). lives new k ≡ true) q.2 (lives_from new q.0 q.1 (q.3 ∙ r.3))
+pub seen_lives : (rows new : List StampRow) (n : ℕ) → IsRising 0 rows → look (row_at new n) ≡ look (row_at rows n) → lives rows n ≡ true → lives new n ≡ true
+seen_lives rows new n up same alive = grind (arith, nat_tests, living_at, seen_row, row_in_at, lives_from)
 
 -- rows that look as those of the table do, but at some numbers
 pub followed_from : (rows new : List StampRow) (ns : List ℕ) (pairs : Table) → IsRising 0 rows → IsRising 0 new → ((n : ℕ) → has ns n ≡ false → look (row_at rows n) ≡ look (row_at new n)) → ArePaired rows pairs
     → IsFollowed ns ns ns new pairs
-followed_from rows new ns pairs up down same p =
-    let old : (r : StampRow) → In r new → has ns r.copy ≡ false → (q : StampRow) × In q rows × (q.copy ≡ r.copy) × (q.holder ≡ r.holder) × (q.stamp.event ≡ r.stamp.event) = λ r i out.
-    seen_row new rows r.copy r (same r.copy out) (row_in_at 0 r new down i) in
-    record {
-      inside = λ c out here. seen_lives rows new c up (sym (same c out)) ((p.copies c).0 here);
-      there = λ c out alive. (p.copies c).1 (seen_lives new rows c down (same c out) alive);
-      later = λ c out. out;
-      rels = λ r q i j free free' ne out out'.
-          let a = old r i out in
-          let b = old q j out' in
-          subst (λ (e : Event). IsRelation e q.stamp.event (rel_of pairs r.copy q.copy)) a.4 (subst (λ (e : Event). IsRelation a.0.stamp.event e (rel_of pairs r.copy q.copy)) b.4
-          (subst (λ (k : ℕ). IsRelation a.0.stamp.event b.0.stamp.event (rel_of pairs k q.copy)) a.2 (subst (λ (k : ℕ). IsRelation a.0.stamp.event b.0.stamp.event (rel_of pairs a.0.copy k)) b.2
-          (p.rels a.0 b.0 a.1 b.1 (a.3 ∙ free) (b.3 ∙ free') (λ e. ne (sym a.2 ∙ e ∙ b.2))))));
-    }
+followed_from rows new ns pairs up down same p = grind (arith, nat_tests, seen_row, row_in_at, seen_lives)
 
 -- a change alters nothing that is seen but at its numbers
 pub looks_same : (c : Change) (rows : ℕ → Option StampRow) (n : ℕ) → has (numbers_in c) n ≡ false → look (changed c rows n) ≡ look (rows n)
-looks_same (Renew copy event touch) rows n out = ap (λ (b : Bool). look (cond b (option_map (λ r. record { copy = r.copy; holder = r.holder; stamp = record { id = r.stamp.id; event = event }; touch = touch }) (rows n)) (rows n))) (or_parts (copy == n) false out).0
-looks_same (Touch copy touch) rows n out =
-    elim (copy == n) as (λ b. look (cond b (option_map (with_touch touch) (rows n)) (rows n)) ≡ look (rows n)) [ true ↦ touched (rows n) | false ↦ refl ]
-  where
-    touched : (o : Option StampRow) → look (option_map (with_touch touch) o) ≡ look o
-    touched None = refl
-    touched (Some r) = refl
 looks_same (Rows news) rows n out = ap look (placed_else news.items rows n out)
   where
     placed_else : (xs : List Exchange) (rows : ℕ → Option StampRow) (n : ℕ) → has (map number_of xs) n ≡ false → placed_all xs rows n ≡ rows n
     placed_else [] rows n out = refl
     placed_else (Put r ∷ xs) rows n out = let p = or_parts (r.copy == n) (has (map number_of xs) n) out in placed_else xs (placed (Put r) rows) n p.1 ∙ ap (λ (b : Bool). cond b (Some r) (rows n)) p.0
     placed_else (Take m ∷ xs) rows n out = let p = or_parts (m == n) (has (map number_of xs) n) out in placed_else xs (placed (Take m) rows) n p.1 ∙ ap (λ (b : Bool). cond b None (rows n)) p.0
+looks_same c rows n out = grind (arith, nat_tests)
 
 -- the table of the rows that a change takes back
 pub followed_back : (c : Change) (rows : List StampRow) (pairs : Table) → IsRising 0 rows → ArePaired (after c rows) pairs → IsFollowed (numbers_in c) (numbers_in c) (numbers_in c) rows pairs
@@ -194,22 +161,19 @@ followed_back c rows pairs up p =
     (λ n out. ap (λ (f : ℕ → Option StampRow). look (f n)) (row_after c rows) ∙ looks_same c (row_at rows) n out) p
 
 -- one row more, at the end
-row_pushed : (rows : List StampRow) (r : StampRow) (n : ℕ) → (r.copy == n) ≡ false → row_at (rows ++ r ∷ []) n ≡ row_at rows n
+pub row_pushed : (rows : List StampRow) (r : StampRow) (n : ℕ) → (r.copy == n) ≡ false → row_at (rows ++ r ∷ []) n ≡ row_at rows n
 row_pushed [] r n other = ap (λ (b : Bool). cond b (Some r) None) other
-row_pushed (q ∷ rows) r n other = ap (λ (o : Option StampRow). cond (q.copy == n) (Some q) o) (row_pushed rows r n other)
+row_pushed (q ∷ rows) r n other = grind (arith, nat_tests, row_pushed rows r n other)
 
 pub pushed_followed : (rows : List StampRow) (r : StampRow) (pairs : Table) → IsRising 0 rows → IsRising 0 (rows ++ r ∷ []) → ArePaired rows pairs → IsFollowed (r.copy ∷ []) (r.copy ∷ []) (r.copy ∷ []) (rows ++ r ∷ []) pairs
 pushed_followed rows r pairs up down p =
-    followed_from rows (rows ++ r ∷ []) (r.copy ∷ []) pairs up down (λ n out. ap look (sym (row_pushed rows r n (or_parts (r.copy == n) false out).0))) p
+    followed_from rows (rows ++ r ∷ []) (r.copy ∷ []) pairs up down (λ n out. grind (arith, nat_tests, row_pushed)) p
 
 -- Numbers one after another.
 
 pub numbers_left : (news : List Exchange) (i : ℕ) (x : Exchange) → i < length news → x ≡ slice_index_or news i x → drop i (map number_of news) ≡ number_of x ∷ drop (i + 1) (map number_of news)
-numbers_left [] i x h e = absurd (omega (arith, h))
-numbers_left (y ∷ news) zero x h e = ap (λ (z : Exchange). number_of z ∷ map number_of news) (sym e)
-numbers_left (y ∷ news) (suc i) x h e =
-    let next : suc i + 1 ≡ suc (i + 1) = omega arith in
-    numbers_left news i x (omega (arith, h)) e ∙ ap (λ (k : ℕ). number_of x ∷ drop k (number_of y ∷ map number_of news)) (sym next)
+numbers_left (y ∷ news) (suc i) x h e = grind (arith, nat_tests, numbers_left news i x (omega (arith, h)) e)
+numbers_left news i x h e = grind (arith, nat_tests)
 
 pub none_left : (news : List Exchange) (i : ℕ) → length news ≤ i → drop i (map number_of news) ≡ []
 none_left [] zero h = refl
@@ -219,7 +183,7 @@ none_left (y ∷ news) (suc i) h = none_left news i (omega (arith, h))
 
 -- what a report made, where it is known which
 pub made_of : (o : Option (ℕ × FamilyReport)) (n : ℕ) (report : FamilyReport) (rows new : List StampRow) → IfSome o (λ m. IsMade m.0 m.1 rows new) → o ≡ Some (n, report) → IsMade n report rows new
-made_of o n report rows new made is = subst (λ (p : Option (ℕ × FamilyReport)). IfSome p (λ m. IsMade m.0 m.1 rows new)) is made
+made_of o n report rows new made is = grind (arith, nat_tests)
 
 -- rows that were changed
 pub record Applied (c back : Change) (rows new : List StampRow) : Type 0 where
@@ -228,20 +192,12 @@ pub record Applied (c back : Change) (rows new : List StampRow) : Type 0 where
   pub back_is : after back new ≡ rows
 
 pub applied : (c back : Change) (rows new value : List StampRow) → IsKept rows → rows ≡ value → IsKept (after c value) → IsRising 0 new → row_at new ≡ changed c (row_at rows) → back ≡ inverse c (row_at rows) → Applied c back rows new
-applied c back rows new value k same kept up is taken =
-    let made : new ≡ after c rows = after_is c rows new k.rising up is in
-    record {
-      kept = subst IsKept (sym (made ∙ ap (after c) same)) kept;
-      rows_are = made;
-      back_is = ap (λ (b : Change). after b new) taken ∙ ap (after (inverse c (row_at rows))) made ∙ after_back c rows k.rising;
-    }
+applied c back rows new value k same kept up is taken = grind (arith, nat_tests, after_is, after_back)
 
 -- they were made by a report
 pub made_again : (o : Option (ℕ × FamilyReport)) (rows new rows' new' : List StampRow) → IfSome o (λ m. IsMade m.0 m.1 rows new) → rows ≡ rows' → new ≡ new' → IfSome o (λ m. IsMade m.0 m.1 rows' new')
-made_again o rows new rows' new' made one two = subst (λ (l : List StampRow). IfSome o (λ m. IsMade m.0 m.1 l new')) one (subst (λ (l : List StampRow). IfSome o (λ m. IsMade m.0 m.1 rows l)) two made)
+made_again o rows new rows' new' made one two = grind (arith, nat_tests)
 
 -- one row more is at most one copy more
 pub at_most_one : (rows : List StampRow) (r : StampRow) → length (copy_rows (rows ++ r ∷ [])) ≤ length (copy_rows rows) + 1
-at_most_one rows r =
-    let single : length (copy_rows (r ∷ [])) ≤ 1 = elim (is_copy r.holder) as (λ b. length (cond b (r ∷ []) []) ≤ 1) [ true ↦ omega arith | false ↦ omega arith ] in
-    omega (arith, ap (λ (l : List StampRow). length l) (filter-append (λ (q : StampRow). is_copy q.holder) rows (r ∷ [])), length-append (copy_rows rows) (copy_rows (r ∷ [])), single)
+at_most_one rows r = grind (arith, nat_tests, filter-append, length-append)

@@ -23,7 +23,6 @@ pub mod Planned
 pub mod Exacts
 pub mod Followed
 pub mod Following
-pub mod Counted
 pub mod Texts
 pub mod Able
 pub mod Sending

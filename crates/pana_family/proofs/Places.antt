@@ -1,39 +1,33 @@
 -- Rows by their places, and rising rows after a change.
-use Rattle.std.specs.Prelude.{◌≡◌, ◌≢◌, ℕ, ◌≤◌, ◌<◌, ◌+◌, Bool, true, false, ◌||◌, ◌==◌, cond, not, List, [], ◌∷◌, ◌++◌, length, Option, Some, None, position, nat_lt, nat_le, unwrap_or}
+use Rattle.std.specs.Prelude.{◌≡◌, ◌≢◌, ℕ, ◌≤◌, ◌<◌, ◌+◌, Bool, true, false, ◌||◌, ◌==◌, cond, not, List, [], ◌∷◌, ◌++◌, length, Option, Some, None, position, nat_le}
 use Rattle.std.specs.List.{remove, insert, position_or_len, list_any}
 use Rattle.std.proofs.Common.{refl, sym, ap, subst, ◌∙◌, inl, inr, arith, get_or, zero, suc}
-use Rattle.std.proofs.lemmas.Bool.{cases_Bool, eq-eqb, ne_eqb, eqb-true, lt-ltb, le-ltb, leb-true, leb-false, ltb-false}
-use Rattle.pana_id.specs.Id.{depth, zero_id}
-use Rattle.pana_event.specs.Event.{leaf}
+use Rattle.std.proofs.lemmas.Bool.{ne_eqb, leb-false}
+use Rattle.std.proofs.lemmas.Bool.Decides.{nat_tests}
+use Rattle.pana_id.specs.Id.{depth}
 use Rattle.pana_family.specs.declared.row.StampRow.{StampRow}
 use Rattle.pana_family.specs.Table.{In}
 use Rattle.pana_family.specs.Holders.{is_copy}
-use Rattle.pana_family.specs.Rows.{IsRising, dropped, put_back, row, row_at, row_in, stamp, deepest}
+use Rattle.pana_family.specs.Rows.{IsRising, dropped, put_back, row_at, row_in, deepest}
 use Rattle.pana_family.proofs.Members.{above_low}
 
 pub in_at : (rows : List StampRow) (i : ℕ) (d : StampRow) → i < length rows → In (get_or rows i d) rows
-in_at [] i d within = absurd (omega arith)
-in_at (r ∷ rows) zero d within = inl refl
 in_at (r ∷ rows) (suc i) d within = inr (in_at rows i d (omega arith))
+in_at rows i d within = grind (arith, nat_tests)
 
 pub in_read : (rows : List StampRow) (i : ℕ) (r : StampRow) → i < length rows → r ≡ get_or rows i r → In r rows
 in_read rows i r within e = subst (λ (q : StampRow). In q rows) (sym e) (in_at rows i r within)
 
 pub dropped_none : (low c : ℕ) (rows : List StampRow) → IsRising low rows → c < low → dropped c rows ≡ rows
 dropped_none low c [] up less = refl
-dropped_none low c (r ∷ rows) up less =
-    let other : (r.copy == c) ≡ false = ne_eqb r.copy c (λ e. omega (arith, up.0, e)) in
-    ap (λ (b : Bool). cond b (dropped c rows) (r ∷ dropped c rows)) other ∙ ap (λ (l : List StampRow). r ∷ l) (dropped_none (r.copy + 1) c rows up.1 (omega (arith, up.0)))
+dropped_none low c (r ∷ rows) up less = grind (arith, nat_tests, dropped_none (r.copy + 1) c rows up.1 (omega (arith, up.0)))
 
 pub remove_is : (low c i : ℕ) (d : StampRow) (rows : List StampRow) → IsRising low rows → i < length rows → (get_or rows i d).copy ≡ c → remove rows i ≡ dropped c rows
 remove_is low c i d [] up within at = absurd (omega arith)
-remove_is low c zero d (r ∷ rows) up within at =
-    sym (dropped_none (r.copy + 1) c rows up.1 (omega (arith, at)))
-    ∙ ap (λ (b : Bool). cond b (dropped c rows) (r ∷ dropped c rows)) (sym (eq-eqb r.copy c at))
+remove_is low c zero d (r ∷ rows) up within at = grind (arith, nat_tests, dropped_none)
 remove_is low c (suc i) d (r ∷ rows) up within at =
     let later : r.copy + 1 ≤ c = omega (arith, at, above_low (r.copy + 1) rows (get_or rows i d) up.1 (in_at rows i d (omega arith))) in
-    ap (λ (l : List StampRow). r ∷ l) (remove_is (r.copy + 1) c i d rows up.1 (omega arith) at)
-    ∙ ap (λ (b : Bool). cond b (dropped c rows) (r ∷ dropped c rows)) (sym (ne_eqb r.copy c (λ e. omega (arith, later, e))))
+    grind (arith, nat_tests, remove_is (r.copy + 1) c i d rows up.1 (omega arith) at)
 
 pub rising_lower : (low m : ℕ) (rows : List StampRow) → m ≤ low → IsRising low rows → IsRising m rows
 rising_lower low m [] less up = tt
@@ -41,12 +35,7 @@ rising_lower low m (r ∷ rows) less up = (omega (arith, up.0), up.1)
 
 pub rising_dropped : (low c : ℕ) (rows : List StampRow) → IsRising low rows → IsRising low (dropped c rows)
 rising_dropped low c [] up = tt
-rising_dropped low c (r ∷ rows) up =
-    let rest : IsRising (r.copy + 1) (dropped c rows) = rising_dropped (r.copy + 1) c rows up.1 in
-    elim (r.copy == c) as (λ b. IsRising low (cond b (dropped c rows) (r ∷ dropped c rows))) [
-      | true ↦ rising_lower (r.copy + 1) low (dropped c rows) (omega (arith, up.0)) rest
-      | false ↦ (up.0, rest)
-    ]
+rising_dropped low c (r ∷ rows) up = grind (arith, nat_tests, rising_dropped (r.copy + 1) c rows up.1, rising_lower)
 
 pub rising_pushed : (low : ℕ) (y : StampRow) (rows : List StampRow) → IsRising low rows → low ≤ y.copy → ((r : StampRow) → In r rows → r.copy < y.copy) → IsRising low (rows ++ y ∷ [])
 rising_pushed low y [] up least less = (least, tt)
@@ -54,9 +43,7 @@ rising_pushed low y (r ∷ rows) up least less =
     (up.0, rising_pushed (r.copy + 1) y rows up.1 (omega (arith, less r (inl refl))) (λ q i. less q (inr i)))
 
 pub put_back_later : (x r : StampRow) (rows : List StampRow) → r.copy < x.copy → put_back x (r ∷ rows) ≡ r ∷ put_back x rows
-put_back_later x r rows less =
-    ap (λ (b : Bool). cond b (x ∷ rows) (cond (nat_lt x.copy r.copy) (x ∷ (r ∷ rows)) (r ∷ put_back x rows))) (ne_eqb r.copy x.copy (λ e. omega (arith, e)))
-    ∙ ap (λ (b : Bool). cond b (x ∷ (r ∷ rows)) (r ∷ put_back x rows)) (le-ltb x.copy r.copy (omega arith))
+put_back_later x r rows less = grind (arith, nat_tests)
 
 -- where a row is or would be
 abbrev pub index_from : ℕ → List StampRow → ℕ
@@ -70,18 +57,13 @@ put_back_insert x d (r ∷ rows) other =
     elim (nat_le x.copy r.copy) as (λ b. nat_le x.copy r.copy ≡ b
     → (cond (not b) (1 + index_from x.copy rows) 0 < suc (length rows) → (get_or (r ∷ rows) (cond (not b) (1 + index_from x.copy rows) 0) d).copy ≢ x.copy)
     → insert (r ∷ rows) (cond (not b) (1 + index_from x.copy rows) 0) x ≡ put_back x (r ∷ rows)) [
-      | true ↦ λ w o.
-          let ne : r.copy ≢ x.copy = o (omega arith) in
-          sym (ap (λ (b : Bool). cond b (x ∷ rows) (cond (nat_lt x.copy r.copy) (x ∷ (r ∷ rows)) (r ∷ put_back x rows))) (ne_eqb r.copy x.copy ne)
-          ∙ ap (λ (b : Bool). cond b (x ∷ (r ∷ rows)) (r ∷ put_back x rows)) (lt-ltb x.copy r.copy (omega (arith, leb-true x.copy r.copy w, ne))))
+      | true ↦ grind (arith, nat_tests)
       | false ↦ λ w. rw next (λ o. ap (λ (l : List StampRow). r ∷ l) (put_back_insert x d rows (λ h. o (omega arith))) ∙ sym (put_back_later x r rows (leb-false x.copy r.copy w)))
     ] refl other
 
 pub place_from_within : (copy : ℕ) (rows : List StampRow) → index_from copy rows ≤ length rows
 place_from_within copy [] = omega arith
-place_from_within copy (r ∷ rows) =
-    let rest : index_from copy rows ≤ length rows = place_from_within copy rows in
-    elim (nat_le copy r.copy) as (λ b. cond (not b) (1 + index_from copy rows) 0 ≤ suc (length rows)) [ true ↦ omega arith | false ↦ omega arith ]
+place_from_within copy (r ∷ rows) = grind (arith, nat_tests, place_from_within copy rows)
 
 -- the first that passes the test
 abbrev pub first_in : (StampRow → Bool) → List StampRow → ℕ
@@ -92,11 +74,11 @@ first_within test [] here = absurd (cc)
 first_within test (r ∷ rows) here =
     elim (test r) as (λ b. (b || list_any test rows) ≡ true → cond (not b) (1 + first_in test rows) 0 < suc (length rows)) [
       | true ↦ λ h. omega arith
-      | false ↦ λ h. let rest : first_in test rows < length rows = first_within test rows h in omega arith
+      | false ↦ λ h. grind (arith, nat_tests, first_within test rows h)
     ] here
 
 pub first_found : (test : StampRow → Bool) (rows : List StampRow) → list_any test rows ≡ true → position test rows ≡ Some (first_in test rows)
-first_found test rows here = ap (λ b. cond b (Some (first_in test rows)) None) (lt-ltb (first_in test rows) (length rows) (first_within test rows here))
+first_found test rows here = grind (arith, nat_tests, first_within)
 
 pub first_holds : (test : StampRow → Bool) (rows : List StampRow) (d : StampRow) → list_any test rows ≡ true → test (get_or rows (first_in test rows) d) ≡ true
 first_holds test [] d here = absurd (cc)
@@ -112,36 +94,21 @@ at_end test [] none = omega arith
 at_end test (r ∷ rows) none =
     elim (test r) as (λ b. (b || list_any test rows) ≡ false → suc (length rows) ≤ cond (not b) (1 + first_in test rows) 0) [
       | true ↦ λ h. absurd (cc)
-      | false ↦ λ h. let rest : length rows ≤ first_in test rows = at_end test rows h in omega arith
+      | false ↦ λ h. grind (arith, nat_tests, at_end test rows h)
     ] none
 
 -- what a search for a number finds
 pub not_found : (copy : ℕ) (rows : List StampRow) → position (λ row. row.copy == copy) rows ≡ None → list_any (λ row. row.copy == copy) rows ≡ false
-not_found copy rows none = elim (cases_Bool (list_any (λ row. row.copy == copy) rows)) [ inl h ↦ absurd (cc (first_found (λ row. row.copy == copy) rows h, none)) | inr h ↦ h ]
+not_found copy rows none = grind (arith, nat_tests, first_found)
 
 pub is_found : (copy at : ℕ) (rows : List StampRow) → position (λ row. row.copy == copy) rows ≡ Some at → (at < length rows) × ((d : StampRow) → (get_or rows at d).copy ≡ copy)
-is_found copy at rows some =
-    let test : StampRow → Bool = λ row. row.copy == copy in
-    elim (cases_Bool (list_any (λ row. row.copy == copy) rows)) [
-      | inl h ↦
-          let here : at ≡ first_in test rows = cc (first_found test rows h, some) in
-          (omega (arith, here, first_within test rows h), λ d. ap (λ (k : ℕ). (get_or rows k d).copy) here ∙ eqb-true (get_or rows (first_in test rows) d).copy copy (first_holds test rows d h))
-      | inr h ↦
-          let nothing : position test rows ≡ None = ap (λ b. cond b (Some (first_in test rows)) None) (le-ltb (first_in test rows) (length rows) (at_end test rows h)) in
-          absurd (cc (nothing, some))
-    ]
+is_found copy at rows some = grind (arith, nat_tests, first_found, first_within, first_holds, at_end)
 
 pub from_some : (copy at : ℕ) (rows : List StampRow) → position (λ row. nat_le copy row.copy) rows ≡ Some at → at ≡ index_from copy rows
-from_some copy at rows some = elim (cases_Bool (nat_lt (index_from copy rows) (length rows))) [
-  | inl h ↦ cc (ap (λ b. cond b (Some (index_from copy rows)) None) h, some)
-  | inr h ↦ let none : position (λ row. nat_le copy row.copy) rows ≡ None = ap (λ b. cond b (Some (index_from copy rows)) None) h in absurd (cc (none, some))
-]
+from_some copy at rows some = grind (arith, nat_tests)
 
 pub from_none : (copy : ℕ) (rows : List StampRow) → position (λ row. nat_le copy row.copy) rows ≡ None → length rows ≡ index_from copy rows
-from_none copy rows none = elim (cases_Bool (nat_lt (index_from copy rows) (length rows))) [
-  | inl h ↦ let some : position (λ row. nat_le copy row.copy) rows ≡ Some (index_from copy rows) = ap (λ b. cond b (Some (index_from copy rows)) None) h in absurd (cc (none, some))
-  | inr h ↦ omega (arith, ltb-false (index_from copy rows) (length rows) h, place_from_within copy rows)
-]
+from_none copy rows none = grind (arith, nat_tests, place_from_within)
 
 -- Depths.
 
@@ -154,16 +121,15 @@ deepest_by m [] all = omega arith
 deepest_by m (r ∷ rows) all = omega (arith, all r (inl refl), deepest_by m rows (λ q i. all q (inr i)))
 
 pub free_from : (o : Option ℕ) → is_copy o ≡ true → o ≡ None
-free_from None e = refl
-free_from (Some h) e = absurd (cc)
+free_from o e = grind (arith, nat_tests)
 
 -- the row of a number
 pub row_in_at : (low : ℕ) (r : StampRow) (rows : List StampRow) → IsRising low rows → In r rows → row_at rows r.copy ≡ Some r
 row_in_at low r [] up i = absurd i
 row_in_at low r (q ∷ rows) up i = elim i [
-  | inl e ↦ ap (λ (k : StampRow). row_at (q ∷ rows) k.copy) e ∙ ap (λ (b : Bool). cond b (Some q) (row_at rows q.copy)) (eq-eqb q.copy q.copy refl) ∙ ap Some (sym e)
+  | inl e ↦ grind (arith, nat_tests)
   | inr j ↦ ap (λ (b : Bool). cond b (Some q) (row_at rows r.copy)) (ne_eqb q.copy r.copy (λ e. omega (arith, above_low (q.copy + 1) rows r up.1 j, e))) ∙ row_in_at (q.copy + 1) r rows up.1 j
 ]
 
 pub row_found : (r : StampRow) (rows : List StampRow) → IsRising 0 rows → In r rows → row_in rows r.copy ≡ r
-row_found r rows up i = ap (λ (o : Option StampRow). unwrap_or o (row r.copy (stamp zero_id (leaf 0)) 0)) (row_in_at 0 r rows up i)
+row_found r rows up i = grind (arith, nat_tests, row_in_at)

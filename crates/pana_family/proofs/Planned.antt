@@ -1,17 +1,16 @@
 -- The changes that reports make leave what is made of each row.
-use Rattle.std.specs.Prelude.{◌≡◌, ◌≢◌, ℕ, ◌<◌, ◌+◌, Bool, true, false, cond, ◌==◌, ◌||◌, List, [], ◌∷◌, ◌++◌, filter_map, length, take, drop, nat_lt, Option, Some, None}
+use Rattle.std.specs.Prelude.{◌≡◌, ◌≢◌, ℕ, ◌<◌, ◌+◌, Bool, true, false, cond, ◌==◌, List, [], ◌∷◌, ◌++◌, filter_map, length, take, drop, nat_lt, Option, Some, None}
 use Rattle.std.specs.List.{cons_option}
 use Rattle.std.proofs.Common.{refl, sym, ap, subst, ◌∙◌, inl, inr, arith, get_or, zero, suc}
-use Rattle.std.proofs.lemmas.Bool.{eq-eqb, eqb-true, eqb-false, le-ltb, ne_eqb}
+use Rattle.std.proofs.lemmas.Bool.{le-ltb, ne_eqb}
 use Rattle.std.proofs.lemmas.List.{append-nil, append_assoc, at_drop_more, take_more}
 use Rattle.std.proofs.lemmas.List.Elements.{filter_map-append}
+use Rattle.std.proofs.lemmas.Bool.Decides.{nat_tests}
 use Rattle.pana_event.specs.Event.{Event}
 use Rattle.pana_family.specs.declared.row.StampRow.{StampRow}
 use Rattle.pana_family.specs.declared.report.FamilyReport.TheVariants.{Duplicate, Edit, Touch}
 use Rattle.pana_family.specs.declared.settling.Plan.{Plan}
-use Rattle.pana_family.specs.declared.settling.Plan.TheVariants.{Share, Lose, Bequeath}
 use Rattle.pana_family.specs.declared.change.Exchange.{Exchange}
-use Rattle.pana_family.specs.Holders.{is_held}
 use Rattle.pana_family.specs.Table.{In}
 use Rattle.pana_family.specs.Rows.{IsRising, AreBefore, dropped, put_back, renewed, row}
 use Rattle.pana_family.specs.Change.{exchanged, exchanged_all, with_event, with_touch}
@@ -20,8 +19,7 @@ use Rattle.pana_family.specs.inner.Making.{IsRowOf, planned}
 use Rattle.pana_family.proofs.Members.{above_low, one_row}
 use Rattle.pana_family.proofs.Places.{put_back_later}
 use Rattle.pana_family.proofs.Sums.{last_above, rising_take}
-use Rattle.pana_family.proofs.Images.{in_made, unless_of}
-use Rattle.pana_family.proofs.Keeps.{bequeathed_all, shared_all}
+use Rattle.pana_family.proofs.Images.{in_made}
 
 -- One row changes.
 
@@ -33,17 +31,12 @@ others_stay c g (q ∷ rows) other =
 
 pub renewed_made : (c : ℕ) (f g : StampRow → StampRow) (rows : List StampRow) → ((r : StampRow) → In r rows → r.copy ≡ c → f r ≡ g r) → renewed c f rows ≡ filter_map (λ r. Some (cond (r.copy == c) (g r) r)) rows ++ []
 renewed_made c f g [] same = refl
-renewed_made c f g (q ∷ rows) same =
-    let rest = renewed_made c f g rows (λ p i. same p (inr i)) in
-    elim (q.copy == c) as (λ b. (q.copy == c) ≡ b → cond b (f q) q ∷ renewed c f rows ≡ cond b (g q) q ∷ (filter_map (λ r. Some (cond (r.copy == c) (g r) r)) rows ++ [])) [
-      | true ↦ λ w. ap (λ (x : StampRow). x ∷ renewed c f rows) (same q (inl refl) (eqb-true q.copy c w)) ∙ ap (λ (l : List StampRow). g q ∷ l) rest
-      | false ↦ λ w. ap (λ (l : List StampRow). q ∷ l) rest
-    ] refl
+renewed_made c f g (q ∷ rows) same = grind (arith, nat_tests, renewed_made c f g rows (λ p i. same p (inr i)))
 
 pub edit_exact : (rows : List StampRow) (c n : ℕ) (r : StampRow) (e : Event) → IsRising 0 rows → IsRowOf rows c r → e ≡ updated r.stamp.id r.stamp.event → renewed c (with_event e n) rows ≡ reported_rows n (Edit c) rows
 edit_exact rows c n r e up at is =
     renewed_made c (with_event e n) (λ q. restamped (updated_stamp q.stamp) n q) rows
-    (λ q i named. ap (λ (f : Event). with_event f n q) (is ∙ ap (λ (w : StampRow). updated w.stamp.id w.stamp.event) (one_row 0 rows r q up at.there i (at.named ∙ sym named))))
+    (λ q i named. grind (arith, nat_tests, one_row))
 
 pub touch_exact : (rows : List StampRow) (c n : ℕ) → renewed c (with_touch n) rows ≡ reported_rows n (Touch c) rows
 touch_exact rows c n = renewed_made c (with_touch n) (λ q. restamped q.stamp n q) rows (λ q i named. refl)
@@ -54,11 +47,9 @@ put_there low x r g [] up i named is = absurd i
 put_there low x r g (q ∷ rows) up i named is =
     let new : List StampRow = filter_map (λ p. Some (cond (p.copy == x.copy) (g p) p)) rows in
     elim (q.copy == x.copy) as (λ b. (q.copy == x.copy) ≡ b → cond b (x ∷ rows) (cond (nat_lt x.copy q.copy) (x ∷ (q ∷ rows)) (q ∷ put_back x rows)) ≡ cond b (g q) q ∷ new) [
-      | true ↦ λ w.
-          let one : q ≡ r = one_row low (q ∷ rows) q r up (inl refl) i (eqb-true q.copy x.copy w ∙ sym named) in
-          ap (λ (p : StampRow). p ∷ rows) (sym is ∙ ap g (sym one)) ∙ ap (λ (l : List StampRow). g q ∷ l) (sym (others_stay x.copy g rows (λ p j e. omega (arith, above_low (q.copy + 1) rows p up.1 j, e, eqb-true q.copy x.copy w))))
+      | true ↦ grind (arith, nat_tests, one_row, others_stay, above_low)
       | false ↦ λ w. elim i [
-        | inl e ↦ absurd (eqb-false q.copy x.copy w (ap (λ (p : StampRow). p.copy) (sym e) ∙ named))
+        | inl e ↦ absurd (grind (arith, nat_tests))
         | inr j ↦ ap (λ (b : Bool). cond b (x ∷ (q ∷ rows)) (q ∷ put_back x rows)) (le-ltb x.copy q.copy (omega (arith, named, above_low (q.copy + 1) rows r up.1 j)))
             ∙ ap (λ (l : List StampRow). q ∷ l) (put_there (q.copy + 1) x r g rows up.1 j named is)
       ]
@@ -91,12 +82,10 @@ exchanged_more [] x rows = refl
 exchanged_more (y ∷ xs) x rows = exchanged_more xs x (exchanged y rows)
 
 pub planned_named : (n : ℕ) (plan : Plan) (rows : List StampRow) (r x : StampRow) → planned n plan rows r ≡ Some x → x.copy ≡ r.copy
-planned_named n (Share a b first second) rows r x is = shared_all (λ (y : StampRow). y.copy ≡ r.copy) n a b first second rows r x (λ e. refl) (λ e. refl) refl is
-planned_named n (Lose c) rows r x is = unless_of (r.copy == c || is_held c r.holder) (λ (y : StampRow). y.copy ≡ r.copy) r x (λ o. refl) is
-planned_named n (Bequeath c h e) rows r x is = bequeathed_all (λ (y : StampRow). y.copy ≡ r.copy) c h e rows r x (λ e. refl) refl is
+planned_named n plan rows r x is = grind (arith, nat_tests)
 
 put_at : (x r : StampRow) (front rest : List StampRow) → x.copy ≡ r.copy → ((q : StampRow) → In q front → q.copy < x.copy) → put_back x (front ++ r ∷ rest) ≡ front ++ x ∷ rest
-put_at x r [] rest same less = ap (λ (b : Bool). cond b (x ∷ rest) (cond (nat_lt x.copy r.copy) (x ∷ (r ∷ rest)) (r ∷ put_back x rest))) (eq-eqb r.copy x.copy (sym same))
+put_at x r [] rest same less = grind (arith, nat_tests)
 put_at x r (q ∷ front) rest same less = put_back_later x q (front ++ r ∷ rest) (less q (inl refl)) ∙ ap (λ (l : List StampRow). q ∷ l) (put_at x r front rest same (λ p i. less p (inr i)))
 
 none_dropped : (c : ℕ) (rows : List StampRow) → ((q : StampRow) → In q rows → q.copy ≢ c) → dropped c rows ≡ rows
@@ -104,7 +93,7 @@ none_dropped c [] other = refl
 none_dropped c (q ∷ rows) other = ap (λ (b : Bool). cond b (dropped c rows) (q ∷ dropped c rows)) (ne_eqb q.copy c (other q (inl refl))) ∙ ap (λ (l : List StampRow). q ∷ l) (none_dropped c rows (λ p i. other p (inr i)))
 
 drop_at : (r : StampRow) (front rest : List StampRow) → ((q : StampRow) → In q front → q.copy ≢ r.copy) → ((q : StampRow) → In q rest → q.copy ≢ r.copy) → dropped r.copy (front ++ r ∷ rest) ≡ front ++ rest
-drop_at r [] rest less more = ap (λ (b : Bool). cond b (dropped r.copy rest) (r ∷ dropped r.copy rest)) (eq-eqb r.copy r.copy refl) ∙ none_dropped r.copy rest more
+drop_at r [] rest less more = grind (arith, nat_tests, none_dropped)
 drop_at r (q ∷ front) rest less more =
     ap (λ (b : Bool). cond b (dropped r.copy (front ++ r ∷ rest)) (q ∷ dropped r.copy (front ++ r ∷ rest))) (ne_eqb q.copy r.copy (less q (inl refl))) ∙ ap (λ (l : List StampRow). q ∷ l) (drop_at r front rest (λ p i. less p (inr i)) more)
 

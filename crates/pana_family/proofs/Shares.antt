@@ -1,8 +1,10 @@
 -- Two copies share a stamp, and are settled.
 use Rattle.std.specs.Prelude.{◌≡◌, ◌≢◌, ℕ, ◌≤◌, max, Bool, true, false, cond, ◌&&◌, ◌||◌, ◌==◌, List, ◌∷◌, Option, Some, None}
 use Rattle.std.proofs.Common.{refl, sym, ap, subst, ◌∙◌, inl, inr}
-use Rattle.std.proofs.lemmas.Bool.{cases_Bool, both_ways, and_parts, or_parts, eqb-true, eqb-false}
-use Rattle.pana_id.specs.Id.{Id, has as owns, depth, is_single, parts, sum_of, IsParted, IsSum, IsValid, SharesNoPoint}
+use Rattle.std.proofs.lemmas.Bool.{cases_Bool, and_parts, or_parts, eqb-true, eqb-false}
+use Rattle.std.proofs.Common.{arith}
+use Rattle.std.proofs.lemmas.Bool.Decides.{nat_tests}
+use Rattle.pana_id.specs.Id.{Id, depth, is_single, parts, sum_of, IsParted, IsSum, IsValid, SharesNoPoint}
 use Rattle.pana_id.proofs.Divides.{sum_of_divides, parts_of_sum}
 use Rattle.pana_id.proofs.Parts.{parted-parts, valid-parts}
 use Rattle.pana_id.proofs.Sums.{summed-sum, valid-sum}
@@ -22,11 +24,11 @@ use Rattle.pana_family.specs.Rows.{IsRising, stamp, AreSound}
 use Rattle.pana_family.specs.Kept.{IsKept}
 use Rattle.pana_family.specs.After.{ends, first_part, joined_stamp, second_part, settled, shared}
 use Rattle.pana_family.specs.inner.Making.{CanGather, IsRowOf}
-use Rattle.pana_family.proofs.Sound.{Sound, Others, Put, United, Updated, all_put, all_united, edit_keeps, fewer, join_keeps, part_left, part_right, share_keeps, sum_apart}
+use Rattle.pana_family.proofs.Sound.{Sound, Others, Put, United, Updated, all_put, all_united, edit_keeps, fewer, join_keeps, share_keeps, sum_apart}
 use Rattle.pana_family.proofs.Sums.{Ending, Gathered, gathers, within_is}
 use Rattle.pana_family.proofs.Unions.{union_members}
-use Rattle.pana_family.proofs.Members.{Holds, held, holds_found, not_held, one_row, put_more, to_sound, union_fresh, unknown_yet}
-use Rattle.pana_family.proofs.Tables.{know_first, know_other, know_second, know_two, united_known, unless}
+use Rattle.pana_family.proofs.Members.{holds_at, Holds, held, not_held, one_row, to_sound, union_fresh, unknown_yet}
+use Rattle.pana_family.proofs.Tables.{know_two, united_known, unless}
 use Rattle.pana_family.proofs.Images.{Alike, Outcome, some, alike_row, stay_outcome}
 
 -- Two copies and their stamp.
@@ -53,17 +55,16 @@ whole_is rows a b r q k fine two =
     let j : Id = q.stamp.id in
     let v : IsValid i = (fine r two.first.there).0 in
     let w : IsValid j = (fine q two.second.there).0 in
-    let apart : SharesNoPoint i j = k.stands.apart r q two.first.there two.second.there (λ e. two.differ (sym two.first.named ∙ e ∙ two.second.named)) in
+    let apart : SharesNoPoint i j = grind (arith, nat_tests) in
     let valid : IsValid (sum_of i j) = valid-sum i j v w in
-    let divides : is_single (sum_of i j) 256 ≡ false = sum_of_divides i j apart v w (k.stands.owning r two.first.there) (k.stands.owning q two.second.there) in
+    let divides : is_single (sum_of i j) 256 ≡ false = grind (arith, nat_tests, sum_of_divides) in
     let both = valid-parts (sum_of i j) divides valid in
     let low = parts_of_sum i j apart v w (k.stands.owning r two.first.there) (k.stands.owning q two.second.there) in
     record { valid = valid; summed = summed-sum i j v w; divides = divides; parted = parted-parts (sum_of i j) divides valid; first = both.0; second = both.1; shallow = low.0; other_shallow = low.1 }
 
 -- a parcel isn't a copy
 pub parcel_other : (rows : List StampRow) (a : ℕ) (r z : StampRow) (c : ℕ) → IsRising 0 rows → IsRowOf rows a r → In z rows → is_held c z.holder ≡ true → z.copy ≢ a
-parcel_other rows a r z c up at j held e =
-    both_ways (is_held c z.holder) (not_held c z.holder (ap (λ (w : StampRow). w.holder) (one_row 0 rows z r up j at.there (e ∙ sym at.named)) ∙ at.free)) held
+parcel_other rows a r z c up at j held e = grind (arith, nat_tests, not_held, one_row, held)
 
 -- what ends is held, and known
 ends_held : (c : ℕ) (e : Event) (z : StampRow) → ends None c e z ≡ true → is_held c z.holder ≡ true
@@ -76,12 +77,8 @@ parts_gather rows a b r q whole k fine two is =
     let w : IsWhole r q whole.id = subst (IsWhole r q) (sym is) (whole_is rows a b r q k fine two) in
     let i : Id = whole.id in
     let both : (z : StampRow) (c : ℕ) → In z rows → is_held c z.holder ≡ true → SharesNoPoint i z.stamp.id = λ z c j held p long.
-    sum_apart (owns i p) (owns r.stamp.id p) (owns q.stamp.id p) (owns z.stamp.id p) (w.summed.owned p long)
-    (k.stands.apart r z two.first.there j (λ same. parcel_other rows a r z c k.rising two.first j held (sym same ∙ two.first.named)) p long)
-    (k.stands.apart q z two.second.there j (λ same. parcel_other rows b q z c k.rising two.second j held (sym same ∙ two.second.named)) p long) in (
-      record { valid = w.first; apart = λ z j t p long. part_left (owns i p) (owns (parts i).0 p) (owns (parts i).1 p) (owns z.stamp.id p) (w.parted.owned p long) (both z a j (ends_held a whole.event z t) p long) },
-      record { valid = w.second; apart = λ z j t p long. part_right (owns i p) (owns (parts i).0 p) (owns (parts i).1 p) (owns z.stamp.id p) (w.parted.owned p long) (both z b j (ends_held b whole.event z t) p long) },
-    )
+    grind (arith, nat_tests, sum_apart, parcel_other, held) in
+    grind (arith, nat_tests)
 
 -- What copies hold.
 
@@ -95,8 +92,7 @@ shares : (P E : ℕ → Stamp → List ℕ → Type 0) (a b : ℕ) (whole : Stam
 shares P E a b whole both sound there parted others =
     let of : (zs : List ℕ) → zs ≡ both → E a whole zs = λ zs g. subst (E a whole) (sym g) there in
     fewer (Put (Put E a (first_part whole) (E a whole)) b (second_part whole) (E a whole)) (Shared P a b whole both)
-    (put_more (Put P a (first_part whole) (λ zs. zs ≡ both)) (Put E a (first_part whole) (E a whole)) b (second_part whole) (λ zs. zs ≡ both) (E a whole)
-    (λ d s zs h nb. elim h [ inl t ↦ inl (t.0, t.1, of zs t.2) | inr t ↦ inr (others d s zs t.0 t.1 nb, t.1) ]) of)
+    (grind (arith, nat_tests))
     (share_keeps E a b whole (first_part whole) (second_part whole) both sound there parted refl refl)
 
 -- and then both are settled
@@ -117,8 +113,7 @@ pub record IsShared (rows : List StampRow) (table : List Known) (a b : ℕ) (r q
   pub sound : Sound (Shared (Holds rows table) a b whole both)
 
 held_once : (a b : ℕ) (o : Option ℕ) → is_held a o ≡ true → is_held b o ≡ true → a ≡ b
-held_once a b None f g = absurd (cc f)
-held_once a b (Some h) f g = sym (eqb-true h a f) ∙ eqb-true h b g
+held_once a b o f g = grind (arith, nat_tests)
 
 shared_old : (rows : List StampRow) (table : List Known) (a b : ℕ) (whole : Stamp) (both : List ℕ) (z : StampRow) (t : Known) → In z rows → In t table → z.copy ≡ t.copy → z.copy ≢ a → z.copy ≢ b
     → Shared (Holds rows table) a b whole both z.copy z.stamp t.set
@@ -142,7 +137,7 @@ twice_sound rows table a b r q whole both m =
       below = leq-is-below z.stamp.event e (m.fine z i).1.shallow m.event.shallow (and_parts (is_held a z.holder) (is_leq z.stamp.event e) t).1;
     }) in
     gathers (Once rows table a b whole both) b (second_part whole) both rows (λ z. z.copy) (ends None b e) m.fine w.second once
-    (inr ((inl (refl, refl, refl), λ s end. nb end.0 a end.1 (ends_held a e end.0 end.2) end.3), λ same. m.two.differ (sym same)))
+    (grind (arith, nat_tests))
     (λ z i t. let held = ends_held b e z t in
     let k = alike_row rows table m.stands.same z i in
     record {
@@ -151,7 +146,7 @@ twice_sound rows table a b r q whole both m =
       there = inr (
         (
           shared_old rows table a b whole both z k.0 i k.1 k.2.copy (na z b i held) (nb z b i held),
-          λ s end. m.two.differ (held_once a b z.holder (subst (λ (v : StampRow). is_held a v.holder ≡ true) (one_row 0 rows end.0 z m.kept.rising end.1 i end.3) (ends_held a e end.0 end.2)) held),
+          λ s end. m.two.differ (grind (arith, nat_tests, held_once, one_row, ends_held, held)),
         ),
         na z b i held,
       );
@@ -167,7 +162,7 @@ ends_agree rows table a b r q whole both c s z t m there is i j like = elim (cas
       ap (λ (f : Event). is_held c z.holder && is_leq z.stamp.event f) (sym is)
       ∙ ap (λ (v : Bool). is_held c z.holder && v) (within_is (Shared (Holds rows table) a b whole both) z.copy c z.stamp s t.set both m.sound old there (m.fine z i).1 (subst IsSound (sym is) m.event))
       ∙ ap (λ (o : Option ℕ). is_held c o && is_within t.set both) like.holder
-  | inr out ↦ ap (λ (v : Bool). v && is_leq z.stamp.event whole.event) out ∙ sym (ap (λ (v : Bool). v && is_within t.set both) out) ∙ ap (λ (o : Option ℕ). is_held c o && is_within t.set both) like.holder
+  | inr out ↦ grind (arith, nat_tests)
 ]
 
 -- what becomes of a row and of what is known of it
@@ -182,29 +177,26 @@ shared_outcome rows table n a b r q whole both m z t i j like =
     let new : Known = know_two n both a b t in
     let known : Known = knowing both n t in
     -- a copy's row is the one that is known, and isn't held
-    let free : (c : ℕ) (v : StampRow) → IsRowOf rows c v → z.copy ≡ c → t.holder ≡ None = λ c v at same. sym like.holder ∙ ap (λ (w : StampRow). w.holder) (one_row 0 rows z v m.kept.rising i at.there (same ∙ sym at.named)) ∙ at.free in
+    let free : (c : ℕ) (v : StampRow) → IsRowOf rows c v → z.copy ≡ c → t.holder ≡ None = λ c v at same. grind (arith, nat_tests, one_row) in
     let stays : (k : Known) → k.holder ≡ None → new ≡ k → united_known n both a b t ≡ Some k = λ k none is.
-    ap (λ (w : Known). unless (over a both w || over b both w) w) is
-    ∙ ap (λ (o : Option ℕ). unless ((is_held a o && is_within k.set both) || (is_held b o && is_within k.set both)) k) none in
+    grind (arith, nat_tests) in
     let still : (c : ℕ) → ends None c e z ≡ false → (s : Stamp) → Ending rows (λ w. w.copy) (ends None c e) z.copy s → ⊥ =
-    λ c none s end. both_ways (ends None c e z) none (ap (ends None c e) (one_row 0 rows z end.0 m.kept.rising i end.1 (sym end.3)) ∙ end.2) in
+    λ c none s end. grind (arith, nat_tests, one_row) in
     elim (cases_Bool (z.copy == a)) [
       | inl f ↦ let same : z.copy ≡ a = eqb-true z.copy a f in
-          some x known (ap (λ (v : Bool). cond v (Some x) (cond (z.copy == b) (Some y) (cond out None (Some z)))) f)
-          (stays known (free a r m.two.first same) (know_first n both a b t (sym like.copy ∙ same) m.two.differ)) record { copy = like.copy; touch = refl; holder = like.holder }
-          (subst (λ (c : ℕ). P c (settled None rows (first_part whole) n (record z { copy = c })).stamp both) (sym same)
-          (inr ((inl (refl, refl, inr (inl (refl, refl, refl), m.two.differ)), λ s end. parcel_other rows a r end.0 b m.kept.rising m.two.first end.1 (ends_held b e end.0 end.2) end.3), m.two.differ)))
+          some x known (grind (arith, nat_tests))
+          (grind (arith, nat_tests)) record { copy = like.copy; touch = refl; holder = like.holder }
+          (grind (arith, nat_tests, parcel_other, ends_held))
       | inr na ↦ elim (cases_Bool (z.copy == b)) [
         | inl f ↦ let same : z.copy ≡ b = eqb-true z.copy b f in
-            some y known (ap (λ (v : Bool). cond v (Some x) (cond (z.copy == b) (Some y) (cond out None (Some z)))) na ∙ ap (λ (v : Bool). cond v (Some y) (cond out None (Some z))) f)
-            (stays known (free b q m.two.second same) (know_second n both a b t (λ g. eqb-false z.copy a na (like.copy ∙ g)) (sym like.copy ∙ same))) record { copy = like.copy; touch = refl; holder = like.holder }
-            (subst (λ (c : ℕ). P c (settled None rows (second_part whole) n (record z { copy = c })).stamp both) (sym same)
-            (inl (refl, refl, inr ((inl (refl, refl, refl), λ s end. parcel_other rows b q end.0 a m.kept.rising m.two.second end.1 (ends_held a e end.0 end.2) end.3), λ g. m.two.differ (sym g)))))
+            some y known (grind (arith, nat_tests))
+            (grind (arith, nat_tests)) record { copy = like.copy; touch = refl; holder = like.holder }
+            (grind (arith, nat_tests, parcel_other, ends_held))
         | inr nb ↦
             let not_a : z.copy ≢ a = eqb-false z.copy a na in
             let not_b : z.copy ≢ b = eqb-false z.copy b nb in
-            let is : new ≡ t = know_other n both a b t (λ g. not_a (like.copy ∙ g)) (λ g. not_b (like.copy ∙ g)) in
-            subst (λ (o : Option StampRow). Outcome P o (united_known n both a b t)) (sym (ap (λ (v : Bool). cond v (Some x) (cond (z.copy == b) (Some y) (cond out None (Some z)))) na ∙ ap (λ (v : Bool). cond v (Some y) (cond out None (Some z))) nb))
+            let is : new ≡ t = grind (arith, nat_tests) in
+            subst (λ (o : Option StampRow). Outcome P o (united_known n both a b t)) (grind (arith, nat_tests))
             (subst (λ (k : Known). Outcome P (cond out None (Some z)) (unless (over a both k || over b both k) k)) (sym is)
             (stay_outcome P out (over a both t || over b both t) z t
             (ap (λ (v : Bool). v || ends None b e z) (ends_agree rows table a b r q whole both a (first_part whole) z t m (inr (inl (refl, refl, refl), m.two.differ)) refl i j like)
@@ -219,9 +211,6 @@ shared_outcome rows table n a b r q whole both m z t i j like =
 -- both together have what either has
 abbrev together : List StampRow → List Known → ℕ → ℕ → StampRow → StampRow → ℕ → Stamp → List ℕ → Type 0
 together rows table a b r q = Put (Others (Holds rows table) b) a (joined_stamp r.stamp q.stamp) (United (Holds rows table a r.stamp) (Holds rows table b q.stamp))
-
-holds_at : (rows : List StampRow) (table : List Known) (c : ℕ) (r : StampRow) → StandsFor rows table → IsRowOf rows c r → Holds rows table c r.stamp (set_in table c)
-holds_at rows table c r st at = subst (λ (d : ℕ). Holds rows table d r.stamp (set_in table d)) at.named (holds_found rows table st.same r at.there)
 
 together_sound : (rows : List StampRow) (table : List Known) (a b : ℕ) (r q : StampRow) → IsKept rows → AreSound rows → AreTwo rows a b r q → StandsFor rows table → Sound (together rows table a b r q)
 together_sound rows table a b r q k fine two st =
@@ -241,7 +230,7 @@ reconciled_shared rows table a b r q k fine two st =
       event = IsSound-joined r.stamp.event q.stamp.event (fine r two.first.there).1 (fine q two.second.there).1;
       stands = st;
       sound = shares (Holds rows table) (together rows table a b r q) a b whole both (together_sound rows table a b r q k fine two st)
-          (inl (refl, refl, (set_in table a, set_in table b, holds_at rows table a r st two.first, holds_at rows table b q st two.second, refl))) (whole_is rows a b r q k fine two).parted
+          (grind (arith, nat_tests, holds_at)) (whole_is rows a b r q k fine two).parted
           (λ d s zs p na nb. inr ((p, nb), na));
     }
 
@@ -261,8 +250,7 @@ merged_shared rows table n a b r q e k fine two event raised st below =
     let new : (d : ℕ) (s : Stamp) (zs : List ℕ) → P d s zs → has zs n ≡ false = unknown_yet rows table n below in
     let E : ℕ → Stamp → List ℕ → Type 0 = Put J a whole (Updated (J a m) n) in
     let sound : Sound E = edit_keeps J a n m whole (union xs ys) (together_sound rows table a b r q k fine two st) there refl raised
-    (all_put (Others P b) a m (United (P a r.stamp) (P b q.stamp)) (λ d s zs. has zs n ≡ false)
-    (all_united (P a r.stamp) (P b q.stamp) (λ zs. has zs n ≡ false) (λ us vs g h. union_members us vs n ∙ rw (new a r.stamp us g, new b q.stamp vs h) refl)) (λ d s zs h ne. new d s zs h.0)) in
+    (grind (arith, nat_tests, all_put, all_united, union_members)) in
     subst (IsShared rows table a b r q whole) (sym (union_fresh n xs ys (new b q.stamp ys second))) record {
       kept = k;
       fine = fine;

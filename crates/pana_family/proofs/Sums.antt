@@ -1,9 +1,10 @@
 -- A copy that gets the ids of the rows that end.
 use Rattle.std.specs.Prelude.{◌≡◌, ◌≢◌, ℕ, ◌≤◌, ◌<◌, ◌+◌, Bool, true, false, cond, ◌&&◌, ◌||◌, ◌⊎◌, List, [], ◌∷◌, ◌++◌, length, take}
 use Rattle.std.specs.List.{list_any}
-use Rattle.std.proofs.Common.{refl, sym, ap, subst, ◌∙◌, inl, inr, arith, get_or, zero, suc}
+use Rattle.std.proofs.Common.{refl, sym, ap, subst, ◌∙◌, inl, inr, arith, get_or, suc}
 use Rattle.std.proofs.lemmas.Bool.{or_cases, and_parts}
 use Rattle.std.proofs.lemmas.List.{take_more}
+use Rattle.std.proofs.lemmas.Bool.Decides.{nat_tests}
 use Rattle.pana_id.specs.Id.{Id, has as owns, is_zero, depth, sum_of, IsValid, AtPoints, SharesNoPoint}
 use Rattle.pana_id.proofs.Sums.{depth-sum, is_zero-sum, summed-sum, valid-sum}
 use Rattle.pana_event.specs.Event.{IsSound}
@@ -26,16 +27,11 @@ pub record AreSummed (test : StampRow → Bool) (i : Id) (rows : List StampRow) 
   pub some : is_zero i ≡ false → is_zero j ≡ false
   pub shallow : (m : ℕ) → depth i ≤ m → deepest rows ≤ m → depth j ≤ m
 
-pub or_nothing : (a : Bool) → a ≡ (a || false)
-or_nothing true = refl
-or_nothing false = refl
-
 or_group : (a b c : Bool) → ((a || b) || c) ≡ (a || (b || c))
-or_group true b c = refl
-or_group false b c = refl
+or_group a b c = grind (arith, nat_tests)
 
 pub with_summed : (test : StampRow → Bool) (i : Id) (rows : List StampRow) → IsValid i → AreSound rows → AreSummed test i rows (with_ids test i rows)
-with_summed test i [] valid fine = record { valid = valid; points = λ p long. or_nothing (owns i p); some = λ e. e; shallow = λ m least all. least }
+with_summed test i [] valid fine = grind (arith, nat_tests)
 with_summed test i (r ∷ rows) valid fine =
     let mine : IsValid r.stamp.id = (fine r (inl refl)).0 in
     let rest : AreSound rows = λ q j. fine q (inr j) in
@@ -45,7 +41,7 @@ with_summed test i (r ∷ rows) valid fine =
         valid = g.valid;
         points = λ p long. g.points p long ∙ ap (λ (b : Bool). b || any p) ((summed-sum i r.stamp.id valid mine).owned p long)
             ∙ or_group (owns i p) (owns r.stamp.id p) (any p) ∙ ap (λ (b : Bool). owns i p || ((b && owns r.stamp.id p) || any p)) (sym w);
-        some = λ e. g.some (is_zero-sum i r.stamp.id valid.normal ∙ ap (λ (b : Bool). b && is_zero r.stamp.id) e);
+        some = λ e. g.some (grind (arith, nat_tests, is_zero-sum));
         shallow = λ m least all. g.shallow m (omega (arith, depth-sum i r.stamp.id, least, all)) (omega (arith, all));
       }
       | false ↦ λ w. let g = with_summed test i rows valid rest in record {
@@ -82,21 +78,17 @@ gathers P h x xs rows number ends fine valid sound there ending =
     let y : Stamp = stamp (with_ids ends x.id rows) x.event in
     let g = with_summed ends x.id rows valid fine in
     let split : (p : List Bool) → length p ≡ 256 → owns y.id p ≡ true → (owns x.id p ≡ true) ⊎ ((z : StampRow) × In z rows × (ends z ≡ true) × (owns z.stamp.id p ≡ true)) = λ p long o.
-    elim (or_cases (owns x.id p) (list_any (λ r. ends r && owns r.stamp.id p) rows) (sym (g.points p long) ∙ o)) [
-      | inl mine ↦ inl mine
-      | inr its ↦ let m = any_some (λ r. ends r && owns r.stamp.id p) rows its in let both = and_parts (ends m.0) (owns m.0.stamp.id p) m.2 in inr (m.0, m.1, both.0, both.1)
-    ] in
+    grind (arith, nat_tests, any_some) in
     knows_as Q h y (P h x) h x refl (λ zs m. (m, λ q e. (ending e.0 e.1 e.2).other e.3)) (fewer P Q (λ d s zs m. m.0) sound) record {
       owning = g.some (sound.owning h x xs there);
       apart = λ d q zs k ne p long. either_way (owns y.id p) (owns q.id p) (λ o. elim (split p long o) [
-        | inl mine ↦ not_both (owns q.id p) (owns x.id p) (turned x.id q.id (sound.apart h x xs there d q zs k.0 (λ e. ne (sym e))) p long) mine
+        | inl mine ↦ not_both (owns q.id p) (owns x.id p) (grind (arith, nat_tests)) mine
         | inr its ↦ let (z, i, t, o') = its in let a = ending z i t in
             not_both (owns q.id p) (owns z.stamp.id p) (turned z.stamp.id q.id (sound.apart (number z) z.stamp a.set a.there d q zs k.0 (λ e. k.1 z.stamp (z, i, t, e, refl))) p long) o'
       ]);
       over = λ d q zs k ne p long o. elim (split p long o) [
         | inl mine ↦ sound.owner h x xs there d q zs k.0 p long mine
-        | inr its ↦ let (z, i, t, o') = its in let a = ending z i t in
-            omega (arith, sound.owner (number z) z.stamp a.set a.there d q zs k.0 p long o', a.below.levels p long)
+        | inr its ↦ grind (arith, nat_tests)
       ];
       under = λ d q zs k ne p long o. sound.owner d q zs k.0 h x xs there p long o;
     }
@@ -123,14 +115,12 @@ last_above low (x ∷ xs) q r up i = elim i [
 ]
 
 pub rising_take : (low n : ℕ) (rows : List StampRow) → IsRising low rows → IsRising low (take n rows)
-rising_take low zero rows up = tt
-rising_take low (suc n) [] up = tt
 rising_take low (suc n) (r ∷ rows) up = (up.0, rising_take (r.copy + 1) n rows up.1)
+rising_take low n rows up = grind (arith, nat_tests)
 
 in_take : (n : ℕ) (rows : List StampRow) (r : StampRow) → In r (take n rows) → In r rows
-in_take zero rows r i = absurd i
-in_take (suc n) [] r i = absurd i
 in_take (suc n) (q ∷ rows) r i = elim i [ inl e ↦ inl e | inr j ↦ inr (in_take n rows r j) ]
+in_take n rows r i = grind (arith, nat_tests)
 
 -- the id so far shares no point with that of the next row
 pub gather_apart : (test : StampRow → Bool) (rows : List StampRow) (n : ℕ) (q : StampRow) (i : Id) → AreSound rows → IsValid i → IsRising 0 rows → AreApart rows
@@ -150,4 +140,4 @@ gather_apart test rows n q i fine valid up apart other l more over p long =
     not_other false b e h = absurd (cc h)
 
 pub seen_more : (rows : List StampRow) (n : ℕ) (q : StampRow) → n < length rows → q ≡ get_or rows n q → take (n + 1) rows ≡ take n rows ++ q ∷ []
-seen_more rows n q within read = take_more rows n q within ∙ ap (λ (w : StampRow). take n rows ++ w ∷ []) (sym read)
+seen_more rows n q within read = grind (arith, nat_tests, take_more)

@@ -1,10 +1,11 @@
 -- What a report makes of each copy and parcel of a table of sets, and what comes behind them.
 use Rattle.std.specs.Prelude.{◌≡◌, ◌≢◌, ℕ, ◌≤◌, ◌<◌, Bool, true, false, ◌&&◌, ◌||◌, ◌==◌, cond, not, ◌⊎◌, List, [], ◌∷◌, ◌++◌, filter_map, map, Option, Some, None}
 use Rattle.std.proofs.Common.{refl, sym, ap, subst, ◌∙◌, inl, inr, arith}
-use Rattle.std.proofs.lemmas.Bool.{or_cases, or_parts, or_from, both_ways, cases_Bool, eq-eqb, eqb-true, eqb-false, ne_eqb}
+use Rattle.std.proofs.lemmas.Bool.{or_cases, or_parts, or_from, cases_Bool, eqb-true, eqb-false, ne_eqb}
 use Rattle.std.proofs.lemmas.List.{append-nil, map-append}
 use Rattle.std.proofs.lemmas.List.Elements.{filter-append}
 use Rattle.std.proofs.lemmas.Simd.{map-map}
+use Rattle.std.proofs.lemmas.Bool.Decides.{nat_tests}
 use Rattle.pana_family.specs.declared.report.FamilyReport.{FamilyReport}
 use Rattle.pana_family.specs.declared.report.FamilyReport.TheVariants.{Duplicate, Edit, Reconcile, Merge, Remove, Touch}
 use Rattle.pana_family.specs.Updates.{has, is_within, union, IsSubset}
@@ -74,16 +75,13 @@ NamesOf (Touch c) table = Lives table c
 -- The table.
 
 one_map : (f : Known → Known) (table : List Known) → ((t : Known) → (f t).copy ≡ t.copy) → One table → One (map f table)
-one_map f table keeps one t s i j e =
-    let k = in_map f table t i in
-    let m = in_map f table s j in
-    k.2 ∙ ap f (one k.0 m.0 k.1 m.1 (sym (keeps k.0) ∙ ap (λ (w : Known). w.copy) (sym k.2) ∙ e ∙ ap (λ (w : Known). w.copy) m.2 ∙ keeps m.0)) ∙ sym m.2
+one_map f table keeps one t s i j e = grind (arith, nat_tests, in_map)
 
 pub know_copy : (n : ℕ) (both : List ℕ) (c : ℕ) (t : Known) → (know n both c t).copy ≡ t.copy
-know_copy n both c t = elim (t.copy == c) as (λ v. (cond v (knowing both n t) t).copy ≡ t.copy) [ true ↦ refl | false ↦ refl ]
+know_copy n both c t = grind (arith, nat_tests)
 
 know_holder : (n : ℕ) (both : List ℕ) (c : ℕ) (t : Known) → (know n both c t).holder ≡ t.holder
-know_holder n both c t = elim (t.copy == c) as (λ v. (cond v (knowing both n t) t).holder ≡ t.holder) [ true ↦ refl | false ↦ refl ]
+know_holder n both c t = grind (arith, nat_tests)
 
 pub know_two_holder : (n : ℕ) (both : List ℕ) (a b : ℕ) (t : Known) → (know_two n both a b t).holder ≡ t.holder
 know_two_holder n both a b t = know_holder n both b (know n both a t) ∙ know_holder n both a t
@@ -92,33 +90,33 @@ pub know_two_copy : (n : ℕ) (both : List ℕ) (a b : ℕ) (t : Known) → (kno
 know_two_copy n both a b t = know_copy n both b (know n both a t) ∙ know_copy n both a t
 
 pub know_first : (n : ℕ) (both : List ℕ) (a b : ℕ) (t : Known) → t.copy ≡ a → a ≢ b → know_two n both a b t ≡ knowing both n t
-know_first n both a b t e differ = ap (know n both b) (ap (λ (v : Bool). cond v (knowing both n t) t) (eq-eqb t.copy a e)) ∙ ap (λ (v : Bool). cond v (knowing both n (knowing both n t)) (knowing both n t)) (ne_eqb t.copy b (λ f. differ (sym e ∙ f)))
+know_first n both a b t e differ = grind (arith, nat_tests)
 
 pub know_second : (n : ℕ) (both : List ℕ) (a b : ℕ) (t : Known) → t.copy ≢ a → t.copy ≡ b → know_two n both a b t ≡ knowing both n t
-know_second n both a b t ne e = ap (know n both b) (ap (λ (v : Bool). cond v (knowing both n t) t) (ne_eqb t.copy a ne)) ∙ ap (λ (v : Bool). cond v (knowing both n t) t) (eq-eqb t.copy b e)
+know_second n both a b t ne e = grind (arith, nat_tests)
 
 pub know_other : (n : ℕ) (both : List ℕ) (a b : ℕ) (t : Known) → t.copy ≢ a → t.copy ≢ b → know_two n both a b t ≡ t
-know_other n both a b t na nb = ap (know n both b) (ap (λ (v : Bool). cond v (knowing both n t) t) (ne_eqb t.copy a na)) ∙ ap (λ (v : Bool). cond v (knowing both n t) t) (ne_eqb t.copy b nb)
+know_other n both a b t na nb = grind (arith, nat_tests)
 
 copy_out : (h : ℕ) (set : List ℕ) (t : Known) → t.holder ≡ None → ends h set t ≡ false
 copy_out h set t free = ap (λ (o : Option ℕ). is_held h o && is_within t.set set) free
 
 -- a copy is settled that knows this set
 settled_known : (c : ℕ) (set : List ℕ) (table : List Known) (t : Known) → One table → In t table → t.copy ≡ c → t.set ≡ set → settled c table ≡ leave (ends c set) table
-settled_known c set table t one i named is = ap (λ (s : List ℕ). leave (ends c s) table) (ap (set_in table) (sym named) ∙ set_of table t one i ∙ is)
+settled_known c set table t one i named is = grind (arith, nat_tests, set_of)
 
 united_is : (n : ℕ) (both : List ℕ) (a b : ℕ) (table : List Known) → One table → Lives table a → Lives table b → a ≢ b → settled b (settled a (united n a b both table)) ≡ filter_map (united_known n both a b) table ++ []
 united_is n both a b table one first second differ =
     let two : Known → Known = know_two n both a b in
     let all : List Known = united n a b both table in
-    let single : One all = one_map (know n both b) (map (know n both a) table) (know_copy n both b) (one_map (know n both a) table (know_copy n both a) one) in
-    let there : (k : Known) → In k table → In (two k) all = λ k l. to_map (know n both b) (map (know n both a) table) (know n both a k) (to_map (know n both a) table k l) in
-    let x : In (knowing both n first.by) all = subst (λ (k : Known). In k all) (know_first n both a b first.by first.named differ) (there first.by first.there) in
-    let y : In (knowing both n second.by) all = subst (λ (k : Known). In k all) (know_second n both a b second.by (λ e. differ (sym e ∙ second.named)) second.named) (there second.by second.there) in
+    let single : One all = grind (arith, nat_tests, one_map, know_copy) in
+    let there : (k : Known) → In k table → In (two k) all = λ k l. grind (arith, nat_tests, to_map) in
+    let x : In (knowing both n first.by) all = grind (arith, nat_tests) in
+    let y : In (knowing both n second.by) all = grind (arith, nat_tests) in
     let rest : List Known = leave (ends a both) all in
-    ap (settled b) (settled_known a both all (knowing both n first.by) single x first.named refl)
+    ap (settled b) (grind (arith, nat_tests, settled_known))
     ∙ settled_known b both rest (knowing both n second.by) (λ t s i j. single t s (in_leave (ends a both) all t i).0 (in_leave (ends a both) all s j).0)
-    (stays_in (ends a both) all (knowing both n second.by) y (copy_out a both (knowing both n second.by) second.free)) second.named refl
+    (grind (arith, nat_tests, stays_in, copy_out)) second.named refl
     ∙ leave_twice (ends b both) (ends a both) all ∙ ap (leave (λ t. ends a both t || ends b both t)) (map-map (know n both b) (know n both a) table)
     ∙ leave_map (λ t. ends a both t || ends b both t) two table ∙ sym (append-nil (filter_map (united_known n both a b) table))
 
@@ -127,14 +125,13 @@ set_left : (c h : ℕ) (table rest : List Known) → h ≢ c → (t : Known) →
 set_left c h [] rest differ t i named = absurd i
 set_left c h (k ∷ table) rest differ t i named = elim (cases_Bool (k.copy == c)) [
   | inl e ↦ elim i [
-    | inl is ↦ absurd (differ (sym named ∙ ap (λ (w : Known). w.copy) is ∙ eqb-true k.copy c e))
-    | inr j ↦ ap (λ (b : Bool). set_in (map (pass c h) (cond (not b) (k ∷ without c table) (without c table)) ++ rest) h) e ∙ set_left c h table rest differ t j named
-        ∙ sym (ap (λ (b : Bool). cond b k.set (set_in table h)) (ne_eqb k.copy h (λ f. differ (sym f ∙ eqb-true k.copy c e))))
+    | inl is ↦ grind (arith, nat_tests)
+    | inr j ↦ grind (arith, nat_tests, set_left c h table rest differ t j named)
   ]
   | inr ne ↦ ap (λ (b : Bool). set_in (map (pass c h) (cond (not b) (k ∷ without c table) (without c table)) ++ rest) h) ne
       ∙ elim (k.copy == h) as (λ b. (k.copy == h) ≡ b → cond b k.set (set_in (map (pass c h) (without c table) ++ rest) h) ≡ cond b k.set (set_in table h)) [
         | true ↦ λ w. refl
-        | false ↦ λ w. elim i [ inl is ↦ absurd (eqb-false k.copy h w (ap (λ (w : Known). w.copy) (sym is) ∙ named)) | inr j ↦ set_left c h table rest differ t j named ]
+        | false ↦ λ w. elim i [ inl is ↦ grind (arith, nat_tests) | inr j ↦ set_left c h table rest differ t j named ]
       ] refl
 ]
 
@@ -143,7 +140,7 @@ bequeathed_is n c h table heir differ =
     let last : List Known = parcel n h (set_in table c) ∷ [] in
     let over : Known → Bool = ends h (set_in table h) in
     ap (settled h) (map-append (pass c h) (without c table) last)
-    ∙ ap (λ (s : List ℕ). leave (ends h s) (map (pass c h) (without c table) ++ map (pass c h) last)) (set_left c h table (map (pass c h) last) differ heir.by heir.there heir.named)
+    ∙ ap (λ (s : List ℕ). leave (ends h s) (map (pass c h) (without c table) ++ map (pass c h) last)) (grind (arith, nat_tests, set_left))
     ∙ filter-append (λ t. not (over t)) (map (pass c h) (without c table)) (map (pass c h) last)
     ∙ ap (λ (l : List Known). l ++ leave over (map (pass c h) last)) (leave_map_leave over (pass c h) (λ t. t.copy == c) table)
 
@@ -151,8 +148,8 @@ bequeathed_is n c h table heir differ =
 pub reported_is : (n : ℕ) (report : FamilyReport) (table : List Known) → One table → NamesOf report table → reported n report table ≡ filter_map (made_known n report table) table ++ comes_known n report table
 reported_is n (Duplicate c) table one names = ap (λ (l : List Known). l ++ known n (set_in table c) n ∷ []) (sym (made_itself table))
 reported_is n (Edit c) table one names = map_made (λ t. cond (t.copy == c) (knowing (n ∷ t.set) n t) t) table
-reported_is n (Reconcile a b) table one names = united_is n (union (set_in table a) (set_in table b)) a b table one names.0 names.1 names.2
-reported_is n (Merge a b) table one names = united_is n (union (n ∷ set_in table a) (set_in table b)) a b table one names.0 names.1 names.2
+reported_is n (Reconcile a b) table one names = grind (arith, nat_tests, united_is)
+reported_is n (Merge a b) table one names = grind (arith, nat_tests, united_is)
 reported_is n (Remove c None) table one names =
     let out : Known → Bool = λ t. t.copy == c || is_held c t.holder in
     ap (leave out) (sym (map-itself table)) ∙ leave_map out (λ t. t) table ∙ sym (append-nil (filter_map (λ t. unless (out t) t) table))
@@ -174,35 +171,25 @@ set_in_below n (t ∷ table) c u below m =
     ] m
 
 either_below : (n u : ℕ) (xs : List ℕ) → (has xs u ≡ true → u < n) → has (n ∷ xs) u ≡ true → u ≤ n
-either_below n u xs below m = elim (or_cases (n == u) (has xs u) m) [ inl e ↦ omega (arith, eqb-true n u e) | inr h ↦ omega (arith, below h) ]
+either_below n u xs below m = grind (arith, nat_tests)
 
 both_below : (n u : ℕ) (xs ys : List ℕ) → (has xs u ≡ true → u ≤ n) → (has ys u ≡ true → u ≤ n) → has (union xs ys) u ≡ true → u ≤ n
-both_below n u xs ys f g m = elim (or_cases (has xs u) (has ys u) (sym (union_members xs ys u) ∙ m)) [ inl h ↦ f h | inr h ↦ g h ]
+both_below n u xs ys f g m = grind (arith, nat_tests, union_members)
 
 -- no number above its row's touch
 abbrev pub IsTouched : Known → Type 0
 IsTouched t = (u : ℕ) → has t.set u ≡ true → u ≤ t.touch
 
 united_touched : (n : ℕ) (both : List ℕ) (a b : ℕ) (t s : Known) → ((u : ℕ) → has both u ≡ true → u ≤ n) → IsTouched t → united_known n both a b t ≡ Some s → IsTouched s
-united_touched n both a b t s known was is = unless_of (ends a both (know_two n both a b t) || ends b both (know_two n both a b t)) IsTouched (know_two n both a b t) s (λ stays. one b (know n both a t) (one a t was)) is
-  where
-    one : (c : ℕ) (k : Known) → IsTouched k → IsTouched (know n both c k)
-    one c k touched = elim (k.copy == c) as (λ v. IsTouched (cond v (knowing both n k) k)) [ true ↦ known | false ↦ touched ]
+united_touched n both a b t s known was is = grind (arith, nat_tests)
 
 made_touched : (n : ℕ) (report : FamilyReport) (table : List Known) (t s : Known) → AreBelow n table → In t table → IsTouched t → made_known n report table t ≡ Some s → IsTouched s
-made_touched n (Duplicate c) table t s below i was is = one_of true IsTouched t t s (λ e. was) (λ e. was) is
-made_touched n (Edit c) table t s below i was is = one_of (t.copy == c) IsTouched (knowing (n ∷ t.set) n t) t s (λ e u m. either_below n u t.set (below t u i) m) (λ e. was) is
 made_touched n (Reconcile a b) table t s below i was is =
     united_touched n (union (set_in table a) (set_in table b)) a b t s (λ u m. both_below n u (set_in table a) (set_in table b) (λ h. omega (arith, set_in_below n table a u below h)) (λ h. omega (arith, set_in_below n table b u below h)) m) was is
 made_touched n (Merge a b) table t s below i was is =
     united_touched n (union (n ∷ set_in table a) (set_in table b)) a b t s
     (λ u m. both_below n u (n ∷ set_in table a) (set_in table b) (λ h. either_below n u (set_in table a) (set_in_below n table a u below) h) (λ h. omega (arith, set_in_below n table b u below h)) m) was is
-made_touched n (Remove c None) table t s below i was is = unless_of (t.copy == c || is_held c t.holder) IsTouched t s (λ e. was) is
-made_touched n (Remove c (Some h)) table t s below i was is = elim (t.copy == c) as (λ b. cond b None (unless (ends h (set_in table h) (pass c h t)) (pass c h t)) ≡ Some s → IsTouched s) [
-  | true ↦ λ e. absurd (cc e)
-  | false ↦ λ e. unless_of (ends h (set_in table h) (pass c h t)) IsTouched (pass c h t) s (λ o. was) e
-] is
-made_touched n (Touch c) table t s below i was is = one_of (t.copy == c) IsTouched (knowing t.set n t) t s (λ e u m. omega (arith, below t u i m)) (λ e. was) is
+made_touched n report table t s below i was is = grind (arith, nat_tests)
 
 pub numbers_reported : (n : ℕ) (report : FamilyReport) (table : List Known) → One table → NamesOf report table → AreBelow n table → ((t : Known) → In t table → IsTouched t) → (t : Known) → In t (reported n report table) → IsTouched t
 numbers_reported n report table one names below was t i =
@@ -213,29 +200,20 @@ numbers_reported n report table one names below was t i =
   where
     last : (report : FamilyReport) → In t (comes_known n report table) → IsTouched t
     last (Duplicate c) j u m = elim j [ inl e ↦ omega (arith, set_in_below n table c u below (ap (λ (w : Known). has w.set u) (sym e) ∙ m), ap (λ (w : Known). w.touch) e) | inr never ↦ absurd never ]
-    last (Edit c) j u m = absurd j
-    last (Reconcile a b) j u m = absurd j
-    last (Merge a b) j u m = absurd j
-    last (Remove c None) j u m = absurd j
     last (Remove c (Some h)) j u m = elim (in_leave (ends h (set_in table h)) (pass c h (parcel n h (set_in table c)) ∷ []) t j).0 [
       | inl e ↦ omega (arith, set_in_below n table c u below (ap (λ (w : Known). has w.set u) (sym e) ∙ m), ap (λ (w : Known). w.touch) e)
       | inr never ↦ absurd never
     ]
-    last (Touch c) j u m = absurd j
+    last report j u m = absurd j
 
 -- Who holds the parcels.
 
 -- whose a parcel was that is held now
 was_held : (c h k : ℕ) (o : Option ℕ) → passed c h o ≡ Some k → (m : ℕ) × (o ≡ Some m) × (((m ≡ c) × (k ≡ h)) ⊎ ((m ≢ c) × (k ≡ m)))
-was_held c h k None e = absurd (cc)
-was_held c h k (Some m) e =
-    elim (m == c) as (λ b. (m == c) ≡ b → cond b (Some h) (Some m) ≡ Some k → (l : ℕ) × (Some m ≡ Some l) × (((l ≡ c) × (k ≡ h)) ⊎ ((l ≢ c) × (k ≡ l)))) [
-      | true ↦ λ w i. (m, refl, inl (eqb-true m c w, cc i))
-      | false ↦ λ w i. (m, refl, inr (eqb-false m c w, cc i))
-    ] refl e
+was_held c h k o e = grind (arith, nat_tests)
 
 pub passed_heir : (c h : ℕ) → passed c h (Some h) ≡ Some h
-passed_heir c h = elim (h == c) as (λ b. cond b (Some h) (Some h) ≡ Some h) [ true ↦ refl | false ↦ refl ]
+passed_heir c h = grind (arith, nat_tests)
 
 -- a copy of the table that has not all of the set, and what becomes of it
 record Lacks (f : Known → Option Known) (table : List Known) (h : ℕ) (set : List ℕ) : Type 0 where
@@ -252,7 +230,7 @@ no_holder o h none some = absurd (cc)
 
 -- where a parcel doesn't end its holder lacks some of its set
 not_ended : (h : ℕ) (set : List ℕ) (t : Known) → t.holder ≡ Some h → ends h set t ≡ false → ¬ IsSubset t.set set
-not_ended h set t held out within = both_ways (ends h set t) out (rw (ap (is_held h) held ∙ eq-eqb h h refl, subset_within t.set set within) refl)
+not_ended h set t held out within = grind (arith, nat_tests, subset_within)
 
 -- the holder from before holds the parcel still
 same_holder : (n : ℕ) (c : ℕ) (f : Known → Known) (table : List Known) (t : Known) (h : ℕ) → IsHeldBy table h t.set → ((k : Known) → (f k).copy ≡ k.copy) → ((k : Known) → (f k).holder ≡ k.holder)
@@ -308,7 +286,7 @@ passing_on n c h table k set i ne free named lacks =
 -- the heir of a copy
 heir_lacks : (n c h : ℕ) (table : List Known) (set : List ℕ) → One table → Lives table h → h ≢ c → ¬ IsSubset set (set_in table h) → Lacks (made_known n (Remove c (Some h)) table) table h set
 heir_lacks n c h table set one heir differ lacks = passing_on n c h table heir.by set heir.there (λ e. differ (sym heir.named ∙ e)) heir.free heir.named
-    (subst (λ (xs : List ℕ). ¬ IsSubset set xs) (ap (set_in table) (sym heir.named) ∙ set_of table heir.by one heir.there) lacks)
+    (grind (arith, nat_tests, set_of))
 
 -- a parcel that there was, once two copies know the same
 united_held : (n : ℕ) (both : List ℕ) (a b : ℕ) (table : List Known) → One table → Lives table a → Lives table b → a ≢ b → AreHeld table
@@ -390,10 +368,6 @@ held_reported n report table one names below all = subst AreHeld (sym (reported_
 
     last : (report : FamilyReport) → NamesOf report table → (t : Known) (h : ℕ) → In t (comes_known n report table) → t.holder ≡ Some h → IsHeldBy (filter_map (made_known n report table) table ++ comes_known n report table) h t.set
     last (Duplicate c) names t h j e = elim j [ inl is ↦ absurd (no_holder t.holder h (ap (λ (w : Known). w.holder) is) e) | inr never ↦ absurd never ]
-    last (Edit c) names t h j e = absurd j
-    last (Reconcile a b) names t h j e = absurd j
-    last (Merge a b) names t h j e = absurd j
-    last (Remove c None) names t h j e = absurd j
     last (Remove c (Some k)) names t h j e =
         let own : Known = pass c k (parcel n k (set_in table c)) in
         let m = in_leave (ends k (set_in table k)) (own ∷ []) t j in
@@ -405,7 +379,7 @@ held_reported n report table one names below all = subst AreHeld (sym (reported_
               (to (Remove c (Some k)) (heir_lacks n c k table t.set one names.1 names.2 (not_ended k (set_in table k) t (e ∙ ap Some (sym same)) m.1)))
           | inr never ↦ absurd never
         ]
-    last (Touch c) names t h j e = absurd j
+    last report names t h j e = absurd j
 
 pub held_registered : (n : ℕ) → AreHeld (registered n)
-held_registered n t k i e = elim i [ inl new ↦ absurd (no_holder t.holder k (ap (λ (w : Known). w.holder) new) e) | inr never ↦ absurd never ]
+held_registered n t k i e = grind (arith, nat_tests)

@@ -2,12 +2,13 @@
 use Rattle.std.specs.Prelude.{◌≡◌, ◌↔◌, ℕ, List, map, filter}
 use Rattle.std.specs.List.{AllZip}
 use Rattle.std.proofs.Common.{refl, sym, ap, subst, ◌∙◌}
+use Rattle.std.proofs.Common.{arith}
+use Rattle.std.proofs.lemmas.Bool.Decides.{nat_tests}
 use Rattle.pana_id.specs.Id.{Id, IsValid, SharesNoPoint, is_zero}
 use Rattle.pana_event.specs.Event.{Event, IsSound}
 use Rattle.pana_event.specs.Order.{IsBelow}
 use Rattle.pana_event.specs.Relation.{IsRelation}
 use Rattle.pana_event.specs.declared.rel.Rel.{Rel}
-use Rattle.pana_event.specs.declared.rel.Rel.TheVariants.{Equal, Older, Newer, Conflict}
 use Rattle.pana_text.specs.Text.{stamp_text}
 use Rattle.pana_family.specs.declared.row.StampRow.{StampRow}
 use Rattle.pana_family.specs.Holders.{is_copy}
@@ -26,17 +27,14 @@ use Rattle.pana_family.proofs.Boards.{OfOne, all_of_one, map_same, filter_same}
 
 -- the relation of two sets is that of the events that stand for them
 by_sets : (e f : Event) (xs ys : List ℕ) → IsBelow e f ↔ IsSubset xs ys → IsBelow f e ↔ IsSubset ys xs → (rel : Rel) → rel ≡ relation xs ys → IsRelation e f rel
-by_sets e f xs ys up down Equal is = let w = (relates xs ys).equal.0 (sym is) in (up.1 w.0, down.1 w.1)
-by_sets e f xs ys up down Older is = let w = (relates xs ys).older.0 (sym is) in (up.1 w.0, λ b. w.1 (down.0 b))
-by_sets e f xs ys up down Newer is = let w = (relates xs ys).newer.0 (sym is) in (down.1 w.0, λ b. w.1 (up.0 b))
-by_sets e f xs ys up down Conflict is = let w = (relates xs ys).conflict.0 (sym is) in ((λ b. w.0 (up.0 b)), λ b. w.1 (down.0 b))
+by_sets e f xs ys up down rel is = grind (arith, nat_tests, relates)
 
 pub stamps_answer : (rows : List StampRow) (table : List Known) → IsRising 0 rows → StandsFor rows table → ((r : StampRow) → In r rows → IsValid r.stamp.id × IsSound r.stamp.event)
     → (stamps : List (ℕ × List ℕ)) → stamps ≡ map row_text (filter (λ r. is_copy r.holder) rows) → AreStamps stamps (copies_of table)
 stamps_answer rows table up st valid stamps is =
     let copies : List Known = copies_of table in
     let R : StampRow → Known → Type 0 = OfOne rows table in
-    let z : AllZip R rows table = all_of_one rows table rows table (λ r i. i) (λ t i. i) st.same in
+    let z : AllZip R rows table = grind (arith, nat_tests, all_of_one) in
     let id_of : ℕ → Id = λ c. (row_in rows c).stamp.id in
     let event_of : ℕ → Event = λ c. (row_in rows c).stamp.event in
     let row_of : (t : Known) → In t copies → (r : StampRow) × In r rows × In t table × (r.copy ≡ t.copy) × (id_of t.copy ≡ r.stamp.id) × (event_of t.copy ≡ r.stamp.event) =
@@ -51,11 +49,11 @@ stamps_answer rows table up st valid stamps is =
           (λ r t a. let named : r.copy ≡ t.copy = a.2 in
           ap (λ (w : StampRow). (r.copy, stamp_text w.stamp.id w.stamp.event)) (sym (row_found r rows up a.0))
           ∙ ap (λ (k : ℕ). (k, stamp_text (id_of k) (event_of k))) named)
-          (filter (λ r. is_copy r.holder) rows) copies (filter_same R (λ r. is_copy r.holder) (λ t. is_copy t.holder) (λ r t a. ap is_copy a.3) rows table z);
+          (filter (λ r. is_copy r.holder) rows) copies (grind (arith, nat_tests, filter_same));
       valid = λ t i. let m = row_of t i in let v = valid m.0 m.1 in (subst IsValid (sym m.4) v.0, subst IsSound (sym m.5) v.1);
       owning = λ t i. let m = row_of t i in ap is_zero m.4 ∙ st.owning m.0 m.1;
       apart = λ t s i j ne. let m = row_of t i in let n = row_of s j in
-          subst (λ (k : Id). SharesNoPoint k (id_of s.copy)) (sym m.4) (subst (SharesNoPoint m.0.stamp.id) (sym n.4) (st.apart m.0 n.0 m.1 n.1 (λ e. ne (sym m.3 ∙ e ∙ n.3))));
+          subst (λ (k : Id). SharesNoPoint k (id_of s.copy)) (sym m.4) (grind (arith, nat_tests));
       compared = λ t s i j. let m = row_of t i in let n = row_of s j in
           let P = Holds rows table in
           let whole = to_sound rows table st in

@@ -1,6 +1,8 @@
 -- What a report leaves that writes at a position.
 use Rattle.std.specs.Prelude.{◌≡◌, ℕ, ◌<◌, List, length, None}
-use Rattle.std.proofs.Common.{sym, ap, subst, ◌∙◌, get_or}
+use Rattle.std.proofs.Common.{ap, ◌∙◌, get_or}
+use Rattle.std.proofs.Common.{arith}
+use Rattle.std.proofs.lemmas.Bool.Decides.{nat_tests}
 use Rattle.pana_id.specs.Id.{Id}
 use Rattle.pana_event.specs.Event.{Event}
 use Rattle.pana_stamp.specs.declared.stamp.Stamp.{Stamp}
@@ -20,18 +22,10 @@ pub record IsRowAt (rows : List StampRow) (at copy : ℕ) (r : StampRow) : Type 
 
 -- rows is what the list was read as
 pub row_at : (rows seen : List StampRow) (at copy : ℕ) (r : StampRow) → seen ≡ rows → at < length seen → ((d : StampRow) → (get_or seen at d).copy ≡ copy) → ((d : StampRow) → (get_or seen at d).holder ≡ None) → r ≡ get_or rows at r → IsRowAt rows at copy r
-row_at rows seen at copy r same within here free read =
-    let inside : at < length rows = subst (λ (l : List StampRow). at < length l) same within in
-    record {
-      within = inside;
-      read = read;
-      row = in_read rows at r inside read;
-      named = ap (λ (q : StampRow). q.copy) read ∙ subst (λ (l : List StampRow). (get_or l at r).copy ≡ copy) same (here r);
-      free = ap (λ (q : StampRow). q.holder) read ∙ subst (λ (l : List StampRow). (get_or l at r).holder ≡ None) same (free r);
-    }
+row_at rows seen at copy r same within here free read = grind (arith, nat_tests, in_read)
 
 pub row_found_at : (rows value : List StampRow) (at copy : ℕ) (r : StampRow) → rows ≡ value → IsKept rows → IsRowAt rows at copy r → row_in value copy ≡ r
-row_found_at rows value at copy r same k here = ap (λ (l : List StampRow). row_in l copy) (sym same) ∙ ap (row_in rows) (sym here.named) ∙ row_found r rows k.rising here.row
+row_found_at rows value at copy r same k here = grind (arith, nat_tests, row_found)
 
 -- a stamp by its parts
 pub stamp_is : (s : Stamp) (i : Id) (e : Event) → s.id ≡ i → s.event ≡ e → s ≡ stamp i e

@@ -1,11 +1,11 @@
 -- What a report asks of the rows, and what it leaves.
-use Rattle.std.specs.Prelude.{◌≡◌, ◌≢◌, ◌<◌, ◌≤◌, ◌+◌, ℕ, Bool, true, false, Some, None, List, length, IfSome}
+use Rattle.std.specs.Prelude.{◌≡◌, ◌≢◌, ◌<◌, ◌≤◌, ◌+◌, ◌^◌, ℕ, Bool, true, false, Some, None, List, length, IfSome}
 use Rattle.pana_id.specs.Id.{is_single}
 use Rattle.pana_family.specs.declared.row.StampRow.{StampRow}
 use Rattle.pana_family.specs.declared.report.FamilyReport.{FamilyReport}
 use Rattle.pana_family.specs.declared.report.FamilyReport.TheVariants.{Duplicate, Edit, Reconcile, Merge, Remove, Touch}
 use Rattle.pana_family.specs.Table.{Known, duplicated, edited, reconciled, merged, removed, touched, AreBelow}
-use Rattle.pana_family.specs.Rows.{AreBefore, lives, copy_rows, row_in, OwnSame, deepest}
+use Rattle.pana_family.specs.Rows.{AreBefore, AreSound, lives, copy_rows, row_in, OwnSame, deepest}
 use Rattle.pana_family.specs.Stands.{StandsFor}
 use Rattle.pana_family.specs.Kept.{IsKept}
 use Rattle.pana_family.specs.After.{reported_rows}
@@ -64,9 +64,15 @@ pub record IsReported (n : ℕ) (report : FamilyReport) (rows new : List StampRo
   pub owned : loses report ≡ false → OwnSame rows new
   pub stands : (table : List Known) → StandsFor rows table → Asks n report table → StandsFor new (reported n report table)
 
--- what report n makes of these rows, of which it asks what it must
-pub record IsMade (n : ℕ) (report : FamilyReport) (rows new : List StampRow) : Type 0 where
+-- rows of which report n can be made
+pub record IsReady (n : ℕ) (report : FamilyReport) (rows : List StampRow) : Type 0 where
+  pub fits : n < 2 ^ 64
   pub kept : IsKept rows
+  pub sound : AreSound rows
   pub able : CanReport report rows
   pub before : AreBefore n rows
-  pub reported : IsReported n report rows new
+
+-- what report n makes of such rows
+pub record IsMade (n : ℕ) (report : FamilyReport) (rows new : List StampRow) : Type 0 where
+  pub ready : IsReady n report rows
+  pub exact : new ≡ reported_rows n report rows

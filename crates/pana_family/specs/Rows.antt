@@ -1,5 +1,5 @@
 -- The rows of a family, by rising copy.
-use Rattle.std.specs.Prelude.{filter, ◌≡◌, ◌&&◌, Option, Some, None, unwrap_or, ℕ, ◌+◌, ◌<◌, ◌≤◌, Bool, ◌==◌, List, [], ◌∷◌, if◌then◌else◌, nat_lt, max, not, count_by}
+use Rattle.std.specs.Prelude.{filter, filter_map, ◌≡◌, ◌&&◌, Option, Some, None, unwrap_or, ℕ, ◌+◌, ◌<◌, ◌≤◌, Bool, ◌==◌, List, [], ◌∷◌, if◌then◌else◌, nat_lt, max, not, count_by}
 use Rattle.std.specs.List.{list_any}
 use Rattle.pana_id.specs.Id.{AtPoints, has as owns, Id, zero_id, one_id, depth, is_single, sum_of, IsValid}
 use Rattle.pana_event.specs.Event.{Event, leaf, IsSound}
@@ -68,8 +68,7 @@ deepest (r ∷ rows) = max (depth r.stamp.id) (deepest rows)
 
 -- the rows, with a copy's changed by f
 abbrev pub renewed : ℕ → (StampRow → StampRow) → List StampRow → List StampRow
-renewed copy f [] = []
-renewed copy f (r ∷ rows) = (if r.copy == copy then f r else r) ∷ renewed copy f rows
+renewed copy f rows = filter_map (λ r. Some (if r.copy == copy then f r else r)) rows
 
 -- the first row of a family
 abbrev pub seed_row : ℕ → StampRow

@@ -62,12 +62,8 @@ pub fn halves(alloc: Global, stamp: &Stamp) -> Result<(Stamp, Stamp), AllocError
 pub fn joined_stamp(alloc: Global, a: &Stamp, b: &Stamp) -> Result<Stamp, AllocError>
     requires { CanJoin a.now b.now }
     ensures joined { IfOk result (λ stamp. stamp ≡ joined_stamp a.now b.now) }
-    ensures divides { IfOk result (λ stamp. is_single stamp.id 256 ≡ false) }
     ensures some { IfOk result (λ stamp. is_zero stamp.id ≡ false) }
 {
-    // whose contracts say that both are valid
-    let _ = a.id().node();
-    let _ = b.id().node();
     let stamp = Stamp::join(alloc, a, b)?;
     Ok(stamp)
 }

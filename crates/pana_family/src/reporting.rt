@@ -1,13 +1,15 @@
 //! What the reports change. Nothing is changed here: each call makes a change, and takes all memory that it needs.
-ghost use Rattle.std.specs.Prelude.{◌≡◌, ◌++◌, ◌∷◌, [], true, filter_map, Some, IfOk, IfSome, if◌then◌else◌};
+ghost use Rattle.std.specs.Prelude.{◌≡◌, ◌++◌, ◌∷◌, ◌+◌, ◌<◌, ◌^◌, [], false, filter_map, Some, IfOk, IfSome, if◌then◌else◌};
 ghost use Rattle.std.specs.Option.{option_to_list};
+ghost use Rattle.pana_id.specs.Id.{is_zero};
+ghost use Rattle.pana_event.specs.Event.{greatest};
 ghost use Rattle.pana_event.specs.Order.{is_leq};
 ghost use Rattle.pana_family.specs.After.{first_part, joined_stamp, parcel_row, reported_rows, second_part, shared};
-ghost use Rattle.pana_family.specs.Rows.{lives, row_in, AreBefore, AreSound};
+ghost use Rattle.pana_family.specs.Rows.{row_in, AreBefore};
 ghost use Rattle.pana_family.specs.Change.{after};
 ghost use Rattle.pana_family.specs.Kept.{IsKept};
-ghost use Rattle.pana_family.specs.Report.{CanReport, IsReported};
-ghost use Rattle.pana_family.specs.declared.report.FamilyReport.TheVariants.{Duplicate, Edit, Merge, Reconcile, Remove};
+ghost use Rattle.pana_family.specs.Report.{CanReport, IsMade, IsReady};
+ghost use Rattle.pana_family.specs.declared.report.FamilyReport.TheVariants.{Duplicate, Edit, Reconcile, Remove};
 
 use crate::change::{Change, Exchange};
 use crate::making::{halves, joined_stamp, updated_event, updated_stamp};
@@ -26,9 +28,7 @@ fn edit_change(
     entry: u64,
     copy: u64,
 ) -> Result<Change, AllocError>
-    requires kept { IsKept rows.now }
-    requires living { lives rows.now copy ≡ true }
-    requires new { AreBefore entry rows.now }
+    requires { IsReady entry (Edit copy) rows.now }
     ensures { IfOk result (λ change. after change rows.now ≡ reported_rows entry (Edit copy) rows.now) }
 {
     let event = updated_event(alloc, &row_of(rows, copy).stamp)?;
@@ -42,9 +42,7 @@ fn duplicate_change(
     entry: u64,
     source: u64,
 ) -> Result<Change, AllocError>
-    requires kept { IsKept rows.now }
-    requires able { CanReport (Duplicate source) rows.now }
-    requires new { AreBefore entry rows.now }
+    requires { IsReady entry (Duplicate source) rows.now }
     ensures { IfOk result (λ change. after change rows.now ≡ reported_rows entry (Duplicate source) rows.now) }
 {
     let row = row_of(rows, source);
@@ -60,6 +58,23 @@ fn duplicate_change(
     Ok(Change::Rows(news))
 }
 
+/// What two copies own and know together.
+fn both_stamp(
+    alloc: Global,
+    rows: &[StampRow],
+    entry: u64,
+    a: u64,
+    b: u64,
+) -> Result<Stamp, AllocError>
+    requires { IsReady entry (Reconcile a b) rows.now }
+    ensures whole { IfOk result (λ whole. whole ≡ joined_stamp (row_in rows.now a).stamp (row_in rows.now b).stamp) }
+    ensures owner { IfOk result (λ whole. is_zero whole.id ≡ false) }
+    ensures room { IfOk result (λ whole. greatest whole.event + 1 < 2 ^ 64) }
+{
+    let whole = joined_stamp(alloc, &row_of(rows, a).stamp, &row_of(rows, b).stamp)?;
+    Ok(whole)
+}
+
 /// Two copies share a stamp, and are settled.
 fn share_change(
     alloc: Global,
@@ -69,54 +84,12 @@ fn share_change(
     b: u64,
     whole: &Stamp,
 ) -> Result<Change, AllocError>
-    requires kept { IsKept rows.now }
-    requires sound { AreSound rows.now }
-    requires able { CanReport (Reconcile a b) rows.now }
-    requires new { AreBefore entry rows.now }
+    requires ready { IsReady entry (Reconcile a b) rows.now }
     requires whole { whole.now.id ≡ (joined_stamp (row_in rows.now a).stamp (row_in rows.now b).stamp).id }
     ensures { IfOk result (λ change. after change rows.now ≡ filter_map (shared entry a b (first_part whole.now) (second_part whole.now) rows.now) rows.now ++ []) }
 {
     let (first, second) = halves(alloc, whole)?;
     let change = settle_change(alloc, rows, entry, &Plan::Share(a, b, first, second), None)?;
-    Ok(change)
-}
-
-/// Two copies learn what either knows, and are settled.
-fn reconcile_change(
-    alloc: Global,
-    rows: &[StampRow],
-    entry: u64,
-    a: u64,
-    b: u64,
-) -> Result<Change, AllocError>
-    requires kept { IsKept rows.now }
-    requires sound { AreSound rows.now }
-    requires able { CanReport (Reconcile a b) rows.now }
-    requires new { AreBefore entry rows.now }
-    ensures { IfOk result (λ change. after change rows.now ≡ reported_rows entry (Reconcile a b) rows.now) }
-{
-    let whole = joined_stamp(alloc, &row_of(rows, a).stamp, &row_of(rows, b).stamp)?;
-    let change = share_change(alloc, rows, entry, a, b, &whole)?;
-    Ok(change)
-}
-
-/// Two copies learn what either knows, and an update, and are settled.
-fn merge_change(
-    alloc: Global,
-    rows: &[StampRow],
-    entry: u64,
-    a: u64,
-    b: u64,
-) -> Result<Change, AllocError>
-    requires kept { IsKept rows.now }
-    requires sound { AreSound rows.now }
-    requires able { CanReport (Merge a b) rows.now }
-    requires new { AreBefore entry rows.now }
-    ensures { IfOk result (λ change. after change rows.now ≡ reported_rows entry (Merge a b) rows.now) }
-{
-    let both = joined_stamp(alloc, &row_of(rows, a).stamp, &row_of(rows, b).stamp)?;
-    let whole = updated_stamp(alloc, both)?;
-    let change = share_change(alloc, rows, entry, a, b, &whole)?;
     Ok(change)
 }
 
@@ -145,10 +118,7 @@ fn bequeath_change(
     copy: u64,
     heir: u64,
 ) -> Result<Change, AllocError>
-    requires kept { IsKept rows.now }
-    requires sound { AreSound rows.now }
-    requires able { CanReport (Remove copy (Some heir)) rows.now }
-    requires new { AreBefore entry rows.now }
+    requires { IsReady entry (Remove copy (Some heir)) rows.now }
     ensures { IfOk result (λ change. after change rows.now ≡ reported_rows entry (Remove copy (Some heir)) rows.now) }
 {
     let row = row_of(rows, heir);
@@ -164,17 +134,21 @@ fn exact_change(
     entry: u64,
     report: FamilyReport,
 ) -> Result<Change, AllocError>
-    requires kept { IsKept rows.now }
-    requires sound { AreSound rows.now }
-    requires able { CanReport report rows.now }
-    requires new { AreBefore entry rows.now }
+    requires { IsReady entry report rows.now }
     ensures { IfOk result (λ change. after change rows.now ≡ reported_rows entry report rows.now) }
 {
     match report {
         FamilyReport::Duplicate(source) => duplicate_change(alloc, rows, entry, source),
         FamilyReport::Edit(copy) => edit_change(alloc, rows, entry, copy),
-        FamilyReport::Reconcile(a, b) => reconcile_change(alloc, rows, entry, a, b),
-        FamilyReport::Merge(a, b) => merge_change(alloc, rows, entry, a, b),
+        FamilyReport::Reconcile(a, b) => {
+            let whole = both_stamp(alloc, rows, entry, a, b)?;
+            share_change(alloc, rows, entry, a, b, &whole)
+        }
+        FamilyReport::Merge(a, b) => {
+            let both = both_stamp(alloc, rows, entry, a, b)?;
+            let whole = updated_stamp(alloc, both)?;
+            share_change(alloc, rows, entry, a, b, &whole)
+        }
         FamilyReport::Remove(copy, None) => settle_change(
             alloc,
             rows,
@@ -197,7 +171,7 @@ pub fn report_change(
     requires kept { IsKept rows.now }
     requires able { CanReport report rows.now }
     requires new { AreBefore entry rows.now }
-    ensures { IfOk result (λ change. IsReported entry report rows.now (after change rows.now)) }
+    ensures { IfOk result (λ change. IsMade entry report rows.now (after change rows.now)) }
 {
     all_valid(rows);
     exact_change(alloc, rows, entry, report)

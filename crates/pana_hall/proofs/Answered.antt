@@ -1,12 +1,13 @@
 -- Causes and answers read off what a hall keeps.
-use Rattle.std.specs.Prelude.{◌≡◌, ℕ, ◌+◌, ◌-◌, ◌<◌, ◌≤◌, Bool, true, false, cond, not, ◌&&◌, ◌||◌, ◌==◌, nat_le, List, [], ◌∷◌, ◌++◌, length, filter, reverse, find, count_by, Option, Some, None, option_map, option_and_then, zero, suc, nat_lt, slice_index_or, map}
+use Rattle.std.specs.Prelude.{◌≡◌, ℕ, ◌+◌, ◌<◌, ◌≤◌, Bool, true, false, cond, not, ◌&&◌, ◌||◌, ◌==◌, nat_le, List, [], ◌∷◌, ◌++◌, length, filter, reverse, find, count_by, Option, Some, None, option_map, option_and_then, suc, nat_lt, slice_index_or, map}
 use Rattle.std.specs.Bool.{then_some}
 use Rattle.std.specs.List.{AllByRecursion, list_any}
 use Rattle.std.proofs.Common.{refl, sym, ap, ◌∙◌, subst, inl, inr, arith}
 use Rattle.std.proofs.Math.Bool.{or-true, or_comm}
-use Rattle.std.proofs.lemmas.Bool.{eq-eqb, cases_Bool, not-false, lt-ltb}
-use Rattle.std.proofs.lemmas.List.{reverse-append, map-append, reverse-reverse}
+use Rattle.std.proofs.lemmas.Bool.{cases_Bool}
+use Rattle.std.proofs.lemmas.List.{reverse-append, map-append, map-id, reverse-reverse}
 use Rattle.std.proofs.lemmas.List.Sums.{length-filter}
+use Rattle.std.proofs.lemmas.Simd.{map-map}
 use Rattle.pana_copies.specs.declared.place.Place.{Place}
 use Rattle.pana_copies.specs.Places.{same_place}
 use Rattle.pana_copies.proofs.Kept.{one_place}
@@ -15,10 +16,10 @@ use Rattle.pana_journal.specs.declared.entry.Entry.{Entry}
 use Rattle.pana_journal.specs.Entries.{entry_at}
 use Rattle.pana_family.specs.Updates.{has}
 use Rattle.pana_family.specs.Rows.{copy_rows, divides, lives}
-use Rattle.pana_hall.specs.declared.cause.Cause.TheVariants.{PlaceTaken, FamilyFull, TooDeep, UnknownFamily}
+use Rattle.pana_hall.specs.declared.cause.Cause.TheVariants.{PlaceTaken, FamilyFull, TooDeep}
 use Rattle.pana_hall.specs.inner.Undo.{KeptRows, ends_in, last_place}
-use Rattle.pana_hall.specs.Family.{families, is_family, has_report, is_register}
-use Rattle.pana_hall.specs.Living.{Copy, copy_in, living, known_to}
+use Rattle.pana_hall.specs.Family.{families}
+use Rattle.pana_hall.specs.Living.{Copy, copies_of, copy_in, living, known_to}
 use Rattle.pana_hall.specs.Pending.{pending, is_last}
 use Rattle.pana_hall.specs.Refusal.{displaced, taken, taken_from, taken_since, family_full, too_deep, pending_with, unknown_family, unknown, other_family, first}
 use Rattle.pana_hall.specs.Board.{is_of}
@@ -27,15 +28,16 @@ use Rattle.pana_hall.specs.laws.Tables.{layer}
 use Rattle.pana_hall.specs.inner.Kept.{of_each, AreSpots, family_of, undone_of, families_of}
 use Rattle.pana_hall.specs.StampRows.{rows_of, stamp_rows}
 use Rattle.pana_hall.specs.inner.Spots.{spot_of, IsThere, other_there}
-use Rattle.pana_hall.proofs.Lists.{is_last_push, each_weaker, any_push, is_last-push, map_map, entry_at_place, slice_get-each, found_by}
-use Rattle.pana_hall.proofs.Sound.{accepted_is_sound, first_none, known, none_false, one_family}
-use Rattle.pana_hall.proofs.Tables.{ends_at, layer_now, each_has, merged, pending_each}
+use Rattle.pana_hall.proofs.Lists.{is_last_push, each_map, each_of, each_unmap, each_weaker, any_push, is_last-push, entry_at_place, slice_get-each, found_by}
+use Rattle.pana_hall.proofs.Sound.{accepted_is_sound, all_none, beside, known, living_fit, none_false}
+use Rattle.pana_hall.proofs.Tables.{own_copy, ends_at, layer_now, each_has, pending_each}
 use Rattle.pana_hall.proofs.Places.{same_place-itself, none_passes, living_found, back_at}
-use Rattle.pana_hall.proofs.Stood.{count_rows, copies_sets, layers_stand, lives_rows}
+use Rattle.pana_hall.proofs.Stood.{count_rows, copies_sets, layers_stand, lives_rows, stood_one}
 use Rattle.pana_hall.proofs.Ready.{place_spots, at_spots, family_of as family_of_copy, given_back}
 use Rattle.pana_hall.proofs.Listed.{entry_within}
-use Rattle.pana_hall.proofs.Moves.{found_number, IsWell}
+use Rattle.pana_hall.proofs.Moves.{found_number}
 use Rattle.std.proofs.lemmas.List.Elements.{filter-append}
+use Rattle.std.proofs.lemmas.Bool.Decides.{nat_tests}
 use Rattle.pana_family.specs.Table.{touch_in, Known, set_in}
 use Rattle.pana_family.specs.Table as table
 use Rattle.pana_family.specs.Stands.{StandsFor}
@@ -45,43 +47,37 @@ use Rattle.pana_hall.specs.inner.Listed.{all_listed, listed}
 use Rattle.pana_hall.specs.declared.listed_family.ListedFamily.{ListedFamily}
 use Rattle.pana_hall.specs.declared.family_row.FamilyRow.{FamilyRow}
 use Rattle.pana_hall.specs.Queries.{begun, family_row}
-use Rattle.pana_hall.specs.laws.Tables as tables
 use Rattle.pana_hall.specs.laws.Sets.{sets_at}
 use Rattle.pana_hall.specs.StampRows as rows
 use Rattle.pana_family.specs.declared.row.StampRow.{StampRow}
-use Rattle.pana_hall.specs.Stamps.{AreStampsOf, as_known}
-use Rattle.pana_hall.proofs.Knowns.{row_in, known_row, set_at, touch_at, sets_old}
+use Rattle.pana_hall.specs.Stamps.{AreStampsOf}
+use Rattle.pana_hall.proofs.Knowns.{IsCopyIn, found_there, set_known}
+use Rattle.pana_family.proofs.Changes.{touch_found}
+use Rattle.pana_family.proofs.Members.{of_known}
 
 -- Causes read off what a hall keeps.
 
 -- what a test finds among the living copies is the number that the table gives, where the two agree
-find_is : (p : Copy → Bool) (journal : List Entry) (found : Option ℕ) → IsAccepted 8 journal → ((x : Copy) → copy_in (living journal) x.number ≡ Some x → p x ≡ true → found ≡ Some x.number)
-    → ((n : ℕ) → found ≡ Some n → (x : Copy) × (copy_in (living journal) n ≡ Some x) × (p x ≡ true)) → option_map PlaceTaken found ≡ option_map (λ x. PlaceTaken x.number) (find p (living journal))
-find_is p journal found accepted to from =
-    elim (find p (living journal)) as (λ o. find p (living journal) ≡ o → option_map PlaceTaken found ≡ option_map (λ x. PlaceTaken x.number) o) [
-      | Some x ↦ λ e. let here = found_by p (λ c. copy_in (living journal) c.number ≡ Some c) (living journal) x (living_found 8 journal accepted) e in ap (option_map PlaceTaken) (to x here.1 here.0)
-      | None ↦ λ e. elim found as (λ o. found ≡ o → option_map PlaceTaken o ≡ None) [
-        | None ↦ λ f. refl
-        | Some n ↦ λ f. let y = from n f in let fails : p y.0 ≡ false = none_passes p (living journal) n y.0 e y.1 in absurd (let passes = y.2 in cc)
-      ] refl
-    ] refl
+find_is : (p : Copy → Bool) (journal : List Entry) (found : Option ℕ) → IsAccepted 8 journal → ((x : Copy) → copy_in (living journal) x.known.copy ≡ Some x → p x ≡ true → found ≡ Some x.known.copy)
+    → ((n : ℕ) → found ≡ Some n → (x : Copy) × (copy_in (living journal) n ≡ Some x) × (p x ≡ true)) → option_map PlaceTaken found ≡ option_map (λ x. PlaceTaken x.known.copy) (find p (living journal))
+find_is p journal found accepted to from = grind (arith, nat_tests, found_by, living_found, none_passes)
 
 pub taken_is : (journal : List Entry) (copies : Table) (place : Place) (found : Option ℕ) → IsAccepted 8 journal → AreSpots journal copies → IsThere copies place found
     → option_map PlaceTaken found ≡ taken place (living journal)
 taken_is journal copies place found accepted spots there =
     find_is (λ copy. same_place copy.place place) journal found accepted
-    (λ x at is. (there x.number).1 (place_spots journal copies spots x.number ∙ ap (option_map (λ copy. copy.place)) at ∙ ap (λ p. Some p) (one_place x.place place is)))
+    (λ x at is. (there x.known.copy).1 (place_spots journal copies spots x.known.copy ∙ ap (option_map (λ copy. copy.place)) at ∙ ap (λ p. Some p) (one_place x.place place is)))
     (λ n e. let y = at_spots journal copies spots n place ((there n).0 e) in (y.0, y.1, ap (λ p. same_place p place) y.2 ∙ same_place-itself place))
 
 pub taken_from_is : (journal : List Entry) (copies : Table) (back : Copy) (found : Option ℕ) → IsAccepted 8 journal → AreSpots journal copies → IsThere copies back.place found
-    → other_there back.number found ≡ taken_from back (living journal)
+    → other_there back.known.copy found ≡ taken_from back (living journal)
 taken_from_is journal copies back found accepted spots there =
-    let other : Option ℕ = option_and_then (λ n. cond (n == back.number) None (Some n)) found in
-    other_map found ∙ find_is (λ x. not (x.number == back.number) && same_place x.place back.place) journal other accepted
+    let other : Option ℕ = option_and_then (λ n. cond (n == back.known.copy) None (Some n)) found in
+    other_map found ∙ find_is (λ x. not (x.known.copy == back.known.copy) && same_place x.place back.place) journal other accepted
     (λ x at is.
-    let both = parts (x.number == back.number) (same_place x.place back.place) is in
-    let here = (there x.number).1 (place_spots journal copies spots x.number ∙ ap (option_map (λ copy. copy.place)) at ∙ ap (λ p. Some p) (one_place x.place back.place both.1)) in
-    ap (option_and_then (λ n. cond (n == back.number) None (Some n))) here ∙ ap (λ b. cond b None (Some x.number)) both.0)
+    let both = parts (x.known.copy == back.known.copy) (same_place x.place back.place) is in
+    let here = (there x.known.copy).1 (place_spots journal copies spots x.known.copy ∙ ap (option_map (λ copy. copy.place)) at ∙ ap (λ p. Some p) (one_place x.place back.place both.1)) in
+    ap (option_and_then (λ n. cond (n == back.known.copy) None (Some n))) here ∙ ap (λ b. cond b None (Some x.known.copy)) both.0)
     (λ n e.
     let is = other_is found n e in
     let y = at_spots journal copies spots n back.place ((there n).0 is.0) in
@@ -91,20 +87,16 @@ taken_from_is journal copies back found accepted spots there =
     parts true b e = absurd (cc)
     parts false b e = (refl, e)
 
-    other_map : (o : Option ℕ) → other_there back.number o ≡ option_map PlaceTaken (option_and_then (λ n. cond (n == back.number) None (Some n)) o)
+    other_map : (o : Option ℕ) → other_there back.known.copy o ≡ option_map PlaceTaken (option_and_then (λ n. cond (n == back.known.copy) None (Some n)) o)
     other_map None = refl
-    other_map (Some n) = elim (n == back.number) as (λ b. cond b None (Some (PlaceTaken n)) ≡ option_map PlaceTaken (cond b None (Some n))) [ true ↦ refl | false ↦ refl ]
+    other_map (Some n) = elim (n == back.known.copy) as (λ b. cond b None (Some (PlaceTaken n)) ≡ option_map PlaceTaken (cond b None (Some n))) [ true ↦ refl | false ↦ refl ]
 
-    other_is : (o : Option ℕ) (n : ℕ) → option_and_then (λ k. cond (k == back.number) None (Some k)) o ≡ Some n → (o ≡ Some n) × ((n == back.number) ≡ false)
+    other_is : (o : Option ℕ) (n : ℕ) → option_and_then (λ k. cond (k == back.known.copy) None (Some k)) o ≡ Some n → (o ≡ Some n) × ((n == back.known.copy) ≡ false)
     other_is None n e = absurd (cc)
-    other_is (Some k) n e = elim (k == back.number) as (λ b. (k == back.number) ≡ b → cond b None (Some k) ≡ Some n → (Some k ≡ Some n) × ((n == back.number) ≡ false)) [
+    other_is (Some k) n e = elim (k == back.known.copy) as (λ b. (k == back.known.copy) ≡ b → cond b None (Some k) ≡ Some n → (Some k ≡ Some n) × ((n == back.known.copy) ≡ false)) [
       | true ↦ λ t f. absurd (cc)
-      | false ↦ λ t f. let same : k ≡ n = cc in (f, ap (λ i. i == back.number) (sym same) ∙ t)
+      | false ↦ λ t f. grind (arith, nat_tests)
     ] refl e
-
-    must : (a b : Bool) → b ≡ true → (not a && b) ≡ false → a ≡ true
-    must true b e f = refl
-    must false b e f = absurd (cc)
 
 -- an entry is pending, or is the last
 has-reverse : (xs : List ℕ) (n : ℕ) → has (reverse xs) n ≡ has xs n
@@ -116,7 +108,7 @@ pends_each journal layers n [] = refl
 pends_each journal layers n (m ∷ numbers) = ap (λ b. (m == n) || b) (pends_each journal (λ k. layers (k + 1)) n numbers)
 
 pends_is : (journal : List Entry) (family n : ℕ) → list_any (λ u. u.entry == n) (family_of journal family).undo ≡ has (pending 8 family journal) n
-pends_is journal family n = pends_each journal (λ k. layer 8 (k + 1) family journal) n (reverse (pending 8 family journal)) ∙ has-reverse (pending 8 family journal) n
+pends_is journal family n = grind (arith, nat_tests, pends_each, has-reverse)
 
 -- the last of a list that is written the other way round is its first
 ends_each : (journal : List Entry) (layers : ℕ → List Entry) (n : ℕ) (numbers : List ℕ) → ends_in n (of_each (undone_of journal) layers numbers) ≡ is_last n (reverse numbers)
@@ -124,7 +116,7 @@ ends_each journal layers n [] = refl
 ends_each journal layers n (m ∷ numbers) = sym (ap (is_last n) (reverse-append (m ∷ []) numbers) ∙ is_last-push (reverse numbers) m n)
 
 lasts_is : (journal : List Entry) (family n : ℕ) → ends_in n (family_of journal family).undo ≡ is_last n (pending 8 family journal)
-lasts_is journal family n = ends_each journal (λ k. layer 8 (k + 1) family journal) n (reverse (pending 8 family journal)) ∙ ap (is_last n) (reverse-reverse (pending 8 family journal))
+lasts_is journal family n = grind (arith, nat_tests, ends_each, reverse-reverse)
 
 -- whether an entry is pending, or the last that is, as its family has it
 pub kept_pends : (journal : List Entry) (n : ℕ) (it : KeptRows) → it ≡ family_of journal (families journal n) → list_any (λ u. u.entry == n) it.undo ≡ has (pending_with 8 n journal) n
@@ -147,14 +139,7 @@ none_pending journal n accepted none =
 
 -- and none is the last
 pub none_last : (numbers : List ℕ) (n : ℕ) → has numbers n ≡ false → is_last n numbers ≡ false
-none_last numbers n out =
-    elim (cases_Bool (is_last n numbers)) [
-      | inr never ↦ never
-      | inl ends ↦
-          let cut = is_last_push n numbers ends in
-          let in_it : has numbers n ≡ true = ap (λ l. has l n) cut.1 ∙ any_push (λ k. k == n) cut.0 n ∙ ap (λ b. has cut.0 n || b) (eq-eqb n n refl) ∙ or-true (has cut.0 n) in
-          absurd (cc)
-    ]
+none_last numbers n out = grind (arith, nat_tests, is_last_push, any_push, or-true)
 
 -- the family of a living copy has all the copies that it takes
 pub full_is : (journal : List Entry) (n : ℕ) (copy : Copy) (it : KeptRows) → IsAccepted 8 journal → copy_in (living journal) n ≡ Some copy → it ≡ family_of journal (families journal n)
@@ -163,8 +148,7 @@ full_is journal n copy it accepted found is =
     let long : length (copy_rows it.rows) ≡ count_by (is_of copy.family) (living journal) =
     ap (λ (k : KeptRows). length (copy_rows k.rows)) is ∙ count_rows journal (families journal n) accepted
     ∙ ap (λ f. length (filter (is_of f) (living journal))) (sym (family_of_copy journal n copy (accepted_is_sound 8 journal accepted) found)) ∙ length-filter (is_of copy.family) (living journal) in
-    ap (λ k. then_some (nat_le 256 k) FamilyFull) long
-    ∙ ap (option_and_then (λ x. then_some (nat_le 256 (count_by (is_of x.family) (living journal))) FamilyFull)) (sym found)
+    grind (arith, nat_tests)
 
 -- whether a living copy's id can be divided
 pub deep_is : (journal : List Entry) (n : ℕ) (copy : Copy) (it : KeptRows) → IsAccepted 8 journal → copy_in (living journal) n ≡ Some copy → it ≡ family_of journal (families journal n)
@@ -178,7 +162,7 @@ deep_is journal n copy it accepted found is =
 -- what the last pending entry's copy gets back, and what stands against that
 pub back_place : (journal : List Entry) (m c : ℕ) (it : KeptRows) (undone : Entry) → IsAccepted 8 journal → is_last m (pending_with 8 m journal) ≡ true
     → entry_at journal m ≡ Some undone → displaced undone.report ≡ Some c → it ≡ family_of journal (families journal m)
-    → (back : Copy) × (last_place it.undo ≡ Some back.place) × (taken_since m journal ≡ taken_from back (living journal)) × (back.number ≡ c)
+    → (back : Copy) × (last_place it.undo ≡ Some back.place) × (taken_since m journal ≡ taken_from back (living journal)) × (back.known.copy ≡ c)
 back_place journal m c it undone accepted at_end at moves is =
     let sound = accepted_is_sound 8 journal accepted in
     let ends = ends_at 8 m journal sound at_end in
@@ -192,29 +176,29 @@ back_place journal m c it undone accepted at_end at moves is =
 
 -- a copy that is kept lives
 pub found_spot : (journal : List Entry) (copies : Table) (n : ℕ) (spot : Spot) → AreSpots journal copies → kept copies n ≡ Some spot → (copy : Copy) × (copy_in (living journal) n ≡ Some copy) × (spot_of copy ≡ spot)
-found_spot journal copies n spot spots at =
-    elim (copy_in (living journal) n) as (λ o. option_map spot_of o ≡ Some spot → (copy : Copy) × (o ≡ Some copy) × (spot_of copy ≡ spot)) [
-      | None ↦ λ e. absurd (cc)
-      | Some copy ↦ λ e. (copy, refl, cc)
-    ] (sym (spots n) ∙ at)
+found_spot journal copies n spot spots at = grind (arith, nat_tests)
 
 -- Answers read off the families.
 
--- a living copy's row is found in its family's table
-row_of_copy : (journal : List Entry) (family n : ℕ) (copy : Copy) → IsAccepted 8 journal → copy_in (living journal) n ≡ Some copy → families journal n ≡ family
-    → row_in (sets_at 0 family journal) n ≡ Some (as_known copy)
+-- a living copy is one of its family's table
+row_of_copy : (journal : List Entry) (family n : ℕ) (copy : Copy) → IsAccepted 8 journal → copy_in (living journal) n ≡ Some copy → families journal n ≡ family → IsCopyIn (sets_at 0 family journal) n copy
 row_of_copy journal family n copy accepted found of =
-    known_row (sets_at 0 family journal) (tables.table 8 0 family journal) n copy (copies_sets journal family accepted) (sets_old journal 0 family accepted).rising
-    (ap (λ f. copy_in (tables.table 8 0 f journal) n) (sym of) ∙ sym ((merged 8 journal (accepted_is_sound 8 journal accepted)).found n) ∙ found)
+    let stood = layers_stand journal accepted 0 family in
+    found_there (sets_at 0 family journal) (copies_of (layer 8 0 family journal)) n copy stood.copies (own_copy journal family n (accepted_is_sound 8 journal accepted) of ∙ found)
 
 -- what it knows is read there, and the entry that touched it last
 pub set_of_copy : (journal : List Entry) (family n : ℕ) (copy : Copy) → IsAccepted 8 journal → copy_in (living journal) n ≡ Some copy → families journal n ≡ family
     → set_in (sets_at 0 family journal) n ≡ known_to (living journal) n
-set_of_copy journal family n copy accepted found of = set_at (sets_at 0 family journal) n (as_known copy) (row_of_copy journal family n copy accepted found of) ∙ (rw found refl)
+set_of_copy journal family n copy accepted found of =
+    set_known (sets_at 0 family journal) n copy (stood_one _ (layers_stand journal accepted 0 family)) (row_of_copy journal family n copy accepted found of) ∙ (rw found refl)
 
 pub touch_of_copy : (journal : List Entry) (family n : ℕ) (copy : Copy) → IsAccepted 8 journal → copy_in (living journal) n ≡ Some copy → families journal n ≡ family
-    → touch_in (sets_at 0 family journal) n ≡ copy.touch
-touch_of_copy journal family n copy accepted found of = touch_at (sets_at 0 family journal) n (as_known copy) (row_of_copy journal family n copy accepted found of)
+    → touch_in (sets_at 0 family journal) n ≡ copy.known.touch
+touch_of_copy journal family n copy accepted found of =
+    let stood = layers_stand journal accepted 0 family in
+    let at = row_of_copy journal family n copy accepted found of in
+    let row = of_known (rows_of (layer 8 0 family journal)) (sets_at 0 family journal) stood.stands.same copy.known at.there in
+    grind (arith, nat_tests, touch_found)
 
 -- two copies that may be compared live in one family
 pub record Pair (journal : List Entry) (a b : ℕ) : Type 0 where
@@ -226,79 +210,44 @@ pub record Pair (journal : List Entry) (a b : ℕ) : Type 0 where
 
 pub pair_at : (journal : List Entry) (a b : ℕ) → IsAccepted 8 journal → first (unknown a (living journal) ∷ unknown b (living journal) ∷ other_family a b (living journal) ∷ []) ≡ None → Pair journal a b
 pair_at journal a b accepted free =
-    let sound = accepted_is_sound 8 journal accepted in
-    let known_a = first_none (unknown a (living journal)) _ free in
-    let known_b = first_none (unknown b (living journal)) _ known_a.1 in
-    let alike = first_none (other_family a b (living journal)) [] known_b.1 in
-    let x = known a (living journal) known_a.0 in
-    let y = known b (living journal) known_b.0 in
-    record {
-      first = x.0;
-      second = y.0;
-      found_first = x.1;
-      found_second = y.1;
-      of = sym (family_of_copy journal b y.0 sound y.1) ∙ one_family a b (living journal) x.0 y.0 alike.0 x.1 y.1 ∙ family_of_copy journal a x.0 sound x.1;
-    }
+    let none = all_none (unknown a (living journal) ∷ unknown b (living journal) ∷ other_family a b (living journal) ∷ []) free in
+    let x = known a (living journal) none.0 in
+    let y = beside journal a b (living_fit 8 journal (accepted_is_sound 8 journal accepted)) none.0 none.1.0 none.1.1.0 in
+    grind (arith, nat_tests)
 
 -- a family that has begun is its own
 pub begun_at : (journal : List Entry) (family : ℕ) → IsAccepted 8 journal → first (unknown_family family journal ∷ []) ≡ None → (0 < family) × (family ≤ length journal) × (families journal family ≡ family)
-begun_at journal family accepted free =
-    let sound = accepted_is_sound 8 journal accepted in
-    let begun : is_family journal family ≡ true = not-false (is_family journal family) (none_false _ UnknownFamily (first_none (unknown_family family journal) [] free).0) in
-    elim (entry_at journal family) as (λ o. entry_at journal family ≡ o → has_report is_register o ≡ true → (0 < family) × (family ≤ length journal) × (families journal family ≡ family)) [
-      | None ↦ λ e f. absurd (cc)
-      | Some entry ↦ λ e f.
-          let within = entry_within journal family entry e in
-          let place = entry_at_place journal family entry e in
-          let some = within.0 in
-          let here = slice_get-each (IsWell (families journal) (length journal)) journal (family - 1) entry sound.well place.1 in
-          let numbered : entry.number ≡ family - 1 + 1 = sound.numbered (family - 1) entry place.1 in
-          let is_it : entry.number ≡ family = omega arith in
-          (within.0, within.1, ap (families journal) (sym is_it) ∙ here.belongs.own f ∙ is_it)
-    ] refl begun
+begun_at journal family accepted free = grind (arith, nat_tests, accepted_is_sound, none_false, all_none, entry_within, entry_at_place, slice_get-each)
 
 -- the families of a list, one after another
 abbrev pub rows_of_families : List Copy → List ℕ → List FamilyRow
 rows_of_families copies numbers = map (family_row copies) (filter (λ family. list_any (is_of family) copies) numbers)
 
 pub rows_push : (copies : List Copy) (numbers : List ℕ) (n : ℕ) → rows_of_families copies (numbers ++ n ∷ []) ≡ rows_of_families copies numbers ++ cond (list_any (is_of n) copies) (family_row copies n ∷ []) []
-rows_push copies numbers n =
-    ap (map (family_row copies)) (filter-append _ numbers (n ∷ []))
-    ∙ map-append (family_row copies) (filter (λ family. list_any (is_of family) copies) numbers) (cond (list_any (is_of n) copies) (n ∷ []) [])
-    ∙ ap (λ l. rows_of_families copies numbers ++ l) (elim (list_any (is_of n) copies) as (λ b. map (family_row copies) (cond b (n ∷ []) []) ≡ cond b (family_row copies n ∷ []) []) [ true ↦ refl | false ↦ refl ])
+rows_push copies numbers n = grind (arith, nat_tests, filter-append, map-append)
 
-any_count : {X : Type 0} (p : X → Bool) (xs : List X) → list_any p xs ≡ nat_lt 0 (length (filter p xs))
+pub any_count : {X : Type 0} (p : X → Bool) (xs : List X) → list_any p xs ≡ nat_lt 0 (length (filter p xs))
 any_count p [] = refl
-any_count p (x ∷ xs) = elim (p x) as (λ b. (b || list_any p xs) ≡ nat_lt 0 (length (cond b (x ∷ filter p xs) (filter p xs)))) [ true ↦ sym (lt-ltb 0 (suc (length (filter p xs))) (omega arith)) | false ↦ any_count p xs ]
+any_count p (x ∷ xs) = grind (arith, nat_tests, any_count p xs)
 
 -- a family has a living copy where it counts one
 pub lives_is : (journal : List Entry) (family : ℕ) → IsAccepted 8 journal → nat_lt 0 (length (copy_rows (rows.rows_of (layer 8 0 family journal)))) ≡ list_any (is_of family) (living journal)
-lives_is journal family accepted = ap (nat_lt 0) (count_rows journal family accepted) ∙ sym (any_count (is_of family) (living journal))
+lives_is journal family accepted = grind (arith, nat_tests, count_rows, any_count)
 
 -- each family of the list is the one of its number
 pub each_own : (journal : List Entry) (list : List ListedFamily) → all_listed list ≡ families_of journal → AllByRecursion (λ it. listed it ≡ family_of journal (listed it).number) list
-each_own journal list is = below list (subst (AllByRecursion (λ it. it ≡ family_of journal it.number)) (sym is) (each (begun journal)))
-  where
-    each : (numbers : List ℕ) → AllByRecursion (λ it. it ≡ family_of journal it.number) (map (family_of journal) numbers)
-    each [] = tt
-    each (n ∷ numbers) = (refl, each numbers)
-
-    below : (xs : List ListedFamily) → AllByRecursion (λ it. it ≡ family_of journal it.number) (map listed xs) → AllByRecursion (λ it. listed it ≡ family_of journal (listed it).number) xs
-    below [] all = tt
-    below (x ∷ xs) all = (all.0, below xs all.1)
+each_own journal list is =
+    each_unmap (λ it. it ≡ family_of journal it.number) listed list
+    (grind (arith, nat_tests, each_map, each_of))
 
 -- and their numbers are those of the families that have begun
 pub numbers_own : (journal : List Entry) (list : List ListedFamily) → all_listed list ≡ families_of journal → map (λ it. (listed it).number) list ≡ begun journal
-numbers_own journal list is = sym (map_map listed (λ it. it.number) list) ∙ ap (map (λ (it : KeptRows). it.number)) is ∙ each (begun journal)
-  where
-    each : (numbers : List ℕ) → map (λ (it : KeptRows). it.number) (map (family_of journal) numbers) ≡ numbers
-    each [] = refl
-    each (n ∷ numbers) = ap (λ l. n ∷ l) (each numbers)
+numbers_own journal list is =
+    sym (map-map (λ (it : KeptRows). it.number) listed list) ∙ ap (map (λ (it : KeptRows). it.number)) is ∙ map-map (λ (it : KeptRows). it.number) (family_of journal) (begun journal) ∙ map-id (begun journal)
 
 pub each_get : {X : Type 0} (P : X → Type 0) (xs : List X) (i : ℕ) (d : X) → AllByRecursion P xs → i < length xs → P (slice_index_or xs i d)
-each_get P [] i d each within = absurd (omega arith)
-each_get P (x ∷ xs) zero d each within = each.0
 each_get P (x ∷ xs) (suc i) d each within = each_get P xs i d each.1 (omega arith)
+each_get P xs i d each within = grind (arith, nat_tests)
 
 -- a family's rows stand for its sets
 pub stands_of : (journal : List Entry) (family : ℕ) (it : KeptRows) → IsAccepted 8 journal → it ≡ family_of journal family → StandsFor it.rows (sets_at 0 family journal)
@@ -316,8 +265,5 @@ own_begun journal family it accepted free is = is ∙ ap (family_of journal) (be
 pub stamps_are : (journal : List Entry) (family : ℕ) (rows : List StampRow) (stamps : List CopyStamp) → IsAccepted 8 journal → rows ≡ stamp_rows family journal → map text_of stamps ≡ stamps_in rows
     → AreStamps (map text_of stamps) (table.copies_of (sets_at 0 family journal)) → AreStampsOf family journal stamps
 unfolding AreStampsOf
-stamps_are journal family rows stamps accepted rows_is texts are = (
-  texts ∙ ap stamps_in rows_is,
-  subst (λ (copies : List Known). AreStamps (map text_of stamps) copies)
-      (copies_sets journal family accepted ∙ ap (map as_known) (sym ((merged 8 journal (accepted_is_sound 8 journal accepted)).tables family))) are,
-)
+stamps_are journal family rows stamps accepted rows_is texts are =
+    (texts ∙ ap stamps_in rows_is, subst (λ (copies : List Known). AreStamps (map text_of stamps) copies) (copies_sets journal family accepted) are)

@@ -1,29 +1,28 @@
 -- What is pending in a family, and what takes it back.
-use Rattle.std.specs.Prelude.{◌≡◌, ◌≢◌, ℕ, zero, suc, ◌+◌, ◌-◌, ◌<◌, ◌≤◌, true, false, cond, ◌||◌, ◌==◌, List, [], ◌∷◌, ◌++◌, length, take, drop, reverse, fold, None, Some, Bool, nat_lt, not, ◌&&◌, Option, option_map, position, slice_get}
+use Rattle.std.specs.Prelude.{◌≡◌, ◌≢◌, ℕ, suc, ◌+◌, ◌-◌, ◌<◌, ◌≤◌, true, false, cond, ◌||◌, ◌==◌, List, [], ◌∷◌, ◌++◌, length, take, drop, reverse, None, Some, Bool, Option, option_map, position, slice_get}
 use Rattle.std.specs.List.{AllByRecursion, position_or_len, list_any}
-use Rattle.std.proofs.Common.{refl, sym, ap, ◌∙◌, subst, inl, inr, arith, append_assoc}
-use Rattle.std.proofs.lemmas.Bool.{eqb-true, eq-eqb, ne_eqb, not-false, cases_lt, cases_Bool, ltb-false}
+use Rattle.std.proofs.Common.{refl, sym, ap, ◌∙◌, subst, inl, arith, append_assoc}
+use Rattle.std.proofs.lemmas.Bool.{eqb-true, ne_eqb, not-false}
 use Rattle.std.proofs.lemmas.List.{length-drop, length-take, length-reverse, reverse-append, take-append-drop, take_at, take_all}
+use Rattle.std.proofs.lemmas.Bool.Decides.{nat_tests}
 use Rattle.pana_journal.specs.declared.report.Report.TheVariants.{Confirm, Withdraw, Register}
 use Rattle.pana_journal.specs.declared.entry.Entry.{Entry}
 use Rattle.pana_family.specs.Updates.{has}
-use Rattle.pana_hall.specs.Family.{families}
 use Rattle.pana_hall.specs.Effective.{is_of_copies}
 use Rattle.pana_hall.specs.Living.{living, copies_of}
-use Rattle.pana_hall.specs.Pending.{pending, pend, last, behind}
-use Rattle.pana_hall.specs.Refusal.{report_refusal, full, unknown_entry, not_yours, settled}
+use Rattle.pana_hall.specs.Pending.{pending, last, behind}
+use Rattle.pana_hall.specs.Refusal.{report_refusal}
 use Rattle.pana_hall.specs.Accepted.{Accepts}
 use Rattle.pana_hall.specs.laws.Tables.{layer}
 use Rattle.pana_hall.specs.laws.Layers.{family_of_next, AreRising}
 use Rattle.pana_hall.specs.inner.Kept.{of_each, of_pending, family_of, next_entry, place_before, undone_of}
 use Rattle.pana_hall.proofs.Lists.{each_append, each_weaker, at-push, rises_each}
-use Rattle.pana_hall.proofs.Sound.{first_none, none_false, IsSound, family_named, family_new, pends}
+use Rattle.pana_hall.proofs.Sound.{none_against, none_false, IsSound, family_named, family_new, pends}
 use Rattle.pana_hall.proofs.Tables.{layer_undone, layer_confirm, layer_withdraw, layer_other, none_of, entry_at-other, layer_report, layer_new, pending_report, pending_withdraw, pending_other, pending_each, pending_rises, rises_end}
 use Rattle.pana_copies.specs.declared.place.Place.{Place}
 use Rattle.pana_journal.specs.Entries.{entry_at}
 use Rattle.pana_hall.specs.StampRows.{rows_after, rows_of}
 use Rattle.pana_hall.specs.inner.Undo.{KeptRows, Undone, confirmed, kept_rows, later_than, new_kept, undone, withdrawn, CanGoBack, history}
-use Rattle.pana_hall.proofs.Moves.{IsWell}
 use Rattle.pana_hall.proofs.Stood.{rows_none, rows_of-push}
 use Rattle.circular_buffer.specs.Buffer.{Buffer, buffer}
 use Rattle.pana_family.specs.declared.row.StampRow.{StampRow}
@@ -33,7 +32,6 @@ use Rattle.pana_family.specs.Report.{CanReport}
 use Rattle.pana_family.specs.Rows.{lives, seed_row}
 use Rattle.pana_family.specs.View.{NamesLiving}
 use Rattle.pana_family.specs.declared.report.FamilyReport.{FamilyReport}
-use Rattle.pana_family.specs.declared.report.FamilyReport.TheVariants.{Duplicate, Edit, Reconcile, Merge, Remove, Touch}
 use Rattle.pana_hall.specs.declared.undo.Undo.{Undo}
 
 -- What is made of a family's pending entries, as entries come.
@@ -43,14 +41,7 @@ reverse-last : (k : ℕ) (numbers : List ℕ) → reverse (last k numbers) ≡ t
 reverse-last k numbers =
     let cut = length numbers - k in
     let whole : reverse numbers ≡ reverse (drop cut numbers) ++ reverse (take cut numbers) = ap reverse (sym (take-append-drop cut numbers)) ∙ reverse-append (take cut numbers) (drop cut numbers) in
-    elim (cases_lt (length numbers) k) [
-      | inl short ↦
-          let none : cut ≡ 0 = omega arith in
-          ap (λ i. reverse (drop i numbers)) none ∙ sym (take_all k (reverse numbers) (let long = length-reverse numbers in omega arith))
-      | inr enough ↦
-          let long : length (reverse (drop cut numbers)) ≡ k = length-reverse (drop cut numbers) ∙ length-drop cut numbers ∙ omega arith in
-          sym (ap (take k) whole ∙ take_at (reverse (drop cut numbers)) (reverse (take cut numbers)) k long)
-    ]
+    grind (arith, nat_tests, take_all, length-reverse, length-drop, take_at)
 
 -- what is made of pending entries with layers that agree
 each_same : {X : Type 0} (make : ℕ → List Entry → X) (layers others : ℕ → List Entry) (numbers : List ℕ) → ((k : ℕ) → k < length numbers → layers k ≡ others k) → of_each make layers numbers ≡ of_each make others numbers
@@ -58,11 +49,6 @@ each_same make layers others [] same = refl
 each_same make layers others (n ∷ numbers) same =
     ap (λ l. make n l ∷ of_each make (λ k. layers (k + 1)) numbers) (same 0 (omega arith))
     ∙ ap (λ l. make n (others 0) ∷ l) (each_same make (λ k. layers (k + 1)) (λ k. others (k + 1)) numbers (λ k within. same (k + 1) (omega arith)))
-
-each_take : {X : Type 0} (make : ℕ → List Entry → X) (layers : ℕ → List Entry) (m : ℕ) (numbers : List ℕ) → of_each make layers (take m numbers) ≡ take m (of_each make layers numbers)
-each_take make layers zero numbers = refl
-each_take make layers (suc m) [] = refl
-each_take make layers (suc m) (n ∷ numbers) = ap (λ l. make n (layers 0) ∷ l) (each_take make (λ k. layers (k + 1)) m numbers)
 
 -- and by two ways that agree on the entries
 each_alike : {X : Type 0} (make other : ℕ → List Entry → X) (layers : ℕ → List Entry) (numbers : List ℕ) → AllByRecursion (λ n. (l : List Entry) → make n l ≡ other n l) numbers → of_each make layers numbers ≡ of_each other layers numbers
@@ -83,13 +69,10 @@ pub pending_made : {X : Type 0} (make : ℕ → List Entry → X) (journal : Lis
 pending_made make journal entry sound accepts is =
     let family = family_of_next journal entry in
     let numbers = pending 8 family journal in
-    let turned : reverse (pending 8 family (journal ++ entry ∷ [])) ≡ entry.number ∷ take 7 (reverse numbers) =
-    ap reverse (pending_report 8 journal entry sound accepts is) ∙ reverse-last 8 (numbers ++ entry.number ∷ []) ∙ ap (take 8) (reverse-push numbers entry.number) in
+    let turned : reverse (pending 8 family (journal ++ entry ∷ [])) ≡ entry.number ∷ take 7 (reverse numbers) = grind (arith, nat_tests, pending_report, reverse-last, reverse-push) in
     let undone_by : (k : ℕ) → k < 8 → layer 8 (k + 1) family (journal ++ entry ∷ []) ≡ layer 8 k family journal = λ k within. layer_undone 8 k journal entry sound accepts is within in
     let few = length-take-within 7 (reverse numbers) in
-    ap (of_each make (λ k. layer 8 (k + 1) family (journal ++ entry ∷ []))) turned
-    ∙ each_same make (λ k. layer 8 (k + 1) family (journal ++ entry ∷ [])) (λ k. layer 8 k family journal) (entry.number ∷ take 7 (reverse numbers)) (λ k within. undone_by k (omega arith))
-    ∙ ap (λ l. make entry.number (layer 8 0 family journal) ∷ l) (each_take make (λ k. layer 8 (k + 1) family journal) 7 (reverse numbers))
+    grind (arith, nat_tests)
 
 -- after a Withdraw: the first is no longer there
 pub pending_undone : {X : Type 0} (make : ℕ → List Entry → X) (m : ℕ) (journal : List Entry) (entry : Entry) → IsSound 8 journal → Accepts 8 journal entry → entry.report ≡ Withdraw m
@@ -99,9 +82,8 @@ pending_undone make m journal entry sound accepts is =
     let family = family_of_next journal entry in
     let drops : (k : ℕ) → layer 8 k family (journal ++ entry ∷ []) ≡ layer 8 (k + 1) family journal = λ k. layer_withdraw 8 m k journal entry sound accepts is in
     let rest = pending 8 family (journal ++ entry ∷ []) in
-    let turned : reverse (pending 8 family journal) ≡ m ∷ reverse rest = ap reverse (pending_withdraw 8 m journal entry sound accepts is) ∙ reverse-push rest m in
-    ap (of_each make (λ k. layer 8 (k + 1) family journal)) turned
-    ∙ ap (λ l. make m (layer 8 1 family journal) ∷ l) (sym (each_same make (λ k. layer 8 (k + 1) family (journal ++ entry ∷ [])) (λ k. layer 8 (k + 1 + 1) family journal) (reverse rest) (λ k within. drops (k + 1))))
+    let turned : reverse (pending 8 family journal) ≡ m ∷ reverse rest = grind (arith, nat_tests, pending_withdraw, reverse-push) in
+    grind (arith, nat_tests)
 
 -- after an entry of another family
 pub pending_left : {X : Type 0} (make : ℕ → List Entry → X) (family : ℕ) (journal : List Entry) (entry : Entry) → IsSound 8 journal → Accepts 8 journal entry → family_of_next journal entry ≢ family
@@ -125,7 +107,7 @@ each_reverse P (n ∷ numbers) each = subst (AllByRecursion P) (sym (reverse-app
 
 later_behind : (journal : List Entry) (layers : ℕ → List Entry) (m : ℕ) (numbers more : List ℕ) → AllByRecursion (λ n. m < n) numbers
     → later_than m (of_each (undone_of journal) layers (numbers ++ m ∷ more)) ≡ of_each (undone_of journal) layers numbers
-later_behind journal layers m [] more above = ap (λ b. cond b [] (undone_of journal m (layers 0) ∷ later_than m (of_each (undone_of journal) (λ k. layers (k + 1)) more))) (eq-eqb m m refl)
+later_behind journal layers m [] more above = grind (arith, nat_tests)
 later_behind journal layers m (n ∷ numbers) more above =
     let first = above.0 in
     ap (λ b. cond b [] (undone_of journal n (layers 0) ∷ later_than m (of_each (undone_of journal) (λ k. layers (k + 1)) (numbers ++ m ∷ more)))) (ne_eqb n m (λ h. omega arith))
@@ -139,8 +121,8 @@ pending_confirmed before m journal entry sound accepts is =
     let numbers = pending 8 family journal in
     let rest = behind m numbers in
     let rest_is : pending 8 family (journal ++ entry ∷ []) ≡ rest = pends 8 journal entry (Confirm m) sound accepts is in
-    let alone : report_refusal 8 journal (living journal) entry.by (Confirm m) ≡ None = ap (report_refusal 8 journal (living journal) entry.by) (sym is) ∙ accepts.free in
-    let none = (first_none (settled 8 m journal) [] (first_none (not_yours entry.by m journal) _ (first_none (unknown_entry m journal) _ (first_none (full journal) _ alone).1).1).1).0 in
+    let alone : report_refusal 8 journal (living journal) entry.by (Confirm m) ≡ None = grind (arith, nat_tests) in
+    let none = (none_against 8 journal (living journal) entry.by (Confirm m) alone).1.1.1.0 in
     let in_it : has numbers m ≡ true = ap (λ f. has (pending 8 f journal) m) (family_named 8 journal entry m (inl is)) ∙ not-false _ (none_false _ _ none) in
     let cut = parted m numbers in_it in
     let above : AreRising (λ n. n) m rest = (rises_end 0 cut.0 (m ∷ rest) (subst (AreRising (λ n. n) 0) cut.1 (pending_rises 8 family journal sound))).1 in
@@ -151,34 +133,26 @@ pending_confirmed before m journal entry sound accepts is =
     let layers : ℕ → List Entry = λ k. layer 8 (k + 1) family journal in
     ap (λ l. of_each (undone_of before) (λ k. layer 8 (k + 1) family (journal ++ entry ∷ [])) (reverse l)) rest_is
     ∙ each_same (undone_of before) (λ k. layer 8 (k + 1) family (journal ++ entry ∷ [])) layers (reverse rest) (λ k within. layer_confirm 8 m (k + 1) journal entry sound accepts is (omega arith))
-    ∙ sym (later_behind before layers m (reverse rest) (reverse cut.0) (each_reverse (λ n. m < n) rest (rises_each (λ n. n) m rest above)))
+    ∙ sym (grind (arith, nat_tests, later_behind, each_reverse, rises_each))
     ∙ ap (λ l. later_than m (of_each (undone_of before) layers l)) (sym turned)
 
 -- nothing is pending in the family that the next entry may begin
 pub pending_begun : {X : Type 0} (make : ℕ → List Entry → X) (journal : List Entry) → IsSound 8 journal → of_pending make (length journal + 1) journal ≡ []
-pending_begun make journal sound =
-    let no_pending : pending 8 (length journal + 1) journal ≡ [] = ap (λ l. fold (λ numbers e. pend 8 e.number e.report numbers) [] l) (none_of (length journal + 1) (length journal) (families journal) journal sound.well (omega arith)) in
-    ap (λ l. of_each make (λ k. layer 8 (k + 1) (length journal + 1) journal) (reverse l)) no_pending
+pending_begun make journal sound = grind (arith, nat_tests, none_of)
 
 -- A family of a journal, as entries come.
-
-undone_alike : (journal : List Entry) (entry : Entry) (numbers : List ℕ) → AllByRecursion (λ n. n ≤ length journal) numbers
-    → AllByRecursion (λ n. (l : List Entry) → undone_of (journal ++ entry ∷ []) n l ≡ undone_of journal n l) numbers
-undone_alike journal entry [] within = tt
-undone_alike journal entry (n ∷ numbers) within =
-    let first = within.0 in
-    (λ l. ap (λ e. undone n (rows_of l) (place_before e (copies_of l))) (entry_at-other journal entry n (λ h. omega arith)), undone_alike journal entry numbers within.1)
 
 -- what is pending are numbers of entries
 pub pending_within : (journal : List Entry) (family : ℕ) → IsSound 8 journal → AllByRecursion (λ n. n ≤ length journal) (pending 8 family journal)
 pending_within journal family sound =
-    pending_each (λ n. n ≤ length journal) 8 family journal sound (each_weaker (IsWell (families journal) (length journal)) _ journal (λ e well. well.within) sound.well)
+    pending_each (λ n. n ≤ length journal) 8 family journal sound (grind (arith, nat_tests, each_weaker))
 
 -- so what is given back stays as entries come
 undone_stays : (journal : List Entry) (entry : Entry) (family : ℕ) → IsSound 8 journal → of_pending (undone_of (journal ++ entry ∷ [])) family journal ≡ of_pending (undone_of journal) family journal
 undone_stays journal entry family sound =
     each_alike (undone_of (journal ++ entry ∷ [])) (undone_of journal) (λ k. layer 8 (k + 1) family journal) (reverse (pending 8 family journal))
-    (undone_alike journal entry (reverse (pending 8 family journal)) (each_reverse (λ n. n ≤ length journal) (pending 8 family journal) (pending_within journal family sound)))
+    (each_weaker (λ n. n ≤ length journal) _ _ (λ n within l. grind (arith, nat_tests, entry_at-other))
+    (each_reverse (λ n. n ≤ length journal) (pending 8 family journal) (pending_within journal family sound)))
 
 -- a report of copies
 pub family_report : (journal : List Entry) (entry : Entry) → IsSound 8 journal → Accepts 8 journal entry → is_of_copies entry.report ≡ true
@@ -190,12 +164,12 @@ family_report journal entry sound accepts is =
     let family = family_of_next journal entry in
     let journal' = journal ++ entry ∷ [] in
     let old = layer 8 0 family journal in
-    let now : rows_of (layer 8 0 family journal') ≡ rows_after entry.number entry.report (rows_of old) = ap rows_of (layer_report 8 journal entry sound accepts is) ∙ rows_of-push old entry in
+    let now : rows_of (layer 8 0 family journal') ≡ rows_after entry.number entry.report (rows_of old) = grind (arith, nat_tests, layer_report, rows_of-push) in
     let before : of_pending (undone_of journal') family journal' ≡ take 8 (undone entry.number (rows_of old) (place_before (Some entry) (copies_of old)) ∷ of_pending (undone_of journal) family journal) =
     pending_made (undone_of journal') journal entry sound accepts is
     ∙ ap (λ e. take 8 (undone entry.number (rows_of old) (place_before e (copies_of old)) ∷ of_pending (undone_of journal') family journal)) (ap (entry_at journal') accepts.next ∙ at-push journal entry)
     ∙ ap (λ l. take 8 (undone entry.number (rows_of old) (place_before (Some entry) (copies_of old)) ∷ l)) (undone_stays journal entry family sound) in
-    ap (λ r. kept_rows family r (of_pending (undone_of journal') family journal')) now ∙ ap (kept_rows family (rows_after entry.number entry.report (rows_of old))) before
+    grind (arith, nat_tests)
 
 -- a Register begins a family
 pub family_begun : (journal : List Entry) (by : List ℕ) (place : Place) → IsSound 8 journal → Accepts 8 journal (next_entry journal by (Register place))
@@ -248,30 +222,19 @@ family_other family journal entry sound accepts other =
 abbrev pub place_of : Undo → Option Place
 place_of u = option_map (λ place. place.value) u.place
 
-pub history_take : (n : ℕ) (rows : List StampRow) (us : List Undo) → history rows (take n us) ≡ take n (history rows us)
-history_take zero rows us = refl
-history_take (suc n) rows [] = refl
-history_take (suc n) rows (u ∷ us) = ap (λ l. undone u.entry (after_change u.back rows) (place_of u) ∷ l) (history_take n (after_change u.back rows) us)
-
 -- a record is pushed, which gives the former rows back
 pub pushed : (rows new : List StampRow) (us : List Undo) (b : Buffer Undo) (u : Undo) (cap : ℕ) → cap ≡ 8 → b ≡ buffer (take cap (u ∷ us)) cap → after_change u.back new ≡ rows
     → history new b.items ≡ take 8 (undone u.entry rows (place_of u) ∷ history rows us)
-pushed rows new us b u cap eight is back =
-    ap (λ (c : Buffer Undo). history new c.items) is
-    ∙ ap (λ (n : ℕ). history new (take n (u ∷ us))) eight
-    ∙ history_take 8 new (u ∷ us)
-    ∙ ap (λ (l : List StampRow). take 8 (undone u.entry l (place_of u) ∷ history l us)) back
+pushed rows new us b u cap eight is back = grind (arith, nat_tests)
 
 -- what can go back can with fewer records, and with more room
 back_take : (n : ℕ) (room : Room) (rows : List StampRow) (us : List Undo) → CanGoBack room rows us → CanGoBack room rows (take n us)
-back_take zero room rows us can = tt
-back_take (suc n) room rows [] can = tt
 back_take (suc n) room rows (u ∷ us) can = (can.0, can.1, back_take n room (after_change u.back rows) us can.2)
+back_take n room rows us can = grind (arith, nat_tests)
 
 pub back_more : (room more : Room) (rows : List StampRow) (us : List Undo) → IsRoomier room more → CanGoBack room rows us → CanGoBack more rows us
 back_more room more rows [] up can = tt
-back_more room more rows (u ∷ us) up can =
-    let first = can.1 in (can.0, (omega (arith, first.0, up.0), omega (arith, first.1, up.1)), back_more room more (after_change u.back rows) us up can.2)
+back_more room more rows (u ∷ us) up can = grind (arith, nat_tests, back_more room more (after_change u.back rows) us up can.2)
 
 -- what a family keeps of its records
 abbrev pub AreKept : Room → List StampRow → Buffer Undo → Type 0
@@ -279,14 +242,10 @@ AreKept room rows b = (b.capacity ≡ 8) × CanGoBack room rows b.items
 
 pub kept_pushed : (room more : Room) (rows new : List StampRow) (us : List Undo) (b : Buffer Undo) (u : Undo) (cap : ℕ) → cap ≡ 8 → b ≡ buffer (take cap (u ∷ us)) cap → after_change u.back new ≡ rows → IsKept rows
     → Fits u.back new more → IsRoomier room more → CanGoBack room rows us → AreKept more new b
-kept_pushed room more rows new us b u cap eight is back kept fits up can = (
-  ap (λ (c : Buffer Undo). c.capacity) is ∙ eight,
-  subst (λ (c : Buffer Undo). CanGoBack more new c.items) (sym is)
-      (back_take cap more new (u ∷ us) (subst IsKept (sym back) kept, fits, subst (λ (l : List StampRow). CanGoBack more l us) (sym back) (back_more room more rows us up can))),
-)
+kept_pushed room more rows new us b u cap eight is back kept fits up can = grind (arith, nat_tests)
 
 pub kept_roomier : (room more : Room) (rows new : List StampRow) (b : Buffer Undo) → new ≡ rows → IsRoomier room more → AreKept room rows b → AreKept more new b
-kept_roomier room more rows new b same up k = subst (λ (l : List StampRow). AreKept more l b) (sym same) (k.0, back_more room more rows b.items up k.1)
+kept_roomier room more rows new b same up k = grind (arith, nat_tests, back_more)
 
 -- Confirming.
 
@@ -296,28 +255,19 @@ since_is n rows (u ∷ us) =
     let at : ℕ = position_or_len (λ (w : Undo). w.entry == n) us in
     let next : 1 + at ≡ suc at = omega arith in
     let old : List StampRow = after_change u.back rows in
-    elim (u.entry == n) as (λ b. history rows (take (cond (not b) (1 + at) 0) (u ∷ us)) ≡ cond b [] (undone u.entry old (place_of u) ∷ later_than n (history old us))) [
-      | true ↦ refl
-      | false ↦ rw next (ap (λ l. undone u.entry old (place_of u) ∷ l) (since_is n old us))
-    ]
+    grind (arith, nat_tests, since_is n old us)
 
 pos_some : {A : Type 0} (test : A → Bool) (xs : List A) (at : ℕ) → position test xs ≡ Some at → at ≡ position_or_len test xs
-pos_some test xs at some = elim (cases_Bool (nat_lt (position_or_len test xs) (length xs))) [
-  | inl h ↦ cc (ap (λ b. cond b (Some (position_or_len test xs)) None) h, some)
-  | inr h ↦ let none : position test xs ≡ None = ap (λ b. cond b (Some (position_or_len test xs)) None) h in absurd (cc (none, some))
-]
+pos_some test xs at some = grind (arith, nat_tests)
 
 pos_none : {A : Type 0} (test : A → Bool) (xs : List A) → position test xs ≡ None → length xs ≤ position_or_len test xs
-pos_none test xs none = elim (cases_Bool (nat_lt (position_or_len test xs) (length xs))) [
-  | inl h ↦ let some : position test xs ≡ Some (position_or_len test xs) = ap (λ b. cond b (Some (position_or_len test xs)) None) h in absurd (cc (none, some))
-  | inr h ↦ omega (arith, ltb-false (position_or_len test xs) (length xs) h)
-]
+pos_none test xs none = grind (arith, nat_tests)
 
 pub since_some : (n at : ℕ) (rows : List StampRow) (us : List Undo) → position (λ u. u.entry == n) us ≡ Some at → history rows (take at us) ≡ later_than n (history rows us)
-since_some n at rows us some = ap (λ (k : ℕ). history rows (take k us)) (pos_some (λ u. u.entry == n) us at some) ∙ since_is n rows us
+since_some n at rows us some = grind (arith, nat_tests, pos_some, since_is)
 
 pub since_none : (n : ℕ) (rows : List StampRow) (us : List Undo) → position (λ u. u.entry == n) us ≡ None → history rows us ≡ later_than n (history rows us)
-since_none n rows us none = sym (ap (history rows) (take_all (position_or_len (λ u. u.entry == n) us) us (pos_none (λ u. u.entry == n) us none))) ∙ since_is n rows us
+since_none n rows us none = sym (grind (arith, nat_tests, take_all, pos_none)) ∙ since_is n rows us
 
 pub kept_truncated : (at : ℕ) (room : Room) (rows : List StampRow) (b new : Buffer Undo) → new ≡ buffer (take at b.items) b.capacity → AreKept room rows b → AreKept room rows new
 kept_truncated at room rows b new is k = subst (AreKept room rows) (sym is) (k.0, back_take at room rows b.items k.1)
@@ -334,9 +284,7 @@ none_left [] e = refl
 none_left (v ∷ us) e = absurd (cc e)
 
 pub kept_popped : (room more : Room) (rows new : List StampRow) (b left : Buffer Undo) (u : Undo) → slice_get b.items 0 ≡ Some u → left ≡ buffer (drop 1 b.items) b.capacity → new ≡ after_change u.back rows → IsRoomier room more → AreKept room rows b → AreKept more new left
-kept_popped room more rows new b left u here is made up k =
-    let can : CanGoBack room rows (u ∷ drop 1 b.items) = subst (CanGoBack room rows) (first_and_rest b.items u here) k.1 in
-    subst (AreKept more new) (sym is) (k.0, subst (λ (l : List StampRow). CanGoBack more l (drop 1 b.items)) (sym made) (back_more room more (after_change u.back rows) (drop 1 b.items) up can.2))
+kept_popped room more rows new b left u here is made up k = grind (arith, nat_tests, first_and_rest, back_more)
 
 -- what the first one gives back
 pub history_first : (rows : List StampRow) (us : List Undo) (u : Undo) → slice_get us 0 ≡ Some u → history rows us ≡ undone u.entry (after_change u.back rows) (place_of u) ∷ history (after_change u.back rows) (drop 1 us)
@@ -352,21 +300,8 @@ has_is n rows (u ∷ us) = ap (λ b. (u.entry == n) || b) (has_is n (after_chang
 
 -- what can be reported names living copies
 pub names_living : (report : FamilyReport) (rows : List StampRow) → CanReport report rows → NamesLiving report rows
-names_living (Duplicate c) rows can = can.0
-names_living (Edit c) rows can = can
-names_living (Reconcile a b) rows can = (can.0, can.1)
-names_living (Merge a b) rows can = (can.0, can.1)
-names_living (Remove c heir) rows can = (can.0, can.1)
-names_living (Touch c) rows can = can
+names_living report rows can = grind (arith, nat_tests)
 
 -- the copy of a new family alone lives in it
 pub new_living : (n copy : ℕ) → lives (seed_row n ∷ []) copy ≡ true → n ≡ copy
-new_living n copy there = eqb-true n copy (and_true (n == copy) (or_false (n == copy && true) there))
-  where
-    or_false : (b : Bool) → (b || false) ≡ true → b ≡ true
-    or_false true e = refl
-    or_false false e = e
-
-    and_true : (b : Bool) → (b && true) ≡ true → b ≡ true
-    and_true true e = refl
-    and_true false e = e
+new_living n copy there = grind (arith, nat_tests)

@@ -1,137 +1,42 @@
 -- The tables of sets that a journal gives its families.
-use Rattle.std.specs.Prelude.{◌≡◌, ℕ, Bool, true, false, cond, not, ◌&&◌, ◌||◌, List, [], ◌∷◌, length, map, filter, count_by, ◌<◌, ◌≤◌, ◌==◌, ◌++◌, find, Option, Some, None, is_some, option_map, zero, suc, ◌+◌, ◌-◌, drop}
-use Rattle.std.specs.List.{AllByRecursion, list_any}
-use Rattle.std.proofs.Common.{refl, sym, ap, ap₂, ◌∙◌, subst, inl, inr, arith, append-nil}
-use Rattle.std.proofs.lemmas.Bool.{eqb-true, or_cases, cases_eq, cases_lt}
-use Rattle.std.proofs.lemmas.List.Sums.{length-filter, fold-append}
-use Rattle.std.proofs.lemmas.List.Elements.{filter_agree, filter-append}
-use Rattle.pana_event.specs.declared.rel.Rel.{Rel}
-use Rattle.pana_event.specs.declared.rel.Rel.TheVariants.{Equal, Older, Newer, Conflict}
-use Rattle.pana_rel.specs.declared.counts.Counts.{Counts}
-use Rattle.pana_rel.specs.Board.{counts_of, is_split, newest_of, relates as relates_so}
-use Rattle.pana_hall.specs.declared.board.BoardRow.{BoardRow}
-use Rattle.pana_hall.specs.Living.{Copy, copy_in, known_to, after_report, with_updates, moved, copies_of}
-use Rattle.pana_hall.specs.Board.{copy_relation, has_conflict, is_of, number_of, relates, row_of, is_newest, newest, board_of}
-use Rattle.pana_hall.specs.Queries.{family_row}
-use Rattle.pana_hall.proofs.Lists.{each_filter, filter_filter, filter_all, each_append, filter_swap, filter_true, map_filter, rises_filter, rises_push, each_weaker, each_last, each_left, none_under, rises_map, each_map}
-use Rattle.std.proofs.lemmas.List.{map-append, map-id, length-drop, same_from_push}
-use Rattle.std.proofs.Math.Bool.{and_comm, or-false}
+use Rattle.std.specs.Prelude.{◌≡◌, ℕ, true, false, cond, not, ◌&&◌, ◌||◌, List, [], ◌∷◌, length, ◌<◌, ◌≤◌, ◌==◌, ◌++◌, Option, Some, None, IfSome, option_map, unwrap_or, zero, suc, ◌+◌, ◌-◌, ◌⊎◌, drop}
+use Rattle.std.specs.List.{AllByRecursion, cons_option, filter_map}
+use Rattle.std.specs.Option.{option_to_list}
+use Rattle.std.proofs.Common.{refl, sym, ap, ap₂, ◌∙◌, subst, inl, inr, arith}
+use Rattle.std.proofs.lemmas.Bool.{cases_eq, cases_lt}
+use Rattle.std.proofs.lemmas.List.{map-append, length-drop, same_from_push}
+use Rattle.std.proofs.lemmas.List.Sums.{fold-append}
+use Rattle.std.proofs.lemmas.List.Elements.{filter-append}
+use Rattle.std.proofs.lemmas.Bool.Decides.{nat_tests}
 use Rattle.pana_journal.specs.declared.report.Report.{Report}
-use Rattle.pana_journal.specs.declared.report.Report.TheVariants.{Register, Duplicate, Edit, Reconcile, Merge, Relocate, Remove, Confirm}
+use Rattle.pana_journal.specs.declared.report.Report.TheVariants.{Register, Duplicate, Edit, Reconcile, Merge, Relocate, Remove, Confirm, Withdraw}
 use Rattle.pana_journal.specs.declared.entry.Entry.{Entry}
-use Rattle.pana_family.specs.Updates.{has, union}
+use Rattle.pana_family.specs.Updates.{is_within, union}
 use Rattle.pana_family.specs.Holders.{is_copy, is_held, passed}
-use Rattle.pana_family.specs.Table.{Known, known, parcel, is_in, set_in, touch_in, change, without, knowing, united, ends, settled, wrapped, copies_of as known_copies}
-use Rattle.pana_family.proofs.Unions.{union_members}
-use Rattle.pana_hall.specs.Stamps.{as_known}
-use Rattle.pana_hall.specs.Living as living
-use Rattle.pana_hall.specs.laws.Layers.{AreRising, family_of_next}
-use Rattle.pana_hall.specs.laws.Sets.{reported, reported_by, knowns_of}
-use Rattle.pana_hall.proofs.Moves.{Names, Lives, IsWell, copies_of-push}
-use Rattle.pana_family.specs.Table as table
-use Rattle.pana_hall.specs.Family.{families}
-use Rattle.pana_hall.specs.Effective.{effective, is_of_copies, left_out}
+use Rattle.pana_family.specs.Table.{Known, In, IsAbove, known, parcel, is_in, set_in, knowing, ends, copies_of as known_copies}
+use Rattle.pana_family.specs.Report.{CanReport}
+use Rattle.pana_family.specs.Report as by_family
+use Rattle.pana_family.specs.declared.row.StampRow.{StampRow}
+use Rattle.pana_family.specs.declared.report.FamilyReport.{FamilyReport}
+use Rattle.pana_family.specs.declared.report.FamilyReport.TheVariants as reports
+use Rattle.pana_family.proofs.Images.{in_leave, in_made, one_of, unless_of}
+use Rattle.pana_family.proofs.Members.{One, any_from, in_append, in_filter, set_of}
+use Rattle.pana_family.proofs.Tables.{NamesOf, Lives as KnownLives, comes_known, know, know_two, made_known, pass, passed_heir, reported_is, united_known, unless}
+use Rattle.pana_hall.specs.Family.{family_report}
+use Rattle.pana_hall.specs.Effective.{is_of_copies, left_out}
+use Rattle.pana_hall.specs.Living.{Copy, after_report, comes, copies_of, copy_in, known_to, made, touched}
+use Rattle.pana_hall.specs.Board.{all_known}
 use Rattle.pana_hall.specs.Pending.{pending, last}
 use Rattle.pana_hall.specs.Accepted.{Accepts, IsAccepted}
-use Rattle.pana_hall.specs.laws.Tables.{table as table_of, layer}
-use Rattle.pana_hall.proofs.Sound.{each_effective, family_new, own, IsSound, living_fit, named_report, in_accepted, OfCopies, Confirms, Withdraws, kind_of, accepted_is_sound}
-use Rattle.pana_hall.proofs.Tables.{table_own, pending_report, layer_report, layer_undone, layer_confirm, layer_withdraw, layer_other, merged}
+use Rattle.pana_hall.specs.laws.Layers.{family_of_next}
+use Rattle.pana_hall.specs.laws.Sets.{reported_by, knowns_of}
+use Rattle.pana_hall.specs.laws.Tables.{layer}
+use Rattle.pana_hall.proofs.Lists.{each_filter, each_passes, each_weaker, filter_made}
+use Rattle.pana_hall.proofs.Moves.{Names, Lives, found_number}
+use Rattle.pana_hall.proofs.Sound.{each_effective, family_new, own, IsSound, living_fit, named_report, in_accepted, OfCopies, Confirms, Withdraws, kind_of}
+use Rattle.pana_hall.proofs.Tables.{own_copy, pending_report, layer_report, layer_undone, layer_confirm, layer_withdraw, layer_other}
 
--- What is answered of a family can be read off its table alone, in the words of any board.
-
-pub each_passes : {X : Type 0} (p : X → Bool) (xs : List X) → AllByRecursion (λ x. p x ≡ true) (filter p xs)
-each_passes p [] = tt
-each_passes p (x ∷ xs) =
-    elim (p x) as (λ b. p x ≡ b → AllByRecursion (λ y. p y ≡ true) (cond b (x ∷ filter p xs) (filter p xs))) [
-      | true ↦ λ e. (e, each_passes p xs)
-      | false ↦ λ e. each_passes p xs
-    ] refl
-
-pub map_same : {X Y : Type 0} (f g : X → Y) (P : X → Type 0) (xs : List X) → ((x : X) → P x → f x ≡ g x) → AllByRecursion P xs → map f xs ≡ map g xs
-map_same f g P [] same each = refl
-map_same f g P (x ∷ xs) same each = ap (λ y. y ∷ map f xs) (same x each.0) ∙ ap (λ l. g x ∷ l) (map_same f g P xs same each.1)
-
--- two tests that answer alike of the members
-any_same : {X : Type 0} (p q : X → Bool) (P : X → Type 0) (xs : List X) → ((x : X) → P x → p x ≡ q x) → AllByRecursion P xs → list_any p xs ≡ list_any q xs
-any_same p q P [] same each = refl
-any_same p q P (x ∷ xs) same each = ap₂ (λ a b. a || b) (same x each.0) (any_same p q P xs same each.1)
-
--- what passes both tests passes the one among those that pass the other
-count_both : {X : Type 0} (p q r : X → Bool) (xs : List X) → ((x : X) → r x ≡ (q x && p x)) → count_by r xs ≡ count_by p (filter q xs)
-count_both p q r xs both =
-    sym (length-filter r xs) ∙ ap length (filter_agree r (λ x. q x && p x) both xs ∙ sym (filter_filter p q xs)) ∙ length-filter p (filter q xs)
-
-pub any_both : {X : Type 0} (p q r : X → Bool) (xs : List X) → ((x : X) → r x ≡ (q x && p x)) → list_any r xs ≡ list_any p (filter q xs)
-any_both p q r [] both = refl
-any_both p q r (x ∷ xs) both =
-    ap₂ (λ a b. a || b) (both x) (any_both p q r xs both)
-    ∙ elim (q x) as (λ b. ((b && p x) || list_any p (filter q xs)) ≡ list_any p (cond b (x ∷ filter q xs) (filter q xs))) [ true ↦ refl | false ↦ refl ]
-
--- a copy's row on a board
-abbrev pub row_with : Copy → Counts → BoardRow
-row_with copy counts = record { copy = copy.number; place = copy.place; newer = counts.above; older = counts.below; equal = counts.equal; conflict = counts.conflict }
-
-module _ (family : ℕ) where
-  relates_own : (rel : Rel) (copy other : Copy) → is_of family copy ≡ true → relates rel copy other ≡ (is_of family other && relates_so number_of copy_relation rel copy other)
-  relates_own rel copy other here = ap (λ f. is_of f other && relates_so number_of copy_relation rel copy other) (eqb-true copy.family family here)
-
-  -- a copy's row from those of its family
-  pub row_own : (copies : List Copy) (copy : Copy) → is_of family copy ≡ true → row_of copies copy ≡ row_with copy (counts_of number_of copy_relation (filter (is_of family) copies) copy)
-  unfolding row_of
-  row_own copies copy here =
-      let count : (rel : Rel) → count_by (relates rel copy) copies ≡ count_by (relates_so number_of copy_relation rel copy) (filter (is_of family) copies) =
-      λ rel. count_both (relates_so number_of copy_relation rel copy) (is_of family) (relates rel copy) copies (λ other. relates_own rel copy other here) in
-      rw (count Newer, count Older, count Equal, count Conflict) refl
-
-  pub newest_own : (copies : List Copy) → newest family copies ≡ newest_of number_of copy_relation (filter (is_of family) copies)
-  newest_own copies =
-      let own = filter (is_of family) copies in
-      let test : (copy : Copy) → is_newest family copies copy ≡ (is_of family copy && not (list_any (relates_so number_of copy_relation Newer copy) own)) =
-      λ copy. (elim (is_of family copy) as (λ b. is_of family copy ≡ b → (b && not (list_any (relates Newer copy) copies)) ≡ (b && not (list_any (relates_so number_of copy_relation Newer copy) own))) [
-        | false ↦ λ e. refl
-        | true ↦ λ e. ap not (any_both (relates_so number_of copy_relation Newer copy) (is_of family) (relates Newer copy) copies (λ other. relates_own Newer copy other e))
-      ] refl) in
-      filter_agree (is_newest family copies) (λ copy. is_of family copy && not (list_any (relates_so number_of copy_relation Newer copy) own)) test copies
-      ∙ sym (filter_filter (λ copy. not (list_any (relates_so number_of copy_relation Newer copy) own)) (is_of family) copies)
-
-  pub split_own : (copies : List Copy) → has_conflict (newest family copies) ≡ is_split number_of copy_relation (filter (is_of family) copies)
-  split_own copies =
-      let own = filter (is_of family) copies in
-      let top = newest_of number_of copy_relation own in
-      let each : AllByRecursion (λ c. is_of family c ≡ true) top = each_filter (λ c. is_of family c ≡ true) (λ copy. not (list_any (relates_so number_of copy_relation Newer copy) own)) own (each_passes (is_of family) copies) in
-      ap has_conflict (newest_own copies)
-      ∙ any_same (λ copy. list_any (relates Conflict copy) top) (λ copy. list_any (relates_so number_of copy_relation Conflict copy) top) (λ c. is_of family c ≡ true) top
-      (λ copy here. any_same (relates Conflict copy) (relates_so number_of copy_relation Conflict copy) (λ c. is_of family c ≡ true) top
-      (λ other there. relates_own Conflict copy other here ∙ ap (λ b. b && relates_so number_of copy_relation Conflict copy other) there) each) each
-
-  own_own : (copies : List Copy) → filter (is_of family) (filter (is_of family) copies) ≡ filter (is_of family) copies
-  own_own copies = filter_all (is_of family) (filter (is_of family) copies) (each_passes (is_of family) copies)
-
-  newest_table : (copies : List Copy) → newest family (filter (is_of family) copies) ≡ newest family copies
-  newest_table copies = newest_own (filter (is_of family) copies) ∙ ap (newest_of number_of copy_relation) (own_own copies) ∙ sym (newest_own copies)
-
-  -- the board of a family is that of its table
-  pub board_table : (copies : List Copy) → board_of family (filter (is_of family) copies) ≡ board_of family copies
-  unfolding board_of
-  board_table copies =
-      let own = filter (is_of family) copies in
-      let rows : map (row_of own) (filter (is_of family) own) ≡ map (row_of copies) own =
-      ap (map (row_of own)) (own_own copies)
-      ∙ map_same (row_of own) (row_of copies) (λ c. is_of family c ≡ true) own
-      (λ copy here. row_own own copy here ∙ ap (λ l. row_with copy (counts_of number_of copy_relation l copy)) (own_own copies) ∙ sym (row_own copies copy here)) (each_passes (is_of family) copies) in
-      rw (rows, newest_table copies) refl
-
-  -- and so is its row among the families
-  pub family_row_table : (copies : List Copy) → family_row (filter (is_of family) copies) family ≡ family_row copies family
-  family_row_table copies =
-      let count : count_by (is_of family) (filter (is_of family) copies) ≡ count_by (is_of family) copies =
-      sym (length-filter (is_of family) (filter (is_of family) copies)) ∙ ap length (own_own copies) ∙ length-filter (is_of family) copies in
-      rw (count, newest_table copies) refl
-
-  pub any_table : (copies : List Copy) → list_any (is_of family) (filter (is_of family) copies) ≡ list_any (is_of family) copies
-  any_table copies = sym (any_both (is_of family) (is_of family) (is_of family) copies (λ c. (elim (is_of family c) as (λ b. b ≡ (b && b)) [ true ↦ refl | false ↦ refl ])))
-
--- The tables of sets that entries make: their copies, their numbers.
+-- The tables of sets that entries make, and their copies.
 
 pub knowns_of-push : (entries : List Entry) (entry : Entry) → knowns_of (entries ++ entry ∷ []) ≡ reported_by (knowns_of entries) entry
 unfolding knowns_of
@@ -139,190 +44,185 @@ knowns_of-push entries entry = fold-append reported_by [] entries (entry ∷ [])
 
 -- the copies of the table are these
 abbrev pub Mirrors : List Known → List Copy → Type 0
-Mirrors table copies = known_copies table ≡ map as_known copies
+Mirrors table copies = known_copies table ≡ all_known copies
 
--- each row is changed, and stays the copy or the parcel that it was
-mirror_map : (g : Known → Known) (f : Copy → Copy) → ((t : Known) → is_copy (g t).holder ≡ is_copy t.holder) → ((x : Copy) → g (as_known x) ≡ as_known (f x))
-    → (table : List Known) (copies : List Copy) → Mirrors table copies → Mirrors (map g table) (map f copies)
-mirror_map g f kept alike table copies same = from table ∙ ap (map g) same ∙ both copies
+-- a copy that is found is one of the table
+pub record IsCopyIn (table : List Known) (c : ℕ) (x : Copy) : Type 0 where
+  pub there : In x.known table
+  pub named : x.known.copy ≡ c
+  pub free : x.known.holder ≡ None
+
+no_holder : (o : Option ℕ) → is_copy o ≡ true → o ≡ None
+no_holder None e = refl
+no_holder (Some h) e = absurd (cc)
+
+found_known : (copies : List Copy) (c : ℕ) (x : Copy) → copy_in copies c ≡ Some x → In x.known (all_known copies)
+found_known [] c x found = absurd (cc)
+found_known (y ∷ copies) c x found =
+    elim (y.known.copy == c) as (λ b. cond b (Some y) (copy_in copies c) ≡ Some x → In x.known (all_known (y ∷ copies))) [
+      | true ↦ λ e. let same : y ≡ x = cc in inl (ap (λ (z : Copy). z.known) (sym same))
+      | false ↦ λ e. inr (found_known copies c x e)
+    ] found
+
+pub found_there : (table : List Known) (copies : List Copy) (c : ℕ) (x : Copy) → Mirrors table copies → copy_in copies c ≡ Some x → IsCopyIn table c x
+found_there table copies c x same found = grind (arith, nat_tests, in_filter, found_known, found_number, no_holder)
+
+-- so it lives there, and what it knows is read there
+pub lives_known : (table : List Known) (c : ℕ) (x : Copy) → IsCopyIn table c x → is_in table c ≡ true
+lives_known table c x at = grind (arith, nat_tests, any_from)
+
+pub set_known : (table : List Known) (c : ℕ) (x : Copy) → One table → IsCopyIn table c x → set_in table c ≡ x.known.set
+set_known table c x one at = ap (set_in table) (sym at.named) ∙ set_of table x.known one at.there
+
+-- What a report makes of the rows of a table.
+
+-- a row keeps its number and stays the copy or the parcel that it was, and entry n touches it if any does
+pub record Keeps (n : ℕ) (t s : Known) : Type 0 where
+  pub copy : s.copy ≡ t.copy
+  pub kind : is_copy s.holder ≡ is_copy t.holder
+  pub touch : (s.touch ≡ t.touch) ⊎ (s.touch ≡ n)
+
+module _ (n : ℕ) (table : List Known) where
+  stays : (t : Known) → Keeps n t t
+  stays t = record { copy = refl; kind = refl; touch = inl refl }
+
+  knows : (both : List ℕ) (t s : Known) → Keeps n t s → Keeps n t (knowing both n s)
+  knows both t s keeps = record { copy = keeps.copy; kind = keeps.kind; touch = inr refl }
+
+  know_one : (both : List ℕ) (c : ℕ) (t s : Known) → Keeps n t s → Keeps n t (know n both c s)
+  know_one both c t s keeps = elim (s.copy == c) as (λ b. Keeps n t (cond b (knowing both n s) s)) [ true ↦ knows both t s keeps | false ↦ keeps ]
+
+  passes : (c h : ℕ) (t : Known) → Keeps n t (pass c h t)
+  passes c h t = record { copy = refl; kind = held t.holder; touch = inl refl }
+    where
+      held : (o : Option ℕ) → is_copy (passed c h o) ≡ is_copy o
+      held None = refl
+      held (Some k) = elim (k == c) as (λ b. is_copy (cond b (Some h) (Some k)) ≡ false) [ true ↦ refl | false ↦ refl ]
+
+  united_keeps : (both : List ℕ) (a b : ℕ) (t s : Known) → united_known n both a b t ≡ Some s → Keeps n t s
+  united_keeps both a b t s is = unless_of _ (Keeps n t) (know_two n both a b t) s (λ e. know_one both b t (know n both a t) (know_one both a t t (stays t))) is
+
+  known_keeps : (of : FamilyReport) (t s : Known) → made_known n of table t ≡ Some s → Keeps n t s
+  known_keeps (reports.Duplicate c) t s is = let same : t ≡ s = cc in subst (Keeps n t) same (stays t)
+  known_keeps (reports.Edit c) t s is = one_of (t.copy == c) (Keeps n t) (knowing (n ∷ t.set) n t) t s (λ e. knows (n ∷ t.set) t t (stays t)) (λ e. stays t) is
+  known_keeps (reports.Reconcile a b) t s is = united_keeps (union (set_in table a) (set_in table b)) a b t s is
+  known_keeps (reports.Merge a b) t s is = united_keeps (union (n ∷ set_in table a) (set_in table b)) a b t s is
+  known_keeps (reports.Remove c None) t s is = unless_of (t.copy == c || is_held c t.holder) (Keeps n t) t s (λ e. stays t) is
+  known_keeps (reports.Remove c (Some h)) t s is =
+      elim (t.copy == c) as (λ b. cond b None (unless (ends h (set_in table h) (pass c h t)) (pass c h t)) ≡ Some s → Keeps n t s) [
+        | true ↦ λ e. absurd (cc)
+        | false ↦ λ e. unless_of (ends h (set_in table h) (pass c h t)) (Keeps n t) (pass c h t) s (λ f. passes c h t) e
+      ] is
+  known_keeps (reports.Touch c) t s is = one_of (t.copy == c) (Keeps n t) (knowing t.set n t) t s (λ e. knows t.set t t (stays t)) (λ e. stays t) is
+
+  -- the row that comes has the entry's number
+  known_comes : (of : FamilyReport) (t : Known) → In t (comes_known n of table) → (t.copy ≡ n) × (t.touch ≡ n)
+  known_comes (reports.Duplicate c) t i = elim i [ inl e ↦ (ap (λ (k : Known). k.copy) e, ap (λ (k : Known). k.touch) e) | inr never ↦ absurd never ]
+  known_comes (reports.Remove c (Some h)) t i = elim (in_leave (ends h (set_in table h)) (pass c h (parcel n h (set_in table c)) ∷ []) t i).0 [ inl e ↦ (ap (λ (k : Known). k.copy) e, ap (λ (k : Known). k.touch) e) | inr never ↦ absurd never ]
+  known_comes of t i = absurd i
+
+  -- so all numbers stay below a greater one
+  pub above_reported : (m : ℕ) (of : FamilyReport) → One table → NamesOf of table → n < m → IsAbove m table → IsAbove m (by_family.reported n of table)
+  above_reported m of one names less above t i =
+      elim (in_append t (filter_map (made_known n of table) table) (comes_known n of table) (subst (In t) (reported_is n of table one names) i)) [
+        | inl j ↦
+            let from = in_made (made_known n of table) table t j in
+            let old = above from.0 from.1 in
+            let keeps = known_keeps of from.0 t from.2 in
+            let copy = keeps.copy in
+            (omega (arith, old.0), elim keeps.touch [ inl e ↦ omega (arith, old.1) | inr e ↦ omega arith ])
+        | inr j ↦ let new = known_comes of t j in (omega (arith, new.0), omega (arith, new.1))
+      ]
+
+-- A report makes of the copies of a table what it makes of the copies.
+
+united_alike : (n a b : ℕ) (both : List ℕ) (x : Copy) → x.known.holder ≡ None
+    → united_known n both a b x.known ≡ option_map (λ c. c.known) (cond (x.known.copy == a || x.known.copy == b) (Some (touched n both x.place x)) (Some x))
+united_alike n a b both x free = grind (arith, nat_tests)
+
+module _ (n : ℕ) (table : List Known) (copies : List Copy) where
+  -- the table is read as the copies are
+  abbrev Reads : Report → Type 0
+  Reads report = (c : ℕ) → Names report c → set_in table c ≡ known_to copies c
+
+  alike : (report : Report) → Reads report
+      → IfSome (family_report report) (λ of. (x : Copy) → x.known.holder ≡ None → made_known n of table x.known ≡ option_map (λ c. c.known) (made n report copies x))
+  alike (Register place) reads = tt
+  alike (Duplicate source place) reads = λ x free. refl
+  alike (Edit c) reads = λ x free.
+      elim (x.known.copy == c) as (λ b. Some (cond b (knowing (n ∷ x.known.set) n x.known) x.known) ≡ option_map (λ z. z.known) (cond b (Some (touched n (n ∷ x.known.set) x.place x)) (Some x))) [ true ↦ refl | false ↦ refl ]
+  alike (Reconcile a b) reads = λ x free. ap₂ (λ s t. united_known n (union s t) a b x.known) (reads a (inl refl)) (reads b (inr refl)) ∙ united_alike n a b (union (known_to copies a) (known_to copies b)) x free
+  alike (Merge a b) reads = λ x free.
+      ap₂ (λ s t. united_known n (union (n ∷ s) t) a b x.known) (reads a (inl refl)) (reads b (inr refl)) ∙ united_alike n a b (union (n ∷ known_to copies a) (known_to copies b)) x free
+  alike (Relocate c place) reads = λ x free.
+      elim (x.known.copy == c) as (λ b. Some (cond b (knowing x.known.set n x.known) x.known) ≡ option_map (λ z. z.known) (cond b (Some (touched n x.known.set place x)) (Some x))) [ true ↦ refl | false ↦ refl ]
+  alike (Remove c None) reads = λ x free.
+      ap (λ o. unless (x.known.copy == c || is_held c o) x.known) free
+      ∙ elim (x.known.copy == c) as (λ b. unless (b || false) x.known ≡ option_map (λ z. z.known) (cond b None (Some x))) [ true ↦ refl | false ↦ refl ]
+  alike (Remove c (Some h)) reads = λ x free.
+      let with_holder : Option ℕ → Known = λ o. record { copy = x.known.copy; holder = o; set = x.known.set; touch = x.known.touch } in
+      let still : pass c h x.known ≡ x.known = ap (λ o. with_holder (passed c h o)) free ∙ sym (ap with_holder free) in
+      ap (λ t. cond (x.known.copy == c) None (unless (ends h (set_in table h) t) t)) still
+      ∙ ap (λ o. cond (x.known.copy == c) None (unless (is_held h o && is_within x.known.set (set_in table h)) x.known)) free
+      ∙ elim (x.known.copy == c) as (λ b. cond b None (Some x.known) ≡ option_map (λ z. z.known) (cond b None (Some x))) [ true ↦ refl | false ↦ refl ]
+  alike (Confirm m) reads = tt
+  alike (Withdraw m) reads = tt
+
+  comes_alike : (report : Report) → Reads report → ((c : ℕ) → Names report c → Lives copies c)
+      → IfSome (family_report report) (λ of. known_copies (comes_known n of table) ≡ all_known (option_to_list (comes n report copies)))
+  comes_alike (Register place) reads lives = tt
+  comes_alike (Duplicate source place) reads lives = let there = lives source refl in ap (λ s. known n s n ∷ []) (reads source refl) ∙ (rw (there.1) refl)
+  comes_alike (Remove c (Some h)) reads lives =
+      let last = pass c h (parcel n h (set_in table c)) in
+      elim (ends h (set_in table h) last) as (λ b. known_copies (cond (not b) (last ∷ []) []) ≡ []) [ true ↦ refl | false ↦ ap (λ o. cond (is_copy o) (last ∷ []) []) (passed_heir c h) ]
+  comes_alike (Remove c None) reads lives = refl
+  comes_alike (Confirm m) reads lives = tt
+  comes_alike (Withdraw m) reads lives = tt
+  comes_alike report reads lives = refl
+
+  made_all : (g : Known → Option Known) (h : Copy → Option Copy) → ((x : Copy) → x.known.holder ≡ None → g x.known ≡ option_map (λ c. c.known) (h x)) → (xs : List Copy) → AllByRecursion (λ t. is_copy t.holder ≡ true) (all_known xs)
+      → filter_map g (all_known xs) ≡ all_known (filter_map h xs)
+  made_all g h same [] all = refl
+  made_all g h same (x ∷ xs) all =
+      ap (λ o. cons_option o (filter_map g (all_known xs))) (same x (no_holder x.known.holder all.0))
+      ∙ elim (h x) as (λ o. cons_option (option_map (λ c. c.known) o) (filter_map g (all_known xs)) ≡ all_known (cons_option o (filter_map h xs))) [
+        | None ↦ made_all g h same xs all.1
+        | Some y ↦ ap (λ l. y.known ∷ l) (made_all g h same xs all.1)
+      ]
+
+  pub mirrors : (report : Report) (of : FamilyReport) → family_report report ≡ Some of → Mirrors table copies → One table → NamesOf of table → ((c : ℕ) → Names report c → Lives copies c)
+      → Mirrors (by_family.reported n of table) (after_report n report copies)
+  mirrors report of about same one names lives =
+      let g = made_known n of table in
+      let h = made n report copies in
+      let reads : Reads report = λ c is. let there = lives c is in set_known table c there.0 one (found_there table copies c there.0 same there.1) ∙ ap (λ o. unwrap_or (option_map (λ z. z.known.set) o) []) (sym there.1) in
+      ap known_copies (reported_is n of table one names)
+      ∙ filter-append (λ t. is_copy t.holder) (filter_map g table) (comes_known n of table)
+      ∙ ap₂ (λ s t. s ++ t)
+      (filter_made (λ t. is_copy t.holder) g (λ t s is. (known_keeps n table of t s is).kind) table ∙ ap (filter_map g) same
+      ∙ made_all g h (subst (λ o. IfSome o (λ f. (x : Copy) → x.known.holder ≡ None → made_known n f table x.known ≡ option_map (λ c. c.known) (h x))) about (alike report reads)) copies
+      (subst (AllByRecursion (λ t. is_copy t.holder ≡ true)) same (each_passes (λ t. is_copy t.holder) table)))
+      (subst (λ o. IfSome o (λ f. known_copies (comes_known n f table) ≡ all_known (option_to_list (comes n report copies)))) about (comes_alike report reads lives))
+      ∙ sym (map-append (λ c. c.known) (filter_map h copies) (option_to_list (comes n report copies)))
+
+-- the copies that a report names are different, and live in the table
+pub names_known : (report : Report) (rows : List StampRow) (table : List Known) (copies : List Copy) → Mirrors table copies → ((c : ℕ) → Names report c → Lives copies c)
+    → IfSome (family_report report) (λ of. CanReport of rows → NamesOf of table)
+names_known report rows table copies same lives = by_report report (λ c is. let there = lives c is in by_copy c there.0 (found_there table copies c there.0 same there.1))
   where
-    from : (ts : List Known) → known_copies (map g ts) ≡ map g (known_copies ts)
-    from [] = refl
-    from (t ∷ ts) =
-        ap (λ b. cond b (g t ∷ known_copies (map g ts)) (known_copies (map g ts))) (kept t)
-        ∙ elim (is_copy t.holder) as (λ b. cond b (g t ∷ known_copies (map g ts)) (known_copies (map g ts)) ≡ map g (cond b (t ∷ known_copies ts) (known_copies ts))) [ true ↦ ap (λ l. g t ∷ l) (from ts) | false ↦ from ts ]
+    by_copy : (c : ℕ) (x : Copy) → IsCopyIn table c x → KnownLives table c
+    by_copy c x at = record { by = x.known; there = at.there; named = at.named; free = at.free }
 
-    both : (xs : List Copy) → map g (map as_known xs) ≡ map as_known (map f xs)
-    both [] = refl
-    both (x ∷ xs) = ap (λ t. t ∷ map g (map as_known xs)) (alike x) ∙ ap (λ l. as_known (f x) ∷ l) (both xs)
-
-mirror_change : (c : ℕ) (g : Known → Known) (f : Copy → Copy) → ((t : Known) → (g t).holder ≡ t.holder) → ((x : Copy) → g (as_known x) ≡ as_known (f x))
-    → (table : List Known) (copies : List Copy) → Mirrors table copies → Mirrors (change c g table) (living.change c f copies)
-mirror_change c g f kept alike table copies same =
-    mirror_map (λ t. cond (t.copy == c) (g t) t) (λ x. cond (x.number == c) (f x) x)
-    (λ t. elim (t.copy == c) as (λ b. is_copy (cond b (g t) t).holder ≡ is_copy t.holder) [ true ↦ ap is_copy (kept t) | false ↦ refl ])
-    (λ x. elim (x.number == c) as (λ b. cond b (g (as_known x)) (as_known x) ≡ as_known (cond b (f x) x)) [ true ↦ alike x | false ↦ refl ]) table copies same
-
--- some rows go
-mirror_filter : (p : Known → Bool) (q : Copy → Bool) → ((x : Copy) → p (as_known x) ≡ q x) → (table : List Known) (copies : List Copy) → Mirrors table copies → Mirrors (filter p table) (filter q copies)
-mirror_filter p q alike table copies same =
-    filter_swap (λ t. is_copy t.holder) p table ∙ ap (filter p) same ∙ sym (map_filter as_known p copies) ∙ ap (map as_known) (filter_agree (λ x. p (as_known x)) q alike copies)
-
-mirror_settled : (c : ℕ) (table : List Known) (copies : List Copy) → Mirrors table copies → Mirrors (settled c table) copies
-mirror_settled c table copies same = mirror_filter (λ t. not (ends c (set_in table c) t)) (λ x. true) (λ x. refl) table copies same ∙ ap (map as_known) (filter_true copies)
-
--- a row comes
-mirror_push : (t : Known) (x : Copy) → as_known x ≡ t → (table : List Known) (copies : List Copy) → Mirrors table copies → Mirrors (table ++ t ∷ []) (copies ++ x ∷ [])
-mirror_push t x is table copies same =
-    filter-append (λ k. is_copy k.holder) table (t ∷ []) ∙ ap (λ k. known_copies table ++ known_copies (k ∷ [])) (sym is) ∙ ap (λ l. l ++ as_known x ∷ []) same ∙ sym (map-append as_known copies (x ∷ []))
-
-mirror_united : (n a b : ℕ) (both : List ℕ) (table : List Known) (copies : List Copy) → Mirrors table copies
-    → Mirrors (settled b (settled a (united n a b both table))) (living.change b (with_updates n both) (living.change a (with_updates n both) copies))
-mirror_united n a b both table copies same =
-    mirror_settled b _ _ (mirror_settled a _ _
-    (mirror_change b (knowing both n) (with_updates n both) (λ t. refl) (λ x. refl) _ _ (mirror_change a (knowing both n) (with_updates n both) (λ t. refl) (λ x. refl) table copies same)))
-
--- the row of a copy, and what is read there
-abbrev pub row_in : List Known → ℕ → Option Known
-row_in table c = find (λ t. t.copy == c) table
-
-pub set_at : (table : List Known) (c : ℕ) (t : Known) → row_in table c ≡ Some t → set_in table c ≡ t.set
-set_at [] c t at = absurd (cc)
-set_at (k ∷ table) c t at =
-    elim (k.copy == c) as (λ b. cond b (Some k) (row_in table c) ≡ Some t → cond b k.set (set_in table c) ≡ t.set) [ true ↦ λ e. let same : k ≡ t = cc in ap (λ r. r.set) same | false ↦ set_at table c t ] at
-
-pub touch_at : (table : List Known) (c : ℕ) (t : Known) → row_in table c ≡ Some t → touch_in table c ≡ t.touch
-touch_at [] c t at = absurd (cc)
-touch_at (k ∷ table) c t at =
-    elim (k.copy == c) as (λ b. cond b (Some k) (row_in table c) ≡ Some t → cond b k.touch (touch_in table c) ≡ t.touch) [ true ↦ λ e. let same : k ≡ t = cc in ap (λ r. r.touch) same | false ↦ touch_at table c t ] at
-
-row_known : (copies : List Copy) (c : ℕ) → row_in (map as_known copies) c ≡ option_map as_known (copy_in copies c)
-row_known [] c = refl
-row_known (x ∷ copies) c = elim (x.number == c) as (λ b. cond b (Some (as_known x)) (row_in (map as_known copies) c) ≡ option_map as_known (cond b (Some x) (copy_in copies c))) [ true ↦ refl | false ↦ row_known copies c ]
-
--- a copy's row is found among the copies, and the other way round
-row_copies : (low c : ℕ) (table : List Known) (t : Known) → AreRising (λ k. k.copy) low table → row_in (known_copies table) c ≡ Some t → row_in table c ≡ Some t
-row_copies low c [] t rises at = at
-row_copies low c (k ∷ table) t rises at =
-    elim (is_copy k.holder) as (λ h. row_in (cond h (k ∷ known_copies table) (known_copies table)) c ≡ Some t → row_in (k ∷ table) c ≡ Some t) [
-      | true ↦ elim (k.copy == c) as (λ b. cond b (Some k) (row_in (known_copies table) c) ≡ Some t → cond b (Some k) (row_in table c) ≡ Some t) [ true ↦ λ e. e | false ↦ row_copies k.copy c table t rises.1 ]
-      | false ↦ λ e.
-          let later = row_copies k.copy c table t rises.1 e in
-          elim (k.copy == c) as (λ b. (k.copy == c) ≡ b → cond b (Some k) (row_in table c) ≡ Some t) [
-            | true ↦ λ f. let same = eqb-true k.copy c f in let none = none_under (λ t. t.copy) k.copy c table rises.1 (omega arith) in absurd (cc)
-            | false ↦ λ f. later
-          ] refl
-    ] at
-
-pub known_row : (table : List Known) (copies : List Copy) (c : ℕ) (x : Copy) → Mirrors table copies → AreRising (λ t. t.copy) 0 table → copy_in copies c ≡ Some x → row_in table c ≡ Some (as_known x)
-known_row table copies c x same rises found = row_copies 0 c table (as_known x) rises (ap (λ l. row_in l c) same ∙ row_known copies c ∙ ap (option_map as_known) found)
-
--- whether a copy lives
-any_known : (copies : List Copy) (c : ℕ) → list_any (λ t. t.copy == c) (map as_known copies) ≡ is_some (copy_in copies c)
-any_known [] c = refl
-any_known (x ∷ copies) c = elim (x.number == c) as (λ b. (b || list_any (λ t. t.copy == c) (map as_known copies)) ≡ is_some (cond b (Some x) (copy_in copies c))) [ true ↦ refl | false ↦ any_known copies c ]
-
-pub lives_known : (table : List Known) (copies : List Copy) (c : ℕ) → Mirrors table copies → is_in table c ≡ is_some (copy_in copies c)
-lives_known table copies c same =
-    any_both (λ t. t.copy == c) (λ t. is_copy t.holder) (λ t. t.copy == c && is_copy t.holder) table (λ t. and_comm (t.copy == c) (is_copy t.holder))
-    ∙ ap (list_any (λ t. t.copy == c)) same ∙ any_known copies c
-
-read : (table : List Known) (copies : List Copy) (c : ℕ) → Mirrors table copies → AreRising (λ t. t.copy) 0 table → Lives copies c → set_in table c ≡ known_to copies c
-read table copies c same rises lives = set_at table c (as_known lives.0) (known_row table copies c lives.0 same rises lives.1) ∙ (rw (lives.1) refl)
-
--- a report changes the copies of the table of sets as it changes the copies
-pub mirrors : (n : ℕ) (report : Report) (table : List Known) (copies : List Copy) → Mirrors table copies → AreRising (λ t. t.copy) 0 table
-    → ((c : ℕ) → Names report c → Lives copies c) → Mirrors (reported n report table) (after_report n report copies)
-mirrors n (Register place) table copies same rises lives = mirror_push (known n [] n) (living.registered n place) refl table copies same
-mirrors n (Duplicate source place) table copies same rises lives =
-    let there = lives source refl in
-    rw (there.1) (mirror_push (known n (set_in table source) n) (living.duplicated n place there.0)
-    (ap (λ s. known n s n) (sym (set_at table source (as_known there.0) (known_row table copies source there.0 same rises there.1)))) table copies same)
-mirrors n (Edit c) table copies same rises lives = mirror_change c (λ t. knowing (n ∷ t.set) n t) (living.edited n) (λ t. refl) (λ x. refl) table copies same
-mirrors n (Reconcile a b) table copies same rises lives =
-    rw (read table copies a same rises (lives a (inl refl)), read table copies b same rises (lives b (inr refl))) (mirror_united n a b (union (known_to copies a) (known_to copies b)) table copies same)
-mirrors n (Merge a b) table copies same rises lives =
-    rw (read table copies a same rises (lives a (inl refl)), read table copies b same rises (lives b (inr refl))) (mirror_united n a b (union (n ∷ known_to copies a) (known_to copies b)) table copies same)
-mirrors n (Relocate c place) table copies same rises lives = mirror_change c (λ t. knowing t.set n t) (moved n place) (λ t. refl) (λ x. refl) table copies same
-mirrors n (Remove c None) table copies same rises lives =
-    mirror_filter (λ t. not (t.copy == c || is_held c t.holder)) (λ x. not (x.number == c)) (λ x. ap not (or-false (x.number == c))) table copies same
-mirrors n (Remove c (Some heir)) table copies same rises lives =
-    let gone = mirror_filter (λ t. not (t.copy == c)) (λ x. not (x.number == c)) (λ x. refl) table copies same in
-    let wrapped_is : Mirrors (wrapped n c heir table) (living.without c copies) = filter-append (λ t. is_copy t.holder) (without c table) (parcel n heir (set_in table c) ∷ []) ∙ append-nil (known_copies (without c table)) ∙ gone in
-    mirror_settled heir _ _ (mirror_map (λ t. record { copy = t.copy; holder = passed c heir t.holder; set = t.set; touch = t.touch }) (λ x. x) (λ t. stays_held t.holder) (λ x. refl) (wrapped n c heir table) (living.without c copies) wrapped_is
-    ∙ ap (map as_known) (map-id (living.without c copies)))
-  where
-    stays_held : (holder : Option ℕ) → is_copy (passed c heir holder) ≡ is_copy holder
-    stays_held None = refl
-    stays_held (Some h) = elim (h == c) as (λ b. is_copy (cond b (Some heir) (Some h)) ≡ false) [ true ↦ refl | false ↦ refl ]
-mirrors n report table copies same rises lives = same
-
--- a row whose numbers are all within a bound
-pub record IsOldKnown (last : ℕ) (t : Known) : Type 0 where
-  pub copy : t.copy ≤ last
-  pub touch : t.touch ≤ last
-  pub updates : (u : ℕ) → has t.set u ≡ true → u ≤ last
-
--- rows by rising number, all within a bound
-pub record AreOld (last : ℕ) (table : List Known) : Type 0 where
-  pub rising : AreRising (λ t. t.copy) 0 table
-  pub each : AllByRecursion (IsOldKnown last) table
-
-old_map : (last : ℕ) (g : Known → Known) → ((t : Known) → (g t).copy ≡ t.copy) → ((t : Known) → IsOldKnown last t → IsOldKnown last (g t)) → (table : List Known) → AreOld last table → AreOld last (map g table)
-old_map last g kept keeps table old = record {
-  rising = rises_map g (λ t. t.copy) (λ t. t.copy) kept 0 table old.rising;
-  each = each_map (IsOldKnown last) g table (each_weaker (IsOldKnown last) _ table keeps old.each);
-}
-
-old_change : (last c : ℕ) (g : Known → Known) → ((t : Known) → (g t).copy ≡ t.copy) → ((t : Known) → IsOldKnown last t → IsOldKnown last (g t)) → (table : List Known) → AreOld last table → AreOld last (change c g table)
-old_change last c g kept keeps table old =
-    old_map last (λ t. cond (t.copy == c) (g t) t) (λ t. elim (t.copy == c) as (λ b. (cond b (g t) t).copy ≡ t.copy) [ true ↦ kept t | false ↦ refl ])
-    (λ t is. elim (t.copy == c) as (λ b. IsOldKnown last (cond b (g t) t)) [ true ↦ keeps t is | false ↦ is ]) table old
-
-old_filter : (last : ℕ) (p : Known → Bool) (table : List Known) → AreOld last table → AreOld last (filter p table)
-old_filter last p table old = record { rising = rises_filter (λ t. t.copy) 0 p table old.rising; each = each_filter _ p table old.each }
-
-old_push : (last : ℕ) (table : List Known) (t : Known) → AllByRecursion (λ k. k.copy < t.copy) table → 0 < t.copy → IsOldKnown last t → AreOld last table → AreOld last (table ++ t ∷ [])
-old_push last table t below some is old = record { rising = rises_push (λ k. k.copy) 0 table t old.rising below some; each = each_append _ table (t ∷ []) old.each (is, tt) }
-
--- old numbers
-abbrev WithinSet : ℕ → List ℕ → Type 0
-WithinSet last set = (u : ℕ) → has set u ≡ true → u ≤ last
-
-set_old : (last c : ℕ) (table : List Known) → AllByRecursion (IsOldKnown last) table → WithinSet last (set_in table c)
-set_old last c [] old u is = absurd (cc)
-set_old last c (t ∷ table) old u is = elim (t.copy == c) as (λ b. has (cond b t.set (set_in table c)) u ≡ true → u ≤ last) [ true ↦ old.0.updates u | false ↦ set_old last c table old.1 u ] is
-
-union_old : (last : ℕ) (a b : List ℕ) → WithinSet last a → WithinSet last b → WithinSet last (union a b)
-union_old last a b first second u is = elim (or_cases (has a u) (has b u) (sym (union_members a b u) ∙ is)) [ inl h ↦ first u h | inr h ↦ second u h ]
-
-more_old : (last n : ℕ) (set : List ℕ) → n ≤ last → WithinSet last set → WithinSet last (n ∷ set)
-more_old last n set within old u is =
-    elim (n == u) as (λ b. (n == u) ≡ b → (b || has set u) ≡ true → u ≤ last) [ true ↦ λ e h. let same = eqb-true n u e in omega arith | false ↦ λ e h. old u h ] refl is
-
-united_old : (last n a b : ℕ) (both : List ℕ) (table : List Known) → n ≤ last → WithinSet last both → AreOld last table → AreOld last (settled b (settled a (united n a b both table)))
-united_old last n a b both table within within_both old =
-    let knows : (t : Known) → IsOldKnown last t → IsOldKnown last (knowing both n t) = λ t is. record { copy = is.copy; touch = within; updates = within_both } in
-    old_filter last _ _ (old_filter last _ _ (old_change last b (knowing both n) (λ t. refl) knows _ (old_change last a (knowing both n) (λ t. refl) knows table old)))
-
-pub reported_old : (last n : ℕ) (report : Report) (table : List Known) → 0 < n → n ≤ last → AllByRecursion (λ t. t.copy < n) table → AreOld last table → AreOld last (reported n report table)
-reported_old last n (Register place) table some within below old = old_push last table (known n [] n) below some (record { copy = within; touch = within; updates = λ u is. absurd (cc) }) old
-reported_old last n (Duplicate source place) table some within below old =
-    old_push last table (known n (set_in table source) n) below some (record { copy = within; touch = within; updates = set_old last source table old.each }) old
-reported_old last n (Edit c) table some within below old =
-    old_change last c (λ t. knowing (n ∷ t.set) n t) (λ t. refl) (λ t is. record { copy = is.copy; touch = within; updates = more_old last n t.set within is.updates }) table old
-reported_old last n (Reconcile a b) table some within below old =
-    united_old last n a b (union (set_in table a) (set_in table b)) table within (union_old last (set_in table a) (set_in table b) (set_old last a table old.each) (set_old last b table old.each)) old
-reported_old last n (Merge a b) table some within below old =
-    united_old last n a b (union (n ∷ set_in table a) (set_in table b)) table within
-    (union_old last (n ∷ set_in table a) (set_in table b) (more_old last n (set_in table a) within (set_old last a table old.each)) (set_old last b table old.each)) old
-reported_old last n (Relocate c place) table some within below old =
-    old_change last c (λ t. knowing t.set n t) (λ t. refl) (λ t is. record { copy = is.copy; touch = within; updates = is.updates }) table old
-reported_old last n (Remove c None) table some within below old = old_filter last _ table old
-reported_old last n (Remove c (Some heir)) table some within below old =
-    old_filter last _ _ (old_map last _ (λ t. refl) (λ t is. record { copy = is.copy; touch = is.touch; updates = is.updates }) _
-    (old_push last (without c table) (parcel n heir (set_in table c)) (each_filter _ _ table below) some (record { copy = within; touch = within; updates = set_old last c table old.each }) (old_filter last _ table old)))
-reported_old last n report table some within below old = old
+    by_report : (report : Report) → ((c : ℕ) → Names report c → KnownLives table c) → IfSome (family_report report) (λ of. CanReport of rows → NamesOf of table)
+    by_report (Register place) there = tt
+    by_report (Reconcile a b) there = λ can. (there a (inl refl), there b (inr refl), can.2)
+    by_report (Merge a b) there = λ can. (there a (inl refl), there b (inr refl), can.2)
+    by_report (Remove c None) there = λ can. there c refl
+    by_report (Remove c (Some h)) there = λ can. (there c (inl refl), there h (inr refl), λ e. can.2 (ap Some e))
+    by_report (Duplicate source place) there = λ can. there source refl
+    by_report (Edit c) there = λ can. there c refl
+    by_report (Relocate c place) there = λ can. there c refl
+    by_report report there = tt
 
 -- The tables of sets that a journal gives its families: their copies are the families' living copies.
 
@@ -351,7 +251,7 @@ hold_report P grows journal entry sound accepts is all (suc k) =
           let few : length (pending 8 family (journal ++ entry ∷ [])) ≤ 8 = subst (λ l. length l ≤ 8) (sym pending') cut in
           let same : last (suc k) (pending 8 family (journal ++ entry ∷ [])) ≡ last (7 + 1) (pending 8 family (journal ++ entry ∷ [])) =
           last_all (suc k) _ (omega arith) ∙ sym (last_all 8 _ few) in
-          subst P (sym (ap (λ l. left_out l (own family (journal ++ entry ∷ []))) same ∙ layer_undone 8 7 journal entry sound accepts is (omega arith))) (all 7)
+          subst P (grind (arith, nat_tests, own, layer_undone)) (all 7)
     ]
 
 hold_confirm : (P : List Entry → Type 0) (m : ℕ) (journal : List Entry) (entry : Entry) → IsSound 8 journal → Accepts 8 journal entry → entry.report ≡ Confirm m
@@ -362,7 +262,7 @@ hold_confirm P m journal entry sound accepts is all k =
     elim (cases_lt (length numbers) k) [
       | inr within ↦ subst P (sym (layer_confirm 8 m k journal entry sound accepts is (omega arith))) (all k)
       | inl beyond ↦
-          let same : last k numbers ≡ last (length numbers) numbers = last_all k numbers (omega arith) ∙ sym (last_all (length numbers) numbers (omega arith)) in
+          let same : last k numbers ≡ last (length numbers) numbers = grind (arith, nat_tests) in
           subst P (sym (ap (λ l. left_out l (own family (journal ++ entry ∷ []))) same ∙ layer_confirm 8 m (length numbers) journal entry sound accepts is (omega arith))) (all (length numbers))
     ]
 
@@ -390,8 +290,7 @@ pub read_lives : (journal : List Entry) (entry : Entry) → IsSound 8 journal �
 read_lives journal entry sound accepts c names =
     let own = family_of_next journal entry in
     let there = named_report 8 entry.number journal entry.by entry.report c (living_fit 8 journal sound) accepts.free names in
-    let family : own ≡ families journal c = family_new journal entry ∙ sym there.of in
-    (there.copy, ap (λ l. copy_in l c) (sym (table_own 8 0 own journal sound)) ∙ ap (λ f. copy_in (table_of 8 0 f journal) c) family ∙ sym ((merged 8 journal sound).found c) ∙ there.found)
+    (there.copy, own_copy journal own c sound (there.of ∙ sym (family_new journal entry)) ∙ there.found)
 
 -- each of the entries is about copies that those before it make
 abbrev AreFounded : List Entry → Type 0
@@ -400,9 +299,7 @@ AreFounded entries = (before : List Entry) (e : Entry) → entries ≡ before ++
 founded_grow : Grows AreFounded
 founded_grow = record {
   none = λ before e is. absurd (never before e is);
-  step = λ journal entry sound accepts of_copies founded before e is c names.
-      let both = same_from_push (layer 8 0 (family_of_next journal entry) journal) before entry e is in
-      subst (λ l. Lives (copies_of l) c) both.0 (read_lives journal entry sound accepts c (subst (λ x. Names x.report c) (sym both.1) names));
+  step = λ journal entry sound accepts of_copies founded before e is c names. grind (arith, nat_tests, same_from_push, read_lives);
 }
   where
     never : (before : List Entry) (e : Entry) → [] ≡ before ++ e ∷ [] → ⊥
@@ -413,40 +310,4 @@ pub layer_founded : (journal : List Entry) → IsAccepted 8 journal → (k famil
 layer_founded journal accepted k family = layers_hold AreFounded founded_grow journal accepted k family
 
 pub layer_within : (journal : List Entry) (k family : ℕ) → IsSound 8 journal → AllByRecursion (λ e. e.number ≤ length journal) (layer 8 k family journal)
-layer_within journal k family sound =
-    each_filter _ _ _ (each_filter _ _ (effective journal) (each_effective _ journal (each_weaker (IsWell (families journal) (length journal)) _ journal (λ e well. well.within) sound.well)))
-
--- the copies of the table of sets are those of the entries, its numbers rise, and none is above those of the entries
-pub record IsMirrored (entries : List Entry) : Type 0 where
-  pub copies : Mirrors (knowns_of entries) (copies_of entries)
-  pub old : (last : ℕ) → AllByRecursion (λ e. e.number ≤ last) entries → AreOld last (knowns_of entries)
-
-none_mirrored : IsMirrored []
-unfolding copies_of knowns_of
-none_mirrored = record { copies = refl; old = λ last within. record { rising = tt; each = tt } }
-
-pub mirrored_grows : Grows IsMirrored
-mirrored_grows = record {
-  none = none_mirrored;
-  step = λ journal entry sound accepts is mirrored.
-      let own = family_of_next journal entry in
-      let entries = layer 8 0 own journal in
-      let old = mirrored.old (length journal) (layer_within journal 0 own sound) in
-      let next = accepts.next in
-      record {
-        copies = ap table.copies_of (knowns_of-push entries entry)
-            ∙ mirrors entry.number entry.report (knowns_of entries) (copies_of entries) mirrored.copies old.rising (read_lives journal entry sound accepts)
-            ∙ ap (map as_known) (sym (copies_of-push entries entry));
-        old = λ last within. subst (AreOld last) (sym (knowns_of-push entries entry))
-            (reported_old last entry.number entry.report (knowns_of entries) (omega arith) (each_last (λ e. e.number ≤ last) entries entry within)
-            (each_weaker (IsOldKnown (length journal)) (λ t. t.copy < entry.number) (knowns_of entries) (λ t is. let below = is.copy in omega arith) old.each)
-            (mirrored.old last (each_left (λ e. e.number ≤ last) entries (entry ∷ []) within)));
-      };
-}
-
-pub layers_mirrored : (journal : List Entry) → IsAccepted 8 journal → (k family : ℕ) → IsMirrored (layer 8 k family journal)
-layers_mirrored journal accepted k family = layers_hold IsMirrored mirrored_grows journal accepted k family
-
--- all numbers in the tables of sets are those of entries
-pub sets_old : (journal : List Entry) (k family : ℕ) → IsAccepted 8 journal → AreOld (length journal) (knowns_of (layer 8 k family journal))
-sets_old journal k family accepted = (layers_mirrored journal accepted k family).old (length journal) (layer_within journal k family (accepted_is_sound 8 journal accepted))
+layer_within journal k family sound = grind (arith, nat_tests, each_filter, each_effective, each_weaker)

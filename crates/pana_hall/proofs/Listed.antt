@@ -1,36 +1,37 @@
 -- The families that have begun, as a hall keeps them.
-use Rattle.std.specs.Prelude.{◌≡◌, ℕ, ◌<◌, ◌≤◌, Bool, true, false, cond, ◌==◌, List, [], ◌∷◌, ◌++◌, map, filter, Some, None, option_map, option_and_then, ◌≢◌, zero, suc, ◌+◌, length, slice_get, slice_set, slice_index_or, ◌-◌, is_none}
+use Rattle.std.specs.Prelude.{◌≡◌, ℕ, ◌<◌, ◌≤◌, Bool, false, cond, ◌==◌, List, [], ◌∷◌, ◌++◌, map, filter, Some, None, option_map, option_and_then, ◌≢◌, zero, suc, ◌+◌, length, slice_get, slice_set, slice_index_or, is_none}
 use Rattle.std.specs.Bool.{then_some}
 use Rattle.std.specs.Str.{bytes_eq}
 use Rattle.std.proofs.Common.{refl, sym, ap, ◌∙◌, subst, inl, inr, arith, append-nil}
-use Rattle.std.proofs.lemmas.Bool.{eqb-true, eq-eqb, ne_eqb, cases_lt, cases_order}
+use Rattle.std.proofs.lemmas.Bool.{eqb-true, eq-eqb, cases_lt, cases_order}
 use Rattle.std.proofs.lemmas.Option.{get_or_from_slice_get, slice_get-map, slice_get_within}
 use Rattle.circular_buffer.proofs.Places.{slice_get-set_same}
 use Rattle.std.proofs.lemmas.List.{map-set, set-get_or, map-append, length-append, length-map}
-use Rattle.std.proofs.lemmas.List.Elements.{filter-append}
 use Rattle.pana_journal.specs.declared.entry.Entry.{Entry}
 use Rattle.pana_hall.specs.Family.{is_register, families, begun_or_joined, subject}
 use Rattle.pana_hall.specs.Living.{Copy, copy_in, living}
 use Rattle.pana_hall.specs.Queries.{begun, holding, holdings}
 use Rattle.pana_hall.specs.laws.Layers.{AreRising, family_of_next}
-use Rattle.pana_hall.proofs.Lists.{rises_filter, each_weaker, entry_at_place, slice_get-append, slice_get-push, under, rises_map, found_by, at-append, none_under, rises_each, at-push}
+use Rattle.pana_hall.proofs.Lists.{rises_filter, each_filter, each_map, each_weaker, map_same, slice_get-each, entry_at_place, slice_get-append, slice_get-push, under, rises_map, found_by, at-append, none_under, rises_each, at-push}
 use Rattle.std.specs.List.{AllByRecursion}
+use Rattle.std.proofs.lemmas.Bool.Decides.{nat_tests}
 use Rattle.pana_copies.specs.declared.place.Place.{Place}
 use Rattle.pana_copies.specs.Spots.{Table, kept}
 use Rattle.pana_journal.specs.declared.report.Report.{Report}
 use Rattle.pana_journal.specs.declared.report.Report.TheVariants.{Register}
-use Rattle.pana_hall.specs.Refusal.{full, taken, report_refusal}
+use Rattle.pana_hall.specs.Refusal.{report_refusal}
 use Rattle.pana_hall.specs.inner.Undo.{KeptRows, new_kept}
 use Rattle.pana_hall.specs.inner.Spots.{IsFree}
 use Rattle.pana_hall.specs.inner.Listed.{all_listed, listed}
 use Rattle.pana_hall.specs.inner.Next.{IsStep, IsStepOf, Takes}
 use Rattle.pana_hall.specs.declared.listed_family.ListedFamily.{ListedFamily}
 use Rattle.pana_hall.specs.declared.next.Step.{Step}
-use Rattle.pana_hall.specs.declared.next.Step.TheVariants.{Begin, Change, Settle}
+use Rattle.pana_hall.specs.declared.next.Step.TheVariants.{Begin}
 use Rattle.pana_hall.specs.inner.Kept.{next_entry, AreSpots, IsReady, IsReadyAt, families_of, family_of, ArePlaced, IsKept, position_for, position_of_subject, IsWithin}
-use Rattle.pana_hall.proofs.Sound.{first_none, family_new, accepted_is_sound, family_old, named_by, living_fit, LivesIn, named_report}
+use Rattle.pana_hall.proofs.Sound.{none_against, family_new, accepted_is_sound, family_old, named_by, living_fit, LivesIn, named_report}
 use Rattle.pana_hall.proofs.Moves.{IsWell, none_below, subject_none, subject_named}
 use Rattle.pana_hall.proofs.Places.{living_below, spots_next}
+use Rattle.pana_hall.proofs.Tables.{begun-next}
 use Rattle.pana_hall.proofs.Histories.{family_begun, family_other}
 use Rattle.pana_hall.proofs.Ready.{accepts_next, free_spots}
 use Rattle.pana_journal.specs.Entries.{entry_at}
@@ -52,67 +53,39 @@ same_by_key key low (x ∷ xs) (y ∷ ys) rises rises' same =
     let one : key x ≡ key y = elim (cases_order (key x) (key y)) [
       | inl e ↦ e
       | inr (inl less) ↦
-          let none : under key (y ∷ ys) (key x) ≡ None = ap (λ b. cond b (Some y) (under key ys (key x))) (ne_eqb (key y) (key x) (λ h. omega arith)) ∙ none_under key (key y) (key x) ys rises'.1 (omega arith) in
+          let none : under key (y ∷ ys) (key x) ≡ None = grind (arith, nat_tests, under, none_under) in
           let odd : Some x ≡ None = sym (first_under key x xs) ∙ same (key x) ∙ none in absurd (cc)
       | inr (inr more) ↦
-          let none : under key (x ∷ xs) (key y) ≡ None = ap (λ b. cond b (Some x) (under key xs (key y))) (ne_eqb (key x) (key y) (λ h. omega arith)) ∙ none_under key (key x) (key y) xs rises.1 (omega arith) in
+          let none : under key (x ∷ xs) (key y) ≡ None = grind (arith, nat_tests, under, none_under) in
           let odd : Some y ≡ None = sym (first_under key y ys) ∙ sym (same (key y)) ∙ none in absurd (cc)
     ] in
     let both : Some x ≡ Some y = sym (first_under key x xs) ∙ same (key x) ∙ ap (under key (y ∷ ys)) one ∙ first_under key y ys in
     let first : x ≡ y = cc in
     let rising : AreRising key (key x) ys = subst (λ n. AreRising key n ys) (sym one) rises'.1 in
-    let rest : xs ≡ ys = same_by_key key (key x) xs ys rises.1 rising (λ n.
-    elim (cases_lt (key x) n) [
-      | inl above ↦ ap (λ b. cond b (Some x) (under key xs n)) (sym (ne_eqb (key x) n (λ h. omega arith))) ∙ same n ∙ ap (λ b. cond b (Some y) (under key ys n)) (ne_eqb (key y) n (λ h. omega arith))
-      | inr below ↦ none_under key (key x) n xs rises.1 below ∙ sym (none_under key (key x) n ys rising below)
-    ]) in
+    let rest : xs ≡ ys = same_by_key key (key x) xs ys rises.1 rising (λ n. grind (arith, nat_tests, under, none_under, rising)) in
     ap (λ c. c ∷ xs) first ∙ ap (λ l. y ∷ l) rest
 
 -- what has a key once a test has chosen
 under_filter : {X : Type 0} (key : X → ℕ) (p : X → Bool) (low n : ℕ) (xs : List X) → AreRising key low xs → under key (filter p xs) n ≡ option_and_then (λ x. then_some (p x) x) (under key xs n)
 under_filter key p low n [] rises = refl
-under_filter key p low n (x ∷ xs) rises =
-    let rest = under_filter key p (key x) n xs rises.1 in
-    elim (key x == n) as (λ b. (key x == n) ≡ b → under key (filter p (x ∷ xs)) n ≡ option_and_then (λ y. then_some (p y) y) (cond b (Some x) (under key xs n))) [
-      | true ↦ λ e.
-          let is : key x ≡ n = eqb-true (key x) n e in
-          let gone : under key (filter p xs) n ≡ None = none_under key (key x) n (filter p xs) (rises_filter key (key x) p xs rises.1) (omega arith) in
-          elim (p x) as (λ t. under key (cond t (x ∷ filter p xs) (filter p xs)) n ≡ then_some t x) [
-            | true ↦ ap (λ b. cond b (Some x) (under key (filter p xs) n)) e
-            | false ↦ gone
-          ]
-      | false ↦ λ e. elim (p x) as (λ t. under key (cond t (x ∷ filter p xs) (filter p xs)) n ≡ option_and_then (λ y. then_some (p y) y) (under key xs n)) [
-        | true ↦ ap (λ b. cond b (Some x) (under key (filter p xs) n)) e ∙ rest
-        | false ↦ rest
-      ]
-    ] refl
+under_filter key p low n (x ∷ xs) rises = grind (arith, nat_tests, under_filter key p (key x) n xs rises.1, under, none_under, rises_filter)
 
 -- and once each was shown as another with its key
 under_map : {X Y : Type 0} (f : X → Y) (key : X → ℕ) (key' : Y → ℕ) → ((x : X) → key' (f x) ≡ key x) → (n : ℕ) (xs : List X) → under key' (map f xs) n ≡ option_map f (under key xs n)
 under_map f key key' same n [] = refl
-under_map f key key' same n (x ∷ xs) =
-    ap (λ k. cond (k == n) (Some (f x)) (under key' (map f xs) n)) (same x)
-    ∙ elim (key x == n) as (λ b. cond b (Some (f x)) (under key' (map f xs) n) ≡ option_map f (cond b (Some x) (under key xs n))) [
-      | true ↦ refl
-      | false ↦ under_map f key key' same n xs
-    ]
+under_map f key key' same n (x ∷ xs) = grind (arith, nat_tests, under_map f key key' same n xs)
 
 -- the holdings of a device, by rising copy, and the one of a copy
-pub holdings_rise : (device : List ℕ) (copies : List Copy) → AreRising (λ c. c.number) 0 copies → AreRising (λ h. h.copy) 0 (holdings copies device)
-holdings_rise device copies rises = rises_map holding (λ c. c.number) (λ h. h.copy) (λ c. refl) 0 _ (rises_filter (λ c. c.number) 0 (λ c. bytes_eq c.place.device device) copies rises)
+pub holdings_rise : (device : List ℕ) (copies : List Copy) → AreRising (λ c. c.known.copy) 0 copies → AreRising (λ h. h.copy) 0 (holdings copies device)
+holdings_rise device copies rises = rises_map holding (λ c. c.known.copy) (λ h. h.copy) (λ c. refl) 0 _ (grind (arith, nat_tests, rises_filter))
 
-pub holdings_under : (device : List ℕ) (n : ℕ) (copies : List Copy) → AreRising (λ c. c.number) 0 copies
+pub holdings_under : (device : List ℕ) (n : ℕ) (copies : List Copy) → AreRising (λ c. c.known.copy) 0 copies
     → under (λ h. h.copy) (holdings copies device) n ≡ option_map holding (option_and_then (λ copy. then_some (bytes_eq copy.place.device device) copy) (copy_in copies n))
 holdings_under device n copies rises =
-    under_map holding (λ c. c.number) (λ h. h.copy) (λ c. refl) n (filter (λ c. bytes_eq c.place.device device) copies)
-    ∙ ap (option_map holding) (under_filter (λ c. c.number) (λ c. bytes_eq c.place.device device) 0 n copies rises)
+    under_map holding (λ c. c.known.copy) (λ h. h.copy) (λ c. refl) n (filter (λ c. bytes_eq c.place.device device) copies)
+    ∙ ap (option_map holding) (grind (arith, nat_tests, under_filter))
 
--- the families that one entry more has begun
-pub begun-next : (journal : List Entry) (entry : Entry) → begun (journal ++ entry ∷ []) ≡ begun journal ++ cond (is_register entry.report) (entry.number ∷ []) []
-begun-next journal entry =
-    ap (map (λ e. e.number)) (filter-append (λ e. is_register e.report) journal (entry ∷ [])) ∙ map-append (λ e. e.number) (filter (λ e. is_register e.report) journal) _
-    ∙ ap (λ l. begun journal ++ l) (elim (is_register entry.report) as (λ b. map (λ e. e.number) (cond b (entry ∷ []) []) ≡ cond b (entry.number ∷ []) []) [ true ↦ refl | false ↦ refl ])
-
+-- the families that an entry has begun
 begun_later : (journal : List Entry) (entry : Entry) → is_register entry.report ≡ false → begun (journal ++ entry ∷ []) ≡ begun journal
 begun_later journal entry later = begun-next journal entry ∙ ap (λ b. begun journal ++ cond b (entry.number ∷ []) []) later ∙ append-nil (begun journal)
 
@@ -123,71 +96,44 @@ begun_rises journal rises = rises_map (λ e. e.number) (λ e. e.number) (λ n. n
 -- The families that have begun, as a list.
 
 get_unmap : {X Y : Type 0} (f : X → Y) (xs : List X) (p : ℕ) (y : Y) → slice_get (map f xs) p ≡ Some y → (x : X) × (slice_get xs p ≡ Some x) × (f x ≡ y)
-get_unmap f [] p y at = absurd (cc)
-get_unmap f (x ∷ xs) zero y at = (x, refl, cc)
 get_unmap f (x ∷ xs) (suc p) y at = get_unmap f xs p y at
+get_unmap f xs p y at = grind (arith, nat_tests)
 
 -- what is made of a number in a list
 pub get_map : {X : Type 0} (f : ℕ → X) (numbers : List ℕ) (p n : ℕ) → slice_get numbers p ≡ Some n → slice_get (map f numbers) p ≡ Some (f n)
 get_map f numbers p n at = slice_get-map f numbers p ∙ ap (option_map f) at
 
-rises_found : (low : ℕ) (numbers : List ℕ) (p n : ℕ) → AreRising (λ k. k) low numbers → slice_get numbers p ≡ Some n → low < n
-rises_found low [] p n rises at = absurd (cc)
-rises_found low (m ∷ numbers) zero n rises at = let here : m ≡ n = cc in subst (λ k. low < k) here rises.0
-rises_found low (m ∷ numbers) (suc p) n rises at = let first = rises.0 in let rest = rises_found m numbers p n rises.1 at in omega arith
-
--- the same is made of each number but one
-map_other : {X : Type 0} (f g : ℕ → X) (low n : ℕ) (numbers : List ℕ) → AreRising (λ k. k) low numbers → n ≤ low → ((k : ℕ) → k ≢ n → g k ≡ f k) → map g numbers ≡ map f numbers
-map_other f g low n [] rises below same = refl
-map_other f g low n (m ∷ numbers) rises below same =
-    let first = rises.0 in ap (λ x. x ∷ map g numbers) (same m (λ h. omega arith)) ∙ ap (λ l. f m ∷ l) (map_other f g m n numbers rises.1 (omega arith) same)
-
 map_set : {X : Type 0} (f g : ℕ → X) (low : ℕ) (numbers : List ℕ) (p n : ℕ) → AreRising (λ k. k) low numbers → slice_get numbers p ≡ Some n → ((k : ℕ) → k ≢ n → g k ≡ f k)
     → slice_set (map f numbers) p (g n) ≡ map g numbers
 map_set f g low [] p n rises at same = absurd (cc)
 map_set f g low (m ∷ numbers) zero n rises at same =
-    let here : m ≡ n = cc in ap (λ k. g k ∷ map f numbers) (sym here) ∙ ap (λ l. g m ∷ l) (sym (map_other f g m n numbers rises.1 (omega arith) same))
+    let here : m ≡ n = cc in
+    ap (λ k. g k ∷ map f numbers) (sym here) ∙ ap (λ l. g m ∷ l) (map_same f g (λ k. m < k) numbers (λ k above. sym (same k (λ e. omega arith))) (rises_each (λ k. k) m numbers rises.1))
 map_set f g low (m ∷ numbers) (suc p) n rises at same =
-    let above = rises_found m numbers p n rises.1 at in ap (λ l. f m ∷ l) (map_set f g m numbers p n rises.1 at same) ∙ ap (λ x. x ∷ map g numbers) (sym (same m (λ h. omega arith)))
-
-map_below : {X : Type 0} (f g : ℕ → X) (last : ℕ) (numbers : List ℕ) → AllByRecursion (λ k. k ≤ last) numbers → ((k : ℕ) → k ≤ last → g k ≡ f k) → map g numbers ≡ map f numbers
-map_below f g last [] within same = refl
-map_below f g last (m ∷ numbers) within same = ap (λ x. x ∷ map g numbers) (same m within.0) ∙ ap (λ l. f m ∷ l) (map_below f g last numbers within.1 same)
+    let above = slice_get-each (λ k. m < k) numbers p n (rises_each (λ k. k) m numbers rises.1) at in
+    grind (arith, nat_tests, map_set f g m numbers p n rises.1 at same)
 
 -- the numbers of families are those of entries
 begun_within : (last : ℕ) (journal : List Entry) → AllByRecursion (λ e. e.number ≤ last) journal → AllByRecursion (λ n. n ≤ last) (begun journal)
-begun_within last [] within = tt
-begun_within last (e ∷ journal) within =
-    elim (is_register e.report) as (λ b. AllByRecursion (λ n. n ≤ last) (map (λ x. x.number) (cond b (e ∷ filter (λ x. is_register x.report) journal) (filter (λ x. is_register x.report) journal)))) [
-      | true ↦ (within.0, begun_within last journal within.1)
-      | false ↦ begun_within last journal within.1
-    ]
+begun_within last journal within = grind (arith, nat_tests, each_map, each_filter)
 
 -- a step is of a family that has begun, or begins one
 pub step_takes : (n len capacity : ℕ) (list : List ListedFamily) (position : ℕ) (copies : Table) (report : Report) (step : Step) → ((place : Place) → step ≡ Begin place → ⊥)
     → IsStep n len capacity list position copies report step → Takes n list position copies report step
-step_takes n len capacity list position copies report (Begin place) never is = absurd (never place refl)
-step_takes n len capacity list position copies report (Change change place before) never is = is
-step_takes n len capacity list position copies report Settle never is = is
+step_takes n len capacity list position copies report step never is = grind (arith, nat_tests)
 
 pub takes_step : (n len capacity : ℕ) (list : List ListedFamily) (position : ℕ) (copies : Table) (report : Report) (step : Step) → Takes n list position copies report step → IsStep n len capacity list position copies report step
-takes_step n len capacity list position copies report (Begin place) takes = absurd takes.is
-takes_step n len capacity list position copies report (Change change place before) takes = takes
-takes_step n len capacity list position copies report Settle takes = takes
+takes_step n len capacity list position copies report step takes = grind (arith, nat_tests)
 
 step_later : (n : ℕ) (it : ListedFamily) (copies : Table) (report : Report) (step : Step) → IsStepOf n it copies report step → is_register report ≡ false
-step_later n it copies (Register place) (Begin at) is = absurd is
-step_later n it copies (Register place) (Change change at before) is = let about = is.1 in absurd (cc)
-step_later n it copies (Register place) Settle is = let odd = is.0 in absurd (cc)
-step_later n it copies report step is = refl
+step_later n it copies report step is = grind (arith, nat_tests)
 
 pub takes_later : {n : ℕ} {list : List ListedFamily} {position : ℕ} {copies : Table} {report : Report} {step : Step} → Takes n list position copies report step → is_register report ≡ false
 takes_later {n} {list} {position} {copies} {report} {step} takes = step_later n takes.it copies report step takes.is
 
 pub takes_at : {n : ℕ} {list : List ListedFamily} {position : ℕ} {copies : Table} {report : Report} {step : Step} → Takes n list position copies report step → (it d : ListedFamily) → it ≡ slice_index_or list position d
     → IsStepOf n it copies report step
-takes_at {n} {list} {position} {copies} {report} {step} takes it d is =
-    subst (λ (k : ListedFamily). IsStepOf n k copies report step) (sym (is ∙ get_or_from_slice_get list position takes.it d takes.found)) takes.is
+takes_at {n} {list} {position} {copies} {report} {step} takes it d is = grind (arith, nat_tests, get_or_from_slice_get)
 
 module _ (list : List ListedFamily) {journal : List Entry} {by : List ℕ} {report : Report} {position : ℕ} {copies : Table} where
   -- the family at the position
@@ -243,40 +189,49 @@ module _ (list : List ListedFamily) {journal : List Entry} {by : List ℕ} {repo
   pub position_within : IsReadyAt journal by report (all_listed list) position copies → is_register report ≡ false → position < length list
   position_within ready later = let there = found_there ready later in slice_get_within list position there.0 there.1
 
-module _ {journal : List Entry} {by : List ℕ} {place : Place} {list : List KeptRows} {position : ℕ} {copies : Table} where
-  pub fresh_register : IsReadyAt journal by (Register place) list position copies → kept copies (length journal + 1) ≡ None
-  fresh_register ready =
+module _ {journal : List Entry} {by : List ℕ} {place : Place} {list : List KeptRows} {position : ℕ} {copies : Table} (ready : IsReadyAt journal by (Register place) list position copies) where
+  pub fresh_register : kept copies (length journal + 1) ≡ None
+  fresh_register =
       ready.spots (length journal + 1)
       ∙ ap (option_map _) (none_below (length journal + 1) (living journal) (living_below 8 (length journal + 1) journal (accepted_is_sound 8 journal ready.accepted) refl))
 
-  pub free_register : IsReadyAt journal by (Register place) list position copies → IsFree place copies
-  free_register ready = free_spots journal copies ready.spots place (first_none (taken place (living journal)) [] (first_none (full journal) _ ready.free).1).0
+  pub free_register : IsFree place copies
+  free_register = free_spots journal copies ready.spots place (none_against 8 journal (living journal) by (Register place) ready.free).1.0
 
-  pub listed_push : IsReadyAt journal by (Register place) list position copies → (n : ℕ) → n ≡ length journal → list ++ new_kept (n + 1) ∷ [] ≡ families_of (journal ++ next_entry journal by (Register place) ∷ [])
-  listed_push ready n is =
+  pub listed_push : (n : ℕ) → n ≡ length journal → list ++ new_kept (n + 1) ∷ [] ≡ families_of (journal ++ next_entry journal by (Register place) ∷ [])
+  listed_push n is =
       let entry = next_entry journal by (Register place) in
       let journal' = journal ++ entry ∷ [] in
       let accepts = accepts_next journal by (Register place) ready.free in
       let sound = accepted_is_sound 8 journal ready.accepted in
       let own : family_of_next journal entry ≡ length journal + 1 = family_new journal entry in
       let old : map (family_of journal') (begun journal) ≡ families_of journal =
-      map_below (family_of journal) (family_of journal') (length journal) (begun journal)
-      (begun_within (length journal) journal (each_weaker (IsWell (families journal) (length journal)) _ journal (λ e well. well.within) sound.well))
-      (λ k within. family_other k journal entry sound accepts (λ h. omega arith)) in
+      map_same (family_of journal') (family_of journal) (λ n. n ≤ length journal) (begun journal) (λ k within. family_other k journal entry sound accepts (λ h. omega arith))
+      (begun_within (length journal) journal (each_weaker (IsWell (families journal) (length journal)) _ journal (λ e well. well.within) sound.well)) in
       ap (λ k. list ++ new_kept (k + 1) ∷ []) is
       ∙ ap (λ (l : List KeptRows). l ++ new_kept (length journal + 1) ∷ []) (ready.listed ∙ sym old)
       ∙ ap (λ k. map (family_of journal') (begun journal) ++ k ∷ []) (sym (family_begun journal by place sound accepts))
       ∙ sym (map-append (family_of journal') (begun journal) ((length journal + 1) ∷ []))
       ∙ ap (map (family_of journal')) (sym (begun-next journal entry))
 
-  pub spots_register : IsReadyAt journal by (Register place) list position copies → (n : ℕ) → n ≡ length journal → (after_it : Table)
+  pub spots_register : (n : ℕ) → n ≡ length journal → (after_it : Table)
       → ((number : ℕ) → kept after_it number ≡ cond (number == n + 1) (Some (record { family = n + 1; place = place })) (kept copies number))
       → AreSpots (journal ++ next_entry journal by (Register place) ∷ []) after_it
-  spots_register ready n is after_it goes number =
+  spots_register n is after_it goes number =
       goes number
       ∙ ap (λ k. cond (number == k + 1) (Some (record { family = k + 1; place = place })) (kept copies number)) is
       ∙ ap (λ s. cond (number == length journal + 1) (Some (record { family = length journal + 1; place = place })) s) (ready.spots number)
       ∙ sym (spots_next 8 journal (next_entry journal by (Register place)) (accepted_is_sound 8 journal ready.accepted) (accepts_next journal by (Register place) ready.free) refl number)
+
+-- a step that begins a family is of a Register
+pub record Begins (journal : List Entry) (by : List ℕ) (report : Report) (place : Place) (len capacity : ℕ) (list : List KeptRows) (position : ℕ) (copies : Table) : Type 0 where
+  pub is : report ≡ Register place
+  pub more : len < capacity
+  pub ready : IsReadyAt journal by (Register place) list position copies
+
+pub begins : {journal : List Entry} {by : List ℕ} {report : Report} {position : ℕ} {copies : Table} (list : List ListedFamily) (n len capacity : ℕ) {step : Step} {place : Place}
+    → IsReadyAt journal by report (all_listed list) position copies → step ≡ Begin place → IsStep n len capacity list position copies report step → Begins journal by report place len capacity (all_listed list) position copies
+begins {journal} {by} {report} {position} {copies} list n len capacity ready at is = grind (arith, nat_tests)
 
 pub not_register : (report : Report) → ((place : Place) → report ≡ Register place → ⊥) → is_register report ≡ false
 not_register (Register place) never = absurd (never place refl)
@@ -288,21 +243,16 @@ not_register report never = refl
 pub lives_within : (journal : List Entry) (family n : ℕ) → IsAccepted 8 journal → LivesIn journal family n → IsWithin journal n
 lives_within journal family n accepted lives =
     let up = rising 8 journal accepted in
-    let below = found_by (λ c. c.number == n) (λ c. c.number ≤ length journal) (living journal) lives.copy up.1 lives.found in
-    let above = (found_by (λ c. c.number == n) (λ c. 0 < c.number) (living journal) lives.copy (rises_each (λ c. c.number) 0 (living journal) up.0) lives.found).1 in
-    let within = below.1 in
-    let same = eqb-true lives.copy.number n below.0 in
+    let below = found_by (λ c. c.known.copy == n) (λ c. c.known.copy ≤ length journal) (living journal) lives.copy up.1 lives.found in
+    let above = (found_by (λ c. c.known.copy == n) (λ c. 0 < c.known.copy) (living journal) lives.copy (rises_each (λ c. c.known.copy) 0 (living journal) up.0) lives.found).1 in
+    let same = eqb-true lives.copy.known.copy n below.0 in
     (omega arith, omega arith)
 
 pub found_entry : (journal : List Entry) (n : ℕ) (copy : Copy) → IsAccepted 8 journal → copy_in (living journal) n ≡ Some copy → IsWithin journal n
 found_entry journal n copy accepted found = lives_within journal (families journal n) n accepted (record { copy = copy; found = found; of = refl })
 
 pub entry_within : (journal : List Entry) (m : ℕ) (entry : Entry) → entry_at journal m ≡ Some entry → IsWithin journal m
-entry_within journal m entry at =
-    let place = entry_at_place journal m entry at in
-    let not_zero = place.0 in
-    let within = slice_get_within journal (m - 1) entry place.1 in
-    (omega arith, omega arith)
+entry_within journal m entry at = grind (arith, nat_tests, entry_at_place, slice_get_within)
 
 -- what a report names as its subject is a copy or an entry of the journal
 pub subject_within : (journal : List Entry) (by : List ℕ) (report : Report) (n : ℕ) → IsAccepted 8 journal → report_refusal 8 journal (living journal) by report ≡ None → subject report ≡ Some n → IsWithin journal n
@@ -310,7 +260,7 @@ subject_within journal by report n accepted free about =
     let sound = accepted_is_sound 8 journal accepted in
     elim (subject_named report n about) [
       | inl names ↦ lives_within journal _ n accepted (named_report 8 0 journal by report n (living_fit 8 journal sound) free names)
-      | inr is ↦ let there = named_by 8 journal by report n is free in entry_within journal n there.0 there.1
+      | inr is ↦ grind (arith, nat_tests, named_by, entry_within)
     ]
 
 -- the family of an entry is found
@@ -318,12 +268,12 @@ pub found_at : (journal : List Entry) (list : List KeptRows) (positions : List �
     → family_at list positions n ≡ Some (family_of journal (families journal n))
 found_at journal list positions n listed placed some within =
     let at = placed.at n some within in
-    ap (option_and_then (slice_get list)) at.1 ∙ ap (λ l. slice_get l at.0) listed ∙ get_map (family_of journal) (begun journal) at.0 (families journal n) at.2
+    grind (arith, nat_tests, get_map)
 
 -- with the copies in another table
 pub ready_same : {journal : List Entry} {by : List ℕ} {report : Report} {list : List KeptRows} {position : ℕ} {copies : Table} → IsReadyAt journal by report list position copies → (copies' : Table)
     → ((number : ℕ) → kept copies' number ≡ kept copies number) → IsReadyAt journal by report list position copies'
-ready_same ready copies' same = record { accepted = ready.accepted; free = ready.free; listed = ready.listed; spots = λ number. same number ∙ ready.spots number; at = ready.at }
+ready_same ready copies' same = grind (arith, nat_tests)
 
 module _ (journal : List Entry) (by : List ℕ) (report : Report) (list : List KeptRows) (positions : List ℕ) (copies : Table) where
   -- a report has a position for its family

@@ -1,13 +1,13 @@
 -- Lists: members that a test keeps, last numbers, rising keys, items by index.
-use Rattle.std.specs.Prelude.{◌≡◌, ℕ, suc, ◌+◌, ◌-◌, ◌≤◌, Bool, true, false, cond, ◌&&◌, ◌||◌, ◌==◌, List, [], ◌∷◌, ◌++◌, length, take, map, filter, ◌≢◌, ◌⊎◌, ◌<◌, zero, Some, None, slice_get}
-use Rattle.std.specs.List.{AllByRecursion, list_any}
-use Rattle.std.proofs.Common.{refl, sym, ap, ◌∙◌, arith, subst, inl, inr, Option, find}
+use Rattle.std.specs.Prelude.{◌≡◌, ℕ, suc, ◌+◌, ◌-◌, ◌≤◌, Bool, true, false, cond, ◌&&◌, ◌||◌, ◌==◌, List, [], ◌∷◌, ◌++◌, length, take, map, filter, ◌≢◌, ◌⊎◌, ◌<◌, Some, None, slice_get}
+use Rattle.std.specs.List.{AllByRecursion, filter_map, list_any}
+use Rattle.std.proofs.Common.{refl, sym, ap, ◌∙◌, arith, subst, Option, find}
 use Rattle.std.proofs.Math.Bool.{and_comm}
-use Rattle.std.proofs.lemmas.Bool.{eqb-true, ne_eqb, eqb-false}
 use Rattle.std.proofs.lemmas.List.{drop-append-le, length-append, take-append-drop}
 use Rattle.std.proofs.lemmas.List.Elements.{filter_agree}
 use Rattle.pana_hall.specs.Pending.{last, behind, is_last}
 use Rattle.std.proofs.lemmas.Option.{slice_get_within}
+use Rattle.std.proofs.lemmas.Bool.Decides.{nat_tests}
 use Rattle.circular_buffer.proofs.Places.{slice_get-append_left}
 use Rattle.pana_journal.specs.declared.entry.Entry.{Entry}
 use Rattle.pana_journal.specs.Entries.{entry_at}
@@ -40,27 +40,38 @@ each_two P Q R (x ∷ xs) f ps qs = (f x ps.0 qs.0, each_two P Q R xs f ps.1 qs.
 
 pub each_filter : {X : Type 0} (P : X → Type 0) (q : X → Bool) (xs : List X) → AllByRecursion P xs → AllByRecursion P (filter q xs)
 each_filter P q [] a = tt
-each_filter P q (x ∷ xs) a =
-    elim (q x) as (λ b. AllByRecursion P (cond b (x ∷ filter q xs) (filter q xs))) [
-      | true ↦ (a.0, each_filter P q xs a.1)
-      | false ↦ each_filter P q xs a.1
-    ]
+each_filter P q (x ∷ xs) a = grind (arith, nat_tests, each_filter P q xs a.1)
 
 pub each_map : {X Y : Type 0} (P : Y → Type 0) (f : X → Y) (xs : List X) → AllByRecursion (λ x. P (f x)) xs → AllByRecursion P (map f xs)
 each_map P f [] each = tt
 each_map P f (x ∷ xs) each = (each.0, each_map P f xs each.1)
 
-pub map_map : {X Y Z : Type 0} (f : X → Y) (g : Y → Z) (xs : List X) → map g (map f xs) ≡ map (λ x. g (f x)) xs
-map_map f g [] = refl
-map_map f g (x ∷ xs) = ap (λ l. g (f x) ∷ l) (map_map f g xs)
+pub each_unmap : {X Y : Type 0} (P : Y → Type 0) (f : X → Y) (xs : List X) → AllByRecursion P (map f xs) → AllByRecursion (λ x. P (f x)) xs
+each_unmap P f [] each = tt
+each_unmap P f (x ∷ xs) each = (each.0, each_unmap P f xs each.1)
+
+pub each_of : {X : Type 0} (P : X → Type 0) → ((x : X) → P x) → (xs : List X) → AllByRecursion P xs
+each_of P all [] = tt
+each_of P all (x ∷ xs) = (all x, each_of P all xs)
+
+pub map_same : {X Y : Type 0} (f g : X → Y) (P : X → Type 0) (xs : List X) → ((x : X) → P x → f x ≡ g x) → AllByRecursion P xs → map f xs ≡ map g xs
+map_same f g P [] same each = refl
+map_same f g P (x ∷ xs) same each = grind (arith, nat_tests, map_same f g P xs same each.1)
 
 pub filter_same : {X : Type 0} (p q : X → Bool) (xs : List X) → AllByRecursion (λ x. p x ≡ q x) xs → filter p xs ≡ filter q xs
 filter_same p q [] a = refl
-filter_same p q (x ∷ xs) a = ap (λ b. cond b (x ∷ filter p xs) (filter p xs)) a.0 ∙ ap (λ l. cond (q x) (x ∷ l) l) (filter_same p q xs a.1)
+filter_same p q (x ∷ xs) a = grind (arith, nat_tests, filter_same p q xs a.1)
 
 pub filter_all : {X : Type 0} (p : X → Bool) (xs : List X) → AllByRecursion (λ x. p x ≡ true) xs → filter p xs ≡ xs
 filter_all p [] a = refl
-filter_all p (x ∷ xs) a = ap (λ b. cond b (x ∷ filter p xs) (filter p xs)) a.0 ∙ ap (λ l. x ∷ l) (filter_all p xs a.1)
+filter_all p (x ∷ xs) a = grind (arith, nat_tests, filter_all p xs a.1)
+
+pub each_passes : {X : Type 0} (p : X → Bool) (xs : List X) → AllByRecursion (λ x. p x ≡ true) (filter p xs)
+each_passes p [] = tt
+each_passes p (x ∷ xs) = grind (arith, nat_tests, each_passes p xs)
+
+pub filter_twice : {X : Type 0} (p : X → Bool) (xs : List X) → filter p (filter p xs) ≡ filter p xs
+filter_twice p xs = filter_all p (filter p xs) (each_passes p xs)
 
 pub filter_true : {X : Type 0} (xs : List X) → filter (λ x. true) xs ≡ xs
 filter_true [] = refl
@@ -68,27 +79,23 @@ filter_true (x ∷ xs) = ap (λ l. x ∷ l) (filter_true xs)
 
 pub filter_filter : {X : Type 0} (p q : X → Bool) (xs : List X) → filter p (filter q xs) ≡ filter (λ x. q x && p x) xs
 filter_filter p q [] = refl
-filter_filter p q (x ∷ xs) =
-    let rest = filter (λ y. q y && p y) xs in
-    elim (q x) as (λ b. filter p (cond b (x ∷ filter q xs) (filter q xs)) ≡ cond (b && p x) (x ∷ rest) rest) [
-      | true ↦ ap (λ l. cond (p x) (x ∷ l) l) (filter_filter p q xs)
-      | false ↦ filter_filter p q xs
-    ]
+filter_filter p q (x ∷ xs) = grind (arith, nat_tests, filter_filter p q xs)
 
 pub filter_swap : {X : Type 0} (p q : X → Bool) (xs : List X) → filter p (filter q xs) ≡ filter q (filter p xs)
-filter_swap p q xs = filter_filter p q xs ∙ filter_agree _ _ (λ x. and_comm (q x) (p x)) xs ∙ sym (filter_filter q p xs)
+filter_swap p q xs = grind (arith, nat_tests, filter_filter, filter_agree, and_comm)
 
 pub map_filter : {X Y : Type 0} (f : X → Y) (p : Y → Bool) (xs : List X) → map f (filter (λ x. p (f x)) xs) ≡ filter p (map f xs)
 map_filter f p [] = refl
-map_filter f p (x ∷ xs) =
-    elim (p (f x)) as (λ b. map f (cond b (x ∷ filter (λ y. p (f y)) xs) (filter (λ y. p (f y)) xs)) ≡ cond b (f x ∷ filter p (map f xs)) (filter p (map f xs))) [
-      | true ↦ ap (λ l. f x ∷ l) (map_filter f p xs)
-      | false ↦ map_filter f p xs
-    ]
+map_filter f p (x ∷ xs) = grind (arith, nat_tests, map_filter f p xs)
+
+-- a test that what is made of an item passes where the item does
+pub filter_made : {X : Type 0} (p : X → Bool) (g : X → Option X) → ((x y : X) → g x ≡ Some y → p y ≡ p x) → (xs : List X) → filter p (filter_map g xs) ≡ filter_map g (filter p xs)
+filter_made p g keeps [] = refl
+filter_made p g keeps (x ∷ xs) = grind (arith, nat_tests, filter_made p g keeps xs)
 
 pub any_push : {X : Type 0} (p : X → Bool) (xs : List X) (x : X) → list_any p (xs ++ x ∷ []) ≡ (list_any p xs || p x)
 any_push p [] x = elim (p x) as (λ b. (b || false) ≡ b) [ true ↦ refl | false ↦ refl ]
-any_push p (y ∷ xs) x = elim (p y) as (λ b. (b || list_any p (xs ++ x ∷ [])) ≡ ((b || list_any p xs) || p x)) [ true ↦ refl | false ↦ any_push p xs x ]
+any_push p (y ∷ xs) x = grind (arith, nat_tests, any_push p xs x)
 
 -- the last numbers of two lists of which one ends the other
 pub last_end : (k : ℕ) (prefix numbers : List ℕ) → k ≤ length numbers → last k (prefix ++ numbers) ≡ last k numbers
@@ -103,9 +110,7 @@ last_is_end k numbers = (take (length numbers - k) numbers, sym (take-append-dro
 
 -- one number more at the end
 pub last_push : (k : ℕ) (numbers : List ℕ) (n : ℕ) → last (k + 1) (numbers ++ n ∷ []) ≡ last k numbers ++ n ∷ []
-last_push k numbers n =
-    let less : length (numbers ++ n ∷ []) - (k + 1) ≡ length numbers - k = omega (arith, length-append numbers (n ∷ [])) in
-    rw less (drop-append-le (length numbers - k) numbers (n ∷ []) (omega arith))
+last_push k numbers n = grind (arith, nat_tests, length-append, drop-append-le)
 
 -- the numbers behind another are an end of the list
 pub behind_is_end : (number : ℕ) (numbers : List ℕ) → (prefix : List ℕ) × (numbers ≡ prefix ++ behind number numbers)
@@ -119,15 +124,13 @@ behind_is_end number (n ∷ numbers) =
 
 -- a list ends in its last number
 pub is_last_push : (number : ℕ) (numbers : List ℕ) → is_last number numbers ≡ true → (prefix : List ℕ) × (numbers ≡ prefix ++ number ∷ [])
-is_last_push number [] e = absurd (cc)
-is_last_push number (n ∷ []) e = ([], ap (λ k. k ∷ []) (eqb-true n number e))
 is_last_push number (n ∷ m ∷ numbers) e = let rest = is_last_push number (m ∷ numbers) e in (n ∷ rest.0, ap (λ l. n ∷ l) rest.1)
+is_last_push number numbers e = grind (arith, nat_tests)
 
 -- what is last of a list is what was put there
 pub is_last-push : (numbers : List ℕ) (x n : ℕ) → is_last n (numbers ++ x ∷ []) ≡ (x == n)
-is_last-push [] x n = refl
-is_last-push (a ∷ []) x n = refl
 is_last-push (a ∷ b ∷ numbers) x n = is_last-push (b ∷ numbers) x n
+is_last-push numbers x n = grind (arith, nat_tests)
 
 -- Lists by rising numbers.
 
@@ -137,12 +140,7 @@ rises_lower key low low' (x ∷ xs) below rises = let first = rises.0 in (omega 
 
 pub rises_filter : {X : Type 0} (key : X → ℕ) (low : ℕ) (q : X → Bool) (xs : List X) → AreRising key low xs → AreRising key low (filter q xs)
 rises_filter key low q [] rises = tt
-rises_filter key low q (x ∷ xs) rises =
-    let first = rises.0 in
-    elim (q x) as (λ b. AreRising key low (cond b (x ∷ filter q xs) (filter q xs))) [
-      | true ↦ (rises.0, rises_filter key (key x) q xs rises.1)
-      | false ↦ rises_lower key (key x) low (filter q xs) (omega arith) (rises_filter key (key x) q xs rises.1)
-    ]
+rises_filter key low q (x ∷ xs) rises = grind (arith, nat_tests, rises_filter key (key x) q xs rises.1, rises_lower)
 
 pub rises_map : {X Y : Type 0} (f : X → Y) (key : X → ℕ) (key' : Y → ℕ) → ((x : X) → key' (f x) ≡ key x) → (low : ℕ) (xs : List X) → AreRising key low xs → AreRising key' low (map f xs)
 rises_map f key key' same low [] rises = tt
@@ -151,7 +149,7 @@ rises_map f key key' same low (x ∷ xs) rises = (subst (λ k. low < k) (sym (sa
 -- each is above the bound
 pub rises_each : {X : Type 0} (key : X → ℕ) (low : ℕ) (xs : List X) → AreRising key low xs → AllByRecursion (λ x. low < key x) xs
 rises_each key low [] rises = tt
-rises_each key low (x ∷ xs) rises = let first = rises.0 in (rises.0, each_weaker (λ y. key x < key y) (λ y. low < key y) xs (λ y h. omega arith) (rises_each key (key x) xs rises.1))
+rises_each key low (x ∷ xs) rises = grind (arith, nat_tests, rises_each key (key x) xs rises.1, each_weaker)
 
 -- what has a key
 abbrev pub under : {X : Type 0} → (X → ℕ) → List X → ℕ → Option X
@@ -159,9 +157,7 @@ under key xs n = find (λ x. key x == n) xs
 
 pub none_under : {X : Type 0} (key : X → ℕ) (low n : ℕ) (xs : List X) → AreRising key low xs → n ≤ low → under key xs n ≡ None
 none_under key low n [] rises below = refl
-none_under key low n (x ∷ xs) rises below =
-    let first = rises.0 in
-    ap (λ b. cond b (Some x) (under key xs n)) (ne_eqb (key x) n (λ h. omega arith)) ∙ none_under key (key x) n xs rises.1 (omega arith)
+none_under key low n (x ∷ xs) rises below = grind (arith, nat_tests, none_under key (key x) n xs rises.1 (omega arith))
 
 -- what is found by a test passes it
 pub found_by : {X : Type 0} (p : X → Bool) (P : X → Type 0) (xs : List X) (x : X) → AllByRecursion P xs → find p xs ≡ Some x → (p x ≡ true) × P x
@@ -178,7 +174,7 @@ rises_push key low (x ∷ xs) y rises below more = (rises.0, rises_push key (key
 
 pub rises_above : {X : Type 0} (key : X → ℕ) (low : ℕ) (xs : List X) (y : X) → AreRising key low (xs ++ y ∷ []) → low < key y
 rises_above key low [] y rises = rises.0
-rises_above key low (x ∷ xs) y rises = let first = rises.0 in let rest : key x < key y = rises_above key (key x) xs y rises.1 in omega arith
+rises_above key low (x ∷ xs) y rises = grind (arith, nat_tests, rises_above key (key x) xs y rises.1)
 
 -- the last is above all others
 pub rises_last : {X : Type 0} (key : X → ℕ) (low : ℕ) (xs : List X) (y : X) → AreRising key low (xs ++ y ∷ []) → AllByRecursion (λ x. key x < key y) xs
@@ -194,37 +190,22 @@ slice_get-push (z ∷ xs) x = slice_get-push xs x
 
 -- an item with a number, from 1, keeps it where more come
 pub at-append : {X : Type 0} (xs more : List X) (n : ℕ) (x : X) → cond (n == 0) None (slice_get xs (n - 1)) ≡ Some x → cond (n == 0) None (slice_get (xs ++ more) (n - 1)) ≡ Some x
-at-append xs more n x e =
-    elim (n == 0) as (λ b. cond b None (slice_get xs (n - 1)) ≡ Some x → cond b None (slice_get (xs ++ more) (n - 1)) ≡ Some x) [
-      | true ↦ λ h. absurd (cc)
-      | false ↦ λ h. slice_get-append xs more (n - 1) x h
-    ] e
+at-append xs more n x e = grind (arith, nat_tests, slice_get-append)
 
 pub at-push : {X : Type 0} (xs : List X) (x : X) → cond (length xs + 1 == 0) None (slice_get (xs ++ x ∷ []) (length xs + 1 - 1)) ≡ Some x
 at-push xs x =
     let place : length xs + 1 - 1 ≡ length xs = omega arith in
-    ap (λ b. cond b None (slice_get (xs ++ x ∷ []) (length xs + 1 - 1))) (ne_eqb (length xs + 1) 0 (λ h. omega arith)) ∙ ap (slice_get (xs ++ x ∷ [])) place ∙ slice_get-push xs x
+    grind (arith, nat_tests, slice_get-push)
 
 -- an entry that is found in a journal and one more is the new one, or was found before
 pub slice_get-push_cases : {X : Type 0} (xs : List X) (y : X) (i : ℕ) (x : X) → slice_get (xs ++ y ∷ []) i ≡ Some x → (slice_get xs i ≡ Some x) ⊎ ((i ≡ length xs) × (y ≡ x))
-slice_get-push_cases [] y zero x e = inr (refl, cc)
-slice_get-push_cases [] y (suc i) x e = absurd (cc)
-slice_get-push_cases (z ∷ xs) y zero x e = inl e
-slice_get-push_cases (z ∷ xs) y (suc i) x e =
-    elim (slice_get-push_cases xs y i x e) [
-      | inl old ↦ inl old
-      | inr new ↦ inr (ap suc new.0, new.1)
-    ]
+slice_get-push_cases (z ∷ xs) y (suc i) x e = grind (arith, nat_tests, slice_get-push_cases xs y i x e)
+slice_get-push_cases xs y i x e = grind (arith, nat_tests)
 
 pub slice_get-each : {X : Type 0} (P : X → Type 0) (xs : List X) (i : ℕ) (x : X) → AllByRecursion P xs → slice_get xs i ≡ Some x → P x
-slice_get-each P [] i x each e = absurd (cc)
-slice_get-each P (z ∷ xs) zero x each e = let same : z ≡ x = cc in subst P same each.0
 slice_get-each P (z ∷ xs) (suc i) x each e = slice_get-each P xs i x each.1 e
+slice_get-each P xs i x each e = grind (arith, nat_tests)
 
 -- an entry with number n is at index n - 1
 pub entry_at_place : (journal : List Entry) (n : ℕ) (entry : Entry) → entry_at journal n ≡ Some entry → (n ≢ 0) × (slice_get journal (n - 1) ≡ Some entry)
-entry_at_place journal n entry e =
-    elim (n == 0) as (λ b. (n == 0) ≡ b → cond b None (slice_get journal (n - 1)) ≡ Some entry → (n ≢ 0) × (slice_get journal (n - 1) ≡ Some entry)) [
-      | true ↦ λ z h. absurd (cc)
-      | false ↦ λ z h. (eqb-false n 0 z, h)
-    ] refl e
+entry_at_place journal n entry e = grind (arith, nat_tests)

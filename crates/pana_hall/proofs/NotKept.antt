@@ -16,7 +16,7 @@ use Rattle.pana_hall.specs.Pending.{pending, last, behind, is_last}
 use Rattle.pana_hall.specs.Refusal.{against, report_refusal, full, unknown_entry, not_yours, settled, settled_or_followed, taken_since, first, pending_with, unknown, other_family, unknown_family, query_refusal, refusal}
 use Rattle.pana_hall.specs.Accepted.{Accepts, AcceptsAll, IsAccepted}
 use Rattle.pana_hall.proofs.Lists.{any_push, last_push, is_last-push}
-use Rattle.pana_hall.proofs.Sound.{first_none, none_false, IsSound, keeps_families, family_named, sound_grows, empty_is_sound, OfCopies, Confirms, Withdraws, kind_of, pend_copies, withdraw_free, left_by, pends_by}
+use Rattle.pana_hall.proofs.Sound.{none_against, none_false, IsSound, keeps_families, family_named, sound_grows, empty_is_sound, OfCopies, Confirms, Withdraws, kind_of, pend_copies, withdraw_free, left_by, pends_by}
 use Rattle.pana_hall.proofs.Tables.{last_none}
 use Rattle.std.specs.List.{AllByRecursion}
 use Rattle.pana_hall.specs.declared.call.Query.{Query}
@@ -56,7 +56,7 @@ not_refused b cause is = ap (λ t. then_some (not t) cause) is
 refuses_no_more : (k : ℕ) (journal : List Entry) (by : List ℕ) (report : Report) → EndsEach (k + 1) journal
     → report_refusal 1 journal (living journal) by report ≡ None → report_refusal (k + 1) journal (living journal) by report ≡ None
 refuses_no_more k journal by (Confirm m) ends free =
-    let none = (first_none (settled 1 m journal) [] (first_none (not_yours by m journal) _ (first_none (unknown_entry m journal) _ (first_none (full journal) _ free).1).1).1).0 in
+    let none = (none_against 1 journal (living journal) by (Confirm m) free).1.1.1.0 in
     let none' : settled (k + 1) m journal ≡ None = not_refused _ Settled (has-long m (pending_with 1 m journal) (pending_with (k + 1) m journal) (ends (families journal m)) (not-false _ (none_false _ _ none))) in
     ap (λ s. first (full journal ∷ unknown_entry m journal ∷ not_yours by m journal ∷ s ∷ [])) (none' ∙ sym none) ∙ free
 refuses_no_more k journal by (Withdraw m) ends free =

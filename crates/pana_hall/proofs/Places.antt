@@ -1,34 +1,34 @@
 -- Where the copies are kept, as entries come and are withdrawn.
-use Rattle.std.specs.Prelude.{◌≡◌, ◌≢◌, ℕ, not, ◌==◌, List, [], ◌∷◌, ◌++◌, length, filter, Some, None, option_and_then, ◌+◌, ◌<◌, Bool, true, false, cond, fold, Option, option_map, ◌&&◌, find, map}
+use Rattle.std.specs.Prelude.{◌≡◌, ◌≢◌, ℕ, not, ◌==◌, List, [], ◌∷◌, ◌++◌, length, filter, Some, None, option_and_then, ◌+◌, ◌<◌, Bool, true, false, cond, fold, Option, option_map, find, map}
 use Rattle.std.specs.List.{AllByRecursion}
-use Rattle.std.proofs.Common.{refl, sym, ap, ◌∙◌, subst, inl, inr, arith, append-nil}
+use Rattle.std.proofs.Common.{refl, sym, ap, ◌∙◌, inl, inr, arith, append-nil}
 use Rattle.std.proofs.Math.Bool.{or-false}
 use Rattle.std.proofs.lemmas.List.Elements.{filter_agree}
-use Rattle.pana_journal.specs.declared.report.Report.TheVariants.{Withdraw, Register, Duplicate, Edit, Reconcile, Merge, Relocate, Remove, Confirm}
+use Rattle.pana_journal.specs.declared.report.Report.TheVariants.{Withdraw, Register, Duplicate, Relocate, Remove, Confirm}
 use Rattle.pana_journal.specs.declared.entry.Entry.{Entry}
 use Rattle.pana_hall.specs.Family.{families, entries_of}
 use Rattle.pana_hall.specs.Effective.{effective, left_out, is_of_copies}
-use Rattle.pana_hall.specs.Living.{Copy, copy_in, copies_of, living, after_report, known_to, after_entry, registered, duplicated, edited, moved, with_updates}
+use Rattle.pana_hall.specs.Living.{Copy, new_copy, made, comes, copy_in, copies_of, living, after_report, after_entry}
 use Rattle.pana_hall.specs.Pending.{last}
-use Rattle.pana_hall.specs.Refusal.{brought_back, displaced, report_refusal, full, unknown, taken, taken_from}
+use Rattle.pana_hall.specs.Refusal.{brought_back, displaced, report_refusal, taken, taken_from}
 use Rattle.pana_hall.specs.Accepted.{IsAccepted, Accepts}
 use Rattle.pana_hall.specs.laws.Tables.{table, layer}
 use Rattle.pana_hall.proofs.Lists.{each_filter, filter_swap, last_push, each_weaker, each_two}
-use Rattle.pana_hall.proofs.Moves.{displaced_named, found_number, IsWell, found_fits, copies_fit, copies_of-family, copies_of-push, copy_in-family, AreBelow, Same, at_copy, unite, stays, comes, stays_same, new_number, each_after, if_some, none_below, found_push, found_after, Fits}
-use Rattle.pana_hall.proofs.Sound.{own, own_other, effective-withdraw, IsSound, accepted_is_sound, effective_well, effective-copies, living_fit, effective-confirm, first_none, free_place, in_accepted, OfCopies, Confirms, Withdraws, kind_of}
+use Rattle.pana_hall.proofs.Moves.{displaced_named, found_number, IsWell, found_fits, copies_fit, copies_of-family, copies_of-push, copy_in-family, AreBelow, made_same, new_number, each_after, if_some, none_below, found_push, found_after, Fits}
+use Rattle.pana_hall.proofs.Sound.{own, own_other, effective-withdraw, IsSound, accepted_is_sound, effective_well, effective-copies, living_fit, effective-confirm, free_place, in_accepted, OfCopies, Confirms, Withdraws, kind_of}
 use Rattle.pana_hall.proofs.Tables.{EndsIn, all_but_last, last_none, layer_now, table_own, open_withdraw, living_rises}
 use Rattle.pana_hall.proofs.Knowns.{layer_founded}
 use Rattle.std.specs.Option.{option_to_list}
-use Rattle.std.proofs.lemmas.Bool.{eqb-true, eqb-false, eq-eqb, ne_eqb, cases_eq}
+use Rattle.std.proofs.lemmas.Bool.{eqb-true, cases_eq}
 use Rattle.pana_copies.specs.Spots.{Spot, placed}
 use Rattle.pana_journal.specs.declared.report.Report.{Report}
-use Rattle.pana_family.specs.Updates.{union}
+use Rattle.pana_family.proofs.Images.{made_itself}
 use Rattle.pana_hall.specs.inner.Spots.{spot_of, spot_in, mover, spot_to, put, spot_after}
 use Rattle.std.specs.Str.{bytes_eq}
 use Rattle.std.proofs.lemmas.Slice.Eq.{bytes_eq-Decides}
+use Rattle.std.proofs.lemmas.Bool.Decides.{nat_tests}
 use Rattle.pana_copies.specs.declared.place.Place.{Place}
 use Rattle.pana_copies.specs.Places.{same_place}
-use Rattle.pana_hall.specs.declared.cause.Cause.TheVariants.{PlaceTaken}
 use Rattle.pana_hall.specs.laws.Layers.{AreApart, AreRising}
 use Rattle.pana_hall.specs.declared.holding.Holding.{Holding}
 use Rattle.pana_hall.specs.Holdings.{HaveOwnPaths}
@@ -41,12 +41,12 @@ left_out_one m entries = filter_agree _ _ (λ e. ap not (or-false (m == e.number
 
 -- what a Withdraw leaves
 pub living_withdrawn : (journal : List Entry) (entry : Entry) (m : ℕ) → entry.report ≡ Withdraw m → living (journal ++ entry ∷ []) ≡ copies_of (left_out (m ∷ []) (effective journal))
-living_withdrawn journal entry m is = ap copies_of (effective-withdraw journal entry m is ∙ sym (left_out_one m (effective journal)))
+living_withdrawn journal entry m is = grind (arith, nat_tests, effective-withdraw, left_out_one)
 
 -- a copy is found among those of its family's entries
 found_own : (of : ℕ → ℕ) (last a : ℕ) (entries : List Entry) → AllByRecursion (IsWell of last) entries → copy_in (copies_of entries) a ≡ copy_in (copies_of (entries_of (of a) of entries)) a
 found_own of last a entries well =
-    sym (copy_in-family of last (of a) a (copies_of entries) (copies_fit of last entries well) refl)
+    sym (grind (arith, nat_tests, copy_in-family, copies_fit))
     ∙ ap (λ l. copy_in l a) (copies_of-family of last (of a) entries well)
 
 module _ {most m : ℕ} {journal : List Entry} (sound : IsSound most journal) (ends : EndsIn most m journal) where
@@ -97,9 +97,9 @@ module _ {most m : ℕ} {journal : List Entry} (sound : IsSound most journal) (e
       ap (option_and_then (λ x. option_and_then (copy_in (copies_of (left_out (m ∷ []) (effective journal)))) (displaced x.report))) ends.at
       ∙ ap (option_and_then (copy_in (copies_of (left_out (m ∷ []) (effective journal))))) none
 
-  pub back_number : (back : Copy) → brought_back m journal ≡ Some back → displaced ends.last.report ≡ Some back.number
+  pub back_number : (back : Copy) → brought_back m journal ≡ Some back → displaced ends.last.report ≡ Some back.known.copy
   back_number back is =
-      elim (displaced ends.last.report) as (λ d. displaced ends.last.report ≡ d → d ≡ Some back.number) [
+      elim (displaced ends.last.report) as (λ d. displaced ends.last.report ≡ d → d ≡ Some back.known.copy) [
         | None ↦ λ e. let none = back_none e in absurd (cc)
         | Some c ↦ λ e. ap (λ k. Some k) (sym (found_number (copies_of ends.entries) c back (sym (back_before c e) ∙ is)))
       ] refl
@@ -112,7 +112,7 @@ module _ {most m : ℕ} {journal : List Entry} (sound : IsSound most journal) (e
 pub record Back (journal : List Entry) (m c : ℕ) (entries : List Entry) : Type 0 where
   pub copy : Copy
   pub is : brought_back m journal ≡ Some copy
-  pub number : copy.number ≡ c
+  pub number : copy.known.copy ≡ c
   pub found : copy_in (copies_of entries) c ≡ Some copy
   pub family : copy.family ≡ families journal m
 
@@ -128,40 +128,18 @@ back_at journal m c accepted ends moves =
 
 -- Where the copies are kept, as entries come and are withdrawn.
 
-still_at : (c : ℕ) (f : Copy → Copy) → ((x : Copy) → spot_of (f x) ≡ spot_of x) → (x : Copy) → spot_of (at_copy c f x) ≡ spot_of x
-still_at c f still x = elim (x.number == c) as (λ b. spot_of (cond b (f x) x) ≡ spot_of x) [ true ↦ still x | false ↦ refl ]
-
-still_united : (n a b : ℕ) (both : List ℕ) (x : Copy) → spot_of (unite n a b both x) ≡ spot_of x
-still_united n a b both x = still_at b (with_updates n both) (λ z. refl) (at_copy a (with_updates n both) x) ∙ still_at a (with_updates n both) (λ z. refl) x
-
 -- a copy that the report doesn't move or remove stays where it is kept
-still : (n : ℕ) (report : Report) (copies : List Copy) (x : Copy) → (displaced report ≡ Some x.number → ⊥) → option_map spot_of (stays n report copies x) ≡ Some (spot_of x)
-still n (Edit c) copies x other = ap (λ s. Some s) (still_at c (edited n) (λ z. refl) x)
-still n (Reconcile a b) copies x other = ap (λ s. Some s) (still_united n a b (union (known_to copies a) (known_to copies b)) x)
-still n (Merge a b) copies x other = ap (λ s. Some s) (still_united n a b (union (n ∷ known_to copies a) (known_to copies b)) x)
-still n (Relocate c place) copies x other = ap (λ b. Some (spot_of (cond b (moved n place x) x))) (ne_eqb x.number c (λ h. other (ap (λ k. Some k) (sym h))))
-still n (Remove c heir) copies x other = ap (λ b. option_map spot_of (cond b None (Some x))) (ne_eqb x.number c (λ h. other (ap (λ k. Some k) (sym h))))
-still n report copies x other = refl
+still : (n : ℕ) (report : Report) (copies : List Copy) (x : Copy) → (displaced report ≡ Some x.known.copy → ⊥) → option_map spot_of (made n report copies x) ≡ Some (spot_of x)
+still n report copies x other = grind (arith, nat_tests)
 
 spot_still : (n : ℕ) (report : Report) (copies : List Copy) (a : ℕ) → comes n report copies ≡ None → (displaced report ≡ Some a → ⊥) → spot_in (after_report n report copies) a ≡ spot_in copies a
-spot_still n report copies a none other =
-    ap (option_map spot_of) (found_after n report copies a none)
-    ∙ elim (copy_in copies a) as (λ o. copy_in copies a ≡ o → option_map spot_of (option_and_then (stays n report copies) o) ≡ option_map spot_of o) [
-      | None ↦ λ f. refl
-      | Some x ↦ λ f. still n report copies x (λ h. other (h ∙ ap (λ k. Some k) (found_number copies a x f)))
-    ] refl
+spot_still n report copies a none other = grind (arith, nat_tests, found_after, still, found_number)
 
 -- one that it moves or removes is kept where it goes
 spot_gone : (n : ℕ) (report : Report) (copies : List Copy) (c : ℕ) (to : Option Spot) → comes n report copies ≡ None → displaced report ≡ Some c
-    → ((x : Copy) → copy_in copies c ≡ Some x → option_map spot_of (stays n report copies x) ≡ to) → (copy_in copies c ≡ None → None ≡ to)
+    → ((x : Copy) → copy_in copies c ≡ Some x → option_map spot_of (made n report copies x) ≡ to) → (copy_in copies c ≡ None → None ≡ to)
     → (a : ℕ) → spot_in (after_report n report copies) a ≡ cond (a == c) to (spot_in copies a)
-spot_gone n report copies c to none moves goes nothing a =
-    elim (a == c) as (λ b. (a == c) ≡ b → spot_in (after_report n report copies) a ≡ cond b to (spot_in copies a)) [
-      | true ↦ λ e.
-          ap (spot_in (after_report n report copies)) (eqb-true a c e) ∙ ap (option_map spot_of) (found_after n report copies c none)
-          ∙ elim (copy_in copies c) as (λ o. copy_in copies c ≡ o → option_map spot_of (option_and_then (stays n report copies) o) ≡ to) [ None ↦ nothing | Some x ↦ goes x ] refl
-      | false ↦ λ e. spot_still n report copies a none (λ h. eqb-false a c e (let both : Some c ≡ Some a = sym moves ∙ h in cc))
-    ] refl
+spot_gone n report copies c to none moves goes nothing a = grind (arith, nat_tests, found_after, spot_still)
 
 cond_map : {X Y : Type 0} (f : X → Y) (b : Bool) (x y : X) → f (cond b x y) ≡ cond b (f x) (f y)
 cond_map f true x y = refl
@@ -169,46 +147,40 @@ cond_map f false x y = refl
 
 -- what a report of copies changes, the next number being above all others
 pub spots_report : (n : ℕ) (report : Report) (copies : List Copy) → AreBelow n copies → (a : ℕ) → spot_in (after_report n report copies) a ≡ spot_after n report (spot_in copies) a
-spots_report n (Register place) copies below a = ap (option_map spot_of) (found_push copies (registered n place) a below) ∙ cond_map (option_map spot_of) (a == n) _ _
+spots_report n (Register place) copies below a =
+    ap (λ l. spot_in (l ++ new_copy n n [] place ∷ []) a) (made_itself copies) ∙ ap (option_map spot_of) (found_push copies (new_copy n n [] place) a below) ∙ cond_map (option_map spot_of) (a == n) _ _
 spots_report n (Duplicate source place) copies below a =
-    elim (copy_in copies source) as (λ o. spot_in (copies ++ option_to_list (option_map (duplicated n place) o)) a ≡ cond (a == n) (placed place (option_map spot_of o)) (spot_in copies a)) [
+    ap (λ l. spot_in (l ++ option_to_list (comes n (Duplicate source place) copies)) a) (made_itself copies)
+    ∙ elim (copy_in copies source) as (λ o. spot_in (copies ++ option_to_list (option_map (λ c. new_copy n c.family c.known.set place) o)) a ≡ cond (a == n) (placed place (option_map spot_of o)) (spot_in copies a)) [
       | None ↦ ap (λ l. spot_in l a) (append-nil copies)
           ∙ elim (a == n) as (λ b. (a == n) ≡ b → spot_in copies a ≡ cond b None (spot_in copies a)) [
-            | true ↦ λ e. ap (spot_in copies) (eqb-true a n e) ∙ ap (option_map spot_of) (none_below n copies below)
+            | true ↦ λ e. grind (arith, nat_tests, none_below)
             | false ↦ λ e. refl
           ] refl
-      | Some c ↦ ap (option_map spot_of) (found_push copies (duplicated n place c) a below) ∙ cond_map (option_map spot_of) (a == n) _ _
+      | Some c ↦ grind (arith, nat_tests, found_push, cond_map)
     ]
 spots_report n (Relocate c place) copies below a =
     spot_gone n (Relocate c place) copies c (placed place (spot_in copies c)) refl refl
-    (λ x f. ap (λ b. Some (spot_of (cond b (moved n place x) x))) (eq-eqb x.number c (found_number copies c x f)) ∙ ap (λ o. placed place (option_map spot_of o)) (sym f))
+    (λ x f. grind (arith, nat_tests, found_number))
     (λ f. ap (λ o. placed place (option_map spot_of o)) (sym f)) a
 spots_report n (Remove c heir) copies below a =
-    spot_gone n (Remove c heir) copies c None refl refl (λ x f. ap (λ b. option_map spot_of (cond b None (Some x))) (eq-eqb x.number c (found_number copies c x f))) (λ f. refl) a
+    spot_gone n (Remove c heir) copies c None refl refl (λ x f. grind (arith, nat_tests, found_number)) (λ f. refl) a
 spots_report n report copies below a = spot_still n report copies a refl (λ h. absurd (cc))
 
 -- what undoing it brings back: what was there at the number that it changed
 undone_at : (n : ℕ) (report : Report) (copies : List Copy) (back : Option Copy) → AreBelow n copies → ((c : ℕ) → displaced report ≡ Some c → back ≡ copy_in copies c) → (displaced report ≡ None → back ≡ None)
     → (k : ℕ) → mover n report ≡ Some k → option_map spot_of back ≡ spot_in copies k
-undone_at n (Register place) copies back below is none k at = let same : n ≡ k = cc in ap (option_map spot_of) (none refl ∙ sym (none_below n copies below)) ∙ ap (spot_in copies) same
-undone_at n (Duplicate source place) copies back below is none k at = let same : n ≡ k = cc in ap (option_map spot_of) (none refl ∙ sym (none_below n copies below)) ∙ ap (spot_in copies) same
+undone_at n (Register place) copies back below is none k at = grind (arith, nat_tests, none_below)
+undone_at n (Duplicate source place) copies back below is none k at = grind (arith, nat_tests, none_below)
 undone_at n report copies back below is none k at = ap (option_map spot_of) (is k at)
 
 put_back : (o : Option ℕ) (new back : Option Spot) (spots after : ℕ → Option Spot) (a : ℕ) → ((k : ℕ) → o ≡ Some k → back ≡ spots k) → after a ≡ put o new spots a → spots a ≡ put o back after a
 put_back None new back spots after a is e = sym e
-put_back (Some k) new back spots after a is e =
-    elim (a == k) as (λ b. (a == k) ≡ b → after a ≡ cond b new (spots a) → spots a ≡ cond b back (after a)) [
-      | true ↦ λ same h. ap spots (eqb-true a k same) ∙ sym (is k refl)
-      | false ↦ λ same h. sym h
-    ] refl e
+put_back (Some k) new back spots after a is e = grind (arith, nat_tests)
 
 pub put_same : (o : Option ℕ) (back other : Option Spot) (spots others : ℕ → Option Spot) (a : ℕ) → back ≡ other → spots a ≡ others a → put o back spots a ≡ put o other others a
 put_same None back other spots others a same e = e
 put_same (Some k) back other spots others a same e = ap (λ s. cond (a == k) s (spots a)) same ∙ ap (λ s. cond (a == k) other s) e
-
-put_other : (o : Option ℕ) (back : Option Spot) (spots : ℕ → Option Spot) (a : ℕ) → (o ≡ Some a → ⊥) → put o back spots a ≡ spots a
-put_other None back spots a other = refl
-put_other (Some k) back spots a other = ap (λ b. cond b back (spots a)) (ne_eqb a k (λ h. other (ap (λ i. Some i) (sym h))))
 
 pub living_below : (most n : ℕ) (journal : List Entry) → IsSound most journal → n ≡ length journal + 1 → AreBelow n (living journal)
 living_below most n journal sound next =
@@ -218,7 +190,7 @@ living_below most n journal sound next =
 pub spots_next : (most : ℕ) (journal : List Entry) (entry : Entry) → IsSound most journal → Accepts most journal entry → is_of_copies entry.report ≡ true
     → (a : ℕ) → spot_in (living (journal ++ entry ∷ [])) a ≡ spot_after entry.number entry.report (spot_in (living journal)) a
 spots_next most journal entry sound accepts is a =
-    let more : living (journal ++ entry ∷ []) ≡ after_entry (living journal) entry = ap copies_of (effective-copies journal entry is) ∙ copies_of-push (effective journal) entry in
+    let more : living (journal ++ entry ∷ []) ≡ after_entry (living journal) entry = grind (arith, nat_tests, effective-copies, copies_of-push) in
     ap (λ l. spot_in l a) more ∙ spots_report entry.number entry.report (living journal) (living_below most entry.number journal sound accepts.next) a
 
 -- the copies of entries below a number are below it
@@ -226,17 +198,11 @@ below_fold : (m : ℕ) (copies : List Copy) (entries : List Entry) → AllByRecu
 below_fold m copies [] numbers below = below
 below_fold m copies (e ∷ entries) numbers below =
     below_fold m (after_entry copies e) entries numbers.1
-    (each_after (λ c. c.number < m) e.number e.report copies (λ x h. if_some (Same x) (λ y. y.number < m) (stays e.number e.report copies x) (λ y is. subst (λ k. k < m) (sym is.number) h) (stays_same e.number e.report copies x))
-    (if_some (λ y. y.number ≡ e.number) (λ y. y.number < m) (comes e.number e.report copies) (λ y is. subst (λ k. k < m) (sym is) numbers.0) (new_number e.number e.report copies)) below)
+    (grind (arith, nat_tests, each_after, if_some, made_same, new_number))
 
 pub copies_below : (m : ℕ) (entries : List Entry) → AllByRecursion (λ e. e.number < m) entries → AreBelow m (copies_of entries)
 unfolding copies_of
 copies_below m entries numbers = below_fold m [] entries numbers tt
-
-mover_of : (of : ℕ → ℕ) (n : ℕ) (report : Report) → ((c : ℕ) → displaced report ≡ Some c → of c ≡ of n) → (a : ℕ) → mover n report ≡ Some a → of a ≡ of n
-mover_of of n (Register place) its a at = let same : n ≡ a = cc in ap of (sym same)
-mover_of of n (Duplicate source place) its a at = let same : n ≡ a = cc in ap of (sym same)
-mover_of of n report its a at = its a at
 
 -- where copies are kept after a Withdraw
 pub spots_withdrawn : (most m : ℕ) (journal : List Entry) (entry : Entry) → IsSound most journal → entry.report ≡ Withdraw m → (ends : EndsIn most m journal)
@@ -256,16 +222,13 @@ spots_withdrawn most m journal entry sound is ends a =
           ∙ put_same (mover m report) (option_map spot_of back) (option_map spot_of back) (spot_in (after_report m report before)) (spot_in (living journal)) a refl (ap (option_map spot_of) (sym (now_here sound ends a here)))
       | inr other ↦
           ap (option_map spot_of) (left_other sound ends a other)
-          ∙ sym (put_other (mover m report) (option_map spot_of back) (spot_in (living journal)) a (λ h. other (mover_of of m report (displaced_of sound ends) a h)))
+          ∙ sym (grind (arith, nat_tests))
     ]
 
 -- No two living copies are kept at one place, also where entries are withdrawn.
 
 pub same_place-itself : (place : Place) → same_place place place ≡ true
-same_place-itself place =
-    let device : bytes_eq place.device place.device ≡ true = (bytes_eq-Decides place.device place.device).1 refl in
-    let path : bytes_eq place.path place.path ≡ true = (bytes_eq-Decides place.path place.path).1 refl in
-    rw (device, path) refl
+same_place-itself place = grind (arith, nat_tests, bytes_eq-Decides)
 
 -- where no copy passes the test, none that passes it is found
 pub none_passes : (p : Copy → Bool) (copies : List Copy) (a : ℕ) (copy : Copy) → find p copies ≡ None → copy_in copies a ≡ Some copy → p copy ≡ false
@@ -273,7 +236,7 @@ none_passes p [] a copy none found = absurd (cc)
 none_passes p (c ∷ copies) a copy none found =
     elim (p c) as (λ b. p c ≡ b → cond b (Some c) (find p copies) ≡ None → p copy ≡ false) [
       | true ↦ λ e h. absurd (cc)
-      | false ↦ λ e h. elim (c.number == a) as (λ b. cond b (Some c) (copy_in copies a) ≡ Some copy → p copy ≡ false) [
+      | false ↦ λ e h. elim (c.known.copy == a) as (λ b. cond b (Some c) (copy_in copies a) ≡ Some copy → p copy ≡ false) [
         | true ↦ λ f. let same : c ≡ copy = cc in ap p (sym same) ∙ e
         | false ↦ λ f. none_passes p copies a copy h f
       ] found
@@ -281,24 +244,11 @@ none_passes p (c ∷ copies) a copy none found =
 
 -- a place that isn't taken has no copy
 pub free_of : (place : Place) (copies : List Copy) (a : ℕ) (copy : Copy) → taken place copies ≡ None → copy_in copies a ≡ Some copy → copy.place ≡ place → ⊥
-free_of place copies a copy free found here =
-    let no : same_place copy.place place ≡ false = none_passes (λ c. same_place c.place place) copies a copy (free_place place copies free) found in
-    let yes : same_place copy.place place ≡ true = ap (λ p. same_place p place) here ∙ same_place-itself place in
-    absurd (cc)
+free_of place copies a copy free found here = grind (arith, nat_tests, none_passes, free_place, same_place-itself)
 
 -- and one that isn't taken from a copy has no other one
-pub not_taken : (back : Copy) (copies : List Copy) (a : ℕ) (copy : Copy) → taken_from back copies ≡ None → copy_in copies a ≡ Some copy → copy.place ≡ back.place → a ≡ back.number
-not_taken back copies a copy free found here =
-    let test : Copy → Bool = λ other. not (other.number == back.number) && same_place other.place back.place in
-    let none : find test copies ≡ None =
-    elim (find test copies) as (λ o. option_map (λ other. PlaceTaken other.number) o ≡ None → o ≡ None) [ None ↦ λ n. refl | Some other ↦ λ n. absurd (cc) ] free in
-    let no : test copy ≡ false = none_passes test copies a copy none found in
-    let yes : same_place copy.place back.place ≡ true = ap (λ p. same_place p back.place) here ∙ same_place-itself back.place in
-    sym (found_number copies a copy found)
-    ∙ elim (copy.number == back.number) as (λ b. (copy.number == back.number) ≡ b → (not b && same_place copy.place back.place) ≡ false → copy.number ≡ back.number) [
-      | true ↦ λ e n. eqb-true copy.number back.number e
-      | false ↦ λ e n. let odd : same_place copy.place back.place ≡ false = n in absurd (cc)
-    ] refl no
+pub not_taken : (back : Copy) (copies : List Copy) (a : ℕ) (copy : Copy) → taken_from back copies ≡ None → copy_in copies a ≡ Some copy → copy.place ≡ back.place → a ≡ back.known.copy
+not_taken back copies a copy free found here = grind (arith, nat_tests, none_passes, same_place-itself, found_number)
 
 -- no two copies are kept at one place
 abbrev OwnPlaces : (ℕ → Option Spot) → Type 0
@@ -324,32 +274,15 @@ put_own (Some k) new spots own free a b s t at at' one =
     ] refl at
 
 spot_copy : (copies : List Copy) (a : ℕ) (s : Spot) → spot_in copies a ≡ Some s → (copy : Copy) × (copy_in copies a ≡ Some copy) × (copy.place ≡ s.place)
-spot_copy copies a s at =
-    elim (copy_in copies a) as (λ o. option_map spot_of o ≡ Some s → (copy : Copy) × (o ≡ Some copy) × (copy.place ≡ s.place)) [
-      | None ↦ λ e. absurd (cc)
-      | Some copy ↦ λ e. let same : spot_of copy ≡ s = cc in (copy, refl, ap (λ x. x.place) same)
-    ] at
-
-place_to : (place : Place) (spot : Option Spot) (s : Spot) → placed place spot ≡ Some s → s.place ≡ place
-place_to place None s e = absurd (cc)
-place_to place (Some from) s e = let same : record { family = from.family; place = place } ≡ s = cc in ap (λ x. x.place) (sym same)
+spot_copy copies a s at = grind (arith, nat_tests)
 
 -- a place that a report isn't refused is one that isn't taken
 place_free : (most n : ℕ) (journal : List Entry) (copies : List Copy) (by : List ℕ) (report : Report) (s : Spot) → report_refusal most journal copies by report ≡ None
     → spot_to n report (spot_in copies) ≡ Some s → taken s.place copies ≡ None
-place_free most n journal copies by (Register place) s free to =
-    let same : record { family = n; place = place } ≡ s = cc in
-    ap (λ (x : Spot). taken x.place copies) (sym same) ∙ (first_none (taken place copies) [] (first_none (full journal) _ free).1).0
-place_free most n journal copies by (Duplicate source place) s free to =
-    ap (λ p. taken p copies) (place_to place (spot_in copies source) s to) ∙ (first_none (taken place copies) _ (first_none (unknown source copies) _ (first_none (full journal) _ free).1).1).0
-place_free most n journal copies by (Relocate c place) s free to =
-    ap (λ p. taken p copies) (place_to place (spot_in copies c) s to) ∙ (first_none (taken place copies) [] (first_none (unknown c copies) _ (first_none (full journal) _ free).1).1).0
-place_free most n journal copies by report s free to = absurd (cc)
+place_free most n journal copies by report s free to = grind (arith, nat_tests)
 
 mover_displaced : (n : ℕ) (report : Report) (c : ℕ) → displaced report ≡ Some c → mover n report ≡ Some c
-mover_displaced n (Register place) c e = absurd (cc)
-mover_displaced n (Duplicate source place) c e = absurd (cc)
-mover_displaced n report c e = e
+mover_displaced n report c e = grind (arith, nat_tests)
 
 -- a Confirm leaves the living copies
 pub living_confirmed : (journal : List Entry) (entry : Entry) (m : ℕ) → entry.report ≡ Confirm m → living (journal ++ entry ∷ []) ≡ living journal
@@ -360,12 +293,7 @@ own_grows : (most : ℕ) (journal : List Entry) (entry : Entry) → IsSound most
 own_grows most journal entry sound accepts own =
     let now = living journal in
     elim (kind_of entry.report) [
-      | OfCopies is ↦
-          same_own _ _ (spots_next most journal entry sound accepts is)
-          (put_own (mover entry.number entry.report) (spot_to entry.number entry.report (spot_in now)) (spot_in now) own
-          (λ k at s to b t there one.
-          let copy = spot_copy now b t there in
-          absurd (free_of s.place now b copy.0 (place_free most entry.number journal now entry.by entry.report s accepts.free to) copy.1 (copy.2 ∙ one))))
+      | OfCopies is ↦ grind (arith, nat_tests, same_own, spots_next, put_own, own, spot_copy, free_of, place_free)
       | Confirms m is ↦ same_own _ _ (λ a. ap (λ l. spot_in l a) (living_confirmed journal entry m is)) own
       | Withdraws m is ↦
           let o = open_withdraw most m journal entry.by entry.report sound is accepts.free in
@@ -377,7 +305,7 @@ own_grows most journal entry sound accepts own =
             | Some back ↦ λ e f g.
                 let same : spot_of back ≡ s = cc in
                 let copy = spot_copy now b t there in
-                let both : Some k ≡ Some back.number = sym at ∙ mover_displaced m ends.last.report back.number (back_number sound ends back e) in
+                let both : Some k ≡ Some back.known.copy = sym at ∙ mover_displaced m ends.last.report back.known.copy (back_number sound ends back e) in
                 not_taken back now b copy.0 g copy.1 (copy.2 ∙ one ∙ ap (λ (x : Spot). x.place) (sym same)) ∙ (cc)
           ] refl to o.free))
     ]
@@ -387,29 +315,24 @@ unfolding copies_of
 none_own = λ a b s t at at' one. absurd (cc)
 
 -- copies by rising number are found under their numbers
-each_found : (low : ℕ) (copies : List Copy) → AreRising (λ c. c.number) low copies → AllByRecursion (λ c. (low < c.number) × (copy_in copies c.number ≡ Some c)) copies
+each_found : (low : ℕ) (copies : List Copy) → AreRising (λ c. c.known.copy) low copies → AllByRecursion (λ c. (low < c.known.copy) × (copy_in copies c.known.copy ≡ Some c)) copies
 each_found low [] rises = tt
-each_found low (c ∷ copies) rises =
-    let first = rises.0 in (
-      (first, ap (λ b. cond b (Some c) (copy_in copies c.number)) (eq-eqb c.number c.number refl)),
-      each_weaker (λ x. (c.number < x.number) × (copy_in copies x.number ≡ Some x)) _ copies
-          (λ x h. let above = h.0 in (omega arith, ap (λ b. cond b (Some c) (copy_in copies x.number)) (ne_eqb c.number x.number (λ e. omega arith)) ∙ h.1)) (each_found c.number copies rises.1),
-    )
+each_found low (c ∷ copies) rises = grind (arith, nat_tests, each_found c.known.copy copies rises.1, each_weaker)
 
-apart_in : (low : ℕ) (all copies : List Copy) → OwnPlaces (spot_in all) → AreRising (λ c. c.number) low copies → AllByRecursion (λ c. copy_in all c.number ≡ Some c) copies → AreApart copies
+apart_in : (low : ℕ) (all copies : List Copy) → OwnPlaces (spot_in all) → AreRising (λ c. c.known.copy) low copies → AllByRecursion (λ c. copy_in all c.known.copy ≡ Some c) copies → AreApart copies
 apart_in low all [] own rises found = tt
 apart_in low all (c ∷ copies) own rises found = (
-  each_two (λ x. (c.number < x.number) × (copy_in copies x.number ≡ Some x)) (λ x. copy_in all x.number ≡ Some x) (λ x. c.place ≢ x.place) copies
+  each_two (λ x. (c.known.copy < x.known.copy) × (copy_in copies x.known.copy ≡ Some x)) (λ x. copy_in all x.known.copy ≡ Some x) (λ x. c.place ≢ x.place) copies
       (λ x h f one.
       let above = h.0 in
-      let same : c.number ≡ x.number = own c.number x.number (spot_of c) (spot_of x) (ap (option_map spot_of) found.0) (ap (option_map spot_of) f) one in
-      absurd (omega arith)) (each_found c.number copies rises.1) found.1,
-  apart_in c.number all copies own rises.1 found.1,
+      let same : c.known.copy ≡ x.known.copy = own c.known.copy x.known.copy (spot_of c) (spot_of x) (ap (option_map spot_of) found.0) (ap (option_map spot_of) f) one in
+      absurd (omega arith)) (each_found c.known.copy copies rises.1) found.1,
+  apart_in c.known.copy all copies own rises.1 found.1,
 )
 
-pub living_found : (most : ℕ) (journal : List Entry) → IsAccepted most journal → AllByRecursion (λ c. copy_in (living journal) c.number ≡ Some c) (living journal)
+pub living_found : (most : ℕ) (journal : List Entry) → IsAccepted most journal → AllByRecursion (λ c. copy_in (living journal) c.known.copy ≡ Some c) (living journal)
 living_found most journal accepted =
-    each_weaker (λ c. (0 < c.number) × (copy_in (living journal) c.number ≡ Some c)) _ (living journal) (λ c h. h.1) (each_found 0 (living journal) (living_rises most journal (accepted_is_sound most journal accepted)))
+    each_weaker (λ c. (0 < c.known.copy) × (copy_in (living journal) c.known.copy ≡ Some c)) _ (living journal) (λ c h. h.1) (each_found 0 (living journal) (living_rises most journal (accepted_is_sound most journal accepted)))
 
 -- in each accepted journal no two living copies have one place
 pub accepted_is_apart : (most : ℕ) (journal : List Entry) → IsAccepted most journal → AreApart (living journal)
@@ -423,31 +346,22 @@ abbrev on_device : List ℕ → List Copy → List Copy
 on_device device copies = filter (λ copy. bytes_eq copy.place.device device) copies
 
 one_place : (p q : Place) → p.device ≡ q.device → p.path ≡ q.path → p ≡ q
-one_place p q device path = ap (λ d. record { device = d; path = p.path }) device ∙ ap (λ x. record { device = q.device; path = x }) path
+one_place p q device path = grind (arith, nat_tests)
 
 paths_apart : (place : Place) (device : List ℕ) (copies : List Copy) → place.device ≡ device
     → AllByRecursion (λ other. place ≢ other.place) copies → AllByRecursion (λ other. place.path ≢ other.path) (holdings copies device)
 paths_apart place device [] on apart = tt
-paths_apart place device (copy ∷ copies) on apart =
-    elim (bytes_eq copy.place.device device) as (λ b. bytes_eq copy.place.device device ≡ b
-    → AllByRecursion (λ other. place.path ≢ other.path) (map holding (cond b (copy ∷ on_device device copies) (on_device device copies)))) [
-      | true ↦ λ e. (
-        (λ same. apart.0 (one_place place copy.place (on ∙ sym ((bytes_eq-Decides copy.place.device device).0 e)) same)),
-        paths_apart place device copies on apart.1,
-      )
-      | false ↦ λ e. paths_apart place device copies on apart.1
-    ] refl
+paths_apart place device (copy ∷ copies) on apart = grind (arith, nat_tests, paths_apart place device copies on apart.1, one_place, bytes_eq-Decides)
 
 own_paths : (device : List ℕ) (copies : List Copy) → AreApart copies → HaveOwnPaths (holdings copies device)
 own_paths device [] apart = tt
 own_paths device (copy ∷ copies) apart =
     elim (bytes_eq copy.place.device device) as (λ b. bytes_eq copy.place.device device ≡ b
     → HaveOwnPaths (map holding (cond b (copy ∷ on_device device copies) (on_device device copies)))) [
-      | true ↦ λ e. (paths_apart copy.place device copies ((bytes_eq-Decides copy.place.device device).0 e) apart.0, own_paths device copies apart.1)
+      | true ↦ λ e. grind (arith, nat_tests, own_paths device copies apart.1, paths_apart, bytes_eq-Decides)
       | false ↦ λ e. own_paths device copies apart.1
     ] refl
 
 pub found_have_own_paths : (journal : List Entry) (copies : List Copy) (device : List ℕ) (found : List Holding)
     → IsAccepted 8 journal → copies ≡ living journal → found ≡ holdings copies device → HaveOwnPaths found
-found_have_own_paths journal copies device found accepted kept is =
-    subst HaveOwnPaths (sym is) (own_paths device copies (subst AreApart (sym kept) (accepted_is_apart 8 journal accepted)))
+found_have_own_paths journal copies device found accepted kept is = grind (arith, nat_tests, own_paths, accepted_is_apart)

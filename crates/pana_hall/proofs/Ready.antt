@@ -1,6 +1,6 @@
 -- What holds where nothing stands against a report, and what it leaves.
 use Rattle.std.specs.Prelude.{◌≡◌, ℕ, ◌+◌, List, length, Some, None, option_map, cond, [], ◌∷◌, ◌++◌, Option, is_some, option_and_then, true, false, take, IfSome, IsSome}
-use Rattle.std.proofs.Common.{refl, sym, ap, ◌∙◌, subst, inl, inr, reverse}
+use Rattle.std.proofs.Common.{refl, sym, ap, ◌∙◌, subst, inr, reverse}
 use Rattle.pana_copies.specs.declared.place.Place.{Place}
 use Rattle.pana_copies.specs.Spots.{Table, kept, place_of, Spot, placed}
 use Rattle.pana_journal.specs.declared.report.Report.{Report}
@@ -11,16 +11,15 @@ use Rattle.pana_family.specs.declared.report.FamilyReport.{FamilyReport}
 use Rattle.pana_hall.specs.Pending.{pending}
 use Rattle.pana_hall.specs.Family.{families, family_report, begun_or_joined, subject, is_register}
 use Rattle.pana_hall.specs.Living.{Copy, copy_in, copies_of, living}
-use Rattle.pana_hall.specs.Refusal.{report_refusal, taken, taken_from, brought_back, displaced, full, unknown}
+use Rattle.pana_hall.specs.Refusal.{report_refusal, taken, taken_from, brought_back, displaced}
 use Rattle.pana_hall.specs.Accepted.{Accepts}
 use Rattle.pana_hall.specs.laws.Tables.{layer}
-use Rattle.pana_hall.specs.laws.Tables as tables
 use Rattle.pana_hall.specs.laws.Layers.{family_of_next}
 use Rattle.pana_hall.specs.inner.Undo.{KeptRows, last_place, confirmed, kept_rows, reported_kept, undone, withdrawn}
 use Rattle.pana_hall.specs.inner.Spots.{spot_of, IsFree, spot_in, mover, spot_to, put, spot_after, undone_spot, CanUndo, IsFreeFor, CanPlace}
 use Rattle.pana_hall.specs.inner.Kept.{next_entry, AreSpots, IsReady, place_before, undone_of, of_pending, family_of as family_kept, of_each}
-use Rattle.pana_hall.proofs.Sound.{family_new, IsSound, accepted_is_sound, living_fit, LivesIn, found_family, named_report, first_none, family_named}
-use Rattle.pana_hall.proofs.Tables.{table_own, merged, Open, open_withdraw, layer_now, EndsIn}
+use Rattle.pana_hall.proofs.Sound.{family_new, IsSound, accepted_is_sound, living_fit, LivesIn, found_family, named_report, none_against, family_named}
+use Rattle.pana_hall.proofs.Tables.{own_copy, Open, open_withdraw, layer_now, EndsIn}
 use Rattle.pana_hall.proofs.Places.{free_of, living_below, Back, back_at, back_none, now_here, displaced_of, layer_before, copies_below, spots_report, spots_withdrawn, put_same, not_taken, living_confirmed, spots_next, back_before}
 use Rattle.pana_hall.proofs.Stood.{can_report, layers_stand, next_above, rows_changed}
 use Rattle.pana_hall.proofs.Moves.{Names, none_below, displaced_named, made_of, removed_named}
@@ -34,6 +33,8 @@ use Rattle.pana_hall.specs.Effective.{is_of_copies}
 use Rattle.pana_hall.specs.StampRows.{rows_of}
 use Rattle.pana_hall.proofs.Histories as kept_families
 use Rattle.std.proofs.lemmas.List.{reverse-append}
+use Rattle.std.proofs.Common.{arith}
+use Rattle.std.proofs.lemmas.Bool.Decides.{nat_tests}
 
 -- What holds where nothing stands against a report: of its family and of the table of copies.
 
@@ -46,20 +47,14 @@ accepts_next journal by report free = record { next = refl; free = free }
 
 -- where a copy is kept, by the table
 pub place_spots : (journal : List Entry) (copies : Table) → AreSpots journal copies → (c : ℕ) → place_of copies c ≡ option_map (λ copy. copy.place) (copy_in (living journal) c)
-place_spots journal copies spots c =
-    ap (option_map (λ spot. spot.place)) (spots c)
-    ∙ elim (copy_in (living journal) c) as (λ o. option_map (λ spot. spot.place) (option_map spot_of o) ≡ option_map (λ copy. copy.place) o) [ None ↦ refl | Some copy ↦ refl ]
+place_spots journal copies spots c = grind (arith, nat_tests)
 
 pub at_spots : (journal : List Entry) (copies : Table) → AreSpots journal copies → (c : ℕ) (place : Place) → place_of copies c ≡ Some place
     → (copy : Copy) × (copy_in (living journal) c ≡ Some copy) × (copy.place ≡ place)
-at_spots journal copies spots c place at =
-    elim (copy_in (living journal) c) as (λ o. option_map (λ copy. copy.place) o ≡ Some place → (copy : Copy) × (o ≡ Some copy) × (copy.place ≡ place)) [
-      | None ↦ λ e. absurd (cc)
-      | Some copy ↦ λ e. (copy, refl, cc)
-    ] (sym (place_spots journal copies spots c) ∙ at)
+at_spots journal copies spots c place at = grind (arith, nat_tests)
 
 pub free_spots : (journal : List Entry) (copies : Table) → AreSpots journal copies → (place : Place) → taken place (living journal) ≡ None → IsFree place copies
-free_spots journal copies spots place free number at = let there = at_spots journal copies spots number place at in free_of place (living journal) number there.0 free there.1 there.2
+free_spots journal copies spots place free number at = grind (arith, nat_tests, at_spots, free_of)
 
 module _ {journal : List Entry} {by : List ℕ} {report : Report} {it : KeptRows} {copies : Table} where
   -- and the report is this one
@@ -91,12 +86,6 @@ module _ {journal : List Entry} {by : List ℕ} {report : Report} {it : KeptRows
   is_fresh ready n is =
       ap (λ k. kept copies (k + 1)) is ∙ ready.spots (length journal + 1)
       ∙ ap (option_map spot_of) (none_below (length journal + 1) (living journal) (living_below 8 (length journal + 1) journal (accepted_is_sound 8 journal ready.accepted) refl))
-
-  -- the copies of the family's entries are its living ones
-  pub own_copy : IsReady journal by report it copies → (c : ℕ) → families journal c ≡ it.number → copy_in (copies_of (layer 8 0 it.number journal)) c ≡ copy_in (living journal) c
-  own_copy ready c of =
-      let sound = accepted_is_sound 8 journal ready.accepted in
-      ap (λ l. copy_in l c) (sym (table_own 8 0 it.number journal sound)) ∙ ap (λ f. copy_in (tables.table 8 0 f journal) c) (sym of) ∙ sym ((merged 8 journal sound).found c)
 
 -- What holds where a Withdraw isn't refused: how the entry can be undone.
 
@@ -201,7 +190,7 @@ module _ {journal : List Entry} {by : List ℕ} {m : ℕ} {it : KeptRows} {copie
 
 -- a report that is neither a Register nor of an entry is one of a family that has begun
 pub of_family : (report : Report) → is_register report ≡ false → is_of_copies report ≡ true → (of : FamilyReport) × (family_report report ≡ Some of)
-of_family report later is = elim (made_of report is) [ inl begins ↦ absurd (let begun : is_register report ≡ true = ap is_register begins.1 in cc) | inr changes ↦ changes ]
+of_family report later is = grind (arith, nat_tests, made_of)
 
 pub of_copies : (report : Report) → ((m : ℕ) → report ≡ Confirm m → ⊥) → ((m : ℕ) → report ≡ Withdraw m → ⊥) → is_of_copies report ≡ true
 of_copies (Confirm m) first second = absurd (first m refl)
@@ -209,9 +198,7 @@ of_copies (Withdraw m) first second = absurd (second m refl)
 of_copies report first second = refl
 
 pub reports_copies : (report : Report) {of : FamilyReport} → family_report report ≡ Some of → is_of_copies report ≡ true
-reports_copies (Confirm m) about = absurd (cc)
-reports_copies (Withdraw m) about = absurd (cc)
-reports_copies report about = refl
+reports_copies report about = grind (arith, nat_tests)
 
 module _ {journal : List Entry} {by : List ℕ} {report : Report} {it : KeptRows} {copies : Table} (ready : IsReady journal by report it copies) where
   -- the table goes by the report
@@ -245,11 +232,11 @@ module _ {journal : List Entry} {by : List ℕ} {report : Report} {it : KeptRows
   -- a place that a report gives a copy is free
   free_duplicate : {source : ℕ} {place : Place} → report ≡ Duplicate source place → IsFree place copies
   free_duplicate {source} {place} is =
-      free_spots journal copies ready.spots place (first_none (taken place (living journal)) _ (first_none (unknown source (living journal)) _ (first_none (full journal) _ (as_is ready is).free).1).1).0
+      free_spots journal copies ready.spots place (none_against 8 journal (living journal) by (Duplicate source place) (as_is ready is).free).1.1.0
 
   free_relocate : {c : ℕ} {place : Place} → report ≡ Relocate c place → IsFreeFor c place copies
   free_relocate {c} {place} is number at =
-      absurd (free_spots journal copies ready.spots place (first_none (taken place (living journal)) [] (first_none (unknown c (living journal)) _ (first_none (full journal) _ (as_is ready is).free).1).1).0 number at)
+      absurd (free_spots journal copies ready.spots place (none_against 8 journal (living journal) by (Relocate c place) (as_is ready is).free).1.1.0 number at)
 
   -- so the copy can be kept as it says
   pub can_place : (n : ℕ) → n ≡ length journal → (r : Report) → report ≡ r → CanPlace (n + 1) r it.number copies
@@ -264,7 +251,7 @@ module _ {journal : List Entry} {by : List ℕ} {report : Report} {it : KeptRows
   place_now =
       elim (displaced report) as (λ o. displaced report ≡ o → option_and_then (place_of copies) o ≡ option_and_then (λ c. option_map (λ copy. copy.place) (copy_in (copies_of (layer 8 0 it.number journal)) c)) o) [
         | None ↦ λ e. refl
-        | Some c ↦ λ e. place_spots journal copies ready.spots c ∙ ap (option_map (λ copy. copy.place)) (sym (own_copy ready c (named ready c (displaced_named report c e)).of))
+        | Some c ↦ λ e. place_spots journal copies ready.spots c ∙ ap (option_map (λ copy. copy.place)) (sym (own_copy journal it.number c (accepted_is_sound 8 journal ready.accepted) (named ready c (displaced_named report c e)).of))
       ] refl
 
   -- the family, once the report is accepted

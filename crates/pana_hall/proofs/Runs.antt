@@ -115,10 +115,10 @@ numbers most journal accepted = (accepted_is_sound most journal accepted).number
 
 -- the living copies rise, and none has a number above the journal's length
 pub rising : (most : ℕ) (journal : List Entry) → IsAccepted most journal
-    → AreRising (λ copy. copy.number) 0 (living journal) × AllByRecursion (λ copy. copy.number ≤ length journal) (living journal)
+    → AreRising (λ copy. copy.known.copy) 0 (living journal) × AllByRecursion (λ copy. copy.known.copy ≤ length journal) (living journal)
 rising most journal accepted =
     let all = merged most journal (accepted_is_sound most journal accepted) in
-    (all.rising, each_weaker (λ copy. (copy.family ≡ families journal copy.number) × (copy.number ≤ length journal)) _ (living journal) (λ copy h. h.1) all.families)
+    (all.rising, each_weaker (λ copy. (copy.family ≡ families journal copy.known.copy) × (copy.known.copy ≤ length journal)) _ (living journal) (λ copy h. h.1) all.families)
 
 -- and they are in order
 pub orderly : (most : ℕ) (journal : List Entry) → IsAccepted most journal → IsOrderly journal
@@ -129,7 +129,7 @@ orderly most journal accepted =
       apart = accepted_is_apart most journal accepted;
       rising = up.0;
       numbers = up.1;
-      families = each_weaker (λ copy. (copy.family ≡ families journal copy.number) × (copy.number ≤ length journal)) _ (living journal) (λ copy h. h.0) all.families;
+      families = each_weaker (λ copy. (copy.family ≡ families journal copy.known.copy) × (copy.known.copy ≤ length journal)) _ (living journal) (λ copy h. h.0) all.families;
     }
 
 -- What a permitted reply to a report leaves.

@@ -1,66 +1,55 @@
 -- What holds of each journal that refuses none of its entries.
-use Rattle.std.specs.Prelude.{◌≡◌, ℕ, Bool, true, false, not, List, ◌∷◌, Option, Some, None, is_none, option_map, find, ◌≢◌, ◌<◌, cond, ◌&&◌, ◌||◌, ◌==◌, [], ◌++◌, filter, fold, ◌+◌, ◌≤◌, length, map, slice_get, ◌-◌, ◌⊎◌}
+use Rattle.std.specs.Prelude.{◌≡◌, ℕ, Bool, true, false, not, List, ◌∷◌, Option, Some, None, find, ◌≢◌, ◌<◌, cond, ◌&&◌, ◌||◌, ◌==◌, [], ◌++◌, filter, fold, ◌+◌, ◌≤◌, length, map, slice_get, ◌⊎◌}
 use Rattle.std.specs.Bool.{then_some}
 use Rattle.std.proofs.Common.{refl, ap, ◌∙◌, arith, append-nil, sym, subst, inl, inr, append_assoc}
-use Rattle.std.proofs.lemmas.Bool.{eqb-true, not-false, eq-eqb, ne_eqb, cases_eq}
+use Rattle.std.proofs.lemmas.Bool.{eq-eqb, ne_eqb, cases_eq}
 use Rattle.pana_copies.specs.declared.place.Place.{Place}
 use Rattle.pana_copies.specs.Places.{same_place}
 use Rattle.pana_journal.specs.declared.entry.Entry.{Entry}
 use Rattle.pana_journal.specs.Entries.{entry_at}
 use Rattle.pana_hall.specs.declared.cause.Cause.{Cause}
-use Rattle.pana_hall.specs.declared.cause.Cause.TheVariants.{UnknownCopy, PlaceTaken, UnknownEntry}
-use Rattle.pana_hall.specs.Family.{has_report, families, with_entry, begun_or_joined, subject, entries_of}
+use Rattle.pana_hall.specs.Family.{families, with_entry, begun_or_joined, subject, entries_of}
 use Rattle.pana_hall.specs.Effective.{is_of_copies, effective, withdraws, is_withdrawn}
 use Rattle.pana_hall.specs.Living.{Copy, copy_in, living}
-use Rattle.pana_hall.specs.Board.{is_of}
-use Rattle.pana_hall.specs.Refusal.{unknown, taken, other_family, unknown_entry, first, report_refusal, full, same, against_two, pending_with, settled_or_followed, taken_since, not_yours}
+use Rattle.pana_hall.specs.Refusal.{against, unknown, taken, other_family, first, report_refusal, full, same, against_two, pending_with, settled_or_followed, taken_since}
 use Rattle.std.specs.List.{AllByRecursion}
 use Rattle.std.proofs.lemmas.List.Elements.{filter-append, filter_agree}
 use Rattle.std.proofs.lemmas.List.Sums.{fold-append}
 use Rattle.pana_journal.specs.declared.report.Report.{Report}
 use Rattle.pana_journal.specs.declared.report.Report.TheVariants.{Confirm, Withdraw, Duplicate, Edit, Reconcile, Merge, Relocate, Remove}
 use Rattle.pana_hall.specs.Pending.{pending, pend, last, behind, is_last}
-use Rattle.pana_hall.proofs.Lists.{filter_true, each_filter, each_weaker, filter_same, filter_all, filter_swap, any_push, each_append, last_is_end, behind_is_end, map_filter, rises_push, slice_get-push_cases, slice_get-each, at-append, at-push, entry_at_place}
+use Rattle.pana_hall.proofs.Lists.{filter_true, each_filter, each_passes, each_weaker, filter_same, filter_all, filter_swap, any_push, each_append, last_is_end, behind_is_end, map_filter, rises_push, slice_get-push_cases, slice_get-each, at-append, at-push, entry_at_place}
 use Rattle.std.proofs.lemmas.List.{length-append, map-append}
+use Rattle.std.proofs.lemmas.Bool.Decides.{nat_tests}
 use Rattle.pana_hall.specs.Accepted.{Accepts, AcceptsAll, IsAccepted}
 use Rattle.pana_hall.specs.laws.Layers.{AreRising, family_of_next}
-use Rattle.pana_hall.proofs.Moves.{Names, subject_none, subject_named, Joins, Belongs, IsWell, Fits, found_fits, copies_fit}
+use Rattle.pana_hall.proofs.Moves.{Names, subject_none, subject_named, Belongs, IsWell, Fits, found_fits, copies_fit}
 
 -- What follows for the journal where a report isn't refused.
 
-pub first_none : (cause : Option Cause) (causes : List (Option Cause)) → first (cause ∷ causes) ≡ None → (cause ≡ None) × (first causes ≡ None)
-first_none None causes e = (refl, e)
-first_none (Some cause) causes e = absurd (cc)
+-- none of the causes holds
+abbrev pub AreNone : List (Option Cause) → Type 0
+AreNone causes = AllByRecursion (λ cause. cause ≡ None) causes
+
+pub all_none : (causes : List (Option Cause)) → first causes ≡ None → AreNone causes
+all_none (None ∷ causes) e = (refl, all_none causes e)
+all_none causes e = grind (arith, nat_tests)
+
+pub none_against : (most : ℕ) (journal : List Entry) (copies : List Copy) (by : List ℕ) (report : Report) → report_refusal most journal copies by report ≡ None → AreNone (full journal ∷ against most journal copies by report)
+none_against most journal copies by report free = all_none (full journal ∷ against most journal copies by report) free
 
 pub none_false : (b : Bool) (cause : Cause) → then_some b cause ≡ None → b ≡ false
 none_false true cause e = absurd (cc)
 none_false false cause e = refl
 
 pub known : (number : ℕ) (copies : List Copy) → unknown number copies ≡ None → (copy : Copy) × (copy_in copies number ≡ Some copy)
-known number copies e =
-    elim (copy_in copies number) as (λ o. then_some (is_none o) (UnknownCopy number) ≡ None → (copy : Copy) × (o ≡ Some copy)) [
-      | None ↦ λ n. absurd (cc)
-      | Some copy ↦ λ n. (copy, refl)
-    ] e
+known number copies e = grind (arith, nat_tests)
 
 pub one_family : (a b : ℕ) (copies : List Copy) (x y : Copy) → other_family a b copies ≡ None → copy_in copies a ≡ Some x → copy_in copies b ≡ Some y → y.family ≡ x.family
-one_family a b copies x y e first second =
-    let none : then_some (not (is_of x.family y)) _ ≡ None = rw (first, second) at e in
-    eqb-true y.family x.family (not-false (is_of x.family y) (none_false _ _ none))
-
-pub known_entry : (number : ℕ) (journal : List Entry) → unknown_entry number journal ≡ None → (entry : Entry) × (entry_at journal number ≡ Some entry) × (is_of_copies entry.report ≡ true)
-known_entry number journal e =
-    elim (entry_at journal number) as (λ o. then_some (not (has_report is_of_copies o)) UnknownEntry ≡ None → (entry : Entry) × (o ≡ Some entry) × (is_of_copies entry.report ≡ true)) [
-      | None ↦ λ n. absurd (cc)
-      | Some entry ↦ λ n. (entry, refl, not-false _ (none_false _ _ n))
-    ] e
+one_family a b copies x y e first second = grind (arith, nat_tests)
 
 pub free_place : (place : Place) (copies : List Copy) → taken place copies ≡ None → find (λ copy. same_place copy.place place) copies ≡ None
-free_place place copies e =
-    elim (find (λ copy. same_place copy.place place) copies) as (λ o. option_map (λ copy. PlaceTaken copy.number) o ≡ None → o ≡ None) [
-      | None ↦ λ n. refl
-      | Some copy ↦ λ n. absurd (cc)
-    ] e
+free_place place copies e = grind (arith, nat_tests)
 
 -- What one entry more makes of a journal's families, effective entries and pending lists.
 
@@ -81,24 +70,13 @@ effective-push (x ∷ journal) entry =
     ∙ elim (is_of_copies x.report) as (λ b. cond (b && not (is_withdrawn x.number journal || withdraws x.number entry.report)) (x ∷ more) more
     ≡ kept_by entry (cond (b && not (is_withdrawn x.number journal)) (x ∷ effective journal) (effective journal)) ++ counted entry) [
       | false ↦ rest
-      | true ↦ elim (is_withdrawn x.number journal) as (λ w. cond (not (w || withdraws x.number entry.report)) (x ∷ more) more
-          ≡ kept_by entry (cond (not w) (x ∷ effective journal) (effective journal)) ++ counted entry) [
-            | true ↦ rest
-            | false ↦ elim (withdraws x.number entry.report) as (λ w. cond (not w) (x ∷ more) more ≡ cond (not w) (x ∷ kept_by entry (effective journal)) (kept_by entry (effective journal)) ++ counted entry) [
-              | true ↦ rest
-              | false ↦ ap (λ l. x ∷ l) rest
-            ]
-          ]
+      | true ↦ grind (arith, nat_tests)
     ]
 
 -- what holds of each entry holds of the effective ones
 pub each_effective : (P : Entry → Type 0) (journal : List Entry) → AllByRecursion P journal → AllByRecursion P (effective journal)
 each_effective P [] each = tt
-each_effective P (x ∷ journal) each =
-    elim (is_of_copies x.report && not (is_withdrawn x.number journal)) as (λ b. AllByRecursion P (cond b (x ∷ effective journal) (effective journal))) [
-      | true ↦ (each.0, each_effective P journal each.1)
-      | false ↦ each_effective P journal each.1
-    ]
+each_effective P (x ∷ journal) each = grind (arith, nat_tests, each_effective P journal each.1)
 
 -- a report of copies withdraws nothing
 withdraws_nothing : (report : Report) (n : ℕ) → is_of_copies report ≡ true → withdraws n report ≡ false
@@ -126,19 +104,14 @@ families-push journal entry n = ap (λ (of : ℕ → ℕ). of n) (fold-append wi
 
 -- the new entry's family, and the families of those before it
 pub family_new : (journal : List Entry) (entry : Entry) → families (journal ++ entry ∷ []) entry.number ≡ begun_or_joined (families journal) entry.number (subject entry.report)
-family_new journal entry =
-    families-push journal entry entry.number
-    ∙ ap (λ b. cond b (begun_or_joined (families journal) entry.number (subject entry.report)) (families journal entry.number)) (eq-eqb entry.number entry.number refl)
+family_new journal entry = grind (arith, nat_tests, families-push)
 
 pub family_old : (journal : List Entry) (entry : Entry) (n : ℕ) → n < entry.number → families (journal ++ entry ∷ []) n ≡ families journal n
-family_old journal entry n earlier =
-    families-push journal entry n
-    ∙ ap (λ b. cond b (begun_or_joined (families journal) entry.number (subject entry.report)) (families journal n)) (ne_eqb n entry.number (omega arith))
+family_old journal entry n earlier = grind (arith, nat_tests, families-push)
 
 -- entries with numbers of which two tables of families say the same
 pub entries_of-same : (family : ℕ) (of of' : ℕ → ℕ) (entries : List Entry) → AllByRecursion (λ e. of' e.number ≡ of e.number) entries → entries_of family of' entries ≡ entries_of family of entries
-entries_of-same family of of' entries same =
-    filter_same _ _ entries (each_weaker _ (λ e. (of' e.number == family) ≡ (of e.number == family)) entries (λ e h. ap (λ n. n == family) h) same)
+entries_of-same family of of' entries same = grind (arith, nat_tests, filter_same, each_weaker)
 
 -- the effective entries of a family
 abbrev pub own : ℕ → List Entry → List Entry
@@ -152,9 +125,7 @@ entries_of-push : (family : ℕ) (journal : List Entry) (entry : Entry) (entries
     → AllByRecursion (λ e. families (journal ++ entry ∷ []) e.number ≡ families journal e.number) entries
     → entries_of family (families (journal ++ entry ∷ [])) (entries ++ entry ∷ [])
     ≡ entries_of family (families journal) entries ++ cond (families (journal ++ entry ∷ []) entry.number == family) (entry ∷ []) []
-entries_of-push family journal entry entries same =
-    filter-append _ entries (entry ∷ [])
-    ∙ ap (λ l. l ++ cond (families (journal ++ entry ∷ []) entry.number == family) (entry ∷ []) []) (entries_of-same family (families journal) (families (journal ++ entry ∷ [])) entries same)
+entries_of-push family journal entry entries same = grind (arith, nat_tests, filter-append, entries_of-same)
 
 pub own_copies : (family : ℕ) (journal : List Entry) (entry : Entry) → KeepsFamilies journal entry → is_of_copies entry.report ≡ true
     → own family (journal ++ entry ∷ []) ≡ own family journal ++ cond (families (journal ++ entry ∷ []) entry.number == family) (entry ∷ []) []
@@ -170,22 +141,11 @@ own_confirm family journal entry m same is =
 
 pub own_withdraw : (family : ℕ) (journal : List Entry) (entry : Entry) (m : ℕ) → KeepsFamilies journal entry → entry.report ≡ Withdraw m
     → own family (journal ++ entry ∷ []) ≡ filter (λ e. not (m == e.number)) (own family journal)
-own_withdraw family journal entry m same is =
-    ap (entries_of family (families (journal ++ entry ∷ []))) (effective-withdraw journal entry m is)
-    ∙ entries_of-same family (families journal) (families (journal ++ entry ∷ [])) _ (each_filter _ _ (effective journal) (each_effective _ journal same))
-    ∙ filter_swap _ _ (effective journal)
+own_withdraw family journal entry m same is = grind (arith, nat_tests, effective-withdraw, entries_of-same, each_filter, each_effective, filter_swap)
 
 -- none of the family's entries has a number of another family
 pub own_other : (family : ℕ) (of : ℕ → ℕ) (m : ℕ) (entries : List Entry) → of m ≢ family → filter (λ e. not (m == e.number)) (entries_of family of entries) ≡ entries_of family of entries
-own_other family of m entries other = filter_all _ _ (each_other entries)
-  where
-    each_other : (es : List Entry) → AllByRecursion (λ e. not (m == e.number) ≡ true) (entries_of family of es)
-    each_other [] = tt
-    each_other (e ∷ es) =
-        elim (of e.number == family) as (λ b. (of e.number == family) ≡ b → AllByRecursion (λ x. not (m == x.number) ≡ true) (cond b (e ∷ entries_of family of es) (entries_of family of es))) [
-          | true ↦ λ h. (ap not (ne_eqb m e.number (λ d. other (ap of d ∙ eqb-true (of e.number) family h))), each_other es)
-          | false ↦ λ h. each_other es
-        ] refl
+own_other family of m entries other = grind (arith, nat_tests, filter_all, each_weaker, each_passes)
 
 pub pending_is : (most family : ℕ) (journal : List Entry) (entry : Entry) (report : Report) → KeepsFamilies journal entry → entry.report ≡ report
     → pending most family (journal ++ entry ∷ []) ≡ cond (families (journal ++ entry ∷ []) entry.number == family) (pend most entry.number report (pending most family journal)) (pending most family journal)
@@ -212,7 +172,7 @@ pub effective_well : (most : ℕ) (journal : List Entry) → IsSound most journa
 effective_well most journal sound = each_effective _ journal sound.well
 
 pub living_fit : (most : ℕ) (journal : List Entry) → IsSound most journal → AllByRecursion (Fits (families journal) (length journal)) (living journal)
-living_fit most journal sound = copies_fit (families journal) (length journal) (effective journal) (each_effective _ journal sound.well)
+living_fit most journal sound = grind (arith, nat_tests, copies_fit, each_effective)
 
 -- the copy lives, and is of the family
 pub record LivesIn (journal : List Entry) (family c : ℕ) : Type 0 where
@@ -220,90 +180,66 @@ pub record LivesIn (journal : List Entry) (family c : ℕ) : Type 0 where
   pub found : copy_in (living journal) c ≡ Some copy
   pub of : families journal c ≡ family
 
-abbrev AllFit : List Entry → Type 0
+abbrev pub AllFit : List Entry → Type 0
 AllFit journal = AllByRecursion (Fits (families journal) (length journal)) (living journal)
 
 pub found_family : (journal : List Entry) (c : ℕ) (copy : Copy) → AllFit journal → copy_in (living journal) c ≡ Some copy → copy.family ≡ families journal c
-found_family journal c copy fits found = let here = found_fits (families journal) (length journal) c (living journal) copy fits found in here.1.family ∙ ap (families journal) here.0
+found_family journal c copy fits found = grind (arith, nat_tests, found_fits)
 
 one : (journal : List Entry) (c d : ℕ) → unknown c (living journal) ≡ None → c ≡ d → LivesIn journal (families journal c) d
-one journal c d open_ e = let copy = known c (living journal) open_ in subst (LivesIn journal (families journal c)) e (record { copy = copy.0; found = copy.1; of = refl })
+one journal c d open_ e = grind (arith, nat_tests, known)
 
-two : (journal : List Entry) (a b c : ℕ) → AllFit journal → first (against_two a b (living journal)) ≡ None → (a ≡ c) ⊎ (b ≡ c) → LivesIn journal (families journal a) c
-two journal a b c fits free names =
-    let known_a = first_none (unknown a (living journal)) _ free in
-    let known_b = first_none (unknown b (living journal)) _ known_a.1 in
-    let alike = first_none (other_family a b (living journal)) [] (first_none (same a b) _ known_b.1).1 in
-    let x = known a (living journal) known_a.0 in
-    let y = known b (living journal) known_b.0 in
-    elim names [
-      | inl e ↦ one journal a c known_a.0 e
-      | inr e ↦ subst (λ f. LivesIn journal f c) (sym (found_family journal b y.0 fits y.1) ∙ one_family a b (living journal) x.0 y.0 alike.0 x.1 y.1 ∙ found_family journal a x.0 fits x.1) (one journal b c known_b.0 e)
-    ]
+-- so do two copies of one family
+pub beside : (journal : List Entry) (a b : ℕ) → AllFit journal → unknown a (living journal) ≡ None → unknown b (living journal) ≡ None → other_family a b (living journal) ≡ None → LivesIn journal (families journal a) b
+beside journal a b fits here there alike = grind (arith, nat_tests, known, found_family, one_family)
+
+two : (journal : List Entry) (a b c : ℕ) → AllFit journal → AreNone (against_two a b (living journal)) → (a ≡ c) ⊎ (b ≡ c) → LivesIn journal (families journal a) c
+two journal a b c fits none names = grind (arith, nat_tests, one, beside)
 
 -- the copies that a report is about live, in its family
 pub named_report : (most n : ℕ) (journal : List Entry) (by : List ℕ) (report : Report) (c : ℕ) → AllFit journal → report_refusal most journal (living journal) by report ≡ None → Names report c
     → LivesIn journal (begun_or_joined (families journal) n (subject report)) c
-named_report most n journal by (Duplicate source place) c fits free names = one journal source c (first_none (unknown source (living journal)) _ (first_none (full journal) _ free).1).0 names
-named_report most n journal by (Edit x) c fits free names = one journal x c (first_none (unknown x (living journal)) _ (first_none (full journal) _ free).1).0 names
-named_report most n journal by (Reconcile a b) c fits free names = two journal a b c fits (first_none (full journal) _ free).1 names
-named_report most n journal by (Merge a b) c fits free names = two journal a b c fits (first_none (full journal) _ free).1 names
-named_report most n journal by (Relocate x place) c fits free names = one journal x c (first_none (unknown x (living journal)) _ (first_none (full journal) _ free).1).0 names
-named_report most n journal by (Remove x None) c fits free names = one journal x c (first_none (unknown x (living journal)) _ (first_none (full journal) _ free).1).0 names
-named_report most n journal by (Remove x (Some heir)) c fits free names = two journal x heir c fits (first_none (full journal) _ free).1 names
-named_report most n journal by report c fits free names = absurd names
+named_report most n journal by report c fits free names = live report (none_against most journal (living journal) by report free).1 names
+  where
+    live : (report : Report) → AreNone (against most journal (living journal) by report) → Names report c → LivesIn journal (begun_or_joined (families journal) n (subject report)) c
+    live (Duplicate source place) none names = one journal source c none.0 names
+    live (Edit x) none names = one journal x c none.0 names
+    live (Reconcile a b) none names = two journal a b c fits none names
+    live (Merge a b) none names = two journal a b c fits none names
+    live (Relocate x place) none names = one journal x c none.0 names
+    live (Remove x None) none names = one journal x c none.0 names
+    live (Remove x (Some heir)) none names = two journal x heir c fits none names
+    live report none names = absurd names
 
 -- the report of the next entry is about copies of its family
 belongs_new : (most : ℕ) (journal : List Entry) (of' : ℕ → ℕ) (n : ℕ) (by : List ℕ) (report : Report) → AllFit journal
     → n ≡ length journal + 1 → ((k : ℕ) → k < n → of' k ≡ families journal k) → of' n ≡ begun_or_joined (families journal) n (subject report)
     → report_refusal most journal (living journal) by report ≡ None → Belongs of' n report
-belongs_new most journal of' n by report fits next old new free = record {
-  own = λ is. new ∙ elim (subject report) as (λ s. is_none s ≡ true → begun_or_joined (families journal) n s ≡ n) [ None ↦ λ e. refl | Some c ↦ λ e. absurd (cc) ] (sym (subject_none report) ∙ is);
-  joins = λ c names.
-      let there = named_report most n journal by report c fits free names in
-      let here = found_fits (families journal) (length journal) c (living journal) there.copy fits there.found in
-      let number = here.0 in
-      let within = here.1.within in
-      let earlier : c < n = omega arith in
-      record { earlier = earlier; family = old c earlier ∙ there.of ∙ sym new };
-}
-
-joins_kept : (of of' : ℕ → ℕ) (m n c : ℕ) → Joins of n c → n < m → ((k : ℕ) → k < m → of' k ≡ of k) → Joins of' n c
-joins_kept of of' m n c joined before old = let earlier = joined.earlier in record { earlier = joined.earlier; family = old c (omega arith) ∙ joined.family ∙ sym (old n before) }
+belongs_new most journal of' n by report fits next old new free = grind (arith, nat_tests, subject_none, named_report, found_fits)
 
 -- and stays so
 belongs_kept : (of of' : ℕ → ℕ) (m n : ℕ) (report : Report) → Belongs of n report → n < m → ((k : ℕ) → k < m → of' k ≡ of k) → Belongs of' n report
-belongs_kept of of' m n report belongs before old =
-    record { own = λ is. old n before ∙ belongs.own is; joins = λ c names. joins_kept of of' m n c (belongs.joins c names) before old }
+belongs_kept of of' m n report belongs before old = grind (arith, nat_tests)
 
 -- the entries before the next one stay in their families
 pub keeps_families : (most : ℕ) (journal : List Entry) (entry : Entry) → IsSound most journal → entry.number ≡ length journal + 1 → KeepsFamilies journal entry
-keeps_families most journal entry sound next =
-    each_weaker (IsWell (families journal) (length journal)) _ journal (λ e well. let within = well.within in family_old journal entry e.number (omega arith)) sound.well
+keeps_families most journal entry sound next = grind (arith, nat_tests, each_weaker, family_old)
 
 -- what the refusals of a Confirm and a Withdraw say of the entry that they name
 pub named_by : (most : ℕ) (journal : List Entry) (by : List ℕ) (report : Report) (m : ℕ) → (report ≡ Confirm m) ⊎ (report ≡ Withdraw m)
     → report_refusal most journal (living journal) by report ≡ None → (entry : Entry) × (entry_at journal m ≡ Some entry) × (is_of_copies entry.report ≡ true)
-named_by most journal by report m (inl is) free =
-    let alone : report_refusal most journal (living journal) by (Confirm m) ≡ None = rw is at free in
-    known_entry m journal (first_none (unknown_entry m journal) _ (first_none (full journal) _ alone).1).0
-named_by most journal by report m (inr is) free =
-    let alone : report_refusal most journal (living journal) by (Withdraw m) ≡ None = rw is at free in
-    known_entry m journal (first_none (unknown_entry m journal) _ (first_none (full journal) _ alone).1).0
+named_by most journal by report m h5 free = grind (arith, nat_tests)
 
 -- what that of a Withdraw says besides: the entry is the last that is pending
 pub withdraw_free : (most m : ℕ) (journal : List Entry) (by : List ℕ) (report : Report) → report ≡ Withdraw m → report_refusal most journal (living journal) by report ≡ None
     → (is_last m (pending_with most m journal) ≡ true) × (settled_or_followed most m journal ≡ None) × (taken_since m journal ≡ None)
-withdraw_free most m journal by report is free =
-    let alone : report_refusal most journal (living journal) by (Withdraw m) ≡ None = rw is at free in
-    let at_end = first_none (settled_or_followed most m journal) _ (first_none (not_yours by m journal) _ (first_none (unknown_entry m journal) _ (first_none (full journal) _ alone).1).1).1 in
-    (not-false _ (none_false _ _ at_end.0), at_end.0, (first_none (taken_since m journal) [] at_end.1).0)
+withdraw_free most m journal by report is free = grind (arith, nat_tests)
 
 -- the family of a Confirm or a Withdraw is that of the entry that it names
 pub family_named : (most : ℕ) (journal : List Entry) (entry : Entry) (m : ℕ) → (entry.report ≡ Confirm m) ⊎ (entry.report ≡ Withdraw m)
     → families (journal ++ entry ∷ []) entry.number ≡ families journal m
-family_named most journal entry m (inl is) = family_new journal entry ∙ ap (λ r. begun_or_joined (families journal) entry.number (subject r)) is
-family_named most journal entry m (inr is) = family_new journal entry ∙ ap (λ r. begun_or_joined (families journal) entry.number (subject r)) is
+family_named most journal entry m (inl is) = grind (arith, nat_tests, family_new)
+family_named most journal entry m (inr is) = grind (arith, nat_tests, family_new)
 
 -- reports by kind: of copies, a Confirm or a Withdraw
 pub data Kind (report : Report) : Type 0 where
@@ -318,9 +254,7 @@ kind_of report = OfCopies refl
 
 -- what a report of copies makes of its family's pending numbers
 pub pend_copies : (most n : ℕ) (report : Report) (numbers : List ℕ) → is_of_copies report ≡ true → pend most n report numbers ≡ last most (numbers ++ n ∷ [])
-pend_copies most n (Confirm m) numbers e = absurd (cc)
-pend_copies most n (Withdraw m) numbers e = absurd (cc)
-pend_copies most n report numbers e = refl
+pend_copies most n report numbers e = grind (arith, nat_tests)
 
 -- the family of the next entry is its own number, or an earlier one
 bounded_new : (most : ℕ) (journal : List Entry) (n : ℕ) (by : List ℕ) (report : Report) → IsSound most journal → n ≡ length journal + 1
@@ -328,26 +262,7 @@ bounded_new : (most : ℕ) (journal : List Entry) (n : ℕ) (by : List ℕ) (rep
 bounded_new most journal n by report sound next free =
     let fits = living_fit most journal sound in
     let of = families journal in
-    elim (subject report) as (λ s. subject report ≡ s → begun_or_joined of n s ≤ n) [
-      | None ↦ λ e. omega arith
-      | Some c ↦ λ e. elim (subject_named report c e) [
-        | inl names ↦
-            let there = named_report most n journal by report c fits free names in
-            let here = found_fits of (length journal) c (living journal) there.copy fits there.found in
-            let bounded = here.1.bounded in
-            let same_family = found_family journal c there.copy fits there.found in
-            omega arith
-        | inr names ↦
-            let found = named_by most journal by report c names free in
-            let place = entry_at_place journal c found.0 found.1 in
-            let not_zero = place.0 in
-            let numbered : found.0.number ≡ c - 1 + 1 = sound.numbered (c - 1) found.0 place.1 in
-            let is_c : found.0.number ≡ c = omega arith in
-            let bounded = (slice_get-each (IsWell of (length journal)) journal (c - 1) found.0 sound.well place.1).bounded in
-            let of_same : of found.0.number ≡ of c = ap of is_c in
-            omega arith
-      ]
-    ] refl
+    grind (arith, nat_tests, subject_named, named_report, found_fits, found_family, named_by, entry_at_place, slice_get-each)
 
 -- a report of copies is the last of its family's entries
 pub own_report : (most : ℕ) (journal : List Entry) (entry : Entry) → IsSound most journal → Accepts most journal entry → is_of_copies entry.report ≡ true
@@ -416,13 +331,7 @@ sound_grows most journal entry sound accepts =
     let old : (k : ℕ) → k < entry.number → of' k ≡ families journal k = family_old journal entry in
     record {
       well = each_append _ journal (entry ∷ [])
-          (each_weaker (IsWell (families journal) (length journal)) _ journal
-          (λ e well.
-          let within = well.within in
-          let bounded = well.bounded in
-          let before : e.number < entry.number = omega arith in
-          let same : of' e.number ≡ families journal e.number = old e.number before in
-          record { belongs = belongs_kept (families journal) of' entry.number e.number e.report well.belongs before old; within = omega arith; bounded = omega arith }) sound.well) (
+          (grind (arith, nat_tests, each_weaker, belongs_kept)) (
             record {
               belongs = belongs_new most journal of' entry.number entry.by entry.report (living_fit most journal sound) next old (family_new journal entry) accepts.free;
               within = omega arith;
@@ -435,17 +344,14 @@ sound_grows most journal entry sound accepts =
       found = each_append _ journal (entry ∷ [])
           (each_weaker (λ e. entry_at journal e.number ≡ Some e) _ journal (λ e h. at-append journal (entry ∷ []) e.number e h) sound.found)
           (ap (entry_at (journal ++ entry ∷ [])) next ∙ at-push journal entry, tt);
-      numbered = λ i e at. elim (slice_get-push_cases journal entry i e at) [
-        | inl before ↦ sound.numbered i e before
-        | inr now ↦ let place = now.0 in let number : entry.number ≡ e.number = ap (λ x. x.number) now.1 in omega arith
-      ];
+      numbered = grind (arith, nat_tests, slice_get-push_cases);
       rising = rises_push (λ e. e.number) 0 journal entry sound.rising
-          (each_weaker (IsWell (families journal) (length journal)) _ journal (λ e well. let within = well.within in omega arith) sound.well) (omega arith);
+          (grind (arith, nat_tests, each_weaker)) (omega arith);
       ends = ends_next most journal entry sound accepts;
     }
 
 pub empty_is_sound : (most : ℕ) → IsSound most []
-empty_is_sound most = record { well = tt; found = tt; numbered = λ i e at. absurd (cc); rising = tt; ends = λ family. ([], refl) }
+empty_is_sound most = grind (arith, nat_tests)
 
 -- what one entry more keeps holds of each accepted journal
 accepted_from : (most : ℕ) (P : List Entry → Type 0) → ((journal : List Entry) (entry : Entry) → Accepts most journal entry → P journal → P (journal ++ entry ∷ [])) → (journal entries : List Entry)

@@ -1,8 +1,8 @@
 -- The tables of the families, as entries come.
-use Rattle.std.specs.Prelude.{◌≡◌, ◌≢◌, ℕ, ◌+◌, ◌-◌, ◌<◌, ◌≤◌, Bool, true, false, cond, not, ◌&&◌, ◌||◌, ◌==◌, List, [], ◌∷◌, ◌++◌, length, map, filter, fold, drop, Some, None, slice_get}
+use Rattle.std.specs.Prelude.{◌≡◌, ◌≢◌, ℕ, ◌+◌, ◌-◌, ◌<◌, ◌≤◌, Bool, true, false, cond, not, ◌&&◌, ◌||◌, ◌==◌, List, [], ◌∷◌, ◌++◌, length, map, filter, fold, Some, None}
 use Rattle.std.specs.List.{AllByRecursion}
 use Rattle.std.proofs.Common.{refl, sym, ap, ◌∙◌, subst, inr, arith, append-nil, append_assoc}
-use Rattle.std.proofs.lemmas.Bool.{eq-eqb, ne_eqb, eqb-true, eqb-false}
+use Rattle.std.proofs.lemmas.Bool.{eq-eqb, eqb-true}
 use Rattle.std.proofs.lemmas.List.{length-drop, drop-drop, drop_all, same_from_push, map-append}
 use Rattle.std.proofs.lemmas.List.Elements.{filter_agree, filter-append}
 use Rattle.circular_buffer.proofs.Places.{slice_get-push}
@@ -10,8 +10,8 @@ use Rattle.pana_journal.specs.declared.report.Report.{Report}
 use Rattle.pana_journal.specs.declared.report.Report.TheVariants.{Confirm, Withdraw}
 use Rattle.pana_journal.specs.declared.entry.Entry.{Entry}
 use Rattle.pana_family.specs.Updates.{has}
-use Rattle.pana_hall.specs.Family.{families, begun_or_joined, subject, entries_of, is_register, has_report, is_family}
-use Rattle.pana_hall.specs.Effective.{effective, is_of_copies, is_withdrawn, left_out}
+use Rattle.pana_hall.specs.Family.{families, subject, entries_of, is_register, is_family}
+use Rattle.pana_hall.specs.Effective.{effective, is_of_copies, left_out}
 use Rattle.pana_hall.specs.Living.{copy_in, living, copies_of, after_entry, Copy}
 use Rattle.pana_hall.specs.Pending.{pending, pend, last, behind, is_last}
 use Rattle.pana_hall.specs.Board.{is_of}
@@ -20,11 +20,12 @@ use Rattle.pana_hall.specs.Refusal.{report_refusal, pending_with, taken_since}
 use Rattle.pana_hall.specs.Accepted.{Accepts, IsAccepted}
 use Rattle.pana_hall.specs.laws.Tables.{table, layer}
 use Rattle.pana_hall.specs.laws.Layers.{family_of_next, AddsLayer, AreRising, AreMerged}
-use Rattle.pana_hall.proofs.Lists.{each_filter, each_weaker, filter_all, filter_swap, filter_filter, any_push, last_push, last_end, behind_is_end, is_last_push, each_last, rises_lower, rises_filter, rises_last, each_right, at-push, each_map, rises_map}
+use Rattle.pana_hall.proofs.Lists.{each_filter, each_passes, each_weaker, filter_all, filter_swap, filter_filter, any_push, last_push, last_end, behind_is_end, is_last_push, each_last, rises_lower, rises_filter, rises_last, each_right, at-push, each_map, rises_map}
 use Rattle.pana_hall.proofs.Moves.{IsWell, Fits, copies_of-family, copies_of-push, copy_in-family, report_fits, rises_after, found_fits}
 use Rattle.pana_hall.proofs.Sound.{own, each_effective, own_confirm, own_withdraw, IsSound, keeps_families, living_fit, family_named, pend_copies, family_new, effective_well, in_accepted, pends, own_report, left_by, accepted_is_sound, sound_grows, withdraw_free}
 use Rattle.std.proofs.lemmas.Option.{slice_get_past}
 use Rattle.std.proofs.Math.Bool.{or-false}
+use Rattle.std.proofs.lemmas.Bool.Decides.{nat_tests}
 use Rattle.pana_hall.specs.Queries.{begun}
 
 -- The tables of the families, as entries come.
@@ -41,37 +42,26 @@ left_out_now : (numbers : List ℕ) (entries : List Entry) → left_out (last 0 
 left_out_now numbers entries = ap (λ l. left_out l entries) (last_none numbers) ∙ left_out_none entries
 
 not_or : (a b : Bool) → not (a || b) ≡ (not b && not a)
-not_or true true = refl
-not_or true false = refl
-not_or false true = refl
-not_or false false = refl
+not_or a b = grind (arith, nat_tests)
 
 -- one number more is left out
 pub left_out_push : (numbers : List ℕ) (n : ℕ) (entries : List Entry) → left_out (numbers ++ n ∷ []) entries ≡ left_out numbers (filter (λ e. not (n == e.number)) entries)
-left_out_push numbers n entries =
-    filter_agree _ _ (λ e. ap not (any_push (λ k. k == e.number) numbers n) ∙ not_or (has numbers e.number) (n == e.number)) entries
-    ∙ sym (filter_filter (λ e. not (has numbers e.number)) (λ e. not (n == e.number)) entries)
+left_out_push numbers n entries = grind (arith, nat_tests, filter_agree, any_push, not_or, filter_filter)
 
 last_last : (k most : ℕ) (numbers : List ℕ) → k ≤ most → last k (last most numbers) ≡ last k numbers
-last_last k most numbers within =
-    drop-drop _ (length numbers - most) numbers
-    ∙ ap (λ i. drop i numbers) (let cut = length-drop (length numbers - most) numbers in omega arith)
+last_last k most numbers within = grind (arith, nat_tests, drop-drop, length-drop)
 
 -- the tables come from the family's effective entries
 pub table_own : (most k family : ℕ) (journal : List Entry) → IsSound most journal → table most k family journal ≡ copies_of (left_out (last k (pending most family journal)) (own family journal))
-table_own most k family journal sound =
-    copies_of-family (families journal) (length journal) family _ (each_filter _ _ (effective journal) (each_effective _ journal sound.well))
-    ∙ ap copies_of (filter_swap _ _ (effective journal))
+table_own most k family journal sound = grind (arith, nat_tests, copies_of-family, each_filter, each_effective, filter_swap)
 
 -- the numbers of a journal's entries are below the next one
 pub own_below : (most family n : ℕ) (journal : List Entry) → IsSound most journal → n ≡ length journal + 1 → AllByRecursion (λ e. not (n == e.number) ≡ true) (own family journal)
-own_below most family n journal sound next =
-    each_filter _ _ (effective journal) (each_effective _ journal
-    (each_weaker (IsWell (families journal) (length journal)) _ journal (λ e well. let within = well.within in ap not (ne_eqb n e.number (λ h. omega arith))) sound.well))
+own_below most family n journal sound next = grind (arith, nat_tests, each_filter, each_effective, each_weaker)
 
 pub pending_report : (most : ℕ) (journal : List Entry) (entry : Entry) → IsSound most journal → Accepts most journal entry → is_of_copies entry.report ≡ true
     → pending most (family_of_next journal entry) (journal ++ entry ∷ []) ≡ last most (pending most (family_of_next journal entry) journal ++ entry.number ∷ [])
-pending_report most journal entry sound accepts of_copies = pends most journal entry entry.report sound accepts refl ∙ pend_copies most entry.number entry.report _ of_copies
+pending_report most journal entry sound accepts of_copies = grind (arith, nat_tests, pends, pend_copies)
 
 pub layer_now : (most family : ℕ) (journal : List Entry) → layer most 0 family journal ≡ own family journal
 layer_now most family journal = left_out_now (pending most family journal) (own family journal)
@@ -89,7 +79,7 @@ layer_undone most k journal entry sound accepts of_copies within =
     let numbers = pending most family journal in
     let more = own_report most journal entry sound accepts of_copies in
     ap (λ l. left_out (last (k + 1) l) (own family (journal ++ entry ∷ []))) (pending_report most journal entry sound accepts of_copies)
-    ∙ ap (λ l. left_out l (own family (journal ++ entry ∷ []))) (last_last (k + 1) most (numbers ++ entry.number ∷ []) (omega arith) ∙ last_push k numbers entry.number)
+    ∙ ap (λ l. left_out l (own family (journal ++ entry ∷ []))) (grind (arith, nat_tests, last_last, last_push))
     ∙ left_out_push (last k numbers) entry.number (own family (journal ++ entry ∷ []))
     ∙ ap (left_out (last k numbers))
     (ap (filter (λ e. not (entry.number == e.number))) more
@@ -109,7 +99,7 @@ layer_confirm most m k journal entry sound accepts is within =
     let cut = behind_is_end m numbers in
     ap (λ l. left_out (last k l) (own family (journal ++ entry ∷ []))) pending'
     ∙ ap (λ l. left_out (last k (behind m numbers)) l) (own_confirm family journal entry m keeps is)
-    ∙ ap (λ l. left_out l (own family journal)) (sym (last_end k cut.0 (behind m numbers) (rw pending' at within)) ∙ ap (last k) (sym cut.1))
+    ∙ ap (λ l. left_out l (own family journal)) (grind (arith, nat_tests, last_end))
 
 pub pending_other : (most family : ℕ) (journal : List Entry) (entry : Entry) → IsSound most journal → Accepts most journal entry → family_of_next journal entry ≢ family
     → pending most family (journal ++ entry ∷ []) ≡ pending most family journal
@@ -119,7 +109,7 @@ pub layer_other : (most k family : ℕ) (journal : List Entry) (entry : Entry) �
     → layer most k family (journal ++ entry ∷ []) ≡ layer most k family journal
 layer_other most k family journal entry sound accepts other =
     let left = left_by most family journal entry (keeps_families most journal entry sound accepts.next) other in
-    ap (λ l. left_out (last k l) (own family (journal ++ entry ∷ []))) left.1 ∙ ap (left_out (last k (pending most family journal))) left.0
+    grind (arith, nat_tests)
 
 -- what is one for the entries is one for the tables
 pub tables_by : (i k family : ℕ) (journal : List Entry) (entry : Entry) → IsAccepted 8 journal → Accepts 8 journal entry
@@ -142,16 +132,11 @@ adds_layer most journal entry sound sound' accepts of_copies =
 
 pub rises_effective : (low : ℕ) (journal : List Entry) → AreRising (λ e. e.number) low journal → AreRising (λ e. e.number) low (effective journal)
 rises_effective low [] rises = tt
-rises_effective low (x ∷ journal) rises =
-    let first = rises.0 in
-    elim (is_of_copies x.report && not (is_withdrawn x.number journal)) as (λ b. AreRising (λ e. e.number) low (cond b (x ∷ effective journal) (effective journal))) [
-      | true ↦ (rises.0, rises_effective x.number journal rises.1)
-      | false ↦ rises_lower (λ e. e.number) x.number low (effective journal) (omega arith) (rises_effective x.number journal rises.1)
-    ]
+rises_effective low (x ∷ journal) rises = grind (arith, nat_tests, rises_effective x.number journal rises.1, rises_lower)
 
 pub rises_end : (low : ℕ) (prefix numbers : List ℕ) → AreRising (λ n. n) low (prefix ++ numbers) → AreRising (λ n. n) low numbers
 rises_end low [] numbers rises = rises
-rises_end low (n ∷ prefix) numbers rises = let first = rises.0 in rises_lower (λ k. k) n low numbers (omega arith) (rises_end n prefix numbers rises.1)
+rises_end low (n ∷ prefix) numbers rises = grind (arith, nat_tests, rises_end n prefix numbers rises.1, rises_lower)
 
 own_rises : (family : ℕ) (journal : List Entry) → AreRising (λ e. e.number) 0 journal → AreRising (λ e. e.number) 0 (own family journal)
 own_rises family journal rises = rises_filter (λ e. e.number) 0 _ (effective journal) (rises_effective 0 journal rises)
@@ -189,7 +174,7 @@ ends_at most m journal sound at_end =
     let cut = is_last_push m (pending most family journal) at_end in
     let ends = sound.ends family in
     let split = split_map m (own family journal) (ends.0 ++ cut.0) (ends.1 ∙ ap (λ l. ends.0 ++ l) cut.1 ∙ sym (append_assoc ends.0 cut.0 (m ∷ []))) in
-    let of_last : (P : Entry → Type 0) → AllByRecursion P journal → P split.1 = λ P all. each_last P split.0 split.1 (subst (AllByRecursion P) split.2 (each_filter P _ (effective journal) (each_effective P journal all))) in
+    let of_last : (P : Entry → Type 0) → AllByRecursion P journal → P split.1 = λ P all. each_last P split.0 split.1 (grind (arith, nat_tests, each_filter, each_effective)) in
     record {
       numbers = cut.0;
       pending = cut.1;
@@ -197,7 +182,7 @@ ends_at most m journal sound at_end =
       last = split.1;
       own = split.2;
       number = split.3;
-      at = ap (entry_at journal) (sym split.3) ∙ of_last (λ e. entry_at journal e.number ≡ Some e) sound.found;
+      at = grind (arith, nat_tests);
       well = of_last (IsWell (families journal) (length journal)) sound.well;
       below = subst (λ n. AllByRecursion (λ e. e.number < n) split.0) split.3
           (rises_last (λ e. e.number) 0 split.0 split.1 (subst (AreRising (λ e. e.number) 0) split.2 (own_rises family journal sound.rising)));
@@ -209,14 +194,13 @@ pub record Open (most m : ℕ) (journal : List Entry) : Type 0 where
   pub free : taken_since m journal ≡ None
 
 pub open_withdraw : (most m : ℕ) (journal : List Entry) (by : List ℕ) (report : Report) → IsSound most journal → report ≡ Withdraw m → report_refusal most journal (living journal) by report ≡ None → Open most m journal
-open_withdraw most m journal by report sound is free =
-    let open_ = withdraw_free most m journal by report is free in record { ends = ends_at most m journal sound open_.0; free = open_.2 }
+open_withdraw most m journal by report sound is free = grind (arith, nat_tests, withdraw_free, ends_at)
 
 -- such a last one is taken out, and the others stay
 pub all_but_last : {X : Type 0} (key : X → ℕ) (m : ℕ) (xs : List X) (x : X) → AllByRecursion (λ y. key y < m) xs → key x ≡ m → filter (λ y. not (m == key y)) (xs ++ x ∷ []) ≡ xs
 all_but_last key m xs x below is =
     filter-append _ xs (x ∷ [])
-    ∙ ap (λ l. l ++ cond (not (m == key x)) (x ∷ []) []) (filter_all _ xs (each_weaker (λ y. key y < m) _ xs (λ y h. ap not (ne_eqb m (key y) (λ d. omega arith))) below))
+    ∙ ap (λ l. l ++ cond (not (m == key x)) (x ∷ []) []) (grind (arith, nat_tests, filter_all, each_weaker))
     ∙ ap (λ b. xs ++ cond (not b) (x ∷ []) []) (eq-eqb m (key x) (sym is))
     ∙ append-nil xs
 
@@ -238,29 +222,24 @@ layer_withdraw most m k journal entry sound accepts is =
     let rest = pending most family (journal ++ entry ∷ []) in
     ap (left_out (last k rest)) (own_withdraw family journal entry m (keeps_families most journal entry sound accepts.next) is)
     ∙ sym (left_out_push (last k rest) m (own family journal))
-    ∙ ap (λ l. left_out l (own family journal)) (sym (last_push k rest m) ∙ ap (last (k + 1)) (sym (pending_withdraw most m journal entry sound accepts is)))
+    ∙ ap (λ l. left_out l (own family journal)) (grind (arith, nat_tests, last_push, pending_withdraw))
 
 -- rising numbers
 rises_fold : (low last : ℕ) (of : ℕ → ℕ) (copies : List Copy) (entries : List Entry) → AreRising (λ e. e.number) low entries → AllByRecursion (IsWell of last) entries
-    → AllByRecursion (Fits of low) copies → AreRising (λ c. c.number) 0 copies → AreRising (λ c. c.number) 0 (fold after_entry copies entries)
+    → AllByRecursion (Fits of low) copies → AreRising (λ c. c.known.copy) 0 copies → AreRising (λ c. c.known.copy) 0 (fold after_entry copies entries)
 rises_fold low last of copies [] rising well fits rises = rises
-rises_fold low last of copies (entry ∷ entries) rising well fits rises =
-    let more = rising.0 in
-    rises_fold entry.number last of (after_entry copies entry) entries rising.1 well.1
-    (report_fits of entry.number entry.number entry.report copies well.0.belongs (omega arith)
-    (each_weaker (Fits of low) (Fits of entry.number) copies (λ c fit. let within = fit.within in let bounded = fit.bounded in record { family = fit.family; within = omega arith; bounded = omega arith }) fits))
-    (rises_after entry.number entry.report copies (omega arith) (each_weaker (Fits of low) _ copies (λ c fit. let within = fit.within in omega arith) fits) rises)
+rises_fold low last of copies (entry ∷ entries) rising well fits rises = grind (arith, nat_tests, rises_fold entry.number last of (after_entry copies entry) entries rising.1 well.1, report_fits, each_weaker, rises_after)
 
-copies_rise : (last : ℕ) (of : ℕ → ℕ) (entries : List Entry) → AreRising (λ e. e.number) 0 entries → AllByRecursion (IsWell of last) entries → AreRising (λ c. c.number) 0 (copies_of entries)
+copies_rise : (last : ℕ) (of : ℕ → ℕ) (entries : List Entry) → AreRising (λ e. e.number) 0 entries → AllByRecursion (IsWell of last) entries → AreRising (λ c. c.known.copy) 0 (copies_of entries)
 unfolding copies_of
 copies_rise last of entries rising well = rises_fold 0 last of [] entries rising well tt tt
 
-pub living_rises : (most : ℕ) (journal : List Entry) → IsSound most journal → AreRising (λ c. c.number) 0 (living journal)
-living_rises most journal sound = copies_rise (length journal) (families journal) (effective journal) (rises_effective 0 journal sound.rising) (each_effective _ journal sound.well)
+pub living_rises : (most : ℕ) (journal : List Entry) → IsSound most journal → AreRising (λ c. c.known.copy) 0 (living journal)
+living_rises most journal sound = grind (arith, nat_tests, copies_rise, rises_effective, each_effective)
 
 -- the table of a family is that of its living copies
 pub table_living : (most family : ℕ) (journal : List Entry) → filter (is_of family) (living journal) ≡ table most 0 family journal
-table_living most family journal = ap (λ l. filter (is_of family) (copies_of l)) (sym (left_out_now (pending most family journal) (effective journal)))
+table_living most family journal = grind (arith, nat_tests, left_out_now)
 
 pub merged : (most : ℕ) (journal : List Entry) → IsSound most journal → AreMerged most journal
 merged most journal sound =
@@ -270,8 +249,13 @@ merged most journal sound =
       found = λ number. sym (ap (λ l. copy_in l number) (sym (table_living most (families journal number) journal))
           ∙ copy_in-family (families journal) (length journal) (families journal number) number (living journal) fits refl);
       rising = living_rises most journal sound;
-      families = each_weaker (Fits (families journal) (length journal)) _ (living journal) (λ c fit. (fit.family, fit.within)) fits;
+      families = grind (arith, nat_tests, each_weaker);
     }
+
+-- the copies of a family's entries are its living ones
+pub own_copy : (journal : List Entry) (family c : ℕ) → IsSound 8 journal → families journal c ≡ family → copy_in (copies_of (layer 8 0 family journal)) c ≡ copy_in (living journal) c
+own_copy journal family c sound of =
+    ap (λ l. copy_in l c) (sym (table_own 8 0 family journal sound)) ∙ ap (λ f. copy_in (table 8 0 f journal) c) (sym of) ∙ sym ((merged 8 journal sound).found c)
 
 -- What the hall's bodies need beside the tables: pending lists, families of entries, and what a Withdraw brings back.
 
@@ -280,15 +264,10 @@ pub family_of_copy : (most : ℕ) (journal : List Entry) (entry : Entry) (number
     → family_of_next journal entry ≡ copy.family
 family_of_copy most journal entry number copy sound about found =
     let here = found_fits (families journal) (length journal) number (living journal) copy (living_fit most journal sound) found in
-    family_new journal entry ∙ ap (begun_or_joined (families journal) entry.number) about ∙ ap (families journal) (sym here.0) ∙ sym here.1.family
+    grind (arith, nat_tests, family_new)
 
 own_family : (family : ℕ) (of : ℕ → ℕ) (entries : List Entry) → AllByRecursion (λ n. of n ≡ family) (map (λ e. e.number) (entries_of family of entries))
-own_family family of [] = tt
-own_family family of (e ∷ entries) =
-    elim (of e.number == family) as (λ b. (of e.number == family) ≡ b → AllByRecursion (λ n. of n ≡ family) (map (λ x. x.number) (cond b (e ∷ entries_of family of entries) (entries_of family of entries)))) [
-      | true ↦ λ h. (eqb-true (of e.number) family h, own_family family of entries)
-      | false ↦ λ h. own_family family of entries
-    ] refl
+own_family family of entries = grind (arith, nat_tests, each_map, each_weaker, each_passes)
 
 pub each_has : (P : ℕ → Type 0) (numbers : List ℕ) (n : ℕ) → AllByRecursion P numbers → has numbers n ≡ true → P n
 each_has P [] n each is = absurd (cc)
@@ -302,7 +281,7 @@ each_has P (k ∷ numbers) n each is =
 pub pending_each : (P : ℕ → Type 0) (most family : ℕ) (journal : List Entry) → IsSound most journal → AllByRecursion (λ e. P e.number) journal → AllByRecursion P (pending most family journal)
 pending_each P most family journal sound each =
     let ends = sound.ends family in
-    each_right P ends.0 (pending most family journal) (subst (AllByRecursion P) ends.1 (each_map P (λ e. e.number) (own family journal) (each_filter _ _ (effective journal) (each_effective _ journal each))))
+    each_right P ends.0 (pending most family journal) (grind (arith, nat_tests, each_map, own, each_filter, each_effective))
 
 -- what is pending in a family is of the family
 pub family_of_pending : (most family number : ℕ) (journal : List Entry) → IsSound most journal → has (pending most family journal) number ≡ true → families journal number ≡ family
@@ -311,16 +290,14 @@ family_of_pending most family number journal sound is =
     each_has (λ n. families journal n ≡ family) (pending most family journal) number
     (each_right (λ n. families journal n ≡ family) ends.0 (pending most family journal) (subst (AllByRecursion (λ n. families journal n ≡ family)) ends.1 (own_family family (families journal) (effective journal)))) is
 
-copies_of_none : copies_of [] ≡ []
+pub copies_of_none : copies_of [] ≡ []
 unfolding copies_of
 copies_of_none = refl
 
 -- no entry so far is of the family that the next number would begin
 pub none_of : (family last : ℕ) (of : ℕ → ℕ) (entries : List Entry) → AllByRecursion (IsWell of last) entries → last < family → entries_of family of entries ≡ []
 none_of family last of [] well above = refl
-none_of family last of (e ∷ entries) well above =
-    let bounded = well.0.bounded in
-    ap (λ b. cond b (e ∷ entries_of family of entries) (entries_of family of entries)) (ne_eqb (of e.number) family (λ h. omega arith)) ∙ none_of family last of entries well.1 above
+none_of family last of (e ∷ entries) well above = grind (arith, nat_tests, none_of family last of entries well.1 above)
 
 pub next_family : (most k : ℕ) (journal : List Entry) → IsSound most journal → (table most k (length journal + 1) journal ≡ []) × (pending most (length journal + 1) journal ≡ [])
 next_family most k journal sound =
@@ -340,21 +317,19 @@ layer_new journal sound =
 -- The families that a journal has begun.
 
 pub entry_at-other : (journal : List Entry) (entry : Entry) (n : ℕ) → n ≢ length journal + 1 → entry_at (journal ++ entry ∷ []) n ≡ entry_at journal n
-entry_at-other journal entry n other =
-    elim (n == 0) as (λ b. (n == 0) ≡ b → cond b None (slice_get (journal ++ entry ∷ []) (n - 1)) ≡ cond b None (slice_get journal (n - 1))) [
-      | true ↦ λ e. refl
-      | false ↦ λ e. let not_zero = eqb-false n 0 e in slice_get-push journal entry (n - 1) (λ h. other (omega arith))
-    ] refl
+entry_at-other journal entry n other = grind (arith, nat_tests, slice_get-push)
 
 pub entry_at-past : (journal : List Entry) → entry_at journal (length journal + 1) ≡ None
-entry_at-past journal =
-    ap (λ b. cond b None (slice_get journal (length journal + 1 - 1))) (ne_eqb (length journal + 1) 0 (λ h. omega arith))
-    ∙ slice_get_past journal (length journal + 1 - 1) (omega arith)
+entry_at-past journal = grind (arith, nat_tests, slice_get_past)
+
+-- the families that one entry more has begun
+pub begun-next : (journal : List Entry) (entry : Entry) → begun (journal ++ entry ∷ []) ≡ begun journal ++ cond (is_register entry.report) (entry.number ∷ []) []
+begun-next journal entry = grind (arith, nat_tests, filter-append, map-append)
 
 begun-push : (journal : List Entry) (entry : Entry) (n : ℕ) → has (begun (journal ++ entry ∷ [])) n ≡ (has (begun journal) n || cond (is_register entry.report) (entry.number == n) false)
 begun-push journal entry n =
-    ap (λ l. has l n) (ap (map (λ e. e.number)) (filter-append (λ e. is_register e.report) journal (entry ∷ [])) ∙ map-append (λ e. e.number) (filter (λ e. is_register e.report) journal) _)
-    ∙ elim (is_register entry.report) as (λ b. has (begun journal ++ map (λ e. e.number) (cond b (entry ∷ []) [])) n ≡ (has (begun journal) n || cond b (entry.number == n) false)) [
+    ap (λ l. has l n) (begun-next journal entry)
+    ∙ elim (is_register entry.report) as (λ b. has (begun journal ++ cond b (entry.number ∷ []) []) n ≡ (has (begun journal) n || cond b (entry.number == n) false)) [
       | true ↦ any_push (λ k. k == n) (begun journal) entry.number
       | false ↦ ap (λ l. has l n) (append-nil (begun journal)) ∙ sym (or-false (has (begun journal) n))
     ]
@@ -363,22 +338,9 @@ abbrev pub AreKnown : List Entry → Type 0
 AreKnown journal = (n : ℕ) → is_family journal n ≡ has (begun journal) n
 
 known_grows : (most : ℕ) (journal : List Entry) (entry : Entry) → Accepts most journal entry → AreKnown journal → AreKnown (journal ++ entry ∷ [])
-known_grows most journal entry accepts known n =
-    let next = accepts.next in
-    elim (entry.number == n) as (λ b. (entry.number == n) ≡ b → has_report is_register (entry_at (journal ++ entry ∷ []) n) ≡ (has (begun journal) n || cond (is_register entry.report) b false)) [
-      | true ↦ λ e.
-          let here : n ≡ length journal + 1 = sym (eqb-true entry.number n e) ∙ next in
-          let none : has (begun journal) n ≡ false = sym (known n) ∙ ap (λ k. has_report is_register (entry_at journal k)) here ∙ ap (has_report is_register) (entry_at-past journal) in
-          ap (λ k. has_report is_register (entry_at (journal ++ entry ∷ []) k)) here ∙ ap (has_report is_register) (at-push journal entry)
-          ∙ elim (is_register entry.report) as (λ r. r ≡ cond r true false) [ true ↦ refl | false ↦ refl ]
-          ∙ ap (λ t. t || cond (is_register entry.report) true false) (sym none)
-      | false ↦ λ e.
-          ap (has_report is_register) (entry_at-other journal entry n (λ h. eqb-false entry.number n e (next ∙ sym h)))
-          ∙ known n ∙ sym (or-false (has (begun journal) n))
-          ∙ ap (λ t. has (begun journal) n || t) (elim (is_register entry.report) as (λ r. false ≡ cond r false false) [ true ↦ refl | false ↦ refl ])
-    ] refl ∙ sym (begun-push journal entry n)
+known_grows most journal entry accepts known n = grind (arith, nat_tests, entry_at-past, at-push, entry_at-other, or-false, begun-push)
 
 -- the known families are those that were begun
 pub accepted_known : (most : ℕ) (journal : List Entry) → IsAccepted most journal → AreKnown journal
 accepted_known most journal accepted =
-    in_accepted most AreKnown (λ n. elim (n == 0) as (λ b. has_report is_register (cond b None None) ≡ false) [ true ↦ refl | false ↦ refl ]) (λ j entry sound accepts known. known_grows most j entry accepts known) journal accepted
+    in_accepted most AreKnown (λ n. grind (arith, nat_tests)) (λ j entry sound accepts known. known_grows most j entry accepts known) journal accepted

@@ -18,6 +18,7 @@ use Rattle.pana_hall.specs.Living.{living, copies_of, known_to}
 use Rattle.pana_hall.specs.StampRows.{rows_of}
 use Rattle.pana_hall.specs.Pending.{pending}
 use Rattle.pana_hall.specs.Board.{board_of, row_of}
+use Rattle.pana_family.specs.Board.{board_newest, board_split}
 use Rattle.pana_hall.specs.Queries.{family_rows, pair_of, holdings}
 use Rattle.pana_hall.specs.Refusal.{refusal, report_refusal}
 use Rattle.pana_hall.specs.laws.Tables.{table}
@@ -74,7 +75,7 @@ first_path_done = refl
 
 first_path_board : board_of 1 (living first_path)
     ≡ record { family = 1; rows = on_board 1 (codes "laptop") 0 1 0 0 ∷ on_board 2 (codes "usb") 1 0 0 0 ∷ []; newest = 1 ∷ []; split = false }
-unfolding copies_of board_of row_of rows_of
+unfolding copies_of board_of row_of board_newest board_split rows_of
 first_path_board = refl
 
 first_path_answers : (holdings (living first_path) (codes "usb") ≡ record { copy = 2; family = 1; path = codes "plan.txt"; touch = 2 } ∷ [])
@@ -88,12 +89,12 @@ conflict = reported first_path (Edit 2 ∷ [])
 
 conflict_board : board_of 1 (living conflict)
     ≡ record { family = 1; rows = on_board 1 (codes "laptop") 0 0 0 1 ∷ on_board 2 (codes "usb") 0 0 0 1 ∷ []; newest = 1 ∷ 2 ∷ []; split = true }
-unfolding copies_of board_of row_of rows_of
+unfolding copies_of board_of row_of board_newest board_split rows_of
 conflict_board = refl
 
 conflict_answers : (pair_of (living conflict) 1 2 ≡ Conflict) × (pair_of (living conflict) 1 1 ≡ Equal)
     × (family_rows conflict (living conflict) ≡ record { family = 1; copies = 2; newest = 2; split = true } ∷ [])
-unfolding copies_of rows_of
+unfolding copies_of board_newest board_split rows_of
 conflict_answers = (refl, refl, refl)
 
 -- both ways to settle it
@@ -103,7 +104,7 @@ unfolding copies_of rows_of
 reconcile_and_merge = (refl, refl, refl, refl)
 
 abbrev numbers : List Entry → List ℕ
-numbers journal = map (λ copy. copy.number) (living journal)
+numbers journal = map (λ copy. copy.known.copy) (living journal)
 
 -- a copy that is removed for its heir, and comes back
 abbrev heir : List Entry
@@ -201,7 +202,7 @@ forgotten = reported [] (Register plan ∷ Withdraw 1 ∷ [])
 
 withdraw_of_register : (length forgotten ≡ 2) × (family_rows forgotten (living forgotten) ≡ []) × (asked forgotten (Board 1) ≡ None)
     × (board_of 1 (living forgotten) ≡ record { family = 1; rows = []; newest = []; split = false }) × (from_laptop forgotten (Register plan) ≡ None)
-unfolding refusal copies_of board_of row_of rows_of
+unfolding refusal copies_of board_of row_of board_newest board_split rows_of
 withdraw_of_register = (refl, refl, refl, refl, refl)
 
 -- eight entries are pending, and no more
@@ -253,9 +254,9 @@ unfolding refusal copies_of rows_of
 full_family_refuses = (refl, refl, refl)
 
 -- a duplicate has its own touch, and its source and an heir keep theirs
-touches : (map {B = ℕ × ℕ × List ℕ} (λ copy. (copy.number, copy.touch, copy.updates)) (living (reported first_path (Duplicate 1 usb_b ∷ []))) ≡ (1, 3, 3 ∷ []) ∷ (2, 2, []) ∷ (4, 4, 3 ∷ []) ∷ [])
-    × (map (λ copy. copy.touch) (living heir) ≡ 3 ∷ [])
-    × (map {B = ℕ × ℕ} (λ copy. (copy.number, copy.touch)) (living relocated) ≡ (1, 3) ∷ (2, 5) ∷ (4, 4) ∷ [])
+touches : (map {B = ℕ × ℕ × List ℕ} (λ copy. (copy.known.copy, copy.known.touch, copy.known.set)) (living (reported first_path (Duplicate 1 usb_b ∷ []))) ≡ (1, 3, 3 ∷ []) ∷ (2, 2, []) ∷ (4, 4, 3 ∷ []) ∷ [])
+    × (map (λ copy. copy.known.touch) (living heir) ≡ 3 ∷ [])
+    × (map {B = ℕ × ℕ} (λ copy. (copy.known.copy, copy.known.touch)) (living relocated) ≡ (1, 3) ∷ (2, 5) ∷ (4, 4) ∷ [])
 unfolding copies_of rows_of
 touches = (refl, refl, refl)
 

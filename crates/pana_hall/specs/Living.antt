@@ -1,73 +1,76 @@
 -- The copies that live after a journal, found from the whole of it. Nothing is checked here: a report of a copy
 -- that doesn't live changes nothing.
-use Rattle.std.specs.Prelude.{ℕ, ◌==◌, not, List, [], ◌∷◌, ◌++◌, map, filter, Option, Some, None, option_map, find, fold, if◌then◌else◌}
+use Rattle.std.specs.Prelude.{ℕ, Bool, false, ◌==◌, ◌||◌, List, [], ◌∷◌, ◌++◌, Option, Some, None, option_map, unwrap_or, find, fold, if◌then◌else◌}
+use Rattle.std.specs.List.{filter_map}
 use Rattle.std.specs.Option.{option_to_list}
 use Rattle.pana_copies.specs.declared.place.Place.{Place}
 use Rattle.pana_journal.specs.declared.report.Report.{Report}
 use Rattle.pana_journal.specs.declared.report.Report.TheVariants.{Register, Duplicate, Edit, Reconcile, Merge, Relocate, Remove, Confirm, Withdraw}
 use Rattle.pana_journal.specs.declared.entry.Entry.{Entry}
 use Rattle.pana_family.specs.Updates.{union}
+use Rattle.pana_family.specs.Table.{Known, known, knowing}
 use Rattle.pana_hall.specs.Effective.{effective}
 
--- a living copy: the updates are the set of those that it knows, and the touch is the entry that changed it last
+-- a living copy: what is known of it, its family and its place
 pub record Copy : Type 0 where
-  pub number : ℕ
+  pub known : Known
   pub family : ℕ
   pub place : Place
-  pub updates : List ℕ
-  pub touch : ℕ
+
+-- a copy's number
+abbrev pub number_of : Copy → ℕ
+number_of copy = copy.known.copy
 
 -- the copy with this number, if it lives
 abbrev pub copy_in : List Copy → ℕ → Option Copy
-copy_in copies number = find (λ copy. copy.number == number) copies
+copy_in copies number = find (λ copy. number_of copy == number) copies
 
 -- what the copy with this number knows
 abbrev pub known_to : List Copy → ℕ → List ℕ
-known_to copies number = updates_of (copy_in copies number)
-  where
-    updates_of : Option Copy → List ℕ
-    updates_of None = []
-    updates_of (Some copy) = copy.updates
+known_to copies number = unwrap_or (option_map (λ copy. copy.known.set) (copy_in copies number)) []
 
--- the copies, with the one of this number changed by f
-abbrev pub change : ℕ → (Copy → Copy) → List Copy → List Copy
-change number f copies = map (λ copy. if copy.number == number then f copy else copy) copies
+-- a new copy of a family, which knows this set
+abbrev pub new_copy : ℕ → ℕ → List ℕ → Place → Copy
+new_copy n family set place = record { known = known n set n; family = family; place = place }
 
--- the copies but that of this number
-abbrev pub without : ℕ → List Copy → List Copy
-without number copies = filter (λ copy. not (copy.number == number)) copies
+-- the copy once entry n touched it: it knows this set, and is at this place
+abbrev pub touched : ℕ → List ℕ → Place → Copy → Copy
+touched n set place copy = record { known = knowing set n copy.known; family = copy.family; place = place }
 
--- the first copy of a file: it begins family n and knows no update
-abbrev pub registered : ℕ → Place → Copy
-registered n place = record { number = n; family = n; place = place; updates = []; touch = n }
+-- whether a report changes or removes the copy with this number
+abbrev pub changes : Report → ℕ → Bool
+changes (Register place) number = false
+changes (Duplicate source place) number = false
+changes (Edit copy) number = number == copy
+changes (Reconcile a b) number = number == a || number == b
+changes (Merge a b) number = number == a || number == b
+changes (Relocate copy place) number = number == copy
+changes (Remove copy heir) number = number == copy
+changes (Confirm entry) number = false
+changes (Withdraw entry) number = false
 
--- a copy of its source: of the source's family, and knowing what the source knows
-abbrev pub duplicated : ℕ → Place → Copy → Copy
-duplicated n place source = record { number = n; family = source.family; place = place; updates = source.updates; touch = n }
+-- what entry n's report makes of such a copy
+abbrev pub changed : ℕ → Report → List Copy → Copy → Option Copy
+changed n (Edit _) copies copy = Some (touched n (n ∷ copy.known.set) copy.place copy)
+changed n (Reconcile a b) copies copy = Some (touched n (union (known_to copies a) (known_to copies b)) copy.place copy)
+changed n (Merge a b) copies copy = Some (touched n (union (n ∷ known_to copies a) (known_to copies b)) copy.place copy)
+changed n (Relocate _ place) copies copy = Some (touched n copy.known.set place copy)
+changed n (Remove _ heir) copies copy = None
+changed n _ copies copy = Some copy
 
--- the copy once entry n gave it these updates in place of its own
-abbrev pub with_updates : ℕ → List ℕ → Copy → Copy
-with_updates n updates copy = record copy { updates = updates; touch = n }
+-- what becomes of a copy with entry n's report
+abbrev pub made : ℕ → Report → List Copy → Copy → Option Copy
+made n report copies copy = if changes report (number_of copy) then changed n report copies copy else Some copy
 
--- the copy once edit n added its update
-abbrev pub edited : ℕ → Copy → Copy
-edited n copy = with_updates n (n ∷ copy.updates) copy
+-- the copy that comes with it, if one does: a file's first copy knows no update, and a duplicate knows what its source knows
+abbrev pub comes : ℕ → Report → List Copy → Option Copy
+comes n (Register place) copies = Some (new_copy n n [] place)
+comes n (Duplicate source place) copies = option_map (λ copy. new_copy n copy.family copy.known.set place) (copy_in copies source)
+comes n _ copies = None
 
--- the copy once entry n moved it
-abbrev pub moved : ℕ → Place → Copy → Copy
-moved n place copy = record copy { place = place; touch = n }
-
--- what entry n's report changes
+-- the copies after entry n's report
 abbrev pub after_report : ℕ → Report → List Copy → List Copy
-after_report n (Register place) copies = copies ++ registered n place ∷ []
-after_report n (Duplicate source place) copies = copies ++ option_to_list (option_map (duplicated n place) (copy_in copies source))
-after_report n (Edit copy) copies = change copy (edited n) copies
-after_report n (Reconcile a b) copies = let both = union (known_to copies a) (known_to copies b) in change b (with_updates n both) (change a (with_updates n both) copies)
-after_report n (Merge a b) copies = let both = union (n ∷ known_to copies a) (known_to copies b) in change b (with_updates n both) (change a (with_updates n both) copies)
-after_report n (Relocate copy place) copies = change copy (moved n place) copies
-after_report n (Remove copy heir) copies = without copy copies
-after_report n (Confirm entry) copies = copies
-after_report n (Withdraw entry) copies = copies
+after_report n report copies = filter_map (made n report copies) copies ++ option_to_list (comes n report copies)
 
 abbrev pub after_entry : List Copy → Entry → List Copy
 after_entry copies entry = after_report entry.number entry.report copies

@@ -1,5 +1,5 @@
 -- The answers to queries, where nothing stands against them.
-use Rattle.std.specs.Prelude.{ℕ, List, map, filter, length, count_by}
+use Rattle.std.specs.Prelude.{ℕ, List, map, filter, length}
 use Rattle.std.specs.List.{list_any}
 use Rattle.std.specs.Str.{bytes_eq}
 use Rattle.pana_event.specs.declared.rel.Rel.{Rel}
@@ -7,18 +7,19 @@ use Rattle.pana_journal.specs.declared.entry.Entry.{Entry}
 use Rattle.pana_hall.specs.declared.family_row.FamilyRow.{FamilyRow}
 use Rattle.pana_hall.specs.declared.holding.Holding.{Holding}
 use Rattle.pana_family.specs.Relation.{relation}
+use Rattle.pana_family.specs.Table.{Known, copies_of}
+use Rattle.pana_family.specs.Board.{board_newest, board_split}
 use Rattle.pana_hall.specs.Family.{is_register}
-use Rattle.pana_hall.specs.Living.{Copy, known_to}
-use Rattle.pana_hall.specs.Board.{is_of, newest, has_conflict}
+use Rattle.pana_hall.specs.Living.{Copy, number_of, known_to}
+use Rattle.pana_hall.specs.Board.{is_of, sets_of}
 
--- a family's row: how many living copies it has, how many of them are newest, and whether it is split
+-- the row of a family with this table of sets: how many living copies it has, how many of them are newest, and whether it is split
+abbrev pub row_of_sets : ℕ → List Known → FamilyRow
+row_of_sets family table = record { family = family; copies = length (copies_of table); newest = length (board_newest table); split = board_split table }
+
+-- a family's row
 abbrev pub family_row : List Copy → ℕ → FamilyRow
-family_row copies family = record {
-  family = family;
-  copies = count_by (is_of family) copies;
-  newest = length (newest family copies);
-  split = has_conflict (newest family copies);
-}
+family_row copies family = row_of_sets family (sets_of family copies)
 
 -- the numbers of the families that a journal has begun
 abbrev pub begun : List Entry → List ℕ
@@ -34,7 +35,7 @@ pair_of copies a b = relation (known_to copies a) (known_to copies b)
 
 -- a copy as a holding of its device
 abbrev pub holding : Copy → Holding
-holding copy = record { copy = copy.number; family = copy.family; path = copy.place.path; touch = copy.touch }
+holding copy = record { copy = number_of copy; family = copy.family; path = copy.place.path; touch = copy.known.touch }
 
 -- the living copies on a device, by rising number
 abbrev pub holdings : List Copy → List ℕ → List Holding

@@ -18,7 +18,7 @@ use Rattle.pana_family.specs.Updates.{has}
 use Rattle.pana_family.specs.Rows.{divides}
 use Rattle.pana_hall.specs.Family.{families, has_report, is_family}
 use Rattle.pana_hall.specs.Effective.{effective, is_of_copies, left_out}
-use Rattle.pana_hall.specs.Living.{Copy, copy_in, copies_of, living}
+use Rattle.pana_hall.specs.Living.{Copy, number_of, copy_in, copies_of, living}
 use Rattle.pana_hall.specs.Pending.{pending, is_last}
 use Rattle.pana_hall.specs.StampRows.{stamp_rows}
 use Rattle.pana_hall.specs.Board.{is_of}
@@ -45,7 +45,7 @@ against_two a b copies = unknown a copies ∷ unknown b copies ∷ same a b ∷ 
 
 -- a living copy has the place
 abbrev pub taken : Place → List Copy → Option Cause
-taken place copies = option_map (λ copy. PlaceTaken copy.number) (find (λ copy. same_place copy.place place) copies)
+taken place copies = option_map (λ copy. PlaceTaken (number_of copy)) (find (λ copy. same_place copy.place place) copies)
 
 -- the family of the copy has all the living copies that it takes
 abbrev pub family_full : ℕ → List Copy → Option Cause
@@ -87,7 +87,7 @@ brought_back number journal = option_and_then (λ entry. option_and_then (copy_i
 
 -- another living copy has the place of this one
 abbrev pub taken_from : Copy → List Copy → Option Cause
-taken_from copy copies = option_map (λ other. PlaceTaken other.number) (find (λ other. not (other.number == copy.number) && same_place other.place copy.place) copies)
+taken_from copy copies = option_map (λ other. PlaceTaken (number_of other)) (find (λ other. not (number_of other == number_of copy) && same_place other.place copy.place) copies)
 
 -- another living copy has the place that the entry's copy gets back
 abbrev pub taken_since : ℕ → List Entry → Option Cause

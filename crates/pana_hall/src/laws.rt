@@ -17,7 +17,7 @@ ghost use Rattle.pana_journal.specs.Entries.{entry_at};
 ghost use Rattle.pana_family.specs.Updates.{has};
 ghost use Rattle.pana_hall.specs.Family.{entries_of, families, is_family, is_register, subject};
 ghost use Rattle.pana_hall.specs.Effective.{effective, is_of_copies, left_out};
-ghost use Rattle.pana_hall.specs.Living.{Copy, copies_of, copy_in, known_to, living};
+ghost use Rattle.pana_hall.specs.Living.{Copy, copies_of, copy_in, known_to, living, number_of};
 ghost use Rattle.pana_hall.specs.Pending.{is_last, last, pend, pending};
 ghost use Rattle.pana_hall.specs.Board.{board_of, is_of};
 ghost use Rattle.pana_hall.specs.Queries.{begun, family_row, holding, holdings};
@@ -133,7 +133,7 @@ pub fn families_are_begun()
 /// same copies.
 pub fn tables_merge()
     ensures merged { (journal : List Entry) → IsAccepted 8 journal → AreMerged 8 journal }
-    ensures one { (copies others : List Copy) → AreRising (λ copy. copy.number) 0 copies → AreRising (λ copy. copy.number) 0 others
+    ensures one { (copies others : List Copy) → AreRising number_of 0 copies → AreRising number_of 0 others
         → ((number : ℕ) → copy_in copies number ≡ copy_in others number) → copies ≡ others }
 {}
 
@@ -171,7 +171,7 @@ pub fn withdraw_brings_back_from_the_table()
         → displaced entry.report ≡ Some copy → brought_back number journal ≡ copy_in (table 8 1 (families journal number) journal) copy }
     ensures lives { (journal : List Entry) (entry : Entry) (number copy : ℕ) → IsAccepted 8 journal
         → is_last number (pending 8 (families journal number) journal) ≡ true → entry_at journal number ≡ Some entry
-        → displaced entry.report ≡ Some copy → (back : Copy) × (brought_back number journal ≡ Some back) × (back.number ≡ copy) }
+        → displaced entry.report ≡ Some copy → (back : Copy) × (brought_back number journal ≡ Some back) × (number_of back ≡ copy) }
 {}
 
 /// The answers about a family can be read off its table.

@@ -125,8 +125,8 @@ impl State {
         ensures { result ≡ settled 8 number self.now.journal.entries }
     {
         match self.journal.entry(number) {
-            Some(_) if self.family(number).has_pending(number) => None,
-            _ => Some(Cause::Settled),
+            Some(_) => (!self.family(number).has_pending(number)).then_some(Cause::Settled),
+            None => Some(Cause::Settled),
         }
     }
 
@@ -135,8 +135,8 @@ impl State {
         ensures { result ≡ settled_or_followed 8 number self.now.journal.entries }
     {
         match self.journal.entry(number) {
-            Some(_) if self.family(number).ends_in(number) => None,
-            _ => Some(Cause::Settled),
+            Some(_) => (!self.family(number).ends_in(number)).then_some(Cause::Settled),
+            None => Some(Cause::Settled),
         }
     }
 

@@ -32,6 +32,7 @@ impl State {
             copies: CopyTable::new(alloc),
         }
     }
+
     /// The family of an entry that the journal has. Takes no memory.
     pub fn family(&self, entry: u64) -> &ListedFamily
         requires kept { IsHeld self.now }

@@ -4,7 +4,7 @@ use Rattle.pana_host.specs.declared.lane.Lane.{Lane}
 use Rattle.pana_host.specs.declared.lane.LaneEnd.{LaneEnd}
 use Rattle.pana_host.specs.declared.hosting.Booth.{Booth}
 use Rattle.std.specs.Prelude.{unwrap_or}
-use Rattle.pana_turn.specs.Passes.{DeskId}
+use Rattle.pana_host.specs.Desk.{DeskId}
 use Rattle.pana_host.specs.Lane.{AreReady, AreServed, IsServed}
 use Rattle.pana_host.specs.inner.Booth.{put_end, ends_of, waiting, Waits, BringsTo}
 

@@ -10,13 +10,27 @@ use Rattle.pana_copies.proofs.device_name.DeviceName.TheSendSync as devices
 use Rattle.pana_wire.proofs.tap.Tap.TheSendSync as taps
 use Rattle.pana_wire.proofs.serving.Served.TheSendSync as served
 use Rattle.pana_wire.proofs.serving.ServeFault.TheSendSync as faults
-use Rattle.pana_turn.proofs.Sending.{desk_sync, pass_send}
+use Rattle.pana_turn.specs.contracts.desk.Desk as desk
+use Rattle.pana_turn.specs.contracts.pass.Pass as pass
+use Rattle.pana_turn.proofs.Sending as turns
+use Rattle.pana_kept.specs.contracts.store.Store as store
+use Rattle.pana_kept.specs.contracts.store.Request as request
+use Rattle.pana_kept.specs.contracts.store.Outcome as outcome
+use Rattle.pana_kept.specs.contracts.store.StoreMachine.TheImpl as machine
+use Rattle.pana_kept.proofs.Sending.{store_send}
 use Rattle.pana_host.specs.contracts.lane.Lane as lane
 use Rattle.pana_host.specs.contracts.lane.LaneEnd as lane_end
 use Rattle.pana_host.specs.contracts.hosting.Booth as booth
 use Rattle.pana_host.specs.contracts.desk_session.DeskSession as session
 use Rattle.pana_host.specs.contracts.desk_session.DeskSession.TheInside as session_inside
 use Rattle.pana_host.specs.contracts.scanners.Scanner as scanner
+
+-- a pass of a store's desk may, and threads may share the desk
+pub pass_send : IsSend (pass.the_row store.the_row request.the_row outcome.the_row machine.ghosts)
+pass_send = turns.pass_send store.the_row request.the_row outcome.the_row machine.ghosts store_send
+
+pub desk_sync : IsSync (desk.the_row store.the_row request.the_row outcome.the_row machine.ghosts)
+desk_sync = turns.desk_sync store.the_row request.the_row outcome.the_row machine.ghosts store_send
 
 lane_send : (R W : RattleType) → IsSend R → IsSend W → IsSend (lane.the_row R W)
 lane_send R W r w = declared_send (lane.the_type R W) (pass_send, (taps.the_send R r, (taps.the_send W w, tt)))

@@ -1,5 +1,5 @@
 -- What a session leaves of its pass.
-use Rattle.std.proofs.Common.{◌≡◌, ◌<◌, ℕ, suc, arith, length, slice_index_or, List, [], ◌∷◌, ◌++◌, ◌⊎◌, inl, inr, Bool, Option, Result, Ok, Err, refl, sym, ap, subst, ◌∙◌, append_assoc, append-nil, ◌^◌, IfOk, IfErr}
+use Rattle.std.proofs.Common.{◌≡◌, ◌<◌, ℕ, suc, arith, length, slice_index_or, List, [], ◌∷◌, ◌++◌, ◌⊎◌, inl, inr, Bool, true, false, not, Option, Result, Ok, Err, refl, sym, ap, subst, ◌∙◌, append_assoc, append-nil, ◌^◌, IfOk, IfErr}
 use Rattle.pana_wire.specs.declared.fault.WireFault.{WireFault}
 use Rattle.pana_wire.specs.declared.message.Message.{Message}
 use Rattle.pana_wire.specs.declared.tap.Tap.{Tap}
@@ -9,8 +9,14 @@ use Rattle.pana_wire.specs.declared.serving.ServeFault.TheVariants.{Read, Write,
 use Rattle.pana_wire.specs.Session.{AnswersSaid, AnswersLine, AnswersLines, BreaksAt, BreaksIn, EndsBy, Serves, Stops, NeverBegins, lines_come}
 use Rattle.pana_wire.specs.Lines.{lines_of}
 use Rattle.pana_wire.specs.Timely.{IsTimely}
-use Rattle.pana_turn.specs.declared.finished_call.FinishedCall.{FinishedCall}
-use Rattle.pana_turn.specs.Passes.{PassView}
+use Rattle.pana_kept.specs.Histories.{Finished}
+use Rattle.pana_host.specs.Desk.{PassView}
+use Rattle.pana_turn.specs.History.{IsHistory}
+use Rattle.pana_turn.specs.Passes.{AddsCall, IsSamePass}
+use Rattle.pana_kept.specs.Store.{StoreSteps}
+use Rattle.pana_kept.proofs.Stores.{unanswered_so}
+use Rattle.pana_kept.specs.declared.store.Request.{Request}
+use Rattle.pana_kept.specs.declared.store.Outcome.{Outcome}
 use Rattle.pana_host.specs.Lane.{IsServed}
 use Rattle.pana_host.specs.Listen.{HaveGrown}
 use Rattle.pana_host.specs.declared.lane.Lane.{Lane}
@@ -30,15 +36,39 @@ stayed olds news is = subst (HaveGrown olds) (sym is) (themselves olds)
 pub grows_on : (old mid new : PassView) → GrowsTo old mid → GrowsTo mid new → GrowsTo old new
 grows_on old mid new a b = record {
   same = (b.same.0 ∙ a.same.0, b.same.1 ∙ a.same.1);
-  seen = (a.seen.0 ++ b.seen.0, sym (append_assoc old.seen a.seen.0 b.seen.0) ∙ ap (λ (l : List FinishedCall). l ++ b.seen.0) a.seen.1 ∙ b.seen.1);
+  seen = (a.seen.0 ++ b.seen.0, sym (append_assoc old.seen a.seen.0 b.seen.0) ∙ ap (λ (l : List Finished). l ++ b.seen.0) a.seen.1 ∙ b.seen.1);
 }
 
+added_grows : (old new : PassView) (request : Request) (outcome : Outcome) → IsSamePass old new → AddsCall old new request outcome → GrowsTo old new
+added_grows old new request outcome same adds = record { same = same; seen = (adds.between ++ _ ∷ [], sym (append_assoc old.seen adds.between _) ∙ sym adds.seen) }
+
 pub call_grows : (old new : PassView) (by : List ℕ) (call : _) (reply : _) → MakesCall old by call reply new → GrowsTo old new
-call_grows old new by call reply m = record { same = m.same; seen = (m.adds.between ++ _ ∷ [], sym (append_assoc old.seen m.adds.between _) ∙ sym m.adds.seen) }
+call_grows old new by call reply m = added_grows old new _ _ m.same m.adds
 
 pub none_grows : (old new : PassView) → GetsNone old new → GrowsTo old new
 none_grows old new (inl m) = record { same = m.same; seen = m.seen }
-none_grows old new (inr m) = call_grows old new m.by m.call m.reply (record { same = m.same; run = m.run; adds = m.adds })
+none_grows old new (inr m) = added_grows old new _ _ m.same m.adds
+
+pub is_false : (b : Bool) → not b ≡ true → b ≡ false
+is_false true odd = absurd (cc)
+is_false false is = refl
+
+-- a call that the desk has finished for the pass, and that isn't answered, is a report, and a file keeps the hall
+pub call_unanswered : (old new : PassView) (request : Request) (outcome : Outcome) → IsSamePass old new → IsHistory StoreSteps new.desk.begun new.seen → AddsCall old new request outcome
+    → outcome.is_answered ≡ false → GetsNone old new
+call_unanswered old new request outcome same run adds not =
+    let why = unanswered_so new.desk.begun (old.seen ++ adds.between) (record { pass = old.number; call = request; reply = outcome; left = adds.left }) (subst (λ (h : List Finished). IsHistory StoreSteps new.desk.begun h) adds.seen run) not in
+    let told : outcome ≡ record { reply = outcome.reply; is_answered = false } = ap (λ b. record { reply = outcome.reply; is_answered = b }) not in
+    inr (record {
+      same = same;
+      run = run;
+      keeps = why.0;
+      by = request.by;
+      call = request.call;
+      reply = outcome.reply;
+      report = why.1;
+      adds = subst (λ (o : Outcome). AddsCall old new request o) told adds;
+    })
 
 said_grows : (old new : PassView) (said : Result Message WireFault) (text : List ℕ) (steps : ℕ) → AnswersSaid MakesCall old said text new steps → GrowsTo old new
 said_grows old new (Err fault) text steps a = grows_same old new a.1

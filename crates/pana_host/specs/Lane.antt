@@ -5,7 +5,7 @@ use Rattle.pana_wire.specs.Session.{Serves, Stops, NeverBegins}
 use Rattle.pana_wire.specs.Timely.{IsTimely}
 use Rattle.pana_wire.specs.declared.serving.Served.{Served}
 use Rattle.pana_wire.specs.declared.serving.ServeFault.{ServeFault}
-use Rattle.pana_turn.specs.Passes.{DeskId}
+use Rattle.pana_host.specs.Desk.{DeskId}
 use Rattle.pana_host.specs.Session.{MakesCall, GetsNone, GrowsTo, calls_seen}
 use Rattle.pana_host.specs.declared.lane.Lane.{Lane}
 use Rattle.pana_host.specs.declared.lane.LaneEnd.{LaneEnd}

@@ -1,3 +1,4 @@
+pub mod Desk
 pub mod Session
 pub mod Lane
 pub mod Listen

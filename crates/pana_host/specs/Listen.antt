@@ -1,6 +1,6 @@
 -- Passes before and after their connections were served.
 use Rattle.std.specs.Prelude.{◌≡◌, List, [], ◌∷◌}
-use Rattle.pana_turn.specs.Passes.{DeskId, PassView}
+use Rattle.pana_host.specs.Desk.{DeskId, PassView}
 use Rattle.pana_host.specs.Session.{GrowsTo}
 
 -- the passes are of the desk

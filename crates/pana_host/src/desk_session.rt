@@ -5,7 +5,8 @@ ghost use Rattle.pana_host.specs.Session.{GetsNone, MakesCall};
 use crate::gate::Gate;
 use pana_copies::DeviceName;
 use pana_hall::{Call, Reply, Spent};
-use pana_turn::{CallFault, Desk, Pass};
+use pana_kept::{Request, Store};
+use pana_turn::{Desk, Pass};
 use pana_wire::Session;
 use std::marker::Model;
 use std::sync::Wait;
@@ -14,16 +15,16 @@ use std::sync::Wait;
 #[derive(Drop)]
 pub struct DeskSession<'a, T, G> {
     rt: &'a T,
-    desk: &'a Desk,
+    desk: &'a Desk<Store>,
     gate: &'a G,
     lane: u32,
     calls: u64,
-    pass: Pass,
+    pass: Pass<Store>,
 }
 
 impl<'a, T, G> Model for DeskSession<'a, T, G> {
     ghost use Rattle.std.specs.Prelude.{◌≡◌};
-    ghost use Rattle.pana_turn.specs.Passes.{PassView};
+    ghost use Rattle.pana_host.specs.Desk.{PassView};
 
     ghost Value = { PassView };
 
@@ -36,10 +37,10 @@ impl<'a, T, G> DeskSession<'a, T, G> {
     /// A session of this lane by a pass of the desk. Takes no memory.
     pub fn new(
         rt: &'a T,
-        desk: &'a Desk,
+        desk: &'a Desk<Store>,
         gate: &'a G,
         lane: u32,
-        pass: Pass,
+        pass: Pass<Store>,
     ) -> DeskSession<'a, T, G>
         requires { pass.desk ≡ desk.now.id }
         ensures { result ≡ pass }
@@ -55,7 +56,7 @@ impl<'a, T, G> DeskSession<'a, T, G> {
     }
 
     /// The pass. Takes no memory.
-    pub fn into_pass(self) -> Pass
+    pub fn into_pass(self) -> Pass<Store>
         ensures { result ≡ self.entry }
     {
         let DeskSession {
@@ -86,16 +87,18 @@ impl<T: Wait, G: Gate> Session for DeskSession<'_, T, G> {
     {
         self.calls = self.calls.saturating_add(1);
         self.gate.before(self.lane, self.calls);
-        match self.desk.call(self.rt, &mut self.pass, by, call) {
-            Ok(reply) => {
-                self.gate.after(self.lane, self.calls);
-                Ok(reply)
-            }
-            Err(CallFault::Spent) => Err(Spent),
-            Err(CallFault::Unanswered) => {
-                self.gate.unanswered(self.lane, self.calls);
-                Err(Spent)
-            }
+        let request = Request {
+            by: by.copy_of(),
+            call,
+        };
+        let Ok(outcome) = self.desk.call(self.rt, &mut self.pass, request) else {
+            return Err(Spent);
+        };
+        if !outcome.is_answered {
+            self.gate.unanswered(self.lane, self.calls);
+            return Err(Spent);
         }
+        self.gate.after(self.lane, self.calls);
+        Ok(outcome.reply)
     }
 }

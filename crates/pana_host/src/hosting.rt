@@ -6,6 +6,7 @@ ghost use Rattle.pana_host.specs.inner.Booth.{BringsTo, Waits, ends_of, put_end,
 
 use crate::gate::Gate;
 use crate::lane::{Lane, LaneEnd};
+use pana_kept::Store;
 use pana_turn::Desk;
 use std::alloc::Global;
 use std::io::{Read, Write};
@@ -23,7 +24,14 @@ pub(crate) struct Booth<R, W> {
 
 impl<R: Read + Drop, W: Write + Drop> Booth<R, W> {
     /// Serves the lane.
-    fn serve<T: Wait, G: Gate>(&mut self, rt: &T, alloc: Global, desk: &Desk, number: u32, gate: &G)
+    fn serve<T: Wait, G: Gate>(
+        &mut self,
+        rt: &T,
+        alloc: Global,
+        desk: &Desk<Store>,
+        number: u32,
+        gate: &G,
+    )
         requires { Waits desk.now.id self.old }
         ensures { BringsTo R.remaining W.contents self.old self.new }
     {
@@ -86,7 +94,7 @@ pub fn host<
 >(
     rt: &T,
     alloc: Global,
-    desk: &Desk,
+    desk: &Desk<Store>,
     lanes: Vec<Lane<R, W>>,
     gate: &G,
 ) -> Result<Vec<LaneEnd<R, W>>, Vec<Lane<R, W>>>

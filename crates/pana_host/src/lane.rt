@@ -4,6 +4,7 @@ ghost use Rattle.pana_host.specs.Lane.{IsReady, IsServed};
 
 use crate::desk_session::DeskSession;
 use crate::gate::Gate;
+use pana_kept::Store;
 use pana_turn::{Desk, Pass};
 use pana_wire::{ServeFault, Served, Tap, serve};
 use std::alloc::Global;
@@ -16,7 +17,7 @@ const MOST_READS: u64 = 1 << 40;
 /// A session to be served: by which pass, where its lines come from, and where the answers go.
 #[derive(Drop)]
 pub struct Lane<R, W> {
-    pub pass: Pass,
+    pub pass: Pass<Store>,
     pub reader: Tap<R>,
     pub writer: Tap<W>,
 }
@@ -24,7 +25,7 @@ pub struct Lane<R, W> {
 /// What is left of a lane whose session was served, and how that ended.
 #[derive(Drop)]
 pub struct LaneEnd<R, W> {
-    pub pass: Pass,
+    pub pass: Pass<Store>,
     pub reader: Tap<R>,
     pub writer: Tap<W>,
     pub result: Result<Served, ServeFault>,
@@ -36,7 +37,7 @@ impl<R: Read, W: Write> Lane<R, W> {
         self,
         rt: &T,
         alloc: Global,
-        desk: &Desk,
+        desk: &Desk<Store>,
         number: u32,
         gate: &G,
     ) -> LaneEnd<R, W>

@@ -8,6 +8,7 @@ use crate::door::Door;
 use crate::gate::Gate;
 use crate::objects::ObjectReader;
 use crate::patience::{Patience, PatientReader, PatientWriter, Visit};
+use pana_kept::Store;
 use pana_turn::{Desk, Pass};
 use pana_wire::{Tap, serve};
 use std::alloc::Global;
@@ -81,9 +82,9 @@ fn work<T: Wait + Clock, G: Gate>(
 /// A session for each pass, in order; lanes are numbered from 1. Takes no memory where there is room for them.
 fn open_sessions<'a, T, G>(
     rt: &'a T,
-    desk: &'a Desk,
+    desk: &'a Desk<Store>,
     gate: &'a G,
-    passes: Vec<Pass>,
+    passes: Vec<Pass<Store>>,
     sessions: &mut Vec<DeskSession<'a, T, G>>,
 )
     requires few { length passes.items ≤ 64 }
@@ -99,7 +100,7 @@ fn open_sessions<'a, T, G>(
 }
 
 /// The sessions' passes, in order. Takes no memory where there is room for them.
-fn take_passes<T, G>(sessions: Vec<DeskSession<'_, T, G>>, passes: &mut Vec<Pass>)
+fn take_passes<T, G>(sessions: Vec<DeskSession<'_, T, G>>, passes: &mut Vec<Pass<Store>>)
     requires empty { length passes.old.items ≡ 0 }
     requires room { length sessions.items ≤ vec_capacity passes.old }
     ensures { passes.new.items ≡ sessions.entry.items }
@@ -123,11 +124,11 @@ fn take_passes<T, G>(sessions: Vec<DeskSession<'_, T, G>>, passes: &mut Vec<Pass
 pub fn listen<T: Threads + Wait + Clock + Sync, G: Gate + Sync>(
     rt: &T,
     alloc: Global,
-    desk: &Desk,
+    desk: &Desk<Store>,
     entrance: Entrance,
-    passes: Vec<Pass>,
+    passes: Vec<Pass<Store>>,
     gate: &G,
-) -> Result<Vec<Pass>, Vec<Pass>>
+) -> Result<Vec<Pass<Store>>, Vec<Pass<Store>>>
     requires few { length passes.items ≤ 64 }
     requires of { AreOf desk.now.id passes.items }
     ensures grown { IfOk result (λ back. HaveGrown passes.items back.items) }

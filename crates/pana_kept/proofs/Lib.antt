@@ -7,3 +7,5 @@ pub mod Done
 pub mod Acknowledged
 pub mod Said
 pub mod Texts
+pub mod Stores
+pub mod Sending

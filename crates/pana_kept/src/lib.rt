@@ -5,9 +5,11 @@ mod ending;
 mod entry_line;
 mod keeping;
 mod kept_hall;
+pub mod laws;
 mod open_fault;
 mod opening;
 mod serving;
+mod store;
 mod unanswered;
 
 pub use crate::ending::before_end;
@@ -15,4 +17,5 @@ pub use crate::kept_hall::KeptHall;
 pub use crate::open_fault::OpenFault;
 pub use crate::opening::{Opened, open, read};
 pub use crate::serving::serve_kept;
+pub use crate::store::{Outcome, Request, Store};
 pub use crate::unanswered::Unanswered;

@@ -22,26 +22,27 @@ pub all_joined : {A : Type 0} (P : A → Type 0) (xs ys : List A) → AllByRecur
 all_joined P [] ys first second = second
 all_joined P (x ∷ xs) ys first second = (first.0, all_joined P xs ys first.1 second)
 
-module _ (seats : ℕ) (x : Course) (seat : ℕ) where
-  -- a ticket more changes no account
-  pub same_account : (tickets : ℕ) (holder : ℕ → ℕ) (a : Account) → IsAccountOf seats x seat a
-      → IsAccountOf seats (record { begun = x.begun; history = x.history; tickets = tickets; speaker = x.speaker; holder = holder }) seat a
-  same_account tickets holder a is = record { within = is.within; begun = is.begun; speaker = is.speaker; mine = is.mine; seen = is.seen }
+module _ {S C R : Type 0} where
+  module _ (seats : ℕ) (x : Course S C R) (seat : ℕ) where
+    -- a ticket more changes no account
+    pub same_account : (tickets : ℕ) (holder : ℕ → ℕ) (a : Account S C R) → IsAccountOf seats x seat a
+        → IsAccountOf seats (record { begun = x.begun; history = x.history; tickets = tickets; speaker = x.speaker; holder = holder }) seat a
+    same_account tickets holder a is = record { within = is.within; begun = is.begun; speaker = is.speaker; mine = is.mine; seen = is.seen }
 
-  -- nor does another pass's call
-  pub account_of_other : (c : FinishedCall) (a : Account) → c.pass ≢ a.number → IsAccountOf seats x seat a
-      → IsAccountOf seats (record { begun = x.begun; history = x.history ++ c ∷ []; tickets = x.tickets; speaker = x.speaker; holder = x.holder }) seat a
-  account_of_other c a not is =
-      record {
-        within = is.within;
-        begun = is.begun;
-        speaker = is.speaker;
-        mine = calls_of-other a.number x.history c not ∙ is.mine;
-        seen = prefix_grows a.seen x.history (c ∷ []) is.seen;
-      }
+    -- nor does another pass's call
+    pub account_of_other : (c : FinishedCall S C R) (a : Account S C R) → c.pass ≢ a.number → IsAccountOf seats x seat a
+        → IsAccountOf seats (record { begun = x.begun; history = x.history ++ c ∷ []; tickets = x.tickets; speaker = x.speaker; holder = x.holder }) seat a
+    account_of_other c a not is =
+        record {
+          within = is.within;
+          begun = is.begun;
+          speaker = is.speaker;
+          mine = calls_of-other a.number x.history c not ∙ is.mine;
+          seen = prefix_grows a.seen x.history (c ∷ []) is.seen;
+        }
 
-  -- nor does another seat that speaks for another pass
-  pub account_beside : (number speaker : ℕ) (a : Account) → a.number ≢ number → IsAccountOf seats x seat a
-      → IsAccountOf seats (record { begun = x.begun; history = x.history; tickets = x.tickets; speaker = change_at x.speaker number speaker; holder = x.holder }) seat a
-  account_beside number speaker a not is =
-      record { within = is.within; begun = is.begun; speaker = change_else x.speaker number speaker a.number not ∙ is.speaker; mine = is.mine; seen = is.seen }
+    -- nor does another seat that speaks for another pass
+    pub account_beside : (number speaker : ℕ) (a : Account S C R) → a.number ≢ number → IsAccountOf seats x seat a
+        → IsAccountOf seats (record { begun = x.begun; history = x.history; tickets = x.tickets; speaker = change_at x.speaker number speaker; holder = x.holder }) seat a
+    account_beside number speaker a not is =
+        record { within = is.within; begun = is.begun; speaker = change_else x.speaker number speaker a.number not ∙ is.speaker; mine = is.mine; seen = is.seen }

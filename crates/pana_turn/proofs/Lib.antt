@@ -1,15 +1,14 @@
-pub mod Halls
-pub mod Histories
-pub mod Seats
-pub mod Tables
-pub mod Accounts
-pub mod Looking
-pub mod Taking
-pub mod Finishing
-pub mod Dividing
-pub mod Joining
-pub mod Calling
-pub mod Opening
-pub mod Ending
-pub mod Resting
+mod Tables
+mod Seats
+mod Histories
+mod Accounts
+mod Calling
+mod Looking
+mod Taking
+mod Finishing
+mod Dividing
+mod Joining
+mod Opening
+mod Ending
+mod Resting
 pub mod Sending

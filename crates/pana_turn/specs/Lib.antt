@@ -1,4 +1,3 @@
-pub mod Hall
 pub mod History
 pub mod Passes
 pub mod Closing

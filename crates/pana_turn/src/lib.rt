@@ -1,21 +1,21 @@
-//! The desk: one hall for many threads. Calls take turns at it, one at a time, each once, in each caller's order.
+//! A desk: one machine for many threads. Calls take turns at it, one at a time, each once, in each caller's order.
 #![tactic(auto)]
 
 mod closing;
 mod dealing;
 mod desk;
-mod desk_hall;
 mod finished_call;
 pub mod laws;
-mod line;
+mod machine;
 mod pass;
 mod plays;
+mod queue;
 mod turn;
 mod turns;
 mod view;
 mod waits;
 
-pub use crate::desk::{CallFault, CloseRefused, Closed, Desk};
-pub use crate::desk_hall::DeskHall;
+pub use crate::desk::{CloseRefused, Closed, Desk, Spent};
 pub use crate::finished_call::FinishedCall;
+pub use crate::machine::Machine;
 pub use crate::pass::{Note, Pass};

@@ -1,18 +1,15 @@
 //! A turn: to wait for it, and to end it.
 
 ghost use Rattle.std.specs.Prelude.{◌≡◌, ◌++◌, [], ◌∷◌, IsFalse, IsTrue, None, Some};
-ghost use Rattle.pana_hall.specs.Permit.{journal_after};
 ghost use Rattle.pana_turn.specs.declared.view.Stage.TheVariants.{Drawn, Idle, Tested, Turn};
-ghost use Rattle.pana_turn.specs.History.{IsHistory, Replies, calls_of, hall_of, journal_of};
+ghost use Rattle.pana_turn.specs.History.{IsHistory, calls_of, left_by};
 ghost use Rattle.pana_turn.specs.inner.Steps.{SeesMore};
 ghost use Rattle.pana_turn.specs.inner.Views.{pass};
 
-use crate::desk_hall::DeskHall;
+use crate::machine::Machine;
 use crate::plays::{Await, Draw, Finish, Naming};
-use crate::turns::{Floor, Place};
+use crate::turns::{DeskSeat, SharedTable};
 use crate::waits::Waits;
-use pana_copies::DeviceName;
-use pana_hall::{Call, Reply};
 use std::hint;
 use std::snapshot::Snapshot;
 use std::sync::Wait;
@@ -29,19 +26,19 @@ const NAP: u64 = 50;
 const NAPS: u32 = 4;
 
 /// Whether no call is on its way. Another caller may draw a ticket at once.
-fn is_free(floor: &Floor) -> bool
-    requires { floor.now.table_id.words ≡ 2 }
+fn is_free<M: Machine>(shared: &SharedTable<M>) -> bool
+    requires { shared.now.table_id.words ≡ 2 }
 {
-    let finished = floor.peek(1);
-    floor.peek(0) == finished
+    let finished = shared.peek(1);
+    shared.peek(0) == finished
 }
 
 /// Looks a few times whether no call is on its way, and says so.
-fn is_soon_free(floor: &Floor) -> bool
-    requires { floor.now.table_id.words ≡ 2 }
+fn is_soon_free<M: Machine>(shared: &SharedTable<M>) -> bool
+    requires { shared.now.table_id.words ≡ 2 }
 {
     for _ in 0..LOOKS {
-        if is_free(floor) {
+        if is_free(shared) {
             return true;
         }
         hint::spin_loop();
@@ -52,21 +49,21 @@ fn is_soon_free(floor: &Floor) -> bool
 /// Waits until no call is on its way, for a moment, or else until one is finished.
 ///
 /// So a caller waits for that call at most, and for those who had drawn a ticket by then.
-fn await_one<R: Wait>(rt: &R, floor: &Floor, waits: &Waits)
-    requires { floor.now.table_id.words ≡ 2 }
+fn await_one<M: Machine, R: Wait>(rt: &R, shared: &SharedTable<M>, waits: &Waits)
+    requires { shared.now.table_id.words ≡ 2 }
 {
-    let (nap, finished) = (AtomicU64::new(0), floor.peek(1));
+    let (nap, finished) = (AtomicU64::new(0), shared.peek(1));
     for _ in 0..NAPS {
-        if is_soon_free(floor) {
+        if is_soon_free(shared) {
             return;
         }
         nap.park_timeout(rt, 0, Duration::from_micros(NAP));
     }
     for _ in rt.forever() {
-        if floor.peek(1) != finished {
+        if shared.peek(1) != finished {
             return;
         }
-        waits.sleep(rt, floor, finished);
+        waits.sleep(rt, shared, finished);
     }
 }
 
@@ -74,12 +71,12 @@ fn await_one<R: Wait>(rt: &R, floor: &Floor, waits: &Waits)
 ///
 /// Tickets are taken in order, so a caller that holds one and has no processor keeps all behind it waiting. Callers that
 /// wait here hold none.
-fn await_rest<R: Wait>(rt: &R, floor: &Floor)
-    requires { floor.now.table_id.words ≡ 2 }
+fn await_rest<M: Machine, R: Wait>(rt: &R, shared: &SharedTable<M>)
+    requires { shared.now.table_id.words ≡ 2 }
 {
     let nap = AtomicU64::new(0);
     for _ in rt.forever() {
-        if is_soon_free(floor) {
+        if is_soon_free(shared) {
             return;
         }
         nap.park_timeout(rt, 0, Duration::from_micros(NAP));
@@ -87,97 +84,100 @@ fn await_rest<R: Wait>(rt: &R, floor: &Floor)
 }
 
 /// Waits until a ticket may be drawn.
-fn await_ticket<R: Wait>(rt: &R, floor: &Floor, waits: &Waits)
-    requires { floor.now.table_id.words ≡ 2 }
+fn await_ticket<M: Machine, R: Wait>(rt: &R, shared: &SharedTable<M>, waits: &Waits)
+    requires { shared.now.table_id.words ≡ 2 }
 {
     if waits.are_long() {
-        await_one(rt, floor, waits);
+        await_one(rt, shared, waits);
     } else {
-        await_rest(rt, floor);
+        await_rest(rt, shared);
     }
 }
 
-/// A look whether the ticket's turn has come. Where it has, the hall's slot is the seat's.
-fn has_come(floor: &Floor, seat: &mut Place, number: u32, ticket: u64) -> bool
-    requires floor { (floor.now.table_id.words ≡ 2) × (floor.now.table_id.slots ≡ 1) }
-    requires seat { (seat.old.table_id ≡ floor.now.table_id) × (seat.old.me ≡ (pass floor.now.key.begun number (calls_of number seat.old.me.0.seen) seat.old.me.0.seen (Drawn ticket), [])) }
+/// A look whether the ticket's turn has come. Where it has, the machine's slot is the seat's.
+fn has_come<M: Machine>(
+    shared: &SharedTable<M>,
+    seat: &mut DeskSeat<M>,
+    number: u32,
+    ticket: u64,
+) -> bool
+    requires table { (shared.now.table_id.words ≡ 2) × (shared.now.table_id.slots ≡ 1) }
+    requires seat { (seat.old.table_id ≡ shared.now.table_id) × (seat.old.me ≡ (pass shared.now.key.begun number (calls_of number seat.old.me.0.seen) seat.old.me.0.seen (Drawn ticket), [])) }
     ensures table { seat.new.table_id ≡ seat.old.table_id }
-    ensures come { IsTrue result → seat.new.me ≡ (pass floor.now.key.begun number (calls_of number seat.old.me.0.seen) seat.new.me.0.seen Turn, (0, Some (hall_of floor.now.key.begun seat.new.me.0.seen)) ∷ []) }
-    ensures early { IsFalse result → seat.new.me ≡ (pass floor.now.key.begun number (calls_of number seat.old.me.0.seen) seat.new.me.0.seen (Drawn ticket), []) }
-    ensures looked { SeesMore floor.now.key.begun number seat.old.me.0.seen seat.new.me.0.seen }
+    ensures come { IsTrue result → seat.new.me ≡ (pass shared.now.key.begun number (calls_of number seat.old.me.0.seen) seat.new.me.0.seen Turn, (0, Some (left_by shared.now.key.begun seat.new.me.0.seen)) ∷ []) }
+    ensures early { IsFalse result → seat.new.me ≡ (pass shared.now.key.begun number (calls_of number seat.old.me.0.seen) seat.new.me.0.seen (Drawn ticket), []) }
+    ensures looked { SeesMore M.step shared.now.key.begun number seat.old.me.0.seen seat.new.me.0.seen }
 {
-    floor.load::<Await>(seat, 1) == ticket
+    shared.load::<Await<M>>(seat, 1) == ticket
 }
 
 /// Waits until the ticket's turn has come.
-fn await_turn<R: Wait>(
+fn await_turn<M: Machine, R: Wait>(
     rt: &R,
-    floor: &Floor,
+    shared: &SharedTable<M>,
     waits: &Waits,
-    seat: &mut Place,
+    seat: &mut DeskSeat<M>,
     number: u32,
     ticket: u64,
 )
-    requires floor { (floor.now.table_id.words ≡ 2) × (floor.now.table_id.slots ≡ 1) }
-    requires seat { (seat.old.table_id ≡ floor.now.table_id) × (seat.old.me ≡ (pass floor.now.key.begun number (calls_of number seat.old.me.0.seen) seat.old.me.0.seen (Drawn ticket), [])) }
+    requires table { (shared.now.table_id.words ≡ 2) × (shared.now.table_id.slots ≡ 1) }
+    requires seat { (seat.old.table_id ≡ shared.now.table_id) × (seat.old.me ≡ (pass shared.now.key.begun number (calls_of number seat.old.me.0.seen) seat.old.me.0.seen (Drawn ticket), [])) }
     ensures table { seat.new.table_id ≡ seat.old.table_id }
-    ensures turn { seat.new.me ≡ (pass floor.now.key.begun number (calls_of number seat.old.me.0.seen) seat.new.me.0.seen Turn, (0, Some (hall_of floor.now.key.begun seat.new.me.0.seen)) ∷ []) }
-    ensures looked { SeesMore floor.now.key.begun number seat.old.me.0.seen seat.new.me.0.seen }
+    ensures turn { seat.new.me ≡ (pass shared.now.key.begun number (calls_of number seat.old.me.0.seen) seat.new.me.0.seen Turn, (0, Some (left_by shared.now.key.begun seat.new.me.0.seen)) ∷ []) }
+    ensures looked { SeesMore M.step shared.now.key.begun number seat.old.me.0.seen seat.new.me.0.seen }
 {
     let mut looks = 0;
     for _ in rt.forever() {
-        let finished = floor.peek(1);
-        if has_come(floor, seat, number, ticket) {
+        let finished = shared.peek(1);
+        if has_come(shared, seat, number, ticket) {
             return;
         }
-        looks = waits.pause(rt, floor, finished, looks);
+        looks = waits.pause(rt, shared, finished, looks);
     }
     unreachable!()
 }
 
-/// Draws a ticket, waits until that number of calls is finished, and takes the hall.
-pub(crate) fn take_turn<R: Wait>(
+/// Draws a ticket, waits until that number of calls is finished, and takes the machine.
+pub(crate) fn take_turn<M: Machine, R: Wait>(
     rt: &R,
-    floor: &Floor,
+    shared: &SharedTable<M>,
     waits: &Waits,
-    seat: &mut Place,
+    seat: &mut DeskSeat<M>,
     number: u32,
-) -> DeskHall
-    requires floor { (floor.now.table_id.words ≡ 2) × (floor.now.table_id.slots ≡ 1) }
-    requires seat { (seat.old.table_id ≡ floor.now.table_id) × (seat.old.me ≡ (pass floor.now.key.begun number (calls_of number seat.old.me.0.seen) seat.old.me.0.seen Tested, [])) }
-    ensures seat { (seat.new.table_id ≡ seat.old.table_id) × (seat.new.me ≡ (pass floor.now.key.begun number (calls_of number seat.old.me.0.seen) seat.new.me.0.seen Turn, (0, None) ∷ [])) }
-    ensures looked { SeesMore floor.now.key.begun number seat.old.me.0.seen seat.new.me.0.seen }
-    ensures hall { result ≡ hall_of floor.now.key.begun seat.new.me.0.seen }
+) -> M
+    requires table { (shared.now.table_id.words ≡ 2) × (shared.now.table_id.slots ≡ 1) }
+    requires seat { (seat.old.table_id ≡ shared.now.table_id) × (seat.old.me ≡ (pass shared.now.key.begun number (calls_of number seat.old.me.0.seen) seat.old.me.0.seen Tested, [])) }
+    ensures seat { (seat.new.table_id ≡ seat.old.table_id) × (seat.new.me ≡ (pass shared.now.key.begun number (calls_of number seat.old.me.0.seen) seat.new.me.0.seen Turn, (0, None) ∷ [])) }
+    ensures looked { SeesMore M.step shared.now.key.begun number seat.old.me.0.seen seat.new.me.0.seen }
+    ensures machine { result ≡ left_by shared.now.key.begun seat.new.me.0.seen }
 {
-    await_ticket(rt, floor, waits);
-    let ticket = floor.fetch_add::<Draw>(seat, 0, 1);
-    await_turn(rt, floor, waits, seat, number, ticket);
-    let Some(hall) = floor.exchange(seat, 0, None) else {
+    await_ticket(rt, shared, waits);
+    let ticket = shared.fetch_add::<Draw>(seat, 0, 1);
+    await_turn(rt, shared, waits, seat, number, ticket);
+    let Some(machine) = shared.exchange(seat, 0, None) else {
         unreachable!()
     };
-    hall
+    machine
 }
 
-/// Puts the hall back after a call, and ends the turn: the call is finished.
-pub(crate) fn give_turn<C: Naming>(
-    floor: &Floor,
-    seat: &mut Place,
-    hall: DeskHall,
+/// Puts the machine back after a call, and ends the turn: the call is finished.
+pub(crate) fn give_turn<M: Machine, N: Naming<M, M::Call, M::Reply>>(
+    shared: &SharedTable<M>,
+    seat: &mut DeskSeat<M>,
+    machine: M,
     number: u32,
-    by: &DeviceName,
-    call: Snapshot<Call>,
-    reply: &Reply,
+    call: Snapshot<M::Call>,
+    reply: &M::Reply,
 )
-    requires floor { (floor.now.table_id.words ≡ 2) × (floor.now.table_id.slots ≡ 1) }
-    requires seat { (seat.old.table_id ≡ floor.now.table_id) × (seat.old.me ≡ (pass floor.now.key.begun number (calls_of number seat.old.me.0.seen) seat.old.me.0.seen Turn, (0, None) ∷ [])) }
-    requires named { C.finished ≡ record { pass = number; by = by.now; call = call.value; reply = reply.now } }
-    requires replies { Replies floor.now.key.begun.keeps (journal_of floor.now.key.begun seat.old.me.0.seen) by.now call.value reply.now }
-    requires hall { hall ≡ record { entries = journal_after (journal_of floor.now.key.begun seat.old.me.0.seen) by.now call.value reply.now; keeps = floor.now.key.begun.keeps } }
+    requires table { (shared.now.table_id.words ≡ 2) × (shared.now.table_id.slots ≡ 1) }
+    requires seat { (seat.old.table_id ≡ shared.now.table_id) × (seat.old.me ≡ (pass shared.now.key.begun number (calls_of number seat.old.me.0.seen) seat.old.me.0.seen Turn, (0, None) ∷ [])) }
+    requires named { N.finished ≡ record { pass = number; call = call.value; reply = reply.now; left = machine } ∷ [] }
+    requires stepped { M.step (left_by shared.now.key.begun seat.old.me.0.seen) call.value reply.now machine }
     ensures table { seat.new.table_id ≡ seat.old.table_id }
-    ensures finished { seat.new.me ≡ (pass floor.now.key.begun number (calls_of number seat.old.me.0.seen ++ C.finished ∷ []) (seat.old.me.0.seen ++ C.finished ∷ []) Idle, []) }
-    ensures own { calls_of number (seat.old.me.0.seen ++ C.finished ∷ []) ≡ calls_of number seat.old.me.0.seen ++ C.finished ∷ [] }
-    ensures run { IsHistory floor.now.key.begun (seat.old.me.0.seen ++ C.finished ∷ []) }
+    ensures finished { seat.new.me ≡ (pass shared.now.key.begun number (calls_of number seat.old.me.0.seen ++ N.finished) (seat.old.me.0.seen ++ N.finished) Idle, []) }
+    ensures own { calls_of number (seat.old.me.0.seen ++ N.finished) ≡ calls_of number seat.old.me.0.seen ++ N.finished }
+    ensures run { IsHistory M.step shared.now.key.begun (seat.old.me.0.seen ++ N.finished) }
 {
-    floor.exchange(seat, 0, Some(hall));
-    floor.fetch_add::<Finish<C>>(seat, 1, 1);
+    shared.exchange(seat, 0, Some(machine));
+    shared.fetch_add::<Finish<M, N>>(seat, 1, 1);
 }

@@ -7,7 +7,7 @@ use pana_commands::Answer;
 use pana_daemon::{DaemonFault, RootFault, roots_of};
 use pana_hall::Hall;
 use pana_host::{Entrance, Patience};
-use pana_turn::DeskHall;
+use pana_kept::Store;
 use std::io;
 use std::marker::Sync;
 use std::net::{Ipv4Addr, SocketAddr, TcpListener};
@@ -38,18 +38,18 @@ fn complain(rt: &HostRuntime, text: &String) -> Result<ExitCode, ProgramFault> {
     print_answer(rt, &Answer::reported(rt.alloc(), text)?)
 }
 
-/// The hall that all sessions share: that of a journal's file, or a new one; or the status, where a line says why there is
+/// The store that all sessions share: with the hall of a journal's file, or a new hall; or the status, where a line says why there is
 /// none.
-fn hall_of(
+fn store_of(
     rt: &HostRuntime,
     journal: Option<&str>,
-) -> Result<Result<DeskHall, ExitCode>, ProgramFault> {
+) -> Result<Result<Store, ExitCode>, ProgramFault> {
     let Some(name) = journal else {
         let hall = Hall::new(rt.alloc()).map_err(|_| ProgramFault::OutOfMemory)?;
-        return Ok(Ok(DeskHall::alone(hall)));
+        return Ok(Ok(Store::alone(hall)));
     };
     match open_hall(rt, name)? {
-        Ok(hall) => Ok(Ok(DeskHall::kept(hall))),
+        Ok(hall) => Ok(Ok(Store::kept(hall))),
         Err(status) => Ok(Err(status)),
     }
 }
@@ -80,7 +80,7 @@ pub fn serve<T: Threads + Wait + Clock + Sync>(
     let Ok((listener, address)) = listener_on(rt, port) else {
         return complain(rt, &format!(in alloc; "cannot listen on port {port}")?);
     };
-    let hall = match hall_of(rt, journal)? {
+    let hall = match store_of(rt, journal)? {
         Ok(hall) => hall,
         Err(status) => return Ok(status),
     };

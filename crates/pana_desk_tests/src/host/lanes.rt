@@ -2,7 +2,9 @@
 
 ghost use Rattle.pana_host.specs.Lane.{IsReady};
 
+use pana_hall::Hall;
 use pana_host::{Gate, Lane, host};
+use pana_kept::Store;
 use pana_turn::{Desk, Pass};
 use pana_wire::{Served, Tap};
 use std::alloc::{AllocError, Global};
@@ -86,7 +88,7 @@ impl Gate for Counting {
     }
 }
 
-fn lane<'a>(alloc: Global, pass: Pass, input: &'a str) -> Lane<&'a [u8], Vec<u8>>
+fn lane<'a>(alloc: Global, pass: Pass<Store>, input: &'a str) -> Lane<&'a [u8], Vec<u8>>
     ensures { IsReady pass.desk result }
 {
     Lane {
@@ -102,7 +104,7 @@ fn held_lane_is_answered<T: Threads + Wait + Clock + Sync>(
     alloc: Global,
     held: u32,
 ) -> Result<bool, Fail> {
-    let (desk, mut passes) = Desk::open(alloc, 2)?;
+    let (desk, mut passes) = Desk::open(alloc, 2, Store::alone(Hall::new(alloc)?))?;
     let (Some(second), Some(first)) = (passes.pop(), passes.pop()) else {
         return Ok(false);
     };
@@ -135,7 +137,7 @@ fn two_lanes_at_once(rt: HostRuntime) -> Result<(), Fail> {
 #[test]
 fn gate_is_asked_by_lane_and_number(rt: HostRuntime) -> Result<(), Fail> {
     let alloc = rt.alloc();
-    let (desk, mut passes) = Desk::open(alloc, 2)?;
+    let (desk, mut passes) = Desk::open(alloc, 2, Store::alone(Hall::new(alloc)?))?;
     let (Some(second), Some(first)) = (passes.pop(), passes.pop()) else {
         return Ok(());
     };

@@ -1,6 +1,8 @@
 //! What no clause says of connections: that each is taken, and answered where memory is there.
 
+use pana_hall::Hall;
 use pana_host::{Entrance, OpenGate, Patience, listen};
+use pana_kept::Store;
 use pana_turn::Desk;
 use std::alloc::AllocError;
 use std::io;
@@ -29,7 +31,7 @@ fn connections_one_after_another(rt: HostRuntime) -> Result<(), Fail> {
     let first = client(&rt, &listener, REGISTER)?;
     let page = client(&rt, &listener, REQUEST)?;
     let second = client(&rt, &listener, PAIR)?;
-    let (desk, passes) = Desk::open(alloc, 1)?;
+    let (desk, passes) = Desk::open(alloc, 1, Store::alone(Hall::new(alloc)?))?;
     let entrance = Entrance {
         listener,
         wanted: Some(3),

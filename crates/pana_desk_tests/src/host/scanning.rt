@@ -1,9 +1,10 @@
 //! What no clause says of a scanner: that reports are made where memory is there, and what it counts.
 
 use pana_copies::{CopyPath, DeviceName};
-use pana_hall::{Call, Query, Reply};
+use pana_hall::{Call, Hall, Query, Reply};
 use pana_host::{DeskSession, Folder, OpenGate, ScanTally, scanner};
 use pana_journal::Report;
+use pana_kept::Store;
 use pana_scan::{Found, Listing, ScanFault};
 use pana_turn::Desk;
 use pana_wire::Session;
@@ -54,7 +55,7 @@ impl Folder for Fading {
 #[test]
 fn scanner_tally(rt: HostRuntime) -> Result<(), Fail> {
     let alloc = rt.alloc();
-    let (desk, mut passes) = Desk::open(alloc, 1)?;
+    let (desk, mut passes) = Desk::open(alloc, 1, Store::alone(Hall::new(alloc)?))?;
     let Some(pass) = passes.pop() else {
         return Ok(());
     };

@@ -1,13 +1,10 @@
 -- Rows of answers, as they are read off a family and the table of copies.
-use Rattle.std.specs.Prelude.{ℕ, List, [], length, Option, Some, None, option_and_then, unwrap_or, if◌then◌else◌}
+use Rattle.std.specs.Prelude.{ℕ, List, [], Option, Some, None, option_and_then, unwrap_or, if◌then◌else◌}
 use Rattle.std.specs.Str.{bytes_eq}
 use Rattle.pana_copies.specs.declared.place.Place.{Place}
 use Rattle.pana_copies.specs.Spots.{Table, place_of}
 use Rattle.pana_family.specs.declared.board.CopyCounts.{CopyCounts}
-use Rattle.pana_family.specs.Table.{Known, copies_of}
-use Rattle.pana_family.specs.Board.{board_newest, board_split}
 use Rattle.pana_hall.specs.declared.board.BoardRow.{BoardRow}
-use Rattle.pana_hall.specs.declared.family_row.FamilyRow.{FamilyRow}
 use Rattle.pana_hall.specs.Living.{Copy, copy_in}
 use Rattle.pana_hall.specs.Queries.{holding}
 use Rattle.pana_hall.specs.declared.holding.Holding.{Holding}
@@ -19,10 +16,6 @@ place_at copies copy = unwrap_or (place_of copies copy) (record { device = []; p
 -- a copy's counts, with its place
 abbrev pub placed_row : Table → CopyCounts → BoardRow
 placed_row copies row = record { copy = row.copy; place = place_at copies row.copy; newer = row.newer; older = row.older; equal = row.equal; conflict = row.conflict }
-
--- a family's row, from its table of sets
-abbrev pub row_of_sets : ℕ → List Known → FamilyRow
-row_of_sets family table = record { family = family; copies = length (copies_of table); newest = length (board_newest table); split = board_split table }
 
 -- the living copy with a number as a holding, if it is on the device
 abbrev pub holding_in : List Copy → List ℕ → ℕ → Option Holding

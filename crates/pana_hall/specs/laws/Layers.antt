@@ -4,7 +4,7 @@ use Rattle.std.specs.List.{AllByRecursion}
 use Rattle.pana_journal.specs.declared.entry.Entry.{Entry}
 use Rattle.pana_hall.specs.Family.{families, entries_of, is_duplicate}
 use Rattle.pana_hall.specs.Effective.{effective}
-use Rattle.pana_hall.specs.Living.{Copy, copy_in, living, after_entry}
+use Rattle.pana_hall.specs.Living.{Copy, number_of, copy_in, living, after_entry}
 use Rattle.pana_hall.specs.Pending.{pending}
 use Rattle.pana_hall.specs.Board.{is_of}
 use Rattle.pana_hall.specs.laws.Sets.{reported_by, sets_at}
@@ -51,16 +51,16 @@ AreApart (copy ∷ copies) = AllByRecursion (λ other. copy.place ≢ other.plac
 pub record AreMerged (most : ℕ) (journal : List Entry) : Type 0 where
   pub tables : (family : ℕ) → filter (is_of family) (living journal) ≡ table most 0 family journal
   pub found : (number : ℕ) → copy_in (living journal) number ≡ copy_in (table most 0 (families journal number) journal) number
-  pub rising : AreRising (λ copy. copy.number) 0 (living journal)
-  pub families : AllByRecursion (λ copy. (copy.family ≡ families journal copy.number) × (copy.number ≤ length journal)) (living journal)
+  pub rising : AreRising number_of 0 (living journal)
+  pub families : AllByRecursion (λ copy. (copy.family ≡ families journal (number_of copy)) × (number_of copy ≤ length journal)) (living journal)
 
 -- the living copies are kept at places of their own, their numbers rise and are those of entries, and each is of the
 -- family of the entry that made it
 pub record IsOrderly (journal : List Entry) : Type 0 where
   pub apart : AreApart (living journal)
-  pub rising : AreRising (λ copy. copy.number) 0 (living journal)
-  pub numbers : AllByRecursion (λ copy. copy.number ≤ length journal) (living journal)
-  pub families : AllByRecursion (λ copy. copy.family ≡ families journal copy.number) (living journal)
+  pub rising : AreRising number_of 0 (living journal)
+  pub numbers : AllByRecursion (λ copy. number_of copy ≤ length journal) (living journal)
+  pub families : AllByRecursion (λ copy. copy.family ≡ families journal (number_of copy)) (living journal)
 
 -- how many entries of a family that count are Duplicates
 abbrev pub duplicates_in : ℕ → List Entry → ℕ

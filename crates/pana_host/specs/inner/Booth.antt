@@ -1,6 +1,6 @@
 -- Booths: where a lane waits for its thread, and its end is put.
 use Rattle.std.specs.Prelude.{◌≡◌, ℕ, List, [], ◌∷◌, Option, Some, None}
-use Rattle.pana_turn.specs.Passes.{DeskId}
+use Rattle.pana_host.specs.Desk.{DeskId}
 use Rattle.pana_host.specs.Lane.{IsReady, IsServed}
 use Rattle.pana_host.specs.declared.lane.Lane.{Lane}
 use Rattle.pana_host.specs.declared.lane.LaneEnd.{LaneEnd}

@@ -6,77 +6,89 @@ use Rattle.pana_turn.specs.declared.view.Account.{Account}
 use Rattle.pana_turn.specs.declared.view.Stage.{Stage}
 use Rattle.pana_turn.specs.declared.view.Stage.TheVariants.{Idle}
 use Rattle.pana_turn.specs.declared.view.View.{View}
-use Rattle.pana_turn.specs.Hall.{HallView, new_hall}
 use Rattle.pana_turn.specs.Passes.{PassView, own_calls}
 use Rattle.pana_turn.specs.Rule.{DeskKey}
 
-abbrev pub view : List Account → List FinishedCall → List FinishedCall → Stage → View
-view accounts seen met stage = record { accounts = accounts; seen = seen; met = met; stage = stage }
+-- what a pass has beside its seat: its number, and the state that its desk was opened with
+pub record CardView (S : Type 0) : Type 0 where
+  pub number : ℕ
+  pub begun : S
 
-abbrev pub account : HallView → ℕ → List FinishedCall → List FinishedCall → Account
-account begun number mine seen = record { number = number; begun = begun; mine = mine; seen = seen }
+module _ {S : Type 0} where
+  abbrev pub card : S → ℕ → CardView S
+  card begun number = record { number = number; begun = begun }
 
--- the seat of a pass
-abbrev pub pass : HallView → ℕ → List FinishedCall → List FinishedCall → Stage → View
-pass begun number mine seen stage = view (account begun number mine [] ∷ []) seen [] stage
+  -- so many cards from this number on
+  abbrev pub cards_from : S → ℕ → ℕ → List (CardView S)
+  cards_from begun number n = map (card begun) (range_with_len number n)
 
--- a pass that made no call
-abbrev pub new_account : HallView → ℕ → Account
-new_account begun number = account begun number [] []
+  -- the cards for the passes of a new desk
+  abbrev pub new_cards : S → ℕ → List (CardView S)
+  new_cards begun seats = cards_from begun 0 seats
 
--- the passes from this number on
-abbrev pub accounts_from : HallView → ℕ → ℕ → List Account
-accounts_from begun number seats = map (new_account begun) (range_with_len number (seats - number))
+module _ {S C R : Type 0} where
+  abbrev pub view : List (Account S C R) → List (FinishedCall S C R) → List (FinishedCall S C R) → Stage → View S C R
+  view accounts seen met stage = record { accounts = accounts; seen = seen; met = met; stage = stage }
 
--- the first seat speaks for every pass
-abbrev pub first : DeskKey → View
-first key = view (accounts_from key.begun 0 key.seats) [] [] Idle
+  abbrev pub account : S → ℕ → List (FinishedCall S C R) → List (FinishedCall S C R) → Account S C R
+  account begun number mine seen = record { number = number; begun = begun; mine = mine; seen = seen }
 
--- the hall that the first account's desk was opened with
-abbrev pub begun_of : List Account → HallView
-begun_of [] = new_hall
-begun_of (a ∷ accounts) = a.begun
+  -- the seat of a pass
+  abbrev pub pass : S → ℕ → List (FinishedCall S C R) → List (FinishedCall S C R) → Stage → View S C R
+  pass begun number mine seen stage = view (account begun number mine [] ∷ []) seen [] stage
 
--- the first account alone, and the others
-abbrev pub one : List Account → List Account
-one [] = []
-one (a ∷ accounts) = a ∷ []
+  -- a pass that made no call
+  abbrev pub new_account : S → ℕ → Account S C R
+  new_account begun number = account begun number [] []
 
-abbrev pub others : List Account → List Account
-others [] = []
-others (a ∷ accounts) = accounts
+  -- the passes from this number on
+  abbrev pub accounts_from : S → ℕ → ℕ → List (Account S C R)
+  accounts_from begun number seats = map (new_account begun) (range_with_len number (seats - number))
 
--- a seat deals its first account to a new one, and keeps the others
-abbrev pub dealt : View → View
-dealt v = view (one v.accounts) v.seen [] Idle
+  -- the first seat speaks for every pass
+  abbrev pub first : DeskKey S → View S C R
+  first key = view (accounts_from key.begun 0 key.seats) [] [] Idle
 
-abbrev pub kept : View → View
-kept v = view (others v.accounts) v.seen v.met v.stage
+  -- the first account alone, and the others
+  abbrev pub one : List (Account S C R) → List (Account S C R)
+  one [] = []
+  one (a ∷ accounts) = a ∷ []
 
--- the seat of a note has seen this and speaks for no pass
-abbrev pub note : List FinishedCall → View
-note seen = view [] seen [] Idle
+  abbrev pub others : List (Account S C R) → List (Account S C R)
+  others [] = []
+  others (a ∷ accounts) = accounts
 
--- a note of what the seat has seen
-abbrev pub noted : View → View
-noted v = note v.seen
+  -- a seat deals its first account to a new one, and keeps the others
+  abbrev pub dealt : View S C R → View S C R
+  dealt v = view (one v.accounts) v.seen [] Idle
 
--- a seat that was taken in
-abbrev pub spent : View
-spent = note []
+  abbrev pub kept : View S C R → View S C R
+  kept v = view (others v.accounts) v.seen v.met v.stage
 
--- the seat has met what another had seen
-abbrev pub informed : View → View → View
-informed v w = view v.accounts v.seen w.seen v.stage
+  -- the seat of a note has seen this and speaks for no pass
+  abbrev pub note : List (FinishedCall S C R) → View S C R
+  note seen = view [] seen [] Idle
 
--- the accounts remember what was seen
-abbrev pub sealed : List FinishedCall → List Account → List Account
-sealed seen accounts = map (λ a. account a.begun a.number a.mine seen) accounts
+  -- a note of what the seat has seen
+  abbrev pub noted : View S C R → View S C R
+  noted v = note v.seen
 
--- the seat takes in another's accounts, with what that one had seen
-abbrev pub gathered : View → View → View
-gathered v w = view (v.accounts ++ sealed w.seen w.accounts) v.seen v.met v.stage
+  -- a seat that was taken in
+  abbrev pub spent : View S C R
+  spent = note []
 
--- a pass that was handed back: its number, its own calls, and what it had seen
-abbrev pub account_of : PassView → Account
-account_of p = account p.desk.begun p.number (own_calls p) p.seen
+  -- the seat has met what another had seen
+  abbrev pub informed : View S C R → View S C R → View S C R
+  informed v w = view v.accounts v.seen w.seen v.stage
+
+  -- the accounts remember what was seen
+  abbrev pub sealed : List (FinishedCall S C R) → List (Account S C R) → List (Account S C R)
+  sealed seen accounts = map (λ a. account a.begun a.number a.mine seen) accounts
+
+  -- the seat takes in another's accounts, with what that one had seen
+  abbrev pub gathered : View S C R → View S C R → View S C R
+  gathered v w = view (v.accounts ++ sealed w.seen w.accounts) v.seen v.met v.stage
+
+  -- a pass that was handed back: its number, its own calls, and what it had seen
+  abbrev pub account_of : PassView S C R → Account S C R
+  account_of p = account p.desk.begun p.number (own_calls p) p.seen

@@ -1,5 +1,5 @@
 use Rattle.std.proofs.Common.{List, ap, sym, subst, ◌∙◌, length, arith}
-use Rattle.pana_turn.specs.Passes.{PassView}
+use Rattle.pana_host.specs.Desk.{PassView}
 use Rattle.pana_host.specs.Listen.{HaveGrown}
 use Rattle.pana_host.specs.Scanners.{HaveScanned}
 use Rattle.pana_daemon.specs.Serve.{passes_of}

@@ -9,7 +9,7 @@ use denote.Param.Send.{IsSend, param_send, arg_send, shr_send, recorded_send, st
 use Rattle.std.proofs.alloc.Global.TheSendSync as global
 use Rattle.std.below.std_heap.proofs.GlobalAllocator.TheSendSync as frees
 use Rattle.std.proofs.vec.Vec.TheSendSync as vecs
-use Rattle.pana_turn.proofs.Sending.{pass_send}
+use Rattle.pana_host.proofs.Sending.{pass_send}
 use Rattle.pana_daemon.proofs.Sending.{root_scanner_send}
 use Rattle.pana_daemon.proofs.daemon.scan_by_newlines.Goals as goal
 

@@ -1,6 +1,6 @@
 use Rattle.std.proofs.Common.{List, arith, length, ap, sym, subst, ◌∙◌}
 use Rattle.pana_turn.specs.Closing.{HasAll}
-use Rattle.pana_turn.specs.Passes.{PassView}
+use Rattle.pana_host.specs.Desk.{PassView}
 use Rattle.pana_host.specs.Listen.{AreOf, HaveGrown}
 use Rattle.pana_daemon.specs.Serve.{passes_of}
 use Rattle.pana_daemon.proofs.Passes.{count_of, each_of, firsts_of, grown_all, grown_count, grown_of, new_all, new_count, new_of, not_both, others_of, parts_grown}

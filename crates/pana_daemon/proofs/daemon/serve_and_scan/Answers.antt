@@ -11,7 +11,7 @@ use Rattle.std.proofs.alloc.Global.TheSendSync as global
 use Rattle.std.below.std_heap.proofs.GlobalAllocator.TheSendSync as frees
 use Rattle.std.proofs.boxed.Box.TheSendSync as boxes
 use Rattle.std.proofs.vec.Vec.TheSendSync as vecs
-use Rattle.pana_turn.proofs.Sending.{pass_send}
+use Rattle.pana_host.proofs.Sending.{pass_send}
 use Rattle.pana_daemon.proofs.Sending.{front_send}
 use Rattle.pana_daemon.proofs.daemon.serve_and_scan.Goals as goal
 

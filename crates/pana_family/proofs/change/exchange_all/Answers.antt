@@ -1,9 +1,10 @@
-use Rattle.std.proofs.Common.{sym, ◌∙◌, ap, ◌≡◌, ◌∷◌, [], ℕ, Option, get_or, set, arith}
+use Rattle.std.proofs.lemmas.Bool.Decides.{nat_tests}
+use Rattle.std.proofs.Common.{◌∙◌, ap, ◌≡◌, ◌∷◌, [], ℕ, Option, get_or, set, arith}
 use Rattle.std.proofs.lemmas.List.{set-set}
 use Rattle.pana_family.specs.declared.row.StampRow.{StampRow}
 use Rattle.pana_family.specs.declared.change.Exchange.{Exchange}
 use Rattle.pana_family.specs.declared.change.Exchange.TheVariants.{Take}
-use Rattle.pana_family.specs.Change.{placed, number_of, at_number, puts}
+use Rattle.pana_family.specs.Change.{puts}
 use Rattle.pana_family.specs.Rows.{row_at}
 use Rattle.pana_family.proofs.Inverses.{Halfway, halfway}
 use Rattle.pana_family.proofs.change.exchange_all.Goals as goal
@@ -30,11 +31,4 @@ loop-at-preserved c =
     let x : Exchange = get_or c.args.news.now i c.index-news-at.result in
     let new : c.replace-new.result ≡ x = c.replace-new.ensures.value ∙ half.here in
     let twice : set (set c.loop-at.news i c.replace-new.new.dest) i c.exchange_one.result ≡ set c.loop-at.news i c.exchange_one.result = set-set c.loop-at.news i c.replace-new.new.dest c.exchange_one.result in
-    record {
-      rising = c.exchange_one.ensures.rising;
-      rows = c.exchange_one.ensures.rows ∙ ap (λ (w : Exchange). placed w now) new ∙ ap (placed x) was.rows ∙ sym half.rows_after;
-      news = twice ∙ half.next c.exchange_one.result
-          (c.exchange_one.ensures.former ∙ ap (λ (w : Exchange). at_number (number_of w) (now (number_of w))) new ∙ ap (λ (f : ℕ → Option StampRow). at_number (number_of x) (f (number_of x))) was.rows);
-      size = omega (arith, ap puts twice, half.count c.exchange_one.result, was.size, c.exchange_one.ensures.size, ap (λ (w : Exchange). puts (w ∷ [])) new);
-      capacity = omega (arith, was.capacity, c.exchange_one.ensures.capacity);
-    }
+    grind (arith, nat_tests)

@@ -1,5 +1,5 @@
+use Rattle.std.proofs.lemmas.Bool.Decides.{nat_tests}
 use Rattle.std.proofs.Common.{◌∙◌, ap, arith, reverse}
-use Rattle.pana_family.specs.Change.{puts}
 use Rattle.pana_family.proofs.Inverses.{puts_reversed}
 use Rattle.pana_family.proofs.change.exchange_back.Goals as goal
 
@@ -7,4 +7,4 @@ pub returns-clause-back : goal.returns-clause-back
 returns-clause-back c = c.reverse.ensures.after ∙ ap reverse c.exchange_all.ensures.former
 
 pub returns-clause-size : goal.returns-clause-size
-returns-clause-size c = omega (arith, ap puts c.reverse.ensures.after, puts_reversed c.exchange_all.new.news, c.exchange_all.ensures.size)
+returns-clause-size c = grind (arith, nat_tests, puts_reversed)

@@ -1,3 +1,5 @@
+use Rattle.std.proofs.Common.{arith}
+use Rattle.std.proofs.lemmas.Bool.Decides.{nat_tests}
 use Rattle.std.proofs.Common.{sym, ◌∙◌, ap, ◌≡◌, ◌<◌, List, Some, subst, length, get_or}
 use Rattle.pana_family.specs.declared.row.StampRow.{StampRow}
 use Rattle.pana_family.specs.Rows.{row_at}
@@ -20,5 +22,4 @@ returns-in-Some-clause-items c =
     (ap (λ (r : StampRow). r.copy) (sym c.remove.ensures.value) ∙ named_at rows c.args.copy c.remove.result (found c).1)
 
 pub returns-in-None-clause-items : goal.returns-in-None-clause-items
-returns-in-None-clause-items c =
-    sym (dropped_same c.args.copy c.args.items.now.items (ap (λ (l : List StampRow). row_at l c.args.copy) (sym c.deref.ensures.value) ∙ c.in-None.ensures.none))
+returns-in-None-clause-items c = grind (arith, nat_tests, dropped_same)

@@ -1,3 +1,4 @@
+use Rattle.std.proofs.lemmas.Bool.Decides.{nat_tests}
 use Rattle.std.proofs.Common.{ap, sym, subst, refl, ◌∙◌, ◌∷◌, List, ℕ, filter, length, take, arith}
 use Rattle.std.proofs.lemmas.List.{length-map}
 use Rattle.pana_event.specs.declared.rel.Rel.{Rel}
@@ -11,11 +12,7 @@ use Rattle.pana_family.proofs.Written.{IsRowAt, row_at}
 use Rattle.pana_family.proofs.comparing.compare_copy.Goals as goal
 
 pub write_relations-count-requires : goal.write_relations-count-requires
-write_relations-count-requires c =
-    let rows : List StampRow = c.args.rows.now in
-    let row : StampRow = c.index-rows-index_of.result in
-    let here : IsRowAt rows c.index_of.result c.args.copy row = row_at rows rows _ _ row refl c.index_of.ensures.within c.index_of.ensures.here c.index_of.ensures.free c.index-rows-index_of.is in
-    omega (arith, others_length row.copy 0 rows c.requires.rising (ap (lives rows) here.named ∙ c.requires.lives), c.requires.few)
+write_relations-count-requires c = grind (arith, nat_tests, row_at, others_length)
 
 pub set_row-requires-clause-long : goal.set_row-requires-clause-long
 set_row-requires-clause-long c =

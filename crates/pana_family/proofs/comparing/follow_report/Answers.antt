@@ -1,27 +1,29 @@
-use Rattle.std.proofs.Common.{subst, arith}
+use Rattle.std.proofs.Common.{List, ap, arith, length, subst, sym}
 use Rattle.pana_family.specs.declared.report.FamilyReport.{FamilyReport}
+use Rattle.pana_family.specs.declared.row.StampRow.{StampRow}
 use Rattle.pana_family.specs.Change.{after}
+use Rattle.pana_family.specs.Paired.{ArePaired}
 use Rattle.pana_family.specs.Report.{IsMade}
-use Rattle.pana_family.proofs.Copies.{living_at}
-use Rattle.pana_family.proofs.Counted.{edit_paired, duplicate_paired, one_more_copy}
+use Rattle.pana_family.specs.Rows.{copy_rows}
+use Rattle.pana_family.proofs.Followed.{duplicate_paired, duplicate_room, edit_paired, new_copy}
 use Rattle.pana_family.proofs.comparing.follow_report.Goals as goal
 
 pub insert_like-requires-clause-room : goal.insert_like-requires-clause-room
 insert_like-requires-clause-room c =
     let m = subst (λ (r : FamilyReport). IsMade c.args.entry r (after c.args.back.now c.args.rows.now) c.args.rows.now) c.in-Duplicate.is c.requires.made in
-    omega (arith, one_more_copy c.args.entry c.in-Duplicate.source _ c.args.rows.now c.args.pairs.now m c.requires.paired c.copies.ensures.rising, c.requires.room)
+    omega (arith, duplicate_room c.args.entry c.in-Duplicate.source _ c.args.pairs.now m.ready c.requires.paired c.copies.ensures.rising, ap (λ (l : List StampRow). length (copy_rows l)) m.exact, c.requires.room)
 
 pub insert_like-requires-clause-new : goal.insert_like-requires-clause-new
-insert_like-requires-clause-new c here =
-    let r = living_at (after c.args.back.now c.args.rows.now) c.args.entry ((c.requires.paired.copies c.args.entry).0 here) in
-    omega (arith, (c.requires.made.before r.0 r.1).0, r.2)
+insert_like-requires-clause-new c = new_copy c.args.entry c.args.report _ c.args.pairs.now c.requires.made.ready c.requires.paired
 
 pub returns-in-Edit-clause-paired : goal.returns-in-Edit-clause-paired
 returns-in-Edit-clause-paired c =
-    edit_paired c.args.entry c.in-Edit.copy _ c.args.rows.now c.args.pairs.now c.edited.new.self (subst (λ (r : FamilyReport). IsMade c.args.entry r (after c.args.back.now c.args.rows.now) c.args.rows.now) c.in-Edit.is c.requires.made)
-    c.requires.paired c.edited.ensures.copies c.edited.ensures.pairs
+    let m = subst (λ (r : FamilyReport). IsMade c.args.entry r (after c.args.back.now c.args.rows.now) c.args.rows.now) c.in-Edit.is c.requires.made in
+    subst (λ (l : List StampRow). ArePaired l c.edited.new.self) (sym m.exact)
+    (edit_paired c.args.entry c.in-Edit.copy _ c.args.pairs.now c.edited.new.self m.ready c.requires.paired c.edited.ensures.copies c.edited.ensures.pairs)
 
 pub returns-in-Duplicate-clause-paired : goal.returns-in-Duplicate-clause-paired
 returns-in-Duplicate-clause-paired c =
-    duplicate_paired c.args.entry c.in-Duplicate.source _ c.args.rows.now c.args.pairs.now c.insert_like.new.self (subst (λ (r : FamilyReport). IsMade c.args.entry r (after c.args.back.now c.args.rows.now) c.args.rows.now) c.in-Duplicate.is c.requires.made)
-    c.requires.paired c.copies.ensures.itself c.insert_like.ensures.copies c.insert_like.ensures.pairs
+    let m = subst (λ (r : FamilyReport). IsMade c.args.entry r (after c.args.back.now c.args.rows.now) c.args.rows.now) c.in-Duplicate.is c.requires.made in
+    subst (λ (l : List StampRow). ArePaired l c.insert_like.new.self) (sym m.exact)
+    (duplicate_paired c.args.entry c.in-Duplicate.source _ c.args.pairs.now c.insert_like.new.self m.ready c.requires.paired c.copies.ensures.itself c.insert_like.ensures.copies c.insert_like.ensures.pairs)

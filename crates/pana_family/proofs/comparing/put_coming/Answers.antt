@@ -1,3 +1,4 @@
+use Rattle.std.proofs.lemmas.Bool.Decides.{nat_tests}
 use Rattle.std.proofs.Common.{◌∙◌, ◌∷◌, ◌+◌, [], List, ℕ, ap, drop, subst, sym, map, arith, refl}
 use Rattle.pana_family.specs.Change.{number_of}
 use Rattle.pana_family.specs.inner.Comparing.{IsFollowed}
@@ -20,5 +21,4 @@ loop-new-preserved c = record {
 }
 
 pub returns-clause-followed : goal.returns-clause-followed
-returns-clause-followed c =
-    subst (λ (l : List ℕ). IsFollowed [] l (map number_of c.args.news.now) c.args.rows.now c.loop-new.pairs) (none_left c.args.news.now c.loop-new.new-index (omega arith)) c.loop-new.invariant.followed
+returns-clause-followed c = grind (arith, nat_tests, none_left)

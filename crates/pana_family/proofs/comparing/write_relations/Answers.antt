@@ -1,3 +1,4 @@
+use Rattle.std.proofs.lemmas.Bool.Decides.{nat_tests}
 use Rattle.std.proofs.Common.{ap, sym, ◌∙◌, ◌≡◌, ◌<◌, ◌∷◌, [], ◌++◌, ◌+◌, ℕ, Bool, true, List, take, map, filter, length, arith}
 use Rattle.std.proofs.lemmas.List.{length-append, map-append, take_more_set}
 use Rattle.pana_event.specs.declared.rel.Rel.{Rel}
@@ -8,14 +9,7 @@ use Rattle.pana_family.proofs.comparing.write_relations.Goals as goal
 use Rattle.pana_family.proofs.comparing.write_relations.Goals.{then-is_other, else-is_other}
 
 pub bounds-rels-count : goal.bounds-rels-count
-bounds-rels-count c =
-    omega (
-      arith,
-      room_for_one (is_other c.args.row.now.copy) c.args.rows.now c.loop-other.other-index c.other-item.result c.loop-other-test.true c.other-item.is (sym c.is_other.ensures ∙ c.if-is_other.true),
-      c.loop-other.invariant.count_is,
-      c.loop-other.auto.rels,
-      c.requires,
-    )
+bounds-rels-count c = grind (arith, nat_tests, room_for_one)
 
 pub loop-other-preserved : goal.loop-other-preserved
 loop-other-preserved c =

@@ -1,7 +1,7 @@
+use Rattle.std.proofs.lemmas.Bool.Decides.{nat_tests}
 use Rattle.std.proofs.Common.{◌≡◌, ◌∷◌, ◌++◌, ◌+◌, [], List, ap, arith, get_or, length, subst, sym, take}
 use Rattle.std.proofs.lemmas.List.{take_more}
 use Rattle.pana_family.specs.declared.row.StampRow.{StampRow}
-use Rattle.pana_family.specs.Holders.{is_copy}
 use Rattle.pana_family.specs.Rows.{IsRising, copy_rows}
 use Rattle.pana_family.specs.inner.Comparing.{IsFollowed}
 use Rattle.pana_family.proofs.Compared.{fewer_taken}
@@ -10,7 +10,7 @@ use Rattle.pana_family.proofs.Following.{as_many, at_most_one, pushed_followed, 
 use Rattle.pana_family.proofs.family.pairs_of.Goals as goal
 
 pub follow-requires-clause-few : goal.follow-requires-clause-few
-follow-requires-clause-few c = omega (arith, fewer_taken (λ r. is_copy r.holder) c.args.items.now (c.loop-at.at + 1), c.requires.few)
+follow-requires-clause-few c = grind (arith, nat_tests, fewer_taken, c.requires.few)
 
 pub follow-requires-clause-rising : goal.follow-requires-clause-rising
 follow-requires-clause-rising c = rising_take 0 (c.loop-at.at + 1) c.args.items.now c.requires.rising

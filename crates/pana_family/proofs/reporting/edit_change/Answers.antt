@@ -1,3 +1,4 @@
+use Rattle.std.proofs.lemmas.Bool.Decides.{nat_tests}
 use Rattle.std.proofs.Common.{arith}
 use Rattle.pana_family.proofs.Planned.{edit_exact}
 use Rattle.pana_family.proofs.reporting.edit_change.Goals as goal
@@ -7,7 +8,7 @@ updated_event-requires-clause-owner c = c.requires.kept.stands.owning c.row_of.r
 
 pub updated_event-requires-clause-room : goal.updated_event-requires-clause-room
 updated_event-requires-clause-room c =
-    omega (arith, c.requires.kept.levels c.row_of.result.now c.row_of.ensures.there, (c.requires.new c.row_of.result.now c.row_of.ensures.there).1, c.ranges.entry.fits)
+    omega (arith, c.requires.kept.levels c.row_of.result.now c.row_of.ensures.there, (c.requires.before c.row_of.result.now c.row_of.ensures.there).1, c.requires.fits)
 
 pub returns : goal.returns
-returns c = edit_exact c.args.rows.now c.args.copy c.args.entry c.row_of.result.now c.in_ok-event.event c.requires.kept.rising c.row_of.ensures c.in_ok-event.ensures
+returns c = grind (arith, nat_tests, edit_exact)

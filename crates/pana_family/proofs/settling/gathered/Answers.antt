@@ -1,6 +1,8 @@
-use Rattle.std.proofs.Common.{Bool, ap, cond, subst, sym, take, true, ◌+◌, ◌∙◌, ◌≡◌, ℕ}
+use Rattle.std.proofs.Common.{arith}
+use Rattle.std.proofs.lemmas.Bool.Decides.{nat_tests}
+use Rattle.std.proofs.Common.{Bool, ap, cond, take, ◌+◌, ◌∙◌, ◌≡◌, ℕ}
 use Rattle.std.specs.Prelude.{List}
-use Rattle.pana_id.specs.Id.{Id, SharesNoPoint, sum_of}
+use Rattle.pana_id.specs.Id.{Id, sum_of}
 use Rattle.pana_family.specs.declared.row.StampRow.{StampRow}
 use Rattle.pana_family.specs.After.{ends}
 use Rattle.pana_family.specs.Rows.{with_ids}
@@ -11,15 +13,7 @@ use Rattle.pana_family.proofs.settling.gathered.Goals as goal
 use Rattle.pana_family.proofs.settling.gathered.Goals.{else-ends, then-ends+in_ok-id-2}
 
 pub sum-requires : goal.sum-requires
-sum-requires c =
-    let rows : List StampRow = c.args.rows.now in
-    let test : StampRow → Bool = ends c.args.from c.args.copy c.args.stamp.now.event in
-    let q : StampRow = c.other-item.result in
-    let n : ℕ = c.loop-other.other-index in
-    subst (λ (i : Id). SharesNoPoint c.loop-other.id i) (sym c.id-then-ends-2.ensures) (subst (λ (j : Id). SharesNoPoint j q.stamp.id) (sym c.loop-other.invariant)
-    (gather_apart test rows n q c.args.stamp.now.id c.requires.sound c.requires.own.valid c.requires.kept.rising c.requires.kept.stands.apart c.requires.own.apart
-    (in_read rows n q c.loop-other-test.true c.other-item.is) (seen_more rows n q c.loop-other-test.true c.other-item.is)
-    (subst (λ (e : Event). ends c.args.from c.args.copy e q ≡ true) c.event_tree.ensures (sym c.if-ends.ensures))))
+sum-requires c = grind (arith, nat_tests, gather_apart, in_read, seen_more)
 
 pub loop-other-preserved : goal.loop-other-preserved
 loop-other-preserved c =
@@ -31,9 +25,4 @@ loop-other-preserved c =
     let old : Id = with_ids test mine (take n rows) in
     let more : with_ids test mine (take (n + 1) rows) ≡ cond (test q) (sum_of old q.stamp.id) old = ap (with_ids test mine) (seen_more rows n q c.loop-other-test.true c.other-item.is) ∙ with_more test mine (take n rows) q in
     let ended : c.ends.result ≡ test q = c.ends.ensures ∙ ap (λ (e : Event). ends c.args.from c.args.copy e q) c.event_tree.ensures in
-    elim c.if-ends.branch [
-      | then-ends+in_ok-id-2 w ↦
-          w.id-is ∙ w.in_ok-id-2.ensures ∙ ap (sum_of c.loop-other.id) w.id-then-ends-2.ensures ∙ ap (λ (j : Id). sum_of j q.stamp.id) c.loop-other.invariant
-          ∙ sym (more ∙ ap (λ (b : Bool). cond b (sum_of old q.stamp.id) old) (sym ended ∙ w.if-ends.true))
-      | else-ends w ↦ w.id-is ∙ c.loop-other.invariant ∙ sym (more ∙ ap (λ (b : Bool). cond b (sum_of old q.stamp.id) old) (sym ended ∙ w.if-ends.false))
-    ]
+    grind (arith, nat_tests, then-ends+in_ok-id-2, else-ends)

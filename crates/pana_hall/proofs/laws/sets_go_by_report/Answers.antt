@@ -1,14 +1,14 @@
 use Rattle.std.specs.Prelude.{◌≡◌, ◌++◌, [], ◌∷◌}
-use Rattle.std.proofs.Common.{refl, sym, ap, ◌∙◌}
+use Rattle.std.proofs.Common.{sym, ap, ◌∙◌}
 use Rattle.pana_hall.specs.Family.{begun_or_joined, families, subject}
 use Rattle.pana_hall.specs.Effective.{is_of_copies}
 use Rattle.pana_hall.specs.laws.Layers.{family_of_next}
-use Rattle.pana_hall.specs.laws.Sets.{knowns_of, reported, sets_at}
+use Rattle.pana_hall.specs.laws.Sets.{knowns_of, sets_at}
 use Rattle.pana_hall.specs.laws.Tables.{layer}
 use Rattle.pana_hall.proofs.Sound.{family_new, accepted_is_sound}
 use Rattle.pana_hall.proofs.Knowns.{knowns_of-push}
-use Rattle.pana_hall.proofs.Tables.{layer_new, layer_confirm, layer_other, layer_report, layer_undone, layer_withdraw}
-use Rattle.pana_hall.proofs.Stood.{above_sets, below_sets, knowns_none}
+use Rattle.pana_hall.proofs.Tables.{layer_confirm, layer_other, layer_report, layer_undone, layer_withdraw}
+use Rattle.pana_hall.proofs.Stood.{above_sets, below_sets, register_sets}
 use Rattle.pana_hall.proofs.laws.sets_go_by_report.Goals as goal
 
 pub returns : goal.returns
@@ -25,13 +25,7 @@ returns c = record {
   begun = λ journal entry place accepted accepts is.
       let sound = accepted_is_sound 8 journal accepted in
       let own : family_of_next journal entry ≡ entry.number = family_new journal entry ∙ ap (λ r. begun_or_joined (families journal) entry.number (subject r)) is in
-      ap (λ f. sets_at 0 f (journal ++ entry ∷ [])) (sym own)
-      ∙ ap knowns_of (layer_report 8 journal entry sound accepts (ap is_of_copies is))
-      ∙ knowns_of-push (layer 8 0 (family_of_next journal entry) journal) entry
-      ∙ ap (λ f. reported entry.number entry.report (knowns_of (layer 8 0 f journal))) (own ∙ accepts.next)
-      ∙ ap (λ l. reported entry.number entry.report (knowns_of l)) (layer_new journal sound)
-      ∙ ap (reported entry.number entry.report) knowns_none
-      ∙ ap (λ r. reported entry.number r []) is;
-  above = λ journal family accepted. above_sets journal family _ accepted refl;
-  below = λ journal family accepted. below_sets journal family _ accepted refl;
+      ap (λ f. sets_at 0 f (journal ++ entry ∷ [])) (sym own) ∙ ap knowns_of (layer_report 8 journal entry sound accepts (ap is_of_copies is)) ∙ register_sets journal entry sound accepts place is;
+  above = λ journal family accepted. above_sets journal family accepted;
+  below = λ journal family accepted. below_sets journal family accepted;
 }

@@ -1,14 +1,13 @@
-use Rattle.std.specs.Prelude.{◌+◌}
-use Rattle.std.proofs.Common.{refl, sym, subst}
-use Rattle.pana_hall.specs.declared.next.Step.TheVariants.{Change}
+use Rattle.std.proofs.Common.{arith}
+use Rattle.std.proofs.lemmas.Bool.Decides.{nat_tests}
+use Rattle.std.proofs.Common.{refl, subst}
 use Rattle.pana_hall.specs.inner.Listed.{listed}
 use Rattle.pana_hall.specs.inner.Next.{IsStepOf}
 use Rattle.pana_hall.proofs.Ready.{can_place, family_reported, reports_copies, spots_reported}
 use Rattle.pana_hall.proofs.recording.change_family.Goals as goal
 
 pub apply_change-requires-clause-step : goal.apply_change-requires-clause-step
-apply_change-requires-clause-step c =
-    subst (λ n. IsStepOf (n + 1) c.args.it.now c.args.copies.now c.args.report.now (Change c.in-Change.change c.in-Change.place c.in-Change.before)) (sym c.length.ensures.length) (subst (IsStepOf _ c.args.it.now c.args.copies.now c.args.report.now) c.in-Change.is c.requires.step)
+apply_change-requires-clause-step c = grind (arith, nat_tests, c.length.ensures.length, c.in-Change.is, c.requires.step)
 
 pub apply_change-requires-clause-can : goal.apply_change-requires-clause-can
 apply_change-requires-clause-can c = can_place c.requires.ready c.length.result c.length.ensures.length c.args.report.now refl

@@ -1,38 +1,31 @@
+use Rattle.std.proofs.lemmas.Bool.Decides.{nat_tests}
 use Rattle.std.specs.Prelude.{◌≡◌, ◌+◌, [], ◌∷◌, ◌++◌, length}
 use Rattle.std.proofs.Common.{sym, ap, ◌∙◌, subst, arith}
 use Rattle.pana_copies.specs.Spots.{kept}
-use Rattle.pana_hall.specs.inner.Listed.{all_listed}
-use Rattle.pana_hall.specs.inner.Next.{IsStep}
-use Rattle.pana_hall.specs.inner.Kept.{next_entry, AreSpots, IsReadyAt, families_of}
-use Rattle.pana_hall.proofs.Listed.{fresh_register, free_register, listed_push, listed_set, position_within, ready_at, spots_register, step_takes, takes_at, takes_later}
+use Rattle.pana_hall.specs.inner.Kept.{next_entry, AreSpots, families_of}
+use Rattle.pana_hall.proofs.Listed.{begins, fresh_register, free_register, listed_push, listed_set, position_within, ready_at, spots_register, step_takes, takes_at, takes_later}
 use Rattle.pana_hall.proofs.recording.make_step.Goals as goal
 
 pub begin-requires-clause-fresh : goal.begin-requires-clause-fresh
 begin-requires-clause-fresh c =
-    let is = (subst (IsStep _ _ _ _ _ _ c.args.report.now) c.in-Begin.is c.requires.step).0 in
-    let ready = subst (λ r. IsReadyAt c.args.journal.now.entries c.args.by.now r (all_listed c.args.list.now.items) c.args.position c.args.copies.now) is c.requires.ready in
-    ap (λ n. kept c.args.copies.now (n + 1)) c.length.ensures.length ∙ fresh_register ready
+    let b = begins c.args.list.now.items _ _ _ c.requires.ready c.in-Begin.is c.requires.step in
+    ap (λ n. kept c.args.copies.now (n + 1)) c.length.ensures.length ∙ fresh_register b.ready
 
 pub begin-requires-clause-free : goal.begin-requires-clause-free
-begin-requires-clause-free c =
-    let is = (subst (IsStep _ _ _ _ _ _ c.args.report.now) c.in-Begin.is c.requires.step).0 in
-    free_register (subst (λ r. IsReadyAt c.args.journal.now.entries c.args.by.now r (all_listed c.args.list.now.items) c.args.position c.args.copies.now) is c.requires.ready)
+begin-requires-clause-free c = free_register (begins c.args.list.now.items _ _ _ c.requires.ready c.in-Begin.is c.requires.step).ready
 
 pub begin-requires-clause-more : goal.begin-requires-clause-more
-begin-requires-clause-more c = (subst (IsStep _ _ _ _ _ _ c.args.report.now) c.in-Begin.is c.requires.step).1
+begin-requires-clause-more c = (begins c.args.list.now.items _ _ _ c.requires.ready c.in-Begin.is c.requires.step).more
 
 pub returns-in-Begin-clause-list : goal.returns-in-Begin-clause-list
 returns-in-Begin-clause-list c =
-    let is = (subst (IsStep _ _ _ _ _ _ c.args.report.now) c.in-Begin.is c.requires.step).0 in
-    let ready = subst (λ r. IsReadyAt c.args.journal.now.entries c.args.by.now r (all_listed c.args.list.now.items) c.args.position c.args.copies.now) is c.requires.ready in
-    c.begin.ensures.list ∙ listed_push ready c.length.result c.length.ensures.length
-    ∙ ap (λ r. families_of (c.args.journal.now.entries ++ next_entry c.args.journal.now.entries c.args.by.now r ∷ [])) (sym is)
+    let b = begins c.args.list.now.items _ _ _ c.requires.ready c.in-Begin.is c.requires.step in
+    c.begin.ensures.list ∙ listed_push b.ready c.length.result c.length.ensures.length ∙ ap (λ r. families_of (c.args.journal.now.entries ++ next_entry c.args.journal.now.entries c.args.by.now r ∷ [])) (sym b.is)
 
 pub returns-in-Begin-clause-spots : goal.returns-in-Begin-clause-spots
 returns-in-Begin-clause-spots c =
-    let is = (subst (IsStep _ _ _ _ _ _ c.args.report.now) c.in-Begin.is c.requires.step).0 in
-    let ready = subst (λ r. IsReadyAt c.args.journal.now.entries c.args.by.now r (all_listed c.args.list.now.items) c.args.position c.args.copies.now) is c.requires.ready in
-    subst (λ r. AreSpots (c.args.journal.now.entries ++ next_entry c.args.journal.now.entries c.args.by.now r ∷ []) c.begin.new.copies) (sym is) (spots_register ready c.length.result c.length.ensures.length c.begin.new.copies c.begin.ensures.spots)
+    let b = begins c.args.list.now.items _ _ _ c.requires.ready c.in-Begin.is c.requires.step in
+    subst (λ r. AreSpots (c.args.journal.now.entries ++ next_entry c.args.journal.now.entries c.args.by.now r ∷ []) c.begin.new.copies) (sym b.is) (spots_register b.ready c.length.result c.length.ensures.length c.begin.new.copies c.begin.ensures.spots)
 
 pub index_mut-requires : goal.index_mut-requires
 index_mut-requires c =
@@ -47,9 +40,7 @@ change_family-requires-clause-ready c =
     ready_at c.args.list.now.items c.requires.ready (takes_later takes) c.index_mut.result.now c.index_mut.result.now c.index_mut.ensures.value
 
 pub change_family-requires-clause-step : goal.change_family-requires-clause-step
-change_family-requires-clause-step c =
-    let takes = step_takes _ _ _ _ _ _ _ c.args.step c.in_default.not-Begin c.requires.step in
-    takes_at takes c.index_mut.result.now c.index_mut.result.now c.index_mut.ensures.value
+change_family-requires-clause-step c = grind (arith, nat_tests, step_takes, takes_at, c.requires.step, c.index_mut.ensures.value)
 
 pub returns-in_default-clause-list : goal.returns-in_default-clause-list
 returns-in_default-clause-list c =

@@ -1,4 +1,5 @@
-use Rattle.std.specs.Prelude.{◌≡◌, length, Ok, Err, Result, IfOk}
+use Rattle.std.proofs.lemmas.Bool.Decides.{nat_tests}
+use Rattle.std.specs.Prelude.{◌≡◌, length}
 use Rattle.std.proofs.Common.{ap, arith}
 use Rattle.pana_hall.proofs.Listed.{not_register, position_within, ready_at, still_there, takes_set, takes_step}
 use Rattle.pana_hall.proofs.recording.prepare_step.Goals as goal
@@ -17,10 +18,4 @@ returns-in_default-clause-same c =
     still_there c.args.list.now.items c.requires (not_register c.args.report.now c.in_default.not-Register) c.index_mut.result.now c.index_mut.result.now c.prepare_family.new.it c.index_mut.ensures.value c.prepare_family.ensures.same
 
 pub returns-in_default-clause-step : goal.returns-in_default-clause-step
-returns-in_default-clause-step c =
-    let later = not_register c.args.report.now c.in_default.not-Register in
-    on_step c.prepare_family.result (λ step is. takes_step _ _ _ _ _ _ _ step (takes_set c.args.list.now.items c.requires later _ c.prepare_family.new.it step is)) c.prepare_family.ensures.step
-  where
-    on_step : {T E : Type 0} {P Q : T → Type 0} (r : Result T E) → ((x : T) → P x → Q x) → IfOk r P → IfOk r Q
-    on_step (Ok x) f p = f x p
-    on_step (Err e) f p = tt
+returns-in_default-clause-step c = grind (arith, nat_tests, not_register, takes_step, takes_set, c.requires, c.prepare_family.ensures.step)

@@ -9,13 +9,12 @@ use denote.Exit.{no}
 use denote.Param.{param}
 use denote.Param.Send.{IsSync, param_send, arg_send, param_sync, arg_sync, shr_sync, recorded_sync, struct_sync}
 use Rattle.std.proofs.alloc.Global.TheSendSync as global
-use Rattle.pana_turn.proofs.Sending.{desk_sync}
 use Rattle.pana_host.specs.Lane.{AreServed}
 use Rattle.pana_host.specs.declared.lane.LaneEnd.{LaneEnd}
 use Rattle.pana_host.specs.declared.hosting.Booth.{Booth}
 use Rattle.pana_host.specs.inner.Booth.{BringsTo, ends_of, waiting}
 use Rattle.pana_host.proofs.Booths.{all_served, booth_count, waits_at}
-use Rattle.pana_host.proofs.Sending.{booth_send}
+use Rattle.pana_host.proofs.Sending.{booth_send, desk_sync}
 use Rattle.pana_host.proofs.hosting.host.Goals as goal
 
 pub for_each_mut-requires-send-T : goal.for_each_mut-requires-send-T

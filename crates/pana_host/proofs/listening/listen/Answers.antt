@@ -11,7 +11,7 @@ use denote.Param.{param}
 use denote.Param.Send.{IsSync, sendable, param_send, arg_send, param_sync, arg_sync, shr_sync, recorded_sync, struct_sync}
 use Rattle.std.proofs.alloc.Global.TheSendSync as global
 use Rattle.std.proofs.sync.Mutex.TheSendSync as mutexes
-use Rattle.pana_turn.specs.Passes.{PassView}
+use Rattle.pana_host.specs.Desk.{PassView}
 use Rattle.pana_host.specs.Listen.{HaveGrown}
 use Rattle.pana_host.specs.Session.{GrowsTo}
 use Rattle.pana_host.proofs.Sessions.{all_grown, stayed}

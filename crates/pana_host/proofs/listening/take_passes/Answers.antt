@@ -1,5 +1,5 @@
 use Rattle.std.proofs.Common.{◌≡◌, List, [], ◌∷◌, ◌++◌, length, append-nil, arith, refl, sym, ap, ◌∙◌}
-use Rattle.pana_turn.specs.Passes.{PassView}
+use Rattle.pana_host.specs.Desk.{PassView}
 use Rattle.pana_host.proofs.listening.take_passes.Goals as goal
 
 no_more : (rest : List PassView) → length rest ≡ 0 → rest ≡ []

@@ -9,7 +9,7 @@ use Rattle.pana_turn.proofs.turn.await_turn.Given as goal
 abbrev pub invariant-loop : goal.invariant-loop
 invariant-loop g l = record {
   table : l.seat.table_id ≡ l.fn.seat.table_id;
-  me : l.seat.me ≡ (pass l.floor.key.begun l.number (calls_of l.number l.seat.me.0.seen) l.seat.me.0.seen (Drawn l.ticket), []);
+  me : l.seat.me ≡ (pass l.shared.key.begun l.number (calls_of l.number l.seat.me.0.seen) l.seat.me.0.seen (Drawn l.ticket), []);
   seen : IsPrefix l.fn.seat.me.0.seen l.seat.me.0.seen;
   own : calls_of l.number l.seat.me.0.seen ≡ calls_of l.number l.fn.seat.me.0.seen;
 }

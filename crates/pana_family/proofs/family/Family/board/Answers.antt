@@ -1,5 +1,6 @@
-use Rattle.std.proofs.Common.{List, sym, subst, ◌∙◌}
-use Rattle.std.proofs.lemmas.Result.{IfOk-weaker}
+use Rattle.std.proofs.Common.{arith}
+use Rattle.std.proofs.lemmas.Bool.Decides.{nat_tests}
+use Rattle.std.proofs.Common.{List, sym, subst}
 use Rattle.pana_family.specs.Change.{RowList}
 use Rattle.pana_family.specs.Table.{Known}
 use Rattle.pana_family.specs.Stands.{StandsFor}
@@ -11,10 +12,10 @@ same c table st =
     same_board c.self.inside.items.items table c.self.inside.pairs c.self.invariant.0.rising (subst (λ (v : RowList). StandsFor v.rows table) (sym c.self.view_is) st) c.self.invariant.1 c.copies.ensures.rising c.copies.ensures.itself
 
 pub returns-clause-rows : goal.returns-clause-rows
-returns-clause-rows c = IfOk-weaker c.board_of.result _ _ (λ board is table st. is ∙ (same c table st).each) c.board_of.ensures.rows
+returns-clause-rows c = grind (arith, nat_tests, same, c.board_of.ensures.rows)
 
 pub returns-clause-newest : goal.returns-clause-newest
-returns-clause-newest c = IfOk-weaker c.board_of.result _ _ (λ board is table st. is ∙ (same c table st).newest) c.board_of.ensures.newest
+returns-clause-newest c = grind (arith, nat_tests, same)
 
 pub returns-clause-split : goal.returns-clause-split
-returns-clause-split c = IfOk-weaker c.board_of.result _ _ (λ board is table st. is ∙ (same c table st).split) c.board_of.ensures.split
+returns-clause-split c = grind (arith, nat_tests, same)

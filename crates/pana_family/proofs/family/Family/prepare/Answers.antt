@@ -1,18 +1,18 @@
+use Rattle.std.proofs.lemmas.Bool.Decides.{nat_tests}
 use Rattle.std.proofs.Common.{◌∙◌, List, ap, arith, length, subst, sym}
 use Rattle.pana_family.specs.declared.row.StampRow.{StampRow}
 use Rattle.pana_family.specs.Rows.{AreBefore, copy_rows}
 use Rattle.pana_family.specs.Change.{RowList, after}
-use Rattle.pana_family.specs.Report.{CanReport, IsMade, IsReported}
+use Rattle.pana_family.specs.Report.{IsMade}
 use Rattle.pana_family.specs.declared.change.Change.{Change}
 use Rattle.pana_family.specs.View.{IsPrepared}
 use Rattle.pana_family.proofs.Able.{able}
-use Rattle.pana_family.proofs.Counted.{few_made}
+use Rattle.pana_family.proofs.Followed.{few_made}
 use Rattle.pana_family.proofs.Following.{as_many}
 use Rattle.pana_family.proofs.family.Family.prepare.Goals as goal
 
 pub report_change-requires-clause-able : goal.report_change-requires-clause-able
-report_change-requires-clause-able c =
-    subst (CanReport c.args.report) (sym (c.deref.ensures.value ∙ ap (λ (v : RowList). v.rows) c.self.view_is)) (able c.args.report c.args.self.now.rows c.requires.living (sym c.fault.ensures ∙ c.in_default.is))
+report_change-requires-clause-able c = grind (arith, nat_tests, able)
 
 pub report_change-requires-clause-new : goal.report_change-requires-clause-new
 report_change-requires-clause-new c = subst (AreBefore c.args.entry) (sym (c.deref.ensures.value ∙ ap (λ (v : RowList). v.rows) c.self.view_is)) c.requires.new
@@ -22,12 +22,7 @@ unfolding IsPrepared
 returns-clause-prepared c =
     let rows : List StampRow = c.self.inside.items.items in
     let change : Change = c.in_ok-change.change in
-    let m : IsMade c.args.entry c.args.report rows (after change rows) = record {
-      kept = c.self.invariant.0;
-      able = subst (λ (v : RowList). CanReport c.args.report v.rows) (sym c.self.view_is) (able c.args.report c.args.self.now.rows c.requires.living (sym c.fault.ensures ∙ c.in_default.is));
-      before = subst (λ (v : RowList). AreBefore c.args.entry v.rows) (sym c.self.view_is) c.requires.new;
-      reported = subst (λ (l : List StampRow). IsReported c.args.entry c.args.report l (after change l)) c.deref.ensures.value c.in_ok-change.ensures;
-    } in
+    let m = subst (λ (l : List StampRow). IsMade c.args.entry c.args.report l (after change l)) c.deref.ensures.value c.in_ok-change.ensures in
     let many = few_made c.args.entry c.args.report rows (after change rows) m in
     record {
       made = subst (λ (l : List StampRow). IsMade c.args.entry c.args.report l (after change l)) (sym c.reserve.ensures.items) m;
@@ -45,7 +40,4 @@ returns-clause-prepared c =
     }
 
 pub returns-clause-room : goal.returns-clause-room
-returns-clause-room c = (
-  omega (arith, ap (λ (v : RowList). v.room.rows) c.self.view_is, c.reserve.ensures.capacity),
-  omega (arith, ap (λ (v : RowList). v.room.copies) c.self.view_is, ap length c.reserve-2.ensures.copies, c.reserve-2.ensures.more),
-)
+returns-clause-room c = grind (arith, nat_tests)

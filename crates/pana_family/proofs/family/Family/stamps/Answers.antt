@@ -1,3 +1,5 @@
+use Rattle.std.proofs.Common.{arith}
+use Rattle.std.proofs.lemmas.Bool.Decides.{nat_tests}
 use Rattle.std.proofs.Common.{sym, subst, ◌∙◌, List, ap, map, filter}
 use Rattle.pana_family.specs.declared.row.StampRow.{StampRow}
 use Rattle.pana_family.specs.Holders.{is_copy}
@@ -17,6 +19,4 @@ returns-clause-stands c = λ table st.
     (ap (map text_of) c.from_vec.ensures ∙ c.in_ok-stamps.ensures ∙ ap (λ (l : List StampRow). map row_text (filter (λ row. is_copy row.holder) l)) c.deref-2.ensures.value)
 
 pub returns-clause-exact : goal.returns-clause-exact
-returns-clause-exact c =
-    ap (map text_of) c.from_vec.ensures ∙ c.in_ok-stamps.ensures
-    ∙ ap (λ (l : List StampRow). map row_text (filter (λ row. is_copy row.holder) l)) (c.deref-2.ensures.value ∙ ap (λ (v : RowList). v.rows) c.self.view_is)
+returns-clause-exact c = grind (arith, nat_tests)

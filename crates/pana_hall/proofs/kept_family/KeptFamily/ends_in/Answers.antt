@@ -1,3 +1,5 @@
+use Rattle.std.proofs.Common.{arith}
+use Rattle.std.proofs.lemmas.Bool.Decides.{nat_tests}
 use Rattle.std.specs.Prelude.{option_copied}
 use Rattle.std.proofs.Common.{sym, ap, ◌∙◌}
 use Rattle.pana_hall.specs.inner.Undo.{RoomyFamily, ends_in}
@@ -10,6 +12,4 @@ returns-in-Some c =
     ∙ ap (ends_in c.args.entry) (history_first c.self.inside.family.rows c.self.inside.undo.items c.in-Some.last.now (sym c.front.ensures ∙ ap option_copied c.in-Some.is)))
 
 pub returns-in-None : goal.returns-in-None
-returns-in-None c =
-    sym (ap (λ (k : RoomyFamily). ends_in c.args.entry k.kept.undo) (sym c.self.view_is)
-    ∙ ap (ends_in c.args.entry) (history_none c.self.inside.family.rows c.self.inside.undo.items (sym c.front.ensures ∙ ap option_copied c.in-None.is)))
+returns-in-None c = grind (arith, nat_tests, history_none, c.self.view_is, c.front.ensures, c.in-None.is)

@@ -1,5 +1,7 @@
+use Rattle.std.proofs.Common.{arith}
+use Rattle.std.proofs.lemmas.Bool.Decides.{nat_tests}
 use Rattle.std.specs.Prelude.{◌≡◌, Some, None, IsSome, option_copied, option_map}
-use Rattle.std.proofs.Common.{refl, sym, ap, ◌∙◌}
+use Rattle.std.proofs.Common.{refl, ◌∙◌}
 use Rattle.pana_hall.specs.Family.{families}
 use Rattle.pana_hall.specs.inner.Kept.{family_of}
 use Rattle.pana_hall.specs.inner.Listed.{all_listed, listed}
@@ -14,10 +16,4 @@ unwrap-requires c =
     (c.of_entry.ensures ∙ found_at c.args.self.now.journal.entries (all_listed fs.list.items) fs.positions.items c.args.entry all.listed all.placed c.requires.has.0 c.requires.has.1)
 
 pub returns : goal.returns
-returns c =
-    let fs = c.args.self.now.families in
-    let all = c.requires.kept in
-    let both : Some (listed c.unwrap.result.now) ≡ Some (family_of c.args.self.now.journal.entries (families c.args.self.now.journal.entries c.args.entry)) =
-    ap (λ o. option_map listed (option_copied o)) (sym c.unwrap.ensures) ∙ c.of_entry.ensures
-    ∙ found_at c.args.self.now.journal.entries (all_listed fs.list.items) fs.positions.items c.args.entry all.listed all.placed c.requires.has.0 c.requires.has.1 in
-    cc
+returns c = grind (arith, nat_tests, found_at, c.requires.kept, c.unwrap.ensures, c.of_entry.ensures, c.requires.has.0, c.requires.has.1)

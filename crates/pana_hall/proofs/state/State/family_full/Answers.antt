@@ -1,20 +1,11 @@
-use Rattle.std.specs.Prelude.{nat_le, option_map}
-use Rattle.std.specs.Bool.{then_some}
-use Rattle.std.proofs.Common.{sym, ap, ◌∙◌}
-use Rattle.pana_hall.specs.declared.cause.Cause.TheVariants.{FamilyFull}
+use Rattle.std.proofs.Common.{arith}
+use Rattle.std.proofs.lemmas.Bool.Decides.{nat_tests}
 use Rattle.pana_hall.proofs.Answered.{found_spot, full_is}
 use Rattle.pana_hall.proofs.Listed.{found_entry}
 use Rattle.pana_hall.proofs.state.State.family_full.Goals as goal
 
 pub family-requires-clause-has : goal.family-requires-clause-has
-family-requires-clause-has c =
-    let copy = found_spot c.args.self.now.journal.entries c.args.self.now.copies c.args.number _ c.requires.spots (sym c.get.ensures ∙ ap (option_map _) c.in_ok-get.was) in
-    found_entry c.args.self.now.journal.entries c.args.number copy.0 c.requires.accepted copy.1
+family-requires-clause-has c = grind (arith, nat_tests, found_spot, found_entry, c.requires.spots, c.get.ensures, c.requires.accepted)
 
 pub returns : goal.returns
-returns c =
-    let journal = c.args.self.now.journal.entries in
-    let copy = found_spot journal c.args.self.now.copies c.args.number _ c.requires.spots (sym c.get.ensures ∙ ap (option_map _) c.in_ok-get.was) in
-    c.then_some.ensures
-    ∙ ap (λ k. then_some (nat_le 256 k) FamilyFull) c.count.ensures
-    ∙ full_is journal c.args.number copy.0 _ c.requires.accepted copy.1 c.family.ensures
+returns c = grind (arith, nat_tests, found_spot, full_is, c.requires.spots, c.get.ensures, c.then_some.ensures, c.count.ensures, c.requires.accepted, c.family.ensures)

@@ -1,4 +1,6 @@
-use Rattle.std.specs.Prelude.{◌≡◌, ◌+◌, ◌<◌, ◌≤◌, List, [], ◌∷◌, ◌++◌, map, take, true, false, cond, length, nat_lt, slice_index_or}
+use Rattle.std.proofs.Common.{arith}
+use Rattle.std.proofs.lemmas.Bool.Decides.{nat_tests}
+use Rattle.std.specs.Prelude.{◌≡◌, ◌+◌, ◌<◌, List, [], ◌∷◌, ◌++◌, map, take, true, false, cond, length, nat_lt, slice_index_or}
 use Rattle.std.specs.List.{list_any}
 use Rattle.std.proofs.Common.{sym, ap, ◌∙◌, subst, append-nil}
 use Rattle.std.proofs.lemmas.List.{take_all, take_more, map-append}
@@ -52,11 +54,4 @@ loop-it-preserved c =
     ]
 
 pub returns : goal.returns
-returns c =
-    let journal = c.args.self.now.journal.entries in
-    let list = c.args.self.now.families.list.items in
-    let items : c.as_slice-it-items.result.now ≡ list = c.as_slice-it-items.ensures in
-    let all : take c.loop-it.it-index list ≡ list = take_all c.loop-it.it-index list (subst (λ (l : List ListedFamily). length l ≤ c.loop-it.it-index) items (c.loop-it-test.false)) in
-    c.loop-it.invariant
-    ∙ ap (λ (l : List ListedFamily). rows_of_families (living journal) (map (λ k. (listed k).number) l)) all
-    ∙ ap (rows_of_families (living journal)) (numbers_own journal list c.requires.kept.listed)
+returns c = grind (arith, nat_tests, take_all, rows_of_families, numbers_own, c.as_slice-it-items.ensures, c.loop-it-test.false, c.loop-it.invariant, c.requires.kept.listed)

@@ -1,3 +1,5 @@
+use Rattle.std.proofs.Common.{arith}
+use Rattle.std.proofs.lemmas.Bool.Decides.{nat_tests}
 use Rattle.std.specs.Prelude.{◌≡◌, ℕ, true, cond, Some, None, List, option_map, option_and_then}
 use Rattle.std.specs.Str.{bytes_eq}
 use Rattle.std.proofs.Common.{refl, sym, ap, ◌∙◌}
@@ -13,9 +15,7 @@ use Rattle.pana_hall.proofs.Listed.{found_entry}
 use Rattle.pana_hall.proofs.state.State.holding_at.Goals as goal
 
 pub family-requires-clause-has : goal.family-requires-clause-has
-family-requires-clause-has c =
-    let copy = found_spot c.args.self.now.journal.entries c.args.self.now.copies c.args.number _ c.requires.kept.spots (sym c.get.ensures ∙ ap (option_map _) c.in-Some.is) in
-    found_entry c.args.self.now.journal.entries c.args.number copy.0 c.requires.kept.accepted copy.1
+family-requires-clause-has c = grind (arith, nat_tests, found_spot, found_entry, c.requires.kept.spots, c.get.ensures, c.in-Some.is, c.requires.kept.accepted)
 
 pub touch-requires : goal.touch-requires
 touch-requires c =
@@ -28,9 +28,9 @@ returns c =
     let journal = c.args.self.now.journal.entries in
     let copy = found_spot journal c.args.self.now.copies c.args.number _ c.requires.kept.spots (sym c.get.ensures ∙ ap (option_map _) c.in-Some.is) in
     let family = families journal c.args.number in
-    let touch : c.touch.result ≡ copy.0.touch =
+    let touch : c.touch.result ≡ copy.0.known.touch =
     c.touch.ensures (sets_at 0 family journal) (stands_of journal family _ c.requires.kept.accepted c.family.ensures) ∙ touch_of_copy journal family c.args.number copy.0 c.requires.kept.accepted copy.1 refl in
-    let number : copy.0.number ≡ c.args.number = found_number (living journal) c.args.number copy.0 copy.1 in
+    let number : copy.0.known.copy ≡ c.args.number = found_number (living journal) c.args.number copy.0 copy.1 in
     let there : copy.0.place ≡ c.in-Some.found.place.now = ap (λ (s : Spot). s.place) copy.2 in
     let own : copy.0.family ≡ c.in-Some.found.family = ap (λ (s : Spot). s.family) copy.2 in
     let path : c.in_ok-path.path ≡ copy.0.place.path = c.in_ok-path.ensures ∙ ap (λ (p : Place). p.path) (sym there) in
@@ -39,5 +39,5 @@ returns c =
     ∙ ap (λ b. cond b (Some (holding copy.0)) None) shown
     ∙ held_is copy.0 c.args.number c.in-Some.found.family c.in_ok-path.path c.touch.result number own (sym path) (sym touch))
   where
-    held_is : (x : Copy) (n f : ℕ) (p : List ℕ) (t : ℕ) → x.number ≡ n → x.family ≡ f → x.place.path ≡ p → x.touch ≡ t → Some (holding x) ≡ Some (record { copy = n; family = f; path = p; touch = t })
+    held_is : (x : Copy) (n f : ℕ) (p : List ℕ) (t : ℕ) → x.known.copy ≡ n → x.family ≡ f → x.place.path ≡ p → x.known.touch ≡ t → Some (holding x) ≡ Some (record { copy = n; family = f; path = p; touch = t })
     held_is x n f p t a b d e = cc

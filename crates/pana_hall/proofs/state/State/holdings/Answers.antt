@@ -1,3 +1,4 @@
+use Rattle.std.proofs.lemmas.Bool.Decides.{nat_tests}
 use Rattle.std.specs.Prelude.{◌≡◌, [], ◌∷◌, ◌++◌, length}
 use Rattle.std.specs.Option.{option_to_list}
 use Rattle.std.proofs.Common.{sym, ap, ◌∙◌, append-nil, arith}
@@ -8,9 +9,7 @@ use Rattle.pana_hall.proofs.state.State.holdings.Goals as goal
 use Rattle.pana_hall.proofs.state.State.holdings.Goals.{in-Some+in_ok-push, in_default}
 
 pub loop-earlier-init : goal.loop-earlier-init
-loop-earlier-init c =
-    let journal = c.args.self.now.journal.entries in
-    c.new-made.ensures.items ∙ sym (holdings_none 0 0 (living journal) c.args.device.now (omega arith) (rising 8 journal c.requires.kept.accepted).0)
+loop-earlier-init c = grind (arith, nat_tests, holdings_none, rising, c.new-made.ensures.items, c.requires.kept.accepted)
 
 pub loop-earlier-preserved : goal.loop-earlier-preserved
 loop-earlier-preserved c =

@@ -1,3 +1,5 @@
+use Rattle.std.proofs.Common.{arith}
+use Rattle.std.proofs.lemmas.Bool.Decides.{nat_tests}
 use Rattle.std.proofs.Common.{refl, ap, ◌∙◌}
 use Rattle.pana_family.specs.Relation.{relation}
 use Rattle.pana_family.specs.Table.{set_in}
@@ -9,9 +11,7 @@ use Rattle.pana_hall.proofs.Answered.{lives_of, pair_at, set_of_copy, stands_of}
 use Rattle.pana_hall.proofs.state.State.pair_of.Goals as goal
 
 pub family-requires-clause-has : goal.family-requires-clause-has
-family-requires-clause-has c =
-    let pair = pair_at c.args.self.now.journal.entries c.args.a c.args.b c.requires.kept.accepted c.requires.free in
-    found_entry c.args.self.now.journal.entries c.args.a pair.first c.requires.kept.accepted pair.found_first
+family-requires-clause-has c = grind (arith, nat_tests, pair_at, found_entry, c.requires.kept.accepted, c.requires.free)
 
 pub rel-requires-clause-first : goal.rel-requires-clause-first
 rel-requires-clause-first c =

@@ -1,3 +1,5 @@
+use Rattle.std.proofs.Common.{arith}
+use Rattle.std.proofs.lemmas.Bool.Decides.{nat_tests}
 use Rattle.std.specs.Prelude.{◌≡◌, Some, None, option_copied}
 use Rattle.std.proofs.Common.{sym, ap, ◌∙◌, subst}
 use Rattle.pana_copies.specs.declared.place.Place.{Place}
@@ -8,7 +10,7 @@ use Rattle.pana_hall.proofs.Answered.{back_place, taken_from_is}
 use Rattle.pana_hall.proofs.state.State.taken_since.Goals as goal
 
 pub family-requires-clause-has : goal.family-requires-clause-has
-family-requires-clause-has c = entry_within c.args.self.now.journal.entries c.args.number _ (sym c.entry.ensures.entry ∙ ap option_copied c.in_ok-entry.was)
+family-requires-clause-has c = grind (arith, nat_tests, entry_within, c.entry.ensures.entry)
 
 pub returns-in_err-last_place : goal.returns-in_err-last_place
 returns-in_err-last_place c =

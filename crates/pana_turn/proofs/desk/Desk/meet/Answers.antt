@@ -9,11 +9,11 @@ use Rattle.pana_turn.proofs.Joining.{informs}
 use Rattle.pana_turn.proofs.desk.Desk.meet.Goals as goal
 
 pub join_seat-requires : goal.join_seat-requires
-join_seat-requires c =
+join_seat-requires g c =
     let id = ap (λ d. d.id.table) c.self.view_is in
     let v = c.pass.inside.seat.me.0 in
-    let asks : View → Type 0 = λ w. Joins (Keeps c.self.inside.table.shared.key) c.pass.inside.seat.id v c.note.inside.seat.id w (informed v w) spent in (
-      ap (λ p. p.desk.table) c.pass.view_is ∙ ap (λ (d : DeskId). d.table) c.requires.pass ∙ sym id,
+    let asks : View _ _ _ → Type 0 = λ w. Joins (Keeps g.M.Machine.step c.self.inside.table.shared.key) c.pass.inside.seat.id v c.note.inside.seat.id w (informed v w) spent in (
+      ap (λ p. p.desk.table) c.pass.view_is ∙ ap (λ (d : DeskId _). d.table) c.requires.pass ∙ sym id,
       ap (λ n. n.desk) c.note.view_is ∙ c.requires.note ∙ sym id,
       ap (λ me. me.1) c.note.invariant,
       (let words = c.self.invariant.words in omega arith),
@@ -21,9 +21,9 @@ join_seat-requires c =
     )
 
 pub load-requires : goal.load-requires
-load-requires c =
+load-requires g c =
     let joined = c.join_seat.ensures in (
-      joined.0 ∙ ap (λ p. p.desk.table) c.pass.view_is ∙ ap (λ (d : DeskId). d.table) c.requires.pass ∙ sym (ap (λ d. d.id.table) c.self.view_is),
+      joined.0 ∙ ap (λ p. p.desk.table) c.pass.view_is ∙ ap (λ (d : DeskId _). d.table) c.requires.pass ∙ sym (ap (λ d. d.id.table) c.self.view_is),
       (let words = c.self.invariant.words in omega arith),
       glances _ _ _ _ (ap (λ me. me.0.stage) joined.2 ∙ ap (λ me. me.0.stage) c.pass.invariant),
     )
