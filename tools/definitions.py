@@ -13,7 +13,7 @@ CRATES = Path(__file__).resolve().parent.parent / "crates"
 HEADLINE = [
     "pana_hall/src/hall.rt:apply",
     "pana_hall/src/hall.rt:apply_all",
-    "pana_turn/src/desk.rt:call",
+    "pana_laws/src/laws.rt:daemon_is_one_run",
     "pana_daemon/src/daemon.rt:serve",
 ]
 ITEM = re.compile(r"^(?:(?:abbrev|unfoldable|opaque) )?(?:pub )?(?:record |data )?(?P<name>\S+) (?:[({].* )?:(?:=)? ")
@@ -33,8 +33,10 @@ def imports_of(text):
 
 def items_of(text):
     """The definitions of a file: each name with its lines."""
-    items, name = {}, None
+    items, name, inside = {}, None, False
     for line in text.splitlines():
+        inside = line.startswith("module ") or inside and line[:1] in ("", " ")
+        line = line.removeprefix("  ") if inside else line
         if not line.strip() or line.startswith(("--", "use ", "pub use ", "mod ", "pub mod ", "#")):
             name = None if line.startswith("--") else name
             continue
@@ -67,7 +69,7 @@ def clauses_of(call):
     begun = re.search(rf"^ *pub fn {re.escape(name)}\b", text, re.MULTILINE)
     if not begun:
         sys.exit(f"{path} has no public function {name}")
-    ended = re.compile(r"^ *\{$", re.MULTILINE).search(text, begun.start())
+    ended = re.compile(r"^ *\{\}?$", re.MULTILINE).search(text, begun.start())
     taken = imports_of(text)
     return [taken[word] for word in WORD.findall(text[begun.start():ended.start()]) if word in taken]
 

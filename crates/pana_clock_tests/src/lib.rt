@@ -10,7 +10,7 @@ mod family;
 #[cfg(test)]
 mod id;
 #[cfg(test)]
-mod keep;
+mod log;
 #[cfg(test)]
 mod notation;
 #[cfg(test)]

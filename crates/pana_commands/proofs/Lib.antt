@@ -1,5 +1,5 @@
 pub mod Compared
-pub mod NeverSpent
+pub mod AlwaysAnswered
 pub mod Asked
 pub mod Joined
 pub mod Reported

@@ -6,13 +6,15 @@ use Rattle.std.specs.Borrow.{Bor}
 use Rattle.std.proofs.lemmas.List.{append_assoc}
 use Rattle.std.proofs.lemmas.Bool.{ne_eqb}
 use Rattle.pana_journal.specs.declared.entry.Entry.{Entry}
-use Rattle.pana_wire.specs.Lines.{lines_of}
+use Rattle.pana_wire.specs.Lines.{lines_of, texts}
 use Rattle.pana_hall.specs.Load.{IsLoadFault, shown_load_fault}
 use Rattle.pana_hall.specs.declared.loading.LoadFault.{LoadFault}
-use Rattle.pana_commands.specs.declared.answer.Answer.{Answer}
-use Rattle.pana_commands.specs.declared.line_fault.LineFault.{LineFault}
+use Rattle.pana_commands.specs.declared.printout.Printout.{Printout}
+use Rattle.pana_wire.specs.declared.line_fault.LineFault.{LineFault}
+use Rattle.pana_wire.specs.DumpLines.{HasFault}
+use Rattle.pana_wire.specs.Shown.{shown_line_fault}
 use Rattle.pana_commands.specs.Answered.{Reports, report_line}
-use Rattle.pana_commands.specs.Load.{HasFault, AnswersDump, AnswersEntries, AnswersLines, shown_line_fault}
+use Rattle.pana_commands.specs.Load.{AnswersDump, AnswersEntries, AnswersLines}
 use Rattle.pana_seal.specs.Seal.{IsDamagedAt}
 use Rattle.pana_seal.specs.Shown.{shown_seal_fault}
 use Rattle.pana_seal.specs.declared.seal_fault.SealFault.TheVariants.{Damaged}
@@ -21,7 +23,6 @@ use Rattle.pana_scan.specs.Listing.{Contents}
 use Rattle.pana_scan.specs.declared.scan_fault.ScanFault.{ScanFault}
 use Rattle.pana_scan.specs.Fault.{shown_scan_fault}
 use Rattle.pana_commands.specs.Scan.{AnswersScan, skipped_line}
-use Rattle.pana_wire.specs.inner.Slices.{texts}
 use Rattle.pana_wire.proofs.Said.{texts_next, texts_before}
 use Rattle.pana_commands.specs.Show.{TakesLine, TakesLines, report_of}
 
@@ -71,18 +72,18 @@ next_taken lines index d old mid new reports reports' why within before line is 
     (takes_one_more 1 old (texts (take index lines)) reports mid (get_or lines index d).now why new before line))
 
 -- where loading stopped at an entry, it is reported
-pub load_reported : (entries : List Entry) (fault : LoadFault) (answer : Answer) → IsLoadFault entries fault → fault.at ≢ 0
+pub load_reported : (entries : List Entry) (fault : LoadFault) (answer : Printout) → IsLoadFault entries fault → fault.at ≢ 0
     → ((text : List ℕ) → Some (shown_load_fault fault) ≡ Some text → Reports text answer) → AnswersEntries entries answer
 load_reported entries fault answer (inl shortage) some says = absurd (some shortage.0)
 load_reported entries fault answer (inr stops) some says = inr (fault, stops, says (shown_load_fault fault) refl)
 
 -- a line's fault is reported
-pub line_reported : (lines : List (List ℕ)) (fault : LineFault) (answer : Answer) → HasFault lines fault
+pub line_reported : (lines : List (List ℕ)) (fault : LineFault) (answer : Printout) → HasFault lines fault
     → ((text : List ℕ) → Some (shown_line_fault fault) ≡ Some text → Reports text answer) → AnswersLines lines answer
 line_reported lines fault answer has says = inr (fault, has, says (shown_line_fault fault) refl)
 
 -- a damaged line is reported
-pub damage_reported : (bytes : List ℕ) (number : ℕ) (answer : Answer) → IsDamagedAt (lines_of bytes) number
+pub damage_reported : (bytes : List ℕ) (number : ℕ) (answer : Printout) → IsDamagedAt (lines_of bytes) number
     → ((text : List ℕ) → Some (shown_seal_fault (Damaged number)) ≡ Some text → Reports text answer) → AnswersDump bytes answer
 damage_reported bytes number answer damaged says = inr (number, damaged, says (shown_seal_fault (Damaged number)) refl)
 
@@ -94,11 +95,11 @@ skipped_report skipped some =
     ∙ ap (λ t. codes "panad: " ++ t) (append_assoc (decimal skipped) (codes " names skipped") (10 ∷ [])))
 
 -- the device's name is none
-pub bad_device_reported : (device : List ℕ) (scanned : Result Contents ScanFault → Type 0) (answer : Answer) → is_device device ≡ false
+pub bad_device_reported : (device : List ℕ) (scanned : Result Contents ScanFault → Type 0) (answer : Printout) → is_device device ≡ false
     → ((text : List ℕ) → Some (codes "BadDevice") ≡ Some text → Reports text answer) → AnswersScan device scanned answer
 bad_device_reported device scanned answer bad says = inl (bad, says (codes "BadDevice") refl)
 
 -- the folder can't be scanned
-pub scan_reported : (device : List ℕ) (scanned : Result Contents ScanFault → Type 0) (fault : ScanFault) (answer : Answer) → scanned (Err fault)
+pub scan_reported : (device : List ℕ) (scanned : Result Contents ScanFault → Type 0) (fault : ScanFault) (answer : Printout) → scanned (Err fault)
     → ((text : List ℕ) → Some (shown_scan_fault fault) ≡ Some text → Reports text answer) → AnswersScan device scanned answer
 scan_reported device scanned fault answer why says = inr (inr (fault, why, says (shown_scan_fault fault) refl))

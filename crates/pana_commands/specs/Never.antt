@@ -1,5 +1,7 @@
 -- What never happens.
+use Rattle.std.specs.Prelude.{ℕ, List}
+use Rattle.pana_hall.specs.declared.call.Call.{Call}
 
--- no state is left by a call that isn't made, since every call is
-abbrev pub IsNever : {S : Type 0} → S → S → Type 0
-IsNever old new = ⊥
+-- no call is without an answer
+abbrev pub IsNever : {S : Type 0} → S → List ℕ → Call → S → Type 0
+IsNever old by call new = ⊥

@@ -8,7 +8,7 @@ use Rattle.pana_scan.specs.Plan.{plan_of}
 use Rattle.pana_scan.specs.declared.scan_fault.ScanFault.{ScanFault}
 use Rattle.pana_scan.specs.declared.step.Step.{Step}
 use Rattle.pana_wire.specs.Report.{report_text}
-use Rattle.pana_commands.specs.declared.answer.Answer.{Answer}
+use Rattle.pana_commands.specs.declared.printout.Printout.{Printout}
 use Rattle.pana_commands.specs.Answered.{Reports, report_line}
 
 -- the lines by which a device makes the reports of steps
@@ -20,12 +20,12 @@ abbrev pub skipped_line : ℕ → List ℕ
 skipped_line skipped = if skipped == 0 then [] else report_line (decimal skipped ++ codes " names skipped")
 
 -- the lines of all that a first scan with this listing calls for, with status 0
-abbrev pub PrintsFirstScan : Contents → Answer → Type 0
+abbrev pub PrintsFirstScan : Contents → Printout → Type 0
 PrintsFirstScan listing answer = (string_bytes answer.out ≡ lines_for listing.device (plan_of [] [] listing).steps)
     × (string_bytes answer.err ≡ skipped_line listing.skipped) × (answer.status ≡ 0)
 
 -- what is answered, by what is said of the scan: that the device is none; the lines of what was found; or why nothing was
-abbrev pub AnswersScan : List ℕ → (Result Contents ScanFault → Type 0) → Answer → Type 0
+abbrev pub AnswersScan : List ℕ → (Result Contents ScanFault → Type 0) → Printout → Type 0
 AnswersScan device scanned answer = ((is_device device ≡ false) × Reports (codes "BadDevice") answer)
     ⊎ ((listing : Contents) × (listing.device ≡ device) × scanned (Ok listing) × PrintsFirstScan listing answer)
     ⊎ ((fault : ScanFault) × scanned (Err fault) × Reports (shown_scan_fault fault) answer)

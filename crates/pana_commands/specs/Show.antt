@@ -11,7 +11,7 @@ use Rattle.pana_wire.specs.Shown.{shown_fault}
 use Rattle.pana_wire.specs.declared.fault.WireFault.{WireFault}
 use Rattle.pana_wire.specs.declared.fault.WireFault.TheVariants.{OutOfMemory}
 use Rattle.pana_wire.specs.declared.message.Message.{Message}
-use Rattle.pana_commands.specs.declared.answer.Answer.{Answer}
+use Rattle.pana_commands.specs.declared.printout.Printout.{Printout}
 use Rattle.pana_commands.specs.declared.showing.Reason.{Reason}
 use Rattle.pana_commands.specs.declared.showing.Reason.TheVariants as reasons
 use Rattle.pana_commands.specs.Answered.{report_line}
@@ -56,6 +56,6 @@ status_of [] = 0
 status_of reports = 1
 
 -- what is answered to lines: the tables of the journal that they leave, and a report about each that wasn't done
-abbrev pub AnswersLines : List ℕ → Answer → Type 0
+abbrev pub AnswersLines : List ℕ → Printout → Type 0
 AnswersLines bytes answer = (journal : List Entry) × TakesLines 1 [] (lines_of bytes) (string_bytes answer.err) journal
     × (string_bytes answer.out ≡ tables_text journal) × (answer.status ≡ status_of (string_bytes answer.err))

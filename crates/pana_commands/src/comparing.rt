@@ -4,18 +4,18 @@ ghost use Rattle.pana_event.specs.Event.{Event};
 ghost use Rattle.pana_event.specs.Relation.{IsRelation};
 ghost use Rattle.pana_commands.specs.Compare.{AnswersTexts, Compares, SaysFault};
 
-use crate::answer::Answer;
+use crate::printout::Printout;
 use pana_event::Rel;
 use pana_stamp::Stamp;
 use pana_text::{TextFault, read};
 use std::alloc::{AllocError, Global};
 
-impl Answer {
-    fn of_relation(alloc: Global, rel: Rel) -> Result<Answer, AllocError>
+impl Printout {
+    fn of_relation(alloc: Global, rel: Rel) -> Result<Printout, AllocError>
         ensures { IfOk result (λ answer. (e f : Event) → IsRelation e f rel → Compares e f answer) }
     {
         let name = rel.name();
-        Ok(Answer {
+        Ok(Printout {
             out: format!(in alloc; "{name}\n")?,
             err: String::new(alloc),
             status: 0,
@@ -23,10 +23,10 @@ impl Answer {
     }
 
     /// The fault of the stamp with this name, `first` or `second`.
-    fn of_fault(alloc: Global, name: &str, fault: TextFault) -> Result<Answer, AllocError>
+    fn of_fault(alloc: Global, name: &str, fault: TextFault) -> Result<Printout, AllocError>
         ensures { IfOk result (SaysFault name.now fault) }
     {
-        Ok(Answer {
+        Ok(Printout {
             out: String::new(alloc),
             err: format!(in alloc; "panad: {name} stamp: {fault}\n")?,
             status: 1,
@@ -43,18 +43,18 @@ impl Answer {
 /// fault `OutOfMemory`.
 ///
 /// Reads each text as `read` does, and visits each node of the two events at most twice more.
-pub fn compare_on(alloc: Global, a: &str, b: &str) -> Result<Answer, AllocError>
+pub fn compare_on(alloc: Global, a: &str, b: &str) -> Result<Printout, AllocError>
     // Of each text just one fault says something true (`pana_text::laws`), so the texts determine the answer, but for
     // `OutOfMemory`, which may be reported of a stamp's text.
     ensures { IfOk result (AnswersTexts a.now b.now) }
 {
     let first = match read(alloc, a) {
         Ok(stamp) => stamp,
-        Err(fault) => return Answer::of_fault(alloc, "first", fault),
+        Err(fault) => return Printout::of_fault(alloc, "first", fault),
     };
     let second = match read(alloc, b) {
         Ok(stamp) => stamp,
-        Err(fault) => return Answer::of_fault(alloc, "second", fault),
+        Err(fault) => return Printout::of_fault(alloc, "second", fault),
     };
-    Answer::of_relation(alloc, Stamp::compare(&first, &second))
+    Printout::of_relation(alloc, Stamp::compare(&first, &second))
 }

@@ -2,19 +2,17 @@
 //! words and files that they are given by.
 #![tactic(auto)]
 
-mod answer;
 mod comparing;
-mod line_fault;
 mod loading;
-mod one_hall;
+mod printout;
 mod running;
 mod scanning;
 mod showing;
 mod tables;
 
-pub use crate::answer::Answer;
 pub use crate::comparing::compare_on;
 pub use crate::loading::load_on;
+pub use crate::printout::Printout;
 pub use crate::running::run_on;
 pub use crate::scanning::scan_on;
 pub use crate::showing::show_on;

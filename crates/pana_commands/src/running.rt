@@ -1,11 +1,11 @@
 ghost use Rattle.std.specs.Prelude.{◌≡◌, ◌≢◌, ◌≤◌, ◌^◌, ◌⊎◌, List, [], false, IfOk, IfErr};
 ghost use Rattle.pana_journal.specs.declared.entry.Entry.{Entry};
-ghost use Rattle.pana_hall.specs.Step.{Steps};
+ghost use Rattle.pana_wire.specs.Answer.{Replies};
 ghost use Rattle.pana_wire.specs.Tap.{has_failed, MadeAtMost};
 ghost use Rattle.pana_wire.specs.Session.{Serves, Stops, NeverBegins};
 ghost use Rattle.pana_commands.specs.Never.{IsNever};
 
-use crate::one_hall::OneHall;
+use pana_hall::Hall;
 use pana_wire::{ServeFault, Served, Tap, serve};
 use std::alloc::Global;
 use std::io::{Read, Write};
@@ -14,7 +14,7 @@ use std::io::{Read, Write};
 ///
 /// From bytes to bytes: what is written are the answers to the lines that are read, each permitted on the journal
 /// that the lines before it leave, beginning with the empty one. After a fault what was written is a prefix of such
-/// answers. Faults are those of `serve`, but for `Spent`, which never comes; `OutOfMemory` also where the hall itself
+/// answers. Faults are those of `serve`, but for `NoAnswer`, which never comes; `OutOfMemory` also where the hall itself
 /// can't be allocated, before the first read.
 pub fn run_on<R: Read, W: Write>(
     alloc: Global,
@@ -26,15 +26,15 @@ pub fn run_on<R: Read, W: Write>(
     requires writer { has_failed writer.old ≡ false }
     requires reads { reads ≤ 2 ^ 40 }
     ensures ok { IfOk result (λ served. (journal : List Entry)
-        × Serves R.remaining W.contents Steps reader.old reader.new writer.old writer.new [] journal served) }
+        × Serves R.remaining W.contents Replies reader.old reader.new writer.old writer.new [] journal served) }
     ensures fault { IfErr result (λ fault. (journal : List Entry)
         × (NeverBegins reader.old reader.new writer.old writer.new [] journal fault
-        ⊎ Stops R.remaining W.contents Steps IsNever reads reader.old reader.new writer.old writer.new [] journal fault)) }
-    ensures never_spent { IfErr result (λ fault. fault ≢ ServeFault.Spent) }
+        ⊎ Stops R.remaining W.contents Replies IsNever reads reader.old reader.new writer.old writer.new [] journal fault)) }
+    ensures answered { IfErr result (λ fault. fault ≢ ServeFault.NoAnswer) }
     ensures reads { MadeAtMost reads reader.old reader.new }
 {
-    match OneHall::new(alloc) {
-        Ok(mut session) => serve(alloc, reader, writer, &mut session, reads),
+    match Hall::new(alloc) {
+        Ok(mut hall) => serve(alloc, reader, writer, &mut hall, reads),
         Err(_) => Err(ServeFault::OutOfMemory),
     }
 }

@@ -3,7 +3,7 @@ ghost use Rattle.std.specs.Prelude.{◌≡◌, ◌++◌, IfOk, string_bytes};
 ghost use Rattle.pana_scan.specs.Scan.{IsFresh, IsScanned};
 ghost use Rattle.pana_commands.specs.Scan.{AnswersScan, PrintsFirstScan, lines_for, skipped_line};
 
-use crate::answer::Answer;
+use crate::printout::Printout;
 use pana_copies::DeviceName;
 use pana_hall::HoldingList;
 use pana_scan::{Baseline, Disk, Listing, ScanFault, Step, Watch, plan, read_root};
@@ -34,7 +34,7 @@ fn skipped_line(alloc: Global, skipped: u64) -> Result<String, AllocError>
 }
 
 /// The lines of what a first scan with this listing calls for.
-fn answer_listing(alloc: Global, listing: &Listing) -> Result<Answer, AllocError>
+fn answer_listing(alloc: Global, listing: &Listing) -> Result<Printout, AllocError>
     ensures { IfOk result (PrintsFirstScan listing.now) }
 {
     let plan = plan(
@@ -43,7 +43,7 @@ fn answer_listing(alloc: Global, listing: &Listing) -> Result<Answer, AllocError
         &HoldingList::new(alloc),
         listing,
     )?;
-    Ok(Answer {
+    Ok(Printout {
         out: lines_for(alloc, listing.device(), plan.steps.as_slice())?,
         err: skipped_line(alloc, listing.skipped())?,
         status: 0,
@@ -63,16 +63,16 @@ pub fn scan_on<D: Disk, W: Watch>(
     device: &str,
     folder: &str,
     watch: &mut W,
-) -> Result<Answer, AllocError>
+) -> Result<Printout, AllocError>
     requires { IsFresh (D.has_failed disk.old) (D.entries disk.old) (D.faults disk.old) }
     ensures { IfOk result (AnswersScan device.now (IsScanned D.is_known (D.tree disk.old) folder.now device.now (D.has_failed disk.new) (D.entries disk.new) (D.faults disk.new))) }
 {
     let Ok(device) = DeviceName::new(device) else {
-        return Answer::reported(alloc, &"BadDevice");
+        return Printout::reported(alloc, &"BadDevice");
     };
     match read_root(alloc, disk, &device, folder, watch) {
         Ok(listing) => answer_listing(alloc, &listing),
         Err(ScanFault::OutOfMemory) => Err(AllocError),
-        Err(fault) => Answer::reported(alloc, &fault),
+        Err(fault) => Printout::reported(alloc, &fault),
     }
 }

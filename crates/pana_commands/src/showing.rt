@@ -1,9 +1,9 @@
 //! Lines made as calls on a new hall, and its tables in place of the answers.
 ghost use Rattle.std.specs.Prelude.{◌≡◌, ◌++◌, [], IfOk, OnOk, option_map, string_bytes};
-ghost use Rattle.pana_wire.specs.inner.Slices.{texts};
+ghost use Rattle.pana_wire.specs.Lines.{texts};
 ghost use Rattle.pana_commands.specs.Show.{AnswersLines, status_of, TakesLine, TakesLines, report_of, shown_reason};
 
-use crate::answer::Answer;
+use crate::printout::Printout;
 use crate::tables::tables_of;
 use pana_hall::{Cause, Hall, Reply};
 use pana_wire::{Message, WireFault, decode, split_lines};
@@ -93,7 +93,7 @@ fn status_of(err: &str) -> u8
 ///
 /// `AllocError` where an allocation failed for the hall, the tables or the reports. One that failed for a line is
 /// reported as that line's.
-pub fn show_on(alloc: Global, bytes: &[u8]) -> Result<Answer, AllocError>
+pub fn show_on(alloc: Global, bytes: &[u8]) -> Result<Printout, AllocError>
     ensures { IfOk result (AnswersLines bytes.now) }
 {
     let mut hall = Hall::new(alloc)?;
@@ -101,5 +101,5 @@ pub fn show_on(alloc: Global, bytes: &[u8]) -> Result<Answer, AllocError>
     let err = take_lines(alloc, &mut hall, lines.as_slice())?;
     let out = tables_of(alloc, &mut hall)?;
     let status = status_of(err.as_str());
-    Ok(Answer { out, err, status })
+    Ok(Printout { out, err, status })
 }

@@ -1,3 +1,13 @@
+pub mod JobSlots
+pub mod Openings
+pub mod Sending
+pub mod Scanned
+pub mod Tallies
+pub mod Scans
+pub mod Sessions
+pub mod Connections
 pub mod Rooted
 pub mod Passes
-pub mod Sending
+pub mod Posts
+pub mod Attended
+pub mod Tasks

@@ -1,39 +1,37 @@
 -- Passes of one desk, and scanners of roots.
 use Rattle.std.specs.List.{range_with_len}
-use Rattle.std.proofs.Common.{◌≡◌, ◌==◌, ◌<◌, ◌||◌, ◌⊎◌, inl, inr, ℕ, zero, suc, ◌+◌, Bool, true, false, All, List, [], ◌∷◌, ◌++◌, map, length, take, drop, get_or, Option, Result, arith, refl, sym, subst, ap, ◌∙◌, append_assoc, append-nil}
-use Rattle.std.proofs.lemmas.List.{map-append, take-append-drop}
+use Rattle.std.proofs.Common.{◌≡◌, ◌==◌, ◌<◌, ◌||◌, ◌⊎◌, inl, inr, ℕ, zero, suc, ◌+◌, Bool, true, false, All, List, [], ◌∷◌, ◌++◌, map, length, take, drop, get_or, Option, Result, Ok, arith, refl, sym, subst, ap, ◌∙◌, append_assoc}
+use Rattle.std.proofs.lemmas.List.{map-append}
 use Rattle.std.proofs.lemmas.List.FromFn.{length-map-range_with_len}
 use Rattle.std.proofs.Math.Seq.{take-append_seam}
 use Rattle.std.proofs.lemmas.Grind.{take_at_read}
 use Rattle.std.proofs.lemmas.Bool.Decides.{nat_tests}
-use Rattle.pana_hall.specs.Run.{Exchange}
+use Rattle.pana_hall.specs.declared.call.Call.{Call}
+use Rattle.pana_wire.specs.declared.answer.Answer.{Answer}
 use Rattle.pana_scan.specs.declared.scan_fault.ScanFault.{ScanFault}
 use Rattle.pana_scan.specs.Listing.{Contents}
 use Rattle.pana_turn.specs.Closing.{HasAll, LacksOne, has_pass}
-use Rattle.pana_turn.specs.Passes.{new_pass, new_passes}
-use Rattle.pana_host.specs.Desk.{DeskId, PassView}
-use Rattle.pana_host.specs.declared.scanners.Scanner.{Scanner}
-use Rattle.pana_host.specs.declared.scanning.ScanTally.{ScanTally}
-use Rattle.pana_host.specs.Listen.{AreOf, HaveGrown}
-use Rattle.pana_host.specs.Scan.{Makes, Scans}
-use Rattle.pana_host.specs.Scanners.{HaveScanned}
-use Rattle.pana_host.specs.Session.{GetsNone, GrowsTo, MakesCall}
-use Rattle.pana_host.proofs.Sessions.{grows_on, grows_same, call_grows, none_grows}
-use Rattle.pana_daemon.specs.Serve.{passes_of}
+use Rattle.pana_turn.specs.Passes.{DeskId, new_pass, new_passes}
+use Rattle.pana_daemon.specs.Desk.{PassView}
+use Rattle.pana_daemon.specs.declared.scanning.ScanTally.{ScanTally}
+use Rattle.pana_daemon.specs.inner.Passes.{AreOf, HaveGrown}
+use Rattle.pana_daemon.specs.Scan.{Asked, Makes, Scans}
+use Rattle.pana_daemon.specs.Session.{GetsNone, GrowsTo, MakesCall}
+use Rattle.pana_daemon.proofs.Sessions.{grows_on, grows_same, call_grows, none_grows}
 
 -- new passes with these numbers
-abbrev numbered : DeskId → List ℕ → List PassView
+abbrev numbered : {S : Type 0} → DeskId S → List ℕ → List (PassView S)
 numbered desk numbers = map (new_pass desk) numbers
 
-of_numbers : (desk : DeskId) (numbers : List ℕ) → AreOf desk (numbered desk numbers)
+of_numbers : {S : Type 0} → (desk : DeskId S) (numbers : List ℕ) → AreOf desk (numbered desk numbers)
 of_numbers desk [] = tt
 of_numbers desk (number ∷ numbers) = (refl, of_numbers desk numbers)
 
 -- the passes of a new desk are of it
-pub new_of : (desk : DeskId) (seats : ℕ) (passes : List PassView) → passes ≡ new_passes desk seats → AreOf desk passes
+pub new_of : {S : Type 0} → (desk : DeskId S) (seats : ℕ) (passes : List (PassView S)) → passes ≡ new_passes desk seats → AreOf desk passes
 new_of desk seats passes is = subst (AreOf desk) (sym is) (of_numbers desk (range_with_len 0 seats))
 
-pub new_count : (desk : DeskId) (seats : ℕ) (passes : List PassView) → passes ≡ new_passes desk seats → length passes ≡ seats
+pub new_count : {S : Type 0} → (desk : DeskId S) (seats : ℕ) (passes : List (PassView S)) → passes ≡ new_passes desk seats → length passes ≡ seats
 new_count desk seats passes is = ap length is ∙ length-map-range_with_len (new_pass desk) 0 seats
 
 or_left : (a b : Bool) → a ≡ true → (a || b) ≡ true
@@ -47,7 +45,7 @@ same_number : (n : ℕ) → (n == n) ≡ true
 same_number n = grind (arith, nat_tests)
 
 -- passes numbered from a number on have each of these numbers
-numbered_have : (desk : DeskId) (first count k : ℕ) → k < count → has_pass (numbered desk (range_with_len first count)) (first + k) ≡ true
+numbered_have : {S : Type 0} → (desk : DeskId S) (first count k : ℕ) → k < count → has_pass (numbered desk (range_with_len first count)) (first + k) ≡ true
 numbered_have desk first zero k within = absurd (omega (arith, within))
 numbered_have desk first (suc count) zero within =
     let same : first + 0 ≡ first = omega arith in
@@ -57,91 +55,46 @@ numbered_have desk first (suc count) (suc k) within =
     or_right (first == first + suc k) _ (ap (λ n. has_pass (numbered desk (range_with_len (first + 1) count)) n) same ∙ numbered_have desk (first + 1) count k (omega (arith, within)))
 
 -- a new desk has all its passes
-pub new_all : (desk : DeskId) (seats : ℕ) (passes : List PassView) → passes ≡ new_passes desk seats → HasAll seats passes
+pub new_all : {S : Type 0} → (desk : DeskId S) (seats : ℕ) (passes : List (PassView S)) → passes ≡ new_passes desk seats → HasAll seats passes
 new_all desk seats passes is = subst (HasAll seats) (sym is) (λ number within.
     let same : 0 + number ≡ number = omega arith in subst (λ n. has_pass (numbered desk (range_with_len 0 seats)) n ≡ true) same (numbered_have desk 0 seats number within))
 
 -- passes that have grown are of the same desk, and have the same numbers
-pub grown_of : (desk : DeskId) (olds news : List PassView) → HaveGrown olds news → AreOf desk olds → AreOf desk news
+pub grown_of : {S : Type 0} → (desk : DeskId S) (olds news : List (PassView S)) → HaveGrown olds news → AreOf desk olds → AreOf desk news
 grown_of desk [] [] grown of = tt
 grown_of desk [] (new ∷ news) grown of = absurd grown
 grown_of desk (old ∷ olds) [] grown of = absurd grown
 grown_of desk (old ∷ olds) (new ∷ news) grown of = (grown.0.same.0 ∙ of.0, grown_of desk olds news grown.1 of.1)
 
-grown_has : (number : ℕ) (olds news : List PassView) → HaveGrown olds news → has_pass news number ≡ has_pass olds number
+grown_has : {S : Type 0} → (number : ℕ) (olds news : List (PassView S)) → HaveGrown olds news → has_pass news number ≡ has_pass olds number
 grown_has number [] [] grown = refl
 grown_has number [] (new ∷ news) grown = absurd grown
 grown_has number (old ∷ olds) [] grown = absurd grown
 grown_has number (old ∷ olds) (new ∷ news) grown =
     ap (λ n. (n == number) || has_pass news number) grown.0.same.1 ∙ ap (λ b. (old.number == number) || b) (grown_has number olds news grown.1)
 
-pub grown_all : (seats : ℕ) (olds news : List PassView) → HaveGrown olds news → HasAll seats olds → HasAll seats news
+pub grown_all : {S : Type 0} → (seats : ℕ) (olds news : List (PassView S)) → HaveGrown olds news → HasAll seats olds → HasAll seats news
 grown_all seats olds news grown all number within = grown_has number olds news grown ∙ all number within
 
-pub grown_count : (olds news : List PassView) → HaveGrown olds news → length news ≡ length olds
-grown_count [] [] grown = refl
-grown_count [] (new ∷ news) grown = absurd grown
-grown_count (old ∷ olds) [] grown = absurd grown
-grown_count (old ∷ olds) (new ∷ news) grown = ap suc (grown_count olds news grown.1)
-
-both_grown : (olds news others nexts : List PassView) → HaveGrown olds news → HaveGrown others nexts → HaveGrown (olds ++ others) (news ++ nexts)
-both_grown [] [] others nexts grown more = more
-both_grown [] (new ∷ news) others nexts grown more = absurd grown
-both_grown (old ∷ olds) [] others nexts grown more = absurd grown
-both_grown (old ∷ olds) (new ∷ news) others nexts grown more = (grown.0, both_grown olds news others nexts grown.1 more)
-
--- the first ones have grown, and the others have: so all have
-pub parts_grown : (n : ℕ) (olds firsts others back : List PassView) → HaveGrown (take n olds) firsts → HaveGrown (drop n olds) others → back ≡ firsts ++ others → HaveGrown olds back
-parts_grown n olds firsts others back grown more is =
-    subst (HaveGrown olds) (sym is) (subst (λ (all : List PassView). HaveGrown all (firsts ++ others)) (take-append-drop n olds) (both_grown (take n olds) firsts (drop n olds) others grown more))
-
--- the first ones of passes of a desk are of it, and the others are
-of_parts : (desk : DeskId) (passes others : List PassView) → AreOf desk (passes ++ others) → AreOf desk passes × AreOf desk others
-of_parts desk [] others of = (tt, of)
-of_parts desk (pass ∷ passes) others of = let parts = of_parts desk passes others of.1 in ((of.0, parts.0), parts.1)
-
-pub firsts_of : (desk : DeskId) (n : ℕ) (passes : List PassView) → AreOf desk passes → AreOf desk (take n passes)
-firsts_of desk n passes of = (of_parts desk (take n passes) (drop n passes) (subst (AreOf desk) (sym (take-append-drop n passes)) of)).0
-
-pub others_of : (desk : DeskId) (n : ℕ) (passes : List PassView) → AreOf desk passes → AreOf desk (drop n passes)
-others_of desk n passes of = (of_parts desk (take n passes) (drop n passes) (subst (AreOf desk) (sym (take-append-drop n passes)) of)).1
-
-pub each_of : (desk : DeskId) (passes : List PassView) → AreOf desk passes → All (λ pass. pass.desk ≡ desk) passes
+pub each_of : {S : Type 0} → (desk : DeskId S) (passes : List (PassView S)) → AreOf desk passes → All (λ pass. pass.desk ≡ desk) passes
 each_of desk [] of k d within = absurd (omega (arith, within))
 each_of desk (pass ∷ passes) of zero d within = of.0
 each_of desk (pass ∷ passes) of (suc k) d within = each_of desk passes of.1 k d (omega (arith, within))
-
-made_grow : (old new : PassView) (made : List Exchange) → Makes MakesCall old made new → GrowsTo old new
-made_grow old new [] so = grows_same old new so
-made_grow old new (one ∷ more) (mid, first, others) = grows_on old mid new (call_grows old mid one.by one.call one.reply first) (made_grow mid new more others)
 
 from_either : {A B C : Type 0} → A ⊎ B → (A → C) → (B → C) → C
 from_either (inl a) f g = f a
 from_either (inr b) f g = g b
 
-scanning_grows : {F : Type 0} (gives : F → Option (Result Contents ScanFault) → F → Type 0) (device : List ℕ) (folder_old folder_new : F) (old new : PassView) (tally : ScanTally)
-    → Scans gives MakesCall GetsNone device folder_old folder_new old new tally → GrowsTo old new
-scanning_grows gives device folder_old folder_new old new tally s =
-    grows_on old s.mid new (made_grow old s.mid s.made s.calls) (from_either s.ends (λ e. grows_same s.mid new e.1) (λ e. none_grows s.mid new e.1))
+module _ {S : Type 0} (step : S → List ℕ → Call → Answer → S → Type 0) (fails : S → List ℕ → Call → S → Type 0) where
+  made_grow : (old new : PassView S) (made : List Asked) → Makes (MakesCall step fails) old made new → GrowsTo old new
+  made_grow old new [] so = grows_same old new so
+  made_grow old new (one ∷ more) (mid, first, others) = grows_on old mid new (call_grows step fails old mid one.by one.call (Ok one.answer) first) (made_grow mid new more others)
 
--- the passes of scanners that have scanned have grown
-pub scanned_grown : {T G F : Type 0} (gives : F → Option (Result Contents ScanFault) → F → Type 0) (olds news : List (Scanner T G F))
-    → HaveScanned gives olds news → HaveGrown (passes_of olds) (passes_of news)
-scanned_grown gives [] [] so = tt
-scanned_grown gives [] (new ∷ news) so = absurd so
-scanned_grown gives (old ∷ olds) [] so = absurd so
-scanned_grown gives (old ∷ olds) (new ∷ news) so =
-    (scanning_grows gives old.device.now old.folder new.folder old.session new.session so.0.0 so.0.1.1, scanned_grown gives olds news so.1)
-
--- as many passes as scanners
-pub count_of : {T G F : Type 0} (scanners : List (Scanner T G F)) → length (passes_of scanners) ≡ length scanners
-count_of [] = refl
-count_of (scanner ∷ scanners) = ap suc (count_of scanners)
-
--- once no scanner is left, the passes are all
-pub all_taken : {T G F : Type 0} (passes : List PassView) (rest : List (Scanner T G F)) (all : List PassView) → length rest ≡ 0 → passes ++ passes_of rest ≡ all → passes ≡ all
-all_taken passes [] all none so = sym (append-nil passes) ∙ so
-all_taken passes (scanner ∷ rest) all none so = absurd (omega (arith, none))
+  pub scanning_grows : {F : Type 0} (gives : F → Option (Result Contents ScanFault) → F → Type 0) (device : List ℕ) (folder_old folder_new : F) (old new : PassView S) (tally : ScanTally)
+      → Scans gives (MakesCall step fails) (GetsNone step fails) device folder_old folder_new old new tally → GrowsTo old new
+  scanning_grows gives device folder_old folder_new old new tally s =
+      grows_on old s.mid new (made_grow old s.mid s.made s.calls)
+      (from_either s.ends (λ e. grows_same s.mid new e.1) (λ e. grows_on s.mid e.1.mid new (made_grow s.mid e.1.mid e.0 e.1.calls) (none_grows step fails e.1.mid new device e.1.call e.1.failed)))
 
 -- a vector whose first `n` places are written again has what was written, where it had so many items
 pub as_left : {X : Type 0} (n : ℕ) (new old : List X) → length new ≡ length old → length old ≡ n → take n (new ++ drop (length new) old) ≡ new
@@ -152,7 +105,7 @@ holds true = Unit {0}
 holds false = ⊥
 
 -- no pass is missing where all are there
-pub not_both : (seats : ℕ) (passes : List PassView) → HasAll seats passes → LacksOne seats passes → ⊥
+pub not_both : {S : Type 0} → (seats : ℕ) (passes : List (PassView S)) → HasAll seats passes → LacksOne seats passes → ⊥
 not_both seats passes all (number, within, lacks) = subst holds (sym (all number within) ∙ lacks) tt
 
 -- what scanners have of the roots so far, they have with one more

@@ -1,7 +1,7 @@
 //! What becomes of faults that aren't a session's own.
 
 use crate::start::Start;
-use pana_host::Gate;
+use crate::supervisor::Supervisor;
 use std::io;
 use std::net::{Shutdown, TcpListener, TcpStream};
 use std::os::fd::OwnedFd;
@@ -12,7 +12,7 @@ use std::time::Clock;
 /// How many seconds open sessions have before they are to end.
 const GRACE: u64 = 5;
 
-/// A gate that opens with the start, and lets all pass. It prints one line on standard error at the first call that has no
+/// A supervisor that opens with the start, and lets all pass. It prints one line on standard error at the first call that has no
 /// answer, and one where a connection can't be taken for the first time.
 #[derive(Drop)]
 pub struct Alarm<'a> {
@@ -32,7 +32,7 @@ fn socket_of(listener: &TcpListener) -> io::Result<TcpStream> {
 }
 
 impl<'a> Alarm<'a> {
-    /// A gate before the first call; once it has rung all is to end where a listener is given.
+    /// A supervisor before the first call; once it has rung all is to end where a listener is given.
     ///
     /// Fails only where a listener is given, and no descriptor is left.
     pub fn new(
@@ -81,12 +81,12 @@ impl<'a> Alarm<'a> {
     }
 }
 
-impl Gate for Alarm<'_> {
-    fn before(&self, _lane: u32, _nth: u64) {}
+impl Supervisor for Alarm<'_> {
+    fn before(&self, _caller: u32, _nth: u64) {}
 
-    fn after(&self, _lane: u32, _nth: u64) {}
+    fn after(&self, _caller: u32, _nth: u64) {}
 
-    fn unanswered(&self, _lane: u32, _nth: u64) {
+    fn unanswered(&self, _caller: u32, _nth: u64) {
         if !self.has_rung.swap(true, Ordering::SeqCst) {
             let _ = eprintln!(self.rt; "panad: journal failed");
             self.close();

@@ -1,8 +1,8 @@
 //! Standard input, for as long as it is needed.
 
 use crate::alarm::Alarm;
+use crate::supervisor::Supervisor;
 use libc::types::pollfd;
-use pana_host::Gate;
 use std::io::{self, Read};
 use std::sync::Wait;
 

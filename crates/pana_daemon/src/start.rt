@@ -46,6 +46,11 @@ impl Start {
         self.close(threads)
     }
 
+    /// Refuses the start where not all have begun.
+    pub fn refuse<T: Wait>(&self, threads: &T) {
+        let _ = self.close(threads);
+    }
+
     /// Refuses the start where not all have begun. Returns whether they have.
     fn close<T: Wait>(&self, threads: &T) -> bool {
         for _ in threads.forever() {

@@ -1,9 +1,9 @@
-//! The tests of the kept hall, of a store at a desk and of the threads at it: what no clause says of their calls.
+//! The tests of stores, of a hall at a desk and of the threads at it: what no clause says of their calls.
 #![tactic(auto)]
 
 #[cfg(test)]
-mod host;
+mod desk;
 #[cfg(test)]
-mod kept;
+mod shared;
 #[cfg(test)]
 mod store;

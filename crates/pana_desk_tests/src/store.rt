@@ -1,81 +1,209 @@
-//! What no clause says of a store at a desk: that calls succeed where memory is there, and that a board sees another pass's
-//! call. Where an allocation fails, the test ends with that error.
+//! What no clause says: that a session over a device that works answers, what it answers where the device fails, and by
+//! crashes that are run, that the definitions say what is meant.
+ghost use Rattle.std.specs.Prelude.{true, false, []};
 
-use pana_copies::{CopyPath, DeviceName, Place};
-use pana_hall::{Call, Cause, Hall, Query, Reply};
-use pana_journal::Report;
-use pana_kept::{Outcome, Request, Store};
-use pana_turn::{Desk, Spent};
-use std::alloc::{AllocError, Global};
+use pana_log::{Crash, Device, DeviceFault, Log, LogState, MemoryDevice};
+use pana_store::{OpenFault, Opened, Store, before_end, open, read, serve_kept};
+use pana_wire::{ServeFault, Tap, WireFault};
+use std::alloc::Global;
 use std::test::Fail;
 
-/// A report of a new file at the path `a`.
-fn register(alloc: Global) -> Result<Request, Fail> {
-    let place = Place {
-        device: DeviceName::new("laptop")?,
-        path: CopyPath::new(alloc, "a")?,
-    };
-    Ok(Request {
-        by: DeviceName::new("laptop")?,
-        call: Call::Report(Report::Register { place }),
-    })
-}
+const REGISTER: &[u8] = b"{\"by\":\"a\",\"device\":\"a\",\"do\":\"register\",\"path\":\"p\"}\n";
 
-/// The number of the entry that a report made, or 0 where it made none. Fails where memory ran out.
-fn entry_of(outcome: Result<Outcome, Spent>) -> Result<u64, AllocError> {
-    match outcome {
-        Ok(outcome) if outcome.is_answered => match outcome.reply {
-            Reply::Done { entry } => Ok(entry),
-            Reply::Refused(Cause::OutOfMemory) => Err(AllocError),
-            _ => Ok(0),
-        },
-        _ => Ok(0),
+const TWO_FILES: &[u8] = b"{\"by\":\"a\",\"device\":\"a\",\"do\":\"register\",\"path\":\"p\"}\n\
+{\"by\":\"a\",\"device\":\"a\",\"do\":\"register\",\"path\":\"q\"}\n";
+
+const EDIT: &[u8] = b"{\"by\":\"a\",\"copy\":1,\"do\":\"edit\"}\n";
+
+const BOARD: &[u8] = b"{\"by\":\"a\",\"do\":\"board\",\"family\":2}\n";
+
+const REGISTERED: &[u8] =
+    b"{\"entries\":[{\"by\":\"a\",\"device\":\"a\",\"do\":\"register\",\"number\":1,\"path\":\"p\"}]}\n";
+
+/// A device that has no memory for what is written to it. Nothing is known of its bytes.
+#[derive(Drop)]
+struct ShortDevice;
+
+impl Device for ShortDevice {
+    ghost use Rattle.std.specs.Prelude.{◌≡◌};
+
+    ghost is_known = { false };
+
+    ghost seen = { λ _. [] };
+
+    ghost may_leave = { λ _ c. c ≡ [] };
+
+    ghost moment = { λ _. 0 };
+
+    ghost left_since = { λ _ t c. c ≡ [] };
+
+    ghost is_usable = { λ _. true };
+
+    ghost has_failed = { λ _. true };
+
+    ghost counts_now = { λ f t c le now. now };
+
+    ghost only_now = { λ f c left. left };
+
+    fn read(&mut self, alloc: Global) -> Result<Vec<u8>, DeviceFault> {
+        Ok(Vec::new(alloc))
+    }
+
+    fn write_at(&mut self, _: usize, _: &[u8]) -> Result<(), DeviceFault> {
+        Err(DeviceFault::OutOfMemory)
+    }
+
+    fn cut(&mut self, _: usize) -> Result<(), DeviceFault> {
+        Ok(())
+    }
+
+    fn sync(&mut self) -> Result<(), DeviceFault> {
+        Ok(())
     }
 }
 
-/// How many rows the board has, or 0 where the reply is none. Fails where memory ran out.
-fn rows_of(outcome: Result<Outcome, Spent>) -> Result<usize, AllocError> {
-    match outcome {
-        Ok(outcome) if outcome.is_answered => match outcome.reply {
-            Reply::Board(board) => Ok(board.rows.as_slice().len()),
-            Reply::Refused(Cause::OutOfMemory) => Err(AllocError),
-            _ => Ok(0),
-        },
-        _ => Ok(0),
+/// A session on a new journal, whose device fails once after so many calls.
+fn session_of(alloc: Global, calls: usize) -> Result<Store<MemoryDevice>, Fail> {
+    let device = MemoryDevice::failing_after(alloc, Vec::new(alloc), calls);
+    let mut journal = Log::new(device);
+    let Opened { hall, sealer, .. } = open(alloc, &mut journal)?;
+    Ok(Store::new(alloc, hall, journal, sealer))
+}
+
+/// What a session answers to lines, and why it ended.
+fn answers<D: Device>(
+    alloc: Global,
+    session: &mut Store<D>,
+    lines: &[u8],
+) -> Result<(Vec<u8>, Option<ServeFault>), Fail> {
+    let mut reader = Tap::new(lines);
+    let mut writer = Tap::new(Vec::new(alloc));
+    let served = serve_kept(alloc, &mut reader, &mut writer, session, 1000);
+    Ok((writer.into_inner(), served.err()))
+}
+
+/// How many entries a file loads to, if it is opened.
+fn entries_of(alloc: Global, file: Vec<u8>) -> Result<u64, OpenFault> {
+    let mut journal = Log::new(MemoryDevice::new(alloc, file));
+    Ok(open(alloc, &mut journal)?.hall.length())
+}
+
+fn crash_after(calls: usize, written: usize, is_from_end: bool, other: Option<u8>) -> Crash {
+    Crash {
+        operations: calls,
+        written,
+        is_from_end,
+        other,
     }
+}
+
+/// Whether each crash after so many calls leaves so many entries, or one more, whatever of the writes had reached the disk.
+fn leaves(alloc: Global, device: &MemoryDevice, calls: usize, least: u64) -> Result<bool, Fail> {
+    for written in [0, 1, 2, 50, 200] {
+        for other in [None, Some(b'{'), Some(0)] {
+            for is_from_end in [false, true] {
+                let file = device.after_crash(crash_after(calls, written, is_from_end, other))?;
+                let count = entries_of(alloc, file)?;
+                if count < least || count - least > 1 {
+                    return Ok(false);
+                }
+            }
+        }
+    }
+    Ok(true)
 }
 
 #[test]
-fn shared_desk(rt: HostRuntime) -> Result<(), Fail> {
+fn crashes_of_a_session(rt: HostRuntime) -> Result<(), Fail> {
     let alloc = rt.alloc();
-    let (desk, mut passes) = Desk::open(alloc, 2, Store::alone(Hall::new(alloc)?))?;
-    let (Some(mut second), Some(mut first)) = (passes.pop(), passes.pop()) else {
-        return Ok(());
-    };
+    let mut session = session_of(alloc, usize::MAX)?;
+    let first = session.log().device.operations();
+    let mut done = Vec::new(alloc);
+    for line in [REGISTER, EDIT, BOARD, EDIT] {
+        let _ = answers(alloc, &mut session, line)?;
+        done.push(session.log().device.operations())?;
+    }
+    assert_eq!(rt;
+        done.as_slice(),
+        [first + 5, first + 10, first + 10, first + 15].as_slice()
+    );
+    for calls in first..first + 16 {
+        let least = ((calls - first) / 5) as u64;
+        assert!(rt;
+            leaves(alloc, &session.log().device, calls, least)?,
+            "{calls}"
+        );
+    }
+    Ok(())
+}
 
-    let done = desk.call(&rt, &mut first, register(alloc)?);
-    assert_eq!(rt; entry_of(done)?, 1);
-    assert_eq!(rt; desk.glance(&mut second), 1);
-    let board = Request {
-        by: DeviceName::new("laptop")?,
-        call: Call::Query(Query::Board { family: 1 }),
-    };
-    assert_eq!(rt; rows_of(desk.call(&rt, &mut second, board))?, 1);
-    let note = desk.note(&mut first);
-    desk.meet(&mut second, note);
-    assert_eq!(rt; desk.glance(&mut first), 2);
+#[test]
+fn failing_calls(rt: HostRuntime) -> Result<(), Fail> {
+    let alloc = rt.alloc();
+    let taken_again = b"{\"code\":14,\"refused\":\"NotKept\"}\n{\"done\":1}\n".as_slice();
+    let refused = b"{\"done\":1}\n{\"code\":14,\"refused\":\"NotKept\"}\n".as_slice();
+    let rows: [(usize, &[u8], Option<ServeFault>); 6] = [
+        (9, taken_again, None),
+        (10, taken_again, None),
+        (11, b"", Some(ServeFault::NoAnswer)),
+        (12, b"", Some(ServeFault::NoAnswer)),
+        (13, b"", Some(ServeFault::NoAnswer)),
+        (14, refused, None),
+    ];
+    for (calls, want, fault) in rows {
+        let mut session = session_of(alloc, calls)?;
+        let (answer, end) = answers(alloc, &mut session, TWO_FILES)?;
+        assert_eq!(rt; answer.as_slice(), want, "{calls}");
+        assert_eq!(rt; end, fault, "{calls}");
+        assert_eq!(rt; session.is_open(), fault.is_none(), "{calls}");
+    }
+    Ok(())
+}
 
-    passes.push(first)?;
-    let Err(refused) = desk.close(passes) else {
-        assert!(rt; false);
-        return Ok(());
+#[test]
+fn writes_without_memory(rt: HostRuntime) -> Result<(), Fail> {
+    let alloc = rt.alloc();
+    let mut journal = Log::new(MemoryDevice::new(alloc, Vec::new(alloc)));
+    let Opened { hall, sealer, .. } = open(alloc, &mut journal)?;
+    let short = Log {
+        device: ShortDevice,
+        end: 0,
+        state: LogState::Open,
     };
-    let (desk, mut passes) = (refused.desk, refused.passes);
-    passes.push(second)?;
-    let Ok(closed) = desk.close(passes) else {
-        assert!(rt; false);
-        return Ok(());
+    let mut session = Store::new(alloc, hall, short, sealer);
+    let (answer, end) = answers(alloc, &mut session, REGISTER)?;
+    let want = b"{\"code\":9,\"refused\":\"OutOfMemory\"}\n".as_slice();
+    assert_eq!(rt; answer.as_slice(), want);
+    assert_eq!(rt; end, None);
+    Ok(())
+}
+
+#[test]
+fn journals_that_are_read(rt: HostRuntime) -> Result<(), Fail> {
+    let alloc = rt.alloc();
+    let mut file = REGISTERED.to_vec(alloc)?;
+    file.extend_from_slice(b"\0torn")?;
+    assert_eq!(rt; before_end(&file), REGISTERED);
+    let mut journal = Log::new(MemoryDevice::new(alloc, file));
+    let found = read(alloc, &mut journal)?;
+    assert_eq!(rt; found.hall.length(), 1);
+    assert_eq!(rt; found.torn, 4);
+    assert_eq!(rt; journal.device.operations(), 0);
+    assert_eq!(rt; journal.device.read(alloc)?.len(), REGISTERED.len() + 5);
+    Ok(())
+}
+
+#[test]
+fn messages_of_faults(rt: HostRuntime) -> Result<(), Fail> {
+    let fault = OpenFault::Line {
+        line: 7,
+        fault: WireFault::NotJson,
     };
-    assert_eq!(rt; (closed.machine.length(), closed.calls), (1, 2));
+    let text = format!(in rt.alloc(); "{fault}")?;
+    assert_eq!(rt; text.as_str(), "line 7: NotJson");
+    let damaged = format!(in rt.alloc(); "{}", OpenFault::Damaged { line: 7 })?;
+    assert_eq!(rt; damaged.as_str(), "line 7: Damaged");
+    let unended = format!(in rt.alloc(); "{}", OpenFault::Unended)?;
+    assert_eq!(rt; unended.as_str(), "the last line has no newline");
     Ok(())
 }

@@ -1,12 +1,6 @@
 -- Rows that are put back.
-use Rattle.std.specs.Prelude.{fold, count_by, ◌≡◌, ◌≢◌, ℕ, ◌≤◌, ◌+◌, true, false, ◌==◌, nat_lt, cond, List, [], ◌∷◌, length}
-use Rattle.std.proofs.Common.{refl, sym, ◌∙◌, inl, inr, arith}
-use Rattle.std.proofs.lemmas.Bool.{eqb-false, ltb-true, ltb-false}
-use Rattle.std.proofs.lemmas.Bool.Decides.{nat_tests}
-use Rattle.pana_family.specs.declared.row.StampRow.{StampRow}
-use Rattle.pana_family.specs.Table.{In}
-use Rattle.pana_family.specs.Holders.{is_copy}
-use Rattle.pana_family.specs.Rows.{IsRising, put_back, copy_rows}
+use Rattle.pana_family.proofs.Words.{fold, ◌≡◌, ◌≢◌, ℕ, ◌≤◌, ◌+◌, true, false, ◌==◌, nat_lt, cond, List, [], ◌∷◌, length, refl, sym, ◌∙◌, inl, inr, arith, eqb-false, nat_tests, StampRow, In, is_copy}
+use Rattle.pana_family.proofs.Words.{IsRising, put_back, copy_rows, count_by, ltb-true, ltb-false}
 use Rattle.pana_family.proofs.Members.{above_low}
 
 -- rising rows are one list where they have the same members

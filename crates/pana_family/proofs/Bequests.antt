@@ -1,24 +1,9 @@
 -- A copy goes, and its heir holds it as a parcel, and what it held, and is settled.
-use Rattle.std.specs.Prelude.{◌≡◌, ◌≢◌, ℕ, Bool, true, false, cond, not, ◌&&◌, ◌||◌, ◌==◌, List, [], ◌∷◌, Option, Some, None}
-use Rattle.std.proofs.Common.{refl, sym, ap, subst, ◌∙◌, inl, inr, arith}
-use Rattle.std.proofs.lemmas.Bool.{and_parts, both_ways, cases_Bool, eq-eqb}
-use Rattle.std.proofs.lemmas.Bool.Decides.{nat_tests}
-use Rattle.pana_event.specs.Event.{Event}
-use Rattle.pana_event.specs.Order.{is_leq}
-use Rattle.pana_event.proofs.Orders.{leq-is-below}
-use Rattle.pana_stamp.specs.declared.stamp.Stamp.{Stamp}
-use Rattle.pana_family.specs.declared.row.StampRow.{StampRow}
-use Rattle.pana_family.specs.declared.report.FamilyReport.TheVariants.{Remove}
-use Rattle.pana_family.specs.Updates.{is_within}
-use Rattle.pana_family.specs.Holders.{is_held, passed}
-use Rattle.pana_family.specs.Table.{Known, In, ends as over, parcel, set_in}
-use Rattle.pana_family.specs.Stands.{AreSame, StandsFor}
-use Rattle.pana_family.specs.Rows.{AreBefore, IsRising, stamp, with_ids, AreSound}
-use Rattle.pana_family.specs.Kept.{IsKept}
-use Rattle.pana_family.specs.After.{bequeathed, ends, is_bound, parcel_row, settled}
-use Rattle.pana_family.specs.inner.Making.{CanGather, IsRowOf, passed_row}
-use Rattle.pana_family.proofs.Sound.{Sound, Renumbered}
-use Rattle.pana_family.proofs.Sums.{Gathered, gathers, within_is}
+use Rattle.pana_family.proofs.Words.{◌≡◌, ◌≢◌, ℕ, Bool, true, false, cond, not, ◌&&◌, ◌||◌, ◌==◌, List, [], ◌∷◌, Option, Some, None, refl, sym, ap, subst, ◌∙◌, inl, inr, arith, and_parts, both_ways}
+use Rattle.pana_family.proofs.Words.{cases_Bool, eq-eqb, nat_tests, Event, is_leq, leq-is-below, Stamp, StampRow, Remove, is_within, is_held, passed, Known, In, parcel, set_in, AreSame, StandsFor}
+use Rattle.pana_family.proofs.Words.{AreBefore, IsRising, stamp, with_ids, AreSound, IsKept, bequeathed, ends, parcel_row, settled, CanGather, IsRowOf, passed_row, is_bound}
+use Rattle.pana_family.specs.Table.{ends as over}
+use Rattle.pana_family.proofs.{Sound.Sound, Sound.Renumbered, Sums.Gathered, Sums.gathers, Sums.within_is}
 use Rattle.pana_family.proofs.Members.{Holds, held, holds_found, one_known, one_row, set_of, to_sound}
 use Rattle.pana_family.proofs.Tables.{comes_known, made_known, pass, passed_heir}
 use Rattle.pana_family.proofs.Images.{Alike, Outcome, some, alike_row, stay_outcome}
@@ -34,13 +19,9 @@ pub record AreHeirs (rows : List StampRow) (n c h : ℕ) (r q : StampRow) : Type
 abbrev number : ℕ → ℕ → StampRow → ℕ
 number n c z = cond (z.copy == c) n z.copy
 
--- a copy doesn't end, but for the removed one
-free_ends : (c h : ℕ) (e : Event) (z : StampRow) → z.holder ≡ None → z.copy ≢ c → ends (Some c) h e z ≡ false
-free_ends c h e z free differ = grind (arith, nat_tests)
-
 -- what ends isn't the heir
 not_heir : (rows : List StampRow) (n c h : ℕ) (r q z : StampRow) → AreHeirs rows n c h r q → In z rows → ends (Some c) h q.stamp.event z ≡ true → z.copy ≢ h
-not_heir rows n c h r q z w i t e = grind (arith, nat_tests, free_ends, one_row)
+not_heir rows n c h r q z w i t e = grind (arith, nat_tests, one_row)
 
 pub heir_gather : (rows : List StampRow) (n c h : ℕ) (r q : StampRow) → IsKept rows → AreSound rows → AreHeirs rows n c h r q → CanGather (Some c) rows h q.stamp
 heir_gather rows n c h r q k fine w = record {
@@ -153,8 +134,7 @@ gone_ends : (rows : List StampRow) (table : List Known) (n c h : ℕ) (r q : Sta
 gone_ends rows table n c h r q fine w st =
     let t = alike_row rows table st.same r w.gone.there in
     let own : set_in table c ≡ t.0.set = grind (arith, nat_tests, set_of, one_known) in
-    ap (λ (o : Option ℕ). is_held h o && is_within (set_in table c) (set_in table h)) (passed_heir c h) ∙ ap (λ (b : Bool). b && is_within (set_in table c) (set_in table h)) (eq-eqb h h refl)
-    ∙ ap (λ (xs : List ℕ). is_within xs (set_in table h)) own ∙ sym (within_heir rows table n c h r q r t.0 fine w st w.gone.there t.1 t.2.copy)
+    cc (passed_heir c h, eq-eqb h h refl, within_heir rows table n c h r q r t.0 fine w st w.gone.there t.1 t.2.copy)
 
 pub parcel_comes : (rows : List StampRow) (table : List Known) (n c h : ℕ) (r q : StampRow) → AreSound rows → AreHeirs rows n c h r q → StandsFor rows table → AreSame (parcel_left n h r q) (comes_known n (Remove c (Some h)) table)
 parcel_comes rows table n c h r q fine w st =

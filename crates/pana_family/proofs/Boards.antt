@@ -1,27 +1,13 @@
 -- Boards of a table of relations and of the table of sets that its rows stand for.
-use Rattle.std.specs.Prelude.{◌≡◌, ◌≢◌, ℕ, Bool, true, List, [], ◌∷◌, map, filter, Contains}
-use Rattle.std.specs.List.{AllByRecursion, AllZip}
-use Rattle.std.proofs.Common.{refl, sym, ap, ap₂, subst, ◌∙◌, inl, inr, arith, zero}
-use Rattle.std.proofs.lemmas.Bool.Decides.{nat_tests}
-use Rattle.pana_event.specs.declared.rel.Rel.{Rel}
-use Rattle.pana_event.specs.declared.rel.Rel.TheVariants.{Equal}
-use Rattle.pana_rel.specs.Board.{counts_of, is_split, newest_of}
-use Rattle.pana_rel.specs.Pairs.{Table, Holds as HoldsAll, own_number, rel_of}
-use Rattle.pana_rel.proofs.Boards.{contains_more}
+use Rattle.pana_family.proofs.Words.{◌≡◌, ◌≢◌, ℕ, Bool, true, List, [], ◌∷◌, map, filter, Contains, AllZip, refl, sym, ap, subst, ◌∙◌, inl, inr, arith, zero, nat_tests, Rel, Equal, counts_of, Table}
+use Rattle.pana_family.proofs.Words.{own_number, rel_of, contains_more, StampRow, relation, IsRising, lives, Known, In, copies_of, set_in, AreSame, StandsFor, ArePaired, row_of, is_copy}
+use Rattle.pana_family.proofs.Words.{AllByRecursion, ap₂, is_split, newest_of, known_relation}
+use Rattle.pana_rel.specs.Pairs.{Holds as HoldsAll}
 use Rattle.pana_rel.proofs.Alike.{AreAlike, counts_alike, newest_alike, split_alike}
-use Rattle.pana_family.specs.declared.row.StampRow.{StampRow}
 use Rattle.pana_family.specs.declared.board.CopyCounts.{CopyCounts}
-use Rattle.pana_family.specs.Relation.{relation}
-use Rattle.pana_family.specs.Rows.{IsRising, lives}
-use Rattle.pana_family.specs.Table.{Known, In, copies_of, set_in}
-use Rattle.pana_family.specs.Stands.{AreSame, StandsFor}
-use Rattle.pana_family.specs.Paired.{ArePaired}
-use Rattle.pana_family.specs.Board.{board_rows, board_newest, board_split, known_relation, number_of, row_of}
-use Rattle.pana_family.specs.Holders.{is_copy}
+use Rattle.pana_family.specs.Board.{board_rows, board_newest, board_split, number_of}
 use Rattle.pana_family.proofs.Members.{One, one_known, set_of, in_filter}
-use Rattle.pana_family.proofs.Changes.{relation_is}
-use Rattle.pana_family.proofs.BySets.{copy_numbers}
-use Rattle.pana_family.proofs.Copies.{ByPlaces, copies_are, living_at}
+use Rattle.pana_family.proofs.{Changes.relation_is, BySets.copy_numbers, Copies.ByPlaces, Copies.copies_are, Copies.living_at}
 use Rattle.pana_family.proofs.Relations.{relates as relates_sets}
 
 -- Lists side by side.

@@ -1,14 +1,6 @@
 -- What follows for rows from the table that they stand for.
-use Rattle.std.specs.Prelude.{◌+◌, fold, cond, ◌≡◌, ℕ, List, ◌∷◌, map}
-use Rattle.std.proofs.Common.{sym, ap, ◌∙◌, arith}
-use Rattle.std.proofs.lemmas.Bool.Decides.{nat_tests}
-use Rattle.pana_family.specs.declared.row.StampRow.{StampRow}
-use Rattle.pana_family.specs.Holders.{is_held}
-use Rattle.pana_family.specs.Table.{IsAbove, Known, In, is_in, copies_of, set_in, held_by, AreHeld}
-use Rattle.pana_family.specs.Stands.{AreSame, StandsFor}
-use Rattle.pana_family.specs.Rows.{AreBefore, lives, copy_rows}
-use Rattle.pana_family.specs.Rows.{held_rows}
-use Rattle.pana_family.specs.Kept.{IsKept}
+use Rattle.pana_family.proofs.Words.{◌+◌, fold, cond, ◌≡◌, ℕ, List, ◌∷◌, map, sym, ap, ◌∙◌, arith, nat_tests, StampRow, is_held, Known, In, copies_of, set_in, AreHeld, AreSame, StandsFor, AreBefore}
+use Rattle.pana_family.proofs.Words.{lives, copy_rows, IsKept, IsAbove, is_in, held_by, held_rows}
 use Rattle.pana_family.proofs.Members.{of_row, of_known, one_known, set_of}
 use Rattle.pana_family.proofs.Changes.{below_is_subset}
 

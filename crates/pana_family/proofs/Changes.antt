@@ -1,31 +1,11 @@
 -- What rows that stand for a table say of it, the first rows, and reports that change one row or take rows out.
-use Rattle.std.specs.Prelude.{◌≡◌, ◌≢◌, ◌↔◌, ℕ, ◌+◌, ◌<◌, Bool, true, false, ◌||◌, ◌==◌, cond, List, [], ◌∷◌, Some, None}
-use Rattle.std.proofs.Common.{refl, sym, ap, subst, ◌∙◌, inl, inr, arith}
-use Rattle.std.proofs.lemmas.Bool.{cases_Bool, eqb-true, ne_eqb}
-use Rattle.std.proofs.lemmas.Bool.Decides.{nat_tests}
-use Rattle.pana_id.specs.Id.{is_zero, IsParted, parts}
-use Rattle.pana_event.specs.Event.{leaf, level}
-use Rattle.pana_event.specs.Order.{IsBelow}
-use Rattle.pana_event.specs.Relation.{IsRelation}
-use Rattle.pana_event.specs.declared.rel.Rel.{Rel}
-use Rattle.pana_event.specs.declared.rel.Rel.TheVariants.{Equal, Older, Newer, Conflict}
-use Rattle.pana_stamp.specs.Raised.{IsRaised}
-use Rattle.pana_stamp.specs.declared.stamp.Stamp.{Stamp}
-use Rattle.pana_family.specs.declared.row.StampRow.{StampRow}
-use Rattle.pana_family.specs.declared.report.FamilyReport.TheVariants.{Duplicate, Edit, Remove, Touch}
-use Rattle.pana_family.specs.Updates.{has, IsSubset}
-use Rattle.pana_family.specs.Relation.{relation}
-use Rattle.pana_family.specs.laws.Relations.{RelatesSets}
-use Rattle.pana_family.specs.Holders.{is_held}
-use Rattle.pana_family.specs.Table.{Known, known, knowing, In, set_in, registered, touch_in, AreBelow}
-use Rattle.pana_family.specs.Stands.{top, AreSame, StandsFor}
-use Rattle.pana_family.specs.Rows.{IsRising, seed_row}
-use Rattle.pana_family.specs.After.{first_part, lost, made, restamped, second_part, updated_stamp}
-use Rattle.pana_family.specs.inner.Making.{IsRowOf}
+use Rattle.pana_family.proofs.Words.{◌≡◌, ◌≢◌, ◌↔◌, ℕ, ◌+◌, ◌<◌, Bool, true, false, ◌||◌, ◌==◌, cond, List, [], ◌∷◌, Some, None, refl, sym, ap, subst, ◌∙◌, inl, inr, arith, cases_Bool, eqb-true}
+use Rattle.pana_family.proofs.Words.{ne_eqb, nat_tests, is_zero, IsParted, parts, leaf, level, IsBelow, IsRelation, Rel, Equal, Older, Newer, Conflict, IsRaised, Stamp, StampRow, Duplicate, Edit}
+use Rattle.pana_family.proofs.Words.{Remove, Touch, has, IsSubset, relation, RelatesSets, is_held, Known, known, knowing, In, set_in, registered, touch_in, AreBelow, top, AreSame, StandsFor, IsRising}
+use Rattle.pana_family.proofs.Words.{seed_row, first_part, made, restamped, second_part, updated_stamp, IsRowOf, lost}
 use Rattle.pana_family.proofs.Sound.{Sound, Put, Updated, edit_keeps, below_subset, subset_below}
 use Rattle.pana_family.proofs.Members.{holds_at, holds_found, Holds, held, one_row, to_sound, unknown_yet, above_low}
-use Rattle.pana_family.proofs.Relations.{relates}
-use Rattle.pana_family.proofs.Tables.{made_known}
+use Rattle.pana_family.proofs.{Relations.relates, Tables.made_known}
 use Rattle.pana_family.proofs.Images.{Alike, Outcome, some, one_outcome, stay_outcome}
 
 -- Comparing.
@@ -102,10 +82,6 @@ touch_found low rows table r up same i = grind (arith, nat_tests)
 
 -- Reports that change one row.
 
--- the sets of a copy's row are those of its number
-holds_here : (rows : List StampRow) (table : List Known) (c : ℕ) (r z : StampRow) (t : Known) → IsRising 0 rows → IsRowOf rows c r → In z rows → In t table → Alike z t → z.copy ≡ c → Holds rows table c r.stamp t.set
-holds_here rows table c r z t up at i j like same = grind (arith, nat_tests)
-
 abbrev pub Edited : List StampRow → List Known → ℕ → ℕ → StampRow → ℕ → Stamp → List ℕ → Type 0
 Edited rows table n c r = Put (Holds rows table) c (updated_stamp r.stamp) (Updated (Holds rows table c r.stamp) n)
 
@@ -118,7 +94,7 @@ pub edited_outcome : (rows : List StampRow) (table : List Known) (n c : ℕ) (r 
     → Outcome (Edited rows table n c r) (made n (Edit c) rows z) (made_known n (Edit c) table t)
 edited_outcome rows table n c r z t up at i j like =
     one_outcome (Edited rows table n c r) c (restamped (updated_stamp z.stamp) n z) z (knowing (n ∷ t.set) n t) t like
-    (λ same. grind (arith, nat_tests, one_row, holds_here))
+    (λ same. grind (arith, nat_tests, one_row))
     (λ ne. inr (held rows table z t i j like.copy, ne))
 
 pub touched_outcome : (rows : List StampRow) (table : List Known) (n c : ℕ) (z : StampRow) (t : Known) → In z rows → In t table → Alike z t → Outcome (Holds rows table) (made n (Touch c) rows z) (made_known n (Touch c) table t)
@@ -139,7 +115,7 @@ duplicated_outcome rows table n c r z t up at less i j like =
     elim (cases_Bool (z.copy == c)) [
       | inl e ↦ let same : z.copy ≡ c = eqb-true z.copy c e in
           some x t (ap (λ (b : Bool). Some (cond b x z)) e) refl record { copy = like.copy; touch = like.touch; holder = like.holder }
-          (grind (arith, nat_tests, one_row, holds_here))
+          (grind (arith, nat_tests, one_row))
       | inr ne ↦ some z t (ap (λ (b : Bool). Some (cond b x z)) ne) refl like (grind (arith, nat_tests))
     ]
 

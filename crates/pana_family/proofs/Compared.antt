@@ -1,22 +1,9 @@
 -- A copy's relations, set by comparing stamps.
-use Rattle.std.specs.Prelude.{◌≡◌, ◌≢◌, ℕ, ◌+◌, ◌<◌, ◌≤◌, Bool, true, false, cond, ◌==◌, ◌&&◌, List, [], ◌∷◌, ◌++◌, length, map, filter, take, None, slice_index_or}
-use Rattle.std.proofs.Common.{refl, sym, ap, subst, ◌∙◌, inl, inr, arith, suc, zero}
-use Rattle.std.proofs.lemmas.Bool.{cases_Bool, both_ways, eqb-true, or_from}
-use Rattle.std.proofs.lemmas.List.{append-nil, length-append}
-use Rattle.std.proofs.lemmas.List.Elements.{filter_more}
-use Rattle.std.proofs.lemmas.Bool.Decides.{nat_tests}
-use Rattle.pana_event.specs.Event.{Event, IsSound}
-use Rattle.pana_event.specs.Relation.{IsRelation, reverse_of, tested_relation}
-use Rattle.pana_event.specs.declared.rel.Rel.{Rel}
-use Rattle.pana_event.proofs.Orders.{leq-is-below, below-is-leq}
-use Rattle.pana_rel.specs.Pairs.{Table, Holds, rel_at, rel_of, with_row, without}
-use Rattle.pana_family.specs.declared.row.StampRow.{StampRow}
-use Rattle.pana_family.specs.Holders.{is_copy}
-use Rattle.pana_family.specs.Table.{In}
-use Rattle.pana_family.specs.Rows.{IsRising, lives, copy_rows, AreSound}
-use Rattle.pana_family.specs.inner.Comparing.{AreCompared, HasCopies, is_other, relations, row_relation}
-use Rattle.pana_family.proofs.Members.{in_filter, one_row, to_filter}
-use Rattle.pana_family.proofs.Copies.{copies_are, lives_from, ByPlaces}
+use Rattle.pana_family.proofs.Words.{◌≡◌, ◌≢◌, ℕ, ◌+◌, ◌<◌, ◌≤◌, Bool, true, false, cond, ◌==◌, ◌&&◌, List, [], ◌∷◌, ◌++◌, length, map, filter, take, None, slice_index_or, refl, sym, ap, subst, ◌∙◌}
+use Rattle.pana_family.proofs.Words.{inl, inr, arith, suc, zero, cases_Bool, both_ways, eqb-true, or_from, append-nil, length-append, nat_tests, Event, IsSound, IsRelation, Rel, leq-is-below}
+use Rattle.pana_family.proofs.Words.{below-is-leq, Table, Holds, rel_at, rel_of, with_row, without, StampRow, is_copy, In, IsRising, lives, copy_rows, AreSound, AreCompared, HasCopies, is_other}
+use Rattle.pana_family.proofs.Words.{row_relation, filter_more, reverse_of, tested_relation, relations}
+use Rattle.pana_family.proofs.{Members.in_filter, Members.one_row, Members.to_filter, Copies.copies_are, Copies.lives_from, Copies.ByPlaces}
 
 -- what the test of two sound events says
 pub tested : (e f : Event) → IsSound e → IsSound f → IsRelation e f (tested_relation e f)
@@ -106,19 +93,11 @@ fewer_taken test (r ∷ rows) (suc i) = grind (arith, nat_tests, fewer_taken tes
 
 -- one row more that passes, or not
 pub one_more : (test : StampRow → Bool) (rows : List StampRow) (i : ℕ) (r : StampRow) → i < length rows → r ≡ slice_index_or rows i r → test r ≡ true → filter test (take (i + 1) rows) ≡ filter test (take i rows) ++ r ∷ []
-one_more test rows i r within is passes =
-    filter_more test rows i r within ∙ ap (λ (x : StampRow). filter test (take i rows) ++ cond (test x) (x ∷ []) []) (sym is)
-    ∙ ap (λ (b : Bool). filter test (take i rows) ++ cond b (r ∷ []) []) passes
+one_more test rows i r within is passes = cc (filter_more test rows i r within)
 
 pub none_more : (test : StampRow → Bool) (rows : List StampRow) (i : ℕ) (r : StampRow) → i < length rows → r ≡ slice_index_or rows i r → test r ≡ false → filter test (take (i + 1) rows) ≡ filter test (take i rows)
-none_more test rows i r within is fails =
-    filter_more test rows i r within ∙ ap (λ (x : StampRow). filter test (take i rows) ++ cond (test x) (x ∷ []) []) (sym is)
-    ∙ ap (λ (b : Bool). filter test (take i rows) ++ cond b (r ∷ []) []) fails ∙ append-nil (filter test (take i rows))
+none_more test rows i r within is fails = cc (filter_more test rows i r within, append-nil (filter test (take i rows)))
 
 pub room_for_one : (test : StampRow → Bool) (rows : List StampRow) (i : ℕ) (r : StampRow) → i < length rows → r ≡ slice_index_or rows i r → test r ≡ true → length (filter test (take i rows)) < length (filter test rows)
 room_for_one test rows i r within is passes =
     omega (arith, fewer_taken test rows (i + 1), ap length (one_more test rows i r within is passes), length-append (filter test (take i rows)) (r ∷ []))
-
--- a copy that doesn't live needn't be compared
-pub gone_compared : (rows : List StampRow) (pairs : Table) (copy : ℕ) (but : List ℕ) → lives rows copy ≡ false → AreCompared (copy ∷ but) rows pairs → AreCompared but rows pairs
-gone_compared rows pairs copy but gone was r q i j free free' ne out out' = grind (arith, nat_tests, lives_from)

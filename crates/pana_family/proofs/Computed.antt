@@ -1,19 +1,9 @@
 -- The event after an update is the one that the function gives, and is raised.
-use Rattle.std.specs.Prelude.{◌≡◌, ◌<◌, ◌+◌, ◌^◌, Bool, true, false, ◌==◌, ◌&&◌}
-use Rattle.std.proofs.Common.{refl, sym, ◌∙◌, inl, inr, arith}
-use Rattle.std.proofs.lemmas.Bool.{cases_Bool, eq-eqb}
-use Rattle.std.proofs.lemmas.Bool.Decides.{nat_tests}
-use Rattle.pana_id.specs.Id.{Id, is_zero, IsValid}
-use Rattle.pana_event.specs.Event.{Event, leaf, fork, greatest, IsSound}
-use Rattle.pana_event.specs.Order.{is_leq}
-use Rattle.pana_event.proofs.Orders.{leq-is-below, below-is-leq}
-use Rattle.pana_event.proofs.Sound.{same_below}
+use Rattle.pana_family.proofs.Words.{◌≡◌, ◌<◌, ◌+◌, ◌^◌, Bool, true, false, ◌==◌, ◌&&◌, refl, sym, ◌∙◌, inl, inr, arith, cases_Bool, eq-eqb, nat_tests, Id, is_zero, IsValid, Event, leaf, greatest}
+use Rattle.pana_family.proofs.Words.{IsSound, is_leq, leq-is-below, below-is-leq, IsRaised, updated, fork, same_below, same_event, IsUpdate}
 use Rattle.pana_stamp.specs.Fill.{fill}
-use Rattle.pana_stamp.specs.Raised.{IsRaised}
 use Rattle.pana_stamp.proofs.Calls.{raised_fill, raised_grow, sound_fill, sound_grow}
 use Rattle.pana_stamp.proofs.Fills.{IsFilled-fill, IsSound-fill}
-use Rattle.pana_family.specs.After.{same_event, updated}
-use Rattle.pana_family.specs.inner.Making.{IsUpdate}
 
 both : (a b : Bool) → (a && b) ≡ true → (a ≡ true) × (b ≡ true)
 both a b e = grind (arith, nat_tests)

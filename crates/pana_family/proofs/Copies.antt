@@ -1,18 +1,8 @@
 -- The copies of a table of relations, and those of rows.
-use Rattle.std.specs.Prelude.{◌≡◌, ◌≢◌, ◌↔◌, ℕ, ◌+◌, ◌<◌, ◌≤◌, true, ◌==◌, not, ◌⊎◌, List, [], ◌∷◌, length, map, filter, None, nat_lt, Contains, slice_index_or}
-use Rattle.std.proofs.Common.{refl, sym, subst, inl, inr, arith, suc, zero}
-use Rattle.std.proofs.lemmas.Bool.{cases_order, eq-eqb}
-use Rattle.std.proofs.lemmas.List.{get_or_default}
-use Rattle.std.proofs.lemmas.List.Elements.{Contains-append_cases, Contains-append_left, Contains-append_right}
-use Rattle.std.proofs.lemmas.Bool.Decides.{nat_tests}
-use Rattle.pana_rel.specs.Pairs.{with_copy, without}
-use Rattle.pana_rel.proofs.Boards.{any_at, contains_filter, contains_more, filter_contains, found}
-use Rattle.pana_family.specs.declared.row.StampRow.{StampRow}
-use Rattle.pana_family.specs.Updates.{has}
-use Rattle.pana_family.specs.Table.{In}
-use Rattle.pana_family.specs.Rows.{IsRising, lives, copy_rows}
-use Rattle.pana_family.proofs.Places.{free_from}
-use Rattle.pana_family.proofs.Members.{any_from, any_some}
+use Rattle.pana_family.proofs.Words.{◌≡◌, ◌≢◌, ◌↔◌, ℕ, ◌+◌, ◌<◌, ◌≤◌, true, ◌==◌, not, ◌⊎◌, List, [], ◌∷◌, length, map, filter, None, nat_lt, Contains, slice_index_or, refl, sym, subst, inl, inr}
+use Rattle.pana_family.proofs.Words.{arith, suc, zero, eq-eqb, nat_tests, with_copy, without, contains_more, StampRow, has, In, IsRising, lives, copy_rows, cases_order, get_or_default}
+use Rattle.pana_family.proofs.Words.{Contains-append_cases, Contains-append_left, Contains-append_right, any_at, contains_filter, filter_contains, found}
+use Rattle.pana_family.proofs.{Places.free_from, Members.any_from, Members.any_some}
 
 -- Numbers.
 

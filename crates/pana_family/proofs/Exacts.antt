@@ -1,33 +1,17 @@
 -- What a report leaves, from the exact rows alone.
-use Rattle.std.specs.Prelude.{◌≡◌, ℕ, ◌≤◌, ◌<◌, ◌+◌, ◌^◌, Bool, true, false, cond, ◌&&◌, ◌||◌, ◌==◌, List, [], ◌∷◌, ◌++◌, filter_map, length, Option, Some, None}
-use Rattle.std.specs.List.{list_any}
-use Rattle.std.proofs.Common.{refl, sym, subst, ◌∙◌, inl, inr, arith}
-use Rattle.std.proofs.lemmas.Bool.{cases_Bool, eqb-true, or_cases, or_right}
-use Rattle.std.proofs.lemmas.List.{append-nil}
-use Rattle.std.proofs.lemmas.Bool.Decides.{nat_tests}
-use Rattle.pana_id.specs.Id.{has as owns, parts}
-use Rattle.pana_event.specs.Event.{Event}
-use Rattle.pana_event.specs.Order.{is_leq}
-use Rattle.pana_stamp.specs.declared.stamp.Stamp.{Stamp}
-use Rattle.pana_family.specs.declared.row.StampRow.{StampRow}
-use Rattle.pana_family.specs.declared.report.FamilyReport.{FamilyReport}
-use Rattle.pana_family.specs.declared.report.FamilyReport.TheVariants.{Duplicate, Edit, Reconcile, Merge, Remove, Touch}
-use Rattle.pana_family.specs.Updates.{has, union}
-use Rattle.pana_family.specs.Table.{Known, In, AreBelow, set_in}
-use Rattle.pana_family.specs.Stands.{AreSame, StandsFor}
-use Rattle.pana_family.specs.Rows.{AreBefore, AreSound, IsRising, OwnSame, copy_rows, deepest, lives, owned, row, row_in}
-use Rattle.pana_family.specs.Kept.{IsKept}
-use Rattle.pana_family.specs.After.{bequeathed, comes, ends, first_part, joined_stamp, made, parcel_row, reported_rows, restamped, second_part, settled, shared, updated_stamp}
-use Rattle.pana_family.specs.Report.{Asks, CanReport, IsReady, IsReported, deeper, loses, reported}
-use Rattle.pana_family.specs.inner.Making.{IsRowOf, passed_row}
+use Rattle.pana_family.proofs.Words.{◌≡◌, ℕ, ◌≤◌, ◌<◌, ◌+◌, ◌^◌, Bool, true, false, cond, ◌&&◌, ◌||◌, ◌==◌, List, [], ◌∷◌, ◌++◌, filter_map, length, Option, Some, None, list_any, refl, sym, subst}
+use Rattle.pana_family.proofs.Words.{◌∙◌, inl, inr, arith, cases_Bool, eqb-true, or_cases, or_right, append-nil, nat_tests, parts, Event, is_leq, Stamp, StampRow, FamilyReport, Duplicate, Edit}
+use Rattle.pana_family.proofs.Words.{Reconcile, Merge, Remove, Touch, has, union, Known, In, AreBelow, set_in, AreSame, StandsFor, AreBefore, AreSound, IsRising, copy_rows, deepest, owned, row}
+use Rattle.pana_family.proofs.Words.{row_in, IsKept, bequeathed, comes, ends, first_part, joined_stamp, made, parcel_row, reported_rows, restamped, second_part, settled, shared, updated_stamp}
+use Rattle.pana_family.proofs.Words.{CanReport, IsReady, deeper, reported, IsRowOf, passed_row, OwnSame, Asks, IsReported, loses}
+use Rattle.pana_id.specs.Id.{has as owns}
 use Rattle.pana_family.proofs.Members.{Holds, any_from, any_some, from_both, in_left, in_right, of_known, of_row, one_known, one_row, to_sound}
-use Rattle.pana_family.proofs.Places.{deepest_by, rising_pushed}
-use Rattle.pana_family.proofs.Copies.{living_at}
+use Rattle.pana_family.proofs.{Places.deepest_by, Places.rising_pushed, Copies.living_at}
 use Rattle.pana_family.proofs.Shares.{Twice, IsWhole, merged_shared, reconciled_shared, shared_outcome, twice_sound, whole_is}
 use Rattle.pana_family.proofs.Bequests.{AreHeirs, Bequeathed, bequeathed_outcome, bequeathed_sound, parcel_comes, parcel_holds}
 use Rattle.pana_family.proofs.Changes.{Duplicated, Edited, duplicate_holds, duplicated_outcome, duplicated_sound, edited_outcome, edited_sound, lost_outcome, touched_outcome}
-use Rattle.pana_family.proofs.Tables.{Lives, NamesOf, held_reported, made_known, comes_known, numbers_reported, reported_is}
-use Rattle.pana_family.proofs.Images.{AreImages, images_stand, in_made, rising_made, to_made}
+use Rattle.pana_family.proofs.Tables.{NamesOf, held_reported, made_known, comes_known, numbers_reported, reported_is}
+use Rattle.pana_family.proofs.Images.{AreImages, images_stand, in_made, none_come, rising_made, to_made}
 use Rattle.pana_family.proofs.Keeps.{Whole, adds, comes_numbered, edit_raised, few_after, made_stays, merge_raised, merge_whole, owned_in, reconcile_whole, reported_kept, row_lives, settled_owns, source_parted}
 
 -- The points that rows own.
@@ -140,11 +124,8 @@ own_same n report rows w same p long =
 
 -- What the rows stand for.
 
-living_known : (rows : List StampRow) (table : List Known) (c : ℕ) → AreSame rows table → lives rows c ≡ true → Lives table c
-living_known rows table c same here = grind (arith, nat_tests, living_at, of_row)
-
 names_of : (report : FamilyReport) (rows : List StampRow) (table : List Known) → CanReport report rows → AreSame rows table → NamesOf report table
-names_of report rows table can same = grind (arith, nat_tests, living_known)
+names_of report rows table can same = grind (arith, nat_tests, living_at, of_row)
 
 -- what is known keeps its number
 known_stays : (n : ℕ) (report : FamilyReport) (table : List Known) (t s : Known) → made_known n report table t ≡ Some s → s.copy ≡ t.copy
@@ -168,25 +149,15 @@ made_images n (Duplicate c) rows table w st asks =
 made_images n (Edit c) rows table w st asks =
     let r : StampRow = row_in rows c in
     let at : IsRowOf rows c r = row_lives rows c w.kept.rising w.able in
-    record {
-      P = Edited rows table n c r;
-      sound = edited_sound rows table n c r at (edit_raised n c rows r w at.there).0 asks st;
-      each = λ z t i j like. edited_outcome rows table n c r z t w.kept.rising at i j like;
-      come = tt;
-      held = λ x s i j. absurd i;
-    }
+    none_come _ _ rows table (Edited rows table n c r) (edited_sound rows table n c r at (edit_raised n c rows r w at.there).0 asks st)
+    (λ z t i j like. edited_outcome rows table n c r z t w.kept.rising at i j like)
 made_images n (Reconcile a b) rows table w st asks =
     let r : StampRow = row_in rows a in
     let q : StampRow = row_in rows b in
     let both : List ℕ = union (set_in table a) (set_in table b) in
+    let whole : Stamp = joined_stamp r.stamp q.stamp in
     let m = reconciled_shared rows table a b r q w.kept w.sound (reconcile_whole n a b rows w).two st in
-    record {
-      P = Twice rows table a b (joined_stamp r.stamp q.stamp) both;
-      sound = twice_sound rows table a b r q (joined_stamp r.stamp q.stamp) both m;
-      each = λ z t i j like. shared_outcome rows table n a b r q (joined_stamp r.stamp q.stamp) both m z t i j like;
-      come = tt;
-      held = λ x s i j. absurd i;
-    }
+    none_come _ _ rows table (Twice rows table a b whole both) (twice_sound rows table a b r q whole both m) (λ z t i j like. shared_outcome rows table n a b r q whole both m z t i j like)
 made_images n (Merge a b) rows table w st asks =
     let r : StampRow = row_in rows a in
     let q : StampRow = row_in rows b in
@@ -194,20 +165,8 @@ made_images n (Merge a b) rows table w st asks =
     let both : List ℕ = union (n ∷ set_in table a) (set_in table b) in
     let up = merge_raised n a b rows w in
     let m = merged_shared rows table n a b r q whole.event w.kept w.sound (merge_whole n a b rows w).two up.1 up.0 st asks in
-    record {
-      P = Twice rows table a b whole both;
-      sound = twice_sound rows table a b r q whole both m;
-      each = λ z t i j like. shared_outcome rows table n a b r q whole both m z t i j like;
-      come = tt;
-      held = λ x s i j. absurd i;
-    }
-made_images n (Remove c None) rows table w st asks = record {
-  P = Holds rows table;
-  sound = to_sound rows table st;
-  each = λ z t i j like. lost_outcome rows table n c z t i j like;
-  come = tt;
-  held = λ x s i j. absurd i;
-}
+    none_come _ _ rows table (Twice rows table a b whole both) (twice_sound rows table a b r q whole both m) (λ z t i j like. shared_outcome rows table n a b r q whole both m z t i j like)
+made_images n (Remove c None) rows table w st asks = none_come _ _ rows table (Holds rows table) (to_sound rows table st) (λ z t i j like. lost_outcome rows table n c z t i j like)
 made_images n (Remove c (Some h)) rows table w st asks =
     let r : StampRow = row_in rows c in
     let q : StampRow = row_in rows h in
@@ -219,13 +178,7 @@ made_images n (Remove c (Some h)) rows table w st asks =
       come = parcel_comes rows table n c h r q w.sound m st;
       held = λ x s i j. parcel_holds rows table n c h r q m st x s i j;
     }
-made_images n (Touch c) rows table w st asks = record {
-  P = Holds rows table;
-  sound = to_sound rows table st;
-  each = λ z t i j like. touched_outcome rows table n c z t i j like;
-  come = tt;
-  held = λ x s i j. absurd i;
-}
+made_images n (Touch c) rows table w st asks = none_come _ _ rows table (Holds rows table) (to_sound rows table st) (λ z t i j like. touched_outcome rows table n c z t i j like)
 
 stands_after : (n : ℕ) (report : FamilyReport) (rows : List StampRow) (table : List Known) → IsReady n report rows → StandsFor rows table → Asks n report table → StandsFor (reported_rows n report rows) (reported n report table)
 stands_after n report rows table w st asks =

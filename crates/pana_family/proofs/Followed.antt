@@ -1,38 +1,13 @@
 -- The table of relations after an Edit and a Duplicate, where no stamps are compared.
-use Rattle.std.specs.Prelude.{◌≡◌, ◌≢◌, ◌↔◌, ℕ, ◌+◌, ◌≤◌, Bool, true, false, cond, ◌==◌, ◌||◌, List, [], ◌∷◌, Option, Some, None, Contains, length}
-use Rattle.std.specs.Option.{option_map}
-use Rattle.std.proofs.Common.{refl, sym, ap, subst, ◌∙◌, inl, inr, arith}
-use Rattle.std.proofs.lemmas.Bool.{cases_Bool, eq-eqb, eqb-true, eqb-false, ne_eqb, or_parts}
-use Rattle.std.proofs.lemmas.List.{append-nil}
-use Rattle.std.proofs.lemmas.Bool.Decides.{nat_tests}
-use Rattle.pana_id.specs.Id.{Id, has as owns, AtPoints}
-use Rattle.pana_event.specs.Event.{Event, level}
-use Rattle.pana_event.specs.Relation.{IsRelation}
-use Rattle.pana_event.specs.declared.rel.Rel.{Rel}
-use Rattle.pana_event.specs.declared.rel.Rel.TheVariants.{Equal}
-use Rattle.pana_rel.specs.Pairs.{Table, Holds, edited_rel, edited_row, rel_of, with_copy, with_row}
-use Rattle.pana_stamp.specs.Raised.{IsRaised}
-use Rattle.pana_family.specs.declared.row.StampRow.{StampRow}
-use Rattle.pana_family.specs.declared.report.FamilyReport.{FamilyReport}
-use Rattle.pana_family.specs.declared.report.FamilyReport.TheVariants.{Duplicate, Edit}
-use Rattle.pana_family.specs.Updates.{has}
-use Rattle.pana_family.specs.Table.{In}
-use Rattle.pana_family.specs.Rows.{IsRising, copy_rows, lives, renewed, row, row_at, row_in}
-use Rattle.pana_family.specs.Change.{mapped}
-use Rattle.pana_family.specs.Paired.{ArePaired}
-use Rattle.pana_family.specs.Report.{IsMade, IsReady}
-use Rattle.pana_family.specs.After.{first_part, reported_rows, restamped, second_part, updated_stamp}
-use Rattle.pana_family.proofs.Members.{in_right, one_row}
-use Rattle.pana_family.proofs.Places.{row_in_at}
+use Rattle.pana_family.proofs.Words.{◌≡◌, ◌≢◌, ◌↔◌, ℕ, ◌+◌, ◌≤◌, Bool, true, false, cond, ◌==◌, ◌||◌, List, [], ◌∷◌, Option, Some, None, Contains, length, option_map, refl, sym, ap, subst, ◌∙◌, inl}
+use Rattle.pana_family.proofs.Words.{inr, arith, cases_Bool, eq-eqb, eqb-true, eqb-false, ne_eqb, or_parts, append-nil, nat_tests, Id, AtPoints, Event, level, IsRelation, Rel, Equal, Table, Holds}
+use Rattle.pana_family.proofs.Words.{rel_of, with_copy, with_row, IsRaised, StampRow, FamilyReport, Duplicate, Edit, has, In, IsRising, copy_rows, lives, renewed, row, row_at, row_in, mapped}
+use Rattle.pana_family.proofs.Words.{ArePaired, IsReady, first_part, reported_rows, restamped, second_part, updated_stamp, edited_rel, edited_row}
+use Rattle.pana_id.specs.Id.{has as owns}
+use Rattle.pana_family.proofs.{Members.in_right, Members.one_row, Places.row_in_at, Inverses.in_from_at, Inverses.named_at, Inverses.row_renewed, Compared.row_compared}
+use Rattle.pana_family.proofs.{Keeps.edit_raised, Keeps.row_lives, Exacts.rising_reported}
 use Rattle.pana_family.proofs.Copies.{ByPlaces, in_with_copy, lives_from, living_at, with_copy_new, with_copy_old}
-use Rattle.pana_family.proofs.Inverses.{in_from_at, named_at, row_renewed}
-use Rattle.pana_family.proofs.Compared.{row_compared}
-use Rattle.pana_family.proofs.Keeps.{edit_raised, few_after, row_lives}
-use Rattle.pana_family.proofs.Exacts.{rising_reported}
 use Rattle.pana_family.proofs.Following.{all_followed, followed_from, look, room_for, row_pushed, seen_lives, seen_row}
-
-pub few_made : (n : ℕ) (report : FamilyReport) (rows new : List StampRow) → IsMade n report rows new → length (copy_rows new) ≤ length (copy_rows rows) + 1
-few_made n report rows new m = grind (arith, nat_tests, few_after)
 
 -- One row is changed.
 

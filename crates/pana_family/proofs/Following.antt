@@ -1,41 +1,15 @@
 -- A table of relations follows the rows: copies are taken out of it and put into it.
-use Rattle.std.specs.Prelude.{◌≡◌, ◌↔◌, ℕ, ◌+◌, ◌<◌, ◌≤◌, Bool, true, false, cond, ◌==◌, ◌||◌, not, List, [], ◌∷◌, ◌++◌, map, drop, Some, None, Option, Contains, IfSome, slice_index_or, length}
-use Rattle.std.specs.Option.{option_map}
-use Rattle.std.proofs.Common.{refl, sym, ap, subst, ◌∙◌, inl, inr, arith, zero, suc}
-use Rattle.std.proofs.lemmas.Bool.{cases_Bool, eqb-true, or_parts}
-use Rattle.std.proofs.lemmas.List.{length-append, length-map}
-use Rattle.std.proofs.lemmas.List.Elements.{filter-append}
-use Rattle.std.proofs.lemmas.Bool.Decides.{nat_tests}
-use Rattle.pana_event.specs.Event.{Event}
-use Rattle.pana_event.specs.declared.rel.Rel.{Rel}
-use Rattle.pana_rel.specs.Pairs.{Table, Holds, rel_of, with_copy, with_row, without}
-use Rattle.pana_family.specs.declared.row.StampRow.{StampRow}
-use Rattle.pana_family.specs.declared.change.Exchange.{Exchange}
-use Rattle.pana_family.specs.declared.change.Exchange.TheVariants.{Put, Take}
-use Rattle.pana_family.specs.declared.change.Change.{Change}
-use Rattle.pana_family.specs.declared.change.Change.TheVariants.{Rows}
-use Rattle.pana_family.specs.declared.report.FamilyReport.{FamilyReport}
-use Rattle.pana_family.specs.Report.{IsMade}
-use Rattle.pana_family.specs.Updates.{has}
-use Rattle.pana_family.specs.Table.{In}
-use Rattle.pana_family.specs.Change.{after, changed, inverse, number_of, numbers_in, placed, placed_all}
-use Rattle.pana_family.specs.Rows.{IsRising, copy_rows, lives, row_at}
-use Rattle.pana_family.specs.Kept.{IsKept}
-use Rattle.pana_family.specs.Paired.{ArePaired}
-use Rattle.pana_family.specs.inner.Comparing.{AreCompared, HasCopies, IsFollowed}
-use Rattle.pana_family.proofs.Copies.{living_at}
+use Rattle.pana_family.proofs.Words.{◌≡◌, ◌↔◌, ℕ, ◌+◌, ◌<◌, ◌≤◌, Bool, true, false, cond, ◌==◌, ◌||◌, not, List, [], ◌∷◌, ◌++◌, map, drop, Some, None, Option, Contains, IfSome, slice_index_or, length}
+use Rattle.pana_family.proofs.Words.{option_map, refl, sym, ap, subst, ◌∙◌, inl, inr, arith, zero, suc, cases_Bool, eqb-true, or_parts, length-map, nat_tests, Event, Rel}
+use Rattle.pana_family.proofs.Words.{Table, Holds, rel_of, with_copy, with_row, without, StampRow, Exchange, Put, Take, Change, Rows, FamilyReport, IsMade, has, In, after, changed, inverse, number_of}
+use Rattle.pana_family.proofs.Words.{placed, placed_all, IsRising, copy_rows, lives, row_at, IsKept, ArePaired, AreCompared, HasCopies, IsFollowed, numbers_in}
+use Rattle.pana_family.proofs.{Copies.living_at, Places.row_in_at}
 use Rattle.pana_family.proofs.Copies.{ByPlaces, Rises, contains_has, copies_are, has_contains, has_rows, in_with_copy, in_without_copy, lives_from, rises_above, rises_places, with_copy_new, with_copy_old, without_other}
-use Rattle.pana_family.proofs.Inverses.{after_back, after_is, in_from_at, named_at, rising_after, row_after}
-use Rattle.pana_family.proofs.Places.{row_in_at}
+use Rattle.pana_family.proofs.Inverses.{after_is, in_from_at, named_at, rising_after, row_after, takes_back}
 
 -- the copies that are compared nowhere are in the table
 there_still : (gone coming but : List ℕ) (rows : List StampRow) (pairs : Table) (r : StampRow) → IsFollowed gone coming but rows pairs → In r rows → r.holder ≡ None → has but r.copy ≡ false → Contains pairs.copies r.copy
 there_still gone coming but rows pairs r f i free out = f.there r.copy (f.later r.copy out) (lives_from rows r i free)
-
--- the same relations hold in another table that has these copies
-same_compared : (gone coming but : List ℕ) (rows : List StampRow) (old new : Table) → IsFollowed gone coming but rows old
-    → ((r q : StampRow) → In r rows → In q rows → r.holder ≡ None → q.holder ≡ None → has but r.copy ≡ false → has but q.copy ≡ false → rel_of new r.copy q.copy ≡ rel_of old r.copy q.copy) → AreCompared but rows new
-same_compared gone coming but rows old new f same r q i j free free' ne out out' = grind (arith, nat_tests)
 
 -- A copy that doesn't live is taken out.
 
@@ -50,7 +24,7 @@ taken_out n rows old new dead are holds gone coming but f =
           f.inside c (grind (arith, nat_tests)) k.0;
       there = λ c out alive. still c (f.there c out alive) alive;
       later = f.later;
-      rels = grind (arith, nat_tests, same_compared, there_still, lives_from);
+      rels = grind (arith, nat_tests, there_still, lives_from);
     }
 
 -- A living copy is put in.
@@ -192,12 +166,8 @@ pub record Applied (c back : Change) (rows new : List StampRow) : Type 0 where
   pub back_is : after back new ≡ rows
 
 pub applied : (c back : Change) (rows new value : List StampRow) → IsKept rows → rows ≡ value → IsKept (after c value) → IsRising 0 new → row_at new ≡ changed c (row_at rows) → back ≡ inverse c (row_at rows) → Applied c back rows new
-applied c back rows new value k same kept up is taken = grind (arith, nat_tests, after_is, after_back)
+applied c back rows new value k same kept up is taken = grind (arith, nat_tests, after_is, rising_after, takes_back, named_at, row_after)
 
 -- they were made by a report
 pub made_again : (o : Option (ℕ × FamilyReport)) (rows new rows' new' : List StampRow) → IfSome o (λ m. IsMade m.0 m.1 rows new) → rows ≡ rows' → new ≡ new' → IfSome o (λ m. IsMade m.0 m.1 rows' new')
 made_again o rows new rows' new' made one two = grind (arith, nat_tests)
-
--- one row more is at most one copy more
-pub at_most_one : (rows : List StampRow) (r : StampRow) → length (copy_rows (rows ++ r ∷ [])) ≤ length (copy_rows rows) + 1
-at_most_one rows r = grind (arith, nat_tests, filter-append, length-append)

@@ -1,17 +1,8 @@
 -- Rows and a table of which each member is made of one that there was.
-use Rattle.std.specs.Prelude.{◌≡◌, ◌≢◌, ℕ, ◌≤◌, ◌<◌, ◌+◌, Bool, true, false, cond, not, ◌||◌, ◌==◌, Option, Some, None, List, [], ◌∷◌, ◌++◌, filter_map, map, length}
-use Rattle.std.proofs.Common.{refl, sym, ap, subst, ◌∙◌, inl, inr, arith}
-use Rattle.std.proofs.lemmas.Bool.{cases_Bool, eqb-true, eqb-false, not_from_false}
-use Rattle.std.proofs.lemmas.Bool.Decides.{nat_tests}
-use Rattle.pana_stamp.specs.declared.stamp.Stamp.{Stamp}
-use Rattle.pana_family.specs.declared.row.StampRow.{StampRow}
-use Rattle.pana_family.specs.Holders.{leave, is_copy}
-use Rattle.pana_family.specs.Table.{Known, In}
-use Rattle.pana_family.specs.Stands.{AreSame, StandsFor}
-use Rattle.pana_family.specs.Rows.{IsRising, copy_rows}
-use Rattle.pana_family.proofs.Sound.{Sound, fewer}
+use Rattle.pana_family.proofs.Words.{◌≡◌, ◌≢◌, ℕ, ◌≤◌, ◌<◌, ◌+◌, Bool, true, false, cond, not, ◌||◌, ◌==◌, Option, Some, None, List, [], ◌∷◌, ◌++◌, filter_map, map, length, refl, sym, ap, subst, ◌∙◌}
+use Rattle.pana_family.proofs.Words.{inl, inr, arith, cases_Bool, eqb-true, eqb-false, nat_tests, Stamp, StampRow, leave, is_copy, Known, In, AreSame, StandsFor, IsRising, copy_rows, not_from_false}
+use Rattle.pana_family.proofs.{Sound.Sound, Sound.fewer, Places.rising_lower}
 use Rattle.pana_family.proofs.Members.{in_append, in_filter, to_filter, of_row, of_known, one_known, Holds, all_held, of_sound, same_append}
-use Rattle.pana_family.proofs.Places.{rising_lower}
 
 -- What is made, case by case.
 
@@ -120,6 +111,11 @@ pub record AreImages (f : StampRow → Option StampRow) (g : Known → Option Kn
   pub each : (r : StampRow) (t : Known) → In r rows → In t table → Alike r t → Outcome P (f r) (g t)
   pub come : AreSame new next
   pub held : (x : StampRow) (s : Known) → In x new → In s next → P x.copy x.stamp s.set
+
+-- where nothing comes
+pub none_come : (f : StampRow → Option StampRow) (g : Known → Option Known) (rows : List StampRow) (table : List Known) (P : ℕ → Stamp → List ℕ → Type 0) → Sound P
+    → ((r : StampRow) (t : Known) → In r rows → In t table → Alike r t → Outcome P (f r) (g t)) → AreImages f g [] [] rows table
+none_come f g rows table P sound each = record { P = P; sound = sound; each = each; come = tt; held = λ x s i j. absurd i }
 
 pub images_stand : (n : ℕ) (f : StampRow → Option StampRow) (g : Known → Option Known) (new : List StampRow) (next : List Known) (rows : List StampRow) (table : List Known)
     → AreSame rows table → IsRising 0 rows → ((r : StampRow) → In r rows → r.copy < n) → ((r x : StampRow) → f r ≡ Some x → x.copy ≡ r.copy) → ((t s : Known) → g t ≡ Some s → s.copy ≡ t.copy)

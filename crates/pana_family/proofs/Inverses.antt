@@ -1,24 +1,13 @@
 -- Each change of rows has an inverse.
-use Rattle.std.specs.Prelude.{◌≡◌, ◌≢◌, ◌==◌, ◌+◌, ◌<◌, ℕ, Bool, true, false, cond, Option, Some, None, List, [], ◌∷◌, ◌++◌, length, take, drop, reverse, suc, zero, ◌||◌, position, IfSome, IfNone, slice_index_or}
-use Rattle.std.specs.Option.{option_map}
-use Rattle.std.specs.List.{list_any}
-use Rattle.std.proofs.Common.{refl, sym, ap, subst, ◌∙◌, inl, inr, arith, get_or, set}
-use Rattle.std.proofs.Math.Path.{fun_ext}
-use Rattle.std.proofs.lemmas.List.Sums.{sum_by-append}
-use Rattle.std.proofs.lemmas.List.{reverse-append, append_assoc, length-take-le, take_more, at_drop_more, set_at, get_or_at}
-use Rattle.std.proofs.lemmas.Bool.{eq-eqb}
-use Rattle.std.proofs.lemmas.Bool.Decides.{nat_tests}
-use Rattle.pana_family.specs.declared.row.StampRow.{StampRow}
-use Rattle.pana_family.specs.declared.change.Exchange.{Exchange}
-use Rattle.pana_family.specs.declared.change.Exchange.TheVariants.{Put, Take}
-use Rattle.pana_family.specs.declared.change.Change.{Change}
-use Rattle.pana_family.specs.declared.change.Change.TheVariants.{Event as Renew, Touch, Rows}
-use Rattle.pana_family.specs.Table.{In}
-use Rattle.pana_family.specs.Rows.{IsRising, dropped, put_back, renewed, row_at}
-use Rattle.pana_family.proofs.Members.{above_low}
-use Rattle.pana_family.proofs.Backs.{same_rows, rising_put}
-use Rattle.pana_family.proofs.Places.{in_at, is_found, not_found, rising_dropped, row_in_at}
-use Rattle.pana_family.specs.Change.{number_of, row_of, at_number, placed, placed_all, formers, is_put, puts, mapped, with_event, with_touch, changed, inverse, exchanged_all, after}
+use Rattle.pana_family.proofs.Words.{◌≡◌, ◌≢◌, ◌==◌, ◌+◌, ◌<◌, ℕ, Bool, true, false, cond, Option, Some, None, List, [], ◌∷◌, ◌++◌, length, take, drop, reverse, suc, zero, ◌||◌, position, IfSome}
+use Rattle.pana_family.proofs.Words.{slice_index_or, option_map, list_any, refl, sym, ap, subst, ◌∙◌, inl, inr, arith, get_or, set, append_assoc, take_more, at_drop_more, eq-eqb, nat_tests, StampRow}
+use Rattle.pana_family.proofs.Words.{Exchange, Put, Take, Change, Rows, In, IsRising, dropped, put_back, renewed, row_at, number_of, placed, placed_all, formers, puts, mapped, with_event, with_touch}
+use Rattle.pana_family.proofs.Words.{changed, inverse, exchanged_all, after, IfNone, reverse-append, length-take-le, set_at, get_or_at, at_number, is_put}
+use Rattle.std.proofs.{Math.Path.fun_ext, lemmas.List.Sums.sum_by-append}
+use Rattle.pana_family.specs.declared.change.Change.TheVariants.{Event as Renew, Touch}
+use Rattle.pana_family.proofs.{Members.above_low, Backs.same_rows, Backs.rising_put}
+use Rattle.pana_family.proofs.Places.{in_at, is_found, rising_dropped, row_in_at, first_found}
+use Rattle.pana_family.specs.Change.{row_of}
 
 -- rows by number, each under its own
 abbrev pub AreNamed : (ℕ → Option StampRow) → Type 0
@@ -83,25 +72,13 @@ none_at n [] gone = refl
 none_at n (r ∷ rows) gone =
     elim (r.copy == n) as (λ b. (b || list_any (λ r. r.copy == n) rows) ≡ false → cond b (Some r) (row_at rows n) ≡ None) [ true ↦ λ h. absurd (cc h) | false ↦ λ h. none_at n rows h ] gone
 
--- what a search finds
-pub found_row : (n at : ℕ) (rows : List StampRow) → IsRising 0 rows → position (λ row. row.copy == n) rows ≡ Some at → (at < length rows) × ((d : StampRow) → row_at rows n ≡ Some (get_or rows at d))
-found_row n at rows up is = grind (arith, nat_tests, is_found, row_in_at, in_at)
-
 pub search_found : (n : ℕ) (o : Option ℕ) (rows : List StampRow) → IsRising 0 rows → o ≡ position (λ row. row.copy == n) rows
     → IfSome o (λ at. (at < length rows) × ((d : StampRow) → row_at rows n ≡ Some (slice_index_or rows at d))) × IfNone o (row_at rows n ≡ None)
-search_found n o rows up is = grind (arith, nat_tests, none_at, not_found, found_row)
+search_found n o rows up is = grind (arith, nat_tests, none_at, first_found, is_found, row_in_at, in_at)
 
 -- no row at a position has the number of a row that isn't there
 pub absent_at : (n at : ℕ) (d : StampRow) (rows : List StampRow) → IsRising 0 rows → row_at rows n ≡ None → at < length rows → (get_or rows at d).copy ≢ n
 absent_at n at d rows up none within e = grind (arith, nat_tests, row_in_at, in_at)
-
-pub dropped_same : (n : ℕ) (rows : List StampRow) → row_at rows n ≡ None → dropped n rows ≡ rows
-dropped_same n [] none = refl
-dropped_same n (r ∷ rows) none =
-    elim (r.copy == n) as (λ b. cond b (Some r) (row_at rows n) ≡ None → cond b (dropped n rows) (r ∷ dropped n rows) ≡ r ∷ rows) [
-      | true ↦ λ e. absurd (cc e)
-      | false ↦ λ e. ap (λ (l : List StampRow). r ∷ l) (dropped_same n rows e)
-    ] none
 
 pub none_dropped : (n : ℕ) (rows : List StampRow) → row_at (dropped n rows) n ≡ None
 none_dropped n rows = ap (λ (f : ℕ → Option StampRow). f n) (row_dropped n rows) ∙ ap (λ (b : Bool). cond b None (row_at rows n)) (eq-eqb n n refl)
@@ -110,9 +87,6 @@ none_dropped n rows = ap (λ (f : ℕ → Option StampRow). f n) (row_dropped n 
 pub row_exchanged : (x : StampRow) (rows : List StampRow) → row_at (put_back x (dropped x.copy rows)) ≡ placed (Put x) (row_at rows)
 row_exchanged x rows = row_put x (dropped x.copy rows) ∙ ap (placed (Put x)) (row_dropped x.copy rows)
     ∙ fun_ext (λ n. grind (arith, nat_tests))
-
-pub rising_exchanged : (x : StampRow) (rows : List StampRow) → IsRising 0 rows → IsRising 0 (put_back x (dropped x.copy rows))
-rising_exchanged x rows up = grind (arith, nat_tests, rising_put, rising_dropped)
 
 -- One exchange after another.
 
@@ -235,7 +209,3 @@ rising_after c rows up = grind (arith, nat_tests, rising_renewed, rising_exchang
 
 pub after_is : (c : Change) (rows new : List StampRow) → IsRising 0 rows → IsRising 0 new → row_at new ≡ changed c (row_at rows) → new ≡ after c rows
 after_is c rows new up down is = grind (arith, nat_tests, same_list, rising_after, row_after)
-
--- rows that are changed and changed back
-pub after_back : (c : Change) (rows : List StampRow) → IsRising 0 rows → after (inverse c (row_at rows)) (after c rows) ≡ rows
-after_back c rows up = grind (arith, nat_tests, after_is, rising_after, takes_back, named_at, row_after)

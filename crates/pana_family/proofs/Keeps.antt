@@ -1,38 +1,13 @@
 -- What a report keeps of each row: limits, touches, and the points that rows own together.
-use Rattle.std.specs.Prelude.{◌≡◌, ◌≢◌, ℕ, ◌≤◌, ◌+◌, Bool, true, false, ◌&&◌, ◌||◌, ◌==◌, List, [], ◌∷◌, length, Option, Some, None, filter_map}
-use Rattle.std.specs.List.{list_any}
-use Rattle.std.proofs.Common.{refl, sym, ap, subst, inl, inr, arith}
-use Rattle.std.proofs.lemmas.Bool.{eqb-true, not-true}
-use Rattle.std.proofs.lemmas.List.{length-append}
-use Rattle.std.proofs.lemmas.List.Elements.{filter-append}
-use Rattle.std.proofs.lemmas.Bool.Decides.{nat_tests}
-use Rattle.pana_id.specs.Id.{has as owns, depth, is_single, is_zero, parts, sum_of, IsParted, IsValid}
-use Rattle.pana_id.proofs.Parts.{depth-parts-le, parted-parts, valid-parts}
-use Rattle.pana_event.specs.Event.{Event, greatest, IsSound}
-use Rattle.pana_event.specs.Join.{joined}
-use Rattle.pana_event.proofs.Sound.{IsSound-joined, greatest-joined}
-use Rattle.pana_stamp.specs.declared.stamp.Stamp.{Stamp}
-use Rattle.pana_stamp.specs.Raised.{IsRaised}
-use Rattle.pana_family.specs.declared.row.StampRow.{StampRow}
-use Rattle.pana_family.specs.declared.report.FamilyReport.{FamilyReport}
-use Rattle.pana_family.specs.declared.report.FamilyReport.TheVariants.{Duplicate, Edit, Reconcile, Merge, Remove, Touch}
-use Rattle.pana_family.specs.Holders.{is_copy, is_held}
-use Rattle.pana_family.specs.Table.{In, registered}
-use Rattle.pana_family.specs.Rows.{IsRising, AreSound, copy_rows, deepest, divides, lives, owned, row, row_in, seed_row}
-use Rattle.pana_family.specs.Kept.{IsKept}
-use Rattle.pana_family.specs.After.{bequeathed, comes, ends, first_part, joined_stamp, made, parcel_row, reported_rows, restamped, second_part, settled, shared, updated_stamp}
-use Rattle.pana_family.specs.Report.{IsReady, deeper}
-use Rattle.pana_family.specs.inner.Making.{IsRowOf, passed_row}
-use Rattle.pana_family.proofs.Members.{any_from, any_some, in_append}
-use Rattle.pana_family.proofs.Places.{deepest_in, row_found}
-use Rattle.pana_family.proofs.Copies.{living_at}
-use Rattle.pana_family.proofs.Sums.{with_summed}
-use Rattle.pana_family.proofs.Shares.{AreTwo, IsWhole, whole_is}
-use Rattle.pana_family.proofs.Bequests.{left_is}
-use Rattle.pana_family.proofs.Computed.{updated_is}
-use Rattle.pana_family.proofs.Searches.{single_deep}
-use Rattle.pana_family.proofs.Changes.{empty_stands, no_update, seed_stands}
-use Rattle.pana_family.proofs.Tables.{held_registered}
+use Rattle.pana_family.proofs.Words.{◌≡◌, ◌≢◌, ℕ, ◌≤◌, ◌+◌, Bool, true, false, ◌&&◌, ◌||◌, ◌==◌, List, [], ◌∷◌, length, Option, Some, None, filter_map, list_any, refl, sym, ap, subst, inl, inr, arith, depth-single}
+use Rattle.pana_family.proofs.Words.{eqb-true, length-append, filter-append, nat_tests, depth, is_single, is_zero, parts, sum_of, IsParted, IsValid, parted-parts, valid-parts, Event, greatest}
+use Rattle.pana_family.proofs.Words.{IsSound, joined, IsSound-joined, greatest-joined, Stamp, IsRaised, StampRow, FamilyReport, Duplicate, Edit, Reconcile, Merge, Remove, Touch, is_copy, is_held, In}
+use Rattle.pana_family.proofs.Words.{registered, IsRising, AreSound, copy_rows, deepest, lives, owned, row, row_in, seed_row, IsKept, bequeathed, comes, ends, first_part, joined_stamp, made}
+use Rattle.pana_family.proofs.Words.{parcel_row, reported_rows, restamped, second_part, settled, shared, updated_stamp, IsReady, deeper, IsRowOf, passed_row, not-true, depth-parts-le, divides}
+use Rattle.pana_id.specs.Id.{has as owns}
+use Rattle.pana_family.proofs.{Members.any_from, Members.any_some, Members.in_append, Places.deepest_in, Places.row_found, Copies.living_at, Sums.with_summed, Shares.AreTwo}
+use Rattle.pana_family.proofs.{Shares.IsWhole, Shares.whole_is, Bequests.left_is, Computed.updated_is, Changes.empty_stands, Changes.no_update, Changes.seed_stands}
+use Rattle.pana_family.proofs.{Tables.held_registered}
 use Rattle.pana_family.proofs.Images.{copies_made, in_made, one_of, unless_of}
 
 -- a living copy's row
@@ -142,7 +117,6 @@ merge_raised n a b rows w =
 
 pub merge_whole : (n a b : ℕ) (rows : List StampRow) → IsReady n (Merge a b) rows → Whole n rows a b (updated_stamp (joined_stamp (row_in rows a).stamp (row_in rows b).stamp))
 merge_whole n a b rows w =
-    let q : StampRow = row_in rows b in
     let up = merge_raised n a b rows w in
     grind (arith, nat_tests, greatest-joined, two_rows)
 
@@ -246,4 +220,4 @@ divides_is rows c is = not-true (is_single (row_in rows c).stamp.id 256) is
 
 -- where an id can't be divided some id is 256 deep
 pub undivided_deep : (rows : List StampRow) (c : ℕ) → IsRising 0 rows → lives rows c ≡ true → divides rows c ≡ false → 256 ≤ deepest rows
-undivided_deep rows c up here never = grind (arith, nat_tests, single_deep, row_lives)
+undivided_deep rows c up here never = grind (arith, nat_tests, depth-single, deepest_in, row_lives)

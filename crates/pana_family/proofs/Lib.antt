@@ -1,3 +1,4 @@
+pub mod Words
 pub mod Relations
 pub mod Unions
 pub mod Sound

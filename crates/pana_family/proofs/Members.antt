@@ -1,19 +1,7 @@
 -- Members of lists, rows and tables side by side, and what copies hold.
-use Rattle.std.specs.Prelude.{◌≡◌, ℕ, ◌≤◌, ◌+◌, Bool, true, false, ◌==◌, ◌||◌, cond, not, ◌⊎◌, List, [], ◌∷◌, ◌++◌, length, filter, Option, None}
-use Rattle.std.specs.List.{list_any}
-use Rattle.std.proofs.Common.{refl, sym, ap, ◌∙◌, inl, inr, arith, suc}
-use Rattle.std.proofs.lemmas.Bool.{or_cases, or_parts, or_right, eqb-true}
-use Rattle.std.proofs.lemmas.Bool.Decides.{nat_tests}
-use Rattle.pana_stamp.specs.declared.stamp.Stamp.{Stamp}
-use Rattle.pana_family.specs.declared.row.StampRow.{StampRow}
-use Rattle.pana_family.specs.Updates.{has, union}
-use Rattle.pana_family.specs.Holders.{is_held}
-use Rattle.pana_family.specs.Table.{Known, In, AreBelow, set_in}
-use Rattle.pana_family.specs.Stands.{AreSame, StandsFor}
-use Rattle.pana_family.specs.Rows.{IsRising}
-use Rattle.pana_family.specs.inner.Making.{IsRowOf}
-use Rattle.pana_family.proofs.Sound.{Marked, Sound}
-use Rattle.pana_family.proofs.Unions.{missing}
+use Rattle.pana_family.proofs.Words.{◌≡◌, ℕ, ◌≤◌, ◌+◌, Bool, true, false, ◌==◌, ◌||◌, cond, not, ◌⊎◌, List, [], ◌∷◌, ◌++◌, length, filter, Option, None, list_any, refl, sym, ap, ◌∙◌, inl, inr, arith}
+use Rattle.pana_family.proofs.Words.{suc, or_cases, or_parts, or_right, eqb-true, nat_tests, Stamp, StampRow, has, union, is_held, Known, In, AreBelow, set_in, AreSame, StandsFor, IsRising, IsRowOf}
+use Rattle.pana_family.proofs.{Sound.Marked, Sound.Sound, Unions.missing}
 
 -- Members.
 

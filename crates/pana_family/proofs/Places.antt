@@ -1,14 +1,7 @@
 -- Rows by their places, and rising rows after a change.
-use Rattle.std.specs.Prelude.{◌≡◌, ◌≢◌, ℕ, ◌≤◌, ◌<◌, ◌+◌, Bool, true, false, ◌||◌, ◌==◌, cond, not, List, [], ◌∷◌, ◌++◌, length, Option, Some, None, position, nat_le}
-use Rattle.std.specs.List.{remove, insert, position_or_len, list_any}
-use Rattle.std.proofs.Common.{refl, sym, ap, subst, ◌∙◌, inl, inr, arith, get_or, zero, suc}
-use Rattle.std.proofs.lemmas.Bool.{ne_eqb, leb-false}
-use Rattle.std.proofs.lemmas.Bool.Decides.{nat_tests}
-use Rattle.pana_id.specs.Id.{depth}
-use Rattle.pana_family.specs.declared.row.StampRow.{StampRow}
-use Rattle.pana_family.specs.Table.{In}
-use Rattle.pana_family.specs.Holders.{is_copy}
-use Rattle.pana_family.specs.Rows.{IsRising, dropped, put_back, row_at, row_in, deepest}
+use Rattle.pana_family.proofs.Words.{◌≡◌, ◌≢◌, ℕ, ◌≤◌, ◌<◌, ◌+◌, Bool, true, false, ◌||◌, ◌==◌, cond, not, List, [], ◌∷◌, ◌++◌, length, Option, Some, None, position, insert, list_any, refl, sym, ap}
+use Rattle.pana_family.proofs.Words.{subst, ◌∙◌, inl, inr, arith, get_or, zero, suc, ne_eqb, nat_tests, depth, StampRow, In, is_copy, IsRising, dropped, put_back, row_at, row_in, deepest, nat_le}
+use Rattle.pana_family.proofs.Words.{remove, position_or_len, leb-false}
 use Rattle.pana_family.proofs.Members.{above_low}
 
 pub in_at : (rows : List StampRow) (i : ℕ) (d : StampRow) → i < length rows → In (get_or rows i d) rows
@@ -18,13 +11,14 @@ in_at rows i d within = grind (arith, nat_tests)
 pub in_read : (rows : List StampRow) (i : ℕ) (r : StampRow) → i < length rows → r ≡ get_or rows i r → In r rows
 in_read rows i r within e = subst (λ (q : StampRow). In q rows) (sym e) (in_at rows i r within)
 
-pub dropped_none : (low c : ℕ) (rows : List StampRow) → IsRising low rows → c < low → dropped c rows ≡ rows
-dropped_none low c [] up less = refl
-dropped_none low c (r ∷ rows) up less = grind (arith, nat_tests, dropped_none (r.copy + 1) c rows up.1 (omega (arith, up.0)))
+-- no row has the number
+pub dropped_none : (c : ℕ) (rows : List StampRow) → ((q : StampRow) → In q rows → q.copy ≢ c) → dropped c rows ≡ rows
+dropped_none c [] other = refl
+dropped_none c (r ∷ rows) other = grind (arith, nat_tests, other r (inl refl), dropped_none c rows (λ q i. other q (inr i)))
 
 pub remove_is : (low c i : ℕ) (d : StampRow) (rows : List StampRow) → IsRising low rows → i < length rows → (get_or rows i d).copy ≡ c → remove rows i ≡ dropped c rows
 remove_is low c i d [] up within at = absurd (omega arith)
-remove_is low c zero d (r ∷ rows) up within at = grind (arith, nat_tests, dropped_none)
+remove_is low c zero d (r ∷ rows) up within at = grind (arith, nat_tests, dropped_none c rows (λ q i e. omega (arith, above_low (r.copy + 1) rows q up.1 i, at, e)))
 remove_is low c (suc i) d (r ∷ rows) up within at =
     let later : r.copy + 1 ≤ c = omega (arith, at, above_low (r.copy + 1) rows (get_or rows i d) up.1 (in_at rows i d (omega arith))) in
     grind (arith, nat_tests, remove_is (r.copy + 1) c i d rows up.1 (omega arith) at)
@@ -96,10 +90,6 @@ at_end test (r ∷ rows) none =
       | true ↦ λ h. absurd (cc)
       | false ↦ λ h. grind (arith, nat_tests, at_end test rows h)
     ] none
-
--- what a search for a number finds
-pub not_found : (copy : ℕ) (rows : List StampRow) → position (λ row. row.copy == copy) rows ≡ None → list_any (λ row. row.copy == copy) rows ≡ false
-not_found copy rows none = grind (arith, nat_tests, first_found)
 
 pub is_found : (copy at : ℕ) (rows : List StampRow) → position (λ row. row.copy == copy) rows ≡ Some at → (at < length rows) × ((d : StampRow) → (get_or rows at d).copy ≡ copy)
 is_found copy at rows some = grind (arith, nat_tests, first_found, first_within, first_holds, at_end)

@@ -1,25 +1,9 @@
 -- The changes that reports make leave what is made of each row.
-use Rattle.std.specs.Prelude.{◌≡◌, ◌≢◌, ℕ, ◌<◌, ◌+◌, Bool, true, false, cond, ◌==◌, List, [], ◌∷◌, ◌++◌, filter_map, length, take, drop, nat_lt, Option, Some, None}
-use Rattle.std.specs.List.{cons_option}
-use Rattle.std.proofs.Common.{refl, sym, ap, subst, ◌∙◌, inl, inr, arith, get_or, zero, suc}
-use Rattle.std.proofs.lemmas.Bool.{le-ltb, ne_eqb}
-use Rattle.std.proofs.lemmas.List.{append-nil, append_assoc, at_drop_more, take_more}
-use Rattle.std.proofs.lemmas.List.Elements.{filter_map-append}
-use Rattle.std.proofs.lemmas.Bool.Decides.{nat_tests}
-use Rattle.pana_event.specs.Event.{Event}
-use Rattle.pana_family.specs.declared.row.StampRow.{StampRow}
-use Rattle.pana_family.specs.declared.report.FamilyReport.TheVariants.{Duplicate, Edit, Touch}
-use Rattle.pana_family.specs.declared.settling.Plan.{Plan}
-use Rattle.pana_family.specs.declared.change.Exchange.{Exchange}
-use Rattle.pana_family.specs.Table.{In}
-use Rattle.pana_family.specs.Rows.{IsRising, AreBefore, dropped, put_back, renewed, row}
-use Rattle.pana_family.specs.Change.{exchanged, exchanged_all, with_event, with_touch}
-use Rattle.pana_family.specs.After.{first_part, made, reported_rows, restamped, second_part, updated, updated_stamp}
-use Rattle.pana_family.specs.inner.Making.{IsRowOf, planned}
-use Rattle.pana_family.proofs.Members.{above_low, one_row}
-use Rattle.pana_family.proofs.Places.{put_back_later}
-use Rattle.pana_family.proofs.Sums.{last_above, rising_take}
-use Rattle.pana_family.proofs.Images.{in_made}
+use Rattle.pana_family.proofs.Words.{◌≡◌, ◌≢◌, ℕ, ◌<◌, ◌+◌, Bool, true, false, cond, ◌==◌, List, [], ◌∷◌, ◌++◌, filter_map, length, take, drop, nat_lt, Option, Some, None, refl, sym, ap, subst, ◌∙◌}
+use Rattle.pana_family.proofs.Words.{inl, inr, arith, get_or, zero, suc, ne_eqb, append-nil, append_assoc, at_drop_more, take_more, nat_tests, Event, StampRow, Duplicate, Edit, Touch, Plan, Exchange}
+use Rattle.pana_family.proofs.Words.{In, IsRising, AreBefore, dropped, put_back, renewed, row, exchanged_all, with_event, with_touch, first_part, made, reported_rows, restamped, second_part, updated}
+use Rattle.pana_family.proofs.Words.{updated_stamp, IsRowOf, planned, cons_option, le-ltb, filter_map-append, exchanged}
+use Rattle.pana_family.proofs.{Members.above_low, Members.one_row, Places.dropped_none, Places.put_back_later, Sums.last_above, Sums.rising_take, Images.in_made}
 
 -- One row changes.
 
@@ -88,12 +72,8 @@ put_at : (x r : StampRow) (front rest : List StampRow) → x.copy ≡ r.copy →
 put_at x r [] rest same less = grind (arith, nat_tests)
 put_at x r (q ∷ front) rest same less = put_back_later x q (front ++ r ∷ rest) (less q (inl refl)) ∙ ap (λ (l : List StampRow). q ∷ l) (put_at x r front rest same (λ p i. less p (inr i)))
 
-none_dropped : (c : ℕ) (rows : List StampRow) → ((q : StampRow) → In q rows → q.copy ≢ c) → dropped c rows ≡ rows
-none_dropped c [] other = refl
-none_dropped c (q ∷ rows) other = ap (λ (b : Bool). cond b (dropped c rows) (q ∷ dropped c rows)) (ne_eqb q.copy c (other q (inl refl))) ∙ ap (λ (l : List StampRow). q ∷ l) (none_dropped c rows (λ p i. other p (inr i)))
-
 drop_at : (r : StampRow) (front rest : List StampRow) → ((q : StampRow) → In q front → q.copy ≢ r.copy) → ((q : StampRow) → In q rest → q.copy ≢ r.copy) → dropped r.copy (front ++ r ∷ rest) ≡ front ++ rest
-drop_at r [] rest less more = grind (arith, nat_tests, none_dropped)
+drop_at r [] rest less more = grind (arith, nat_tests, dropped_none)
 drop_at r (q ∷ front) rest less more =
     ap (λ (b : Bool). cond b (dropped r.copy (front ++ r ∷ rest)) (q ∷ dropped r.copy (front ++ r ∷ rest))) (ne_eqb q.copy r.copy (less q (inl refl))) ∙ ap (λ (l : List StampRow). q ∷ l) (drop_at r front rest (λ p i. less p (inr i)) more)
 

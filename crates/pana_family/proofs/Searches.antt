@@ -1,15 +1,5 @@
 -- What a search over rows finds.
-use Rattle.std.specs.Prelude.{◌≡◌, ◌↔◌, ℕ, ◌≤◌, Bool, true, ◌&&◌, List, [], ◌∷◌}
-use Rattle.std.specs.List.{list_all}
-use Rattle.std.proofs.Common.{refl, ap, ◌∙◌, inl, inr, arith}
-use Rattle.std.proofs.lemmas.Bool.{and_parts}
-use Rattle.std.proofs.lemmas.Bool.Decides.{nat_tests}
-use Rattle.pana_id.specs.Id.{is_single}
-use Rattle.pana_id.proofs.Parts.{depth-single}
-use Rattle.pana_family.specs.declared.row.StampRow.{StampRow}
-use Rattle.pana_family.specs.Table.{In}
-use Rattle.pana_family.specs.Rows.{AreBefore, is_below, deepest}
-use Rattle.pana_family.proofs.Places.{deepest_in}
+use Rattle.pana_family.proofs.Words.{◌≡◌, ◌↔◌, ℕ, Bool, true, ◌&&◌, List, [], ◌∷◌, refl, ap, ◌∙◌, inl, inr, arith, and_parts, nat_tests, StampRow, AreBefore, list_all, is_below}
 
 below_all : (n : ℕ) (rows : List StampRow) → list_all (is_below n) rows ≡ true → AreBefore n rows
 below_all n [] all r i = absurd i
@@ -29,7 +19,3 @@ all_below n (q ∷ rows) all =
 
 pub all_before : (n : ℕ) (rows : List StampRow) → (list_all (is_below n) rows ≡ true) ↔ AreBefore n rows
 all_before n rows = (below_all n rows, all_below n rows)
-
--- an id that can't be divided is 256 deep
-pub single_deep : (rows : List StampRow) (r : StampRow) → In r rows → is_single r.stamp.id 256 ≡ true → 256 ≤ deepest rows
-single_deep rows r i single = grind (arith, nat_tests, depth-single, deepest_in)

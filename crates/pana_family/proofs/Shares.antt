@@ -1,34 +1,15 @@
 -- Two copies share a stamp, and are settled.
-use Rattle.std.specs.Prelude.{◌≡◌, ◌≢◌, ℕ, ◌≤◌, max, Bool, true, false, cond, ◌&&◌, ◌||◌, ◌==◌, List, ◌∷◌, Option, Some, None}
-use Rattle.std.proofs.Common.{refl, sym, ap, subst, ◌∙◌, inl, inr}
-use Rattle.std.proofs.lemmas.Bool.{cases_Bool, and_parts, or_parts, eqb-true, eqb-false}
-use Rattle.std.proofs.Common.{arith}
-use Rattle.std.proofs.lemmas.Bool.Decides.{nat_tests}
-use Rattle.pana_id.specs.Id.{Id, depth, is_single, parts, sum_of, IsParted, IsSum, IsValid, SharesNoPoint}
+use Rattle.pana_family.proofs.Words.{◌≡◌, ◌≢◌, ℕ, ◌≤◌, max, Bool, true, false, cond, ◌&&◌, ◌||◌, ◌==◌, List, ◌∷◌, Option, Some, None, refl, sym, ap, subst, ◌∙◌, inl, inr, cases_Bool, and_parts}
+use Rattle.pana_family.proofs.Words.{or_parts, eqb-true, eqb-false, arith, nat_tests, Id, depth, is_single, parts, sum_of, IsParted, IsSum, IsValid, SharesNoPoint, parted-parts, valid-parts}
+use Rattle.pana_family.proofs.Words.{summed-sum, valid-sum, Event, IsSound, joined, is_leq, leq-is-below, IsSound-joined, Stamp, IsRaised, StampRow, has, is_within, union, is_held, Known, In}
+use Rattle.pana_family.proofs.Words.{AreBelow, knowing, set_in, StandsFor, IsRising, stamp, AreSound, IsKept, ends, first_part, joined_stamp, second_part, settled, shared, CanGather, IsRowOf}
 use Rattle.pana_id.proofs.Divides.{sum_of_divides, parts_of_sum}
-use Rattle.pana_id.proofs.Parts.{parted-parts, valid-parts}
-use Rattle.pana_id.proofs.Sums.{summed-sum, valid-sum}
-use Rattle.pana_event.specs.Event.{Event, IsSound}
-use Rattle.pana_event.specs.Join.{joined}
-use Rattle.pana_event.specs.Order.{is_leq}
-use Rattle.pana_event.proofs.Orders.{leq-is-below}
-use Rattle.pana_event.proofs.Sound.{IsJoin-joined, IsSound-joined}
-use Rattle.pana_stamp.specs.declared.stamp.Stamp.{Stamp}
-use Rattle.pana_stamp.specs.Raised.{IsRaised}
-use Rattle.pana_family.specs.declared.row.StampRow.{StampRow}
-use Rattle.pana_family.specs.Updates.{has, is_within, union}
-use Rattle.pana_family.specs.Holders.{is_held}
-use Rattle.pana_family.specs.Table.{Known, In, AreBelow, ends as over, knowing, set_in}
-use Rattle.pana_family.specs.Stands.{StandsFor}
-use Rattle.pana_family.specs.Rows.{IsRising, stamp, AreSound}
-use Rattle.pana_family.specs.Kept.{IsKept}
-use Rattle.pana_family.specs.After.{ends, first_part, joined_stamp, second_part, settled, shared}
-use Rattle.pana_family.specs.inner.Making.{CanGather, IsRowOf}
-use Rattle.pana_family.proofs.Sound.{Sound, Others, Put, United, Updated, all_put, all_united, edit_keeps, fewer, join_keeps, share_keeps, sum_apart}
+use Rattle.pana_event.proofs.Sound.{IsJoin-joined}
+use Rattle.pana_family.specs.Table.{ends as over}
+use Rattle.pana_family.proofs.Sound.{Sound, Others, Put, United, Updated, all_put, edit_keeps, fewer, join_keeps, share_keeps}
 use Rattle.pana_family.proofs.Sums.{Ending, Gathered, gathers, within_is}
-use Rattle.pana_family.proofs.Unions.{union_members}
+use Rattle.pana_family.proofs.{Unions.union_members, Tables.know_two, Tables.united_known, Tables.unless}
 use Rattle.pana_family.proofs.Members.{holds_at, Holds, held, not_held, one_row, to_sound, union_fresh, unknown_yet}
-use Rattle.pana_family.proofs.Tables.{know_two, united_known, unless}
 use Rattle.pana_family.proofs.Images.{Alike, Outcome, some, alike_row, stay_outcome}
 
 -- Two copies and their stamp.
@@ -77,7 +58,7 @@ parts_gather rows a b r q whole k fine two is =
     let w : IsWhole r q whole.id = subst (IsWhole r q) (sym is) (whole_is rows a b r q k fine two) in
     let i : Id = whole.id in
     let both : (z : StampRow) (c : ℕ) → In z rows → is_held c z.holder ≡ true → SharesNoPoint i z.stamp.id = λ z c j held p long.
-    grind (arith, nat_tests, sum_apart, parcel_other, held) in
+    grind (arith, nat_tests, parcel_other, held) in
     grind (arith, nat_tests)
 
 -- What copies hold.
@@ -112,9 +93,6 @@ pub record IsShared (rows : List StampRow) (table : List Known) (a b : ℕ) (r q
   pub stands : StandsFor rows table
   pub sound : Sound (Shared (Holds rows table) a b whole both)
 
-held_once : (a b : ℕ) (o : Option ℕ) → is_held a o ≡ true → is_held b o ≡ true → a ≡ b
-held_once a b o f g = grind (arith, nat_tests)
-
 shared_old : (rows : List StampRow) (table : List Known) (a b : ℕ) (whole : Stamp) (both : List ℕ) (z : StampRow) (t : Known) → In z rows → In t table → z.copy ≡ t.copy → z.copy ≢ a → z.copy ≢ b
     → Shared (Holds rows table) a b whole both z.copy z.stamp t.set
 shared_old rows table a b whole both z t i j same na nb = inr (inr (held rows table z t i j same, na), nb)
@@ -146,7 +124,7 @@ twice_sound rows table a b r q whole both m =
       there = inr (
         (
           shared_old rows table a b whole both z k.0 i k.1 k.2.copy (na z b i held) (nb z b i held),
-          λ s end. m.two.differ (grind (arith, nat_tests, held_once, one_row, ends_held, held)),
+          λ s end. m.two.differ (grind (arith, nat_tests, one_row, ends_held, held)),
         ),
         na z b i held,
       );
@@ -250,7 +228,7 @@ merged_shared rows table n a b r q e k fine two event raised st below =
     let new : (d : ℕ) (s : Stamp) (zs : List ℕ) → P d s zs → has zs n ≡ false = unknown_yet rows table n below in
     let E : ℕ → Stamp → List ℕ → Type 0 = Put J a whole (Updated (J a m) n) in
     let sound : Sound E = edit_keeps J a n m whole (union xs ys) (together_sound rows table a b r q k fine two st) there refl raised
-    (grind (arith, nat_tests, all_put, all_united, union_members)) in
+    (grind (arith, nat_tests, all_put, union_members)) in
     subst (IsShared rows table a b r q whole) (sym (union_fresh n xs ys (new b q.stamp ys second))) record {
       kept = k;
       fine = fine;

@@ -1,17 +1,8 @@
 -- Stamps that stand for sets, for any relation between copies, stamps and sets.
-use Rattle.std.specs.Prelude.{◌≡◌, ◌≢◌, ℕ, ◌≤◌, max, Bool, true, false, ◌&&◌, ◌||◌, ◌==◌, cond, ◌⊎◌, List, [], ◌∷◌, ◌++◌, length}
-use Rattle.std.proofs.Common.{refl, sym, ap, subst, ◌∙◌, inl, inr, arith}
-use Rattle.std.proofs.lemmas.Bool.{or_cases, or_parts, cases_lt, both_ways}
-use Rattle.std.proofs.lemmas.Bool.Decides.{nat_tests}
-use Rattle.pana_id.specs.Id.{Id, has as owns, is_zero, SharesNoPoint, IsParted, IsSum, AtPoints}
-use Rattle.pana_event.specs.Event.{Event, level}
-use Rattle.pana_event.specs.Order.{IsBelow}
-use Rattle.pana_event.specs.Join.{IsJoin}
-use Rattle.pana_stamp.specs.Raised.{IsRaised}
-use Rattle.pana_stamp.specs.declared.stamp.Stamp.{Stamp}
+use Rattle.pana_family.proofs.Words.{◌≡◌, ◌≢◌, ℕ, ◌≤◌, max, Bool, true, false, ◌&&◌, ◌||◌, ◌==◌, cond, ◌⊎◌, List, [], ◌∷◌, ◌++◌, length, refl, sym, ap, subst, ◌∙◌, inl, inr, arith, or_cases, or_parts}
+use Rattle.pana_family.proofs.Words.{both_ways, nat_tests, Id, is_zero, SharesNoPoint, IsParted, IsSum, AtPoints, Event, level, IsBelow, IsRaised, Stamp, has, union, IsSubset, top, cases_lt, IsJoin}
+use Rattle.pana_id.specs.Id.{has as owns}
 use Rattle.pana_family.proofs.Unions.{union_members, missing}
-use Rattle.pana_family.specs.Updates.{has, union, IsSubset}
-use Rattle.pana_family.specs.Stands.{top}
 
 -- a level at a point marks an update
 pub record Marked (P : ℕ → Stamp → List ℕ → Type 0) (u : ℕ) : Type 0 where
@@ -126,12 +117,6 @@ share_keeps P c n r left right xs0 sound there parted same_left same_right =
 
 -- The heir of a copy that is gone.
 
-or_split : (w a b : Bool) → w ≡ (a || b) → w ≡ true → (a ≡ true) ⊎ (b ≡ true)
-or_split w a b e h = or_cases a b (sym e ∙ h)
-
-pub sum_apart : (w a b q : Bool) → w ≡ (a || b) → (a && q) ≡ false → (b && q) ≡ false → (w && q) ≡ false
-sum_apart w a b q e h k = grind (arith, nat_tests)
-
 pub either_way : (a b : Bool) → (a ≡ true → b ≡ false) → (a && b) ≡ false
 either_way a b f = grind (arith, nat_tests)
 
@@ -151,16 +136,9 @@ top_other n e event_of p (x ∷ xs) new =
     let parts = or_parts (x == n) (has xs n) new in
     grind (arith, nat_tests, top_other n e event_of p xs parts.1)
 
-top_here : (n : ℕ) (e : Event) (event_of : ℕ → Event) (p : List Bool) (xs : List ℕ) → has xs n ≡ false
-    → top (with_event n e event_of) (n ∷ xs) p ≡ max (level e p) (top event_of xs p)
-top_here n e event_of p xs new = grind (arith, nat_tests, top_other)
-
 -- the sets that c has after update n
 abbrev pub Updated : (List ℕ → Type 0) → ℕ → List ℕ → Type 0
 Updated G n ys = (xs : List ℕ) × G xs × (ys ≡ n ∷ xs)
-
-all_updated : (G : List ℕ → Type 0) (n : ℕ) (Q : List ℕ → Type 0) → ((xs : List ℕ) → G xs → Q (n ∷ xs)) → (ys : List ℕ) → Updated G n ys → Q ys
-all_updated G n Q f ys g = subst Q (sym g.2) (f g.0 g.1)
 
 pub edit_keeps : (P : ℕ → Stamp → List ℕ → Type 0) (c n : ℕ) (r x : Stamp) (xs0 : List ℕ) → Sound P → P c r xs0 → x.id ≡ r.id → IsRaised r.id r.event x.event
     → ((d : ℕ) (s : Stamp) (xs : List ℕ) → P d s xs → has xs n ≡ false) → Sound (Put P c x (Updated (P c r) n))
@@ -203,7 +181,7 @@ edit_keeps P c n r x xs0 sound there same raised new =
     record {
       event_of = with_event n x.event sound.made.event_of;
       levels = all_put P c x (Updated (P c r) n) (λ d s ys. AtPoints (λ p. level s.event p ≡ top (with_event n x.event sound.made.event_of) ys p))
-          (grind (arith, nat_tests, all_updated, top_here))
+          (grind (arith, nat_tests, top_other))
           (λ d s ys h ne p long. grind (arith, nat_tests, top_other));
     }
 
@@ -231,23 +209,17 @@ top_missing : (event_of : ℕ → Event) (p : List Bool) (xs ys : List ℕ) → 
 top_missing event_of p xs [] = refl
 top_missing event_of p xs (y ∷ ys) = grind (arith, nat_tests, top_missing event_of p xs ys, missing, top_knows)
 
-top_union : (event_of : ℕ → Event) (p : List Bool) (xs ys : List ℕ) → top event_of (union xs ys) p ≡ max (top event_of xs p) (top event_of ys p)
-top_union event_of p xs ys = grind (arith, nat_tests, top_append, missing, top_missing)
-
 -- the sets of two copies put together
 abbrev pub United : (List ℕ → Type 0) → (List ℕ → Type 0) → List ℕ → Type 0
 United G H zs = (xs : List ℕ) × (ys : List ℕ) × G xs × H ys × (zs ≡ union xs ys)
-
-pub all_united : (G H : List ℕ → Type 0) (Q : List ℕ → Type 0) → ((xs ys : List ℕ) → G xs → H ys → Q (union xs ys)) → (zs : List ℕ) → United G H zs → Q zs
-all_united G H Q f zs g = let (xs, ys, a, b, e) = g in subst Q (sym e) (f xs ys a b)
 
 -- a becomes the sum and the join of a and b, and b is gone
 pub join_keeps : (P : ℕ → Stamp → List ℕ → Type 0) (a b : ℕ) (r s x : Stamp) (xs0 ys0 : List ℕ) → Sound P → P a r xs0 → P b s ys0 → a ≢ b
     → IsSum x.id r.id s.id → IsJoin r.event s.event x.event → Sound (Put (Others P b) a x (United (P a r) (P b s)))
 join_keeps P a b r s x xs0 ys0 sound first second differ summed joined =
     let G : List ℕ → Type 0 = United (P a r) (P b s) in
-    let remarked : (u : ℕ) → Marked P u → Marked (Put (Others P b) a x G) u = λ u t. grind (arith, nat_tests, all_put, all_united, or_split, union_members, reaches, or_more) in
-    grind (arith, nat_tests, put_sound, all_put, all_united, or_split, union_members, top_union)
+    let remarked : (u : ℕ) → Marked P u → Marked (Put (Others P b) a x G) u = λ u t. grind (arith, nat_tests, all_put, or_cases, union_members, reaches, or_more) in
+    grind (arith, nat_tests, put_sound, all_put, or_cases, union_members, top_append, missing, top_missing)
 
 -- Comparing.
 

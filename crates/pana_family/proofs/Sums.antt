@@ -1,21 +1,8 @@
 -- A copy that gets the ids of the rows that end.
-use Rattle.std.specs.Prelude.{◌≡◌, ◌≢◌, ℕ, ◌≤◌, ◌<◌, ◌+◌, Bool, true, false, cond, ◌&&◌, ◌||◌, ◌⊎◌, List, [], ◌∷◌, ◌++◌, length, take}
-use Rattle.std.specs.List.{list_any}
-use Rattle.std.proofs.Common.{refl, sym, ap, subst, ◌∙◌, inl, inr, arith, get_or, suc}
-use Rattle.std.proofs.lemmas.Bool.{or_cases, and_parts}
-use Rattle.std.proofs.lemmas.List.{take_more}
-use Rattle.std.proofs.lemmas.Bool.Decides.{nat_tests}
-use Rattle.pana_id.specs.Id.{Id, has as owns, is_zero, depth, sum_of, IsValid, AtPoints, SharesNoPoint}
-use Rattle.pana_id.proofs.Sums.{depth-sum, is_zero-sum, summed-sum, valid-sum}
-use Rattle.pana_event.specs.Event.{IsSound}
-use Rattle.pana_event.specs.Order.{IsBelow, is_leq}
-use Rattle.pana_event.proofs.Orders.{leq-is-below, below-is-leq}
-use Rattle.pana_stamp.specs.declared.stamp.Stamp.{Stamp}
-use Rattle.pana_family.specs.declared.row.StampRow.{StampRow}
-use Rattle.pana_family.specs.Updates.{is_within}
-use Rattle.pana_family.specs.Table.{In}
-use Rattle.pana_family.specs.Rows.{IsRising, deepest, stamp, with_ids, AreSound}
-use Rattle.pana_family.specs.inner.Making.{AreApart}
+use Rattle.pana_family.proofs.Words.{◌≡◌, ◌≢◌, ℕ, ◌≤◌, ◌<◌, ◌+◌, Bool, true, false, cond, ◌&&◌, ◌||◌, ◌⊎◌, List, [], ◌∷◌, ◌++◌, length, take, list_any, refl, sym, ap, subst, ◌∙◌, inl, inr, arith}
+use Rattle.pana_family.proofs.Words.{get_or, suc, or_cases, and_parts, take_more, nat_tests, Id, is_zero, depth, sum_of, IsValid, AtPoints, SharesNoPoint, summed-sum, valid-sum, IsSound, IsBelow}
+use Rattle.pana_family.proofs.Words.{is_leq, leq-is-below, below-is-leq, Stamp, StampRow, is_within, In, IsRising, deepest, stamp, with_ids, AreSound, depth-sum, is_zero-sum, AreApart}
+use Rattle.pana_id.specs.Id.{has as owns}
 use Rattle.pana_family.proofs.Sound.{Sound, Put, below_subset, either_way, fewer, knows_as, not_both, subset_below, turned}
 use Rattle.pana_family.proofs.Relations.{within_subset, subset_within}
 use Rattle.pana_family.proofs.Members.{above_low, any_some, from_both, in_right}

@@ -1,19 +1,11 @@
 -- What a report makes of each copy and parcel of a table of sets, and what comes behind them.
-use Rattle.std.specs.Prelude.{◌≡◌, ◌≢◌, ℕ, ◌≤◌, ◌<◌, Bool, true, false, ◌&&◌, ◌||◌, ◌==◌, cond, not, ◌⊎◌, List, [], ◌∷◌, ◌++◌, filter_map, map, Option, Some, None}
-use Rattle.std.proofs.Common.{refl, sym, ap, subst, ◌∙◌, inl, inr, arith}
-use Rattle.std.proofs.lemmas.Bool.{or_cases, or_parts, or_from, cases_Bool, eqb-true, eqb-false, ne_eqb}
-use Rattle.std.proofs.lemmas.List.{append-nil, map-append}
-use Rattle.std.proofs.lemmas.List.Elements.{filter-append}
+use Rattle.pana_family.proofs.Words.{◌≡◌, ◌≢◌, ℕ, ◌≤◌, ◌<◌, Bool, true, false, ◌&&◌, ◌||◌, ◌==◌, cond, not, ◌⊎◌, List, [], ◌∷◌, ◌++◌, filter_map, map, Option, Some, None, refl, sym, ap, subst, ◌∙◌}
+use Rattle.pana_family.proofs.Words.{inl, inr, arith, or_cases, or_parts, or_from, cases_Bool, eqb-true, eqb-false, ne_eqb, append-nil, map-append, filter-append, nat_tests, FamilyReport, Duplicate}
+use Rattle.pana_family.proofs.Words.{Edit, Reconcile, Merge, Remove, Touch, has, is_within, union, IsSubset, is_held, leave, passed, Known, In, known, knowing, set_in, parcel, registered, AreHeld}
+use Rattle.pana_family.proofs.Words.{AreBelow, reported}
 use Rattle.std.proofs.lemmas.Simd.{map-map}
-use Rattle.std.proofs.lemmas.Bool.Decides.{nat_tests}
-use Rattle.pana_family.specs.declared.report.FamilyReport.{FamilyReport}
-use Rattle.pana_family.specs.declared.report.FamilyReport.TheVariants.{Duplicate, Edit, Reconcile, Merge, Remove, Touch}
-use Rattle.pana_family.specs.Updates.{has, is_within, union, IsSubset}
-use Rattle.pana_family.specs.Holders.{is_held, leave, passed}
-use Rattle.pana_family.specs.Table.{Known, In, known, knowing, set_in, parcel, ends, settled, without, united, registered, AreHeld, AreBelow, IsHeldBy, bequeathed}
-use Rattle.pana_family.specs.Report.{reported}
-use Rattle.pana_family.proofs.Unions.{union_members}
-use Rattle.pana_family.proofs.Relations.{subset_within}
+use Rattle.pana_family.specs.Table.{ends, settled, without, united, IsHeldBy, bequeathed}
+use Rattle.pana_family.proofs.{Unions.union_members, Relations.subset_within}
 use Rattle.pana_family.proofs.Members.{in_append, in_left, not_held, One, set_of}
 use Rattle.pana_family.proofs.Images.{in_leave, in_made, in_map, leave_map, leave_map_leave, leave_twice, made_itself, map_made, one_of, stays_in, to_made, to_map, unless_of}
 
@@ -272,21 +264,11 @@ united_holder n both a b table t h differ by held first second = record {
 
 -- another copy stays as it was
 passing_on : (n c h : ℕ) (table : List Known) (k : Known) (set : List ℕ) → In k table → k.copy ≢ c → k.holder ≡ None → {m : ℕ} → k.copy ≡ m → ¬ IsSubset set k.set → Lacks (made_known n (Remove c (Some h)) table) table m set
-passing_on n c h table k set i ne free named lacks =
-    let still : (pass c h k).holder ≡ None = ap (passed c h) free in record {
-      old = k;
-      there = i;
-      now = pass c h k;
-      is = ap (λ (b : Bool). cond b None (unless (ends h (set_in table h) (pass c h k)) (pass c h k))) (ne_eqb k.copy c ne) ∙ ap (λ (b : Bool). unless b (pass c h k)) (copy_out h (set_in table h) (pass c h k) still);
-      named = named;
-      free = still;
-      lacks = lacks;
-    }
+passing_on n c h table k set i ne free named lacks = grind (arith, nat_tests, ne_eqb, copy_out)
 
 -- the heir of a copy
 heir_lacks : (n c h : ℕ) (table : List Known) (set : List ℕ) → One table → Lives table h → h ≢ c → ¬ IsSubset set (set_in table h) → Lacks (made_known n (Remove c (Some h)) table) table h set
-heir_lacks n c h table set one heir differ lacks = passing_on n c h table heir.by set heir.there (λ e. differ (sym heir.named ∙ e)) heir.free heir.named
-    (grind (arith, nat_tests, set_of))
+heir_lacks n c h table set one heir differ lacks = grind (arith, nat_tests, passing_on, set_of)
 
 -- a parcel that there was, once two copies know the same
 united_held : (n : ℕ) (both : List ℕ) (a b : ℕ) (table : List Known) → One table → Lives table a → Lives table b → a ≢ b → AreHeld table

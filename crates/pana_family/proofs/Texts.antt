@@ -1,28 +1,9 @@
 -- The texts of rows' stamps, for the table that the rows stand for.
-use Rattle.std.specs.Prelude.{◌≡◌, ◌↔◌, ℕ, List, map, filter}
-use Rattle.std.specs.List.{AllZip}
-use Rattle.std.proofs.Common.{refl, sym, ap, subst, ◌∙◌}
-use Rattle.std.proofs.Common.{arith}
-use Rattle.std.proofs.lemmas.Bool.Decides.{nat_tests}
-use Rattle.pana_id.specs.Id.{Id, IsValid, SharesNoPoint, is_zero}
-use Rattle.pana_event.specs.Event.{Event, IsSound}
-use Rattle.pana_event.specs.Order.{IsBelow}
-use Rattle.pana_event.specs.Relation.{IsRelation}
-use Rattle.pana_event.specs.declared.rel.Rel.{Rel}
+use Rattle.pana_family.proofs.Words.{◌≡◌, ◌↔◌, ℕ, List, map, filter, AllZip, refl, sym, ap, subst, ◌∙◌, arith, nat_tests, Id, IsValid, SharesNoPoint, is_zero, Event, IsSound, IsBelow, IsRelation, Rel}
+use Rattle.pana_family.proofs.Words.{StampRow, is_copy, relation, IsSubset, Known, In, copies_of, StandsFor, row_text, IsRising, row_in, AreStamps}
 use Rattle.pana_text.specs.Text.{stamp_text}
-use Rattle.pana_family.specs.declared.row.StampRow.{StampRow}
-use Rattle.pana_family.specs.Holders.{is_copy}
-use Rattle.pana_family.specs.Relation.{relation}
-use Rattle.pana_family.specs.Updates.{IsSubset}
-use Rattle.pana_family.specs.Table.{Known, In, copies_of}
-use Rattle.pana_family.specs.Stands.{StandsFor}
-use Rattle.pana_family.specs.Stamps.{AreStamps}
-use Rattle.pana_family.specs.Stamps.{row_text}
-use Rattle.pana_family.specs.Rows.{IsRising, row_in}
-use Rattle.pana_family.proofs.Sound.{below_subset, subset_below}
+use Rattle.pana_family.proofs.{Sound.below_subset, Sound.subset_below, Places.row_found, Relations.relates}
 use Rattle.pana_family.proofs.Members.{Holds, held, to_sound, of_known, in_filter}
-use Rattle.pana_family.proofs.Places.{row_found}
-use Rattle.pana_family.proofs.Relations.{relates}
 use Rattle.pana_family.proofs.Boards.{OfOne, all_of_one, map_same, filter_same}
 
 -- the relation of two sets is that of the events that stand for them

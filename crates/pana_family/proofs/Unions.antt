@@ -1,10 +1,6 @@
 -- The members of two sets together are those of either.
-use Rattle.std.specs.Prelude.{◌≡◌, ℕ, not, ◌||◌, List, [], ◌∷◌, filter}
-use Rattle.std.proofs.Common.{refl}
+use Rattle.pana_family.proofs.Words.{◌≡◌, ℕ, not, ◌||◌, List, [], ◌∷◌, filter, refl, arith, nat_tests, has, union}
 use Rattle.std.proofs.lemmas.List.Folds.{list_any-append}
-use Rattle.std.proofs.Common.{arith}
-use Rattle.std.proofs.lemmas.Bool.Decides.{nat_tests}
-use Rattle.pana_family.specs.Updates.{has, union}
 
 abbrev pub missing : List ℕ → List ℕ → List ℕ
 missing a b = filter (λ update. not (has a update)) b

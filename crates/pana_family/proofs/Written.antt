@@ -1,15 +1,5 @@
 -- What a report leaves that writes at a position.
-use Rattle.std.specs.Prelude.{◌≡◌, ℕ, ◌<◌, List, length, None}
-use Rattle.std.proofs.Common.{ap, ◌∙◌, get_or}
-use Rattle.std.proofs.Common.{arith}
-use Rattle.std.proofs.lemmas.Bool.Decides.{nat_tests}
-use Rattle.pana_id.specs.Id.{Id}
-use Rattle.pana_event.specs.Event.{Event}
-use Rattle.pana_stamp.specs.declared.stamp.Stamp.{Stamp}
-use Rattle.pana_family.specs.declared.row.StampRow.{StampRow}
-use Rattle.pana_family.specs.Table.{In}
-use Rattle.pana_family.specs.Rows.{row_in, stamp}
-use Rattle.pana_family.specs.Kept.{IsKept}
+use Rattle.pana_family.proofs.Words.{◌≡◌, ℕ, ◌<◌, List, length, None, ap, ◌∙◌, get_or, arith, nat_tests, Id, Event, Stamp, StampRow, In, row_in, stamp, IsKept}
 use Rattle.pana_family.proofs.Places.{in_read, row_found}
 
 -- the row of a copy at its place

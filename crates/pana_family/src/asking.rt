@@ -3,11 +3,9 @@
 ghost use Rattle.std.specs.Prelude.{◌≡◌, ◌↔◌, ◌≤◌, true, length, IfOk, IsTrue, List, map};
 ghost use Rattle.pana_event.specs.Event.{greatest};
 ghost use Rattle.pana_family.specs.declared.row.StampRow.{StampRow as RowValue};
-ghost use Rattle.pana_family.specs.Relation.{relation};
+ghost use Rattle.pana_family.specs.{Relation.relation, Board.board_rows, Board.board_newest, Board.board_split, Stamps.AreStamps, Stamps.stamps_in};
+ghost use Rattle.pana_family.specs.{Stamps.text_of, Stands.StandsFor};
 ghost use Rattle.pana_family.specs.Table.{In, Known, copies_of, set_in, touch_in};
-ghost use Rattle.pana_family.specs.Board.{board_rows, board_newest, board_split};
-ghost use Rattle.pana_family.specs.Stamps.{AreStamps, stamps_in, text_of};
-ghost use Rattle.pana_family.specs.Stands.{StandsFor};
 ghost use Rattle.pana_family.specs.Rows.{AreBefore, copy_rows, divides, held_rows, lives};
 
 use crate::board::{FamilyBoard, board_of};
@@ -79,6 +77,7 @@ impl Family {
     }
 
     /// How the first copy relates to the second. Takes no memory; compares no stamps, O(log n) for n copies.
+    #[tactic(auto, using(crate::proofs::Boards::same_equal, crate::proofs::Boards::paired_relation))]
     pub fn rel(&self, a: u64, b: u64) -> Rel
         requires first { lives self.now.rows a ≡ true }
         requires second { lives self.now.rows b ≡ true }

@@ -1,7 +1,6 @@
 //! Boards: how the copies of a family relate.
 ghost use Rattle.std.specs.Prelude.{◌≡◌, map, IfOk, Contains};
-ghost use Rattle.pana_rel.specs.Board.{counts_of, is_split, newest_of};
-ghost use Rattle.pana_rel.specs.Pairs.{own_number, rel_of};
+ghost use Rattle.pana_rel.specs.{Board.counts_of, Board.is_split, Board.newest_of, Pairs.own_number, Pairs.rel_of};
 ghost use Rattle.pana_family.specs.Board.{row_of};
 
 use pana_list::PlainList;

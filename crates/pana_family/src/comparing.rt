@@ -1,10 +1,7 @@
 //! The table of relations follows the rows.
 ghost use Rattle.std.specs.Prelude.{◌≡◌, ◌<◌, ◌≤◌, ◌+◌, ◌∷◌, ℕ, [], true, List, length, take, map, filter, Contains, IfSome};
 ghost use Rattle.pana_rel.specs.Pairs.{Holds, rel_at, rel_of, with_copy, with_row};
-ghost use Rattle.pana_family.specs.Change.{after, number_of};
-ghost use Rattle.pana_family.specs.Rows.{IsRising, lives, copy_rows};
-ghost use Rattle.pana_family.specs.Paired.{ArePaired};
-ghost use Rattle.pana_family.specs.Report.{IsMade};
+ghost use Rattle.pana_family.specs.{Change.after, Change.number_of, Rows.IsRising, Rows.lives, Rows.copy_rows, Paired.ArePaired, Report.IsMade};
 ghost use Rattle.pana_family.specs.inner.Comparing.{AreCompared, HasCopies, IsFollowed, is_other, most, relations, row_relation};
 
 use crate::change::{Change, Exchange, number_of};
@@ -157,6 +154,7 @@ pub fn follow(rows: &[StampRow], pairs: &mut PairTable, news: &[Exchange])
 }
 
 /// Makes the table that of the rows, which this change would take back. Takes no memory.
+#[tactic(auto, using(crate::proofs::Following::followed_back, crate::proofs::Following::all_followed, crate::proofs::Following::has_copies))]
 fn follow_back(rows: &[StampRow], pairs: &mut PairTable, back: &Change)
     requires few { length (copy_rows rows.now) ≤ 256 }
     requires rising { IsRising 0 rows.now }
@@ -198,6 +196,7 @@ fn follow_report(
 }
 
 /// The same, where it is known whether a report made them.
+#[tactic(auto, using(crate::proofs::Following::made_of))]
 pub fn follow_change(
     rows: &[StampRow],
     pairs: &mut PairTable,

@@ -3,12 +3,8 @@
 
 ghost use Rattle.std.specs.Prelude.{◌≡◌, ◌≤◌, [], ◌∷◌, length, IfOk, OnOk, OnErr, IfErr, IfSome, Some, None};
 ghost use Rattle.pana_family.specs.declared.fault.FamilyFault.{FamilyFault as Fault};
-ghost use Rattle.pana_family.specs.Rows.{AreBefore, seed_row};
-ghost use Rattle.pana_family.specs.Kept.{IsKept};
-ghost use Rattle.pana_family.specs.Paired.{ArePaired};
-ghost use Rattle.pana_family.specs.Change.{after, Fits, IsRoomier};
-ghost use Rattle.pana_family.specs.After.{reported_rows};
-ghost use Rattle.pana_family.specs.Report.{IsMade};
+ghost use Rattle.pana_family.specs.{Rows.AreBefore, Rows.seed_row, Kept.IsKept, Paired.ArePaired, Change.after, Change.Fits, Change.IsRoomier};
+ghost use Rattle.pana_family.specs.{After.reported_rows, Report.IsMade};
 ghost use Rattle.pana_family.specs.View.{NamesLiving, fault_of, IsPrepared, TakesBack};
 
 use crate::change::{Change, Exchange, apply, room_of};

@@ -2,9 +2,8 @@
 ghost use Rattle.std.specs.Prelude.{◌≡◌, ◌+◌, ◌^◌, ◌<◌, false, IfOk};
 ghost use Rattle.pana_id.specs.Id.{is_zero, is_single};
 ghost use Rattle.pana_event.specs.Event.{greatest};
-ghost use Rattle.pana_family.specs.Change.{with_event};
+ghost use Rattle.pana_family.specs.{Change.with_event, inner.Making.CanJoin};
 ghost use Rattle.pana_family.specs.After.{first_part, joined_stamp, second_part, updated, updated_stamp};
-ghost use Rattle.pana_family.specs.inner.Making.{CanJoin};
 
 use crate::row::StampRow;
 use pana_event::EventTree;

@@ -2,13 +2,9 @@
 ghost use Rattle.std.specs.Prelude.{◌≡◌, ◌++◌, ◌∷◌, ◌+◌, ◌<◌, ◌^◌, [], false, filter_map, Some, IfOk, IfSome, if◌then◌else◌};
 ghost use Rattle.std.specs.Option.{option_to_list};
 ghost use Rattle.pana_id.specs.Id.{is_zero};
-ghost use Rattle.pana_event.specs.Event.{greatest};
-ghost use Rattle.pana_event.specs.Order.{is_leq};
+ghost use Rattle.pana_event.specs.{Event.greatest, Order.is_leq};
 ghost use Rattle.pana_family.specs.After.{first_part, joined_stamp, parcel_row, reported_rows, second_part, shared};
-ghost use Rattle.pana_family.specs.Rows.{row_in, AreBefore};
-ghost use Rattle.pana_family.specs.Change.{after};
-ghost use Rattle.pana_family.specs.Kept.{IsKept};
-ghost use Rattle.pana_family.specs.Report.{CanReport, IsMade, IsReady};
+ghost use Rattle.pana_family.specs.{Rows.row_in, Rows.AreBefore, Change.after, Kept.IsKept, Report.CanReport, Report.IsMade, Report.IsReady};
 ghost use Rattle.pana_family.specs.declared.report.FamilyReport.TheVariants.{Duplicate, Edit, Reconcile, Remove};
 
 use crate::change::{Change, Exchange};
@@ -22,6 +18,7 @@ use pana_stamp::Stamp;
 use smallvec::SmallVec;
 use std::alloc::{AllocError, Global};
 
+#[tactic(auto, using(crate::proofs::Planned::edit_exact))]
 fn edit_change(
     alloc: Global,
     rows: &[StampRow],
@@ -36,6 +33,7 @@ fn edit_change(
 }
 
 /// A new copy beside its source, with the entry as its number.
+#[tactic(auto, using(crate::proofs::Planned::duplicate_exact))]
 fn duplicate_change(
     alloc: Global,
     rows: &[StampRow],
@@ -111,6 +109,7 @@ fn parcel_left(
 }
 
 /// A copy is gone, and its heir holds what it held, and is settled.
+#[tactic(auto, using(crate::proofs::Keeps::row_lives, crate::proofs::Members::one_row, crate::proofs::Bequests::heir_gather))]
 fn bequeath_change(
     alloc: Global,
     rows: &[StampRow],
@@ -128,6 +127,7 @@ fn bequeath_change(
     Ok(change)
 }
 
+#[tactic(auto, using(crate::proofs::Planned::touch_exact))]
 fn exact_change(
     alloc: Global,
     rows: &[StampRow],

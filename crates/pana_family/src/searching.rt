@@ -3,8 +3,7 @@ ghost use Rattle.std.specs.Prelude.{◌≡◌, ◌<◌, ◌==◌, ◌&&◌, true
 ghost use Rattle.std.specs.List.{position_or_len, list_all};
 ghost use Rattle.pana_family.specs.declared.row.StampRow.{StampRow as RowValue};
 ghost use Rattle.pana_family.specs.Rows.{row_at, IsRising, lives, copy_rows, held_rows, AreBefore, is_below};
-ghost use Rattle.pana_family.specs.inner.Making.{IsRowOf};
-ghost use Rattle.pana_family.specs.Holders.{is_copy, is_held};
+ghost use Rattle.pana_family.specs.{inner.Making.IsRowOf, Holders.is_copy, Holders.is_held};
 
 use crate::row::StampRow;
 use std::alloc::{AllocError, Global};
@@ -59,6 +58,7 @@ fn living_position(rows: &[StampRow], copy: u64) -> Option<usize>
 }
 
 /// The position of a living copy's row.
+#[tactic(auto, using(crate::proofs::Places::first_found, crate::proofs::Places::first_within, crate::proofs::Places::first_holds, crate::proofs::Places::free_from))]
 pub fn index_of(rows: &[StampRow], copy: u64) -> usize
     requires { lives rows.now copy ≡ true }
     ensures within { result < length rows.now }
@@ -69,6 +69,7 @@ pub fn index_of(rows: &[StampRow], copy: u64) -> usize
 }
 
 /// A living copy's row.
+#[tactic(auto, using(crate::proofs::Places::in_read, crate::proofs::Places::row_found))]
 pub fn row_of(rows: &[StampRow], copy: u64) -> &StampRow
     requires living { lives rows.now copy ≡ true }
     requires rising { IsRising 0 rows.now }

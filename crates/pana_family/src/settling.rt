@@ -2,10 +2,7 @@
 ghost use Rattle.std.specs.Prelude.{◌≡◌, ◌++◌, Some, filter_map, IfOk, IfSome};
 ghost use Rattle.std.specs.Option.{option_to_list};
 ghost use Rattle.pana_id.specs.Id.{sum_of, SharesNoPoint};
-ghost use Rattle.pana_family.specs.Rows.{with_ids, AreBefore, AreSound};
-ghost use Rattle.pana_family.specs.Table.{In};
-ghost use Rattle.pana_family.specs.Kept.{IsKept};
-ghost use Rattle.pana_family.specs.Change.{after, exchanged_all};
+ghost use Rattle.pana_family.specs.{Rows.with_ids, Rows.AreBefore, Rows.AreSound, Table.In, Kept.IsKept, Change.after, Change.exchanged_all};
 ghost use Rattle.pana_family.specs.After.{bequeathed, ends, is_bound, lost, restamped, settled, shared};
 ghost use Rattle.pana_family.specs.inner.Making.{CanGather, CanPlan, left_of, passed_row, planned};
 

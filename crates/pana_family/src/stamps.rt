@@ -1,9 +1,6 @@
 //! The stamps of copies, as texts.
 ghost use Rattle.std.specs.Prelude.{◌≡◌, IfOk, map, filter};
-ghost use Rattle.pana_family.specs.Stamps.{text_of};
-ghost use Rattle.pana_family.specs.Stamps.{row_text};
-ghost use Rattle.pana_family.specs.Rows.{AreSound};
-ghost use Rattle.pana_family.specs.Holders.{is_copy};
+ghost use Rattle.pana_family.specs.{Stamps.text_of, Stamps.row_text, Rows.AreSound, Holders.is_copy};
 
 use crate::row::StampRow;
 use crate::searching::is_copy;

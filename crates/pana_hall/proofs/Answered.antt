@@ -1,59 +1,24 @@
 -- Causes and answers read off what a hall keeps.
-use Rattle.std.specs.Prelude.{◌≡◌, ℕ, ◌+◌, ◌<◌, ◌≤◌, Bool, true, false, cond, not, ◌&&◌, ◌||◌, ◌==◌, nat_le, List, [], ◌∷◌, ◌++◌, length, filter, reverse, find, count_by, Option, Some, None, option_map, option_and_then, suc, nat_lt, slice_index_or, map}
-use Rattle.std.specs.Bool.{then_some}
-use Rattle.std.specs.List.{AllByRecursion, list_any}
-use Rattle.std.proofs.Common.{refl, sym, ap, ◌∙◌, subst, inl, inr, arith}
-use Rattle.std.proofs.Math.Bool.{or-true, or_comm}
-use Rattle.std.proofs.lemmas.Bool.{cases_Bool}
-use Rattle.std.proofs.lemmas.List.{reverse-append, map-append, map-id, reverse-reverse}
-use Rattle.std.proofs.lemmas.List.Sums.{length-filter}
-use Rattle.std.proofs.lemmas.Simd.{map-map}
-use Rattle.pana_copies.specs.declared.place.Place.{Place}
-use Rattle.pana_copies.specs.Places.{same_place}
+use Rattle.pana_hall.proofs.Words.{◌≡◌, ℕ, ◌+◌, ◌<◌, ◌≤◌, Bool, true, false, cond, not, ◌&&◌, ◌||◌, ◌==◌, nat_le, List, [], ◌∷◌, ◌++◌, length, filter, reverse, find, count_by, Option, Some, None}
+use Rattle.pana_hall.proofs.Words.{option_map, option_and_then, suc, nat_lt, slice_index_or, map, then_some, AllByRecursion, list_any, refl, sym, ap, ◌∙◌, subst, inl, inr, arith, or-true}
+use Rattle.pana_hall.proofs.Words.{reverse-append, map-append, length-filter, map-map, Place, same_place, Spot, Table, kept, Entry, entry_at, has, copy_rows, divides, lives, PlaceTaken, FamilyFull}
+use Rattle.pana_hall.proofs.Words.{TooDeep, KeptRows, ends_in, last_place, families, Copy, copies_of, copy_in, living, known_to, pending, is_last, displaced, taken, taken_from, taken_since}
+use Rattle.pana_hall.proofs.Words.{family_full, too_deep, pending_with, unknown, other_family, first, is_of, IsAccepted, layer, of_each, AreSpots, family_of, undone_of, families_of, rows_of}
+use Rattle.pana_hall.proofs.Words.{stamp_rows, spot_of, IsThere, other_there, filter-append, nat_tests, set_in, StandsFor, all_listed, listed, ListedFamily, begun, family_row, sets_at, StampRow}
+use Rattle.pana_hall.proofs.Words.{or_comm, cases_Bool, map-id, reverse-reverse, unknown_family, touch_in, of_known}
 use Rattle.pana_copies.proofs.Kept.{one_place}
-use Rattle.pana_copies.specs.Spots.{Spot, Table, kept}
-use Rattle.pana_journal.specs.declared.entry.Entry.{Entry}
-use Rattle.pana_journal.specs.Entries.{entry_at}
-use Rattle.pana_family.specs.Updates.{has}
-use Rattle.pana_family.specs.Rows.{copy_rows, divides, lives}
-use Rattle.pana_hall.specs.declared.cause.Cause.TheVariants.{PlaceTaken, FamilyFull, TooDeep}
-use Rattle.pana_hall.specs.inner.Undo.{KeptRows, ends_in, last_place}
-use Rattle.pana_hall.specs.Family.{families}
-use Rattle.pana_hall.specs.Living.{Copy, copies_of, copy_in, living, known_to}
-use Rattle.pana_hall.specs.Pending.{pending, is_last}
-use Rattle.pana_hall.specs.Refusal.{displaced, taken, taken_from, taken_since, family_full, too_deep, pending_with, unknown_family, unknown, other_family, first}
-use Rattle.pana_hall.specs.Board.{is_of}
-use Rattle.pana_hall.specs.Accepted.{IsAccepted}
-use Rattle.pana_hall.specs.laws.Tables.{layer}
-use Rattle.pana_hall.specs.inner.Kept.{of_each, AreSpots, family_of, undone_of, families_of}
-use Rattle.pana_hall.specs.StampRows.{rows_of, stamp_rows}
-use Rattle.pana_hall.specs.inner.Spots.{spot_of, IsThere, other_there}
 use Rattle.pana_hall.proofs.Lists.{is_last_push, each_map, each_of, each_unmap, each_weaker, any_push, is_last-push, entry_at_place, slice_get-each, found_by}
 use Rattle.pana_hall.proofs.Sound.{accepted_is_sound, all_none, beside, known, living_fit, none_false}
 use Rattle.pana_hall.proofs.Tables.{own_copy, ends_at, layer_now, each_has, pending_each}
 use Rattle.pana_hall.proofs.Places.{same_place-itself, none_passes, living_found, back_at}
 use Rattle.pana_hall.proofs.Stood.{count_rows, copies_sets, layers_stand, lives_rows, stood_one}
 use Rattle.pana_hall.proofs.Ready.{place_spots, at_spots, family_of as family_of_copy, given_back}
-use Rattle.pana_hall.proofs.Listed.{entry_within}
-use Rattle.pana_hall.proofs.Moves.{found_number}
-use Rattle.std.proofs.lemmas.List.Elements.{filter-append}
-use Rattle.std.proofs.lemmas.Bool.Decides.{nat_tests}
-use Rattle.pana_family.specs.Table.{touch_in, Known, set_in}
+use Rattle.pana_hall.proofs.{Listed.entry_within, Moves.found_number, Knowns.IsCopyIn, Knowns.found_there, Knowns.set_known}
 use Rattle.pana_family.specs.Table as table
-use Rattle.pana_family.specs.Stands.{StandsFor}
-use Rattle.pana_family.specs.declared.stamps.CopyStamp.{CopyStamp}
-use Rattle.pana_family.specs.Stamps.{AreStamps, stamps_in, text_of}
-use Rattle.pana_hall.specs.inner.Listed.{all_listed, listed}
-use Rattle.pana_hall.specs.declared.listed_family.ListedFamily.{ListedFamily}
-use Rattle.pana_hall.specs.declared.family_row.FamilyRow.{FamilyRow}
-use Rattle.pana_hall.specs.Queries.{begun, family_row}
-use Rattle.pana_hall.specs.laws.Sets.{sets_at}
+use Rattle.pana_family.specs.{declared.stamps.CopyStamp.CopyStamp, Stamps.AreStamps, Stamps.stamps_in, Stamps.text_of}
+use Rattle.pana_hall.specs.{declared.family_row.FamilyRow.FamilyRow, Stamps.AreStampsOf}
 use Rattle.pana_hall.specs.StampRows as rows
-use Rattle.pana_family.specs.declared.row.StampRow.{StampRow}
-use Rattle.pana_hall.specs.Stamps.{AreStampsOf}
-use Rattle.pana_hall.proofs.Knowns.{IsCopyIn, found_there, set_known}
 use Rattle.pana_family.proofs.Changes.{touch_found}
-use Rattle.pana_family.proofs.Members.{of_known}
 
 -- Causes read off what a hall keeps.
 
@@ -155,9 +120,7 @@ pub deep_is : (journal : List Entry) (n : ℕ) (copy : Copy) (it : KeptRows) →
     → then_some (not (divides it.rows n)) TooDeep ≡ too_deep n journal (living journal)
 deep_is journal n copy it accepted found is =
     let own = family_of_copy journal n copy (accepted_is_sound 8 journal accepted) found in
-    ap (λ r. then_some (not (divides r n)) TooDeep)
-    (ap (λ (k : KeptRows). k.rows) is ∙ ap rows_of (layer_now 8 (families journal n) journal) ∙ ap (λ f. stamp_rows f journal) (sym own))
-    ∙ ap (option_and_then (λ c. then_some (not (divides (stamp_rows c.family journal) n)) TooDeep)) (sym found)
+    cc (layer_now 8 (families journal n) journal)
 
 -- what the last pending entry's copy gets back, and what stands against that
 pub back_place : (journal : List Entry) (m c : ℕ) (it : KeptRows) (undone : Entry) → IsAccepted 8 journal → is_last m (pending_with 8 m journal) ≡ true
@@ -211,7 +174,6 @@ pub record Pair (journal : List Entry) (a b : ℕ) : Type 0 where
 pub pair_at : (journal : List Entry) (a b : ℕ) → IsAccepted 8 journal → first (unknown a (living journal) ∷ unknown b (living journal) ∷ other_family a b (living journal) ∷ []) ≡ None → Pair journal a b
 pair_at journal a b accepted free =
     let none = all_none (unknown a (living journal) ∷ unknown b (living journal) ∷ other_family a b (living journal) ∷ []) free in
-    let x = known a (living journal) none.0 in
     let y = beside journal a b (living_fit 8 journal (accepted_is_sound 8 journal accepted)) none.0 none.1.0 none.1.1.0 in
     grind (arith, nat_tests)
 
@@ -242,8 +204,7 @@ each_own journal list is =
 
 -- and their numbers are those of the families that have begun
 pub numbers_own : (journal : List Entry) (list : List ListedFamily) → all_listed list ≡ families_of journal → map (λ it. (listed it).number) list ≡ begun journal
-numbers_own journal list is =
-    sym (map-map (λ (it : KeptRows). it.number) listed list) ∙ ap (map (λ (it : KeptRows). it.number)) is ∙ map-map (λ (it : KeptRows). it.number) (family_of journal) (begun journal) ∙ map-id (begun journal)
+numbers_own journal list is = cc (map-map (λ (it : KeptRows). it.number) listed list, map-map (λ (it : KeptRows). it.number) (family_of journal) (begun journal), map-id (begun journal))
 
 pub each_get : {X : Type 0} (P : X → Type 0) (xs : List X) (i : ℕ) (d : X) → AllByRecursion P xs → i < length xs → P (slice_index_or xs i d)
 each_get P (x ∷ xs) (suc i) d each within = each_get P xs i d each.1 (omega arith)
@@ -265,5 +226,4 @@ own_begun journal family it accepted free is = is ∙ ap (family_of journal) (be
 pub stamps_are : (journal : List Entry) (family : ℕ) (rows : List StampRow) (stamps : List CopyStamp) → IsAccepted 8 journal → rows ≡ stamp_rows family journal → map text_of stamps ≡ stamps_in rows
     → AreStamps (map text_of stamps) (table.copies_of (sets_at 0 family journal)) → AreStampsOf family journal stamps
 unfolding AreStampsOf
-stamps_are journal family rows stamps accepted rows_is texts are =
-    (texts ∙ ap stamps_in rows_is, subst (λ (copies : List Known). AreStamps (map text_of stamps) copies) (copies_sets journal family accepted) are)
+stamps_are journal family rows stamps accepted rows_is texts are = grind (arith, nat_tests, copies_sets)

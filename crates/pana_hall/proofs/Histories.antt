@@ -1,38 +1,15 @@
 -- What is pending in a family, and what takes it back.
-use Rattle.std.specs.Prelude.{◌≡◌, ◌≢◌, ℕ, suc, ◌+◌, ◌-◌, ◌<◌, ◌≤◌, true, false, cond, ◌||◌, ◌==◌, List, [], ◌∷◌, ◌++◌, length, take, drop, reverse, None, Some, Bool, Option, option_map, position, slice_get}
-use Rattle.std.specs.List.{AllByRecursion, position_or_len, list_any}
-use Rattle.std.proofs.Common.{refl, sym, ap, ◌∙◌, subst, inl, arith, append_assoc}
-use Rattle.std.proofs.lemmas.Bool.{eqb-true, ne_eqb, not-false}
-use Rattle.std.proofs.lemmas.List.{length-drop, length-take, length-reverse, reverse-append, take-append-drop, take_at, take_all}
-use Rattle.std.proofs.lemmas.Bool.Decides.{nat_tests}
-use Rattle.pana_journal.specs.declared.report.Report.TheVariants.{Confirm, Withdraw, Register}
-use Rattle.pana_journal.specs.declared.entry.Entry.{Entry}
-use Rattle.pana_family.specs.Updates.{has}
-use Rattle.pana_hall.specs.Effective.{is_of_copies}
-use Rattle.pana_hall.specs.Living.{living, copies_of}
-use Rattle.pana_hall.specs.Pending.{pending, last, behind}
-use Rattle.pana_hall.specs.Refusal.{report_refusal}
-use Rattle.pana_hall.specs.Accepted.{Accepts}
-use Rattle.pana_hall.specs.laws.Tables.{layer}
-use Rattle.pana_hall.specs.laws.Layers.{family_of_next, AreRising}
-use Rattle.pana_hall.specs.inner.Kept.{of_each, of_pending, family_of, next_entry, place_before, undone_of}
+use Rattle.pana_hall.proofs.Words.{◌≡◌, ◌≢◌, ℕ, suc, ◌+◌, ◌-◌, ◌<◌, ◌≤◌, true, false, cond, ◌||◌, ◌==◌, List, [], ◌∷◌, ◌++◌, length, take, drop, reverse, None, Some, Bool, Option, option_map}
+use Rattle.pana_hall.proofs.Words.{slice_get, AllByRecursion, list_any, refl, sym, ap, ◌∙◌, subst, inl, arith, append_assoc, eqb-true, ne_eqb, not-false, length-drop, reverse-append, take-append-drop}
+use Rattle.pana_hall.proofs.Words.{take_all, nat_tests, Confirm, Withdraw, Register, Entry, has, is_of_copies, living, copies_of, pending, last, behind, report_refusal, Accepts, layer, family_of_next}
+use Rattle.pana_hall.proofs.Words.{AreRising, of_each, of_pending, family_of, next_entry, place_before, undone_of, Place, entry_at, rows_after, rows_of, KeptRows, confirmed, kept_rows, new_kept}
+use Rattle.pana_hall.proofs.Words.{undone, withdrawn, history, Buffer, buffer, StampRow, IsKept, lives, seed_row, Undo, position, position_or_len, length-reverse}
+use Rattle.pana_hall.proofs.Words.{take_at, Undone, later_than, CanGoBack}
 use Rattle.pana_hall.proofs.Lists.{each_append, each_weaker, at-push, rises_each}
 use Rattle.pana_hall.proofs.Sound.{none_against, none_false, IsSound, family_named, family_new, pends}
 use Rattle.pana_hall.proofs.Tables.{layer_undone, layer_confirm, layer_withdraw, layer_other, none_of, entry_at-other, layer_report, layer_new, pending_report, pending_withdraw, pending_other, pending_each, pending_rises, rises_end}
-use Rattle.pana_copies.specs.declared.place.Place.{Place}
-use Rattle.pana_journal.specs.Entries.{entry_at}
-use Rattle.pana_hall.specs.StampRows.{rows_after, rows_of}
-use Rattle.pana_hall.specs.inner.Undo.{KeptRows, Undone, confirmed, kept_rows, later_than, new_kept, undone, withdrawn, CanGoBack, history}
 use Rattle.pana_hall.proofs.Stood.{rows_none, rows_of-push}
-use Rattle.circular_buffer.specs.Buffer.{Buffer, buffer}
-use Rattle.pana_family.specs.declared.row.StampRow.{StampRow}
 use Rattle.pana_family.specs.Change.{after as after_change, Fits, IsRoomier, Room}
-use Rattle.pana_family.specs.Kept.{IsKept}
-use Rattle.pana_family.specs.Report.{CanReport}
-use Rattle.pana_family.specs.Rows.{lives, seed_row}
-use Rattle.pana_family.specs.View.{NamesLiving}
-use Rattle.pana_family.specs.declared.report.FamilyReport.{FamilyReport}
-use Rattle.pana_hall.specs.declared.undo.Undo.{Undo}
 
 -- What is made of a family's pending entries, as entries come.
 
@@ -56,9 +33,6 @@ each_alike make other layers [] alike = refl
 each_alike make other layers (n ∷ numbers) alike =
     ap (λ x. x ∷ of_each make (λ k. layers (k + 1)) numbers) (alike.0 (layers 0)) ∙ ap (λ l. other n (layers 0) ∷ l) (each_alike make other (λ k. layers (k + 1)) numbers alike.1)
 
-length-take-within : (m : ℕ) (numbers : List ℕ) → length (take m numbers) ≤ m
-length-take-within m numbers = let e = length-take m numbers in omega arith
-
 reverse-push : (numbers : List ℕ) (n : ℕ) → reverse (numbers ++ n ∷ []) ≡ n ∷ reverse numbers
 reverse-push numbers n = reverse-append numbers (n ∷ [])
 
@@ -71,7 +45,6 @@ pending_made make journal entry sound accepts is =
     let numbers = pending 8 family journal in
     let turned : reverse (pending 8 family (journal ++ entry ∷ [])) ≡ entry.number ∷ take 7 (reverse numbers) = grind (arith, nat_tests, pending_report, reverse-last, reverse-push) in
     let undone_by : (k : ℕ) → k < 8 → layer 8 (k + 1) family (journal ++ entry ∷ []) ≡ layer 8 k family journal = λ k within. layer_undone 8 k journal entry sound accepts is within in
-    let few = length-take-within 7 (reverse numbers) in
     grind (arith, nat_tests)
 
 -- after a Withdraw: the first is no longer there
@@ -191,11 +164,9 @@ pub family_withdraw : (m : ℕ) (journal : List Entry) (entry : Entry) → IsSou
 family_withdraw m journal entry sound accepts is =
     let family = family_of_next journal entry in
     let journal' = journal ++ entry ∷ [] in
-    let rows = rows_of (layer 8 0 family journal) in
     let back : of_pending (undone_of journal) family journal ≡ undone_of journal' m (layer 8 1 family journal) ∷ of_pending (undone_of journal') family journal' =
     sym (undone_stays journal entry family sound) ∙ pending_undone (undone_of journal') m journal entry sound accepts is in
-    ap (λ l. kept_rows family (rows_of l) (of_pending (undone_of journal') family journal')) (layer_withdraw 8 m 0 journal entry sound accepts is)
-    ∙ ap (λ u. withdrawn (kept_rows family rows u)) (sym back)
+    cc (layer_withdraw 8 m 0 journal entry sound accepts is)
 
 -- a Confirm
 pub family_confirm : (m : ℕ) (journal : List Entry) (entry : Entry) → IsSound 8 journal → Accepts 8 journal entry → entry.report ≡ Confirm m
@@ -213,8 +184,7 @@ pub family_other : (family : ℕ) (journal : List Entry) (entry : Entry) → IsS
     → family_of (journal ++ entry ∷ []) family ≡ family_of journal family
 family_other family journal entry sound accepts other =
     let journal' = journal ++ entry ∷ [] in
-    ap (λ l. kept_rows family (rows_of l) (of_pending (undone_of journal') family journal')) (layer_other 8 0 family journal entry sound accepts other)
-    ∙ ap (kept_rows family (rows_of (layer 8 0 family journal))) (pending_left (undone_of journal') family journal entry sound accepts other ∙ undone_stays journal entry family sound)
+    cc (layer_other 8 0 family journal entry sound accepts other, pending_left (undone_of journal') family journal entry sound accepts other, undone_stays journal entry family sound)
 
 -- What the records of a family's pending entries give back.
 
@@ -260,14 +230,11 @@ since_is n rows (u ∷ us) =
 pos_some : {A : Type 0} (test : A → Bool) (xs : List A) (at : ℕ) → position test xs ≡ Some at → at ≡ position_or_len test xs
 pos_some test xs at some = grind (arith, nat_tests)
 
-pos_none : {A : Type 0} (test : A → Bool) (xs : List A) → position test xs ≡ None → length xs ≤ position_or_len test xs
-pos_none test xs none = grind (arith, nat_tests)
-
 pub since_some : (n at : ℕ) (rows : List StampRow) (us : List Undo) → position (λ u. u.entry == n) us ≡ Some at → history rows (take at us) ≡ later_than n (history rows us)
 since_some n at rows us some = grind (arith, nat_tests, pos_some, since_is)
 
 pub since_none : (n : ℕ) (rows : List StampRow) (us : List Undo) → position (λ u. u.entry == n) us ≡ None → history rows us ≡ later_than n (history rows us)
-since_none n rows us none = sym (grind (arith, nat_tests, take_all, pos_none)) ∙ since_is n rows us
+since_none n rows us none = sym (grind (arith, nat_tests, take_all)) ∙ since_is n rows us
 
 pub kept_truncated : (at : ℕ) (room : Room) (rows : List StampRow) (b new : Buffer Undo) → new ≡ buffer (take at b.items) b.capacity → AreKept room rows b → AreKept room rows new
 kept_truncated at room rows b new is k = subst (AreKept room rows) (sym is) (k.0, back_take at room rows b.items k.1)
@@ -276,15 +243,11 @@ kept_truncated at room rows b new is k = subst (AreKept room rows) (sym is) (k.0
 
 -- the records are the first one and those behind it
 pub first_and_rest : (us : List Undo) (u : Undo) → slice_get us 0 ≡ Some u → us ≡ u ∷ drop 1 us
-first_and_rest [] u e = absurd (cc e)
-first_and_rest (v ∷ us) u e = let same : v ≡ u = cc e in ap (λ (w : Undo). w ∷ us) same
+first_and_rest us u h1 = grind (arith, nat_tests)
 
 none_left : (us : List Undo) → slice_get us 0 ≡ None → us ≡ []
 none_left [] e = refl
 none_left (v ∷ us) e = absurd (cc e)
-
-pub kept_popped : (room more : Room) (rows new : List StampRow) (b left : Buffer Undo) (u : Undo) → slice_get b.items 0 ≡ Some u → left ≡ buffer (drop 1 b.items) b.capacity → new ≡ after_change u.back rows → IsRoomier room more → AreKept room rows b → AreKept more new left
-kept_popped room more rows new b left u here is made up k = grind (arith, nat_tests, first_and_rest, back_more)
 
 -- what the first one gives back
 pub history_first : (rows : List StampRow) (us : List Undo) (u : Undo) → slice_get us 0 ≡ Some u → history rows us ≡ undone u.entry (after_change u.back rows) (place_of u) ∷ history (after_change u.back rows) (drop 1 us)
@@ -297,10 +260,6 @@ history_none rows us none = ap (history rows) (none_left us none)
 pub has_is : (n : ℕ) (rows : List StampRow) (us : List Undo) → list_any (λ u. u.entry == n) us ≡ list_any (λ u. u.entry == n) (history rows us)
 has_is n rows [] = refl
 has_is n rows (u ∷ us) = ap (λ b. (u.entry == n) || b) (has_is n (after_change u.back rows) us)
-
--- what can be reported names living copies
-pub names_living : (report : FamilyReport) (rows : List StampRow) → CanReport report rows → NamesLiving report rows
-names_living report rows can = grind (arith, nat_tests)
 
 -- the copy of a new family alone lives in it
 pub new_living : (n copy : ℕ) → lives (seed_row n ∷ []) copy ≡ true → n ≡ copy

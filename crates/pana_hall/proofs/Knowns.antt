@@ -1,36 +1,17 @@
 -- The tables of sets that a journal gives its families.
-use Rattle.std.specs.Prelude.{◌≡◌, ℕ, true, false, cond, not, ◌&&◌, ◌||◌, List, [], ◌∷◌, length, ◌<◌, ◌≤◌, ◌==◌, ◌++◌, Option, Some, None, IfSome, option_map, unwrap_or, zero, suc, ◌+◌, ◌-◌, ◌⊎◌, drop}
-use Rattle.std.specs.List.{AllByRecursion, cons_option, filter_map}
-use Rattle.std.specs.Option.{option_to_list}
-use Rattle.std.proofs.Common.{refl, sym, ap, ap₂, ◌∙◌, subst, inl, inr, arith}
-use Rattle.std.proofs.lemmas.Bool.{cases_eq, cases_lt}
-use Rattle.std.proofs.lemmas.List.{map-append, length-drop, same_from_push}
-use Rattle.std.proofs.lemmas.List.Sums.{fold-append}
-use Rattle.std.proofs.lemmas.List.Elements.{filter-append}
-use Rattle.std.proofs.lemmas.Bool.Decides.{nat_tests}
-use Rattle.pana_journal.specs.declared.report.Report.{Report}
-use Rattle.pana_journal.specs.declared.report.Report.TheVariants.{Register, Duplicate, Edit, Reconcile, Merge, Relocate, Remove, Confirm, Withdraw}
-use Rattle.pana_journal.specs.declared.entry.Entry.{Entry}
-use Rattle.pana_family.specs.Updates.{is_within, union}
-use Rattle.pana_family.specs.Holders.{is_copy, is_held, passed}
-use Rattle.pana_family.specs.Table.{Known, In, IsAbove, known, parcel, is_in, set_in, knowing, ends, copies_of as known_copies}
-use Rattle.pana_family.specs.Report.{CanReport}
+use Rattle.pana_hall.proofs.Words.{◌≡◌, ℕ, true, false, cond, List, [], ◌∷◌, length, ◌<◌, ◌≤◌, ◌==◌, ◌++◌, Option, Some, None, IfSome, option_map, unwrap_or, zero, suc, ◌+◌, ◌-◌, ◌⊎◌, drop}
+use Rattle.pana_hall.proofs.Words.{AllByRecursion, filter_map, option_to_list, refl, sym, ap, ◌∙◌, subst, inl, inr, arith, cases_eq, cases_lt, map-append, length-drop, same_from_push, fold-append}
+use Rattle.pana_hall.proofs.Words.{filter-append, nat_tests, Report, Register, Duplicate, Edit, Reconcile, Merge, Relocate, Remove, Confirm, Entry, Known, In, IsAbove, set_in, CanReport, StampRow}
+use Rattle.pana_hall.proofs.Words.{FamilyReport, One, NamesOf, family_report, is_of_copies, left_out, Copy, after_report, comes, copies_of, copy_in, known_to, made, all_known, pending, last, Accepts}
+use Rattle.pana_hall.proofs.Words.{IsAccepted, family_of_next, layer, ap₂, known, parcel, is_in, knowing, any_from, in_append, in_filter, set_of, comes_known, know, know_two, made_known, pass}
+use Rattle.pana_hall.proofs.Words.{passed_heir, reported_is, united_known, unless, reported_by}
+use Rattle.pana_family.specs.Holders.{is_copy, passed}
+use Rattle.pana_family.specs.Table.{copies_of as known_copies}
 use Rattle.pana_family.specs.Report as by_family
-use Rattle.pana_family.specs.declared.row.StampRow.{StampRow}
-use Rattle.pana_family.specs.declared.report.FamilyReport.{FamilyReport}
 use Rattle.pana_family.specs.declared.report.FamilyReport.TheVariants as reports
 use Rattle.pana_family.proofs.Images.{in_leave, in_made, one_of, unless_of}
-use Rattle.pana_family.proofs.Members.{One, any_from, in_append, in_filter, set_of}
-use Rattle.pana_family.proofs.Tables.{NamesOf, Lives as KnownLives, comes_known, know, know_two, made_known, pass, passed_heir, reported_is, united_known, unless}
-use Rattle.pana_hall.specs.Family.{family_report}
-use Rattle.pana_hall.specs.Effective.{is_of_copies, left_out}
-use Rattle.pana_hall.specs.Living.{Copy, after_report, comes, copies_of, copy_in, known_to, made, touched}
-use Rattle.pana_hall.specs.Board.{all_known}
-use Rattle.pana_hall.specs.Pending.{pending, last}
-use Rattle.pana_hall.specs.Accepted.{Accepts, IsAccepted}
-use Rattle.pana_hall.specs.laws.Layers.{family_of_next}
-use Rattle.pana_hall.specs.laws.Sets.{reported_by, knowns_of}
-use Rattle.pana_hall.specs.laws.Tables.{layer}
+use Rattle.pana_family.proofs.Tables.{Lives as KnownLives}
+use Rattle.pana_hall.specs.laws.Sets.{knowns_of}
 use Rattle.pana_hall.proofs.Lists.{each_filter, each_passes, each_weaker, filter_made}
 use Rattle.pana_hall.proofs.Moves.{Names, Lives, found_number}
 use Rattle.pana_hall.proofs.Sound.{each_effective, family_new, own, IsSound, living_fit, named_report, in_accepted, OfCopies, Confirms, Withdraws, kind_of}
@@ -53,8 +34,7 @@ pub record IsCopyIn (table : List Known) (c : ℕ) (x : Copy) : Type 0 where
   pub free : x.known.holder ≡ None
 
 no_holder : (o : Option ℕ) → is_copy o ≡ true → o ≡ None
-no_holder None e = refl
-no_holder (Some h) e = absurd (cc)
+no_holder o h1 = grind (arith, nat_tests)
 
 found_known : (copies : List Copy) (c : ℕ) (x : Copy) → copy_in copies c ≡ Some x → In x.known (all_known copies)
 found_known [] c x found = absurd (cc)
@@ -89,9 +69,6 @@ module _ (n : ℕ) (table : List Known) where
   knows : (both : List ℕ) (t s : Known) → Keeps n t s → Keeps n t (knowing both n s)
   knows both t s keeps = record { copy = keeps.copy; kind = keeps.kind; touch = inr refl }
 
-  know_one : (both : List ℕ) (c : ℕ) (t s : Known) → Keeps n t s → Keeps n t (know n both c s)
-  know_one both c t s keeps = elim (s.copy == c) as (λ b. Keeps n t (cond b (knowing both n s) s)) [ true ↦ knows both t s keeps | false ↦ keeps ]
-
   passes : (c h : ℕ) (t : Known) → Keeps n t (pass c h t)
   passes c h t = record { copy = refl; kind = held t.holder; touch = inl refl }
     where
@@ -99,27 +76,12 @@ module _ (n : ℕ) (table : List Known) where
       held None = refl
       held (Some k) = elim (k == c) as (λ b. is_copy (cond b (Some h) (Some k)) ≡ false) [ true ↦ refl | false ↦ refl ]
 
-  united_keeps : (both : List ℕ) (a b : ℕ) (t s : Known) → united_known n both a b t ≡ Some s → Keeps n t s
-  united_keeps both a b t s is = unless_of _ (Keeps n t) (know_two n both a b t) s (λ e. know_one both b t (know n both a t) (know_one both a t t (stays t))) is
-
   known_keeps : (of : FamilyReport) (t s : Known) → made_known n of table t ≡ Some s → Keeps n t s
-  known_keeps (reports.Duplicate c) t s is = let same : t ≡ s = cc in subst (Keeps n t) same (stays t)
-  known_keeps (reports.Edit c) t s is = one_of (t.copy == c) (Keeps n t) (knowing (n ∷ t.set) n t) t s (λ e. knows (n ∷ t.set) t t (stays t)) (λ e. stays t) is
-  known_keeps (reports.Reconcile a b) t s is = united_keeps (union (set_in table a) (set_in table b)) a b t s is
-  known_keeps (reports.Merge a b) t s is = united_keeps (union (n ∷ set_in table a) (set_in table b)) a b t s is
-  known_keeps (reports.Remove c None) t s is = unless_of (t.copy == c || is_held c t.holder) (Keeps n t) t s (λ e. stays t) is
-  known_keeps (reports.Remove c (Some h)) t s is =
-      elim (t.copy == c) as (λ b. cond b None (unless (ends h (set_in table h) (pass c h t)) (pass c h t)) ≡ Some s → Keeps n t s) [
-        | true ↦ λ e. absurd (cc)
-        | false ↦ λ e. unless_of (ends h (set_in table h) (pass c h t)) (Keeps n t) (pass c h t) s (λ f. passes c h t) e
-      ] is
-  known_keeps (reports.Touch c) t s is = one_of (t.copy == c) (Keeps n t) (knowing t.set n t) t s (λ e. knows t.set t t (stays t)) (λ e. stays t) is
+  known_keeps of t s h1 = grind (arith, nat_tests, stays, one_of, knows, know_two, know, unless_of, unless, pass, passes)
 
   -- the row that comes has the entry's number
   known_comes : (of : FamilyReport) (t : Known) → In t (comes_known n of table) → (t.copy ≡ n) × (t.touch ≡ n)
-  known_comes (reports.Duplicate c) t i = elim i [ inl e ↦ (ap (λ (k : Known). k.copy) e, ap (λ (k : Known). k.touch) e) | inr never ↦ absurd never ]
-  known_comes (reports.Remove c (Some h)) t i = elim (in_leave (ends h (set_in table h)) (pass c h (parcel n h (set_in table c)) ∷ []) t i).0 [ inl e ↦ (ap (λ (k : Known). k.copy) e, ap (λ (k : Known). k.touch) e) | inr never ↦ absurd never ]
-  known_comes of t i = absurd i
+  known_comes of t h1 = grind (arith, nat_tests, in_leave, pass)
 
   -- so all numbers stay below a greater one
   pub above_reported : (m : ℕ) (of : FamilyReport) → One table → NamesOf of table → n < m → IsAbove m table → IsAbove m (by_family.reported n of table)
@@ -136,10 +98,6 @@ module _ (n : ℕ) (table : List Known) where
 
 -- A report makes of the copies of a table what it makes of the copies.
 
-united_alike : (n a b : ℕ) (both : List ℕ) (x : Copy) → x.known.holder ≡ None
-    → united_known n both a b x.known ≡ option_map (λ c. c.known) (cond (x.known.copy == a || x.known.copy == b) (Some (touched n both x.place x)) (Some x))
-united_alike n a b both x free = grind (arith, nat_tests)
-
 module _ (n : ℕ) (table : List Known) (copies : List Copy) where
   -- the table is read as the copies are
   abbrev Reads : Report → Type 0
@@ -147,48 +105,16 @@ module _ (n : ℕ) (table : List Known) (copies : List Copy) where
 
   alike : (report : Report) → Reads report
       → IfSome (family_report report) (λ of. (x : Copy) → x.known.holder ≡ None → made_known n of table x.known ≡ option_map (λ c. c.known) (made n report copies x))
-  alike (Register place) reads = tt
-  alike (Duplicate source place) reads = λ x free. refl
-  alike (Edit c) reads = λ x free.
-      elim (x.known.copy == c) as (λ b. Some (cond b (knowing (n ∷ x.known.set) n x.known) x.known) ≡ option_map (λ z. z.known) (cond b (Some (touched n (n ∷ x.known.set) x.place x)) (Some x))) [ true ↦ refl | false ↦ refl ]
-  alike (Reconcile a b) reads = λ x free. ap₂ (λ s t. united_known n (union s t) a b x.known) (reads a (inl refl)) (reads b (inr refl)) ∙ united_alike n a b (union (known_to copies a) (known_to copies b)) x free
-  alike (Merge a b) reads = λ x free.
-      ap₂ (λ s t. united_known n (union (n ∷ s) t) a b x.known) (reads a (inl refl)) (reads b (inr refl)) ∙ united_alike n a b (union (n ∷ known_to copies a) (known_to copies b)) x free
-  alike (Relocate c place) reads = λ x free.
-      elim (x.known.copy == c) as (λ b. Some (cond b (knowing x.known.set n x.known) x.known) ≡ option_map (λ z. z.known) (cond b (Some (touched n x.known.set place x)) (Some x))) [ true ↦ refl | false ↦ refl ]
-  alike (Remove c None) reads = λ x free.
-      ap (λ o. unless (x.known.copy == c || is_held c o) x.known) free
-      ∙ elim (x.known.copy == c) as (λ b. unless (b || false) x.known ≡ option_map (λ z. z.known) (cond b None (Some x))) [ true ↦ refl | false ↦ refl ]
-  alike (Remove c (Some h)) reads = λ x free.
-      let with_holder : Option ℕ → Known = λ o. record { copy = x.known.copy; holder = o; set = x.known.set; touch = x.known.touch } in
-      let still : pass c h x.known ≡ x.known = ap (λ o. with_holder (passed c h o)) free ∙ sym (ap with_holder free) in
-      ap (λ t. cond (x.known.copy == c) None (unless (ends h (set_in table h) t) t)) still
-      ∙ ap (λ o. cond (x.known.copy == c) None (unless (is_held h o && is_within x.known.set (set_in table h)) x.known)) free
-      ∙ elim (x.known.copy == c) as (λ b. cond b None (Some x.known) ≡ option_map (λ z. z.known) (cond b None (Some x))) [ true ↦ refl | false ↦ refl ]
-  alike (Confirm m) reads = tt
-  alike (Withdraw m) reads = tt
+  alike report h1 = grind (arith, nat_tests, united_known, unless, pass)
 
   comes_alike : (report : Report) → Reads report → ((c : ℕ) → Names report c → Lives copies c)
       → IfSome (family_report report) (λ of. known_copies (comes_known n of table) ≡ all_known (option_to_list (comes n report copies)))
-  comes_alike (Register place) reads lives = tt
-  comes_alike (Duplicate source place) reads lives = let there = lives source refl in ap (λ s. known n s n ∷ []) (reads source refl) ∙ (rw (there.1) refl)
-  comes_alike (Remove c (Some h)) reads lives =
-      let last = pass c h (parcel n h (set_in table c)) in
-      elim (ends h (set_in table h) last) as (λ b. known_copies (cond (not b) (last ∷ []) []) ≡ []) [ true ↦ refl | false ↦ ap (λ o. cond (is_copy o) (last ∷ []) []) (passed_heir c h) ]
-  comes_alike (Remove c None) reads lives = refl
-  comes_alike (Confirm m) reads lives = tt
-  comes_alike (Withdraw m) reads lives = tt
-  comes_alike report reads lives = refl
+  comes_alike report h1 h2 = grind (arith, nat_tests, pass, passed_heir)
 
   made_all : (g : Known → Option Known) (h : Copy → Option Copy) → ((x : Copy) → x.known.holder ≡ None → g x.known ≡ option_map (λ c. c.known) (h x)) → (xs : List Copy) → AllByRecursion (λ t. is_copy t.holder ≡ true) (all_known xs)
       → filter_map g (all_known xs) ≡ all_known (filter_map h xs)
   made_all g h same [] all = refl
-  made_all g h same (x ∷ xs) all =
-      ap (λ o. cons_option o (filter_map g (all_known xs))) (same x (no_holder x.known.holder all.0))
-      ∙ elim (h x) as (λ o. cons_option (option_map (λ c. c.known) o) (filter_map g (all_known xs)) ≡ all_known (cons_option o (filter_map h xs))) [
-        | None ↦ made_all g h same xs all.1
-        | Some y ↦ ap (λ l. y.known ∷ l) (made_all g h same xs all.1)
-      ]
+  made_all g h same (x ∷ xs) all = grind (arith, nat_tests, no_holder, made_all g h same xs all.1)
 
   pub mirrors : (report : Report) (of : FamilyReport) → family_report report ≡ Some of → Mirrors table copies → One table → NamesOf of table → ((c : ℕ) → Names report c → Lives copies c)
       → Mirrors (by_family.reported n of table) (after_report n report copies)

@@ -1,3 +1,4 @@
+pub mod Words
 pub mod Lists
 pub mod Sound
 pub mod Moves
@@ -10,7 +11,7 @@ pub mod Listed
 pub mod Answered
 pub mod Shown
 pub mod Stood
-pub mod NotKept
+pub mod Longer
 pub mod Runs
 pub mod Worked
 pub mod Sending

@@ -1,43 +1,17 @@
 -- The families that have begun, as a hall keeps them.
-use Rattle.std.specs.Prelude.{◌≡◌, ℕ, ◌<◌, ◌≤◌, Bool, false, cond, ◌==◌, List, [], ◌∷◌, ◌++◌, map, filter, Some, None, option_map, option_and_then, ◌≢◌, zero, suc, ◌+◌, length, slice_get, slice_set, slice_index_or, is_none}
-use Rattle.std.specs.Bool.{then_some}
-use Rattle.std.specs.Str.{bytes_eq}
-use Rattle.std.proofs.Common.{refl, sym, ap, ◌∙◌, subst, inl, inr, arith, append-nil}
-use Rattle.std.proofs.lemmas.Bool.{eqb-true, eq-eqb, cases_lt, cases_order}
-use Rattle.std.proofs.lemmas.Option.{get_or_from_slice_get, slice_get-map, slice_get_within}
+use Rattle.pana_hall.proofs.Words.{◌≡◌, ℕ, ◌<◌, ◌≤◌, Bool, false, cond, ◌==◌, List, [], ◌∷◌, ◌++◌, map, filter, Some, None, option_map, option_and_then, ◌≢◌, zero, suc, ◌+◌, length, slice_get}
+use Rattle.pana_hall.proofs.Words.{slice_index_or, is_none, then_some, bytes_eq, refl, sym, ap, ◌∙◌, subst, inl, inr, arith, append-nil, eqb-true, eq-eqb, cases_lt, slice_get_within, map-append}
+use Rattle.pana_hall.proofs.Words.{length-append, length-map, Entry, is_register, families, begun_or_joined, subject, Copy, copy_in, living, begun, holding, holdings, AreRising, family_of_next}
+use Rattle.pana_hall.proofs.Words.{AllByRecursion, nat_tests, Place, Table, kept, Report, Register, report_refusal, KeptRows, new_kept, IsFree, all_listed, listed, IsStepOf, ListedFamily, next_entry}
+use Rattle.pana_hall.proofs.Words.{AreSpots, IsReady, IsReadyAt, families_of, family_of, position_for, entry_at, IsAccepted, slice_set, cases_order, get_or_from_slice_get, slice_get-map, map-set}
+use Rattle.pana_hall.proofs.Words.{set-get_or, IsStep, Takes, ArePlaced, position_of_subject, IsWithin}
+use Rattle.pana_hall.specs.{inner.Kept.IsKept, declared.next.Step.Step, declared.next.Step.TheVariants.Begin, inner.Families.family_at, inner.Families.position_at}
 use Rattle.circular_buffer.proofs.Places.{slice_get-set_same}
-use Rattle.std.proofs.lemmas.List.{map-set, set-get_or, map-append, length-append, length-map}
-use Rattle.pana_journal.specs.declared.entry.Entry.{Entry}
-use Rattle.pana_hall.specs.Family.{is_register, families, begun_or_joined, subject}
-use Rattle.pana_hall.specs.Living.{Copy, copy_in, living}
-use Rattle.pana_hall.specs.Queries.{begun, holding, holdings}
-use Rattle.pana_hall.specs.laws.Layers.{AreRising, family_of_next}
 use Rattle.pana_hall.proofs.Lists.{rises_filter, each_filter, each_map, each_weaker, map_same, slice_get-each, entry_at_place, slice_get-append, slice_get-push, under, rises_map, found_by, at-append, none_under, rises_each, at-push}
-use Rattle.std.specs.List.{AllByRecursion}
-use Rattle.std.proofs.lemmas.Bool.Decides.{nat_tests}
-use Rattle.pana_copies.specs.declared.place.Place.{Place}
-use Rattle.pana_copies.specs.Spots.{Table, kept}
-use Rattle.pana_journal.specs.declared.report.Report.{Report}
-use Rattle.pana_journal.specs.declared.report.Report.TheVariants.{Register}
-use Rattle.pana_hall.specs.Refusal.{report_refusal}
-use Rattle.pana_hall.specs.inner.Undo.{KeptRows, new_kept}
-use Rattle.pana_hall.specs.inner.Spots.{IsFree}
-use Rattle.pana_hall.specs.inner.Listed.{all_listed, listed}
-use Rattle.pana_hall.specs.inner.Next.{IsStep, IsStepOf, Takes}
-use Rattle.pana_hall.specs.declared.listed_family.ListedFamily.{ListedFamily}
-use Rattle.pana_hall.specs.declared.next.Step.{Step}
-use Rattle.pana_hall.specs.declared.next.Step.TheVariants.{Begin}
-use Rattle.pana_hall.specs.inner.Kept.{next_entry, AreSpots, IsReady, IsReadyAt, families_of, family_of, ArePlaced, IsKept, position_for, position_of_subject, IsWithin}
-use Rattle.pana_hall.proofs.Sound.{none_against, family_new, accepted_is_sound, family_old, named_by, living_fit, LivesIn, named_report}
+use Rattle.pana_hall.proofs.Sound.{none_against, family_new, accepted_is_sound, family_old, living_fit, LivesIn, named_report}
 use Rattle.pana_hall.proofs.Moves.{IsWell, none_below, subject_none, subject_named}
-use Rattle.pana_hall.proofs.Places.{living_below, spots_next}
-use Rattle.pana_hall.proofs.Tables.{begun-next}
-use Rattle.pana_hall.proofs.Histories.{family_begun, family_other}
-use Rattle.pana_hall.proofs.Ready.{accepts_next, free_spots}
-use Rattle.pana_journal.specs.Entries.{entry_at}
-use Rattle.pana_hall.specs.Accepted.{IsAccepted}
-use Rattle.pana_hall.specs.inner.Families.{family_at, position_at}
-use Rattle.pana_hall.proofs.Runs.{next_accepted, rising}
+use Rattle.pana_hall.proofs.{Places.living_below, Places.spots_next, Tables.begun-next, Histories.family_begun, Histories.family_other, Ready.accepts_next, Ready.free_spots}
+use Rattle.pana_hall.proofs.{Runs.next_accepted, Runs.rising}
 
 -- Lists by rising keys are one where the same is found under each key; holdings and families as such lists.
 
@@ -81,9 +55,7 @@ holdings_rise device copies rises = rises_map holding (λ c. c.known.copy) (λ h
 
 pub holdings_under : (device : List ℕ) (n : ℕ) (copies : List Copy) → AreRising (λ c. c.known.copy) 0 copies
     → under (λ h. h.copy) (holdings copies device) n ≡ option_map holding (option_and_then (λ copy. then_some (bytes_eq copy.place.device device) copy) (copy_in copies n))
-holdings_under device n copies rises =
-    under_map holding (λ c. c.known.copy) (λ h. h.copy) (λ c. refl) n (filter (λ c. bytes_eq c.place.device device) copies)
-    ∙ ap (option_map holding) (grind (arith, nat_tests, under_filter))
+holdings_under device n copies rises = grind (arith, nat_tests, under_map holding (λ c. c.known.copy) (λ h. h.copy) (λ c. refl) n (filter (λ c. bytes_eq c.place.device device) copies), under_filter)
 
 -- the families that an entry has begun
 begun_later : (journal : List Entry) (entry : Entry) → is_register entry.report ≡ false → begun (journal ++ entry ∷ []) ≡ begun journal
@@ -122,9 +94,6 @@ pub step_takes : (n len capacity : ℕ) (list : List ListedFamily) (position : �
     → IsStep n len capacity list position copies report step → Takes n list position copies report step
 step_takes n len capacity list position copies report step never is = grind (arith, nat_tests)
 
-pub takes_step : (n len capacity : ℕ) (list : List ListedFamily) (position : ℕ) (copies : Table) (report : Report) (step : Step) → Takes n list position copies report step → IsStep n len capacity list position copies report step
-takes_step n len capacity list position copies report step takes = grind (arith, nat_tests)
-
 step_later : (n : ℕ) (it : ListedFamily) (copies : Table) (report : Report) (step : Step) → IsStepOf n it copies report step → is_register report ≡ false
 step_later n it copies report step is = grind (arith, nat_tests)
 
@@ -144,15 +113,7 @@ module _ (list : List ListedFamily) {journal : List Entry} {by : List ℕ} {repo
 
   -- is ready
   pub ready_at : IsReadyAt journal by report (all_listed list) position copies → is_register report ≡ false → (it d : ListedFamily) → it ≡ slice_index_or list position d → IsReady journal by report (listed it) copies
-  ready_at ready later it d is =
-      let there = found_there ready later in
-      record {
-        accepted = ready.accepted;
-        free = ready.free;
-        later = later;
-        kept = ap listed (is ∙ get_or_from_slice_get list position there.0 d there.1) ∙ there.2;
-        spots = ready.spots;
-      }
+  ready_at ready later it d is = grind (arith, nat_tests, found_there, get_or_from_slice_get)
 
   -- the list, with that family changed
   pub listed_set : IsReadyAt journal by report (all_listed list) position copies → is_register report ≡ false → (it d after_it : ListedFamily) → it ≡ slice_index_or list position d
@@ -183,8 +144,7 @@ module _ (list : List ListedFamily) {journal : List Entry} {by : List ℕ} {repo
   -- which takes what was prepared for it
   pub takes_set : IsReadyAt journal by report (all_listed list) position copies → is_register report ≡ false → (n : ℕ) (after_it : ListedFamily) (step : Step) → IsStepOf n after_it copies report step
       → Takes n (slice_set list position after_it) position copies report step
-  takes_set ready later n after_it step is =
-      let there = found_there ready later in record { it = after_it; found = slice_get-set_same list position after_it (slice_get_within list position there.0 there.1); is = is }
+  takes_set ready later n after_it step is = grind (arith, nat_tests, found_there, slice_get-set_same, slice_get_within)
 
   pub position_within : IsReadyAt journal by report (all_listed list) position copies → is_register report ≡ false → position < length list
   position_within ready later = let there = found_there ready later in slice_get_within list position there.0 there.1
@@ -208,11 +168,7 @@ module _ {journal : List Entry} {by : List ℕ} {place : Place} {list : List Kep
       let old : map (family_of journal') (begun journal) ≡ families_of journal =
       map_same (family_of journal') (family_of journal) (λ n. n ≤ length journal) (begun journal) (λ k within. family_other k journal entry sound accepts (λ h. omega arith))
       (begun_within (length journal) journal (each_weaker (IsWell (families journal) (length journal)) _ journal (λ e well. well.within) sound.well)) in
-      ap (λ k. list ++ new_kept (k + 1) ∷ []) is
-      ∙ ap (λ (l : List KeptRows). l ++ new_kept (length journal + 1) ∷ []) (ready.listed ∙ sym old)
-      ∙ ap (λ k. map (family_of journal') (begun journal) ++ k ∷ []) (sym (family_begun journal by place sound accepts))
-      ∙ sym (map-append (family_of journal') (begun journal) ((length journal + 1) ∷ []))
-      ∙ ap (map (family_of journal')) (sym (begun-next journal entry))
+      cc (ready.listed, family_begun journal by place sound accepts, map-append (family_of journal') (begun journal) ((length journal + 1) ∷ []), begun-next journal entry)
 
   pub spots_register : (n : ℕ) → n ≡ length journal → (after_it : Table)
       → ((number : ℕ) → kept after_it number ≡ cond (number == n + 1) (Some (record { family = n + 1; place = place })) (kept copies number))
@@ -234,8 +190,7 @@ pub begins : {journal : List Entry} {by : List ℕ} {report : Report} {position 
 begins {journal} {by} {report} {position} {copies} list n len capacity ready at is = grind (arith, nat_tests)
 
 pub not_register : (report : Report) → ((place : Place) → report ≡ Register place → ⊥) → is_register report ≡ false
-not_register (Register place) never = absurd (never place refl)
-not_register report never = refl
+not_register report h1 = grind (arith, nat_tests)
 
 -- What a hall keeps of its journal, as entries come.
 
@@ -260,7 +215,7 @@ subject_within journal by report n accepted free about =
     let sound = accepted_is_sound 8 journal accepted in
     elim (subject_named report n about) [
       | inl names ↦ lives_within journal _ n accepted (named_report 8 0 journal by report n (living_fit 8 journal sound) free names)
-      | inr is ↦ grind (arith, nat_tests, named_by, entry_within)
+      | inr is ↦ grind (arith, nat_tests, entry_within)
     ]
 
 -- the family of an entry is found

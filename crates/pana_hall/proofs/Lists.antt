@@ -1,17 +1,8 @@
 -- Lists: members that a test keeps, last numbers, rising keys, items by index.
-use Rattle.std.specs.Prelude.{◌≡◌, ℕ, suc, ◌+◌, ◌-◌, ◌≤◌, Bool, true, false, cond, ◌&&◌, ◌||◌, ◌==◌, List, [], ◌∷◌, ◌++◌, length, take, map, filter, ◌≢◌, ◌⊎◌, ◌<◌, Some, None, slice_get}
-use Rattle.std.specs.List.{AllByRecursion, filter_map, list_any}
-use Rattle.std.proofs.Common.{refl, sym, ap, ◌∙◌, arith, subst, Option, find}
-use Rattle.std.proofs.Math.Bool.{and_comm}
-use Rattle.std.proofs.lemmas.List.{drop-append-le, length-append, take-append-drop}
-use Rattle.std.proofs.lemmas.List.Elements.{filter_agree}
-use Rattle.pana_hall.specs.Pending.{last, behind, is_last}
-use Rattle.std.proofs.lemmas.Option.{slice_get_within}
-use Rattle.std.proofs.lemmas.Bool.Decides.{nat_tests}
+use Rattle.pana_hall.proofs.Words.{◌≡◌, ℕ, suc, ◌+◌, ◌-◌, ◌≤◌, Bool, true, false, cond, ◌&&◌, ◌||◌, ◌==◌, List, [], ◌∷◌, ◌++◌, length, take, map, filter, ◌≢◌, ◌⊎◌, ◌<◌, Some, None, slice_get}
+use Rattle.pana_hall.proofs.Words.{AllByRecursion, filter_map, list_any, refl, sym, ap, ◌∙◌, arith, subst, Option, find, length-append, take-append-drop, filter_agree, last, behind, is_last}
+use Rattle.pana_hall.proofs.Words.{slice_get_within, nat_tests, Entry, entry_at, AreRising, and_comm, drop-append-le}
 use Rattle.circular_buffer.proofs.Places.{slice_get-append_left}
-use Rattle.pana_journal.specs.declared.entry.Entry.{Entry}
-use Rattle.pana_journal.specs.Entries.{entry_at}
-use Rattle.pana_hall.specs.laws.Layers.{AreRising}
 
 -- Lists of which a test keeps some members, and their last numbers.
 

@@ -1,24 +1,10 @@
 -- What a report does to the copies.
-use Rattle.std.specs.Prelude.{◌≡◌, ℕ, ◌<◌, true, false, cond, ◌==◌, List, [], ◌∷◌, ◌++◌, Option, Some, None, is_none, IfSome, option_map, option_and_then, ◌⊎◌, ◌≢◌, ◌≤◌, filter, fold}
-use Rattle.std.specs.List.{AllByRecursion, filter_map}
-use Rattle.std.specs.Option.{option_to_list}
-use Rattle.std.proofs.Common.{refl, sym, ap, ◌∙◌, subst, inl, inr, arith, append-nil}
-use Rattle.std.proofs.lemmas.Bool.{eqb-true}
-use Rattle.pana_journal.specs.declared.report.Report.{Report}
-use Rattle.pana_journal.specs.declared.report.Report.TheVariants.{Register, Duplicate, Edit, Reconcile, Merge, Relocate, Remove, Confirm, Withdraw}
-use Rattle.pana_family.specs.declared.report.FamilyReport.{FamilyReport}
-use Rattle.pana_copies.specs.declared.place.Place.{Place}
-use Rattle.pana_hall.specs.Effective.{is_of_copies}
-use Rattle.pana_hall.specs.Family.{family_report, is_register, subject, entries_of}
-use Rattle.pana_hall.specs.Living.{Copy, copy_in, new_copy, made, comes, after_report, after_entry, copies_of}
-use Rattle.pana_hall.specs.Refusal.{displaced}
-use Rattle.pana_hall.specs.laws.Layers.{AreRising}
+use Rattle.pana_hall.proofs.Words.{◌≡◌, ℕ, ◌<◌, true, cond, ◌==◌, List, [], ◌∷◌, ◌++◌, Option, Some, None, is_none, IfSome, option_and_then, ◌⊎◌, ◌≢◌, ◌≤◌, filter, fold, AllByRecursion}
+use Rattle.pana_hall.proofs.Words.{filter_map, option_to_list, refl, sym, ap, ◌∙◌, subst, inl, inr, arith, append-nil, eqb-true, Report, Register, Duplicate, Edit, Reconcile, Merge, Relocate, Remove}
+use Rattle.pana_hall.proofs.Words.{Confirm, Withdraw, FamilyReport, Place, is_of_copies, family_report, is_register, subject, entries_of, Copy, copy_in, made, comes, after_report}
+use Rattle.pana_hall.proofs.Words.{after_entry, displaced, AreRising, filter-append, fold-append, nat_tests, Entry, is_of}
+use Rattle.pana_hall.specs.Living.{copies_of}
 use Rattle.pana_hall.proofs.Lists.{each_append, each_of, rises_lower, rises_push, each_weaker, found_by, filter_made}
-use Rattle.std.proofs.lemmas.List.Elements.{filter-append}
-use Rattle.std.proofs.lemmas.List.Sums.{fold-append}
-use Rattle.std.proofs.lemmas.Bool.Decides.{nat_tests}
-use Rattle.pana_journal.specs.declared.entry.Entry.{Entry}
-use Rattle.pana_hall.specs.Board.{is_of}
 
 -- a copy of the same family, under the same number
 pub record Same (x y : Copy) : Type 0 where
@@ -41,11 +27,6 @@ each_stays P g keeps (x ∷ xs) each = grind (arith, nat_tests, each_stays P g k
 pub each_after : (P : Copy → Type 0) (n : ℕ) (report : Report) (copies : List Copy) → ((x : Copy) → P x → IfSome (made n report copies x) P) → IfSome (comes n report copies) P
     → AllByRecursion P copies → AllByRecursion P (after_report n report copies)
 each_after P n report copies keeps new each = grind (arith, nat_tests, each_append, each_stays)
-
--- a weaker word of what is there, if anything is
-pub if_some : {X : Type 0} (P Q : X → Type 0) (o : Option X) → ((x : X) → P x → Q x) → IfSome o P → IfSome o Q
-if_some P Q None f h = tt
-if_some P Q (Some x) f h = f x h
 
 -- the numbers of the copies are below n
 abbrev pub AreBelow : ℕ → List Copy → Type 0
@@ -86,13 +67,8 @@ found_among : (g : Copy → Option Copy) → ((x : Copy) → IfSome (g x) (Same 
 found_among g keeps gone [] a = refl
 found_among g keeps gone (x ∷ copies) a = grind (arith, nat_tests, found_among g keeps gone copies a, found_number)
 
-gone_alike : (n : ℕ) (report : Report) (copies : List Copy) (x y : Copy) → made n report copies x ≡ None → y.known.copy ≡ x.known.copy → made n report copies y ≡ None
-gone_alike n report copies x y none is = grind (arith, nat_tests)
-
 pub found_after : (n : ℕ) (report : Report) (copies : List Copy) (a : ℕ) → comes n report copies ≡ None → copy_in (after_report n report copies) a ≡ option_and_then (made n report copies) (copy_in copies a)
-found_after n report copies a none =
-    ap (λ l. copy_in l a) (ap (λ o. filter_map (made n report copies) copies ++ option_to_list o) none ∙ append-nil _)
-    ∙ found_among (made n report copies) (made_same n report copies) (gone_alike n report copies) copies a
+found_after n report copies a none = grind (arith, nat_tests, append-nil, found_among, made_same)
 
 -- a report of copies begins a family, or changes one that has begun
 pub made_of : (report : Report) → is_of_copies report ≡ true → ((place : Place) × (report ≡ Register place)) ⊎ ((of : FamilyReport) × (family_report report ≡ Some of))
@@ -113,8 +89,7 @@ Names (Remove x (Some heir)) c = (x ≡ c) ⊎ (heir ≡ c)
 Names _ c = ⊥
 
 pub removed_named : (c : ℕ) (heir : Option ℕ) → Names (Remove c heir) c
-removed_named c None = refl
-removed_named c (Some h) = inl refl
+removed_named c heir = grind (arith, nat_tests)
 
 -- a copy that it moves or removes is one that it is about
 pub displaced_named : (report : Report) (c : ℕ) → displaced report ≡ Some c → Names report c
@@ -125,20 +100,7 @@ pub subject_named : (report : Report) (c : ℕ) → subject report ≡ Some c �
 subject_named report c e = grind (arith, nat_tests)
 
 pub subject_none : (report : Report) → is_register report ≡ is_none (subject report)
-subject_none (Register place) = refl
-subject_none report = refl
-
--- a copy that it isn't about stays as it is
-pub made_other : (n : ℕ) (report : Report) (copies : List Copy) (x : Copy) → (Names report x.known.copy → ⊥) → made n report copies x ≡ Some x
-made_other n report copies x other = grind (arith, nat_tests)
-
--- it reads the others where it is about them
-pub made_read : (n : ℕ) (report : Report) (copies others : List Copy) (x : Copy) → ((c : ℕ) → Names report c → copy_in copies c ≡ copy_in others c) → made n report copies x ≡ made n report others x
-made_read n report copies others x read = grind (arith, nat_tests)
-
-pub comes_read : (n : ℕ) (report : Report) (copies others : List Copy) → ((c : ℕ) → Names report c → copy_in copies c ≡ copy_in others c) → comes n report copies ≡ comes n report others
-comes_read n (Duplicate source place) copies others read = ap (option_map (λ c. new_copy n c.family c.known.set place)) (read source refl)
-comes_read n report copies others read = refl
+subject_none report = grind (arith, nat_tests)
 
 -- The living copies of a family come from the family's entries alone.
 
@@ -171,22 +133,17 @@ found_fits of last number copies copy fits found = grind (arith, nat_tests, foun
 
 -- what a report leaves fits
 new_fits : (of : ℕ → ℕ) (last n : ℕ) (report : Report) (copies : List Copy) → Belongs of n report → n ≤ last → AllByRecursion (Fits of last) copies → IfSome (comes n report copies) (Fits of last)
-new_fits of last n (Duplicate source place) copies belongs within fits = grind (arith, nat_tests, found_fits)
-new_fits of last n report copies belongs within fits = grind (arith, nat_tests)
+new_fits of last n report copies h1 h2 h3 = grind (arith, nat_tests, found_fits)
 
 pub report_fits : (of : ℕ → ℕ) (last n : ℕ) (report : Report) (copies : List Copy) → Belongs of n report → n ≤ last
     → AllByRecursion (Fits of last) copies → AllByRecursion (Fits of last) (after_report n report copies)
-report_fits of last n report copies belongs within fits = grind (arith, nat_tests, each_after, if_some, made_same, new_fits)
+report_fits of last n report copies belongs within fits = grind (arith, nat_tests, each_after, made_same, new_fits)
 
 -- where a copy's family is that of its number, the copies of the family have the copy too
 pub copy_in-family : (of : ℕ → ℕ) (last family number : ℕ) (copies : List Copy) → AllByRecursion (Fits of last) copies → of number ≡ family
     → copy_in (filter (is_of family) copies) number ≡ copy_in copies number
 copy_in-family of last family number [] fits here = refl
 copy_in-family of last family number (copy ∷ copies) fits here = grind (arith, nat_tests, copy_in-family of last family number copies fits.1 here)
-
--- the copies of a family that stay are those that stay of the family's
-filter_stays : (family : ℕ) (g : Copy → Option Copy) → ((x : Copy) → IfSome (g x) (Same x)) → (xs : List Copy) → filter (is_of family) (filter_map g xs) ≡ filter_map g (filter (is_of family) xs)
-filter_stays family g keeps xs = grind (arith, nat_tests, filter_made)
 
 stay_alike : (g h : Copy → Option Copy) → ((x : Copy) → g x ≡ h x) → (xs : List Copy) → filter_map g xs ≡ filter_map h xs
 stay_alike g h alike [] = refl
@@ -208,17 +165,12 @@ new_there of last family n report copies fits belongs within =
 -- a family sees its own entry
 pub entry-here : (of : ℕ → ℕ) (last family n : ℕ) (report : Report) (copies : List Copy) → AllByRecursion (Fits of last) copies → Belongs of n report → n ≤ last → of n ≡ family
     → filter (is_of family) (after_report n report copies) ≡ after_report n report (filter (is_of family) copies)
-entry-here of last family n report copies fits belongs within here = grind (arith, nat_tests, copy_in-family, filter-append, filter_stays, made_same, stay_alike, made_read, new_there, comes_read)
+entry-here of last family n report copies fits belongs within here = grind (arith, nat_tests, copy_in-family, filter-append, filter_made, made_same, stay_alike, new_there)
 
 -- and no other one's
 pub entry-other : (of : ℕ → ℕ) (last family n : ℕ) (report : Report) (copies : List Copy) → AllByRecursion (Fits of last) copies → Belongs of n report → n ≤ last → of n ≢ family
     → filter (is_of family) (after_report n report copies) ≡ filter (is_of family) copies
-entry-other of last family n report copies fits belongs within other =
-    let g = made n report copies in
-    filter-append (is_of family) (filter_map g copies) (option_to_list (comes n report copies))
-    ∙ ap (λ l. l ++ filter (is_of family) (option_to_list (comes n report copies))) (grind (arith, nat_tests, filter_stays, made_same, left_alone, each_weaker, made_other))
-    ∙ ap (λ l. filter (is_of family) copies ++ l) (grind (arith, nat_tests, new_there))
-    ∙ append-nil _
+entry-other of last family n report copies fits belongs within other = grind (arith, nat_tests, filter-append, filter_made, made_same, left_alone, each_weaker, new_there, append-nil)
 
 pub fold_fits : (of : ℕ → ℕ) (last : ℕ) (copies : List Copy) (entries : List Entry) → AllByRecursion (IsWell of last) entries → AllByRecursion (Fits of last) copies
     → AllByRecursion (Fits of last) (fold after_entry copies entries)

@@ -1,38 +1,17 @@
 -- Where the copies are kept, as entries come and are withdrawn.
-use Rattle.std.specs.Prelude.{◌≡◌, ◌≢◌, ℕ, not, ◌==◌, List, [], ◌∷◌, ◌++◌, length, filter, Some, None, option_and_then, ◌+◌, ◌<◌, Bool, true, false, cond, fold, Option, option_map, find, map}
-use Rattle.std.specs.List.{AllByRecursion}
-use Rattle.std.proofs.Common.{refl, sym, ap, ◌∙◌, inl, inr, arith, append-nil}
-use Rattle.std.proofs.Math.Bool.{or-false}
-use Rattle.std.proofs.lemmas.List.Elements.{filter_agree}
-use Rattle.pana_journal.specs.declared.report.Report.TheVariants.{Withdraw, Register, Duplicate, Relocate, Remove, Confirm}
-use Rattle.pana_journal.specs.declared.entry.Entry.{Entry}
-use Rattle.pana_hall.specs.Family.{families, entries_of}
-use Rattle.pana_hall.specs.Effective.{effective, left_out, is_of_copies}
-use Rattle.pana_hall.specs.Living.{Copy, new_copy, made, comes, copy_in, copies_of, living, after_report, after_entry}
-use Rattle.pana_hall.specs.Pending.{last}
-use Rattle.pana_hall.specs.Refusal.{brought_back, displaced, report_refusal, taken, taken_from}
-use Rattle.pana_hall.specs.Accepted.{IsAccepted, Accepts}
-use Rattle.pana_hall.specs.laws.Tables.{table, layer}
+use Rattle.pana_hall.proofs.Words.{◌≡◌, ◌≢◌, ℕ, not, ◌==◌, List, [], ◌∷◌, ◌++◌, length, filter, Some, None, option_and_then, ◌+◌, ◌<◌, Bool, true, false, cond, fold, Option, option_map, find, map}
+use Rattle.pana_hall.proofs.Words.{AllByRecursion, refl, sym, ap, ◌∙◌, inl, inr, arith, append-nil, or-false, filter_agree, Withdraw, Register, Duplicate, Relocate, Remove, Confirm, Entry, families}
+use Rattle.pana_hall.proofs.Words.{entries_of, effective, left_out, is_of_copies, Copy, new_copy, made, comes, copy_in, living, after_report, after_entry, last, brought_back, displaced}
+use Rattle.pana_hall.proofs.Words.{taken, taken_from, IsAccepted, Accepts, table, layer, option_to_list, eqb-true, cases_eq, Spot, placed, Report, spot_of, spot_in, mover, spot_to}
+use Rattle.pana_hall.proofs.Words.{put, spot_after, bytes_eq, nat_tests, Place, same_place, AreApart, AreRising, Holding, holding, holdings}
+use Rattle.pana_hall.specs.{Living.copies_of, Holdings.HaveOwnPaths}
 use Rattle.pana_hall.proofs.Lists.{each_filter, filter_swap, last_push, each_weaker, each_two}
-use Rattle.pana_hall.proofs.Moves.{displaced_named, found_number, IsWell, found_fits, copies_fit, copies_of-family, copies_of-push, copy_in-family, AreBelow, made_same, new_number, each_after, if_some, none_below, found_push, found_after, Fits}
-use Rattle.pana_hall.proofs.Sound.{own, own_other, effective-withdraw, IsSound, accepted_is_sound, effective_well, effective-copies, living_fit, effective-confirm, free_place, in_accepted, OfCopies, Confirms, Withdraws, kind_of}
+use Rattle.pana_hall.proofs.Moves.{displaced_named, found_number, IsWell, found_fits, copies_fit, copies_of-family, copies_of-push, copy_in-family, AreBelow, made_same, new_number, each_after, none_below, found_push, found_after, Fits}
+use Rattle.pana_hall.proofs.Sound.{own, own_other, IsSound, accepted_is_sound, effective_well, effective-copies, living_fit, effective-confirm, free_place, in_accepted, OfCopies, Confirms, Withdraws, kind_of, effective-push}
 use Rattle.pana_hall.proofs.Tables.{EndsIn, all_but_last, last_none, layer_now, table_own, open_withdraw, living_rises}
 use Rattle.pana_hall.proofs.Knowns.{layer_founded}
-use Rattle.std.specs.Option.{option_to_list}
-use Rattle.std.proofs.lemmas.Bool.{eqb-true, cases_eq}
-use Rattle.pana_copies.specs.Spots.{Spot, placed}
-use Rattle.pana_journal.specs.declared.report.Report.{Report}
 use Rattle.pana_family.proofs.Images.{made_itself}
-use Rattle.pana_hall.specs.inner.Spots.{spot_of, spot_in, mover, spot_to, put, spot_after}
-use Rattle.std.specs.Str.{bytes_eq}
 use Rattle.std.proofs.lemmas.Slice.Eq.{bytes_eq-Decides}
-use Rattle.std.proofs.lemmas.Bool.Decides.{nat_tests}
-use Rattle.pana_copies.specs.declared.place.Place.{Place}
-use Rattle.pana_copies.specs.Places.{same_place}
-use Rattle.pana_hall.specs.laws.Layers.{AreApart, AreRising}
-use Rattle.pana_hall.specs.declared.holding.Holding.{Holding}
-use Rattle.pana_hall.specs.Holdings.{HaveOwnPaths}
-use Rattle.pana_hall.specs.Queries.{holding, holdings}
 
 -- The copies that are left where the last pending entry of a family is left out.
 
@@ -41,13 +20,11 @@ left_out_one m entries = filter_agree _ _ (λ e. ap not (or-false (m == e.number
 
 -- what a Withdraw leaves
 pub living_withdrawn : (journal : List Entry) (entry : Entry) (m : ℕ) → entry.report ≡ Withdraw m → living (journal ++ entry ∷ []) ≡ copies_of (left_out (m ∷ []) (effective journal))
-living_withdrawn journal entry m is = grind (arith, nat_tests, effective-withdraw, left_out_one)
+living_withdrawn journal entry m is = grind (arith, nat_tests, effective-push, append-nil, left_out_one)
 
 -- a copy is found among those of its family's entries
 found_own : (of : ℕ → ℕ) (last a : ℕ) (entries : List Entry) → AllByRecursion (IsWell of last) entries → copy_in (copies_of entries) a ≡ copy_in (copies_of (entries_of (of a) of entries)) a
-found_own of last a entries well =
-    sym (grind (arith, nat_tests, copy_in-family, copies_fit))
-    ∙ ap (λ l. copy_in l a) (copies_of-family of last (of a) entries well)
+found_own of last a entries well = grind (arith, nat_tests, copy_in-family, copies_fit, copies_of-family of last (of a) entries well)
 
 module _ {most m : ℕ} {journal : List Entry} (sound : IsSound most journal) (ends : EndsIn most m journal) where
   rest_is : filter (λ e. not (m == e.number)) (own (families journal m) journal) ≡ ends.entries
@@ -74,12 +51,7 @@ module _ {most m : ℕ} {journal : List Entry} (sound : IsSound most journal) (e
 
   -- and each that lives now
   pub now_here : (a : ℕ) → families journal a ≡ families journal m → copy_in (living journal) a ≡ copy_in (after_report m ends.last.report (copies_of ends.entries)) a
-  now_here a of =
-      found_own (families journal) (length journal) a (effective journal) (effective_well most journal sound)
-      ∙ ap (λ f. copy_in (copies_of (own f journal)) a) of
-      ∙ ap (λ l. copy_in (copies_of l) a) ends.own
-      ∙ ap (λ l. copy_in l a) (copies_of-push ends.entries ends.last)
-      ∙ ap (λ k. copy_in (after_report k ends.last.report (copies_of ends.entries)) a) ends.number
+  now_here a of = cc (found_own (families journal) (length journal) a (effective journal) (effective_well most journal sound), ends.own, copies_of-push ends.entries ends.last, ends.number)
 
   -- the copy that the entry moved or removed is of its family
   pub displaced_of : (c : ℕ) → displaced ends.last.report ≡ Some c → families journal c ≡ families journal m
@@ -87,22 +59,13 @@ module _ {most m : ℕ} {journal : List Entry} (sound : IsSound most journal) (e
 
   -- and what is brought back is that copy as the entries before make it
   pub back_before : (c : ℕ) → displaced ends.last.report ≡ Some c → brought_back m journal ≡ copy_in (copies_of ends.entries) c
-  back_before c moves =
-      ap (option_and_then (λ x. option_and_then (copy_in (copies_of (left_out (m ∷ []) (effective journal)))) (displaced x.report))) ends.at
-      ∙ ap (option_and_then (copy_in (copies_of (left_out (m ∷ []) (effective journal))))) moves
-      ∙ left_here c (displaced_of c moves)
+  back_before c moves = cc (ends.at, left_here c (displaced_of c moves))
 
   pub back_none : displaced ends.last.report ≡ None → brought_back m journal ≡ None
-  back_none none =
-      ap (option_and_then (λ x. option_and_then (copy_in (copies_of (left_out (m ∷ []) (effective journal)))) (displaced x.report))) ends.at
-      ∙ ap (option_and_then (copy_in (copies_of (left_out (m ∷ []) (effective journal))))) none
+  back_none none = grind (arith, nat_tests)
 
   pub back_number : (back : Copy) → brought_back m journal ≡ Some back → displaced ends.last.report ≡ Some back.known.copy
-  back_number back is =
-      elim (displaced ends.last.report) as (λ d. displaced ends.last.report ≡ d → d ≡ Some back.known.copy) [
-        | None ↦ λ e. let none = back_none e in absurd (cc)
-        | Some c ↦ λ e. ap (λ k. Some k) (sym (found_number (copies_of ends.entries) c back (sym (back_before c e) ∙ is)))
-      ] refl
+  back_number back is = grind (arith, nat_tests, back_none, found_number, back_before)
 
   -- it is in the table that leaves out one
   pub back_in_table : (c : ℕ) → displaced ends.last.report ≡ Some c → brought_back m journal ≡ copy_in (table most 1 (families journal m) journal) c
@@ -142,8 +105,7 @@ spot_gone : (n : ℕ) (report : Report) (copies : List Copy) (c : ℕ) (to : Opt
 spot_gone n report copies c to none moves goes nothing a = grind (arith, nat_tests, found_after, spot_still)
 
 cond_map : {X Y : Type 0} (f : X → Y) (b : Bool) (x y : X) → f (cond b x y) ≡ cond b (f x) (f y)
-cond_map f true x y = refl
-cond_map f false x y = refl
+cond_map f b x y = grind (arith, nat_tests)
 
 -- what a report of copies changes, the next number being above all others
 pub spots_report : (n : ℕ) (report : Report) (copies : List Copy) → AreBelow n copies → (a : ℕ) → spot_in (after_report n report copies) a ≡ spot_after n report (spot_in copies) a
@@ -170,17 +132,13 @@ spots_report n report copies below a = spot_still n report copies a refl (λ h. 
 -- what undoing it brings back: what was there at the number that it changed
 undone_at : (n : ℕ) (report : Report) (copies : List Copy) (back : Option Copy) → AreBelow n copies → ((c : ℕ) → displaced report ≡ Some c → back ≡ copy_in copies c) → (displaced report ≡ None → back ≡ None)
     → (k : ℕ) → mover n report ≡ Some k → option_map spot_of back ≡ spot_in copies k
-undone_at n (Register place) copies back below is none k at = grind (arith, nat_tests, none_below)
-undone_at n (Duplicate source place) copies back below is none k at = grind (arith, nat_tests, none_below)
-undone_at n report copies back below is none k at = ap (option_map spot_of) (is k at)
+undone_at n report copies back h1 h2 h3 k h4 = grind (arith, nat_tests, none_below)
 
 put_back : (o : Option ℕ) (new back : Option Spot) (spots after : ℕ → Option Spot) (a : ℕ) → ((k : ℕ) → o ≡ Some k → back ≡ spots k) → after a ≡ put o new spots a → spots a ≡ put o back after a
-put_back None new back spots after a is e = sym e
-put_back (Some k) new back spots after a is e = grind (arith, nat_tests)
+put_back o new back spots after a h1 h2 = grind (arith, nat_tests)
 
 pub put_same : (o : Option ℕ) (back other : Option Spot) (spots others : ℕ → Option Spot) (a : ℕ) → back ≡ other → spots a ≡ others a → put o back spots a ≡ put o other others a
-put_same None back other spots others a same e = e
-put_same (Some k) back other spots others a same e = ap (λ s. cond (a == k) s (spots a)) same ∙ ap (λ s. cond (a == k) other s) e
+put_same o back other spots others a h1 h2 = grind (arith, nat_tests)
 
 pub living_below : (most n : ℕ) (journal : List Entry) → IsSound most journal → n ≡ length journal + 1 → AreBelow n (living journal)
 living_below most n journal sound next =
@@ -198,7 +156,7 @@ below_fold : (m : ℕ) (copies : List Copy) (entries : List Entry) → AllByRecu
 below_fold m copies [] numbers below = below
 below_fold m copies (e ∷ entries) numbers below =
     below_fold m (after_entry copies e) entries numbers.1
-    (grind (arith, nat_tests, each_after, if_some, made_same, new_number))
+    (grind (arith, nat_tests, each_after, made_same, new_number))
 
 pub copies_below : (m : ℕ) (entries : List Entry) → AllByRecursion (λ e. e.number < m) entries → AreBelow m (copies_of entries)
 unfolding copies_of
@@ -242,11 +200,7 @@ none_passes p (c ∷ copies) a copy none found =
       ] found
     ] refl none
 
--- a place that isn't taken has no copy
-pub free_of : (place : Place) (copies : List Copy) (a : ℕ) (copy : Copy) → taken place copies ≡ None → copy_in copies a ≡ Some copy → copy.place ≡ place → ⊥
-free_of place copies a copy free found here = grind (arith, nat_tests, none_passes, free_place, same_place-itself)
-
--- and one that isn't taken from a copy has no other one
+-- a place that isn't taken from a copy has no other one
 pub not_taken : (back : Copy) (copies : List Copy) (a : ℕ) (copy : Copy) → taken_from back copies ≡ None → copy_in copies a ≡ Some copy → copy.place ≡ back.place → a ≡ back.known.copy
 not_taken back copies a copy free found here = grind (arith, nat_tests, none_passes, same_place-itself, found_number)
 
@@ -260,26 +214,10 @@ same_own spots others same own a b s t at at' one = own a b s t (sym (same a) �
 -- one spot is put where no other copy is
 put_own : (o : Option ℕ) (new : Option Spot) (spots : ℕ → Option Spot) → OwnPlaces spots
     → ((k : ℕ) → o ≡ Some k → (s : Spot) → new ≡ Some s → (b : ℕ) (t : Spot) → spots b ≡ Some t → t.place ≡ s.place → b ≡ k) → OwnPlaces (put o new spots)
-put_own None new spots own free a b s t at at' one = own a b s t at at' one
-put_own (Some k) new spots own free a b s t at at' one =
-    elim (a == k) as (λ x. (a == k) ≡ x → cond x new (spots a) ≡ Some s → a ≡ b) [
-      | true ↦ λ e h. elim (b == k) as (λ x. (b == k) ≡ x → cond x new (spots b) ≡ Some t → a ≡ b) [
-        | true ↦ λ f g. eqb-true a k e ∙ sym (eqb-true b k f)
-        | false ↦ λ f g. eqb-true a k e ∙ sym (free k refl s h b t g (sym one))
-      ] refl at'
-      | false ↦ λ e h. elim (b == k) as (λ x. (b == k) ≡ x → cond x new (spots b) ≡ Some t → a ≡ b) [
-        | true ↦ λ f g. free k refl t g a s h one ∙ sym (eqb-true b k f)
-        | false ↦ λ f g. own a b s t h g one
-      ] refl at'
-    ] refl at
+put_own o new spots h1 h2 = grind (arith, nat_tests, own, eqb-true)
 
 spot_copy : (copies : List Copy) (a : ℕ) (s : Spot) → spot_in copies a ≡ Some s → (copy : Copy) × (copy_in copies a ≡ Some copy) × (copy.place ≡ s.place)
 spot_copy copies a s at = grind (arith, nat_tests)
-
--- a place that a report isn't refused is one that isn't taken
-place_free : (most n : ℕ) (journal : List Entry) (copies : List Copy) (by : List ℕ) (report : Report) (s : Spot) → report_refusal most journal copies by report ≡ None
-    → spot_to n report (spot_in copies) ≡ Some s → taken s.place copies ≡ None
-place_free most n journal copies by report s free to = grind (arith, nat_tests)
 
 mover_displaced : (n : ℕ) (report : Report) (c : ℕ) → displaced report ≡ Some c → mover n report ≡ Some c
 mover_displaced n report c e = grind (arith, nat_tests)
@@ -293,7 +231,7 @@ own_grows : (most : ℕ) (journal : List Entry) (entry : Entry) → IsSound most
 own_grows most journal entry sound accepts own =
     let now = living journal in
     elim (kind_of entry.report) [
-      | OfCopies is ↦ grind (arith, nat_tests, same_own, spots_next, put_own, own, spot_copy, free_of, place_free)
+      | OfCopies is ↦ grind (arith, nat_tests, same_own, spots_next, put_own, own, spot_copy, none_passes, free_place, same_place-itself)
       | Confirms m is ↦ same_own _ _ (λ a. ap (λ l. spot_in l a) (living_confirmed journal entry m is)) own
       | Withdraws m is ↦
           let o = open_withdraw most m journal entry.by entry.report sound is accepts.free in

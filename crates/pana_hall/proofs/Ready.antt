@@ -1,40 +1,19 @@
 -- What holds where nothing stands against a report, and what it leaves.
-use Rattle.std.specs.Prelude.{◌≡◌, ℕ, ◌+◌, List, length, Some, None, option_map, cond, [], ◌∷◌, ◌++◌, Option, is_some, option_and_then, true, false, take, IfSome, IsSome}
-use Rattle.std.proofs.Common.{refl, sym, ap, ◌∙◌, subst, inr, reverse}
-use Rattle.pana_copies.specs.declared.place.Place.{Place}
-use Rattle.pana_copies.specs.Spots.{Table, kept, place_of, Spot, placed}
-use Rattle.pana_journal.specs.declared.report.Report.{Report}
-use Rattle.pana_journal.specs.declared.entry.Entry.{Entry}
-use Rattle.pana_family.specs.Rows.{AreBefore}
-use Rattle.pana_family.specs.Report.{CanReport}
-use Rattle.pana_family.specs.declared.report.FamilyReport.{FamilyReport}
-use Rattle.pana_hall.specs.Pending.{pending}
-use Rattle.pana_hall.specs.Family.{families, family_report, begun_or_joined, subject, is_register}
-use Rattle.pana_hall.specs.Living.{Copy, copy_in, copies_of, living}
-use Rattle.pana_hall.specs.Refusal.{report_refusal, taken, taken_from, brought_back, displaced}
-use Rattle.pana_hall.specs.Accepted.{Accepts}
-use Rattle.pana_hall.specs.laws.Tables.{layer}
-use Rattle.pana_hall.specs.laws.Layers.{family_of_next}
-use Rattle.pana_hall.specs.inner.Undo.{KeptRows, last_place, confirmed, kept_rows, reported_kept, undone, withdrawn}
-use Rattle.pana_hall.specs.inner.Spots.{spot_of, IsFree, spot_in, mover, spot_to, put, spot_after, undone_spot, CanUndo, IsFreeFor, CanPlace}
-use Rattle.pana_hall.specs.inner.Kept.{next_entry, AreSpots, IsReady, place_before, undone_of, of_pending, family_of as family_kept, of_each}
-use Rattle.pana_hall.proofs.Sound.{family_new, IsSound, accepted_is_sound, living_fit, LivesIn, found_family, named_report, none_against, family_named}
+use Rattle.pana_hall.proofs.Words.{◌≡◌, ℕ, ◌+◌, List, length, Some, None, option_map, [], ◌∷◌, ◌++◌, Option, is_some, option_and_then, true, false, take, IfSome, IsSome, refl, sym, ap, ◌∙◌, subst}
+use Rattle.pana_hall.proofs.Words.{inr, reverse, Place, Table, kept, Spot, placed, Report, Entry, AreBefore, CanReport, FamilyReport, pending, families, family_report, begun_or_joined, subject}
+use Rattle.pana_hall.proofs.Words.{is_register, Copy, copy_in, copies_of, living, report_refusal, taken, brought_back, displaced, Accepts, layer, family_of_next, KeptRows, last_place, confirmed}
+use Rattle.pana_hall.proofs.Words.{kept_rows, reported_kept, undone, withdrawn, spot_of, IsFree, spot_in, mover, spot_to, spot_after, undone_spot, CanUndo, next_entry, AreSpots, IsReady, place_before}
+use Rattle.pana_hall.proofs.Words.{undone_of, of_pending, of_each, eq-eqb, Register, Duplicate, Relocate, Remove, Withdraw, Confirm, StampRow, is_of_copies, rows_of, reverse-append, arith, nat_tests}
+use Rattle.pana_hall.proofs.Words.{place_of, IsFreeFor, CanPlace}
+use Rattle.pana_hall.specs.inner.Kept.{family_of as family_kept}
+use Rattle.pana_hall.proofs.Sound.{family_new, IsSound, accepted_is_sound, living_fit, LivesIn, found_family, named_report, none_against, family_named, free_place}
 use Rattle.pana_hall.proofs.Tables.{own_copy, Open, open_withdraw, layer_now, EndsIn}
-use Rattle.pana_hall.proofs.Places.{free_of, living_below, Back, back_at, back_none, now_here, displaced_of, layer_before, copies_below, spots_report, spots_withdrawn, put_same, not_taken, living_confirmed, spots_next, back_before}
+use Rattle.pana_hall.proofs.Places.{living_below, Back, back_at, back_none, now_here, displaced_of, layer_before, copies_below, spots_report, spots_withdrawn, put_same, not_taken, living_confirmed, spots_next, back_before, none_passes, same_place-itself}
 use Rattle.pana_hall.proofs.Stood.{can_report, layers_stand, next_above, rows_changed}
 use Rattle.pana_hall.proofs.Moves.{Names, none_below, displaced_named, made_of, removed_named}
-use Rattle.std.proofs.lemmas.Bool.{eq-eqb}
-use Rattle.pana_journal.specs.declared.report.Report.TheVariants.{Register, Duplicate, Relocate, Remove, Withdraw, Confirm}
 use Rattle.pana_hall.proofs.Knowns.{layer_founded}
-use Rattle.pana_hall.proofs.Histories.{pending_undone}
 use Rattle.std.proofs.Math.Path.{fun_ext}
-use Rattle.pana_family.specs.declared.row.StampRow.{StampRow}
-use Rattle.pana_hall.specs.Effective.{is_of_copies}
-use Rattle.pana_hall.specs.StampRows.{rows_of}
 use Rattle.pana_hall.proofs.Histories as kept_families
-use Rattle.std.proofs.lemmas.List.{reverse-append}
-use Rattle.std.proofs.Common.{arith}
-use Rattle.std.proofs.lemmas.Bool.Decides.{nat_tests}
 
 -- What holds where nothing stands against a report: of its family and of the table of copies.
 
@@ -54,7 +33,7 @@ pub at_spots : (journal : List Entry) (copies : Table) → AreSpots journal copi
 at_spots journal copies spots c place at = grind (arith, nat_tests)
 
 pub free_spots : (journal : List Entry) (copies : Table) → AreSpots journal copies → (place : Place) → taken place (living journal) ≡ None → IsFree place copies
-free_spots journal copies spots place free number at = grind (arith, nat_tests, at_spots, free_of)
+free_spots journal copies spots place free number at = grind (arith, nat_tests, at_spots, none_passes, free_place, same_place-itself)
 
 module _ {journal : List Entry} {by : List ℕ} {report : Report} {it : KeptRows} {copies : Table} where
   -- and the report is this one
@@ -124,18 +103,13 @@ module _ {journal : List Entry} {by : List ℕ} {m : ℕ} {it : KeptRows} {copie
 
   -- no other copy has the place of the one that lived before the entry
   back_free : (c : ℕ) → (back : Back journal m c ends.entries) → (number : ℕ) → place_of copies number ≡ Some back.copy.place → number ≡ c
-  back_free c back number at_it =
-      let there = at_spots journal copies ready.spots number back.copy.place at_it in
-      let free : taken_from back.copy (living journal) ≡ None = ap (option_and_then (λ copy. taken_from copy (living journal))) (sym back.is) ∙ opened.free in
-      not_taken back.copy (living journal) number there.0 free there.1 there.2 ∙ back.number
+  back_free c back number at_it = grind (arith, nat_tests, at_spots, opened, not_taken)
 
   -- where the copy that the entry made, moved or removed is kept since
   kept_moved : (c : ℕ) → mover m ends.last.report ≡ Some c → families journal c ≡ families journal m → kept copies c ≡ spot_to m ends.last.report (spot_in (copies_of ends.entries))
   kept_moved c moves of =
       let report = ends.last.report in
-      let before = spot_in (copies_of ends.entries) in
-      ready.spots c ∙ ap (option_map spot_of) (now_here sound ends c of) ∙ spots_report m report (copies_of ends.entries) (copies_below m ends.entries ends.below) c
-      ∙ ap (λ k. put k (spot_to m report before) before c) moves ∙ ap (λ b. cond b (spot_to m report before) (before c)) (eq-eqb c c refl)
+      grind (arith, nat_tests, ready.spots c, now_here sound ends c of, spots_report m report (copies_of ends.entries) (copies_below m ends.entries ends.below) c, eq-eqb c c refl)
 
   undo_by : (report : Report) → ends.last.report ≡ report → CanUndo m report it.number (last_place it.undo) copies
   undo_by (Register place) e = (front_none (ap displaced e), ap is_some (kept_moved m (ap (mover m) e) refl ∙ ap (λ r. spot_to m r (spot_in (copies_of ends.entries))) e))
@@ -193,9 +167,7 @@ pub of_family : (report : Report) → is_register report ≡ false → is_of_cop
 of_family report later is = grind (arith, nat_tests, made_of)
 
 pub of_copies : (report : Report) → ((m : ℕ) → report ≡ Confirm m → ⊥) → ((m : ℕ) → report ≡ Withdraw m → ⊥) → is_of_copies report ≡ true
-of_copies (Confirm m) first second = absurd (first m refl)
-of_copies (Withdraw m) first second = absurd (second m refl)
-of_copies report first second = refl
+of_copies report h1 h2 = grind (arith, nat_tests)
 
 pub reports_copies : (report : Report) {of : FamilyReport} → family_report report ≡ Some of → is_of_copies report ≡ true
 reports_copies report about = grind (arith, nat_tests)
@@ -214,29 +186,24 @@ module _ {journal : List Entry} {by : List ℕ} {report : Report} {it : KeptRows
 
   -- a copy that the report names is kept
   kept_named : {r : Report} → report ≡ r → (c : ℕ) → Names r c → IsSome (kept copies c)
-  kept_named is c names =
-      let there = named ready c (subst (λ x. Names x c) (sym is) names) in ap is_some (ready.spots c ∙ ap (option_map spot_of) there.found)
+  kept_named is c names = grind (arith, nat_tests, named)
 
   -- so is the one that it moves or removes
   pub lives_displaced : IfSome (displaced report) (λ copy. IsSome (kept copies copy))
-  lives_displaced =
-      elim (displaced report) as (λ o. displaced report ≡ o → IfSome o (λ copy. IsSome (kept copies copy))) [ None ↦ λ e. tt | Some c ↦ λ e. kept_named refl c (displaced_named report c e) ] refl
+  lives_displaced = grind (arith, nat_tests, kept_named, displaced_named)
 
   -- a duplicate is kept beside its source
   spot_duplicate : {source : ℕ} {place : Place} → report ≡ Duplicate source place → Some (record { family = it.number; place = place }) ≡ placed place (kept copies source)
   spot_duplicate {source} {place} is =
       let there = named ready source (subst (λ r. Names r source) (sym is) refl) in
-      ap (λ f. Some (record { family = f; place = place })) (sym there.of ∙ sym (family_of journal source there.copy (accepted_is_sound 8 journal ready.accepted) there.found))
-      ∙ ap (λ o. placed place (option_map spot_of o)) (sym there.found) ∙ ap (placed place) (sym (ready.spots source))
+      grind (arith, nat_tests, there.of, family_of journal source there.copy (accepted_is_sound 8 journal ready.accepted) there.found, there.found, ready.spots source)
 
   -- a place that a report gives a copy is free
   free_duplicate : {source : ℕ} {place : Place} → report ≡ Duplicate source place → IsFree place copies
-  free_duplicate {source} {place} is =
-      free_spots journal copies ready.spots place (none_against 8 journal (living journal) by (Duplicate source place) (as_is ready is).free).1.1.0
+  free_duplicate {source} {place} is = grind (arith, nat_tests, free_spots, none_against, as_is)
 
   free_relocate : {c : ℕ} {place : Place} → report ≡ Relocate c place → IsFreeFor c place copies
-  free_relocate {c} {place} is number at =
-      absurd (free_spots journal copies ready.spots place (none_against 8 journal (living journal) by (Relocate c place) (as_is ready is).free).1.1.0 number at)
+  free_relocate {c} {place} is number at = grind (arith, nat_tests, free_spots, none_against, as_is)
 
   -- so the copy can be kept as it says
   pub can_place : (n : ℕ) → n ≡ length journal → (r : Report) → report ≡ r → CanPlace (n + 1) r it.number copies
@@ -276,13 +243,9 @@ module _ {journal : List Entry} {by : List ℕ} {report : Report} {it : KeptRows
   pub family_confirmed : {m : ℕ} → report ≡ Confirm m → (after_it : KeptRows) → after_it ≡ confirmed m it → after_it ≡ family_kept (journal ++ next_entry journal by report ∷ []) it.number
   family_confirmed {m} is after_it made =
       let entry = next_entry journal by report in
-      made ∙ ap (confirmed m) ready.kept
-      ∙ sym (kept_families.family_confirm m journal entry (accepted_is_sound 8 journal ready.accepted) (accepts_next journal by report ready.free) is)
-      ∙ ap (λ (k : KeptRows). family_kept (journal ++ entry ∷ []) k.number) (sym ready.kept)
+      cc (ready.kept, kept_families.family_confirm m journal entry (accepted_is_sound 8 journal ready.accepted) (accepts_next journal by report ready.free) is)
 
   pub family_withdrawn : {m : ℕ} → report ≡ Withdraw m → (after_it : KeptRows) → after_it ≡ withdrawn it → after_it ≡ family_kept (journal ++ next_entry journal by report ∷ []) it.number
   family_withdrawn {m} is after_it made =
       let entry = next_entry journal by report in
-      made ∙ ap withdrawn ready.kept
-      ∙ sym (kept_families.family_withdraw m journal entry (accepted_is_sound 8 journal ready.accepted) (accepts_next journal by report ready.free) is)
-      ∙ ap (λ (k : KeptRows). family_kept (journal ++ entry ∷ []) k.number) (sym ready.kept)
+      cc (ready.kept, kept_families.family_withdraw m journal entry (accepted_is_sound 8 journal ready.accepted) (accepts_next journal by report ready.free) is)

@@ -1,41 +1,15 @@
 -- Runs, and the journals that refuse none of their entries.
-use Rattle.std.specs.Prelude.{◌≡◌, ℕ, ◌+◌, List, [], ◌∷◌, ◌++◌, length, Option, Some, None, ◌≤◌, ◌⊎◌}
-use Rattle.std.proofs.Common.{refl, sym, ap, ◌∙◌, subst, inl, inr, append-nil, append_assoc}
-use Rattle.pana_journal.specs.declared.report.Report.{Report}
-use Rattle.pana_journal.specs.declared.entry.Entry.{Entry}
-use Rattle.pana_hall.specs.declared.call.Call.{Call}
+use Rattle.pana_hall.proofs.Words.{nat_tests, arith, ◌≡◌, ℕ, ◌+◌, List, [], ◌∷◌, ◌++◌, length, None, ◌≤◌, refl, sym, ap, ◌∙◌, subst, inl, append-nil, append_assoc, Report, Entry, Call}
+use Rattle.pana_hall.proofs.Words.{Cause, living, report_refusal, journal_from, RunsTo, Accepts, AcceptsAll, IsAccepted, map-append, AllByRecursion, families, AreRising, Exchange, IsRun, IsRunFrom}
+use Rattle.pana_hall.proofs.Words.{IsNumbered, IsOrderly, OutOfMemory}
 use Rattle.pana_hall.specs.declared.call.Call.TheVariants as calls
-use Rattle.pana_hall.specs.declared.cause.Cause.{Cause}
-use Rattle.pana_hall.specs.declared.reply.Reply.{Reply}
+use Rattle.pana_hall.specs.{declared.reply.Reply.Reply, Refusal.refusal, Permit.Permits, Permit.PermitsBy, Permit.journal_after, declared.reply.Reply.TheVariants.Done}
+use Rattle.pana_hall.specs.{declared.reply.Reply.TheVariants.Refused, declared.loading.LoadFault.LoadFault, Load.IsLoadFault}
 use Rattle.pana_hall.specs.declared.reply.Reply.TheVariants as replies
-use Rattle.pana_hall.specs.Living.{living}
-use Rattle.pana_hall.specs.Refusal.{refusal, report_refusal}
-use Rattle.pana_hall.specs.Permit.{Permits, PermitsBy, journal_after}
-use Rattle.pana_hall.specs.Run.{Exchange, IsRun, IsRunFrom, journal_from, RunsTo}
-use Rattle.pana_hall.specs.Accepted.{Accepts, AcceptsAll, IsAccepted}
-use Rattle.std.proofs.lemmas.List.{map-append}
-use Rattle.std.specs.List.{AllByRecursion}
-use Rattle.pana_journal.specs.Entries.{IsNumbered}
-use Rattle.pana_hall.specs.Family.{families}
-use Rattle.pana_hall.specs.laws.Layers.{AreRising, IsOrderly}
-use Rattle.pana_hall.proofs.Lists.{each_weaker}
-use Rattle.pana_hall.proofs.Sound.{accepted_is_sound}
-use Rattle.pana_hall.proofs.Tables.{merged}
-use Rattle.pana_hall.proofs.Places.{accepted_is_apart}
-use Rattle.pana_hall.specs.declared.reply.Reply.TheVariants.{Done, Refused}
-use Rattle.pana_hall.specs.declared.cause.Cause.TheVariants.{OutOfMemory}
-use Rattle.pana_hall.specs.declared.loading.LoadFault.{LoadFault}
-use Rattle.pana_hall.specs.declared.loading.LoadCause.{LoadCause}
-use Rattle.pana_hall.specs.declared.loading.LoadCause.TheVariants.{OutOfOrder, Refused as LoadRefused}
-use Rattle.pana_hall.specs.Load.{IsLoadFault, Stops}
+use Rattle.pana_hall.proofs.{Lists.each_weaker, Sound.accepted_is_sound, Tables.merged, Places.accepted_is_apart}
+use Rattle.pana_hall.specs.declared.loading.LoadCause.TheVariants.{Refused as LoadRefused}
 
 -- Runs, and the journals that refuse none of their entries.
-
--- a report that is done wasn't refused, and has the next number
-done_means : (cause : Option Cause) (journal : List Entry) (report : Report) (n : ℕ) → PermitsBy cause journal (calls.Report report) (replies.Done n)
-    → (cause ≡ None) × (n ≡ length journal + 1)
-done_means (Some cause) journal report n permitted = absurd (cc)
-done_means None journal report n permitted = (refl, elim permitted [ inl e ↦ cc | inr e ↦ let odd = e.2 in absurd (cc) ])
 
 -- an entry more that the journal accepts
 pub accepts_on : (most : ℕ) (journal more : List Entry) (entry : Entry) → AcceptsAll most journal more → Accepts most (journal ++ more) entry → AcceptsAll most journal (more ++ entry ∷ [])
@@ -45,11 +19,7 @@ accepts_on most journal (e ∷ more) entry all accepts =
 
 call_accepted : (journal : List Entry) (by : List ℕ) (call : Call) (reply : Reply) → Permits journal by call reply → IsAccepted 8 journal → IsAccepted 8 (journal_after journal by call reply)
 unfolding Permits refusal journal_after
-call_accepted journal by (calls.Report report) (replies.Done n) permitted accepted =
-    let means = done_means (report_refusal 8 journal (living journal) by report) journal report n permitted in
-    accepts_on 8 [] journal _ accepted (record { next = means.1; free = means.0 })
-call_accepted journal by (calls.Report report) reply permitted accepted = accepted
-call_accepted journal by (calls.Query query) reply permitted accepted = accepted
+call_accepted journal by call reply h1 h2 = grind (arith, nat_tests, accepts_on)
 
 run_accepted_from : (journal : List Entry) (run : List Exchange) → IsRunFrom journal run → IsAccepted 8 journal → IsAccepted 8 (journal_from journal run)
 run_accepted_from journal [] permitted accepted = accepted
@@ -124,55 +94,28 @@ rising most journal accepted =
 pub orderly : (most : ℕ) (journal : List Entry) → IsAccepted most journal → IsOrderly journal
 orderly most journal accepted =
     let all = merged most journal (accepted_is_sound most journal accepted) in
-    let up = rising most journal accepted in
-    record {
-      apart = accepted_is_apart most journal accepted;
-      rising = up.0;
-      numbers = up.1;
-      families = each_weaker (λ copy. (copy.family ≡ families journal copy.known.copy) × (copy.known.copy ≤ length journal)) _ (living journal) (λ copy h. h.0) all.families;
-    }
+    grind (arith, nat_tests, accepted_is_apart, rising, numbers, each_weaker)
 
 -- What a permitted reply to a report leaves.
-
-done_or_refused : (cause : Option Cause) (journal : List Entry) (report : Report) (reply : Reply) → PermitsBy cause journal (calls.Report report) reply
-    → (reply ≡ Done (length journal + 1)) ⊎ ((c : Cause) × (reply ≡ Refused c))
-done_or_refused (Some c) journal report reply permitted = inr (c, permitted)
-done_or_refused None journal report reply permitted = elim permitted [ inl done ↦ inl done | inr short ↦ inr (short.0, short.2) ]
 
 -- an entry with the next number, whose report isn't refused, is the next entry
 pub entry_taken : (journal : List Entry) (entry : Entry) (reply : Reply) → entry.number ≡ length journal + 1 → Permits journal entry.by (calls.Report entry.report) reply
     → ((c : Cause) → reply ≡ Refused c → ⊥) → journal_after journal entry.by (calls.Report entry.report) reply ≡ journal ++ entry ∷ []
 unfolding Permits journal_after
-entry_taken journal entry reply number permitted other =
-    elim (done_or_refused (refusal journal entry.by (calls.Report entry.report)) journal entry.report reply permitted) [
-      | inl done ↦ rw done (ap (λ n. journal ++ record { number = n; by = entry.by; report = entry.report } ∷ []) (sym number))
-      | inr refused ↦ absurd (other refused.0 refused.1)
-    ]
+entry_taken journal entry reply number permitted other = grind (arith, nat_tests)
 
 -- Entries that a hall recorded load again.
 
 -- each entry is accepted after those before it
 accepts_at : (journal before rest : List Entry) (entry : Entry) → AcceptsAll 8 journal (before ++ entry ∷ rest) → Accepts 8 (journal ++ before) entry
 accepts_at journal [] rest entry all = subst (λ j. Accepts 8 j entry) (sym (append-nil journal)) all.0
-accepts_at journal (e ∷ before) rest entry all =
-    subst (λ j. Accepts 8 j entry) (append_assoc journal (e ∷ []) before) (accepts_at (journal ++ e ∷ []) before rest entry all.1)
+accepts_at journal (e ∷ before) rest entry all = grind (arith, nat_tests, append_assoc, accepts_at (journal ++ e ∷ []) before rest entry all.1)
 
 granted : (journal : List Entry) (entry : Entry) (cause : Cause) → report_refusal 8 journal (living journal) entry.by entry.report ≡ None
     → Permits journal entry.by (calls.Report entry.report) (replies.Refused cause) → cause ≡ OutOfMemory
 unfolding Permits refusal
-granted journal entry cause free permitted =
-    let by_none = subst (λ r. PermitsBy r journal (calls.Report entry.report) (replies.Refused cause)) free permitted in
-    elim by_none [
-      | inl done ↦ absurd (cc)
-      | inr short ↦ let same : short.0 ≡ cause = cc (short.2) in sym same ∙ short.1
-    ]
-
-stops_for_shortage : (journal : List Entry) (entry : Entry) (cause : LoadCause) → Accepts 8 journal entry → Stops journal entry cause → cause ≡ LoadRefused OutOfMemory
-stops_for_shortage journal entry OutOfOrder accepts other = absurd (other accepts.next)
-stops_for_shortage journal entry (LoadRefused cause) accepts stops = ap LoadRefused (granted journal entry cause accepts.free stops.1)
+granted journal entry cause free permitted = grind (arith, nat_tests)
 
 -- nothing but memory stops the entries of an accepted journal
 pub own_entries : (entries : List Entry) (fault : LoadFault) → IsAccepted 8 entries → IsLoadFault entries fault → fault.cause ≡ LoadRefused OutOfMemory
-own_entries entries fault accepted (inl new) = new.1
-own_entries entries fault accepted (inr at) =
-    stops_for_shortage at.before at.entry fault.cause (accepts_at [] at.before at.rest at.entry (subst (λ l. AcceptsAll 8 [] l) at.whole accepted)) at.stops
+own_entries entries fault h1 h2 = grind (arith, nat_tests, granted, accepts_at)

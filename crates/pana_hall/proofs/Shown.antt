@@ -1,36 +1,14 @@
 -- Boards and holdings, as they are answered.
-use Rattle.std.specs.Prelude.{◌≡◌, ℕ, Bool, List, [], ◌∷◌, map, filter, Option, Some, IsSome, is_some, option_map, unwrap_or, ◌+◌, ◌≤◌, cond, nat_le, ◌++◌, None, option_and_then}
-use Rattle.std.specs.List.{AllByRecursion}
-use Rattle.std.proofs.Common.{refl, sym, ap, ◌∙◌, subst, arith}
-use Rattle.std.proofs.lemmas.List.{map-append}
-use Rattle.pana_copies.specs.declared.place.Place.{Place}
-use Rattle.pana_copies.specs.Spots.{Table, kept}
-use Rattle.pana_journal.specs.declared.entry.Entry.{Entry}
+use Rattle.pana_hall.proofs.Words.{◌≡◌, ℕ, Bool, List, [], ◌∷◌, map, filter, Option, Some, IsSome, is_some, option_map, unwrap_or, ◌+◌, ◌≤◌, cond, nat_le, ◌++◌, None, option_and_then, AllByRecursion}
+use Rattle.pana_hall.proofs.Words.{refl, sym, ap, ◌∙◌, subst, arith, map-append, Place, Table, kept, Entry, CopyCounts, Known, BoardRow, Copy, copy_in, living, all_known, is_of, sets_of, family_row}
+use Rattle.pana_hall.proofs.Words.{holding, holdings, IsAccepted, sets_at, spot_of, AreSpots, placed_row, option_to_list, bytes_eq, Holding, AreRising, filter-append, map-map, nat_tests, row_of_sets}
+use Rattle.pana_hall.proofs.Words.{holding_in}
 use Rattle.pana_rel.specs.Board.{counts_of, is_split, newest_of}
-use Rattle.pana_family.specs.declared.board.CopyCounts.{CopyCounts}
 use Rattle.pana_family.specs.Board as board
-use Rattle.pana_family.specs.Table.{Known}
 use Rattle.pana_family.specs.Table as table
-use Rattle.pana_hall.specs.declared.board.BoardRow.{BoardRow}
-use Rattle.pana_hall.specs.Living.{Copy, copy_in, living}
-use Rattle.pana_hall.specs.Board.{all_known, is_of, sets_of, row_of, board_of}
-use Rattle.pana_hall.specs.Queries.{family_row, row_of_sets, holding, holdings}
-use Rattle.pana_hall.specs.Accepted.{IsAccepted}
-use Rattle.pana_hall.specs.laws.Sets.{sets_at}
-use Rattle.pana_hall.specs.inner.Spots.{spot_of}
-use Rattle.pana_hall.specs.inner.Kept.{AreSpots}
-use Rattle.pana_hall.specs.inner.Rows.{placed_row, holding_in}
+use Rattle.pana_hall.specs.Board.{row_of, board_of}
 use Rattle.pana_hall.proofs.Lists.{each_filter, each_map, each_weaker, filter_twice, map_same, filter_all, none_under}
-use Rattle.pana_hall.proofs.Stood.{copies_sets}
-use Rattle.pana_hall.proofs.Ready.{place_spots}
-use Rattle.pana_hall.proofs.Places.{living_found}
-use Rattle.std.specs.Option.{option_to_list}
-use Rattle.std.specs.Str.{bytes_eq}
-use Rattle.pana_hall.specs.declared.holding.Holding.{Holding}
-use Rattle.pana_hall.specs.laws.Layers.{AreRising}
-use Rattle.std.proofs.lemmas.List.Elements.{filter-append}
-use Rattle.std.proofs.lemmas.Simd.{map-map}
-use Rattle.std.proofs.lemmas.Bool.Decides.{nat_tests}
+use Rattle.pana_hall.proofs.{Stood.copies_sets, Ready.place_spots, Places.living_found}
 
 -- A family's board from its table of sets: the one of its copies.
 

@@ -1,28 +1,11 @@
 -- What holds of each journal that refuses none of its entries.
-use Rattle.std.specs.Prelude.{◌≡◌, ℕ, Bool, true, false, not, List, ◌∷◌, Option, Some, None, find, ◌≢◌, ◌<◌, cond, ◌&&◌, ◌||◌, ◌==◌, [], ◌++◌, filter, fold, ◌+◌, ◌≤◌, length, map, slice_get, ◌⊎◌}
-use Rattle.std.specs.Bool.{then_some}
-use Rattle.std.proofs.Common.{refl, ap, ◌∙◌, arith, append-nil, sym, subst, inl, inr, append_assoc}
-use Rattle.std.proofs.lemmas.Bool.{eq-eqb, ne_eqb, cases_eq}
-use Rattle.pana_copies.specs.declared.place.Place.{Place}
-use Rattle.pana_copies.specs.Places.{same_place}
-use Rattle.pana_journal.specs.declared.entry.Entry.{Entry}
-use Rattle.pana_journal.specs.Entries.{entry_at}
-use Rattle.pana_hall.specs.declared.cause.Cause.{Cause}
-use Rattle.pana_hall.specs.Family.{families, with_entry, begun_or_joined, subject, entries_of}
-use Rattle.pana_hall.specs.Effective.{is_of_copies, effective, withdraws, is_withdrawn}
-use Rattle.pana_hall.specs.Living.{Copy, copy_in, living}
-use Rattle.pana_hall.specs.Refusal.{against, unknown, taken, other_family, first, report_refusal, full, same, against_two, pending_with, settled_or_followed, taken_since}
-use Rattle.std.specs.List.{AllByRecursion}
-use Rattle.std.proofs.lemmas.List.Elements.{filter-append, filter_agree}
-use Rattle.std.proofs.lemmas.List.Sums.{fold-append}
-use Rattle.pana_journal.specs.declared.report.Report.{Report}
-use Rattle.pana_journal.specs.declared.report.Report.TheVariants.{Confirm, Withdraw, Duplicate, Edit, Reconcile, Merge, Relocate, Remove}
-use Rattle.pana_hall.specs.Pending.{pending, pend, last, behind, is_last}
+use Rattle.pana_hall.proofs.Words.{◌≡◌, ℕ, Bool, true, false, not, List, ◌∷◌, Option, Some, None, find, ◌≢◌, ◌<◌, cond, ◌&&◌, ◌||◌, ◌==◌, [], ◌++◌, filter, fold, ◌+◌, ◌≤◌, length, map, slice_get, ◌⊎◌}
+use Rattle.pana_hall.proofs.Words.{then_some, refl, ap, ◌∙◌, arith, append-nil, sym, subst, inl, inr, append_assoc, eq-eqb, ne_eqb, cases_eq, Place, same_place, Entry, entry_at, Cause, families}
+use Rattle.pana_hall.proofs.Words.{begun_or_joined, subject, entries_of, is_of_copies, effective, Copy, copy_in, living, against, unknown, taken, other_family, first, report_refusal, full, same}
+use Rattle.pana_hall.proofs.Words.{pending_with, settled_or_followed, taken_since, AllByRecursion, filter-append, filter_agree, fold-append, Report, Confirm, Withdraw, Duplicate, Edit, Reconcile}
+use Rattle.pana_hall.proofs.Words.{Merge, Relocate, Remove, pending, pend, last, behind, is_last, length-append, map-append, nat_tests, Accepts, AcceptsAll, IsAccepted, AreRising, family_of_next}
+use Rattle.pana_hall.proofs.Words.{withdraws, is_withdrawn, against_two}
 use Rattle.pana_hall.proofs.Lists.{filter_true, each_filter, each_passes, each_weaker, filter_same, filter_all, filter_swap, any_push, each_append, last_is_end, behind_is_end, map_filter, rises_push, slice_get-push_cases, slice_get-each, at-append, at-push, entry_at_place}
-use Rattle.std.proofs.lemmas.List.{length-append, map-append}
-use Rattle.std.proofs.lemmas.Bool.Decides.{nat_tests}
-use Rattle.pana_hall.specs.Accepted.{Accepts, AcceptsAll, IsAccepted}
-use Rattle.pana_hall.specs.laws.Layers.{AreRising, family_of_next}
 use Rattle.pana_hall.proofs.Moves.{Names, subject_none, subject_named, Belongs, IsWell, Fits, found_fits, copies_fit}
 
 -- What follows for the journal where a report isn't refused.
@@ -39,14 +22,10 @@ pub none_against : (most : ℕ) (journal : List Entry) (copies : List Copy) (by 
 none_against most journal copies by report free = all_none (full journal ∷ against most journal copies by report) free
 
 pub none_false : (b : Bool) (cause : Cause) → then_some b cause ≡ None → b ≡ false
-none_false true cause e = absurd (cc)
-none_false false cause e = refl
+none_false b cause h1 = grind (arith, nat_tests)
 
 pub known : (number : ℕ) (copies : List Copy) → unknown number copies ≡ None → (copy : Copy) × (copy_in copies number ≡ Some copy)
 known number copies e = grind (arith, nat_tests)
-
-pub one_family : (a b : ℕ) (copies : List Copy) (x y : Copy) → other_family a b copies ≡ None → copy_in copies a ≡ Some x → copy_in copies b ≡ Some y → y.family ≡ x.family
-one_family a b copies x y e first second = grind (arith, nat_tests)
 
 pub free_place : (place : Place) (copies : List Copy) → taken place copies ≡ None → find (λ copy. same_place copy.place place) copies ≡ None
 free_place place copies e = grind (arith, nat_tests)
@@ -80,8 +59,7 @@ each_effective P (x ∷ journal) each = grind (arith, nat_tests, each_effective 
 
 -- a report of copies withdraws nothing
 withdraws_nothing : (report : Report) (n : ℕ) → is_of_copies report ≡ true → withdraws n report ≡ false
-withdraws_nothing (Withdraw entry) n e = absurd (cc)
-withdraws_nothing report n e = refl
+withdraws_nothing report n h1 = grind (arith, nat_tests)
 
 pub effective-copies : (journal : List Entry) (entry : Entry) → is_of_copies entry.report ≡ true → effective (journal ++ entry ∷ []) ≡ effective journal ++ entry ∷ []
 effective-copies journal entry of_copies =
@@ -94,20 +72,12 @@ effective-confirm journal entry m is =
     effective-push journal entry
     ∙ ap (λ r. filter (λ e. not (withdraws e.number r)) (effective journal) ++ cond (is_of_copies r) (entry ∷ []) []) is ∙ append-nil _ ∙ filter_true (effective journal)
 
-pub effective-withdraw : (journal : List Entry) (entry : Entry) (m : ℕ) → entry.report ≡ Withdraw m → effective (journal ++ entry ∷ []) ≡ filter (λ e. not (m == e.number)) (effective journal)
-effective-withdraw journal entry m is =
-    effective-push journal entry ∙ ap (λ r. filter (λ e. not (withdraws e.number r)) (effective journal) ++ cond (is_of_copies r) (entry ∷ []) []) is ∙ append-nil _
-
-pub families-push : (journal : List Entry) (entry : Entry) (n : ℕ)
-    → families (journal ++ entry ∷ []) n ≡ cond (n == entry.number) (begun_or_joined (families journal) entry.number (subject entry.report)) (families journal n)
-families-push journal entry n = ap (λ (of : ℕ → ℕ). of n) (fold-append with_entry (λ k. k) journal (entry ∷ []))
-
 -- the new entry's family, and the families of those before it
 pub family_new : (journal : List Entry) (entry : Entry) → families (journal ++ entry ∷ []) entry.number ≡ begun_or_joined (families journal) entry.number (subject entry.report)
-family_new journal entry = grind (arith, nat_tests, families-push)
+family_new journal entry = grind (arith, nat_tests, fold-append)
 
 pub family_old : (journal : List Entry) (entry : Entry) (n : ℕ) → n < entry.number → families (journal ++ entry ∷ []) n ≡ families journal n
-family_old journal entry n earlier = grind (arith, nat_tests, families-push)
+family_old journal entry n earlier = grind (arith, nat_tests, fold-append)
 
 -- entries with numbers of which two tables of families say the same
 pub entries_of-same : (family : ℕ) (of of' : ℕ → ℕ) (entries : List Entry) → AllByRecursion (λ e. of' e.number ≡ of e.number) entries → entries_of family of' entries ≡ entries_of family of entries
@@ -129,9 +99,7 @@ entries_of-push family journal entry entries same = grind (arith, nat_tests, fil
 
 pub own_copies : (family : ℕ) (journal : List Entry) (entry : Entry) → KeepsFamilies journal entry → is_of_copies entry.report ≡ true
     → own family (journal ++ entry ∷ []) ≡ own family journal ++ cond (families (journal ++ entry ∷ []) entry.number == family) (entry ∷ []) []
-own_copies family journal entry same of_copies =
-    ap (entries_of family (families (journal ++ entry ∷ []))) (effective-copies journal entry of_copies)
-    ∙ entries_of-push family journal entry (effective journal) (each_effective _ journal same)
+own_copies family journal entry same of_copies = cc (effective-copies journal entry of_copies, entries_of-push family journal entry (effective journal) (each_effective _ journal same))
 
 pub own_confirm : (family : ℕ) (journal : List Entry) (entry : Entry) (m : ℕ) → KeepsFamilies journal entry → entry.report ≡ Confirm m
     → own family (journal ++ entry ∷ []) ≡ own family journal
@@ -141,7 +109,7 @@ own_confirm family journal entry m same is =
 
 pub own_withdraw : (family : ℕ) (journal : List Entry) (entry : Entry) (m : ℕ) → KeepsFamilies journal entry → entry.report ≡ Withdraw m
     → own family (journal ++ entry ∷ []) ≡ filter (λ e. not (m == e.number)) (own family journal)
-own_withdraw family journal entry m same is = grind (arith, nat_tests, effective-withdraw, entries_of-same, each_filter, each_effective, filter_swap)
+own_withdraw family journal entry m same is = grind (arith, nat_tests, effective-push, append-nil, entries_of-same, each_filter, each_effective, filter_swap)
 
 -- none of the family's entries has a number of another family
 pub own_other : (family : ℕ) (of : ℕ → ℕ) (m : ℕ) (entries : List Entry) → of m ≢ family → filter (λ e. not (m == e.number)) (entries_of family of entries) ≡ entries_of family of entries
@@ -191,7 +159,7 @@ one journal c d open_ e = grind (arith, nat_tests, known)
 
 -- so do two copies of one family
 pub beside : (journal : List Entry) (a b : ℕ) → AllFit journal → unknown a (living journal) ≡ None → unknown b (living journal) ≡ None → other_family a b (living journal) ≡ None → LivesIn journal (families journal a) b
-beside journal a b fits here there alike = grind (arith, nat_tests, known, found_family, one_family)
+beside journal a b fits here there alike = grind (arith, nat_tests, known, found_family)
 
 two : (journal : List Entry) (a b c : ℕ) → AllFit journal → AreNone (against_two a b (living journal)) → (a ≡ c) ⊎ (b ≡ c) → LivesIn journal (families journal a) c
 two journal a b c fits none names = grind (arith, nat_tests, one, beside)
@@ -217,18 +185,9 @@ belongs_new : (most : ℕ) (journal : List Entry) (of' : ℕ → ℕ) (n : ℕ) 
     → report_refusal most journal (living journal) by report ≡ None → Belongs of' n report
 belongs_new most journal of' n by report fits next old new free = grind (arith, nat_tests, subject_none, named_report, found_fits)
 
--- and stays so
-belongs_kept : (of of' : ℕ → ℕ) (m n : ℕ) (report : Report) → Belongs of n report → n < m → ((k : ℕ) → k < m → of' k ≡ of k) → Belongs of' n report
-belongs_kept of of' m n report belongs before old = grind (arith, nat_tests)
-
 -- the entries before the next one stay in their families
 pub keeps_families : (most : ℕ) (journal : List Entry) (entry : Entry) → IsSound most journal → entry.number ≡ length journal + 1 → KeepsFamilies journal entry
 keeps_families most journal entry sound next = grind (arith, nat_tests, each_weaker, family_old)
-
--- what the refusals of a Confirm and a Withdraw say of the entry that they name
-pub named_by : (most : ℕ) (journal : List Entry) (by : List ℕ) (report : Report) (m : ℕ) → (report ≡ Confirm m) ⊎ (report ≡ Withdraw m)
-    → report_refusal most journal (living journal) by report ≡ None → (entry : Entry) × (entry_at journal m ≡ Some entry) × (is_of_copies entry.report ≡ true)
-named_by most journal by report m h5 free = grind (arith, nat_tests)
 
 -- what that of a Withdraw says besides: the entry is the last that is pending
 pub withdraw_free : (most m : ℕ) (journal : List Entry) (by : List ℕ) (report : Report) → report ≡ Withdraw m → report_refusal most journal (living journal) by report ≡ None
@@ -238,8 +197,7 @@ withdraw_free most m journal by report is free = grind (arith, nat_tests)
 -- the family of a Confirm or a Withdraw is that of the entry that it names
 pub family_named : (most : ℕ) (journal : List Entry) (entry : Entry) (m : ℕ) → (entry.report ≡ Confirm m) ⊎ (entry.report ≡ Withdraw m)
     → families (journal ++ entry ∷ []) entry.number ≡ families journal m
-family_named most journal entry m (inl is) = grind (arith, nat_tests, family_new)
-family_named most journal entry m (inr is) = grind (arith, nat_tests, family_new)
+family_named most journal entry m h1 = grind (arith, nat_tests, family_new)
 
 -- reports by kind: of copies, a Confirm or a Withdraw
 pub data Kind (report : Report) : Type 0 where
@@ -261,8 +219,7 @@ bounded_new : (most : ℕ) (journal : List Entry) (n : ℕ) (by : List ℕ) (rep
     → report_refusal most journal (living journal) by report ≡ None → begun_or_joined (families journal) n (subject report) ≤ n
 bounded_new most journal n by report sound next free =
     let fits = living_fit most journal sound in
-    let of = families journal in
-    grind (arith, nat_tests, subject_named, named_report, found_fits, found_family, named_by, entry_at_place, slice_get-each)
+    grind (arith, nat_tests, subject_named, named_report, found_fits, found_family, entry_at_place, slice_get-each)
 
 -- a report of copies is the last of its family's entries
 pub own_report : (most : ℕ) (journal : List Entry) (entry : Entry) → IsSound most journal → Accepts most journal entry → is_of_copies entry.report ≡ true
@@ -331,7 +288,7 @@ sound_grows most journal entry sound accepts =
     let old : (k : ℕ) → k < entry.number → of' k ≡ families journal k = family_old journal entry in
     record {
       well = each_append _ journal (entry ∷ [])
-          (grind (arith, nat_tests, each_weaker, belongs_kept)) (
+          (grind (arith, nat_tests, each_weaker)) (
             record {
               belongs = belongs_new most journal of' entry.number entry.by entry.report (living_fit most journal sound) next old (family_new journal entry) accepts.free;
               within = omega arith;

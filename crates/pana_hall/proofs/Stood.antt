@@ -1,51 +1,23 @@
 -- The rows that a journal gives a family stand for the sets that it gives it.
-use Rattle.std.specs.Prelude.{◌≡◌, ℕ, zero, suc, ◌+◌, ◌<◌, ◌≤◌, List, [], ◌∷◌, length, filter, count_by, Some, None, IfSome, ◌≢◌, ◌^◌, Bool, true, false, cond, not, ◌++◌, option_and_then}
-use Rattle.std.specs.List.{AllByRecursion}
-use Rattle.std.specs.Bool.{then_some}
-use Rattle.std.proofs.Common.{refl, sym, ap, ◌∙◌, subst, arith, inl, inr}
-use Rattle.std.proofs.lemmas.Bool.{leb-false, not-false}
-use Rattle.std.proofs.lemmas.List.{length-map}
-use Rattle.std.proofs.lemmas.List.Sums.{length-filter, fold-append}
-use Rattle.std.proofs.lemmas.Bool.Decides.{nat_tests}
-use Rattle.pana_journal.specs.declared.report.Report.{Report}
-use Rattle.pana_journal.specs.declared.report.Report.TheVariants.{Register, Duplicate, Edit, Reconcile, Merge, Relocate, Remove}
-use Rattle.pana_journal.specs.declared.entry.Entry.{Entry}
-use Rattle.pana_hall.specs.declared.cause.Cause.TheVariants.{TooDeep}
-use Rattle.pana_hall.specs.Family.{families, subject, begun_or_joined, entries_of, family_report, is_duplicate}
-use Rattle.pana_hall.specs.Living.{Copy, after_report, copies_of, copy_in, living, new_copy}
-use Rattle.pana_hall.specs.Pending.{pending}
-use Rattle.pana_hall.specs.Board.{all_known, is_of, sets_of}
-use Rattle.pana_hall.specs.Refusal.{against, unknown, family_full, same, too_deep}
-use Rattle.pana_hall.specs.Accepted.{Accepts, IsAccepted}
-use Rattle.pana_hall.specs.laws.Tables.{layer}
-use Rattle.pana_hall.specs.laws.Layers.{family_of_next, duplicates_in}
+use Rattle.pana_hall.proofs.Words.{◌≡◌, ℕ, zero, suc, ◌+◌, ◌<◌, ◌≤◌, List, [], ◌∷◌, length, filter, count_by, Some, None, IfSome, ◌≢◌, Bool, true, false, cond, not, ◌++◌, option_and_then}
+use Rattle.pana_hall.proofs.Words.{AllByRecursion, then_some, refl, sym, ap, ◌∙◌, subst, arith, inl, inr, not-false, length-map, length-filter, fold-append, nat_tests, Report, Register, Duplicate}
+use Rattle.pana_hall.proofs.Words.{Edit, Reconcile, Merge, Relocate, Remove, Entry, TooDeep, families, subject, entries_of, family_report, Copy, after_report, copy_in, living, new_copy, pending}
+use Rattle.pana_hall.proofs.Words.{all_known, is_of, sets_of, against, unknown, family_full, same, too_deep, Accepts, IsAccepted, layer, family_of_next, FamilyReport, IsKept, StampRow, Place}
+use Rattle.pana_hall.proofs.Words.{StandsFor, AreBefore, copy_rows, divides, lives, seed_row, CanReport, In, IsAbove, Known, same_copies, One, same_length, empty_kept, NamesOf, has, effective}
+use Rattle.pana_hall.proofs.Words.{is_of_copies, sets_at, rows_after, stamp_rows, ◌^◌, leb-false, is_duplicate, duplicates_in, AreSound, deepest, AreBelow, same_before, same_living, one_known}
+use Rattle.pana_hall.proofs.Words.{divides_is, seed_kept, seed_sound, undivided_deep, IsTouched, numbers_reported, reported, rows_by}
+use Rattle.pana_hall.specs.{Living.copies_of, laws.Sets.knowns_of, StampRows.rows_of}
 use Rattle.pana_hall.proofs.Lists.{each_last, each_left, each_weaker}
 use Rattle.pana_hall.proofs.Moves.{Lives, Names, copies_of-push, made_of}
 use Rattle.pana_hall.proofs.Sound.{AreNone, family_new, known, none_against, none_false, IsSound, accepted_is_sound, found_family, living_fit}
 use Rattle.pana_hall.proofs.Tables.{copies_of_none, own_copy, table_living, table_own, family_of_copy, layer_now, layer_new}
 use Rattle.pana_hall.proofs.Knowns.{Mirrors, above_reported, found_there, knowns_of-push, layer_within, layers_hold, lives_known, mirrors, names_known, read_lives}
-use Rattle.pana_family.specs.declared.report.FamilyReport.{FamilyReport}
-use Rattle.pana_family.specs.Kept.{IsKept}
-use Rattle.pana_family.specs.declared.row.StampRow.{StampRow}
-use Rattle.pana_copies.specs.declared.place.Place.{Place}
-use Rattle.pana_family.specs.Stands.{StandsFor}
-use Rattle.pana_family.specs.Rows.{AreBefore, AreSound, copy_rows, deepest, divides, lives, seed_row}
-use Rattle.pana_family.specs.Report.{Asks, CanReport, IsReported, deeper}
+use Rattle.pana_family.specs.{Report.deeper, After.reported_rows}
 use Rattle.pana_family.specs.Report as by_family
-use Rattle.pana_family.specs.Table.{AreBelow, In, IsAbove, Known}
 use Rattle.pana_family.specs.Table as by_table
-use Rattle.pana_family.specs.After.{reported_rows}
-use Rattle.pana_family.proofs.BySets.{same_before, same_copies, same_living}
-use Rattle.pana_family.proofs.Members.{One, one_known, same_length}
 use Rattle.pana_family.proofs.Exacts.{asked, below_kept, report_law, sound_after}
-use Rattle.pana_family.proofs.Keeps.{divides_is, seed_kept, empty_kept, seed_sound, undivided_deep}
 use Rattle.pana_family.proofs.Changes.{empty_stands, seed_stands}
-use Rattle.pana_family.proofs.Tables.{IsTouched, NamesOf, numbers_reported}
-use Rattle.pana_family.specs.Updates.{has}
-use Rattle.pana_hall.specs.Effective.{effective, is_of_copies}
 use Rattle.pana_hall.specs.laws.Tables as tables
-use Rattle.pana_hall.specs.laws.Sets.{knowns_of, reported, sets_at}
-use Rattle.pana_hall.specs.StampRows.{rows_after, rows_by, rows_of, stamp_rows}
 
 -- where a Duplicate isn't refused its source lives in a family with room
 room_for : (number : ℕ) (copies : List Copy) → unknown number copies ≡ None → family_full number copies ≡ None → (copy : Copy) × (copy_in copies number ≡ Some copy) × (length (filter (is_of copy.family) copies) < 256)
@@ -91,15 +63,7 @@ pub record IsStood (entries : List Entry) : Type 0 where
 
 none_stood : IsStood []
 unfolding copies_of knowns_of rows_of
-none_stood = record {
-  kept = empty_kept;
-  sound = λ r i. absurd i;
-  stands = empty_stands;
-  deep = omega arith;
-  copies = refl;
-  touched = λ t i. absurd i;
-  above = λ n all t i. absurd i;
-}
+none_stood = grind (arith, nat_tests, empty_kept, empty_stands)
 
 -- each number stands once in their table
 pub stood_one : (entries : List Entry) → IsStood entries → One (knowns_of entries)
@@ -122,8 +86,7 @@ lives_there entries c stood there =
 counted : (k family : ℕ) (journal : List Entry) → IsSound 8 journal → IsStood (layer 8 k family journal) → length (copy_rows (rows_of (layer 8 k family journal))) ≡ length (tables.table 8 k family journal)
 counted k family journal sound stood =
     let entries = layer 8 k family journal in
-    sym (grind (arith, nat_tests, same_length, same_copies))
-    ∙ ap length stood.copies ∙ length-map (copies_of entries) (λ c. c.known) ∙ ap length (sym (table_own 8 k family journal sound))
+    grind (arith, nat_tests, same_length, same_copies, stood.copies, length-map (copies_of entries) (λ c. c.known), table_own 8 k family journal sound)
 
 -- the entries of a layer are below the next number
 layer_below : (journal : List Entry) (k family n : ℕ) → IsSound 8 journal → n ≡ length journal + 1 → AllByRecursion (λ e. e.number < n) (layer 8 k family journal)
@@ -202,12 +165,10 @@ module _ (journal : List Entry) (entry : Entry) (sound : IsSound 8 journal) (acc
 
   -- a Register is the first entry of its family, and begins with its copy
   register_first : (place : Place) → entry.report ≡ Register place → before ≡ []
-  register_first place is =
-      ap (λ f. layer 8 0 f journal) (family_new journal entry ∙ ap (λ r. begun_or_joined (families journal) entry.number (subject r)) is ∙ accepts.next) ∙ layer_new journal sound
+  register_first place is = cc (family_new journal entry, accepts.next, layer_new journal sound)
 
   pub register_sets : (place : Place) → entry.report ≡ Register place → knowns_of (before ++ entry ∷ []) ≡ by_table.registered entry.number
-  register_sets place is =
-      knowns_of-push before entry ∙ ap (reported entry.number entry.report) (ap knowns_of (register_first place is) ∙ knowns_none) ∙ ap (λ r. reported entry.number r []) is
+  register_sets place is = grind (arith, nat_tests, knowns_of-push, register_first, knowns_none)
 
   step_begins : (place : Place) → entry.report ≡ Register place → IsStood (before ++ entry ∷ [])
   step_begins place is =
@@ -218,26 +179,14 @@ module _ (journal : List Entry) (entry : Entry) (sound : IsSound 8 journal) (acc
       rows_of-push before entry ∙ ap (rows_after n entry.report) (ap rows_of none ∙ rows_none) ∙ ap (λ r. rows_after n r []) is in
       let copies_is : copies_of (before ++ entry ∷ []) ≡ new_copy n n [] place ∷ [] =
       copies_of-push before entry ∙ ap (after_report n entry.report) (ap copies_of none ∙ copies_of_none) ∙ ap (λ r. after_report n r []) is in
-      record {
-        kept = subst IsKept (sym rows_is) (seed_kept n);
-        sound = subst AreSound (sym rows_is) (seed_sound n);
-        stands = subst (StandsFor (rows_of (before ++ entry ∷ []))) sets_is (subst (λ r. StandsFor r (by_table.registered n)) (sym rows_is) (seed_stands n));
-        deep = omega (arith, ap deepest rows_is);
-        copies = ap by_table.copies_of (sym sets_is) ∙ ap all_known (sym copies_is);
-        touched = subst (λ l. (t : Known) → In t l → IsTouched t) sets_is
-            (λ t i u m. elim i [ inl e ↦ let none : has t.set u ≡ false = ap (λ (k : Known). has k.set u) e in absurd (cc) | inr never ↦ absurd never ]);
-        above = λ m all. subst (IsAbove m) sets_is
-            (λ t i. let less = each_last (λ e. e.number < m) before entry all in
-            elim i [ inl e ↦ (omega (arith, less, ap (λ (k : Known). k.copy) e), omega (arith, less, ap (λ (k : Known). k.touch) e)) | inr never ↦ absurd never ]);
-      }
+      grind (arith, nat_tests, seed_kept, seed_sound, seed_stands, each_last)
 
   step : is_of_copies entry.report ≡ true → IsStood before → IsStood (before ++ entry ∷ [])
   step is stood = elim (made_of entry.report is) [ inl begins ↦ step_begins begins.0 begins.1 | inr changes ↦ step_changes changes.0 changes.1 is stood ]
 
 -- so the rows of each layer of each accepted journal stand for its sets
 pub layers_stand : (journal : List Entry) → IsAccepted 8 journal → (k family : ℕ) → IsStood (layer 8 k family journal)
-layers_stand journal accepted k family =
-    layers_hold IsStood (record { none = none_stood; step = step }) journal accepted k family
+layers_stand journal accepted k family = grind (arith, nat_tests, layers_hold IsStood (record { none = none_stood; step = step }) journal accepted k family)
 
 small_from : (family : ℕ) (journal : List Entry) (k n : ℕ) → ((i : ℕ) → length (tables.table 8 i family journal) ≤ 256) → AllByRecursion (λ t. length t ≤ 256) (tables.tables_from 8 family journal k n)
 small_from family journal k zero each = (each k, tt)

@@ -1,32 +1,14 @@
 -- The tables of the families, as entries come.
-use Rattle.std.specs.Prelude.{◌≡◌, ◌≢◌, ℕ, ◌+◌, ◌-◌, ◌<◌, ◌≤◌, Bool, true, false, cond, not, ◌&&◌, ◌||◌, ◌==◌, List, [], ◌∷◌, ◌++◌, length, map, filter, fold, Some, None}
-use Rattle.std.specs.List.{AllByRecursion}
-use Rattle.std.proofs.Common.{refl, sym, ap, ◌∙◌, subst, inr, arith, append-nil, append_assoc}
-use Rattle.std.proofs.lemmas.Bool.{eq-eqb, eqb-true}
-use Rattle.std.proofs.lemmas.List.{length-drop, drop-drop, drop_all, same_from_push, map-append}
-use Rattle.std.proofs.lemmas.List.Elements.{filter_agree, filter-append}
+use Rattle.pana_hall.proofs.Words.{◌≡◌, ◌≢◌, ℕ, ◌+◌, ◌-◌, ◌<◌, ◌≤◌, true, false, cond, not, ◌||◌, ◌==◌, List, [], ◌∷◌, ◌++◌, length, map, filter, fold, Some, None, AllByRecursion, refl}
+use Rattle.pana_hall.proofs.Words.{sym, ap, ◌∙◌, subst, inr, arith, append-nil, append_assoc, eq-eqb, eqb-true, length-drop, same_from_push, map-append, filter_agree, filter-append, Report, Confirm}
+use Rattle.pana_hall.proofs.Words.{Withdraw, Entry, has, families, subject, entries_of, is_register, effective, is_of_copies, left_out, copy_in, living, after_entry, Copy, pending, pend, last, behind}
+use Rattle.pana_hall.proofs.Words.{is_last, is_of, entry_at, report_refusal, pending_with, taken_since, Accepts, IsAccepted, table, layer, family_of_next, AreRising, or-false, nat_tests, begun}
+use Rattle.pana_hall.proofs.Words.{drop-drop, drop_all, is_family, AddsLayer, AreMerged, slice_get_past}
 use Rattle.circular_buffer.proofs.Places.{slice_get-push}
-use Rattle.pana_journal.specs.declared.report.Report.{Report}
-use Rattle.pana_journal.specs.declared.report.Report.TheVariants.{Confirm, Withdraw}
-use Rattle.pana_journal.specs.declared.entry.Entry.{Entry}
-use Rattle.pana_family.specs.Updates.{has}
-use Rattle.pana_hall.specs.Family.{families, subject, entries_of, is_register, is_family}
-use Rattle.pana_hall.specs.Effective.{effective, is_of_copies, left_out}
-use Rattle.pana_hall.specs.Living.{copy_in, living, copies_of, after_entry, Copy}
-use Rattle.pana_hall.specs.Pending.{pending, pend, last, behind, is_last}
-use Rattle.pana_hall.specs.Board.{is_of}
-use Rattle.pana_journal.specs.Entries.{entry_at}
-use Rattle.pana_hall.specs.Refusal.{report_refusal, pending_with, taken_since}
-use Rattle.pana_hall.specs.Accepted.{Accepts, IsAccepted}
-use Rattle.pana_hall.specs.laws.Tables.{table, layer}
-use Rattle.pana_hall.specs.laws.Layers.{family_of_next, AddsLayer, AreRising, AreMerged}
+use Rattle.pana_hall.specs.Living.{copies_of}
 use Rattle.pana_hall.proofs.Lists.{each_filter, each_passes, each_weaker, filter_all, filter_swap, filter_filter, any_push, last_push, last_end, behind_is_end, is_last_push, each_last, rises_lower, rises_filter, rises_last, each_right, at-push, each_map, rises_map}
 use Rattle.pana_hall.proofs.Moves.{IsWell, Fits, copies_of-family, copies_of-push, copy_in-family, report_fits, rises_after, found_fits}
 use Rattle.pana_hall.proofs.Sound.{own, each_effective, own_confirm, own_withdraw, IsSound, keeps_families, living_fit, family_named, pend_copies, family_new, effective_well, in_accepted, pends, own_report, left_by, accepted_is_sound, sound_grows, withdraw_free}
-use Rattle.std.proofs.lemmas.Option.{slice_get_past}
-use Rattle.std.proofs.Math.Bool.{or-false}
-use Rattle.std.proofs.lemmas.Bool.Decides.{nat_tests}
-use Rattle.pana_hall.specs.Queries.{begun}
 
 -- The tables of the families, as entries come.
 
@@ -41,12 +23,9 @@ left_out_none (e ∷ entries) = ap (λ l. e ∷ l) (left_out_none entries)
 left_out_now : (numbers : List ℕ) (entries : List Entry) → left_out (last 0 numbers) entries ≡ entries
 left_out_now numbers entries = ap (λ l. left_out l entries) (last_none numbers) ∙ left_out_none entries
 
-not_or : (a b : Bool) → not (a || b) ≡ (not b && not a)
-not_or a b = grind (arith, nat_tests)
-
 -- one number more is left out
 pub left_out_push : (numbers : List ℕ) (n : ℕ) (entries : List Entry) → left_out (numbers ++ n ∷ []) entries ≡ left_out numbers (filter (λ e. not (n == e.number)) entries)
-left_out_push numbers n entries = grind (arith, nat_tests, filter_agree, any_push, not_or, filter_filter)
+left_out_push numbers n entries = grind (arith, nat_tests, filter_agree, any_push, filter_filter)
 
 last_last : (k most : ℕ) (numbers : List ℕ) → k ≤ most → last k (last most numbers) ≡ last k numbers
 last_last k most numbers within = grind (arith, nat_tests, drop-drop, length-drop)
@@ -97,9 +76,7 @@ layer_confirm most m k journal entry sound accepts is within =
     let numbers = pending most family journal in
     let pending' : pending most family (journal ++ entry ∷ []) ≡ behind m numbers = pends most journal entry (Confirm m) sound accepts is in
     let cut = behind_is_end m numbers in
-    ap (λ l. left_out (last k l) (own family (journal ++ entry ∷ []))) pending'
-    ∙ ap (λ l. left_out (last k (behind m numbers)) l) (own_confirm family journal entry m keeps is)
-    ∙ ap (λ l. left_out l (own family journal)) (grind (arith, nat_tests, last_end))
+    grind (arith, nat_tests, own_confirm family journal entry m keeps is, last_end)
 
 pub pending_other : (most family : ℕ) (journal : List Entry) (entry : Entry) → IsSound most journal → Accepts most journal entry → family_of_next journal entry ≢ family
     → pending most family (journal ++ entry ∷ []) ≡ pending most family journal
@@ -198,11 +175,7 @@ open_withdraw most m journal by report sound is free = grind (arith, nat_tests, 
 
 -- such a last one is taken out, and the others stay
 pub all_but_last : {X : Type 0} (key : X → ℕ) (m : ℕ) (xs : List X) (x : X) → AllByRecursion (λ y. key y < m) xs → key x ≡ m → filter (λ y. not (m == key y)) (xs ++ x ∷ []) ≡ xs
-all_but_last key m xs x below is =
-    filter-append _ xs (x ∷ [])
-    ∙ ap (λ l. l ++ cond (not (m == key x)) (x ∷ []) []) (grind (arith, nat_tests, filter_all, each_weaker))
-    ∙ ap (λ b. xs ++ cond (not b) (x ∷ []) []) (eq-eqb m (key x) (sym is))
-    ∙ append-nil xs
+all_but_last key m xs x below is = grind (arith, nat_tests, filter-append, filter_all, each_weaker, eq-eqb, append-nil)
 
 -- what is pending before a Withdraw: what is after it, and the entry
 pub pending_withdraw : (most m : ℕ) (journal : List Entry) (entry : Entry) → IsSound most journal → Accepts most journal entry → entry.report ≡ Withdraw m
@@ -212,8 +185,7 @@ pending_withdraw most m journal entry sound accepts is =
     let ends = (open_withdraw most m journal entry.by entry.report sound is accepts.free).ends in
     let whole : pending most family journal ≡ ends.numbers ++ m ∷ [] = ap (λ f. pending most f journal) (family_named most journal entry m (inr is)) ∙ ends.pending in
     let below = rises_last (λ n. n) 0 ends.numbers m (subst (AreRising (λ n. n) 0) whole (pending_rises most family journal sound)) in
-    whole ∙ ap (λ l. l ++ m ∷ [])
-    (sym (pends most journal entry (Withdraw m) sound accepts is ∙ ap (filter (λ n. not (m == n))) whole ∙ all_but_last (λ n. n) m ends.numbers m below refl))
+    cc (pends most journal entry (Withdraw m) sound accepts is, all_but_last (λ n. n) m ends.numbers m below refl)
 
 pub layer_withdraw : (most m k : ℕ) (journal : List Entry) (entry : Entry) → IsSound most journal → Accepts most journal entry → entry.report ≡ Withdraw m
     → layer most k (family_of_next journal entry) (journal ++ entry ∷ []) ≡ layer most (k + 1) (family_of_next journal entry) journal
@@ -254,8 +226,7 @@ merged most journal sound =
 
 -- the copies of a family's entries are its living ones
 pub own_copy : (journal : List Entry) (family c : ℕ) → IsSound 8 journal → families journal c ≡ family → copy_in (copies_of (layer 8 0 family journal)) c ≡ copy_in (living journal) c
-own_copy journal family c sound of =
-    ap (λ l. copy_in l c) (sym (table_own 8 0 family journal sound)) ∙ ap (λ f. copy_in (table 8 0 f journal) c) (sym of) ∙ sym ((merged 8 journal sound).found c)
+own_copy journal family c sound of = cc (table_own 8 0 family journal sound, (merged 8 journal sound).found c)
 
 -- What the hall's bodies need beside the tables: pending lists, families of entries, and what a Withdraw brings back.
 
@@ -319,26 +290,18 @@ layer_new journal sound =
 pub entry_at-other : (journal : List Entry) (entry : Entry) (n : ℕ) → n ≢ length journal + 1 → entry_at (journal ++ entry ∷ []) n ≡ entry_at journal n
 entry_at-other journal entry n other = grind (arith, nat_tests, slice_get-push)
 
-pub entry_at-past : (journal : List Entry) → entry_at journal (length journal + 1) ≡ None
-entry_at-past journal = grind (arith, nat_tests, slice_get_past)
-
 -- the families that one entry more has begun
 pub begun-next : (journal : List Entry) (entry : Entry) → begun (journal ++ entry ∷ []) ≡ begun journal ++ cond (is_register entry.report) (entry.number ∷ []) []
 begun-next journal entry = grind (arith, nat_tests, filter-append, map-append)
 
 begun-push : (journal : List Entry) (entry : Entry) (n : ℕ) → has (begun (journal ++ entry ∷ [])) n ≡ (has (begun journal) n || cond (is_register entry.report) (entry.number == n) false)
-begun-push journal entry n =
-    ap (λ l. has l n) (begun-next journal entry)
-    ∙ elim (is_register entry.report) as (λ b. has (begun journal ++ cond b (entry.number ∷ []) []) n ≡ (has (begun journal) n || cond b (entry.number == n) false)) [
-      | true ↦ any_push (λ k. k == n) (begun journal) entry.number
-      | false ↦ ap (λ l. has l n) (append-nil (begun journal)) ∙ sym (or-false (has (begun journal) n))
-    ]
+begun-push journal entry n = grind (arith, nat_tests, begun-next, any_push, append-nil, or-false)
 
 abbrev pub AreKnown : List Entry → Type 0
 AreKnown journal = (n : ℕ) → is_family journal n ≡ has (begun journal) n
 
 known_grows : (most : ℕ) (journal : List Entry) (entry : Entry) → Accepts most journal entry → AreKnown journal → AreKnown (journal ++ entry ∷ [])
-known_grows most journal entry accepts known n = grind (arith, nat_tests, entry_at-past, at-push, entry_at-other, or-false, begun-push)
+known_grows most journal entry accepts known n = grind (arith, nat_tests, slice_get_past, at-push, entry_at-other, or-false, begun-push)
 
 -- the known families are those that were begun
 pub accepted_known : (most : ℕ) (journal : List Entry) → IsAccepted most journal → AreKnown journal

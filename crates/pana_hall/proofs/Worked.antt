@@ -1,28 +1,12 @@
 -- Worked examples, and where the laws of the tables end, computed from the definitions.
-use Rattle.std.specs.Prelude.{◌≡◌, ℕ, zero, suc, ◌+◌, true, false, List, [], ◌∷◌, ◌++◌, Option, Some, None, map, codes, length}
-use Rattle.std.proofs.Common.{refl}
-use Rattle.pana_copies.specs.declared.place.Place.{Place}
+use Rattle.pana_hall.proofs.Words.{◌≡◌, ℕ, zero, suc, ◌+◌, true, false, List, [], ◌∷◌, ◌++◌, Option, Some, None, map, length, refl, Place, Report, Register, Duplicate, Edit, Reconcile, Merge}
+use Rattle.pana_hall.proofs.Words.{Relocate, Remove, Confirm, Withdraw, Entry, Cause, PlaceTaken, FamilyFull, Settled, BoardRow, families, living, known_to, pending, holdings, report_refusal, table}
+use Rattle.pana_hall.proofs.Words.{AreApart, codes, UnknownCopy, SameCopy, OtherFamily, UnknownEntry, NotYours, UnknownFamily, page, family_rows, pair_of}
 use Rattle.pana_event.specs.declared.rel.Rel.TheVariants.{Equal, Older, Conflict}
-use Rattle.pana_journal.specs.declared.report.Report.{Report}
-use Rattle.pana_journal.specs.declared.report.Report.TheVariants.{Register, Duplicate, Edit, Reconcile, Merge, Relocate, Remove, Confirm, Withdraw}
-use Rattle.pana_journal.specs.declared.entry.Entry.{Entry}
-use Rattle.pana_hall.specs.declared.call.Query.{Query}
-use Rattle.pana_hall.specs.declared.call.Query.TheVariants.{Board, Pair}
+use Rattle.pana_hall.specs.{declared.call.Query.Query, declared.call.Query.TheVariants.Board, declared.call.Query.TheVariants.Pair, Living.copies_of, StampRows.rows_of}
+use Rattle.pana_hall.specs.{Board.board_of, Board.row_of, Refusal.refusal}
 use Rattle.pana_hall.specs.declared.call.Call.TheVariants as calls
-use Rattle.pana_hall.specs.declared.cause.Cause.{Cause}
-use Rattle.pana_hall.specs.declared.cause.Cause.TheVariants.{UnknownCopy, SameCopy, OtherFamily, PlaceTaken, FamilyFull, UnknownEntry, NotYours, Settled, UnknownFamily}
-use Rattle.pana_hall.specs.declared.board.BoardRow.{BoardRow}
-use Rattle.pana_journal.specs.Entries.{page}
-use Rattle.pana_hall.specs.Family.{families}
-use Rattle.pana_hall.specs.Living.{living, copies_of, known_to}
-use Rattle.pana_hall.specs.StampRows.{rows_of}
-use Rattle.pana_hall.specs.Pending.{pending}
-use Rattle.pana_hall.specs.Board.{board_of, row_of}
 use Rattle.pana_family.specs.Board.{board_newest, board_split}
-use Rattle.pana_hall.specs.Queries.{family_rows, pair_of, holdings}
-use Rattle.pana_hall.specs.Refusal.{refusal, report_refusal}
-use Rattle.pana_hall.specs.laws.Tables.{table}
-use Rattle.pana_hall.specs.laws.Layers.{AreApart}
 
 -- Worked examples, computed from the definitions.
 

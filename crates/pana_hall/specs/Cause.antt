@@ -1,9 +1,9 @@
 -- The number and the name of each cause of a refusal, and the copy that it names.
 use Rattle.std.specs.Prelude.{ℕ, List, ◌++◌, codes, decimal, Option, Some, None}
 use Rattle.pana_hall.specs.declared.cause.Cause.{Cause}
-use Rattle.pana_hall.specs.declared.cause.Cause.TheVariants.{JournalFull, UnknownCopy, SameCopy, OtherFamily, PlaceTaken, FamilyFull, TooDeep, OutOfMemory, UnknownEntry, NotYours, Settled, UnknownFamily, NotKept}
+use Rattle.pana_hall.specs.declared.cause.Cause.TheVariants.{JournalFull, UnknownCopy, SameCopy, OtherFamily, PlaceTaken, FamilyFull, TooDeep, OutOfMemory, UnknownEntry, NotYours, Settled, UnknownFamily}
 
--- the number that stands for a cause in a line; 5 was a cause once, and is never given away
+-- the number that stands for a cause in a line; 5 was a cause once, 14 is that of an entry that whoever keeps a hall couldn't write: neither is given away
 abbrev pub code_of : Cause → ℕ
 code_of JournalFull = 1
 code_of (UnknownCopy copy) = 2
@@ -17,7 +17,6 @@ code_of UnknownEntry = 10
 code_of NotYours = 11
 code_of Settled = 12
 code_of UnknownFamily = 13
-code_of NotKept = 14
 
 -- the name of a cause
 abbrev pub cause_name : Cause → List ℕ
@@ -33,7 +32,6 @@ cause_name UnknownEntry = codes "UnknownEntry"
 cause_name NotYours = codes "NotYours"
 cause_name Settled = codes "Settled"
 cause_name UnknownFamily = codes "UnknownFamily"
-cause_name NotKept = codes "NotKept"
 
 -- the copy that a cause names, if it names one
 abbrev pub cause_copy : Cause → Option ℕ

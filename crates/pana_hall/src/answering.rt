@@ -1,19 +1,11 @@
 //! The answers to queries, where nothing stands against them.
 ghost use Rattle.std.specs.Prelude.{◌≡◌, true, None, IsSome, IfOk, IfErr, List, map};
-ghost use Rattle.std.specs.List.{AllByRecursion};
-ghost use Rattle.std.specs.Str.{bytes_eq};
+ghost use Rattle.std.specs.{List.AllByRecursion, Str.bytes_eq};
 ghost use Rattle.pana_copies.specs.Spots.{kept};
-ghost use Rattle.pana_family.specs.Stands.{StandsFor};
-ghost use Rattle.pana_family.specs.Table.{Known};
-ghost use Rattle.pana_hall.specs.Board.{board_of};
-ghost use Rattle.pana_hall.specs.Stamps.{AreStampsOf};
-ghost use Rattle.pana_hall.specs.Living.{living};
+ghost use Rattle.pana_family.specs.{Stands.StandsFor, Table.Known};
+ghost use Rattle.pana_hall.specs.{Board.board_of, Stamps.AreStampsOf, Living.living, inner.Rows.holding_in, inner.Rows.placed_row};
+ghost use Rattle.pana_hall.specs.{Refusal.query_refusal, Permit.Answers, Permit.IsShortage, inner.State.IsHeld, inner.Listed.listed};
 ghost use Rattle.pana_hall.specs.Queries.{family_rows, holdings, pair_of, row_of_sets};
-ghost use Rattle.pana_hall.specs.inner.Rows.{holding_in, placed_row};
-ghost use Rattle.pana_hall.specs.Refusal.{query_refusal};
-ghost use Rattle.pana_hall.specs.Permit.{Answers, IsShortage};
-ghost use Rattle.pana_hall.specs.inner.State.{IsHeld};
-ghost use Rattle.pana_hall.specs.inner.Listed.{listed};
 
 use crate::board::{BoardRow, BoardView};
 use crate::call::{Call, Query};
@@ -132,6 +124,7 @@ impl State {
 }
 
 /// A family's row, read off its board.
+#[tactic(auto, using(pana_family::proofs::Members::same_length, pana_family::proofs::BySets::same_copies))]
 fn family_row(alloc: Global, it: &ListedFamily) -> Result<FamilyRow, AllocError>
     ensures { IfOk result (λ row. (table : List Known) → StandsFor (listed it.now).rows table → row ≡ row_of_sets (listed it.now).number table) }
 {

@@ -31,8 +31,6 @@ pub enum Cause {
     Settled,
     /// No Register entry has this number.
     UnknownFamily,
-    /// The entry couldn't be written to the journal on disk. A hall by itself never refuses so; whoever keeps one does.
-    NotKept,
 }
 
 impl Cause {
@@ -53,7 +51,6 @@ impl Cause {
             Cause::NotYours => 11,
             Cause::Settled => 12,
             Cause::UnknownFamily => 13,
-            Cause::NotKept => 14,
         }
     }
 
@@ -74,7 +71,6 @@ impl Cause {
             Cause::NotYours => "NotYours",
             Cause::Settled => "Settled",
             Cause::UnknownFamily => "UnknownFamily",
-            Cause::NotKept => "NotKept",
         }
     }
 

@@ -1,15 +1,11 @@
 //! What reports do to a family and to the table of copies: the memory for it first, and then the change, which can't fail.
 ghost use Rattle.std.specs.Prelude.{◌≡◌, ℕ, ◌<◌, Some, IfOk, IfSome, IsSome, option_map, option_and_then};
 ghost use Rattle.pana_copies.specs.Spots.{kept, place_of};
-ghost use Rattle.pana_family.specs.Rows.{AreBefore};
-ghost use Rattle.pana_family.specs.Report.{CanReport};
+ghost use Rattle.pana_family.specs.{Rows.AreBefore, Report.CanReport};
 ghost use Rattle.pana_family.specs.declared.report.FamilyReport.{FamilyReport as OfFamily};
-ghost use Rattle.pana_hall.specs.Family.{family_report};
-ghost use Rattle.pana_hall.specs.Refusal.{displaced};
+ghost use Rattle.pana_hall.specs.{Family.family_report, Refusal.displaced, inner.Undo.last_place, inner.Undo.reported_kept, inner.Undo.withdrawn};
+ghost use Rattle.pana_hall.specs.{inner.Listed.IsGrown, inner.Listed.listed, inner.Next.IsStepOf};
 ghost use Rattle.pana_hall.specs.inner.Spots.{CanPlace, CanUndo, place_in, spot_after, undone_spot};
-ghost use Rattle.pana_hall.specs.inner.Undo.{last_place, reported_kept, withdrawn};
-ghost use Rattle.pana_hall.specs.inner.Listed.{IsGrown, listed};
-ghost use Rattle.pana_hall.specs.inner.Next.{IsStepOf};
 
 use crate::families::family_report;
 use crate::listed_family::ListedFamily;

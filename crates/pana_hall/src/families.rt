@@ -1,9 +1,7 @@
 //! The families that have begun.
 ghost use Rattle.std.specs.Prelude.{◌≡◌, [], option_copied, option_map};
-ghost use Rattle.pana_hall.specs.Family.{family_report, subject};
-ghost use Rattle.pana_hall.specs.inner.Families.{family_at, position_at};
-ghost use Rattle.pana_hall.specs.inner.Listed.{all_listed, listed};
-ghost use Rattle.pana_hall.specs.inner.Kept.{position_for};
+ghost use Rattle.pana_hall.specs.{Family.family_report, Family.subject, inner.Families.family_at, inner.Families.position_at};
+ghost use Rattle.pana_hall.specs.{inner.Listed.all_listed, inner.Listed.listed, inner.Kept.position_for};
 
 use crate::listed_family::ListedFamily;
 use pana_family::FamilyReport;

@@ -1,8 +1,5 @@
 ghost use Rattle.std.specs.Prelude.{◌≡◌, ◌≤◌, [], length, IfOk, OnErr};
-ghost use Rattle.pana_hall.specs.Accepted.{IsAccepted};
-ghost use Rattle.pana_hall.specs.Permit.{Permits, journal_after};
-ghost use Rattle.pana_hall.specs.Refusal.{refusal};
-ghost use Rattle.pana_hall.specs.Run.{RunsTo};
+ghost use Rattle.pana_hall.specs.{Accepted.IsAccepted, Permit.Permits, Permit.journal_after, Refusal.refusal, Run.RunsTo};
 
 use crate::call::{Call, Query};
 use crate::cause::Cause;

@@ -1,8 +1,7 @@
 //! A family as the hall keeps it.
 ghost use Rattle.std.specs.Prelude.{◌≡◌, ◌==◌, IfOk, option_map, option_copied};
 ghost use Rattle.std.specs.List.{list_any};
-ghost use Rattle.pana_family.specs.Rows.{AreBefore};
-ghost use Rattle.pana_family.specs.Report.{CanReport};
+ghost use Rattle.pana_family.specs.{Rows.AreBefore, Report.CanReport};
 ghost use Rattle.pana_hall.specs.inner.Undo.{IsPreparedIn, confirmed, ends_in, last_place, new_kept, reported_kept, withdrawn};
 
 use crate::undo::{Undo, has_entry, position_of};

@@ -3,44 +3,31 @@
 //! pending entries left out.
 
 ghost use Rattle.std.specs.Prelude.{◌≡◌, ◌≢◌, ℕ, ◌+◌, ◌≤◌, List, [], ◌∷◌, ◌++◌, ◌==◌, length, find, count_by, option_and_then, option_map, if◌then◌else◌, Some, true};
-ghost use Rattle.std.specs.Bool.{then_some};
-ghost use Rattle.std.specs.List.{AllByRecursion, list_any};
-ghost use Rattle.std.specs.Str.{bytes_eq};
+ghost use Rattle.std.specs.{Bool.then_some, List.AllByRecursion, List.list_any, Str.bytes_eq};
 ghost use Rattle.pana_copies.specs.declared.place.Place.{Place};
-ghost use Rattle.pana_journal.specs.declared.report.Report.TheVariants.{Register, Confirm, Withdraw};
-ghost use Rattle.pana_family.specs.Table.{AreBelow, IsAbove, registered};
-ghost use Rattle.pana_hall.specs.laws.Sets.{knowns_of, sets_at};
-ghost use Rattle.pana_hall.specs.StampRows.{stamp_rows};
-ghost use Rattle.pana_family.specs.Stands.{StandsFor};
-ghost use Rattle.pana_journal.specs.declared.entry.Entry.{Entry};
-ghost use Rattle.pana_journal.specs.Entries.{entry_at};
-ghost use Rattle.pana_family.specs.Updates.{has};
+ghost use Rattle.pana_journal.specs.{declared.report.Report.TheVariants.Register, declared.report.Report.TheVariants.Confirm};
+ghost use Rattle.pana_journal.specs.{declared.report.Report.TheVariants.Withdraw, declared.entry.Entry.Entry, Entries.entry_at};
+ghost use Rattle.pana_family.specs.{Table.AreBelow, Table.IsAbove, Table.registered, Stands.StandsFor, Updates.has};
+ghost use Rattle.pana_hall.specs.{laws.Sets.knowns_of, laws.Sets.sets_at, StampRows.stamp_rows, Effective.effective, Effective.is_of_copies};
+ghost use Rattle.pana_hall.specs.{Effective.left_out, Board.board_of, Board.is_of, Refusal.brought_back, Refusal.displaced, Refusal.too_deep};
+ghost use Rattle.pana_hall.specs.{Run.Exchange, Run.IsRun, Run.journal_from, laws.Tables.table, laws.Tables.tables, Accepted.Accepts};
+ghost use Rattle.pana_hall.specs.{Accepted.IsAccepted, declared.cause.Cause.TheVariants.OutOfMemory, declared.cause.Cause.TheVariants.TooDeep};
+ghost use Rattle.pana_hall.specs.{declared.loading.LoadFault.LoadFault, declared.loading.LoadCause.TheVariants.Refused, Load.IsLoadFault};
 ghost use Rattle.pana_hall.specs.Family.{entries_of, families, is_family, is_register, subject};
-ghost use Rattle.pana_hall.specs.Effective.{effective, is_of_copies, left_out};
 ghost use Rattle.pana_hall.specs.Living.{Copy, copies_of, copy_in, known_to, living, number_of};
 ghost use Rattle.pana_hall.specs.Pending.{is_last, last, pend, pending};
-ghost use Rattle.pana_hall.specs.Board.{board_of, is_of};
 ghost use Rattle.pana_hall.specs.Queries.{begun, family_row, holding, holdings};
-ghost use Rattle.pana_hall.specs.Refusal.{brought_back, displaced, too_deep};
-ghost use Rattle.pana_hall.specs.Run.{Exchange, IsRun, journal_from};
-ghost use Rattle.pana_hall.specs.laws.Tables.{table, tables};
-ghost use Rattle.pana_hall.specs.Accepted.{Accepts, IsAccepted};
-ghost use Rattle.pana_hall.specs.declared.call.Call.{Call};
-ghost use Rattle.pana_hall.specs.declared.cause.Cause.TheVariants.{OutOfMemory, TooDeep, NotKept};
-ghost use Rattle.pana_hall.specs.declared.reply.Reply.TheVariants as replies;
-ghost use Rattle.pana_hall.specs.declared.loading.LoadFault.{LoadFault};
-ghost use Rattle.pana_hall.specs.declared.loading.LoadCause.TheVariants.{Refused};
-ghost use Rattle.pana_hall.specs.Permit.{Permits};
-ghost use Rattle.pana_hall.specs.Load.{IsLoadFault};
 ghost use Rattle.pana_hall.specs.laws.Layers.{AddsLayer, AddsSets, duplicates_in, AreApart, AreMerged, AreRising, DropsLayer, IsOrderly, KeepsLayers, LeavesAlone, family_of_next};
 
 /// After every run no two living copies have one place, their numbers rise, none is above that of the last entry, and
 /// each copy is of its entry's family. Entries that are withdrawn are no exception.
+#[tactic(auto, using(crate::proofs::Runs::run_accepted, crate::proofs::Runs::orderly))]
 pub fn every_run_is_orderly()
     ensures { (run : List Exchange) → IsRun run → IsOrderly (journal_from [] run) }
 {}
 
 /// The journal of a run refuses none of its entries, and each such journal is that of a run.
+#[tactic(auto, using(crate::proofs::Runs::run_accepted, crate::proofs::Runs::run_of_accepted))]
 pub fn accepted_are_those_of_runs()
     ensures accepted { (run : List Exchange) → IsRun run → IsAccepted 8 (journal_from [] run) }
     ensures of_run { (journal : List Entry) → IsAccepted 8 journal → (run : List Exchange) × IsRun run × (journal_from [] run ≡ journal) }
@@ -51,11 +38,6 @@ pub fn own_entries_load()
     ensures { (entries : List Entry) (fault : LoadFault) → IsAccepted 8 entries → IsLoadFault entries fault → fault.cause ≡ Refused OutOfMemory }
 {}
 
-/// A hall keeps nothing on a disk: it refuses no call as not kept.
-pub fn no_hall_refuses_as_not_kept()
-    ensures { (journal : List Entry) (by : List ℕ) (call : Call) → ¬ Permits journal by call (replies.Refused NotKept) }
-{}
-
 /// A family's tables are what its own entries make, the others left out.
 pub fn own_entries_make_the_tables()
     ensures { (journal : List Entry) (k family : ℕ) → IsAccepted 8 journal
@@ -64,6 +46,7 @@ pub fn own_entries_make_the_tables()
 
 /// A report of copies changes its family's table as it says. With one pending entry more left out, the table is the
 /// one from before with one less.
+#[tactic(auto, using(crate::proofs::Sound::accepted_is_sound, crate::proofs::Tables::adds_layer, crate::proofs::Sound::sound_grows))]
 pub fn report_adds_a_layer()
     ensures { (journal : List Entry) (entry : Entry) → IsAccepted 8 journal → Accepts 8 journal entry
         → is_of_copies entry.report ≡ true → AddsLayer 8 (family_of_next journal entry) journal entry }
@@ -138,6 +121,7 @@ pub fn tables_merge()
 {}
 
 /// No two living copies are kept at one place, also where entries are withdrawn.
+#[tactic(auto, using(crate::proofs::Places::accepted_is_apart))]
 pub fn no_place_twice()
     ensures { (journal : List Entry) → IsAccepted 8 journal → AreApart (living journal) }
 {}

@@ -31,5 +31,5 @@ pub use crate::hall::Hall;
 pub use crate::holding::{Holding, HoldingList};
 pub use crate::loading::{LoadCause, LoadFault};
 pub use crate::prepared::{Prepared, Unprepared};
-pub use crate::reply::{Reply, Spent};
+pub use crate::reply::Reply;
 pub use pana_family::CopyStamp;

@@ -1,12 +1,9 @@
 //! A family as the list of them keeps it.
 ghost use Rattle.std.specs.Prelude.{◌≡◌, ◌==◌, List, IfOk, OnOk, true, length, map, nat_lt, option_copied, option_map};
 ghost use Rattle.std.specs.List.{list_any};
-ghost use Rattle.pana_family.specs.Board.{board_rows, board_newest, board_split};
-ghost use Rattle.pana_family.specs.Relation.{relation};
-ghost use Rattle.pana_family.specs.Report.{CanReport};
+ghost use Rattle.pana_family.specs.{Board.board_rows, Board.board_newest, Board.board_split, Relation.relation, Report.CanReport, Stamps.AreStamps};
+ghost use Rattle.pana_family.specs.{Stamps.stamps_in, Stamps.text_of, Stands.StandsFor};
 ghost use Rattle.pana_family.specs.Rows.{AreBefore, copy_rows, divides, lives};
-ghost use Rattle.pana_family.specs.Stamps.{AreStamps, stamps_in, text_of};
-ghost use Rattle.pana_family.specs.Stands.{StandsFor};
 ghost use Rattle.pana_family.specs.Table.{Known, copies_of, set_in, touch_in};
 ghost use Rattle.pana_hall.specs.inner.Undo.{confirmed, ends_in, last_place, reported_kept, withdrawn};
 ghost use Rattle.pana_hall.specs.inner.Listed.{IsGrown, IsPreparedFor, listed};
@@ -66,6 +63,7 @@ impl ListedFamily {
     }
 
     /// How the first copy relates to the second. Takes no memory; compares no stamps.
+    #[tactic(auto, using(crate::proofs::Histories::new_living, pana_family::proofs::Boards::same_equal))]
     pub fn rel(&self, a: u64, b: u64) -> Rel
         requires first { lives (listed self.now).rows a ≡ true }
         requires second { lives (listed self.now).rows b ≡ true }

@@ -2,15 +2,11 @@
 //! fail.
 ghost use Rattle.std.specs.Prelude.{◌≡◌, ℕ, ◌+◌, ◌<◌, [], ◌∷◌, ◌++◌, length, ◌==◌, if◌then◌else◌, Some, None, false, IfOk, IfErr, vec_len, vec_capacity};
 ghost use Rattle.pana_copies.specs.Spots.{kept};
-ghost use Rattle.pana_hall.specs.inner.Spots.{IsFree};
-ghost use Rattle.pana_hall.specs.inner.Undo.{new_kept};
-ghost use Rattle.pana_hall.specs.inner.Listed.{IsGrown, all_listed, listed};
+ghost use Rattle.pana_hall.specs.{inner.Spots.IsFree, inner.Undo.new_kept, inner.Listed.IsGrown, inner.Listed.all_listed, inner.Listed.listed};
+ghost use Rattle.pana_hall.specs.{inner.State.IsHeld, inner.State.IsRefused, inner.State.Records, Effective.is_of_copies, Living.living};
+ghost use Rattle.pana_hall.specs.{Refusal.report_refusal};
 ghost use Rattle.pana_hall.specs.inner.Kept.{next_entry, AreSpots, IsReady, IsReadyAt, families_of, family_of};
 ghost use Rattle.pana_hall.specs.inner.Next.{IsNext, IsStep, IsStepOf, Takes};
-ghost use Rattle.pana_hall.specs.inner.State.{IsHeld, IsRefused, Records};
-ghost use Rattle.pana_hall.specs.Effective.{is_of_copies};
-ghost use Rattle.pana_hall.specs.Living.{living};
-ghost use Rattle.pana_hall.specs.Refusal.{report_refusal};
 
 use crate::cause::Cause;
 use crate::changing::{apply_change, prepare_change, withdraw};

@@ -1,14 +1,9 @@
 //! Why calls are refused, memory aside. None of this takes memory.
 ghost use Rattle.std.specs.Prelude.{◌≡◌, ◌==◌, not, [], ◌∷◌, true, None, Some, Option, ℕ};
-ghost use Rattle.pana_hall.specs.inner.Spots.{IsThere, other_there};
+ghost use Rattle.pana_hall.specs.{inner.Spots.IsThere, inner.Spots.other_there, Accepted.IsAccepted, Living.living, Pending.is_last};
+ghost use Rattle.pana_hall.specs.{Effective.is_of_copies, inner.Kept.AreSpots, inner.State.IsHeld};
 ghost use Rattle.pana_journal.specs.declared.report.Report.TheVariants as reports;
-ghost use Rattle.pana_hall.specs.Accepted.{IsAccepted};
-ghost use Rattle.pana_hall.specs.Living.{living};
-ghost use Rattle.pana_hall.specs.Pending.{is_last};
-ghost use Rattle.pana_hall.specs.Effective.{is_of_copies};
 ghost use Rattle.pana_hall.specs.Refusal.{first, full, unknown, same, other_family, against_two, taken, family_full, too_deep, unknown_entry, not_yours, pending_with, settled, settled_or_followed, displaced, taken_since, unknown_family, report_refusal, query_refusal};
-ghost use Rattle.pana_hall.specs.inner.Kept.{AreSpots};
-ghost use Rattle.pana_hall.specs.inner.State.{IsHeld};
 
 use crate::call::Query;
 use crate::cause::Cause;
@@ -87,6 +82,7 @@ impl State {
         }
     }
 
+    #[tactic(auto, using(crate::proofs::Answered::found_spot, crate::proofs::Listed::found_entry, crate::proofs::Answered::full_is))]
     fn family_full(&self, number: u64) -> Option<Cause>
         requires { IsHeld self.now }
         ensures { result ≡ family_full number (living self.now.journal.entries) }
@@ -96,6 +92,7 @@ impl State {
     }
 
     /// The id of the copy can't be divided.
+    #[tactic(auto, using(crate::proofs::Answered::found_spot, crate::proofs::Listed::found_entry, crate::proofs::Answered::deep_is))]
     fn too_deep(&self, number: u64) -> Option<Cause>
         requires { IsHeld self.now }
         ensures { result ≡ too_deep number self.now.journal.entries (living self.now.journal.entries) }
@@ -120,6 +117,7 @@ impl State {
         (entry.by != *by).then_some(Cause::NotYours)
     }
 
+    #[tactic(auto, using(crate::proofs::Listed::entry_within, crate::proofs::Answered::none_pending))]
     fn settled(&self, number: u64) -> Option<Cause>
         requires { IsHeld self.now }
         ensures { result ≡ settled 8 number self.now.journal.entries }
@@ -130,6 +128,7 @@ impl State {
         }
     }
 
+    #[tactic(auto, using(crate::proofs::Listed::entry_within, crate::proofs::Answered::kept_lasts, crate::proofs::Answered::none_pending, crate::proofs::Answered::none_last))]
     fn settled_or_followed(&self, number: u64) -> Option<Cause>
         requires { IsHeld self.now }
         ensures { result ≡ settled_or_followed 8 number self.now.journal.entries }

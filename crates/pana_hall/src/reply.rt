@@ -6,8 +6,6 @@ use pana_event::Rel;
 use pana_family::CopyStamp;
 use pana_journal::EntryList;
 use pana_list::PlainList;
-use std::error::Error;
-use std::fmt;
 
 /// The answer of a hall to a call.
 #[derive(Debug, Drop)]
@@ -29,20 +27,3 @@ pub enum Reply {
     /// The call was refused, and changed nothing.
     Refused(Cause),
 }
-
-/// The session has no call left to give: what was asked of it was not done, unless the session's contract says that it may
-/// have been.
-#[derive(Clone, Copy, Debug, PartialEq, Eq)]
-pub struct Spent;
-
-impl fmt::Display for Spent {
-    ghost use Rattle.std.specs.Prelude.{Some, codes};
-
-    ghost output = { λ _. Some (codes "no call is left") };
-
-    fn fmt<W: fmt::Write>(&self, f: &mut fmt::Formatter<W>) -> fmt::Result {
-        f.write_str("no call is left")
-    }
-}
-
-impl Error for Spent {}

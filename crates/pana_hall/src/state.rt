@@ -1,8 +1,5 @@
 //! What a hall keeps.
-ghost use Rattle.pana_hall.specs.Family.{families};
-ghost use Rattle.pana_hall.specs.inner.Kept.{IsWithin, family_of};
-ghost use Rattle.pana_hall.specs.inner.Listed.{listed};
-ghost use Rattle.pana_hall.specs.inner.State.{IsHeld};
+ghost use Rattle.pana_hall.specs.{Family.families, inner.Kept.IsWithin, inner.Kept.family_of, inner.Listed.listed, inner.State.IsHeld};
 ghost use Rattle.std.specs.Prelude.{◌≡◌, []};
 
 use crate::families::Families;

@@ -2,9 +2,9 @@
 
 use crate::places::place;
 use pana_copies::DeviceName;
-use pana_hall::{Call, Reply, Spent};
+use pana_hall::{Call, Reply};
 use pana_journal::{Entry, Report};
-use pana_wire::{Served, Session, Tap, encode_entry, serve};
+use pana_wire::{Answer, NoAnswer, Served, Session, Tap, encode_entry, serve};
 use std::alloc::{AllocError, Global};
 use std::io;
 use std::io::{Read, Write};
@@ -41,16 +41,16 @@ struct Numbering {
 impl Session for Numbering {
     ghost use Rattle.std.specs.Prelude.{◌≡◌, ◌+◌};
 
-    ghost step = { λ old by call reply new. new.made ≡ old.made + 1 };
+    ghost step = { λ old by call answer new. new.made ≡ old.made + 1 };
 
-    ghost spends = { λ old new. new ≡ old };
+    ghost fails = { λ old by call new. new ≡ old };
 
-    fn call(&mut self, _by: &DeviceName, _call: Call) -> Result<Reply, Spent> {
+    fn call(&mut self, _by: &DeviceName, _call: Call) -> Result<Answer, NoAnswer> {
         if self.made >= self.most {
-            return Err(Spent);
+            return Err(NoAnswer);
         }
         self.made += 1;
-        Ok(Reply::Done { entry: self.made })
+        Ok(Answer::Given(Reply::Done { entry: self.made }))
     }
 }
 

@@ -3,9 +3,9 @@ use Rattle.std.proofs.Common.{◌≡◌, ◌⊎◌, inl, inr, ⊎_elim, ℕ, ◌
 use Rattle.std.specs.List.{list_any}
 use Rattle.std.specs.Borrow.{Bor}
 use Rattle.std.proofs.lemmas.List.{map-append, take-append-drop}
-use Rattle.pana_keep.specs.Lines.{text_of}
-use Rattle.pana_keep.proofs.Settled.{text_of-append}
-use Rattle.pana_wire.specs.inner.Slices.{texts}
+use Rattle.pana_log.specs.Lines.{text_of}
+use Rattle.pana_log.proofs.Settled.{text_of-append}
+use Rattle.pana_wire.specs.Lines.{texts}
 use Rattle.pana_wire.proofs.Said.{texts_next, texts_before}
 use Rattle.pana_seal.specs.declared.sealer.Sealer.{Sealer}
 use Rattle.pana_seal.specs.Seal.{Covers, is_sealed, demands_seals, is_due, IsIntact, IsDamagedAt}

@@ -3,7 +3,7 @@ use Rattle.std.specs.Prelude.{◌≡◌, ℕ, ◌+◌, ◌-◌, Bool, true, fals
 use Rattle.std.specs.List.{list_any, starts_with}
 use Rattle.sha2.specs.Sha256.{sha256}
 use Rattle.sha2.specs.Hashers.{Holds256}
-use Rattle.pana_keep.specs.Lines.{header, text_of}
+use Rattle.pana_log.specs.Lines.{header, text_of}
 use Rattle.pana_wire.specs.Seal.{mark, seal_with}
 use Rattle.pana_seal.specs.declared.seal_fault.SealFault.{SealFault}
 use Rattle.pana_seal.specs.declared.seal_fault.SealFault.TheVariants as faults

@@ -1,12 +1,12 @@
 //! The seals of a file's lines.
 ghost use Rattle.std.specs.Prelude.{◌≡◌, ◌||◌, not, List, ℕ, IfOk, IfErr, OnOk};
-ghost use Rattle.pana_keep.specs.Lines.{text_of};
-ghost use Rattle.pana_wire.specs.inner.Slices.{texts};
+ghost use Rattle.pana_log.specs.Lines.{text_of};
+ghost use Rattle.pana_wire.specs.Lines.{texts};
 ghost use Rattle.pana_seal.specs.Seal.{Covers, is_marked, is_sealed, demands_seals, IsIntact, IsSealFault};
 
 use crate::seal_fault::SealFault;
 use crate::sealer::{Sealer, is_marked};
-use pana_keep::is_header;
+use pana_log::is_header;
 use std::alloc::{AllocError, Global};
 
 /// Takes up the lines of a file, and sees that they are as they were sealed: each line that ends with a digest, and each

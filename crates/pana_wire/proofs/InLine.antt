@@ -17,6 +17,9 @@ use Rattle.pana_wire.specs.declared.fault.WireFault.{WireFault}
 use Rattle.pana_wire.specs.declared.fault.WireFault.TheVariants.{TooLong, NotUtf8, NotJson, NotObject, BadField, OutOfMemory}
 use Rattle.pana_wire.specs.Fault.{fault_text}
 use Rattle.pana_wire.specs.Report.{number_data, entry_data}
+use Rattle.pana_wire.specs.declared.answer.Answer.{Answer}
+use Rattle.pana_wire.specs.declared.answer.Answer.TheVariants.{Given, NotKept}
+use Rattle.pana_wire.specs.Answer.{answer_text, not_kept_text}
 use Rattle.pana_wire.specs.Reply.{numbers_data, row_data, rows_data, board_data, family_data, families_data, stamp_data, stamps_data, holding_data, holdings_data, entries_data, refusal_data, refused_data, reply_data, reply_text}
 use Rattle.pana_wire.specs.Timely.{IsAnswer}
 use Rattle.pana_wire.proofs.OneLine.{IsInLine, is_natural, items_natural, entry_natural, text_in_line}
@@ -97,6 +100,10 @@ fault_in_line (BadField Number) = all_in_line (fault_text (BadField Number)) ref
 fault_in_line (BadField Entries) = all_in_line (fault_text (BadField Entries)) refl
 fault_in_line OutOfMemory = all_in_line (fault_text OutOfMemory) refl
 
-pub answer_in_line : {S : Type 0} (step : S → List ℕ → Call → Reply → S → Type 0) (old : S) (text : List ℕ) (new : S) → IsAnswer step old text new → IsInLine text
+said_in_line : (answer : Answer) → IsInLine (answer_text answer)
+said_in_line (Given reply) = reply_in_line reply
+said_in_line NotKept = all_in_line not_kept_text refl
+
+pub answer_in_line : {S : Type 0} (step : S → List ℕ → Call → Answer → S → Type 0) (old : S) (text : List ℕ) (new : S) → IsAnswer step old text new → IsInLine text
 answer_in_line step old text new answer =
-    ⊎_elim (λ a. subst IsInLine (sym a.1) (fault_in_line a.0)) (λ a. subst IsInLine (sym a.4) (reply_in_line a.2)) answer
+    ⊎_elim (λ a. subst IsInLine (sym a.1) (fault_in_line a.0)) (λ a. subst IsInLine (sym a.4) (said_in_line a.2)) answer

@@ -3,13 +3,13 @@ use Rattle.std.proofs.Common.{◌≡◌, ℕ, List, [], ◌∷◌, ◌++◌, Opt
 use Rattle.std.specs.Io.KnownBytes.{Appends}
 use Rattle.std.proofs.KnownBytes.{Appends-nil, Appends-trans}
 use Rattle.pana_hall.specs.declared.call.Call.{Call}
-use Rattle.pana_hall.specs.declared.reply.Reply.{Reply}
+use Rattle.pana_wire.specs.declared.answer.Answer.{Answer}
 use Rattle.pana_wire.specs.declared.message.Message.{Message}
 use Rattle.pana_wire.specs.declared.tap.Tap.{Tap}
 use Rattle.pana_wire.specs.declared.serving.ServeFault.{ServeFault}
 use Rattle.pana_wire.specs.declared.serving.ServeFault.TheVariants.{OutOfMemory}
 use Rattle.pana_wire.specs.Line.{line_says}
-use Rattle.pana_wire.specs.Reply.{reply_text}
+use Rattle.pana_wire.specs.Answer.{answer_text}
 use Rattle.pana_wire.specs.Tap.{has_failed, noted, AppendsPrefix}
 use Rattle.pana_wire.specs.Session.{AnswersLine}
 use Rattle.pana_wire.specs.inner.Writing.{Writes, WritesPrefix}
@@ -48,29 +48,29 @@ module _ {W : Type 0} (contents : W → Option (List ℕ)) (moment : ℕ) where
   breaks_after_text a b c done more rest whole fault e p q =
       subst (λ l. WritesPrefix contents moment a c l fault) (sym e) (breaks_second a b c done (more ++ rest) fault p (breaks_first b c more rest fault q))
 
-module _ {S : Type 0} (step : S → List ℕ → Call → Reply → S → Type 0) where
-  -- a message, and the text of its reply
-  pub said_line : (old : S) (line : List ℕ) (m : Message) (reply : Reply) (text : List ℕ) (new : S) → line_says line ≡ Ok m
-      → step old m.by m.call reply new → text ≡ reply_text reply → AnswersLine step old line text new 1
-  said_line old line m reply text new says done e = inl (rw says (reply, done, e, refl))
+module _ {S : Type 0} (step : S → List ℕ → Call → Answer → S → Type 0) where
+  -- a message, and the text of its answer
+  pub said_line : (old : S) (line : List ℕ) (m : Message) (answer : Answer) (text : List ℕ) (new : S) → line_says line ≡ Ok m
+      → step old m.by m.call answer new → text ≡ answer_text answer → AnswersLine step old line text new 1
+  said_line old line m answer text new says done e = inl (rw says (answer, done, e, refl))
 
   -- memory ran out for the answer to a line
-  pub lost_reply : {W : Type 0} (contents : W → Option (List ℕ)) (spends : S → S → Type 0) (old : S) (line : List ℕ) (m : Message) (reply : Reply) (new : S) (a : Tap W)
-      → line_says line ≡ Ok m → step old m.by m.call reply new → has_failed a ≡ false → Breaks contents step spends a a old (line ∷ []) new OutOfMemory
-  lost_reply contents spends old line m reply new a says done works = record {
+  pub lost_answer : {W : Type 0} (contents : W → Option (List ℕ)) (fails : S → List ℕ → Call → S → Type 0) (old : S) (line : List ℕ) (m : Message) (answer : Answer) (new : S) (a : Tap W)
+      → line_says line ≡ Ok m → step old m.by m.call answer new → has_failed a ≡ false → Breaks contents step fails a a old (line ∷ []) new OutOfMemory
+  lost_answer contents fails old line m answer new a says done works = record {
     output = [];
     writes = Appends-nil _;
-    breaks = inl (m, reply, says, done, refl);
+    breaks = inl (m, answer, says, done, refl);
     is_out = works;
   }
 
   -- a write failed in the answer to a line
-  pub broken_write : {W : Type 0} (contents : W → Option (List ℕ)) (moment : ℕ) (spends : S → S → Type 0) (fault : ServeFault) (old : S) (line text : List ℕ) (new : S) (steps : ℕ) (a b : Tap W)
+  pub broken_write : {W : Type 0} (contents : W → Option (List ℕ)) (moment : ℕ) (fails : S → List ℕ → Call → S → Type 0) (fault : ServeFault) (old : S) (line text : List ℕ) (new : S) (steps : ℕ) (a b : Tap W)
       → AnswersLine step old line text new steps → WritesPrefix contents moment a b (text ++ 10 ∷ []) fault
-      → Breaks contents step spends a b old (line ∷ []) new fault
-  broken_write contents moment spends fault old line text new steps a b answers p =
+      → Breaks contents step fails a b old (line ∷ []) new fault
+  broken_write contents moment fails fault old line text new steps a b answers p =
       let (written, rest, appended, split) = p.written in
-      subst (λ f. Breaks contents step spends a b old (line ∷ []) new f) (sym p.is_write) (record {
+      subst (λ f. Breaks contents step fails a b old (line ∷ []) new f) (sym p.is_write) (record {
         output = written;
         writes = appended;
         breaks = inl (text, rest, steps, answers, split);

@@ -9,7 +9,7 @@ use Rattle.pana_wire.specs.DumpLines.{Say, HasFaultAt}
 use Rattle.pana_wire.specs.Line.{Fails}
 use Rattle.pana_wire.specs.declared.fault.WireFault.{WireFault}
 use Rattle.pana_wire.specs.declared.fault.WireFault.TheVariants.{OutOfMemory}
-use Rattle.pana_wire.specs.inner.Slices.{texts}
+use Rattle.pana_wire.specs.Lines.{texts}
 
 say_one_more : (ls : List (List ℕ)) (es : List Entry) (l : List ℕ) (more : List Entry) → Say ls es → dump_says l ≡ Ok more → Say (ls ++ l ∷ []) (es ++ more)
 say_one_more [] es l more none says = (more, [], says, refl, ap (λ (xs : List Entry). xs ++ more) none ∙ sym (append-nil more))

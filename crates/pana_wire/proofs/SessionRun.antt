@@ -2,10 +2,11 @@
 use Rattle.std.proofs.Common.{◌≡◌, ℕ, ◌+◌, List, [], ◌∷◌, ◌++◌, length, Result, Ok, Err, refl, sym, subst, arith, inl, inr}
 use Rattle.pana_journal.specs.declared.entry.Entry.{Entry}
 use Rattle.pana_hall.specs.Run.{Exchange, IsRunFrom, journal_from}
-use Rattle.pana_hall.specs.Step.{Steps}
+use Rattle.pana_wire.specs.declared.answer.Answer.TheVariants.{Given, NotKept}
 use Rattle.pana_wire.specs.declared.fault.WireFault.{WireFault}
 use Rattle.pana_wire.specs.declared.fault.WireFault.TheVariants.{OutOfMemory}
 use Rattle.pana_wire.specs.declared.message.Message.{Message}
+use Rattle.pana_wire.specs.Answer.{Replies}
 use Rattle.pana_wire.specs.Fault.{fault_text}
 use Rattle.pana_wire.specs.Line.{line_says}
 use Rattle.pana_wire.specs.Lines.{lines_of}
@@ -35,11 +36,11 @@ before_run old mid new line text rest output lines fault first others steps same
 
 -- by what the line before says
 said_run : (said : Result Message WireFault) (old mid new : List Entry) (line text rest output : List ℕ) (lines : List (List ℕ)) (first others steps : ℕ) → line_says line ≡ said
-    → AnswersSaid Steps old said text mid first → steps ≡ first + others → output ≡ text ++ 10 ∷ rest → Runs mid lines rest new others → Runs old (line ∷ lines) output new steps
+    → AnswersSaid Replies old said text mid first → steps ≡ first + others → output ≡ text ++ 10 ∷ rest → Runs mid lines rest new others → Runs old (line ∷ lines) output new steps
 said_run (Err fault) old mid new line text rest output lines first others steps says a sum whole p =
     before_run old mid new line text rest output lines fault first others steps a.1 a.2 sum whole (inl says) a.0 p
-said_run (Ok m) old mid new line text rest output lines first others steps says a sum whole p =
-    let (reply, step, answer, one) = a in
+said_run (Ok m) old mid new line text rest output lines first others steps says (NotKept, never, answer, one) sum whole p = absurd never
+said_run (Ok m) old mid new line text rest output lines first others steps says (Given reply, step, answer, one) sum whole p =
     let x : Exchange = record { by = m.by; call = m.call; reply = reply } in
     let count : length p.run ≡ others = p.count in
     record {
@@ -50,7 +51,7 @@ said_run (Ok m) old mid new line text rest output lines first others steps says 
       answers = (text, rest, whole, inl (x, p.run, refl, record { said = says; answered = answer }, p.answers));
     }
 
-lines_run : (old : List Entry) (lines : List (List ℕ)) (output : List ℕ) (new : List Entry) (steps : ℕ) → AnswersLines Steps old lines output new steps → Runs old lines output new steps
+lines_run : (old : List Entry) (lines : List (List ℕ)) (output : List ℕ) (new : List Entry) (steps : ℕ) → AnswersLines Replies old lines output new steps → Runs old lines output new steps
 lines_run old [] output new steps a = record { run = []; permitted = tt; left = sym a.1; count = sym a.2; answers = (refl, a.0) }
 lines_run old (line ∷ lines) output new steps a =
     let (mid, text, rest, first, others, here, later, whole, sum) = a in
@@ -60,7 +61,7 @@ lines_run old (line ∷ lines) output new steps a =
       | inr memory ↦ before_run old mid new line text rest output lines OutOfMemory first others steps memory.1 memory.2 sum whole (inr (refl, memory.3)) memory.0 p
     ]
 
-pub session_run : (input output : List ℕ) (journal : List Entry) (steps : ℕ) → SessionText Steps [] input output journal steps → IsServedByRun input output journal steps
+pub session_run : (input output : List ℕ) (journal : List Entry) (steps : ℕ) → SessionText Replies [] input output journal steps → IsServedByRun input output journal steps
 session_run input output journal steps text =
     let p : Runs [] (lines_of input) output journal steps = lines_run [] (lines_of input) output journal steps text in
     record { run = p.run; permitted = p.permitted; left = p.left; count = p.count; answers = p.answers }

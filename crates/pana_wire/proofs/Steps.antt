@@ -2,7 +2,7 @@
 use Rattle.std.proofs.Common.{◌≡◌, ℕ, suc, cond, Result, Ok, Err, inl, inr, ◌+◌, ◌≤◌, ◌==◌, true, false, List, [], ◌∷◌, ◌++◌, length, take, map, refl, sym, ap, subst, ◌∙◌, append_assoc, append-nil, length-append, arith}
 use Rattle.std.proofs.lemmas.Bool.{eq-eqb, ne_eqb}
 use Rattle.pana_hall.specs.declared.call.Call.{Call}
-use Rattle.pana_hall.specs.declared.reply.Reply.{Reply}
+use Rattle.pana_wire.specs.declared.answer.Answer.{Answer}
 use Rattle.pana_wire.specs.declared.serving.Served.{Served}
 use Rattle.pana_wire.specs.declared.fault.WireFault.{WireFault}
 use Rattle.pana_wire.specs.declared.message.Message.{Message}
@@ -45,7 +45,7 @@ ended_few held (b ∷ bs) =
       | false ↦ let rest : length (ended_kept (keep held b) bs) ≤ length bs = ended_few (keep held b) bs in omega arith
     ]
 
-module _ {S : Type 0} (step : S → List ℕ → Call → Reply → S → Type 0) where
+module _ {S : Type 0} (step : S → List ℕ → Call → Answer → S → Type 0) where
   -- a line takes one step at most
   line_few : (old : S) (line text : List ℕ) (new : S) (steps : ℕ) → AnswersLine step old line text new steps → steps ≤ 1
   line_few old line text new steps a = elim a [

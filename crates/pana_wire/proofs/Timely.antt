@@ -3,7 +3,7 @@ use Rattle.std.proofs.Common.{◌≡◌, ℕ, List, [], ◌∷◌, ◌++◌, Opt
 use Rattle.std.specs.Io.KnownBytes.{Appends}
 use Rattle.std.proofs.KnownBytes.{Appends-nil}
 use Rattle.pana_hall.specs.declared.call.Call.{Call}
-use Rattle.pana_hall.specs.declared.reply.Reply.{Reply}
+use Rattle.pana_wire.specs.declared.answer.Answer.{Answer}
 use Rattle.pana_wire.specs.declared.tap.Tap.{Tap}
 use Rattle.pana_wire.specs.Tap.{Note, inside, noted, noted_at, IsNoted}
 use Rattle.pana_wire.specs.Timely.{IsAnswer, WritesAnswers, MayBreak, IsTimely}
@@ -11,7 +11,7 @@ use Rattle.pana_wire.specs.inner.Progress.{IsTimelySoFar}
 use Rattle.pana_wire.specs.inner.Writing.{NotesPrefix}
 use Rattle.pana_wire.proofs.Notes.{noted_both, none_noted, text_noted, noted_then}
 
-module _ {S : Type 0} (step : S → List ℕ → Call → Reply → S → Type 0) (moment : S → ℕ) where
+module _ {S : Type 0} (step : S → List ℕ → Call → Answer → S → Type 0) (moment : S → ℕ) where
   pub answers_append : (old : S) (texts more : List (List ℕ)) (xs ys : List Note) (mid new : S)
       → WritesAnswers step moment old texts xs mid → WritesAnswers step moment mid more ys new → WritesAnswers step moment old (texts ++ more) (xs ++ ys) new
   answers_append old [] more xs ys mid new p q =
@@ -28,7 +28,7 @@ module _ {S : Type 0} (step : S → List ℕ → Call → Reply → S → Type 0
   pub one_answers : (old : S) (text : List ℕ) (new : S) → IsAnswer step old text new → WritesAnswers step moment old (text ∷ []) (noted_at (moment new) (text ++ 10 ∷ [])) new
   one_answers old text new answer = (new, [], answer, (refl, refl), sym (append-nil (noted_at (moment new) (text ++ 10 ∷ []))))
 
-module _ {W S : Type 0} (contents : W → Option (List ℕ)) (step : S → List ℕ → Call → Reply → S → Type 0) (moment : S → ℕ) where
+module _ {W S : Type 0} (contents : W → Option (List ℕ)) (step : S → List ℕ → Call → Answer → S → Type 0) (moment : S → ℕ) where
   pub none_so_far : (a : Tap W) (old : S) → IsTimelySoFar contents step moment a a old old
   none_so_far a old = record { texts = []; whole = []; notes = none_noted contents a; answers = (refl, refl) }
 
@@ -49,9 +49,9 @@ module _ {W S : Type 0} (contents : W → Option (List ℕ)) (step : S → List 
     answers = answers_append step moment old p.texts q.texts p.whole q.whole mid new p.answers q.answers;
   }
 
-module _ {W S : Type 0} (contents : W → Option (List ℕ)) (step : S → List ℕ → Call → Reply → S → Type 0) (spends : S → S → Type 0) (moment : S → ℕ) where
+module _ {W S : Type 0} (contents : W → Option (List ℕ)) (step : S → List ℕ → Call → Answer → S → Type 0) (fails : S → List ℕ → Call → S → Type 0) (moment : S → ℕ) where
   -- so far and no further
-  pub timely_here : (a b : Tap W) (old new : S) → IsTimelySoFar contents step moment a b old new → IsTimely contents step spends moment a b old new
+  pub timely_here : (a b : Tap W) (old new : S) → IsTimelySoFar contents step moment a b old new → IsTimely contents step fails moment a b old new
   timely_here a b old new p = record {
     texts = p.texts;
     whole = p.whole;
@@ -62,7 +62,7 @@ module _ {W S : Type 0} (contents : W → Option (List ℕ)) (step : S → List 
     breaks = inl (refl, inl refl);
   }
 
-  pub timely_then : (a b c : Tap W) (old mid new : S) → IsTimelySoFar contents step moment a b old mid → IsTimely contents step spends moment b c mid new → IsTimely contents step spends moment a c old new
+  pub timely_then : (a b c : Tap W) (old mid new : S) → IsTimelySoFar contents step moment a b old mid → IsTimely contents step fails moment b c mid new → IsTimely contents step fails moment a c old new
   timely_then a b c old mid new p q = record {
     texts = p.texts ++ q.texts;
     whole = p.whole ++ q.whole;
@@ -73,20 +73,20 @@ module _ {W S : Type 0} (contents : W → Option (List ℕ)) (step : S → List 
     breaks = q.breaks;
   }
 
-  at_once : (a b : Tap W) (old : S) (part : List Note) (new : S) → IsNoted contents a b part → MayBreak step spends moment old part new → IsTimely contents step spends moment a b old new
+  at_once : (a b : Tap W) (old : S) (part : List Note) (new : S) → IsNoted contents a b part → MayBreak step fails moment old part new → IsTimely contents step fails moment a b old new
   at_once a b old part new notes breaks = record { texts = []; whole = []; part = part; last = old; notes = notes; answers = (refl, refl); breaks = breaks }
 
-  -- a call that isn't made
-  pub none_made : (a : Tap W) (old new : S) → spends old new → IsTimely contents step spends moment a a old new
-  none_made a old new spent = at_once a a old [] new (none_noted contents a) (inl (refl, inr spent))
+  -- a call that has no answer
+  pub none_answered : (a : Tap W) (old : S) (by : List ℕ) (call : Call) (new : S) → fails old by call new → IsTimely contents step fails moment a a old new
+  none_answered a old by call new failed = at_once a a old [] new (none_noted contents a) (inl (refl, inr (by, call, failed)))
 
   -- a prefix of an answer
-  pub part_timely : (a b : Tap W) (old : S) (text : List ℕ) (new : S) → IsAnswer step old text new → NotesPrefix contents (moment new) a b (text ++ 10 ∷ []) → IsTimely contents step spends moment a b old new
+  pub part_timely : (a b : Tap W) (old : S) (text : List ℕ) (new : S) → IsAnswer step old text new → NotesPrefix contents (moment new) a b (text ++ 10 ∷ []) → IsTimely contents step fails moment a b old new
   part_timely a b old text new answer p =
       let (part, rest, notes, written, split) = p in
       at_once a b old (noted_at (moment new) part) new (text_noted contents (moment new) a b part notes written)
       (inr (text, noted_at (moment new) rest, answer, ap (noted_at (moment new)) split ∙ noted_both (moment new) part rest))
 
   -- nothing of an answer
-  pub lost_timely : (a : Tap W) (old : S) (text : List ℕ) (new : S) → IsAnswer step old text new → IsTimely contents step spends moment a a old new
+  pub lost_timely : (a : Tap W) (old : S) (text : List ℕ) (new : S) → IsAnswer step old text new → IsTimely contents step fails moment a a old new
   lost_timely a old text new answer = part_timely a a old text new answer ([], text ++ 10 ∷ [], sym (append-nil (noted a)), Appends-nil _, refl)

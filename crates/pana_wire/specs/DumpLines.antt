@@ -2,6 +2,7 @@
 use Rattle.std.specs.Prelude.{◌≡◌, ℕ, ◌+◌, List, [], ◌∷◌, ◌++◌, length, Ok}
 use Rattle.pana_journal.specs.declared.entry.Entry.{Entry}
 use Rattle.pana_wire.specs.declared.fault.WireFault.{WireFault}
+use Rattle.pana_wire.specs.declared.line_fault.LineFault.{LineFault}
 use Rattle.pana_wire.specs.declared.fault.WireFault.TheVariants as faults
 use Rattle.pana_wire.specs.Dump.{dump_says, IsDumpText}
 use Rattle.pana_wire.specs.Line.{Fails}
@@ -22,3 +23,7 @@ pub record HasFaultAt (lines : List (List ℕ)) (number : ℕ) (fault : WireFaul
   pub at : number ≡ length before + 1
   pub says : Fails fault (dump_says line)
   pub memory : fault ≡ faults.OutOfMemory → IsDumpText line
+
+-- the first of the lines that has a fault, with its number
+abbrev pub HasFault : List (List ℕ) → LineFault → Type 0
+HasFault lines fault = HasFaultAt lines fault.line fault.fault

@@ -6,6 +6,7 @@ pub mod Dump
 pub mod DumpLines
 pub mod Report
 pub mod Reply
+pub mod Answer
 pub mod Lines
 pub mod Tap
 pub mod Session

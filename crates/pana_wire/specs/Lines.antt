@@ -1,5 +1,6 @@
 -- How a text is cut into lines: each newline ends one, and is in none.
-use Rattle.std.specs.Prelude.{ℕ, ◌==◌, List, [], ◌∷◌, ◌++◌, if◌then◌else◌}
+use Rattle.std.specs.Prelude.{ℕ, ◌==◌, List, [], ◌∷◌, ◌++◌, map, if◌then◌else◌}
+use Rattle.std.specs.Borrow.{Bor}
 
 -- the lines that end in the text, where the first has begun already
 abbrev pub ended : List ℕ → List ℕ → List (List ℕ)
@@ -19,3 +20,7 @@ last_line (b ∷ bs) = (b ∷ bs) ∷ []
 -- the lines of a text
 abbrev pub lines_of : List ℕ → List (List ℕ)
 lines_of text = ended [] text ++ last_line (unended [] text)
+
+-- the lines that slices refer to
+abbrev pub texts : List (Bor (List ℕ)) → List (List ℕ)
+texts lines = map (λ line. line.now) lines

@@ -2,53 +2,53 @@
 use Rattle.std.specs.Prelude.{◌≡◌, ℕ, ◌+◌, List, [], ◌∷◌, ◌++◌, length, Option, Result, Ok, Err, ◌⊎◌, Bool, true, false}
 use Rattle.std.specs.Io.KnownBytes.{Consumes, Appends, IsAtEnd}
 use Rattle.pana_hall.specs.declared.call.Call.{Call}
-use Rattle.pana_hall.specs.declared.reply.Reply.{Reply}
+use Rattle.pana_wire.specs.declared.answer.Answer.{Answer}
 use Rattle.pana_wire.specs.declared.fault.WireFault.{WireFault}
 use Rattle.pana_wire.specs.declared.fault.WireFault.TheVariants as faults
 use Rattle.pana_wire.specs.declared.message.Message.{Message}
 use Rattle.pana_wire.specs.declared.tap.Tap.{Tap}
 use Rattle.pana_wire.specs.declared.serving.Served.{Served}
 use Rattle.pana_wire.specs.declared.serving.ServeFault.{ServeFault}
-use Rattle.pana_wire.specs.declared.serving.ServeFault.TheVariants.{Read, Write, OutOfMemory, Spent, Turns}
+use Rattle.pana_wire.specs.declared.serving.ServeFault.TheVariants.{Read, Write, OutOfMemory, NoAnswer, Turns}
 use Rattle.pana_wire.specs.Fault.{fault_text}
 use Rattle.pana_wire.specs.Line.{line_says, IsText}
 use Rattle.pana_wire.specs.Lines.{ended, lines_of}
-use Rattle.pana_wire.specs.Reply.{reply_text}
+use Rattle.pana_wire.specs.Answer.{answer_text}
 use Rattle.pana_wire.specs.Tap.{inside, has_failed, has_ended, MadeReads}
 
--- the answer to what a line says: for a fault its text, and no step; for a message one step, and the text of its reply
-abbrev pub AnswersSaid : {S : Type 0} → (S → List ℕ → Call → Reply → S → Type 0) → S → Result Message WireFault → List ℕ → S → ℕ → Type 0
+-- the answer to what a line says: for a fault its text, and no step; for a message one step, and the text of its answer
+abbrev pub AnswersSaid : {S : Type 0} → (S → List ℕ → Call → Answer → S → Type 0) → S → Result Message WireFault → List ℕ → S → ℕ → Type 0
 AnswersSaid step old (Err fault) text new steps = (text ≡ fault_text fault) × (new ≡ old) × (steps ≡ 0)
-AnswersSaid step old (Ok m) text new steps = (reply : Reply) × step old m.by m.call reply new × (text ≡ reply_text reply) × (steps ≡ 1)
+AnswersSaid step old (Ok m) text new steps = (answer : Answer) × step old m.by m.call answer new × (text ≡ answer_text answer) × (steps ≡ 1)
 
 -- the answer to a line: to what it says, or else, where it is text, that memory ran out, and no step
-abbrev pub AnswersLine : {S : Type 0} → (S → List ℕ → Call → Reply → S → Type 0) → S → List ℕ → List ℕ → S → ℕ → Type 0
+abbrev pub AnswersLine : {S : Type 0} → (S → List ℕ → Call → Answer → S → Type 0) → S → List ℕ → List ℕ → S → ℕ → Type 0
 AnswersLine step old line text new steps = AnswersSaid step old (line_says line) text new steps ⊎ ((text ≡ fault_text faults.OutOfMemory) × (new ≡ old) × (steps ≡ 0) × IsText line)
 
 -- the answers to lines, in order, each with a newline
-abbrev pub AnswersLines : {S : Type 0} → (S → List ℕ → Call → Reply → S → Type 0) → S → List (List ℕ) → List ℕ → S → ℕ → Type 0
+abbrev pub AnswersLines : {S : Type 0} → (S → List ℕ → Call → Answer → S → Type 0) → S → List (List ℕ) → List ℕ → S → ℕ → Type 0
 AnswersLines step old [] output new steps = (output ≡ []) × (new ≡ old) × (steps ≡ 0)
 AnswersLines {S = S} step old (line ∷ lines) output new steps = (mid : S) × (text : List ℕ) × (rest : List ℕ) × (first : ℕ) × (others : ℕ)
     × AnswersLine step old line text mid first × AnswersLines step mid lines rest new others × (output ≡ text ++ 10 ∷ rest) × (steps ≡ first + others)
 
 -- the session's text: the state, what is read, what is written, the state after, and how many steps were taken
-abbrev pub SessionText : {S : Type 0} → (S → List ℕ → Call → Reply → S → Type 0) → S → List ℕ → List ℕ → S → ℕ → Type 0
+abbrev pub SessionText : {S : Type 0} → (S → List ℕ → Call → Answer → S → Type 0) → S → List ℕ → List ℕ → S → ℕ → Type 0
 SessionText step old input output new steps = AnswersLines step old (lines_of input) output new steps
 
 -- where serving breaks off at a line. A write failed: a prefix of the answer is written. Memory ran out: the call was
--- made, and nothing of its answer is written. The session was spent: no call was made, and nothing is written.
-abbrev pub BreaksAt : {S : Type 0} → (S → List ℕ → Call → Reply → S → Type 0) → (S → S → Type 0) → ServeFault → S → List ℕ → List ℕ → S → Type 0
-BreaksAt step spends Read old line output new = ⊥
-BreaksAt step spends Write old line output new = (text : List ℕ) × (rest : List ℕ) × (steps : ℕ) × AnswersLine step old line text new steps × (text ++ 10 ∷ [] ≡ output ++ rest)
-BreaksAt step spends OutOfMemory old line output new = (m : Message) × (reply : Reply) × (line_says line ≡ Ok m) × step old m.by m.call reply new × (output ≡ [])
-BreaksAt step spends Spent old line output new = (m : Message) × (line_says line ≡ Ok m) × spends old new × (output ≡ [])
-BreaksAt step spends Turns old line output new = ⊥
+-- made, and nothing of its answer is written. The call has no answer: nothing is written.
+abbrev pub BreaksAt : {S : Type 0} → (S → List ℕ → Call → Answer → S → Type 0) → (S → List ℕ → Call → S → Type 0) → ServeFault → S → List ℕ → List ℕ → S → Type 0
+BreaksAt step fails Read old line output new = ⊥
+BreaksAt step fails Write old line output new = (text : List ℕ) × (rest : List ℕ) × (steps : ℕ) × AnswersLine step old line text new steps × (text ++ 10 ∷ [] ≡ output ++ rest)
+BreaksAt step fails OutOfMemory old line output new = (m : Message) × (answer : Answer) × (line_says line ≡ Ok m) × step old m.by m.call answer new × (output ≡ [])
+BreaksAt step fails NoAnswer old line output new = (m : Message) × (line_says line ≡ Ok m) × fails old m.by m.call new × (output ≡ [])
+BreaksAt step fails Turns old line output new = ⊥
 
 -- serving breaks off at one of the lines, and those before it are answered
-abbrev pub BreaksIn : {S : Type 0} → (S → List ℕ → Call → Reply → S → Type 0) → (S → S → Type 0) → ServeFault → S → List (List ℕ) → List ℕ → S → Type 0
-BreaksIn step spends fault old [] output new = ⊥
-BreaksIn {S = S} step spends fault old (line ∷ lines) output new = BreaksAt step spends fault old line output new
-    ⊎ ((mid : S) × (text : List ℕ) × (rest : List ℕ) × (steps : ℕ) × AnswersLine step old line text mid steps × BreaksIn step spends fault mid lines rest new × (output ≡ text ++ 10 ∷ rest))
+abbrev pub BreaksIn : {S : Type 0} → (S → List ℕ → Call → Answer → S → Type 0) → (S → List ℕ → Call → S → Type 0) → ServeFault → S → List (List ℕ) → List ℕ → S → Type 0
+BreaksIn step fails fault old [] output new = ⊥
+BreaksIn {S = S} step fails fault old (line ∷ lines) output new = BreaksAt step fails fault old line output new
+    ⊎ ((mid : S) × (text : List ℕ) × (rest : List ℕ) × (steps : ℕ) × AnswersLine step old line text mid steps × BreaksIn step fails fault mid lines rest new × (output ≡ text ++ 10 ∷ rest))
 
 -- the lines that have come: those that have ended, and once the end of the input was met, also the last one
 abbrev pub lines_come : Bool → List ℕ → List (List ℕ)
@@ -57,12 +57,12 @@ lines_come false input = ended [] input
 
 -- what is written where serving stops, by whether the end of the input was met. No more could be read: the answers to
 -- all lines that have ended. Else serving breaks off at a line that has come.
-abbrev pub EndsBy : {S : Type 0} → (S → List ℕ → Call → Reply → S → Type 0) → (S → S → Type 0) → ServeFault → Bool → S → List ℕ → List ℕ → S → Type 0
-EndsBy step spends Read met old input output new = (steps : ℕ) × AnswersLines step old (ended [] input) output new steps
-EndsBy step spends Write met old input output new = BreaksIn step spends Write old (lines_come met input) output new
-EndsBy step spends OutOfMemory met old input output new = BreaksIn step spends OutOfMemory old (lines_come met input) output new
-EndsBy step spends Spent met old input output new = BreaksIn step spends Spent old (lines_come met input) output new
-EndsBy step spends Turns met old input output new = (steps : ℕ) × AnswersLines step old (ended [] input) output new steps
+abbrev pub EndsBy : {S : Type 0} → (S → List ℕ → Call → Answer → S → Type 0) → (S → List ℕ → Call → S → Type 0) → ServeFault → Bool → S → List ℕ → List ℕ → S → Type 0
+EndsBy step fails Read met old input output new = (steps : ℕ) × AnswersLines step old (ended [] input) output new steps
+EndsBy step fails Write met old input output new = BreaksIn step fails Write old (lines_come met input) output new
+EndsBy step fails OutOfMemory met old input output new = BreaksIn step fails OutOfMemory old (lines_come met input) output new
+EndsBy step fails NoAnswer met old input output new = BreaksIn step fails NoAnswer old (lines_come met input) output new
+EndsBy step fails Turns met old input output new = (steps : ℕ) × AnswersLines step old (ended [] input) output new steps
 
 -- why serving stops: a read or a write failed, as the fault says, or neither did; and where more was to be read, no
 -- read met the end
@@ -70,11 +70,11 @@ abbrev pub HasCause : {R : Type 0} → ServeFault → ℕ → Tap R → Tap R �
 HasCause Read most old new write_failed = (has_failed new ≡ true) × (write_failed ≡ false) × (has_ended new ≡ has_ended old)
 HasCause Write most old new write_failed = (has_failed new ≡ false) × (write_failed ≡ true)
 HasCause OutOfMemory most old new write_failed = (has_failed new ≡ false) × (write_failed ≡ false)
-HasCause Spent most old new write_failed = (has_failed new ≡ false) × (write_failed ≡ false)
+HasCause NoAnswer most old new write_failed = (has_failed new ≡ false) × (write_failed ≡ false)
 HasCause Turns most old new write_failed = (has_failed new ≡ false) × (write_failed ≡ false) × (has_ended new ≡ has_ended old) × MadeReads most old new
 
 -- the reader is read to its end, and the session's text is written, and nothing else
-pub record Serves {R W S : Type 0} (remaining : R → Option (List ℕ)) (contents : W → Option (List ℕ)) (step : S → List ℕ → Call → Reply → S → Type 0)
+pub record Serves {R W S : Type 0} (remaining : R → Option (List ℕ)) (contents : W → Option (List ℕ)) (step : S → List ℕ → Call → Answer → S → Type 0)
     (reader_old reader_new : Tap R) (writer_old writer_new : Tap W) (old new : S) (served : Served) : Type 0 where
   pub input : List ℕ
   pub output : List ℕ
@@ -88,13 +88,13 @@ pub record Serves {R W S : Type 0} (remaining : R → Option (List ℕ)) (conten
   pub writer_works : has_failed writer_new ≡ false
 
 -- serving stops with the fault, where it may make so many reads
-pub record Stops {R W S : Type 0} (remaining : R → Option (List ℕ)) (contents : W → Option (List ℕ)) (step : S → List ℕ → Call → Reply → S → Type 0) (spends : S → S → Type 0)
+pub record Stops {R W S : Type 0} (remaining : R → Option (List ℕ)) (contents : W → Option (List ℕ)) (step : S → List ℕ → Call → Answer → S → Type 0) (fails : S → List ℕ → Call → S → Type 0)
     (most : ℕ) (reader_old reader_new : Tap R) (writer_old writer_new : Tap W) (old new : S) (fault : ServeFault) : Type 0 where
   pub input : List ℕ
   pub output : List ℕ
   pub reads : Consumes (remaining (inside reader_old)) (remaining (inside reader_new)) input
   pub writes : Appends (contents (inside writer_old)) (contents (inside writer_new)) output
-  pub ends : EndsBy step spends fault (has_ended reader_new) old input output new
+  pub ends : EndsBy step fails fault (has_ended reader_new) old input output new
   pub cause : HasCause fault most reader_old reader_new (has_failed writer_new)
 
 -- an allocation for serving itself failed, before the first read, and nothing has happened

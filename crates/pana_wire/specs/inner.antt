@@ -3,5 +3,4 @@ pub mod Kept
 pub mod Names
 pub mod Progress
 pub mod SealedData
-pub mod Slices
 pub mod Writing

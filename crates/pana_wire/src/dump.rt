@@ -1,17 +1,20 @@
 //! Dumps: lines with entries of a journal.
-ghost use Rattle.std.specs.Prelude.{◌≡◌, IfErr, map};
+ghost use Rattle.std.specs.Prelude.{◌≡◌, IfErr, IfOk, MatchResult, map};
 ghost use Rattle.serde_json.specs.View.{view};
 ghost use Rattle.pana_wire.specs.Line.{Gives, Shows};
+ghost use Rattle.pana_wire.specs.DumpLines.{Say, HasFault};
+ghost use Rattle.pana_wire.specs.Lines.{texts};
 ghost use Rattle.pana_wire.specs.Dump.{IsDumpText, are_objects, objects_in, entry_in, entries_in, dump_says};
 
 use crate::fault::WireFault;
 use crate::field::Field;
+use crate::line_fault::LineFault;
 use crate::reading::{
     check_object, device_in, number_in, report_in, text_within, value_in, word_in,
 };
 use pana_journal::{Entry, EntryList};
 use serde_json::Value;
-use std::alloc::Global;
+use std::alloc::{AllocError, Global};
 
 /// The longest line of a dump that is read, in bytes.
 const LONGEST_DUMP: usize = 1_048_576;
@@ -31,6 +34,30 @@ pub fn decode_dump(alloc: Global, line: &[u8]) -> Result<EntryList, WireFault>
     check_object(&value)?;
     let objects = objects_in(&value)?;
     entries_in(alloc, objects)
+}
+
+/// The entries in the lines of a dump, one line after another, or the first line that has a fault.
+///
+/// # Errors
+///
+/// `AllocError` where memory runs out for the list; where it runs out for a line, that is the line's fault.
+pub fn decode_dump_lines(
+    alloc: Global,
+    lines: &[&[u8]],
+) -> Result<Result<EntryList, LineFault>, AllocError>
+    ensures { IfOk result (λ read. MatchResult read (Say (texts lines.now)) (HasFault (texts lines.now))) }
+{
+    let mut entries = EntryList::new(alloc);
+    for (index, line) in lines.iter().enumerate() {
+        match decode_dump(alloc, line) {
+            Ok(more) => entries.append(more)?,
+            Err(fault) => {
+                let line = index as u64 + 1;
+                return Ok(Err(LineFault { line, fault }));
+            }
+        }
+    }
+    Ok(Ok(entries))
 }
 
 #[tactic(auto, unfolding(crate::specs::Dump::objects_in))]

@@ -1,12 +1,14 @@
 //! Lines: what a line of bytes asks, the text of each reply, and a session from bytes to bytes.
 #![tactic(auto)]
 
+mod answer;
 mod cutting;
 mod dump;
 mod fault;
 mod field;
 mod laws;
 mod line_buffer;
+mod line_fault;
 mod message;
 mod reading;
 mod report_writing;
@@ -17,11 +19,13 @@ mod tap;
 mod word;
 mod writing;
 
+pub use crate::answer::{Answer, NoAnswer};
 pub use crate::cutting::split_lines;
-pub use crate::dump::decode_dump;
+pub use crate::dump::{decode_dump, decode_dump_lines};
 pub use crate::fault::WireFault;
 pub use crate::field::Field;
 pub use crate::laws::every_session_is_a_run;
+pub use crate::line_fault::LineFault;
 pub use crate::message::Message;
 pub use crate::reading::decode;
 pub use crate::report_writing::encode_call;
@@ -29,4 +33,4 @@ pub use crate::sealing::encode_sealed_entry;
 pub use crate::serving::{ServeFault, Served, serve};
 pub use crate::session::Session;
 pub use crate::tap::Tap;
-pub use crate::writing::{encode, encode_entry};
+pub use crate::writing::{encode, encode_answer, encode_entry};

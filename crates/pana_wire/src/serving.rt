@@ -14,7 +14,7 @@ use crate::message::Message;
 use crate::reading::decode;
 use crate::session::Session;
 use crate::tap::Tap;
-use crate::writing::encode;
+use crate::writing::encode_answer;
 use std::alloc::Global;
 use std::error::Error;
 use std::fmt;
@@ -39,8 +39,8 @@ pub enum ServeFault {
     Write,
     /// An allocation failed: of the line buffer, or of the answer to a call that was made.
     OutOfMemory,
-    /// The session has no call left.
-    Spent,
+    /// A call has no answer.
+    NoAnswer,
     /// All the reads that were allowed were made, and the input didn't end.
     Turns,
 }
@@ -56,7 +56,7 @@ impl fmt::Display for ServeFault {
             ServeFault::Read => "read failed",
             ServeFault::Write => "write failed",
             ServeFault::OutOfMemory => "out of memory",
-            ServeFault::Spent => "no call is left",
+            ServeFault::NoAnswer => "no answer",
             ServeFault::Turns => "too many reads",
         })
     }
@@ -83,14 +83,14 @@ impl Served {
 /// Answers each line of the reader by a line to the writer, until the reader's end.
 ///
 /// A line with a fault is answered with its fault, and makes no call. Every other line makes one call, and is
-/// answered with its reply; where memory runs out before the call, the line's fault is `OutOfMemory`. All lines
+/// answered with its answer's text; where memory runs out before the call, the line's fault is `OutOfMemory`. All lines
 /// that have come are answered before the next read, and each answer is flushed.
 ///
 /// # Errors
 ///
 /// `OutOfMemory` where the line buffer can't be allocated, before the first read, or where the answer to a call that
-/// was made can't; `Read` where a read failed; `Write` where a write failed or took none of some bytes; `Spent` where
-/// the session returned so; `Turns` after this many reads without the end. What was written is then a prefix of the
+/// was made can't; `Read` where a read failed; `Write` where a write failed or took none of some bytes; `NoAnswer` where
+/// a call has none; `Turns` after this many reads without the end. What was written is then a prefix of the
 /// answers to the lines that came.
 ///
 /// A tap that had ended before may be lent too: it is read again, and of `Read` and `Turns` it isn't known then
@@ -112,10 +112,10 @@ pub fn serve<R: Read, W: Write, S: Session>(
         reader.old reader.new writer.old writer.new session.old session.new) }
     ensures fault { IfErr result (λ fault.
         NeverBegins reader.old reader.new writer.old writer.new session.old session.new fault
-        ⊎ Stops R.remaining W.contents S.step S.spends reads
+        ⊎ Stops R.remaining W.contents S.step S.fails reads
         reader.old reader.new writer.old writer.new session.old session.new fault) }
     ensures reads { MadeAtMost reads reader.old reader.new }
-    ensures timely { IsTimely W.contents S.step S.spends S.moment writer.old writer.new session.old session.new }
+    ensures timely { IsTimely W.contents S.step S.fails S.moment writer.old writer.new session.old session.new }
 {
     match LineBuffer::new(alloc) {
         Ok(mut held) => serve_lines(alloc, reader, writer, session, &mut held, reads),
@@ -137,10 +137,10 @@ fn serve_lines<R: Read, W: Write, S: Session>(
     requires reads { reads ≤ 2 ^ 40 }
     ensures ok { IfOk result (Serves R.remaining W.contents S.step
         reader.old reader.new writer.old writer.new session.old session.new) }
-    ensures fault { IfErr result (Stops R.remaining W.contents S.step S.spends reads
+    ensures fault { IfErr result (Stops R.remaining W.contents S.step S.fails reads
         reader.old reader.new writer.old writer.new session.old session.new) }
     ensures reads { MadeAtMost reads reader.old reader.new }
-    ensures timely { IsTimely W.contents S.step S.spends S.moment writer.old writer.new session.old session.new }
+    ensures timely { IsTimely W.contents S.step S.fails S.moment writer.old writer.new session.old session.new }
 {
     let mut piece = [0u8; PIECE];
     let mut served = Served::NOTHING;
@@ -170,10 +170,10 @@ fn take_piece<W: Write, S: Session>(
     requires { has_failed writer.old ≡ false }
     ensures ok { IfOk result (Takes W.contents S.step
         writer.old writer.new session.old held.old piece.now session.new held.new) }
-    ensures fault { IfErr result (Breaks W.contents S.step S.spends
+    ensures fault { IfErr result (Breaks W.contents S.step S.fails
         writer.old writer.new session.old (ended_kept held.old piece.now) session.new) }
     ensures timely { OnOk result (IsTimelySoFar W.contents S.step S.moment writer.old writer.new session.old session.new) }
-    ensures broken { OnErr result (IsTimely W.contents S.step S.spends S.moment writer.old writer.new session.old session.new) }
+    ensures broken { OnErr result (IsTimely W.contents S.step S.fails S.moment writer.old writer.new session.old session.new) }
 {
     let mut served = Served::NOTHING;
     for byte in piece {
@@ -197,10 +197,10 @@ fn finish<W: Write, S: Session>(
     requires { has_failed writer.old ≡ false }
     ensures ok { IfOk result (Answers W.contents S.step
         writer.old writer.new session.old (last_line held.now) session.new) }
-    ensures fault { IfErr result (Breaks W.contents S.step S.spends
+    ensures fault { IfErr result (Breaks W.contents S.step S.fails
         writer.old writer.new session.old (last_line held.now) session.new) }
     ensures timely { OnOk result (IsTimelySoFar W.contents S.step S.moment writer.old writer.new session.old session.new) }
-    ensures broken { OnErr result (IsTimely W.contents S.step S.spends S.moment writer.old writer.new session.old session.new) }
+    ensures broken { OnErr result (IsTimely W.contents S.step S.fails S.moment writer.old writer.new session.old session.new) }
 {
     if held.is_empty() {
         return Ok(Served::NOTHING);
@@ -217,10 +217,10 @@ fn answer<W: Write, S: Session>(
     requires { has_failed writer.old ≡ false }
     ensures ok { IfOk result (Answers W.contents S.step
         writer.old writer.new session.old (line.now ∷ []) session.new) }
-    ensures fault { IfErr result (Breaks W.contents S.step S.spends
+    ensures fault { IfErr result (Breaks W.contents S.step S.fails
         writer.old writer.new session.old (line.now ∷ []) session.new) }
     ensures timely { OnOk result (IsTimelySoFar W.contents S.step S.moment writer.old writer.new session.old session.new) }
-    ensures broken { OnErr result (IsTimely W.contents S.step S.spends S.moment writer.old writer.new session.old session.new) }
+    ensures broken { OnErr result (IsTimely W.contents S.step S.fails S.moment writer.old writer.new session.old session.new) }
 {
     let Message { by, call } = match decode(alloc, line) {
         Ok(message) => message,
@@ -229,10 +229,10 @@ fn answer<W: Write, S: Session>(
             return Ok(Served { lines: 1, calls: 0 });
         }
     };
-    let Ok(reply) = session.call(&by, call) else {
-        return Err(ServeFault::Spent);
+    let Ok(answer) = session.call(&by, call) else {
+        return Err(ServeFault::NoAnswer);
     };
-    let Ok(text) = encode(alloc, &reply) else {
+    let Ok(text) = encode_answer(alloc, &answer) else {
         return Err(ServeFault::OutOfMemory);
     };
     write_line(writer, &*session, text.as_str())?;

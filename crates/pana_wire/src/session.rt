@@ -1,23 +1,44 @@
+use crate::answer::{Answer, NoAnswer};
 use pana_copies::DeviceName;
-use pana_hall::{Call, Reply, Spent};
+use pana_hall::{Call, Hall};
 
 /// What answers the calls of a session: a hall, or a share in one.
 pub trait Session {
     ghost use Rattle.std.specs.Prelude.{List, ℕ, IfOk, OnErr};
     ghost use Rattle.pana_hall.specs.declared.call.Call.{Call};
-    ghost use Rattle.pana_hall.specs.declared.reply.Reply.{Reply};
+    ghost use Rattle.pana_wire.specs.declared.answer.Answer.{Answer};
 
-    // What one call does: the state, the device that calls, its call, the reply, and the state after.
-    ghost step: { Self → List ℕ → Call → Reply → Self → Type 0 };
+    // What one call does: the state, the device that calls, its call, the answer, and the state after.
+    ghost step: { Self → List ℕ → Call → Answer → Self → Type 0 };
 
     // How many things have happened to what the session keeps its state in.
     ghost moment: { Self → ℕ } = { λ s. 0 };
 
-    // What a call that isn't made leaves: the state, and the state after. An impl may leave it open.
-    ghost spends: { Self → Self → Type 0 } = { λ old new. Unit {0} };
+    // What a call that has no answer does: the state, the device that calls, its call, and the state after. An impl may
+    // leave it open.
+    ghost fails: { Self → List ℕ → Call → Self → Type 0 } = { λ old by call new. Unit {0} };
 
-    /// Makes a call for the device. `Spent` says that no call is left, and this one wasn't made.
-    fn call(&mut self, by: &DeviceName, call: Call) -> Result<Reply, Spent>
-        ensures step { IfOk result (λ reply. step self.old by.now call reply self.new) }
-        ensures spent { OnErr result (spends self.old self.new) };
+    /// Makes a call for the device.
+    fn call(&mut self, by: &DeviceName, call: Call) -> Result<Answer, NoAnswer>
+        ensures step { IfOk result (λ answer. step self.old by.now call answer self.new) }
+        ensures fails { OnErr result (fails self.old by.now call self.new) };
+
+    /// Whether a report takes as long as a disk does.
+    fn is_slow(&self) -> bool {
+        false
+    }
+}
+
+/// A hall by itself.
+impl Session for Hall {
+    ghost use Rattle.pana_wire.specs.Answer.{Replies};
+
+    ghost step = { Replies };
+
+    ghost fails = { λ old by call new. ⊥ };
+
+    /// Makes the call on the hall: it always has an answer.
+    fn call(&mut self, by: &DeviceName, call: Call) -> Result<Answer, NoAnswer> {
+        Ok(Answer::Given(self.apply(by, call)))
+    }
 }

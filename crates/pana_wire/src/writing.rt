@@ -3,13 +3,18 @@ ghost use Rattle.serde_json.specs.View.{view};
 ghost use Rattle.pana_hall.specs.declared.reply.Reply.TheVariants.{Journal};
 ghost use Rattle.pana_wire.specs.inner.Names.{HasEntryNames, HasReplyNames};
 ghost use Rattle.pana_wire.specs.Dump.{IsReadBack, IsEntryLine, dump_says, entry_text};
+ghost use Rattle.pana_wire.specs.Answer.{answer_text};
 ghost use Rattle.pana_wire.specs.Reply.{row_data, rows_data, numbers_data, board_data, stamp_data, stamps_data, family_data, families_data, holding_data, holdings_data, refused_data, reply_data, reply_text};
 
+use crate::answer::Answer;
 use crate::report_writing::{entries_value, entry_value};
 use pana_hall::{BoardRow, BoardView, Cause, CopyStamp, FamilyRow, Holding, Reply};
 use pana_journal::Entry;
 use serde_json::{Value, json};
 use std::alloc::{AllocError, Global};
+
+/// The line that answers a report which isn't kept.
+const NOT_KEPT: &str = "{\"code\":14,\"refused\":\"NotKept\"}";
 
 /// The line that answers a call with this reply: an object in JSON with no blank, its names in byte order. `decode_dump`
 /// reads the line of a `Journal` back as its entries, where there are at most 100, as a hall returns, or the line has at
@@ -22,6 +27,18 @@ pub fn encode(alloc: Global, reply: &Reply) -> Result<String, AllocError>
 {
     let value = reply_value(alloc, reply)?;
     value.to_string(alloc)
+}
+
+/// The line that answers a call with this answer.
+///
+/// It takes memory as `encode` does, and fails only where that runs out.
+pub fn encode_answer(alloc: Global, answer: &Answer) -> Result<String, AllocError>
+    ensures { IfOk result (λ text. string_bytes text ≡ answer_text answer.now) }
+{
+    match answer {
+        Answer::Given(reply) => encode(alloc, reply),
+        Answer::NotKept => String::from_str(alloc, NOT_KEPT),
+    }
 }
 
 /// The line of a dump that has this entry alone, with its newline: the answer to `journal` where it would have just the

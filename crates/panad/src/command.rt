@@ -2,16 +2,16 @@ use crate::daemon::{self, Wishes};
 use crate::descriptors::take_standard_descriptors;
 use crate::fault::ProgramFault;
 use crate::keeping::{run_kept, show_kept};
-use crate::printing::{complain, output, print_answer, print_text};
+use crate::printing::{complain, output, print_out, print_text};
 use crate::progress::Progress;
 use crate::version::VERSION;
 use clap::error::{Error, ErrorKind};
 use clap::{Arg, ArgAction, ArgMatches, Command, value_parser};
-use pana_commands::{Answer, compare_on, load_on, run_on, scan_on, show_on};
-use pana_host::Patience;
-use pana_keep::ends_journal;
-use pana_kept::before_end;
+use pana_commands::{Printout, compare_on, load_on, run_on, scan_on, show_on};
+use pana_daemon::Patience;
+use pana_log::ends_journal;
 use pana_scan::SystemDisk;
+use pana_store::before_end;
 use pana_wire::Tap;
 use std::alloc::{AllocError, Global};
 use std::io::Read;
@@ -309,7 +309,7 @@ fn scan(rt: &HostRuntime, words: &ArgMatches) -> Result<ExitCode, ProgramFault> 
     let device = words.get_str(DEVICE).unwrap_or("");
     let folder = words.get_str(DIR).unwrap_or("");
     let mut progress = Progress::new(rt);
-    let answer = scan_on(
+    let printout = scan_on(
         rt.alloc(),
         &mut SystemDisk::new(rt),
         device,
@@ -317,14 +317,14 @@ fn scan(rt: &HostRuntime, words: &ArgMatches) -> Result<ExitCode, ProgramFault> 
         &mut progress,
     );
     progress.end();
-    print_answer(rt, &answer?)
+    print_out(rt, &printout?)
 }
 
 fn compare(rt: &HostRuntime, words: &ArgMatches) -> Result<ExitCode, ProgramFault> {
     // Both words are required, so they are there.
     let first = words.get_str(FIRST).unwrap_or("");
     let second = words.get_str(SECOND).unwrap_or("");
-    print_answer(rt, &compare_on(rt.alloc(), first, second)?)
+    print_out(rt, &compare_on(rt.alloc(), first, second)?)
 }
 
 fn serve<T: Threads + Wait + Clock + Sync>(
@@ -374,7 +374,7 @@ fn bytes_of_input(rt: &HostRuntime) -> Result<Vec<u8>, ProgramFault> {
 
 fn cannot_read(rt: &HostRuntime, name: &str) -> Result<ExitCode, ProgramFault> {
     let text = format!(in rt.alloc(); "cannot read {name}")?;
-    print_answer(rt, &Answer::reported(rt.alloc(), &text)?)
+    print_out(rt, &Printout::reported(rt.alloc(), &text)?)
 }
 
 fn show(rt: &HostRuntime, words: &ArgMatches) -> Result<ExitCode, ProgramFault> {
@@ -388,7 +388,7 @@ fn show(rt: &HostRuntime, words: &ArgMatches) -> Result<ExitCode, ProgramFault> 
         },
         None => bytes_of_input(rt)?,
     };
-    print_answer(rt, &show_on(rt.alloc(), bytes.as_slice())?)
+    print_out(rt, &show_on(rt.alloc(), bytes.as_slice())?)
 }
 
 fn load(rt: &HostRuntime, words: &ArgMatches) -> Result<ExitCode, ProgramFault> {
@@ -404,9 +404,9 @@ fn load(rt: &HostRuntime, words: &ArgMatches) -> Result<ExitCode, ProgramFault> 
     };
     if !is_journal {
         let text = format!(in rt.alloc(); "journal {name}: not a journal")?;
-        return print_answer(rt, &Answer::reported(rt.alloc(), &text)?);
+        return print_out(rt, &Printout::reported(rt.alloc(), &text)?);
     }
-    print_answer(rt, &load_on(rt.alloc(), lines)?)
+    print_out(rt, &load_on(rt.alloc(), lines)?)
 }
 
 /// Prints help, or what is wrong with the words, and returns the status for it.

@@ -1,15 +1,15 @@
 //! `panad serve`.
+ghost use Rattle.std.specs.Prelude.{◌≤◌, length};
 
 use crate::fault::ProgramFault;
-use crate::keeping::open_hall;
-use crate::printing::print_answer;
-use pana_commands::Answer;
-use pana_daemon::{DaemonFault, RootFault, roots_of};
+use crate::keeping::open_store;
+use crate::printing::print_out;
+use pana_commands::Printout;
+use pana_daemon::{DaemonFault, LateFault, Listener, Patience, Root, RootFault, roots_of};
 use pana_hall::Hall;
-use pana_host::{Entrance, Patience};
-use pana_kept::Store;
+use pana_wire::Session;
 use std::io;
-use std::marker::Sync;
+use std::marker::{Send, Sync};
 use std::net::{Ipv4Addr, SocketAddr, TcpListener};
 use std::process::ExitCode;
 use std::sync::Wait;
@@ -35,27 +35,58 @@ fn listener_on(rt: &HostRuntime, port: u16) -> io::Result<(TcpListener, SocketAd
 
 /// Prints one line on standard error, and returns the status for it.
 fn complain(rt: &HostRuntime, text: &String) -> Result<ExitCode, ProgramFault> {
-    print_answer(rt, &Answer::reported(rt.alloc(), text)?)
+    print_out(rt, &Printout::reported(rt.alloc(), text)?)
 }
 
-/// The store that all sessions share: with the hall of a journal's file, or a new hall; or the status, where a line says why there is
-/// none.
-fn store_of(
+/// The status for what the daemon ended with early, which is printed where it hasn't been.
+fn report(rt: &HostRuntime, port: u16, fault: DaemonFault) -> Result<ExitCode, ProgramFault> {
+    let alloc = rt.alloc();
+    match fault {
+        DaemonFault::OutOfMemory => Err(ProgramFault::OutOfMemory),
+        DaemonFault::Write => Err(ProgramFault::Write),
+        DaemonFault::NoThreads => complain(rt, &format!(in alloc; "cannot make threads")?),
+        DaemonFault::NoDescriptor => {
+            complain(rt, &format!(in alloc; "cannot listen on port {port}")?)
+        }
+    }
+}
+
+/// Serves connections and scans the roots at a desk with this session, and returns the status.
+fn serve_session<S: Session + Send + Drop, T: Threads + Wait + Clock + Sync>(
     rt: &HostRuntime,
-    journal: Option<&str>,
-) -> Result<Result<Store, ExitCode>, ProgramFault> {
-    let Some(name) = journal else {
-        let hall = Hall::new(rt.alloc()).map_err(|_| ProgramFault::OutOfMemory)?;
-        return Ok(Ok(Store::alone(hall)));
+    threads: &T,
+    wishes: Wishes,
+    bound: (TcpListener, SocketAddr),
+    roots: &[Root<'_>],
+    session: S,
+) -> Result<ExitCode, ProgramFault>
+    requires { length roots.now ≤ 8 }
+{
+    let Wishes {
+        port,
+        wanted,
+        patience,
+        stays,
+    } = wishes;
+    let (listener, address) = bound;
+    let listener = Listener {
+        listener,
+        wanted,
+        patience,
     };
-    match open_hall(rt, name)? {
-        Ok(hall) => Ok(Ok(Store::kept(hall))),
-        Err(status) => Ok(Err(status)),
+    match pana_daemon::serve(rt, threads, &address, listener, stays, roots, session) {
+        Ok(end) => match end.fault {
+            None => Ok(ExitCode::SUCCESS),
+            Some(LateFault::Unanswered) => Ok(ExitCode::FAILURE), // it has been printed
+            Some(LateFault::NoThreads) => report(rt, port, DaemonFault::NoThreads),
+        },
+        Err(fault) => report(rt, port, fault),
     }
 }
 
 /// Listens on a port of 127.0.0.1, and serves sessions and scans the roots that the words name, until as many sessions
-/// were served as are wanted and, where there is a root, standard input has ended.
+/// were served as are wanted and, where there is a root, standard input has ended. All share a new hall, or the store of
+/// a journal's file.
 pub fn serve<T: Threads + Wait + Clock + Sync>(
     rt: &HostRuntime,
     threads: &T,
@@ -63,13 +94,7 @@ pub fn serve<T: Threads + Wait + Clock + Sync>(
     journal: Option<&str>,
     words: &[&str],
 ) -> Result<ExitCode, ProgramFault> {
-    let alloc = rt.alloc();
-    let Wishes {
-        port,
-        wanted,
-        patience,
-        stays,
-    } = wishes;
+    let (alloc, port) = (rt.alloc(), wishes.port);
     let roots = match roots_of(alloc, words) {
         Ok(roots) => roots,
         Err(RootFault::OutOfMemory) => return Err(ProgramFault::OutOfMemory),
@@ -77,34 +102,15 @@ pub fn serve<T: Threads + Wait + Clock + Sync>(
             return complain(rt, &format!(in alloc; "bad root {word}")?);
         }
     };
-    let Ok((listener, address)) = listener_on(rt, port) else {
+    let Ok(bound) = listener_on(rt, port) else {
         return complain(rt, &format!(in alloc; "cannot listen on port {port}")?);
     };
-    let hall = match store_of(rt, journal)? {
-        Ok(hall) => hall,
-        Err(status) => return Ok(status),
+    let Some(name) = journal else {
+        let hall = Hall::new(alloc)?;
+        return serve_session(rt, threads, wishes, bound, roots.as_slice(), hall);
     };
-    let entrance = Entrance {
-        listener,
-        wanted,
-        patience,
-    };
-    match pana_daemon::serve(
-        rt,
-        threads,
-        &address,
-        entrance,
-        stays,
-        roots.as_slice(),
-        hall,
-    ) {
-        Ok(_) => Ok(ExitCode::SUCCESS),
-        Err(DaemonFault::Unanswered) => Ok(ExitCode::FAILURE), // it has been printed
-        Err(DaemonFault::OutOfMemory) => Err(ProgramFault::OutOfMemory),
-        Err(DaemonFault::Write) => Err(ProgramFault::Write),
-        Err(DaemonFault::NoThreads) => complain(rt, &format!(in alloc; "cannot make threads")?),
-        Err(DaemonFault::NoDescriptor) => {
-            complain(rt, &format!(in alloc; "cannot listen on port {port}")?)
-        }
+    match open_store(rt, name)? {
+        Ok(store) => serve_session(rt, threads, wishes, bound, roots.as_slice(), store),
+        Err(status) => Ok(status),
     }
 }

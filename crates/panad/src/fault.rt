@@ -23,7 +23,7 @@ pub enum ProgramFault {
 impl ProgramFault {
     /// The fault of serving, which on a hall of one's own is never spent. It is printed as the same text.
     pub fn of_serving(fault: ServeFault) -> ProgramFault
-        requires { fault ≢ ServeFault.Spent }
+        requires { fault ≢ ServeFault.NoAnswer }
         ensures { shown result ≡ shown_stop fault }
     {
         match fault {
@@ -31,7 +31,7 @@ impl ProgramFault {
             ServeFault::Write => ProgramFault::Write,
             ServeFault::OutOfMemory => ProgramFault::OutOfMemory,
             ServeFault::Turns => ProgramFault::TooManyReads,
-            ServeFault::Spent => unreachable!(),
+            ServeFault::NoAnswer => unreachable!(),
         }
     }
 }

@@ -1,7 +1,7 @@
 //! What the program prints. A terminal gets each text as `pana_terminal` shows it.
 
 use crate::fault::ProgramFault;
-use pana_commands::Answer;
+use pana_commands::Printout;
 use pana_terminal::{Screen, shown};
 use std::io::{self, BufWriter, IsTerminal, Printer};
 use std::process::ExitCode;
@@ -37,10 +37,10 @@ pub fn complain(rt: &HostRuntime, text: &str) -> Result<(), ProgramFault> {
 }
 
 /// Prints both texts, and returns the status. That standard error can't be written is no fault.
-pub fn print_answer(rt: &HostRuntime, answer: &Answer) -> Result<ExitCode, ProgramFault> {
-    print_text(rt, &answer.out)?;
-    match complain(rt, &answer.err) {
-        Ok(()) | Err(ProgramFault::Write) => Ok(ExitCode::from(answer.status)),
+pub fn print_out(rt: &HostRuntime, printout: &Printout) -> Result<ExitCode, ProgramFault> {
+    print_text(rt, &printout.out)?;
+    match complain(rt, &printout.err) {
+        Ok(()) | Err(ProgramFault::Write) => Ok(ExitCode::from(printout.status)),
         Err(fault) => Err(fault),
     }
 }

@@ -1,9 +1,8 @@
 use Rattle.std.proofs.Common.{subst}
 use Rattle.std.specs.Prelude.{MatchResult}
 use Rattle.std.proofs.lemmas.Result.{IfOk-weaker}
-use Rattle.pana_wire.specs.DumpLines.{Say}
-use Rattle.pana_wire.specs.inner.Slices.{texts}
-use Rattle.pana_commands.specs.Load.{HasFault}
+use Rattle.pana_wire.specs.DumpLines.{Say, HasFault}
+use Rattle.pana_wire.specs.Lines.{texts}
 use Rattle.pana_commands.proofs.Reported.{line_reported}
 use Rattle.pana_commands.proofs.loading.answer_lines.Goals as goal
 

@@ -1,6 +1,6 @@
 use Rattle.std.proofs.Common.{inl, ap, ◌∙◌, subst}
 use Rattle.std.proofs.lemmas.Result.{IfOk-weaker}
-use Rattle.pana_wire.specs.inner.Slices.{texts}
+use Rattle.pana_wire.specs.Lines.{texts}
 use Rattle.pana_seal.specs.Seal.{IsIntact, IsDamagedAt, IsSealFault}
 use Rattle.pana_commands.specs.Load.{AnswersLines}
 use Rattle.pana_commands.proofs.Reported.{damage_reported}

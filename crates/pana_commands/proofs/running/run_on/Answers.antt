@@ -1,15 +1,15 @@
 -- What is served begins with the new hall's journal, which is empty.
 use Rattle.std.proofs.Common.{inl, inr, subst}
 use Rattle.std.proofs.lemmas.Result.{IfOk-weaker, IfErr-weaker}
-use Rattle.pana_hall.specs.Step.{Steps}
+use Rattle.pana_wire.specs.Answer.{Replies}
 use Rattle.pana_wire.specs.Session.{Serves, Stops, NeverBegins}
 use Rattle.pana_commands.specs.Never.{IsNever}
-use Rattle.pana_commands.proofs.NeverSpent.{never_spent}
+use Rattle.pana_commands.proofs.AlwaysAnswered.{always_answered}
 use Rattle.pana_commands.proofs.running.run_on.Goals as goal
 
 pub returns-in-Ok-clause-ok : goal.returns-in-Ok-clause-ok
 returns-in-Ok-clause-ok g c = IfOk-weaker c.serve.result _ _
-    (λ served said. (c.serve.new.session, subst (λ old. Serves g.R.Read.remaining g.W.Write.contents Steps c.args.reader.now c.serve.new.reader c.args.writer.now c.serve.new.writer old c.serve.new.session served) c.in-Ok.ensures said))
+    (λ served said. (c.serve.new.session, subst (λ old. Serves g.R.Read.remaining g.W.Write.contents Replies c.args.reader.now c.serve.new.reader c.args.writer.now c.serve.new.writer old c.serve.new.session served) c.in-Ok.ensures said))
     c.serve.ensures.ok
 
 pub returns-in-Ok-clause-fault : goal.returns-in-Ok-clause-fault
@@ -18,12 +18,12 @@ returns-in-Ok-clause-fault g c = IfErr-weaker c.serve.result _ _
       c.serve.new.session,
       elim said [
         | inl nothing ↦ inl (subst (λ old. NeverBegins c.args.reader.now c.serve.new.reader c.args.writer.now c.serve.new.writer old c.serve.new.session fault) c.in-Ok.ensures nothing)
-        | inr stops ↦ inr (subst (λ old. Stops g.R.Read.remaining g.W.Write.contents Steps IsNever c.args.reads c.args.reader.now c.serve.new.reader c.args.writer.now c.serve.new.writer old c.serve.new.session fault) c.in-Ok.ensures stops)
+        | inr stops ↦ inr (subst (λ old. Stops g.R.Read.remaining g.W.Write.contents Replies IsNever c.args.reads c.args.reader.now c.serve.new.reader c.args.writer.now c.serve.new.writer old c.serve.new.session fault) c.in-Ok.ensures stops)
       ],
     ))
     c.serve.ensures.fault
 
-pub returns-in-Ok-clause-never_spent : goal.returns-in-Ok-clause-never_spent
-returns-in-Ok-clause-never_spent g c = IfErr-weaker c.serve.result _ _
-    (λ fault said. elim said [ inl nothing ↦ (λ spent. absurd (cc (spent, nothing.memory))) | inr stops ↦ never_spent Steps fault _ _ stops.input stops.output _ stops.ends ])
+pub returns-in-Ok-clause-answered : goal.returns-in-Ok-clause-answered
+returns-in-Ok-clause-answered g c = IfErr-weaker c.serve.result _ _
+    (λ fault said. elim said [ inl nothing ↦ (λ none. absurd (cc (none, nothing.memory))) | inr stops ↦ always_answered Replies fault _ _ stops.input stops.output _ stops.ends ])
     c.serve.ensures.fault

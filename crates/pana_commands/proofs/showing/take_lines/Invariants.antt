@@ -1,5 +1,5 @@
 use Rattle.std.proofs.Common.{take, string_bytes}
-use Rattle.pana_wire.specs.inner.Slices.{texts}
+use Rattle.pana_wire.specs.Lines.{texts}
 use Rattle.pana_commands.specs.Show.{TakesLines}
 use Rattle.pana_commands.proofs.showing.take_lines.Given as goal
 

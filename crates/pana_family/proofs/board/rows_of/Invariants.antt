@@ -1,7 +1,4 @@
-use Rattle.std.proofs.Common.{◌≡◌, map, take}
-use Rattle.pana_rel.specs.Board.{counts_of}
-use Rattle.pana_rel.specs.Pairs.{own_number, rel_of}
-use Rattle.pana_family.specs.Board.{row_of}
+use Rattle.pana_family.proofs.Words.{◌≡◌, map, take, counts_of, own_number, rel_of, row_of}
 use Rattle.pana_family.proofs.board.rows_of.Given as goal
 
 abbrev pub invariant-loop-copy : goal.invariant-loop-copy

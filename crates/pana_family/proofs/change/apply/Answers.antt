@@ -1,7 +1,4 @@
-use Rattle.std.proofs.Common.{sym, refl, ◌∙◌, ap, ◌≡◌, ℕ, set}
-use Rattle.pana_family.specs.declared.change.Change.{Change}
-use Rattle.pana_family.specs.Rows.{IsRising, row_at}
-use Rattle.pana_family.specs.Change.{changed, mapped, with_event, with_touch}
+use Rattle.pana_family.proofs.Words.{sym, refl, ◌∙◌, ap, ◌≡◌, ℕ, set, Change, IsRising, row_at, changed, mapped, with_event, with_touch}
 use Rattle.pana_family.proofs.Inverses.{mapped_at}
 use Rattle.pana_family.proofs.change.apply.Goals as goal
 

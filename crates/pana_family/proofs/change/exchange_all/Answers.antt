@@ -1,11 +1,4 @@
-use Rattle.std.proofs.lemmas.Bool.Decides.{nat_tests}
-use Rattle.std.proofs.Common.{◌∙◌, ap, ◌≡◌, ◌∷◌, [], ℕ, Option, get_or, set, arith}
-use Rattle.std.proofs.lemmas.List.{set-set}
-use Rattle.pana_family.specs.declared.row.StampRow.{StampRow}
-use Rattle.pana_family.specs.declared.change.Exchange.{Exchange}
-use Rattle.pana_family.specs.declared.change.Exchange.TheVariants.{Take}
-use Rattle.pana_family.specs.Change.{puts}
-use Rattle.pana_family.specs.Rows.{row_at}
+use Rattle.pana_family.proofs.Words.{nat_tests, ◌∙◌, ap, ◌≡◌, ◌∷◌, [], ℕ, Option, get_or, set, arith, StampRow, Exchange, Take, puts, row_at, set-set}
 use Rattle.pana_family.proofs.Inverses.{Halfway, halfway}
 use Rattle.pana_family.proofs.change.exchange_all.Goals as goal
 

@@ -1,6 +1,4 @@
-use Rattle.std.proofs.Common.{◌≡◌, ◌≤◌, ◌+◌, ◌++◌, take, drop, vec_len, vec_capacity}
-use Rattle.pana_family.specs.Rows.{IsRising, row_at}
-use Rattle.pana_family.specs.Change.{placed_all, formers, puts}
+use Rattle.pana_family.proofs.Words.{◌≡◌, ◌≤◌, ◌+◌, ◌++◌, take, drop, IsRising, row_at, placed_all, formers, puts, vec_len, vec_capacity}
 use Rattle.pana_family.proofs.change.exchange_all.Given as goal
 
 abbrev pub invariant-loop-at : goal.invariant-loop-at

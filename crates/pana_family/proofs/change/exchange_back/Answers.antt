@@ -1,5 +1,4 @@
-use Rattle.std.proofs.lemmas.Bool.Decides.{nat_tests}
-use Rattle.std.proofs.Common.{◌∙◌, ap, arith, reverse}
+use Rattle.pana_family.proofs.Words.{nat_tests, ◌∙◌, ap, arith, reverse}
 use Rattle.pana_family.proofs.Inverses.{puts_reversed}
 use Rattle.pana_family.proofs.change.exchange_back.Goals as goal
 

@@ -1,8 +1,5 @@
-use Rattle.std.proofs.Common.{◌∙◌, ap, ◌≡◌, ℕ, List, arith}
-use Rattle.std.specs.List.{insert}
-use Rattle.pana_family.specs.declared.row.StampRow.{StampRow}
-use Rattle.pana_family.proofs.Places.{index_from, put_back_insert, place_from_within}
-use Rattle.pana_family.proofs.Inverses.{absent_at}
+use Rattle.pana_family.proofs.Words.{◌∙◌, ap, ◌≡◌, ℕ, List, arith, insert, StampRow}
+use Rattle.pana_family.proofs.{Places.index_from, Places.put_back_insert, Places.place_from_within, Inverses.absent_at}
 use Rattle.pana_family.proofs.change.insert_row.Goals as goal
 
 pub insert-requires : goal.insert-requires

@@ -1,10 +1,5 @@
-use Rattle.std.proofs.Common.{arith}
-use Rattle.std.proofs.lemmas.Bool.Decides.{nat_tests}
-use Rattle.std.proofs.Common.{sym, ◌∙◌, ap, ◌≡◌, ◌<◌, List, Some, subst, length, get_or}
-use Rattle.pana_family.specs.declared.row.StampRow.{StampRow}
-use Rattle.pana_family.specs.Rows.{row_at}
-use Rattle.pana_family.proofs.Places.{remove_is}
-use Rattle.pana_family.proofs.Inverses.{named_at, dropped_same}
+use Rattle.pana_family.proofs.Words.{arith, nat_tests, sym, ◌∙◌, ap, ◌≡◌, ◌<◌, List, Some, subst, length, get_or, StampRow, row_at}
+use Rattle.pana_family.proofs.{Places.dropped_none, Places.remove_is, Places.row_in_at, Inverses.named_at}
 use Rattle.pana_family.proofs.change.take_row.Goals as goal
 
 found : (c : goal.After-remove) → (c.in-Some.at < length c.args.items.now.items) × (row_at c.args.items.now.items c.args.copy ≡ Some c.remove.result)
@@ -22,4 +17,4 @@ returns-in-Some-clause-items c =
     (ap (λ (r : StampRow). r.copy) (sym c.remove.ensures.value) ∙ named_at rows c.args.copy c.remove.result (found c).1)
 
 pub returns-in-None-clause-items : goal.returns-in-None-clause-items
-returns-in-None-clause-items c = grind (arith, nat_tests, dropped_same)
+returns-in-None-clause-items c = grind (arith, nat_tests, dropped_none, row_in_at)

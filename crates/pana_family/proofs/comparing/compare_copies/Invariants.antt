@@ -1,6 +1,4 @@
-use Rattle.std.proofs.Common.{◌≡◌, drop, map}
-use Rattle.pana_family.specs.Change.{number_of}
-use Rattle.pana_family.specs.inner.Comparing.{AreCompared, HasCopies, most}
+use Rattle.pana_family.proofs.Words.{◌≡◌, drop, map, number_of, AreCompared, HasCopies, most}
 use Rattle.pana_family.proofs.comparing.compare_copies.Given as goal
 
 abbrev pub invariant-loop-new : goal.invariant-loop-new

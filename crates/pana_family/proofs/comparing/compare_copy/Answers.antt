@@ -1,14 +1,6 @@
-use Rattle.std.proofs.lemmas.Bool.Decides.{nat_tests}
-use Rattle.std.proofs.Common.{ap, sym, subst, refl, ◌∙◌, ◌∷◌, List, ℕ, filter, length, take, arith}
-use Rattle.std.proofs.lemmas.List.{length-map}
-use Rattle.pana_event.specs.declared.rel.Rel.{Rel}
-use Rattle.pana_rel.specs.Pairs.{Holds, rel_at, rel_of, with_row, without}
-use Rattle.pana_family.specs.declared.row.StampRow.{StampRow}
-use Rattle.pana_family.specs.Rows.{copy_rows, lives}
-use Rattle.pana_family.specs.inner.Comparing.{AreCompared, is_other, row_relation}
-use Rattle.pana_family.proofs.Compared.{copy_compared, others_length}
-use Rattle.pana_family.proofs.Copies.{copies_are}
-use Rattle.pana_family.proofs.Written.{IsRowAt, row_at}
+use Rattle.pana_family.proofs.Words.{nat_tests, ap, sym, subst, refl, ◌∙◌, ◌∷◌, List, ℕ, filter, length, take, arith, length-map, Rel, Holds, rel_at, rel_of, with_row, without, StampRow, copy_rows}
+use Rattle.pana_family.proofs.Words.{lives, AreCompared, is_other, row_relation}
+use Rattle.pana_family.proofs.{Compared.copy_compared, Compared.others_length, Copies.copies_are, Written.IsRowAt, Written.row_at}
 use Rattle.pana_family.proofs.comparing.compare_copy.Goals as goal
 
 pub write_relations-count-requires : goal.write_relations-count-requires

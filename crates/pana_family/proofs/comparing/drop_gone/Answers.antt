@@ -1,6 +1,4 @@
-use Rattle.std.proofs.Common.{◌∙◌, ◌∷◌, ◌+◌, List, ℕ, ap, drop, subst, sym, map, arith}
-use Rattle.pana_family.specs.Change.{number_of}
-use Rattle.pana_family.specs.inner.Comparing.{IsFollowed}
+use Rattle.pana_family.proofs.Words.{◌∙◌, ◌∷◌, ◌+◌, List, ℕ, ap, drop, subst, sym, map, arith, number_of, IsFollowed}
 use Rattle.pana_family.proofs.Following.{none_left, numbers_left}
 use Rattle.pana_family.proofs.comparing.drop_gone.Goals as goal
 

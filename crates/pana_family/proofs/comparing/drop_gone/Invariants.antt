@@ -1,6 +1,4 @@
-use Rattle.std.proofs.Common.{◌≡◌, List, ℕ, drop, map}
-use Rattle.pana_family.specs.Change.{number_of}
-use Rattle.pana_family.specs.inner.Comparing.{IsFollowed, most}
+use Rattle.pana_family.proofs.Words.{◌≡◌, List, ℕ, drop, map, number_of, IsFollowed, most}
 use Rattle.pana_family.proofs.comparing.drop_gone.Given as goal
 
 abbrev pub invariant-loop-new : goal.invariant-loop-new

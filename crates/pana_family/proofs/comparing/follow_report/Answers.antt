@@ -1,10 +1,4 @@
-use Rattle.std.proofs.Common.{List, ap, arith, length, subst, sym}
-use Rattle.pana_family.specs.declared.report.FamilyReport.{FamilyReport}
-use Rattle.pana_family.specs.declared.row.StampRow.{StampRow}
-use Rattle.pana_family.specs.Change.{after}
-use Rattle.pana_family.specs.Paired.{ArePaired}
-use Rattle.pana_family.specs.Report.{IsMade}
-use Rattle.pana_family.specs.Rows.{copy_rows}
+use Rattle.pana_family.proofs.Words.{List, ap, arith, length, subst, sym, FamilyReport, StampRow, after, ArePaired, IsMade, copy_rows}
 use Rattle.pana_family.proofs.Followed.{duplicate_paired, duplicate_room, edit_paired, new_copy}
 use Rattle.pana_family.proofs.comparing.follow_report.Goals as goal
 

@@ -1,7 +1,4 @@
-use Rattle.std.proofs.lemmas.Bool.Decides.{nat_tests}
-use Rattle.std.proofs.Common.{◌∙◌, ◌∷◌, ◌+◌, [], List, ℕ, ap, drop, subst, sym, map, arith, refl}
-use Rattle.pana_family.specs.Change.{number_of}
-use Rattle.pana_family.specs.inner.Comparing.{IsFollowed}
+use Rattle.pana_family.proofs.Words.{nat_tests, ◌∙◌, ◌∷◌, ◌+◌, [], List, ℕ, ap, drop, subst, sym, map, arith, refl, number_of, IsFollowed}
 use Rattle.pana_family.proofs.Following.{none_left, numbers_left}
 use Rattle.pana_family.proofs.comparing.put_coming.Goals as goal
 

@@ -1,5 +1,4 @@
-use Rattle.std.proofs.lemmas.Bool.Decides.{nat_tests}
-use Rattle.std.proofs.Common.{◌∙◌, sym, arith}
+use Rattle.pana_family.proofs.Words.{nat_tests, ◌∙◌, sym, arith}
 use Rattle.pana_family.proofs.Following.{not_had, room_for, was_put}
 use Rattle.pana_family.proofs.comparing.put_in.Goals as goal
 

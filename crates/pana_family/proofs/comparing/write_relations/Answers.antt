@@ -1,9 +1,5 @@
-use Rattle.std.proofs.lemmas.Bool.Decides.{nat_tests}
-use Rattle.std.proofs.Common.{ap, sym, ◌∙◌, ◌≡◌, ◌<◌, ◌∷◌, [], ◌++◌, ◌+◌, ℕ, Bool, true, List, take, map, filter, length, arith}
-use Rattle.std.proofs.lemmas.List.{length-append, map-append, take_more_set}
-use Rattle.pana_event.specs.declared.rel.Rel.{Rel}
-use Rattle.pana_family.specs.declared.row.StampRow.{StampRow}
-use Rattle.pana_family.specs.inner.Comparing.{is_other, row_relation}
+use Rattle.pana_family.proofs.Words.{nat_tests, ap, sym, ◌∙◌, ◌≡◌, ◌<◌, ◌∷◌, [], ◌++◌, ◌+◌, ℕ, Bool, true, List, take, map, filter, length, arith, length-append, map-append, Rel, StampRow, is_other}
+use Rattle.pana_family.proofs.Words.{row_relation, take_more_set}
 use Rattle.pana_family.proofs.Compared.{none_more, one_more, room_for_one}
 use Rattle.pana_family.proofs.comparing.write_relations.Goals as goal
 use Rattle.pana_family.proofs.comparing.write_relations.Goals.{then-is_other, else-is_other}

@@ -1,5 +1,4 @@
-use Rattle.std.proofs.Common.{◌≡◌, length, map, filter, take}
-use Rattle.pana_family.specs.inner.Comparing.{is_other, row_relation}
+use Rattle.pana_family.proofs.Words.{◌≡◌, length, map, filter, take, is_other, row_relation}
 use Rattle.pana_family.proofs.comparing.write_relations.Given as goal
 
 abbrev pub invariant-loop-other : goal.invariant-loop-other

@@ -1,12 +1,5 @@
-use Rattle.std.proofs.lemmas.Bool.Decides.{nat_tests}
-use Rattle.std.proofs.Common.{◌≡◌, ◌∷◌, ◌++◌, ◌+◌, [], List, ap, arith, get_or, length, subst, sym, take}
-use Rattle.std.proofs.lemmas.List.{take_more}
-use Rattle.pana_family.specs.declared.row.StampRow.{StampRow}
-use Rattle.pana_family.specs.Rows.{IsRising, copy_rows}
-use Rattle.pana_family.specs.inner.Comparing.{IsFollowed}
-use Rattle.pana_family.proofs.Compared.{fewer_taken}
-use Rattle.pana_family.proofs.Sums.{rising_take}
-use Rattle.pana_family.proofs.Following.{as_many, at_most_one, pushed_followed, reserved_paired}
+use Rattle.pana_family.proofs.Words.{nat_tests, ◌≡◌, ◌∷◌, ◌++◌, ◌+◌, [], List, arith, get_or, subst, sym, take, take_more, StampRow, IsRising, IsFollowed, filter-append, length-append}
+use Rattle.pana_family.proofs.{Compared.fewer_taken, Sums.rising_take, Following.as_many, Following.pushed_followed, Following.reserved_paired}
 use Rattle.pana_family.proofs.family.pairs_of.Goals as goal
 
 pub follow-requires-clause-few : goal.follow-requires-clause-few
@@ -21,13 +14,7 @@ follow-requires-clause-room c =
     let r : StampRow = get_or c.args.items.now c.loop-at.at c.index-items-at.result in
     let more : take (c.loop-at.at + 1) c.args.items.now ≡ rows ++ r ∷ [] = take_more c.args.items.now c.loop-at.at c.index-items-at.result c.loop-at-test.true in
     let p = reserved_paired rows c.loop-at.pairs c.reserve.new.self c.loop-at.invariant c.reserve.ensures.copies c.reserve.ensures.pairs in
-    omega (
-      arith,
-      at_most_one rows r,
-      ap (λ (l : List StampRow). length (copy_rows l)) more,
-      as_many rows c.reserve.new.self.copies (rising_take 0 c.loop-at.at c.args.items.now c.requires.rising) c.copies.ensures.rising p.copies,
-      c.in_ok-reserve.ensures.room,
-    )
+    grind (arith, nat_tests, filter-append, length-append, as_many, rising_take, c.requires.rising, c.copies.ensures.rising, c.in_ok-reserve.ensures.room)
 
 pub follow-requires-clause-followed : goal.follow-requires-clause-followed
 follow-requires-clause-followed c =

@@ -1,5 +1,4 @@
-use Rattle.std.proofs.Common.{take}
-use Rattle.pana_family.specs.Paired.{ArePaired}
+use Rattle.pana_family.proofs.Words.{take, ArePaired}
 use Rattle.pana_family.proofs.family.pairs_of.Given as goal
 
 abbrev pub invariant-loop-at : goal.invariant-loop-at

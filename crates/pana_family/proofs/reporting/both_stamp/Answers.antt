@@ -1,7 +1,4 @@
-use Rattle.std.proofs.Common.{ap, arith}
-use Rattle.pana_event.specs.Event.{greatest}
-use Rattle.pana_event.proofs.Sound.{greatest-joined}
-use Rattle.pana_stamp.specs.declared.stamp.Stamp.{Stamp}
+use Rattle.pana_family.proofs.Words.{ap, arith, greatest, greatest-joined, Stamp}
 use Rattle.pana_family.proofs.reporting.both_stamp.Goals as goal
 
 pub returns-clause-room : goal.returns-clause-room

@@ -1,6 +1,4 @@
-use Rattle.std.proofs.lemmas.Bool.Decides.{nat_tests}
-use Rattle.std.proofs.Common.{arith}
-use Rattle.pana_family.proofs.Planned.{edit_exact}
+use Rattle.pana_family.proofs.Words.{arith}
 use Rattle.pana_family.proofs.reporting.edit_change.Goals as goal
 
 pub updated_event-requires-clause-owner : goal.updated_event-requires-clause-owner
@@ -9,6 +7,3 @@ updated_event-requires-clause-owner c = c.requires.kept.stands.owning c.row_of.r
 pub updated_event-requires-clause-room : goal.updated_event-requires-clause-room
 updated_event-requires-clause-room c =
     omega (arith, c.requires.kept.levels c.row_of.result.now c.row_of.ensures.there, (c.requires.before c.row_of.result.now c.row_of.ensures.there).1, c.requires.fits)
-
-pub returns : goal.returns
-returns c = grind (arith, nat_tests, edit_exact)

@@ -1,10 +1,5 @@
-use Rattle.std.proofs.Common.{None, ap, subst, sym, ◌∙◌}
-use Rattle.pana_id.specs.Id.{Id, is_single}
-use Rattle.pana_stamp.specs.declared.stamp.Stamp.{Stamp}
-use Rattle.pana_family.specs.Rows.{row_in}
-use Rattle.pana_family.specs.inner.Making.{CanGather}
-use Rattle.pana_family.proofs.Keeps.{two_rows}
-use Rattle.pana_family.proofs.Shares.{parts_gather, whole_is}
+use Rattle.pana_family.proofs.Words.{None, ap, subst, sym, ◌∙◌, Id, is_single, Stamp, row_in, CanGather}
+use Rattle.pana_family.proofs.{Keeps.two_rows, Shares.parts_gather, Shares.whole_is}
 use Rattle.pana_family.proofs.reporting.share_change.Goals as goal
 
 pub halves-requires : goal.halves-requires

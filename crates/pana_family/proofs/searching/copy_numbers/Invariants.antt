@@ -1,5 +1,4 @@
-use Rattle.std.proofs.Common.{◌≡◌, map, take}
-use Rattle.pana_family.specs.Rows.{copy_rows}
+use Rattle.pana_family.proofs.Words.{◌≡◌, map, take, copy_rows}
 use Rattle.pana_family.proofs.searching.copy_numbers.Given as goal
 
 abbrev pub invariant-loop-row : goal.invariant-loop-row

@@ -1,8 +1,4 @@
-use Rattle.std.proofs.Common.{arith}
-use Rattle.std.proofs.lemmas.Bool.Decides.{nat_tests}
-use Rattle.std.proofs.Common.{List, Option, sym, ℕ}
-use Rattle.pana_family.specs.declared.row.StampRow.{StampRow}
-use Rattle.pana_family.specs.inner.Making.{planned}
+use Rattle.pana_family.proofs.Words.{arith, nat_tests, List, StampRow}
 use Rattle.pana_family.proofs.Places.{in_read}
 use Rattle.pana_family.proofs.Planned.{exchanged_more, one_becomes, one_goes, one_stays, planned_named}
 use Rattle.pana_family.proofs.settling.exchanges.Goals as goal
@@ -14,9 +10,5 @@ planned_fate-requires-clause-here c = in_read c.args.rows.now c.loop-row.row-ind
 pub loop-row-preserved : goal.loop-row-preserved
 loop-row-preserved c =
     let rows : List StampRow = c.args.rows.now in
-    let g : StampRow → Option StampRow = planned c.args.entry c.args.plan.now rows in
     let named = planned_named c.args.entry c.args.plan.now rows in
-    let r : StampRow = c.row-item.result in
-    let i : ℕ = c.loop-row.row-index in
-    let is = sym c.in_ok-planned_fate.ensures in
     grind (arith, nat_tests, in-Stays, one_stays, in-Goes+in_ok-push-in-Goes, exchanged_more, one_goes, in-Becomes+in_ok-push-in-Becomes, one_becomes)

@@ -1,6 +1,4 @@
-use Rattle.std.proofs.Common.{◌≡◌}
-use Rattle.pana_family.specs.Change.{exchanged_all}
-use Rattle.pana_family.specs.inner.Making.{planned}
+use Rattle.pana_family.proofs.Words.{◌≡◌, exchanged_all, planned}
 use Rattle.pana_family.proofs.Planned.{halfway}
 use Rattle.pana_family.proofs.settling.exchanges.Given as goal
 

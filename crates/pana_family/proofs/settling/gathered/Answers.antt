@@ -1,14 +1,5 @@
-use Rattle.std.proofs.Common.{arith}
-use Rattle.std.proofs.lemmas.Bool.Decides.{nat_tests}
-use Rattle.std.proofs.Common.{Bool, ap, cond, take, ◌+◌, ◌∙◌, ◌≡◌, ℕ}
-use Rattle.std.specs.Prelude.{List}
-use Rattle.pana_id.specs.Id.{Id, sum_of}
-use Rattle.pana_family.specs.declared.row.StampRow.{StampRow}
-use Rattle.pana_family.specs.After.{ends}
-use Rattle.pana_family.specs.Rows.{with_ids}
-use Rattle.pana_family.proofs.Places.{in_read}
-use Rattle.pana_family.proofs.Sums.{gather_apart, seen_more, with_more}
-use Rattle.pana_event.specs.Event.{Event}
+use Rattle.pana_family.proofs.Words.{arith, nat_tests, Bool, ap, cond, take, ◌+◌, ◌∙◌, ◌≡◌, ℕ, List, Id, sum_of, StampRow, ends, with_ids}
+use Rattle.pana_family.proofs.{Places.in_read, Sums.gather_apart, Sums.seen_more, Sums.with_more}
 use Rattle.pana_family.proofs.settling.gathered.Goals as goal
 use Rattle.pana_family.proofs.settling.gathered.Goals.{else-ends, then-ends+in_ok-id-2}
 
@@ -24,5 +15,4 @@ loop-other-preserved c =
     let n : ℕ = c.loop-other.other-index in
     let old : Id = with_ids test mine (take n rows) in
     let more : with_ids test mine (take (n + 1) rows) ≡ cond (test q) (sum_of old q.stamp.id) old = ap (with_ids test mine) (seen_more rows n q c.loop-other-test.true c.other-item.is) ∙ with_more test mine (take n rows) q in
-    let ended : c.ends.result ≡ test q = c.ends.ensures ∙ ap (λ (e : Event). ends c.args.from c.args.copy e q) c.event_tree.ensures in
     grind (arith, nat_tests, then-ends+in_ok-id-2, else-ends)

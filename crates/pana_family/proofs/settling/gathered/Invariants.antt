@@ -1,6 +1,4 @@
-use Rattle.std.proofs.Common.{take, ◌≡◌}
-use Rattle.pana_family.specs.After.{ends}
-use Rattle.pana_family.specs.Rows.{with_ids}
+use Rattle.pana_family.proofs.Words.{take, ◌≡◌, ends, with_ids}
 use Rattle.pana_family.proofs.settling.gathered.Given as goal
 
 abbrev pub invariant-loop-other : goal.invariant-loop-other

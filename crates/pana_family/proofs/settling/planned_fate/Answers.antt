@@ -1,6 +1,4 @@
-use Rattle.std.proofs.Common.{subst}
-use Rattle.pana_family.specs.declared.settling.Plan.{Plan}
-use Rattle.pana_family.specs.inner.Making.{CanPlan}
+use Rattle.pana_family.proofs.Words.{subst, Plan, CanPlan}
 use Rattle.pana_family.proofs.settling.planned_fate.Goals as goal
 
 pub bequeathed_fate-requires-clause-own : goal.bequeathed_fate-requires-clause-own

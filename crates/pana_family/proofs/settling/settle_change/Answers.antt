@@ -1,17 +1,7 @@
-use Rattle.std.proofs.Common.{Option, List, ap, arith, subst, sym, ◌++◌, ◌∙◌, ◌≡◌}
+use Rattle.pana_family.proofs.Words.{Option, List, ap, arith, subst, sym, ◌++◌, ◌∙◌, ◌≡◌, IfSome, append-nil, exchanged_all, put_back, Exchange, Put, StampRow, planned, option_to_list}
 use Rattle.std.specs.List.{filter_map}
-use Rattle.std.specs.Option.{option_to_list}
-use Rattle.std.specs.Prelude.{IfSome}
-use Rattle.std.proofs.lemmas.List.{append-nil}
 use Rattle.smallvec.specs.SmallVec.{SmallVec}
-use Rattle.pana_family.specs.Change.{exchanged_all}
-use Rattle.pana_family.specs.Rows.{put_back}
-use Rattle.pana_family.specs.declared.change.Exchange.{Exchange}
-use Rattle.pana_family.specs.declared.change.Exchange.TheVariants.{Put}
-use Rattle.pana_family.specs.declared.row.StampRow.{StampRow}
-use Rattle.pana_family.specs.inner.Making.{planned}
-use Rattle.pana_family.proofs.Images.{in_made}
-use Rattle.pana_family.proofs.Planned.{exchanged_more, planned_named, put_above}
+use Rattle.pana_family.proofs.{Images.in_made, Planned.exchanged_more, Planned.planned_named, Planned.put_above}
 use Rattle.pana_family.proofs.settling.settle_change.Goals as goal
 use Rattle.pana_family.proofs.settling.settle_change.Goals.{in-Some+in_ok-push, in_default}
 

@@ -1,9 +1,4 @@
-use Rattle.std.proofs.Common.{sym, ap, subst, ◌∙◌, ◌≡◌, ◌+◌, ◌++◌, ◌∷◌, [], List, take, inl, inr, arith}
-use Rattle.std.proofs.lemmas.List.{take_more, take_all}
-use Rattle.pana_id.specs.Id.{IsValid}
-use Rattle.pana_event.specs.Event.{IsSound}
-use Rattle.pana_family.specs.declared.row.StampRow.{StampRow}
-use Rattle.pana_family.specs.Table.{In}
+use Rattle.pana_family.proofs.Words.{sym, ap, subst, ◌∙◌, ◌≡◌, ◌+◌, ◌++◌, ◌∷◌, [], List, take, inl, inr, arith, take_more, IsValid, IsSound, StampRow, In, take_all}
 use Rattle.pana_family.proofs.Members.{in_append}
 use Rattle.pana_family.proofs.stamps.all_valid.Goals as goal
 

@@ -1,7 +1,4 @@
-use Rattle.std.proofs.Common.{◌≡◌, map, filter, take}
-use Rattle.pana_family.specs.Holders.{is_copy}
-use Rattle.pana_family.specs.Stamps.{text_of}
-use Rattle.pana_family.specs.Stamps.{row_text}
+use Rattle.pana_family.proofs.Words.{◌≡◌, map, filter, take, is_copy, text_of, row_text}
 use Rattle.pana_family.proofs.stamps.stamps_of.Given as goal
 
 abbrev pub invariant-loop-row : goal.invariant-loop-row

@@ -1,5 +1,4 @@
-use Rattle.std.proofs.Common.{◌≡◌, map, take}
-use Rattle.pana_hall.specs.inner.Rows.{placed_row}
+use Rattle.pana_hall.proofs.Words.{◌≡◌, map, take, placed_row}
 use Rattle.pana_hall.proofs.answering.board_rows.Given as goal
 
 abbrev pub invariant-loop-row : goal.invariant-loop-row

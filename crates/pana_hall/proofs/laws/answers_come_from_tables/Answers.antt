@@ -1,16 +1,6 @@
-use Rattle.std.specs.Prelude.{◌≡◌, ℕ, List, filter, length, nat_lt}
-use Rattle.std.specs.List.{list_any}
-use Rattle.std.proofs.Common.{refl, sym, ap, ◌∙◌}
-use Rattle.std.proofs.lemmas.List.Sums.{length-filter}
-use Rattle.pana_hall.specs.Family.{families}
-use Rattle.pana_hall.specs.laws.Tables.{table}
-use Rattle.pana_hall.specs.Living.{Copy, copy_in, known_to, living}
-use Rattle.pana_hall.specs.Board.{is_of, board_of}
-use Rattle.pana_hall.specs.Queries.{family_row}
-use Rattle.pana_hall.proofs.Answered.{any_count}
-use Rattle.pana_hall.proofs.Lists.{filter_twice}
-use Rattle.pana_hall.proofs.Sound.{accepted_is_sound}
-use Rattle.pana_hall.proofs.Tables.{merged, table_living}
+use Rattle.pana_hall.proofs.Words.{◌≡◌, ℕ, List, filter, length, nat_lt, list_any, refl, sym, ap, ◌∙◌, length-filter, families, table, Copy, copy_in, known_to, living, is_of, family_row}
+use Rattle.pana_hall.specs.Board.{board_of}
+use Rattle.pana_hall.proofs.{Answered.any_count, Lists.filter_twice, Sound.accepted_is_sound, Tables.merged, Tables.table_living}
 use Rattle.pana_hall.proofs.laws.answers_come_from_tables.Goals as goal
 
 known_same : (number : ℕ) (xs ys : List Copy) → copy_in xs number ≡ copy_in ys number → known_to xs number ≡ known_to ys number

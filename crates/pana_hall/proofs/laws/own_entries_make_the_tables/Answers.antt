@@ -1,5 +1,4 @@
-use Rattle.pana_hall.proofs.Sound.{accepted_is_sound}
-use Rattle.pana_hall.proofs.Tables.{table_own}
+use Rattle.pana_hall.proofs.{Sound.accepted_is_sound, Tables.table_own}
 use Rattle.pana_hall.proofs.laws.own_entries_make_the_tables.Goals as goal
 
 pub returns : goal.returns

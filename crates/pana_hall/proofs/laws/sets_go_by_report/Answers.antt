@@ -1,14 +1,6 @@
-use Rattle.std.specs.Prelude.{◌≡◌, ◌++◌, [], ◌∷◌}
-use Rattle.std.proofs.Common.{sym, ap, ◌∙◌}
-use Rattle.pana_hall.specs.Family.{begun_or_joined, families, subject}
-use Rattle.pana_hall.specs.Effective.{is_of_copies}
-use Rattle.pana_hall.specs.laws.Layers.{family_of_next}
-use Rattle.pana_hall.specs.laws.Sets.{knowns_of, sets_at}
-use Rattle.pana_hall.specs.laws.Tables.{layer}
-use Rattle.pana_hall.proofs.Sound.{family_new, accepted_is_sound}
-use Rattle.pana_hall.proofs.Knowns.{knowns_of-push}
+use Rattle.pana_hall.proofs.Words.{◌≡◌, ◌++◌, [], ◌∷◌, sym, ap, ◌∙◌, begun_or_joined, families, subject, is_of_copies, family_of_next, knowns_of, sets_at, layer}
+use Rattle.pana_hall.proofs.{Sound.family_new, Sound.accepted_is_sound, Knowns.knowns_of-push, Stood.above_sets, Stood.below_sets, Stood.register_sets}
 use Rattle.pana_hall.proofs.Tables.{layer_confirm, layer_other, layer_report, layer_undone, layer_withdraw}
-use Rattle.pana_hall.proofs.Stood.{above_sets, below_sets, register_sets}
 use Rattle.pana_hall.proofs.laws.sets_go_by_report.Goals as goal
 
 pub returns : goal.returns

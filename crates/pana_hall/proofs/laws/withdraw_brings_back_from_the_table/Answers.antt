@@ -1,10 +1,5 @@
-use Rattle.std.specs.Prelude.{◌≡◌}
-use Rattle.std.proofs.Common.{sym, ap, ◌∙◌}
-use Rattle.pana_journal.specs.declared.entry.Entry.{Entry}
-use Rattle.pana_hall.specs.Refusal.{displaced}
-use Rattle.pana_hall.proofs.Sound.{accepted_is_sound}
-use Rattle.pana_hall.proofs.Tables.{ends_at}
-use Rattle.pana_hall.proofs.Places.{back_in_table, back_at}
+use Rattle.pana_hall.proofs.Words.{◌≡◌, sym, ap, ◌∙◌, Entry, displaced}
+use Rattle.pana_hall.proofs.{Sound.accepted_is_sound, Tables.ends_at, Places.back_in_table, Places.back_at}
 use Rattle.pana_hall.proofs.laws.withdraw_brings_back_from_the_table.Goals as goal
 
 pub returns : goal.returns

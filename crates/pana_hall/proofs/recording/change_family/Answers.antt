@@ -1,8 +1,4 @@
-use Rattle.std.proofs.Common.{arith}
-use Rattle.std.proofs.lemmas.Bool.Decides.{nat_tests}
-use Rattle.std.proofs.Common.{refl, subst}
-use Rattle.pana_hall.specs.inner.Listed.{listed}
-use Rattle.pana_hall.specs.inner.Next.{IsStepOf}
+use Rattle.pana_hall.proofs.Words.{arith, nat_tests, refl, subst, listed, IsStepOf}
 use Rattle.pana_hall.proofs.Ready.{can_place, family_reported, reports_copies, spots_reported}
 use Rattle.pana_hall.proofs.recording.change_family.Goals as goal
 

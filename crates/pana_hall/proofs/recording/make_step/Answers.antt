@@ -1,8 +1,4 @@
-use Rattle.std.proofs.lemmas.Bool.Decides.{nat_tests}
-use Rattle.std.specs.Prelude.{◌≡◌, ◌+◌, [], ◌∷◌, ◌++◌, length}
-use Rattle.std.proofs.Common.{sym, ap, ◌∙◌, subst, arith}
-use Rattle.pana_copies.specs.Spots.{kept}
-use Rattle.pana_hall.specs.inner.Kept.{next_entry, AreSpots, families_of}
+use Rattle.pana_hall.proofs.Words.{nat_tests, ◌≡◌, ◌+◌, [], ◌∷◌, ◌++◌, length, sym, ap, ◌∙◌, subst, arith, kept, next_entry, AreSpots, families_of}
 use Rattle.pana_hall.proofs.Listed.{begins, fresh_register, free_register, listed_push, listed_set, position_within, ready_at, spots_register, step_takes, takes_at, takes_later}
 use Rattle.pana_hall.proofs.recording.make_step.Goals as goal
 

@@ -1,7 +1,5 @@
-use Rattle.std.proofs.lemmas.Bool.Decides.{nat_tests}
-use Rattle.std.specs.Prelude.{◌≡◌, length}
-use Rattle.std.proofs.Common.{ap, arith}
-use Rattle.pana_hall.proofs.Listed.{not_register, position_within, ready_at, still_there, takes_set, takes_step}
+use Rattle.pana_hall.proofs.Words.{nat_tests, ◌≡◌, length, ap, arith}
+use Rattle.pana_hall.proofs.Listed.{not_register, position_within, ready_at, still_there, takes_set}
 use Rattle.pana_hall.proofs.recording.prepare_step.Goals as goal
 
 pub index_mut-requires : goal.index_mut-requires
@@ -18,4 +16,4 @@ returns-in_default-clause-same c =
     still_there c.args.list.now.items c.requires (not_register c.args.report.now c.in_default.not-Register) c.index_mut.result.now c.index_mut.result.now c.prepare_family.new.it c.index_mut.ensures.value c.prepare_family.ensures.same
 
 pub returns-in_default-clause-step : goal.returns-in_default-clause-step
-returns-in_default-clause-step c = grind (arith, nat_tests, not_register, takes_step, takes_set, c.requires, c.prepare_family.ensures.step)
+returns-in_default-clause-step c = grind (arith, nat_tests, not_register, takes_set, c.requires, c.prepare_family.ensures.step)

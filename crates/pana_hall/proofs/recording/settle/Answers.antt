@@ -1,9 +1,4 @@
-use Rattle.std.specs.Prelude.{◌≡◌, [], ◌∷◌, ◌++◌, Some, option_copied}
-use Rattle.std.proofs.Common.{sym, ap, ◌∙◌, subst}
-use Rattle.pana_hall.specs.inner.Undo.{last_place}
-use Rattle.pana_hall.specs.inner.Listed.{listed}
-use Rattle.pana_hall.specs.inner.Spots.{CanUndo, undone_spot}
-use Rattle.pana_hall.specs.inner.Kept.{next_entry, AreSpots}
+use Rattle.pana_hall.proofs.Words.{nat_tests, arith, ◌≡◌, Some, option_copied, sym, ap, ◌∙◌, subst, last_place, listed, CanUndo}
 use Rattle.pana_hall.proofs.Ready.{as_is, opened, can_undo, undone_spots, family_confirmed, family_withdrawn, spots_confirm}
 use Rattle.pana_hall.proofs.recording.settle.Goals as goal
 
@@ -28,7 +23,4 @@ pub returns-in-Withdraw-clause-spots : goal.returns-in-Withdraw-clause-spots
 returns-in-Withdraw-clause-spots c =
     let ready = as_is c.requires.ready c.in-Withdraw.is in
     let o = opened ready in
-    let both : Some o.ends.last ≡ Some c.unwrap.result.now = sym o.ends.at ∙ sym c.entry.ensures.entry ∙ ap option_copied c.unwrap.ensures in
-    let same : o.ends.last ≡ c.unwrap.result.now = cc in
-    subst (λ r. AreSpots (c.args.journal.now.entries ++ next_entry c.args.journal.now.entries c.args.by.now r ∷ []) c.withdraw.new.copies) (sym c.in-Withdraw.is)
-    (λ number. c.withdraw.ensures.spots number ∙ ap (λ e. undone_spot c.in-Withdraw.entry e.report (listed c.args.it.now).number (last_place (listed c.args.it.now).undo) c.args.copies.now number) (sym same) ∙ undone_spots ready number)
+    grind (arith, nat_tests, undone_spots, c.in-Withdraw.is, c.withdraw.ensures.spots)

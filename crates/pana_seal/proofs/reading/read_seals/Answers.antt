@@ -1,8 +1,8 @@
 use Rattle.std.proofs.Common.{◌≡◌, ◌∙◌, ℕ, Bool, ◌||◌, List, [], take, get_or, refl, sym, ap, arith}
 use Rattle.std.specs.Borrow.{Bor}
 use Rattle.std.specs.List.{list_any}
-use Rattle.pana_keep.specs.Lines.{text_of}
-use Rattle.pana_wire.specs.inner.Slices.{texts}
+use Rattle.pana_log.specs.Lines.{text_of}
+use Rattle.pana_wire.specs.Lines.{texts}
 use Rattle.pana_seal.specs.Seal.{is_marked, demands_seals}
 use Rattle.pana_seal.proofs.Intact.{intact_none, intact_next, covers_next, due_next, damaged_at, good_sealed, bad_due, either_like}
 use Rattle.pana_seal.proofs.reading.read_seals.Goals.{then-is_due, else-is_due}

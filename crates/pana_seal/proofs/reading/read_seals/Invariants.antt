@@ -1,7 +1,7 @@
 use Rattle.std.proofs.Common.{◌≡◌, take}
 use Rattle.std.specs.List.{list_any}
-use Rattle.pana_keep.specs.Lines.{text_of}
-use Rattle.pana_wire.specs.inner.Slices.{texts}
+use Rattle.pana_log.specs.Lines.{text_of}
+use Rattle.pana_wire.specs.Lines.{texts}
 use Rattle.pana_seal.specs.Seal.{Covers, IsIntact, demands_seals}
 use Rattle.pana_seal.proofs.reading.read_seals.Given as goal
 

@@ -8,5 +8,5 @@ returns-in-Err-clause-reads g c = (0, omega arith, omega arith)
 
 pub returns-in-Err-clause-timely : goal.returns-in-Err-clause-timely
 returns-in-Err-clause-timely g c =
-    timely_here g.W.Write.contents g.S.Session.step g.S.Session.spends g.S.Session.moment c.args.writer.now c.args.writer.now c.args.session.now c.args.session.now
+    timely_here g.W.Write.contents g.S.Session.step g.S.Session.fails g.S.Session.moment c.args.writer.now c.args.writer.now c.args.session.now c.args.session.now
     (none_so_far g.W.Write.contents g.S.Session.step g.S.Session.moment c.args.writer.now c.args.session.now)

@@ -41,7 +41,7 @@ returns-in_err-last-in-Ok-eq0-clause-fault g c =
       output = output ++ last.output;
       reads = read_nothing _ _ _ input c.read.new.buffer c.in-Ok-eq0.field-0 none consumed c.in-Ok-eq0.ensures.bytes.0;
       writes = Appends-trans _ _ _ output last.output appended last.writes;
-      ends = broken_last g.S.Session.step g.S.Session.spends fault _ c.args.session.now input output last.output c.loop.session c.finish.new.session c.loop.held c.loop.served met progress last.breaks;
+      ends = broken_last g.S.Session.step g.S.Session.fails fault _ c.args.session.now input output last.output c.loop.session c.finish.new.session c.loop.held c.loop.served met progress last.breaks;
       cause = out_cause fault c.args.reads _ _ _ works last.is_out;
     })
 
@@ -88,7 +88,7 @@ returns-in_err-more-in-Ok-clause-fault g c =
       output = output ++ more.output;
       reads = Consumes-trans _ _ _ input piece consumed c.in-Ok.ensures.bytes.0;
       writes = Appends-trans _ _ _ output more.output appended more.writes;
-      ends = broken_piece g.S.Session.step g.S.Session.spends fault _ c.args.session.now input piece output more.output c.loop.session c.take_piece.new.session c.loop.held c.loop.served progress more.breaks;
+      ends = broken_piece g.S.Session.step g.S.Session.fails fault _ c.args.session.now input piece output more.output c.loop.session c.take_piece.new.session c.loop.held c.loop.served progress more.breaks;
       cause = out_cause fault c.args.reads _ _ _ works more.is_out;
     })
 
@@ -157,23 +157,23 @@ returns-clause-fault g c =
 
 pub returns-in_err-last-in-Ok-eq0-clause-timely : goal.returns-in_err-last-in-Ok-eq0-clause-timely
 returns-in_err-last-in-Ok-eq0-clause-timely g c =
-    timely_then g.W.Write.contents g.S.Session.step g.S.Session.spends g.S.Session.moment c.args.writer.now c.loop.writer c.finish.new.writer c.args.session.now c.loop.session c.finish.new.session
+    timely_then g.W.Write.contents g.S.Session.step g.S.Session.fails g.S.Session.moment c.args.writer.now c.loop.writer c.finish.new.writer c.args.session.now c.loop.session c.finish.new.session
     c.loop.invariant.timely c.in_err-last-in-Ok-eq0.ensures.broken
 
 pub returns-in-Ok-eq0-clause-timely : goal.returns-in-Ok-eq0-clause-timely
 returns-in-Ok-eq0-clause-timely g c =
-    timely_here g.W.Write.contents g.S.Session.step g.S.Session.spends g.S.Session.moment c.args.writer.now c.finish.new.writer c.args.session.now c.finish.new.session
+    timely_here g.W.Write.contents g.S.Session.step g.S.Session.fails g.S.Session.moment c.args.writer.now c.finish.new.writer c.args.session.now c.finish.new.session
     (more_so_far g.W.Write.contents g.S.Session.step g.S.Session.moment c.args.writer.now c.loop.writer c.finish.new.writer c.args.session.now c.loop.session c.finish.new.session c.loop.invariant.timely c.in_ok-last-in-Ok-eq0.ensures.timely)
 
 pub returns-in_err-more-in-Ok-clause-timely : goal.returns-in_err-more-in-Ok-clause-timely
 returns-in_err-more-in-Ok-clause-timely g c =
-    timely_then g.W.Write.contents g.S.Session.step g.S.Session.spends g.S.Session.moment c.args.writer.now c.loop.writer c.take_piece.new.writer c.args.session.now c.loop.session c.take_piece.new.session
+    timely_then g.W.Write.contents g.S.Session.step g.S.Session.fails g.S.Session.moment c.args.writer.now c.loop.writer c.take_piece.new.writer c.args.session.now c.loop.session c.take_piece.new.session
     c.loop.invariant.timely c.in_err-more-in-Ok.ensures.broken
 
 pub returns-in-Err-clause-timely : goal.returns-in-Err-clause-timely
 returns-in-Err-clause-timely g c =
-    timely_here g.W.Write.contents g.S.Session.step g.S.Session.spends g.S.Session.moment c.args.writer.now c.loop.writer c.args.session.now c.loop.session c.loop.invariant.timely
+    timely_here g.W.Write.contents g.S.Session.step g.S.Session.fails g.S.Session.moment c.args.writer.now c.loop.writer c.args.session.now c.loop.session c.loop.invariant.timely
 
 pub returns-clause-timely : goal.returns-clause-timely
 returns-clause-timely g c =
-    timely_here g.W.Write.contents g.S.Session.step g.S.Session.spends g.S.Session.moment c.args.writer.now c.loop.writer c.args.session.now c.loop.session c.loop.invariant.timely
+    timely_here g.W.Write.contents g.S.Session.step g.S.Session.fails g.S.Session.moment c.args.writer.now c.loop.writer c.args.session.now c.loop.session c.loop.invariant.timely

@@ -58,7 +58,7 @@ returns-in_err-answered-clause-fault g c =
     rw (p.1, p.2) (record {
       output = said.output ++ here.output;
       writes = Appends-trans _ _ _ said.output here.output said.writes here.writes;
-      breaks = broken_at g.S.Session.step g.S.Session.spends c.in_err-answered.field-0.0 c.args.session.now c.args.held.now (take i piece) (drop (suc i) piece) piece said.output here.output
+      breaks = broken_at g.S.Session.step g.S.Session.fails c.in_err-answered.field-0.0 c.args.session.now c.args.held.now (take i piece) (drop (suc i) piece) piece said.output here.output
           (get_or piece i 0) c.loop-byte.session c.answer.new.session c.loop-byte.held c.as_slice.result.now c.loop-byte.served split c.if-byte-eq10.true c.as_slice.ensures said.progress here.breaks;
       is_out = here.is_out;
     })
@@ -66,5 +66,5 @@ returns-in_err-answered-clause-fault g c =
 pub returns-in_err-answered-clause-broken : goal.returns-in_err-answered-clause-broken
 returns-in_err-answered-clause-broken g c =
     let p = err_from_is_err_and c.from_residual.result c.from_residual.ensures.1 in
-    rw p.1 (timely_then g.W.Write.contents g.S.Session.step g.S.Session.spends g.S.Session.moment c.args.writer.now c.loop-byte.writer c.answer.new.writer c.args.session.now c.loop-byte.session c.answer.new.session
+    rw p.1 (timely_then g.W.Write.contents g.S.Session.step g.S.Session.fails g.S.Session.moment c.args.writer.now c.loop-byte.writer c.answer.new.writer c.args.session.now c.loop-byte.session c.answer.new.session
     c.loop-byte.invariant.timely c.in_err-answered.ensures.broken)

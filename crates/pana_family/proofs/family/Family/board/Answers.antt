@@ -1,9 +1,4 @@
-use Rattle.std.proofs.Common.{arith}
-use Rattle.std.proofs.lemmas.Bool.Decides.{nat_tests}
-use Rattle.std.proofs.Common.{List, sym, subst}
-use Rattle.pana_family.specs.Change.{RowList}
-use Rattle.pana_family.specs.Table.{Known}
-use Rattle.pana_family.specs.Stands.{StandsFor}
+use Rattle.pana_family.proofs.Words.{arith, nat_tests, List, sym, subst, RowList, Known, StandsFor}
 use Rattle.pana_family.proofs.Boards.{SameBoard, same_board}
 use Rattle.pana_family.proofs.family.Family.board.Goals as goal
 

@@ -1,9 +1,4 @@
-use Rattle.std.proofs.lemmas.Bool.Decides.{nat_tests}
-use Rattle.std.proofs.Common.{◌∙◌, List, ap, arith, subst, sym}
-use Rattle.pana_family.specs.declared.row.StampRow.{StampRow}
-use Rattle.pana_family.specs.Rows.{IsRising}
-use Rattle.pana_family.specs.Change.{RowList, after}
-use Rattle.pana_family.specs.Paired.{ArePaired}
+use Rattle.pana_family.proofs.Words.{nat_tests, ◌∙◌, ap, arith, subst, sym, IsRising, RowList, after}
 use Rattle.pana_family.proofs.Following.{Applied, applied, as_many, made_again}
 use Rattle.pana_family.proofs.family.Family.exchange.Goals as goal
 use Rattle.pana_family.proofs.family.Family.exchange.Goals.{After-back-1, After-follow_change}
@@ -45,9 +40,7 @@ follow_change-requires-clause-made c =
     grind (arith, nat_tests, made_again)
 
 pub invariant_of-self : goal.invariant_of-self
-invariant_of-self c =
-    let d = followed_change c in
-    (d.kept, subst (λ (l : List StampRow). ArePaired l c.follow_change.new.pairs) c.deref.ensures.value c.follow_change.ensures.paired)
+invariant_of-self c = grind (arith, nat_tests, followed_change, c.deref.ensures.value, c.follow_change.ensures.paired)
 
 pub returns-clause-rows : goal.returns-clause-rows
 returns-clause-rows c =

@@ -1,6 +1,4 @@
-use Rattle.std.proofs.Common.{ap, sym, subst, ◌∙◌, ◌≡◌}
-use Rattle.pana_family.specs.Rows.{AreBefore}
-use Rattle.pana_family.specs.Change.{RowList}
+use Rattle.pana_family.proofs.Words.{ap, sym, subst, ◌∙◌, ◌≡◌, AreBefore, RowList}
 use Rattle.pana_family.proofs.family.Family.is_new.Goals as goal
 
 pub returns : goal.returns

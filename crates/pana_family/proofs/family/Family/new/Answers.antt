@@ -1,10 +1,4 @@
-use Rattle.std.proofs.lemmas.Bool.Decides.{nat_tests}
-use Rattle.std.proofs.Common.{arith, ◌≡◌, ◌∙◌, ap, ℕ, List, [], ◌∷◌, ◌++◌}
-use Rattle.pana_id.specs.Id.{Id, one_id}
-use Rattle.pana_event.specs.Event.{leaf}
-use Rattle.pana_stamp.specs.declared.stamp.Stamp.{Stamp}
-use Rattle.pana_family.specs.declared.row.StampRow.{StampRow}
-use Rattle.pana_family.specs.Rows.{seed_row, stamp, row}
+use Rattle.pana_family.proofs.Words.{nat_tests, arith, ◌≡◌, ◌∙◌, ap, ℕ, List, [], ◌∷◌, ◌++◌, Id, leaf, Stamp, StampRow, seed_row, stamp, row, one_id}
 use Rattle.pana_family.proofs.Keeps.{seed_kept}
 use Rattle.pana_family.proofs.family.Family.new.Goals as goal
 

@@ -1,7 +1,4 @@
-use Rattle.std.proofs.Common.{◌∙◌, ap, not, sym}
-use Rattle.pana_id.specs.Id.{Id, is_single}
-use Rattle.pana_family.specs.Change.{RowList}
-use Rattle.pana_family.specs.declared.row.StampRow.{StampRow}
+use Rattle.pana_family.proofs.Words.{◌∙◌, ap, not, sym, Id, is_single, RowList, StampRow}
 use Rattle.pana_family.proofs.Written.{row_at, row_found_at}
 use Rattle.pana_family.proofs.family.Family.splits.Goals as goal
 

@@ -1,13 +1,4 @@
-use Rattle.std.proofs.Common.{arith}
-use Rattle.std.proofs.lemmas.Bool.Decides.{nat_tests}
-use Rattle.std.proofs.Common.{sym, subst, ◌∙◌, List, ap, map, filter}
-use Rattle.pana_family.specs.declared.row.StampRow.{StampRow}
-use Rattle.pana_family.specs.Holders.{is_copy}
-use Rattle.pana_family.specs.Table.{In}
-use Rattle.pana_family.specs.Stands.{StandsFor}
-use Rattle.pana_family.specs.Stamps.{text_of}
-use Rattle.pana_family.specs.Stamps.{row_text}
-use Rattle.pana_family.specs.Change.{RowList}
+use Rattle.pana_family.proofs.Words.{arith, nat_tests, sym, subst, ◌∙◌, List, ap, map, filter, StampRow, is_copy, In, StandsFor, text_of, row_text, RowList}
 use Rattle.pana_family.proofs.Texts.{stamps_answer}
 use Rattle.pana_family.proofs.family.Family.stamps.Goals as goal
 

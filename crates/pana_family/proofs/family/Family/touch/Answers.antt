@@ -1,11 +1,5 @@
-use Rattle.std.proofs.Common.{arith, ◌≡◌, sym, subst, ◌∙◌, ap, List}
-use Rattle.pana_family.specs.declared.row.StampRow.{StampRow}
-use Rattle.pana_family.specs.Stands.{StandsFor}
-use Rattle.pana_family.specs.Table.{In, touch_in}
-use Rattle.pana_family.specs.Change.{RowList}
-use Rattle.pana_family.proofs.Members.{one_row}
-use Rattle.pana_family.proofs.Written.{IsRowAt, row_at}
-use Rattle.pana_family.proofs.Changes.{touch_found}
+use Rattle.pana_family.proofs.Words.{arith, ◌≡◌, sym, subst, ◌∙◌, ap, List, StampRow, StandsFor, In, touch_in, RowList}
+use Rattle.pana_family.proofs.{Members.one_row, Written.IsRowAt, Written.row_at, Changes.touch_found}
 use Rattle.pana_family.proofs.family.Family.touch.Goals as goal
 
 pub returns-clause-touch : goal.returns-clause-touch

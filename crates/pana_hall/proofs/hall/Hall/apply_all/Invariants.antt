@@ -1,7 +1,5 @@
-use Rattle.std.proofs.Common.{◌≡◌, ℕ, ◌+◌, ◌≤◌, List, ◌++◌, length, vec_capacity}
+use Rattle.pana_hall.proofs.Words.{◌≡◌, ℕ, ◌+◌, ◌≤◌, List, ◌++◌, length, Call, RunsTo, vec_capacity}
 use Rattle.std.specs.VecDeque.{deque_len}
-use Rattle.pana_hall.specs.declared.call.Call.{Call}
-use Rattle.pana_hall.specs.Run.{RunsTo}
 use Rattle.pana_hall.proofs.hall.Hall.apply_all.Given as goal
 
 -- the calls so far have been answered; there is room for the replies to the rest

@@ -1,5 +1,4 @@
-use Rattle.std.proofs.Common.{arith}
-use Rattle.std.proofs.lemmas.Bool.Decides.{nat_tests}
+use Rattle.pana_hall.proofs.Words.{arith, nat_tests}
 use Rattle.pana_hall.proofs.Runs.{entry_taken}
 use Rattle.pana_hall.proofs.hall.Hall.take.Goals.{in-Refused, in_default}
 use Rattle.pana_hall.proofs.hall.Hall.take.Goals as goal

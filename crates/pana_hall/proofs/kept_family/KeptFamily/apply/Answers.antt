@@ -1,7 +1,4 @@
-use Rattle.std.specs.Prelude.{List, ◌∷◌, take, option_map}
-use Rattle.std.proofs.Common.{sym, ap, subst, ◌∙◌}
-use Rattle.pana_family.specs.declared.row.StampRow.{StampRow}
-use Rattle.pana_hall.specs.inner.Undo.{IsPreparedIn, RoomyFamily, history, kept_rows, reported_kept, undone}
+use Rattle.pana_hall.proofs.Words.{nat_tests, arith, List, ◌∷◌, take, option_map, sym, ap, subst, ◌∙◌, StampRow, RoomyFamily, history, kept_rows, reported_kept, undone, IsPreparedIn}
 use Rattle.pana_hall.proofs.Histories.{kept_pushed, pushed}
 use Rattle.pana_hall.proofs.kept_family.KeptFamily.apply.Goals as goal
 
@@ -9,9 +6,7 @@ pub apply-back-requires : goal.apply-back-requires
 apply-back-requires c = subst (IsPreparedIn c.args.entry c.args.report c.args.change) (sym c.self.view_is) c.requires
 
 pub invariant_of-self : goal.invariant_of-self
-invariant_of-self c =
-    kept_pushed c.self.inside.family.room c.apply-back.new.self.room c.self.inside.family.rows c.apply-back.new.self.rows c.self.inside.undo.items c.push_front.new.self (record { entry = c.args.entry; back = c.apply-back.result; place = c.args.place })
-    c.self.inside.undo.capacity c.self.invariant.0 c.push_front.ensures.items c.apply-back.ensures.back.rows c.apply-back.ensures.was c.apply-back.ensures.back.fits c.apply-back.ensures.room c.self.invariant.1
+invariant_of-self c = grind (arith, nat_tests, kept_pushed)
 
 pub returns : goal.returns
 returns c =

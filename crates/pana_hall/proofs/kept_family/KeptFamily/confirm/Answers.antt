@@ -1,5 +1,4 @@
-use Rattle.std.proofs.Common.{arith}
-use Rattle.std.proofs.lemmas.Bool.Decides.{nat_tests}
+use Rattle.pana_hall.proofs.Words.{arith, nat_tests}
 use Rattle.pana_hall.proofs.Histories.{kept_truncated, since_none, since_some}
 use Rattle.pana_hall.proofs.kept_family.KeptFamily.confirm.Goals as goal
 

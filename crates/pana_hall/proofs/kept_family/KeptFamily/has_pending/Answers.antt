@@ -1,7 +1,4 @@
-use Rattle.std.specs.Prelude.{◌==◌}
-use Rattle.std.specs.List.{list_any}
-use Rattle.std.proofs.Common.{ap, ◌∙◌}
-use Rattle.pana_hall.specs.inner.Undo.{RoomyFamily}
+use Rattle.pana_hall.proofs.Words.{◌==◌, list_any, ap, ◌∙◌, RoomyFamily}
 use Rattle.pana_hall.proofs.Histories.{has_is}
 use Rattle.pana_hall.proofs.kept_family.KeptFamily.has_pending.Goals as goal
 

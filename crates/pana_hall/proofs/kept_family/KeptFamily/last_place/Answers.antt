@@ -1,8 +1,4 @@
-use Rattle.std.proofs.Common.{arith}
-use Rattle.std.proofs.lemmas.Bool.Decides.{nat_tests}
-use Rattle.std.specs.Prelude.{Some, option_copied, option_map}
-use Rattle.std.proofs.Common.{sym, ap, ◌∙◌}
-use Rattle.pana_hall.specs.inner.Undo.{RoomyFamily, last_place}
+use Rattle.pana_hall.proofs.Words.{arith, nat_tests, Some, option_copied, option_map, sym, ap, ◌∙◌, RoomyFamily, last_place}
 use Rattle.pana_hall.proofs.Histories.{history_first, history_none}
 use Rattle.pana_hall.proofs.kept_family.KeptFamily.last_place.Goals as goal
 

@@ -1,13 +1,9 @@
-use Rattle.std.proofs.Common.{arith}
-use Rattle.std.proofs.lemmas.Bool.Decides.{nat_tests}
-use Rattle.std.proofs.Common.{sym, subst}
-use Rattle.pana_family.specs.Rows.{AreBefore}
-use Rattle.pana_hall.specs.inner.Undo.{RoomyFamily}
-use Rattle.pana_hall.proofs.Histories.{names_living, kept_roomier}
+use Rattle.pana_hall.proofs.Words.{arith, nat_tests, sym, subst, AreBefore, RoomyFamily}
+use Rattle.pana_hall.proofs.Histories.{kept_roomier}
 use Rattle.pana_hall.proofs.kept_family.KeptFamily.prepare.Goals as goal
 
 pub prepare-requires-clause-living : goal.prepare-requires-clause-living
-prepare-requires-clause-living c = grind (arith, nat_tests, names_living, c.self.view_is, c.requires.able)
+prepare-requires-clause-living c = grind (arith, nat_tests, c.self.view_is, c.requires.able)
 
 pub prepare-requires-clause-new : goal.prepare-requires-clause-new
 prepare-requires-clause-new c = subst (λ (k : RoomyFamily). AreBefore c.args.entry k.kept.rows) (sym c.self.view_is) c.requires.new

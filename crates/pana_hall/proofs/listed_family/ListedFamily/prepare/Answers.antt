@@ -1,8 +1,4 @@
-use Rattle.std.specs.Prelude.{◌≡◌}
-use Rattle.std.proofs.Common.{sym, ap, ◌∙◌, subst}
-use Rattle.pana_family.specs.Rows.{AreBefore}
-use Rattle.pana_hall.specs.inner.Undo.{KeptRows, RoomyFamily}
-use Rattle.pana_hall.specs.inner.Listed.{listed}
+use Rattle.pana_hall.proofs.Words.{◌≡◌, sym, ap, ◌∙◌, subst, AreBefore, KeptRows, RoomyFamily, listed}
 use Rattle.pana_hall.proofs.listed_family.ListedFamily.prepare.Goals as goal
 
 pub prepare-requires-clause-new : goal.prepare-requires-clause-new

@@ -1,11 +1,5 @@
-use Rattle.std.specs.Prelude.{IsSome, map}
-use Rattle.std.specs.List.{AllByRecursion}
-use Rattle.std.proofs.Common.{sym, ap, ◌∙◌, subst}
-use Rattle.pana_copies.specs.Spots.{kept}
-use Rattle.pana_family.specs.declared.board.CopyCounts.{CopyCounts}
-use Rattle.pana_hall.specs.inner.Rows.{placed_row}
-use Rattle.pana_hall.proofs.Answered.{begun_at, own_begun, stands_of}
-use Rattle.pana_hall.proofs.Shown.{board_is, rows_kept}
+use Rattle.pana_hall.proofs.Words.{IsSome, map, AllByRecursion, sym, ap, ◌∙◌, subst, kept, CopyCounts, placed_row}
+use Rattle.pana_hall.proofs.{Answered.begun_at, Answered.own_begun, Answered.stands_of, Shown.board_is, Shown.rows_kept}
 use Rattle.pana_hall.proofs.state.State.board_of.Goals as goal
 
 pub family-requires-clause-has : goal.family-requires-clause-has

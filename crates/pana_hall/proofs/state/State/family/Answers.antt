@@ -1,10 +1,4 @@
-use Rattle.std.proofs.Common.{arith}
-use Rattle.std.proofs.lemmas.Bool.Decides.{nat_tests}
-use Rattle.std.specs.Prelude.{◌≡◌, Some, None, IsSome, option_copied, option_map}
-use Rattle.std.proofs.Common.{refl, ◌∙◌}
-use Rattle.pana_hall.specs.Family.{families}
-use Rattle.pana_hall.specs.inner.Kept.{family_of}
-use Rattle.pana_hall.specs.inner.Listed.{all_listed, listed}
+use Rattle.pana_hall.proofs.Words.{arith, nat_tests, ◌≡◌, Some, None, IsSome, option_copied, option_map, refl, ◌∙◌, families, family_of, all_listed, listed}
 use Rattle.pana_hall.proofs.Listed.{found_at}
 use Rattle.pana_hall.proofs.state.State.family.Goals as goal
 

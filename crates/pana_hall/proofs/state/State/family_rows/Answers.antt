@@ -1,18 +1,5 @@
-use Rattle.std.proofs.Common.{arith}
-use Rattle.std.proofs.lemmas.Bool.Decides.{nat_tests}
-use Rattle.std.specs.Prelude.{◌≡◌, ◌+◌, ◌<◌, List, [], ◌∷◌, ◌++◌, map, take, true, false, cond, length, nat_lt, slice_index_or}
-use Rattle.std.specs.List.{list_any}
-use Rattle.std.proofs.Common.{sym, ap, ◌∙◌, subst, append-nil}
-use Rattle.std.proofs.lemmas.List.{take_all, take_more, map-append}
-use Rattle.pana_hall.specs.inner.Undo.{KeptRows}
-use Rattle.pana_hall.specs.inner.Listed.{listed}
-use Rattle.pana_hall.specs.declared.listed_family.ListedFamily.{ListedFamily}
-use Rattle.pana_hall.specs.Board.{is_of}
-use Rattle.pana_hall.specs.Living.{living}
-use Rattle.pana_hall.specs.Queries.{family_row}
-use Rattle.pana_hall.specs.laws.Sets.{sets_at}
-use Rattle.pana_family.specs.Rows.{copy_rows}
-use Rattle.pana_hall.specs.inner.Kept.{family_of}
+use Rattle.pana_hall.proofs.Words.{arith, nat_tests, ◌≡◌, ◌+◌, ◌<◌, List, [], ◌∷◌, ◌++◌, map, take, true, false, cond, length, nat_lt, slice_index_or, list_any, sym, ap, ◌∙◌, subst, append-nil}
+use Rattle.pana_hall.proofs.Words.{take_all, map-append, KeptRows, listed, ListedFamily, is_of, living, family_row, sets_at, copy_rows, family_of, take_more}
 use Rattle.pana_hall.proofs.Answered.{rows_of_families, rows_push, lives_is, each_get, each_own, numbers_own, stands_of}
 use Rattle.pana_hall.proofs.Shown.{row_is}
 use Rattle.pana_hall.proofs.state.State.family_rows.Goals as goal

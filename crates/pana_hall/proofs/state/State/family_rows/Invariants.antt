@@ -1,9 +1,4 @@
-use Rattle.std.proofs.Common.{◌≡◌, map, filter, take}
-use Rattle.std.specs.List.{list_any}
-use Rattle.pana_hall.specs.Board.{is_of}
-use Rattle.pana_hall.specs.Living.{living}
-use Rattle.pana_hall.specs.Queries.{family_row}
-use Rattle.pana_hall.specs.inner.Listed.{listed}
+use Rattle.pana_hall.proofs.Words.{◌≡◌, map, filter, take, list_any, is_of, living, family_row, listed}
 use Rattle.pana_hall.proofs.state.State.family_rows.Given as goal
 
 abbrev pub invariant-loop-it : goal.invariant-loop-it

@@ -1,17 +1,7 @@
-use Rattle.std.proofs.Common.{arith}
-use Rattle.std.proofs.lemmas.Bool.Decides.{nat_tests}
-use Rattle.std.specs.Prelude.{◌≡◌, ℕ, true, cond, Some, None, List, option_map, option_and_then}
-use Rattle.std.specs.Str.{bytes_eq}
-use Rattle.std.proofs.Common.{refl, sym, ap, ◌∙◌}
-use Rattle.pana_copies.specs.declared.place.Place.{Place}
-use Rattle.pana_copies.specs.Spots.{Spot}
-use Rattle.pana_hall.specs.Queries.{holding}
-use Rattle.pana_hall.specs.Family.{families}
-use Rattle.pana_hall.specs.Living.{Copy, living}
-use Rattle.pana_hall.specs.laws.Sets.{sets_at}
+use Rattle.pana_hall.proofs.Words.{arith, nat_tests, ◌≡◌, ℕ, true, cond, Some, None, List, option_map, option_and_then, bytes_eq, refl, sym, ap, ◌∙◌, Place, Spot, holding, families, Copy, living}
+use Rattle.pana_hall.proofs.Words.{sets_at}
 use Rattle.pana_hall.proofs.Answered.{found_spot, lives_of, stands_of, touch_of_copy}
-use Rattle.pana_hall.proofs.Moves.{found_number}
-use Rattle.pana_hall.proofs.Listed.{found_entry}
+use Rattle.pana_hall.proofs.{Moves.found_number, Listed.found_entry}
 use Rattle.pana_hall.proofs.state.State.holding_at.Goals as goal
 
 pub family-requires-clause-has : goal.family-requires-clause-has

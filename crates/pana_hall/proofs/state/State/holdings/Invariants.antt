@@ -1,5 +1,4 @@
-use Rattle.std.proofs.Common.{◌≡◌}
-use Rattle.pana_hall.specs.Living.{living}
+use Rattle.pana_hall.proofs.Words.{◌≡◌, living}
 use Rattle.pana_hall.proofs.Shown.{holdings_to}
 use Rattle.pana_hall.proofs.state.State.holdings.Given as goal
 

@@ -1,11 +1,5 @@
-use Rattle.std.proofs.Common.{arith}
-use Rattle.std.proofs.lemmas.Bool.Decides.{nat_tests}
-use Rattle.std.proofs.Common.{refl, ap, ◌∙◌}
+use Rattle.pana_hall.proofs.Words.{arith, nat_tests, refl, ap, ◌∙◌, set_in, families, living, known_to, sets_at}
 use Rattle.pana_family.specs.Relation.{relation}
-use Rattle.pana_family.specs.Table.{set_in}
-use Rattle.pana_hall.specs.Family.{families}
-use Rattle.pana_hall.specs.Living.{living, known_to}
-use Rattle.pana_hall.specs.laws.Sets.{sets_at}
 use Rattle.pana_hall.proofs.Listed.{found_entry}
 use Rattle.pana_hall.proofs.Answered.{lives_of, pair_at, set_of_copy, stands_of}
 use Rattle.pana_hall.proofs.state.State.pair_of.Goals as goal

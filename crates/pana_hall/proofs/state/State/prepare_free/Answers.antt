@@ -1,8 +1,4 @@
-use Rattle.std.specs.Prelude.{◌≡◌, List, Some, IsSome}
-use Rattle.std.proofs.Common.{refl, sym, ap, ◌∙◌, subst}
-use Rattle.pana_journal.specs.declared.entry.Entry.{Entry}
-use Rattle.pana_hall.specs.inner.Listed.{all_listed}
-use Rattle.pana_hall.specs.inner.Kept.{IsReadyAt, position_for}
+use Rattle.pana_hall.proofs.Words.{◌≡◌, List, Some, IsSome, refl, sym, ap, ◌∙◌, subst, Entry, all_listed, IsReadyAt, position_for}
 use Rattle.pana_hall.proofs.Listed.{has_position, ready_for, ready_same}
 use Rattle.pana_hall.proofs.state.State.prepare_free.Goals as goal
 

@@ -1,7 +1,4 @@
-use Rattle.std.specs.Prelude.{Result, Ok, Err, IfOk}
-use Rattle.std.proofs.Common.{ap, ◌∙◌}
-use Rattle.pana_hall.specs.StampRows.{rows_of}
-use Rattle.pana_hall.specs.inner.Undo.{KeptRows}
+use Rattle.pana_hall.proofs.Words.{Result, Ok, Err, IfOk, ap, ◌∙◌, rows_of, KeptRows}
 use Rattle.pana_hall.proofs.Tables.{layer_now}
 use Rattle.pana_hall.proofs.Answered.{stands_of, stamps_are, begun_at, own_begun}
 use Rattle.pana_hall.proofs.state.State.stamps_of.Goals as goal

@@ -1,12 +1,5 @@
-use Rattle.std.proofs.Common.{arith}
-use Rattle.std.proofs.lemmas.Bool.Decides.{nat_tests}
-use Rattle.std.specs.Prelude.{◌≡◌, Some, None, option_copied}
-use Rattle.std.proofs.Common.{sym, ap, ◌∙◌, subst}
-use Rattle.pana_copies.specs.declared.place.Place.{Place}
-use Rattle.pana_journal.specs.Entries.{entry_at}
-use Rattle.pana_hall.specs.inner.Spots.{IsThere, other_there}
-use Rattle.pana_hall.proofs.Listed.{entry_within}
-use Rattle.pana_hall.proofs.Answered.{back_place, taken_from_is}
+use Rattle.pana_hall.proofs.Words.{arith, nat_tests, ◌≡◌, Some, None, option_copied, sym, ap, ◌∙◌, subst, Place, entry_at, IsThere, other_there}
+use Rattle.pana_hall.proofs.{Listed.entry_within, Answered.back_place, Answered.taken_from_is}
 use Rattle.pana_hall.proofs.state.State.taken_since.Goals as goal
 
 pub family-requires-clause-has : goal.family-requires-clause-has

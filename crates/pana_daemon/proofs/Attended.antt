@@ -1,0 +1,68 @@
+-- What is left of a desk whose callers have done their work.
+use Rattle.std.proofs.Common.{◌≡◌, ℕ, All, List, [], ◌∷◌, length, Option, Result, map, refl, sym, ap, subst, ◌∙◌}
+use Rattle.pana_hall.specs.declared.call.Call.{Call}
+use Rattle.pana_scan.specs.declared.scan_fault.ScanFault.{ScanFault}
+use Rattle.pana_scan.specs.Listing.{Contents}
+use Rattle.pana_turn.specs.Closing.{Closes, LacksOne}
+use Rattle.pana_turn.specs.Passes.{DeskId, new_passes}
+use Rattle.pana_wire.specs.declared.answer.Answer.{Answer}
+use Rattle.pana_daemon.specs.declared.connection.Connection.{Connection}
+use Rattle.pana_daemon.specs.declared.post.Caller.{Caller}
+use Rattle.pana_daemon.specs.declared.post.Post.{Post}
+use Rattle.pana_daemon.specs.Desk.{PassView, SharedSteps}
+use Rattle.pana_daemon.specs.inner.Passes.{HaveGrown}
+use Rattle.pana_daemon.specs.Post.{HaveDone, passes_of, posted, posts_of}
+use Rattle.pana_daemon.specs.Serve.{Ends}
+use Rattle.pana_daemon.proofs.Passes.{each_of, grown_all, grown_of, new_all, new_of, not_both}
+use Rattle.pana_daemon.proofs.Posts.{done_grow}
+
+module _ {S T G D F : Type 0} where
+  -- the callers' passes, and what they are to do
+  abbrev pub sessions : List (Caller S T G D F) → List (PassView S)
+  sessions callers = map (λ caller. caller.session) callers
+
+  abbrev pub tasks : List (Caller S T G D F) → List (Post D F)
+  tasks callers = map (λ caller. caller.post) callers
+
+  passes_posted : (callers : List (Caller S T G D F)) → passes_of (map posted callers) ≡ sessions callers
+  passes_posted [] = refl
+  passes_posted (caller ∷ callers) = ap (λ (ps : List (PassView S)). caller.session ∷ ps) (passes_posted callers)
+
+  posts_posted : (callers : List (Caller S T G D F)) → posts_of (map posted callers) ≡ tasks callers
+  posts_posted [] = refl
+  posts_posted (caller ∷ callers) = ap (λ (ps : List (Post D F)). caller.post ∷ ps) (posts_posted callers)
+
+module _ {S T G D R W F : Type 0} (step : S → List ℕ → Call → Answer → S → Type 0) (fails : S → List ℕ → Call → S → Type 0)
+    (gives : D → Option (Connection R W) → D → Type 0) (remaining : R → Option (List ℕ)) (contents : W → Option (List ℕ)) (finds : F → Option (Result Contents ScanFault) → F → Type 0)
+    (desk : DeskId S) (seats : ℕ) (olds news : List (Caller S T G D F)) (back : List (PassView S))
+    (fresh : sessions olds ≡ new_passes desk seats) (done : HaveDone step fails gives remaining contents finds (map posted olds) (map posted news)) (is_back : back ≡ sessions news) where
+  grown : HaveGrown (new_passes desk seats) back
+  grown =
+      let whole : HaveGrown (passes_of (map posted olds)) (passes_of (map posted news)) = done_grow step fails gives remaining contents finds (map posted olds) (map posted news) done in
+      subst (λ (ps : List (PassView S)). HaveGrown ps back) (passes_posted olds ∙ fresh)
+      (subst (λ (ps : List (PassView S)). HaveGrown (passes_of (map posted olds)) ps) (passes_posted news ∙ sym is_back) whole)
+
+  -- the passes that they leave are the desk's
+  pub all_of : All (λ pass. pass.desk ≡ desk) back
+  all_of = each_of desk back (grown_of desk (new_passes desk seats) back grown (new_of desk seats (new_passes desk seats) refl))
+
+  -- and none is missing
+  pub none_missing : LacksOne seats back → ⊥
+  none_missing lacks = not_both seats back (grown_all seats (new_passes desk seats) back grown (new_all desk seats (new_passes desk seats) refl)) lacks
+
+  pub ends_so : (begun machine left : S) (posts : List (Post D F)) (calls : ℕ) → desk.begun ≡ begun → tasks olds ≡ posts → seats ≡ length posts
+      → Closes (SharedSteps step fails) seats desk.begun back machine calls → left ≡ machine → Ends step fails gives remaining contents finds begun posts left calls
+  ends_so begun machine left posts calls opened are count closed is_left =
+      let one = subst (λ (ps : List (PassView S)). Closes (SharedSteps step fails) seats desk.begun ps machine calls) (is_back ∙ sym (passes_posted news)) closed in
+      let two = subst (λ (b : S). Closes (SharedSteps step fails) seats b (passes_of (map posted news)) machine calls) opened one in
+      let three = subst (λ (k : ℕ). Closes (SharedSteps step fails) k begun (passes_of (map posted news)) machine calls) count two in
+      record {
+        desk = desk;
+        opened = opened;
+        olds = map posted olds;
+        news = map posted news;
+        posts_are = posts_posted olds ∙ are;
+        are_new = passes_posted olds ∙ fresh ∙ ap (λ (k : ℕ). new_passes desk k) count;
+        done = done;
+        closed = subst (λ (l : S). Closes (SharedSteps step fails) (length posts) begun (passes_of (map posted news)) l calls) (sym is_left) three;
+      }

@@ -1,0 +1,41 @@
+-- Doors and folders among posts.
+use Rattle.std.proofs.Common.{◌≡◌, ◌<◌, ◌+◌, ℕ, List, [], ◌∷◌, ◌++◌, length, take, get_or, refl, sym, ap, ◌∙◌, length-append, append-nil}
+use Rattle.std.proofs.lemmas.List.{map-append}
+use Rattle.std.proofs.lemmas.Grind.{take_at_read}
+use Rattle.std.specs.Borrow.{Bor}
+use Rattle.pana_daemon.specs.declared.post.Post.{Post}
+use Rattle.pana_daemon.specs.declared.post.Post.TheVariants.{Door, Folder}
+use Rattle.pana_daemon.specs.declared.root.Root.{Root}
+use Rattle.pana_daemon.specs.Post.{doors_in, folders_in}
+use Rattle.pana_daemon.specs.Serve.{named_by}
+
+module _ {D F : Type 0} where
+  doors_append : (posts more : List (Post D F)) → doors_in (posts ++ more) ≡ doors_in posts ++ doors_in more
+  doors_append [] more = refl
+  doors_append (Door door ∷ posts) more = ap (λ (ds : List D). door ∷ ds) (doors_append posts more)
+  doors_append (Folder device folder ∷ posts) more = doors_append posts more
+
+  folders_append : (posts more : List (Post D F)) → folders_in (posts ++ more) ≡ folders_in posts ++ folders_in more
+  folders_append [] more = refl
+  folders_append (Door door ∷ posts) more = folders_append posts more
+  folders_append (Folder device folder ∷ posts) more = ap (λ (fs : List (List ℕ × F)). (device.now, folder) ∷ fs) (folders_append posts more)
+
+  -- one door more
+  pub door_more : (posts new : List (Post D F)) (door : D) → new ≡ posts ++ Door door ∷ [] → (length (doors_in new) ≡ length (doors_in posts) + 1) × (folders_in new ≡ folders_in posts)
+  door_more posts new door is = (
+    ap (λ (ps : List (Post D F)). length (doors_in ps)) is ∙ ap length (doors_append posts (Door door ∷ [])) ∙ length-append (doors_in posts) (door ∷ []),
+    ap (λ (ps : List (Post D F)). folders_in ps) is ∙ folders_append posts (Door door ∷ []) ∙ append-nil (folders_in posts),
+  )
+
+  -- one folder more
+  pub folder_more : (posts new : List (Post D F)) (device : Bor (List ℕ)) (folder : F) → new ≡ posts ++ Folder device folder ∷ [] → (doors_in new ≡ doors_in posts) × (folders_in new ≡ folders_in posts ++ (device.now, folder) ∷ [])
+  folder_more posts new device folder is = (
+    ap (λ (ps : List (Post D F)). doors_in ps) is ∙ doors_append posts (Folder device folder ∷ []) ∙ append-nil (doors_in posts),
+    ap (λ (ps : List (Post D F)). folders_in ps) is ∙ folders_append posts (Folder device folder ∷ []),
+  )
+
+-- the roots so far, and one more
+pub named_more : (roots : List Root) (i : ℕ) (root : Root) → i < length roots → root ≡ get_or roots i root → named_by (take (i + 1) roots) ≡ named_by (take i roots) ++ (root.device, root.folder.now) ∷ []
+named_more roots i root within here =
+    ap named_by ((take_at_read roots i root within).1) ∙ map-append (λ r. (r.device, r.folder.now)) (take i roots) (get_or roots i root ∷ [])
+    ∙ ap (λ (r : Root). named_by (take i roots) ++ (r.device, r.folder.now) ∷ []) (sym here)

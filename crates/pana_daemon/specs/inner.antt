@@ -1,0 +1,3 @@
+pub mod JobSlots
+pub mod Passes
+pub mod Scan

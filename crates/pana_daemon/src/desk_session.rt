@@ -1,0 +1,105 @@
+//! A session whose calls are made at a desk.
+
+use crate::shared::Shared;
+use crate::supervisor::Supervisor;
+use pana_copies::DeviceName;
+use pana_hall::Call;
+use pana_turn::{Desk, Pass};
+use pana_wire::{Answer, Message, NoAnswer, Session};
+use std::marker::Model;
+use std::sync::Wait;
+
+/// A session by a pass of a desk. To contracts it is the pass.
+#[derive(Drop)]
+pub struct DeskSession<'a, S: Session + Drop, T, G> {
+    rt: &'a T,
+    desk: &'a Desk<Shared<S>>,
+    supervisor: &'a G,
+    caller: u32,
+    calls: u64,
+    pass: Pass<Shared<S>>,
+}
+
+impl<'a, S: Session + Drop, T, G> Model for DeskSession<'a, S, T, G> {
+    ghost use Rattle.std.specs.Prelude.{◌≡◌};
+    ghost use Rattle.pana_daemon.specs.Desk.{PassView};
+
+    ghost Value = { PassView S };
+
+    ghost view = { λ session. session.pass };
+
+    ghost invariant = { λ session. session.pass.desk ≡ session.desk.now.id };
+}
+
+impl<'a, S: Session + Drop, T, G> DeskSession<'a, S, T, G> {
+    ghost use Rattle.std.specs.Prelude.{◌≡◌};
+
+    /// A session of this caller by a pass of the desk. Takes no memory.
+    pub fn new(
+        rt: &'a T,
+        desk: &'a Desk<Shared<S>>,
+        supervisor: &'a G,
+        caller: u32,
+        pass: Pass<Shared<S>>,
+    ) -> DeskSession<'a, S, T, G>
+        requires { pass.desk ≡ desk.now.id }
+        ensures { result ≡ pass }
+    {
+        DeskSession {
+            rt,
+            desk,
+            supervisor,
+            caller,
+            calls: 0,
+            pass,
+        }
+    }
+
+    /// The pass. Takes no memory.
+    pub fn into_pass(self) -> Pass<Shared<S>>
+        ensures { result ≡ self.entry }
+    {
+        let DeskSession {
+            rt: _,
+            desk: _,
+            supervisor: _,
+            caller: _,
+            calls: _,
+            pass,
+        } = self;
+        pass
+    }
+}
+
+impl<S: Session + Drop, T: Wait, G: Supervisor> Session for DeskSession<'_, S, T, G> {
+    ghost use Rattle.std.specs.Prelude.{IfOk, OnErr};
+    ghost use Rattle.pana_daemon.specs.Session.{GetsNone, MakesCall, calls_seen};
+
+    ghost step = { MakesCall S.step S.fails };
+
+    ghost moment = { calls_seen };
+
+    ghost fails = { GetsNone S.step S.fails };
+
+    /// Makes the call at the desk, between the supervisor's questions.
+    fn call(&mut self, by: &DeviceName, call: Call) -> Result<Answer, NoAnswer>
+        ensures step { IfOk result (λ answer. MakesCall S.step S.fails self.old by.now call answer self.new) }
+        ensures fails { OnErr result (GetsNone S.step S.fails self.old by.now call self.new) }
+    {
+        self.calls = self.calls.saturating_add(1);
+        self.supervisor.before(self.caller, self.calls);
+        let message = Message {
+            by: by.copy_of(),
+            call,
+        };
+        let Ok(reply) = self.desk.call(self.rt, &mut self.pass, message) else {
+            return Err(NoAnswer);
+        };
+        let Ok(answer) = reply else {
+            self.supervisor.unanswered(self.caller, self.calls);
+            return Err(NoAnswer);
+        };
+        self.supervisor.after(self.caller, self.calls);
+        Ok(answer)
+    }
+}

@@ -1,0 +1,44 @@
+//! What each caller at a desk does.
+ghost use Rattle.pana_daemon.specs.Post.{HasDone};
+
+use crate::desk_session::DeskSession;
+use crate::door::Door;
+use crate::folder::Folder;
+use crate::scanning::scanner;
+use crate::supervisor::Supervisor;
+use crate::working::work;
+use pana_copies::DeviceName;
+use pana_wire::Session;
+use std::alloc::Global;
+use std::sync::Wait;
+
+/// What a caller is to do, until there is no more of it.
+#[derive(Drop)]
+pub enum Post<'a, D, F> {
+    /// To serve the connections that a door gives.
+    Door(D),
+    /// To scan a folder of a device.
+    Folder(&'a DeviceName, F),
+}
+
+/// A caller: the session by which it makes its calls, and what it is to do.
+#[derive(Drop)]
+pub(crate) struct Caller<'a, S: Session + Drop, T, G, D, F> {
+    pub(crate) session: DeskSession<'a, S, T, G>,
+    pub(crate) post: Post<'a, D, F>,
+}
+
+impl<S: Session + Drop, T: Wait, G: Supervisor, D: Door, F: Folder> Caller<'_, S, T, G, D, F> {
+    /// Does what the caller is to do.
+    pub(crate) fn run(&mut self, rt: &T, alloc: Global)
+        ensures { HasDone S.step S.fails D.gives D.Reader.remaining D.Writer.contents F.gives self.old.post self.new.post self.old.session self.new.session }
+    {
+        let Caller { session, post } = self;
+        match post {
+            Post::Door(door) => work(rt, alloc, session, door),
+            Post::Folder(device, folder) => {
+                let _ = scanner(rt, alloc, session, device, folder);
+            }
+        }
+    }
+}

@@ -1,0 +1,26 @@
+//! Connections, served one after another.
+ghost use Rattle.pana_daemon.specs.Connection.{Works};
+
+use crate::desk_session::DeskSession;
+use crate::door::Door;
+use crate::supervisor::Supervisor;
+use pana_wire::Session;
+use std::alloc::Global;
+use std::sync::Wait;
+
+/// Serves the connections that the door gives, one after another, until it gives no more.
+pub fn work<S: Session + Drop, T: Wait, G: Supervisor, D: Door>(
+    rt: &T,
+    alloc: Global,
+    session: &mut DeskSession<'_, S, T, G>,
+    door: &mut D,
+)
+    ensures { Works S.step S.fails D.gives D.Reader.remaining D.Writer.contents door.old door.new session.old session.new }
+{
+    for _ in rt.forever() {
+        let Some(connection) = door.next() else {
+            return;
+        };
+        connection.serve(alloc, session);
+    }
+}

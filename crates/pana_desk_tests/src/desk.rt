@@ -1,0 +1,5 @@
+//! Threads at a desk: lanes, scanners and connections.
+
+mod jobs;
+mod listening;
+mod scanning;

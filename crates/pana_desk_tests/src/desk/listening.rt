@@ -1,0 +1,81 @@
+//! What no clause says of connections: that each is taken, and answered where memory is there.
+
+use pana_daemon::{
+    CountedListener, DaemonFault, Ended, Folder, IdleSupervisor, Patience, Post, SocketDoor, attend,
+};
+use pana_hall::Hall;
+use pana_scan::{Listing, ScanFault};
+use std::alloc::{AllocError, Global};
+use std::io;
+use std::io::Write;
+use std::marker::Sync;
+use std::net::{Net, OpenStream, Shutdown, TcpListener, TcpStream};
+use std::sync::{Mutex, Wait};
+use std::test::Fail;
+use std::thread::Threads;
+use std::time::Clock;
+
+const REGISTER: &str = "{\"by\":\"a\",\"do\":\"register\",\"device\":\"a\",\"path\":\"f\"}\n";
+
+const PAIR: &str = "{\"by\":\"a\",\"do\":\"pair\",\"a\":1,\"b\":1}\n";
+
+const REQUEST: &str = "POST / HTTP/1.1\r\n\r\n{\"by\":\"a\",\"do\":\"families\"}\n";
+
+/// A folder that is never scanned.
+#[derive(Drop)]
+struct NoFolder;
+
+impl Folder for NoFolder {
+    fn next(&mut self) -> Option<Result<Listing, ScanFault>> {
+        None
+    }
+}
+
+/// A client that has written its lines, and writes no more.
+fn client<R: Net>(rt: &R, listener: &TcpListener, lines: &str) -> io::Result<R::Stream> {
+    let mut stream = TcpStream::connect(rt, listener.local_addr()?)?;
+    stream.write_all(lines.as_bytes())?;
+    stream.shutdown(Shutdown::Write)?;
+    Ok(stream)
+}
+
+/// Serves the listener's connections one after another, until all that are wanted were taken.
+fn serve_all<'a, T: Threads + Wait + Clock + Sync>(
+    rt: &'a T,
+    alloc: Global,
+    supervisor: &'a IdleSupervisor,
+    listener: &'a Mutex<CountedListener>,
+) -> Result<Ended<Hall>, Fail> {
+    let patience = Patience {
+        hurry: 5,
+        idle: 300,
+    };
+    let door = SocketDoor::new(rt, alloc, supervisor, listener, patience);
+    let mut posts: Vec<Post<'static, _, NoFolder>> = Vec::with_capacity(alloc, 1)?;
+    posts.push_reserved(Post::Door(door));
+    let hall = Hall::new(alloc)?;
+    let begin = || -> Result<(), DaemonFault> { Ok(()) };
+    match attend(rt, alloc, supervisor, hall, posts, begin) {
+        Ok(ended) => Ok(ended),
+        Err(_) => Err(Fail::from(AllocError)),
+    }
+}
+
+#[test]
+fn connections_one_after_another(rt: HostRuntime) -> Result<(), Fail> {
+    let alloc = rt.alloc();
+    let listener = TcpListener::bind(&rt, "127.0.0.1:0")?;
+    let first = client(&rt, &listener, REGISTER)?;
+    let page = client(&rt, &listener, REQUEST)?;
+    let second = client(&rt, &listener, PAIR)?;
+    let counted = Mutex::new(CountedListener::new(listener, Some(3)));
+    let ended = serve_all(&rt, alloc, &IdleSupervisor, &counted)?;
+    assert_eq!(rt; (ended.calls, ended.session.length()), (2, 1));
+    let answer = io::read_to_string(alloc, first)?;
+    assert_eq!(rt; answer.as_str(), "{\"done\":1}\n");
+    let answer = io::read_to_string(alloc, page)?;
+    assert_eq!(rt; answer.as_str(), "");
+    let answer = io::read_to_string(alloc, second)?;
+    assert_eq!(rt; answer.as_str(), "{\"pair\":\"Equal\"}\n");
+    Ok(())
+}

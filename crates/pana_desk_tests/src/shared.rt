@@ -1,0 +1,63 @@
+//! What no clause says of a hall at a desk: that calls succeed where memory is there, and that a board sees another pass's
+//! call. Where an allocation fails, the test ends with that error.
+
+use pana_copies::{CopyPath, DeviceName, Place};
+use pana_daemon::Shared;
+use pana_hall::{Call, Cause, Hall, Query, Reply};
+use pana_journal::Report;
+use pana_turn::{Desk, Spent};
+use pana_wire::{Answer, Message, NoAnswer};
+use std::alloc::{AllocError, Global};
+use std::test::Fail;
+
+/// A report of a new file at the path `a`.
+fn register(alloc: Global) -> Result<Message, Fail> {
+    let place = Place {
+        device: DeviceName::new("laptop")?,
+        path: CopyPath::new(alloc, "a")?,
+    };
+    Ok(Message {
+        by: DeviceName::new("laptop")?,
+        call: Call::Report(Report::Register { place }),
+    })
+}
+
+/// The number of the entry that a report made, or 0 where it made none. Fails where memory ran out.
+fn entry_of(answer: Result<Result<Answer, NoAnswer>, Spent>) -> Result<u64, AllocError> {
+    match answer {
+        Ok(Ok(Answer::Given(Reply::Done { entry }))) => Ok(entry),
+        Ok(Ok(Answer::Given(Reply::Refused(Cause::OutOfMemory)))) => Err(AllocError),
+        _ => Ok(0),
+    }
+}
+
+/// How many rows the board has, or 0 where the reply is none. Fails where memory ran out.
+fn rows_of(answer: Result<Result<Answer, NoAnswer>, Spent>) -> Result<usize, AllocError> {
+    match answer {
+        Ok(Ok(Answer::Given(Reply::Board(board)))) => Ok(board.rows.as_slice().len()),
+        Ok(Ok(Answer::Given(Reply::Refused(Cause::OutOfMemory)))) => Err(AllocError),
+        _ => Ok(0),
+    }
+}
+
+#[test]
+fn shared_desk(rt: HostRuntime) -> Result<(), Fail> {
+    let alloc = rt.alloc();
+    let (desk, mut passes) = Desk::open(alloc, 2, Shared::new(Hall::new(alloc)?))?;
+    let (Some(mut second), Some(mut first)) = (passes.pop(), passes.pop()) else {
+        return Ok(());
+    };
+
+    let done = desk.call(&rt, &mut first, register(alloc)?);
+    assert_eq!(rt; entry_of(done)?, 1);
+    assert_eq!(rt; desk.glance(&mut second), 1);
+    let board = Message {
+        by: DeviceName::new("laptop")?,
+        call: Call::Query(Query::Board { family: 1 }),
+    };
+    assert_eq!(rt; rows_of(desk.call(&rt, &mut second, board))?, 1);
+    let note = desk.note(&mut first);
+    desk.meet(&mut second, note);
+    assert_eq!(rt; desk.glance(&mut first), 2);
+    Ok(())
+}

@@ -1,6 +1,0 @@
--- Where connections come in.
-use Rattle.std.specs.Prelude.{ℕ, ◌*◌, min}
-
--- each is twice as long as the one before, up to a second
-abbrev pub pause_after : ℕ → ℕ
-pause_after pause = min (2 * pause) 1000

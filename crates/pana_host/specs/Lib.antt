@@ -1,9 +1,0 @@
-pub mod Desk
-pub mod Session
-pub mod Lane
-pub mod Listen
-pub mod Door
-pub mod Objects
-pub mod Scan
-pub mod Scanners
-pub mod inner

@@ -1,2 +1,0 @@
-pub mod Booth
-pub mod Scan

@@ -1,5 +1,0 @@
-use Rattle.std.proofs.Common.{length}
-use Rattle.pana_keep.proofs.lines.+is_begun.Given as goal
-
-abbrev pub decreases-is_begun : goal.decreases-is_begun
-decreases-is_begun l = length l.bytes.now

@@ -1,7 +1,0 @@
-/// A call that a device in memory has done.
-#[derive(Debug, Drop)]
-pub(crate) enum Call {
-    Write { at: usize, bytes: Vec<u8> },
-    Cut { len: usize },
-    Sync,
-}

@@ -1,0 +1,4 @@
+pub mod Passes
+pub mod Sessions
+pub mod OneRun
+pub mod KeptRun

@@ -1,0 +1,33 @@
+//! The laws.
+
+ghost use Rattle.std.specs.Prelude.{◌≡◌, ℕ, IsTrue, List};
+ghost use Rattle.pana_journal.specs.declared.entry.Entry.{Entry};
+ghost use Rattle.pana_wire.specs.Answer.{Replies};
+ghost use Rattle.pana_store.specs.Store.{StoreView, IsKept, Keeps, Breaks};
+ghost use Rattle.pana_daemon.specs.declared.post.Post.{Post};
+ghost use Rattle.pana_daemon.specs.Serve.{Ends};
+ghost use Rattle.pana_laws.specs.KeptRun.{IsKeptRun};
+ghost use Rattle.pana_laws.specs.OneRun.{IsOneRun, never};
+
+use pana_daemon::{Door, Folder};
+use pana_log::{Device, LogState};
+
+/// Where the callers at a desk of a hall have ended, all their calls are one run of the hall, from the journal that it
+/// began with: each reply is permitted on the journal that all calls before it leave. Each caller's calls in it are just
+/// those by which its connections were served, one session after another, or its folder was scanned.
+pub fn daemon_is_one_run<D: Door, F: Folder>()
+    ensures { (begun : List Entry) (posts : List (Post D F)) (left : List Entry) (calls : ℕ)
+        → Ends Replies never D.gives D.Reader.remaining D.Writer.contents F.gives begun posts left calls
+        → IsOneRun D.gives D.Reader.remaining D.Writer.contents F.gives begun posts left calls }
+{}
+
+/// Where the callers at a desk of a store have ended, whose log is on a device that is known, all their calls are one
+/// history of the store, and nothing of it is lost: a crash at any moment leaves a file that loads to the first of its
+/// entries, with all that had been answered as done before that moment.
+pub fn daemon_keeps_what_is_done<V: Device, D: Door, F: Folder>()
+    ensures { IsTrue V.is_known → (begun left : StoreView V) (posts : List (Post D F)) (calls : ℕ)
+        → begun.log.state ≡ LogState.Open → IsKept V.seen V.may_leave V.is_usable begun
+        → Ends (Keeps V.is_known V.seen V.may_leave V.is_usable V.moment V.left_since V.has_failed) (Breaks V.is_known V.moment V.left_since V.has_failed)
+        D.gives D.Reader.remaining D.Writer.contents F.gives begun posts left calls
+        → IsKeptRun V.moment V.left_since (Keeps V.is_known V.seen V.may_leave V.is_usable V.moment V.left_since V.has_failed) (Breaks V.is_known V.moment V.left_since V.has_failed) begun left calls }
+{}

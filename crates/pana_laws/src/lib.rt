@@ -1,0 +1,4 @@
+//! What follows of the crates together: functions that do nothing, whose contracts are the laws.
+#![tactic(auto)]
+
+pub mod laws;

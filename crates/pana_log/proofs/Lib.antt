@@ -1,0 +1,9 @@
+pub mod Begun
+pub mod Operations
+pub mod Ends
+pub mod Kept
+pub mod Moments
+pub mod Prefixes
+pub mod Recovered
+pub mod Settled
+pub mod Tears

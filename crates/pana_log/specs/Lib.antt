@@ -1,0 +1,5 @@
+pub mod Operations
+pub mod Device
+pub mod Log
+pub mod Lines
+pub mod Memory

@@ -1,0 +1,7 @@
+/// A call that a device in memory has done.
+#[derive(Debug, Drop)]
+pub(crate) enum Operation {
+    Write { at: usize, bytes: Vec<u8> },
+    Cut { len: usize },
+    Sync,
+}

@@ -1,0 +1,10 @@
+pub mod Begun
+pub mod Calls
+pub mod Lines
+pub mod Runs
+pub mod Noted
+pub mod Done
+pub mod Acknowledged
+pub mod Said
+pub mod Texts
+pub mod Sending

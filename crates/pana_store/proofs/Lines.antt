@@ -1,0 +1,80 @@
+-- The line of an entry is whole, sealed, and its only one.
+use Rattle.std.proofs.Common.{◌≡◌, inl, inr, ℕ, suc, ◌-◌, ◌<◌, ◌≤◌, ◌==◌, true, false, cond, List, [], ◌∷◌, ◌++◌, length, length-append, take, Some, refl, sym, ap, ◌∙◌, subst, arith}
+use Rattle.std.specs.Prelude.{slice_get}
+use Rattle.std.proofs.lemmas.List.{append-nil, take-append-le}
+use Rattle.pana_journal.specs.declared.entry.Entry.{Entry}
+use Rattle.pana_wire.specs.Dump.{entry_text}
+use Rattle.pana_wire.specs.Seal.{entry_body, sealed_text, IsSealedLine}
+use Rattle.pana_wire.specs.Lines.{ended, unended, last_line, lines_of}
+use Rattle.pana_wire.specs.Reply.{reply_data, reply_text}
+use Rattle.pana_log.specs.Lines.{opens, recovered, text_of, HasNoBreak, AreLines}
+use Rattle.pana_log.proofs.Recovered.{which, recovered_lines}
+use Rattle.pana_seal.specs.Seal.{digest_of}
+use Rattle.pana_seal.proofs.Sealed.{sealed_by}
+use Rattle.pana_store.specs.Entries.{IsLineOf, IsSealedBehind}
+
+-- how many newlines there are
+abbrev breaks : List ℕ → ℕ
+breaks [] = 0
+breaks (b ∷ bs) = cond (b == 10) (suc (breaks bs)) (breaks bs)
+
+-- each ends a line
+ended_count : (begun bs : List ℕ) → length (ended begun (bs ++ 10 ∷ [])) ≡ suc (breaks bs)
+ended_count begun [] = refl
+ended_count begun (b ∷ bs) =
+    elim (b == 10) as (λ t. length (cond t (begun ∷ ended [] (bs ++ 10 ∷ [])) (ended (begun ++ b ∷ []) (bs ++ 10 ∷ []))) ≡ suc (cond t (suc (breaks bs)) (breaks bs))) [
+      | true ↦ omega (arith, ended_count [] bs)
+      | false ↦ ended_count (begun ++ b ∷ []) bs
+    ]
+
+none_counted : (bs : List ℕ) → breaks bs ≡ 0 → HasNoBreak bs
+none_counted [] none = tt
+none_counted (b ∷ bs) none = elim (which (b == 10)) [
+  | inl is ↦ absurd (omega (arith, sym none ∙ ap (λ t. cond t (suc (breaks bs)) (breaks bs)) is))
+  | inr other ↦ (other, none_counted bs (sym (ap (λ t. cond t (suc (breaks bs)) (breaks bs)) other) ∙ none))
+]
+
+one_line : (line : List ℕ) → lines_of (line ++ 10 ∷ []) ≡ line ∷ [] → HasNoBreak line
+one_line line one =
+    let text : List ℕ = line ++ 10 ∷ [] in
+    none_counted line (omega (arith, ap length one, length-append (ended [] text) (last_line (unended [] text)), ended_count [] line))
+
+gate_opens : (line : List ℕ) → slice_get (line ++ 10 ∷ []) 0 ≡ Some 123 → opens line ≡ true
+gate_opens [] is = absurd (let other : Some 10 ≡ Some 123 = is in cc)
+gate_opens (b ∷ line) is = let gate : b ≡ 123 = (let some : Some b ≡ Some 123 = is in cc) in ap (λ (x : ℕ). x == 123) gate
+
+some_bytes : (line text : List ℕ) → text ≡ line ++ 10 ∷ [] → 0 < length text
+some_bytes line text whole = omega (arith, ap length whole, length-append line (10 ∷ []))
+
+-- a line that is one of its text is the only one of a file
+only_line : (line text : List ℕ) → text ≡ line ++ 10 ∷ [] → lines_of text ≡ line ∷ [] → slice_get text 0 ≡ Some 123 → recovered text ≡ line ∷ []
+only_line line text is one gate =
+    let are : AreLines (line ∷ []) = (gate_opens line (subst (λ (t : List ℕ). slice_get t 0 ≡ Some 123) is gate), one_line line (sym (ap lines_of is) ∙ one), tt) in
+    ap recovered (is ∙ sym (append-nil (line ++ 10 ∷ []))) ∙ recovered_lines (line ∷ []) [] are
+
+-- the sealed line of an entry is one that a journal can hold
+pub is_line : (entry : Entry) (digest text : List ℕ) → IsSealedLine entry digest text → IsLineOf entry text
+is_line entry digest text is =
+    let line = sealed_text entry digest in
+    let found : recovered text ≡ line ∷ [] = only_line line text is.text is.one is.opens in
+    record {
+      whole = record {
+        some = some_bytes line text is.text;
+        same = ap text_of found ∙ sym is.text;
+      };
+      line = line;
+      one = found;
+      says = is.back;
+      short = is.short;
+    }
+
+pub is_sealed_behind : (before : List ℕ) (entry : Entry) (digest text : List ℕ) → digest ≡ digest_of before (entry_body entry) → IsSealedLine entry digest text → IsSealedBehind before text
+is_sealed_behind before entry digest text made is =
+    (sealed_text entry digest, only_line (sealed_text entry digest) text is.text is.one is.opens, sealed_by before (entry_body entry) digest made)
+
+-- the text of an entry but for its brace and its newline
+pub body_of_line : (entry : Entry) (line : List ℕ) → line ≡ entry_text entry ++ 10 ∷ [] → take (length line - 2) line ≡ entry_body entry
+body_of_line entry line is =
+    let text = entry_text entry in
+    let count : length line - 2 ≡ length text - 1 = omega (arith, ap length is, length-append text (10 ∷ [])) in
+    ap (λ (n : ℕ). take n line) count ∙ ap (take (length text - 1)) is ∙ take-append-le (length text - 1) text (10 ∷ []) (omega arith)

@@ -1,0 +1,16 @@
+use Rattle.std.proofs.Common.{◌≡◌, sym, ◌∙◌, ap, subst, rules}
+use Rattle.std.specs.Prelude.{string_bytes}
+use Rattle.pana_seal.specs.Seal.{digest_of}
+use Rattle.pana_store.specs.Entries.{IsLineOf, IsSealedBehind}
+use Rattle.pana_store.proofs.Lines.{is_line, is_sealed_behind, body_of_line}
+use Rattle.pana_store.proofs.entry_line.line_of.Goals as goal
+
+pub returns-clause-line : goal.returns-clause-line
+returns-clause-line c =
+    let value : c.into_bytes.result.items ≡ string_bytes c.in_ok-line.line = search rules in
+    subst (IsLineOf c.args.entry.now) (sym value) (is_line c.args.entry.now c.in_ok-digest.digest (string_bytes c.in_ok-line.line) c.in_ok-line.ensures.line)
+
+pub returns-clause-sealed : goal.returns-clause-sealed
+returns-clause-sealed c before covers =
+    let value : c.into_bytes.result.items ≡ string_bytes c.in_ok-line.line = search rules in
+    subst (IsSealedBehind before) (sym value) (is_sealed_behind before c.args.entry.now c.in_ok-digest.digest (string_bytes c.in_ok-line.line) (c.in_ok-digest.ensures before covers ∙ ap (digest_of before) (body_of_line c.args.entry.now c.as_bytes-plain.result.now (c.as_bytes-plain.ensures.value ∙ c.in_ok-plain.ensures.line.text))) c.in_ok-line.ensures.line)

@@ -1,0 +1,116 @@
+ghost use Rattle.std.specs.Prelude.{◌≡◌, ◌↔◌, IsTrue, IfOk, OnErr, length};
+ghost use Rattle.pana_hall.specs.declared.call.Call.TheVariants as calls;
+ghost use Rattle.pana_store.specs.Store.{IsKept, Keeps, Breaks};
+
+use crate::keeping::record;
+use pana_copies::DeviceName;
+use pana_hall::{Call, Hall};
+use pana_journal::Report;
+use pana_log::{Device, Log, LogState};
+use pana_seal::Sealer;
+use pana_wire::{Answer, NoAnswer, Session};
+use std::alloc::Global;
+use std::marker::Model;
+
+/// A hall, and a log that has each entry of its journal before the entry's `Done` is returned. To contracts it is the
+/// entries, the log, and what the log's next line is sealed behind.
+#[derive(Drop)]
+pub struct Store<D: Device> {
+    alloc: Global,
+    hall: Hall,
+    log: Log<D>,
+    sealer: Sealer,
+}
+
+impl<D: Device> Model for Store<D> {
+    ghost use Rattle.std.specs.Prelude.{IsTrue};
+    ghost use Rattle.pana_store.specs.Store.{StoreView, IsKept};
+
+    ghost Value = { StoreView D };
+
+    ghost view = { λ store. record { entries = store.hall; log = store.log; sealer = store.sealer } };
+
+    ghost invariant = { λ store. IsTrue D.is_known → IsKept D.seen D.may_leave D.is_usable (record { entries = store.hall; log = store.log; sealer = store.sealer }) };
+}
+
+impl<D: Device> Store<D> {
+    /// The hall that was loaded from a log, with that log and what has taken up its lines. Takes no memory.
+    pub fn new(alloc: Global, hall: Hall, log: Log<D>, sealer: Sealer) -> Store<D>
+        requires { IsTrue D.is_known → IsKept D.seen D.may_leave D.is_usable (record { entries = hall; log = log; sealer = sealer }) }
+        ensures entries { result.entries ≡ hall }
+        ensures log { result.log ≡ log }
+    {
+        Store {
+            alloc,
+            hall,
+            log,
+            sealer,
+        }
+    }
+
+    /// Whether the log takes entries: no call that may have changed its file has failed. Takes no memory.
+    pub fn is_open(&self) -> bool
+        ensures open { IsTrue result ↔ (self.now.log.state ≡ LogState.Open) }
+        ensures kept { IsTrue D.is_known → IsKept D.seen D.may_leave D.is_usable self.now }
+    {
+        self.log.state == LogState::Open
+    }
+
+    /// The log that has the hall's entries, and its device. Takes no memory.
+    pub fn log(&self) -> &Log<D>
+        ensures { result.now ≡ self.now.log }
+    {
+        &self.log
+    }
+
+    /// How many entries the hall's journal has. Takes no memory.
+    pub fn length(&self) -> u64
+        ensures { result ≡ length self.now.entries }
+    {
+        self.hall.length()
+    }
+
+    fn report(&mut self, by: &DeviceName, report: Report) -> Result<Answer, NoAnswer>
+        ensures step { IfOk result (λ answer. Keeps D.is_known D.seen D.may_leave D.is_usable D.moment D.left_since D.has_failed self.old by.now (calls.Report report) answer self.new) }
+        ensures fails { OnErr result (Breaks D.is_known D.moment D.left_since D.has_failed self.old by.now (calls.Report report) self.new) }
+    {
+        if self.log.state != LogState::Open {
+            return Err(NoAnswer);
+        }
+        let Store {
+            alloc,
+            hall,
+            log,
+            sealer,
+        } = self;
+        record(*alloc, hall, log, sealer, by, report)
+    }
+}
+
+impl<D: Device> Session for Store<D> {
+    ghost use Rattle.std.specs.Prelude.{IfOk, OnErr};
+    ghost use Rattle.pana_store.specs.Store.{Keeps, Breaks};
+
+    ghost step = { λ old by call answer new. Keeps D.is_known D.seen D.may_leave D.is_usable D.moment D.left_since D.has_failed old by call answer new };
+
+    ghost moment = { λ store. D.moment store.log.device };
+
+    ghost fails = { λ old by call new. Breaks D.is_known D.moment D.left_since D.has_failed old by call new };
+
+    /// Makes one call of a device: a report that was done is in the file once the answer is returned.
+    ///
+    /// # Errors
+    ///
+    /// `NoAnswer` for a report, where the log is broken: it may be kept or not. A query is always answered.
+    fn call(&mut self, by: &DeviceName, call: Call) -> Result<Answer, NoAnswer> {
+        match call {
+            Call::Query(query) => Ok(Answer::Given(self.hall.apply(by, Call::Query(query)))),
+            Call::Report(report) => self.report(by, report),
+        }
+    }
+
+    /// A report takes as long as the disk does.
+    fn is_slow(&self) -> bool {
+        true
+    }
+}
