@@ -25,8 +25,8 @@ SESSIONS = 16
 OPENED, CLOSED, IS_FOLDER = 0x20, 0x10, 0x40000000
 EVENT = struct.Struct("iIII")
 SLOW = 16 << 20
-# How many threads a daemon with one root makes and ends before it listens.
-TRIED = SESSIONS + 3
+# How many threads a daemon with one root makes before it listens: one stays, and the others, as many as there will be, end.
+TRIED = SESSIONS + 4
 DEAF = b"panad: cannot take a connection; trying again\n"
 
 
