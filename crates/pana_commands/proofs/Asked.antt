@@ -25,6 +25,8 @@ asked journal by query (replies.Board board) = refl
 asked journal by query (replies.Stamps stamps) = refl
 asked journal by query (replies.Pair rel) = refl
 asked journal by query (replies.Holdings holdings) = refl
+asked journal by query (replies.At standing) = refl
+asked journal by query (replies.Status rows) = refl
 asked journal by query (replies.Journal entries) = refl
 asked journal by query (replies.Refused cause) = refl
 

@@ -1,3 +1,4 @@
 pub mod Sides
 pub mod Kept
 pub mod DeviceText
+pub mod Sums

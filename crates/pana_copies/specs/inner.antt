@@ -1,2 +1,3 @@
 -- Words that only inner functions and proofs need: nobody has to believe them.
 pub mod Sides
+pub mod SumBytes

@@ -6,9 +6,11 @@ mod copy_table;
 mod device_name;
 mod name_fault;
 mod place;
+mod sum;
 
 pub use crate::copy_path::CopyPath;
 pub use crate::copy_table::{CopyTable, KeptCopy};
 pub use crate::device_name::DeviceName;
 pub use crate::name_fault::NameFault;
 pub use crate::place::Place;
+pub use crate::sum::Sum;

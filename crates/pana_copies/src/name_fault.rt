@@ -7,6 +7,8 @@ pub enum NameFault {
     BadDevice,
     #[error("a path is 1 to 1,024 bytes of UTF-8 without control characters")]
     BadPath,
+    #[error("a sum is 64 of 0 to 9 and a to f")]
+    BadSum,
     #[error("out of memory")]
     OutOfMemory,
 }

@@ -1,5 +1,6 @@
 -- What is left of a desk whose callers have done their work.
-use Rattle.std.proofs.Common.{◌≡◌, ℕ, All, List, [], ◌∷◌, length, Option, Result, map, refl, sym, ap, subst, ◌∙◌}
+use Rattle.std.proofs.Common.{◌≡◌, ℕ, All, Bool, ◌||◌, List, [], ◌∷◌, length, Option, Result, map, refl, sym, ap, subst, ◌∙◌}
+use Rattle.std.specs.List.{list_any}
 use Rattle.pana_hall.specs.declared.call.Call.{Call}
 use Rattle.pana_scan.specs.declared.scan_fault.ScanFault.{ScanFault}
 use Rattle.pana_scan.specs.Listing.{Contents}
@@ -13,6 +14,7 @@ use Rattle.pana_daemon.specs.Desk.{PassView, SharedSteps}
 use Rattle.pana_daemon.specs.inner.Passes.{HaveGrown}
 use Rattle.pana_daemon.specs.Post.{HaveDone, passes_of, posted, posts_of}
 use Rattle.pana_daemon.specs.Serve.{Ends}
+use Rattle.pana_daemon.specs.Session.{lacks_answer}
 use Rattle.pana_daemon.proofs.Passes.{each_of, grown_all, grown_of, new_all, new_of, not_both}
 use Rattle.pana_daemon.proofs.Posts.{done_grow}
 
@@ -32,6 +34,10 @@ module _ {S T G D F : Type 0} where
   posts_posted [] = refl
   posts_posted (caller ∷ callers) = ap (λ (ps : List (Post D F)). caller.post ∷ ps) (posts_posted callers)
 
+  lack_posted : (callers : List (Caller S T G D F)) → list_any lacks_answer (passes_of (map posted callers)) ≡ list_any (λ caller. lacks_answer caller.session) callers
+  lack_posted [] = refl
+  lack_posted (caller ∷ callers) = ap (λ (b : Bool). lacks_answer caller.session || b) (lack_posted callers)
+
 module _ {S T G D R W F : Type 0} (step : S → List ℕ → Call → Answer → S → Type 0) (fails : S → List ℕ → Call → S → Type 0)
     (gives : D → Option (Connection R W) → D → Type 0) (remaining : R → Option (List ℕ)) (contents : W → Option (List ℕ)) (finds : F → Option (Result Contents ScanFault) → F → Type 0)
     (desk : DeskId S) (seats : ℕ) (olds news : List (Caller S T G D F)) (back : List (PassView S))
@@ -50,9 +56,10 @@ module _ {S T G D R W F : Type 0} (step : S → List ℕ → Call → Answer →
   pub none_missing : LacksOne seats back → ⊥
   none_missing lacks = not_both seats back (grown_all seats (new_passes desk seats) back grown (new_all desk seats (new_passes desk seats) refl)) lacks
 
-  pub ends_so : (begun machine left : S) (posts : List (Post D F)) (calls : ℕ) → desk.begun ≡ begun → tasks olds ≡ posts → seats ≡ length posts
-      → Closes (SharedSteps step fails) seats desk.begun back machine calls → left ≡ machine → Ends step fails gives remaining contents finds begun posts left calls
-  ends_so begun machine left posts calls opened are count closed is_left =
+  pub ends_so : (begun machine left : S) (posts posts_left : List (Post D F)) (calls : ℕ) (unanswered : Bool) → desk.begun ≡ begun → tasks olds ≡ posts → seats ≡ length posts
+      → Closes (SharedSteps step fails) seats desk.begun back machine calls → left ≡ machine → posts_left ≡ tasks news → unanswered ≡ list_any (λ caller. lacks_answer caller.session) news
+      → Ends step fails gives remaining contents finds begun posts left posts_left calls unanswered
+  ends_so begun machine left posts posts_left calls unanswered opened are count closed is_left are_left lack =
       let one = subst (λ (ps : List (PassView S)). Closes (SharedSteps step fails) seats desk.begun ps machine calls) (is_back ∙ sym (passes_posted news)) closed in
       let two = subst (λ (b : S). Closes (SharedSteps step fails) seats b (passes_of (map posted news)) machine calls) opened one in
       let three = subst (λ (k : ℕ). Closes (SharedSteps step fails) k begun (passes_of (map posted news)) machine calls) count two in
@@ -62,7 +69,9 @@ module _ {S T G D R W F : Type 0} (step : S → List ℕ → Call → Answer →
         olds = map posted olds;
         news = map posted news;
         posts_are = posts_posted olds ∙ are;
+        posts_left_are = posts_posted news ∙ sym are_left;
         are_new = passes_posted olds ∙ fresh ∙ ap (λ (k : ℕ). new_passes desk k) count;
         done = done;
         closed = subst (λ (l : S). Closes (SharedSteps step fails) (length posts) begun (passes_of (map posted news)) l calls) (sym is_left) three;
+        lack = lack_posted news ∙ sym lack;
       }

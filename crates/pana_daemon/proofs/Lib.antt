@@ -1,4 +1,3 @@
-pub mod JobSlots
 pub mod Openings
 pub mod Sending
 pub mod Scanned
@@ -11,3 +10,6 @@ pub mod Passes
 pub mod Posts
 pub mod Attended
 pub mod Tasks
+pub mod Doors
+pub mod Named
+pub mod Commanded

@@ -14,7 +14,7 @@ use Rattle.pana_turn.specs.Closing.{HasAll, LacksOne, has_pass}
 use Rattle.pana_turn.specs.Passes.{DeskId, new_pass, new_passes}
 use Rattle.pana_daemon.specs.Desk.{PassView}
 use Rattle.pana_daemon.specs.declared.scanning.ScanTally.{ScanTally}
-use Rattle.pana_daemon.specs.inner.Passes.{AreOf, HaveGrown}
+use Rattle.pana_daemon.specs.inner.Passes.{AreOf, AreOpen, HaveGrown}
 use Rattle.pana_daemon.specs.Scan.{Asked, Makes, Scans}
 use Rattle.pana_daemon.specs.Session.{GetsNone, GrowsTo, MakesCall}
 use Rattle.pana_daemon.proofs.Sessions.{grows_on, grows_same, call_grows, none_grows}
@@ -27,9 +27,17 @@ of_numbers : {S : Type 0} → (desk : DeskId S) (numbers : List ℕ) → AreOf d
 of_numbers desk [] = tt
 of_numbers desk (number ∷ numbers) = (refl, of_numbers desk numbers)
 
+open_numbers : {S : Type 0} → (desk : DeskId S) (numbers : List ℕ) → AreOpen desk (numbered desk numbers)
+open_numbers desk [] = tt
+open_numbers desk (number ∷ numbers) = (refl, refl, open_numbers desk numbers)
+
 -- the passes of a new desk are of it
 pub new_of : {S : Type 0} → (desk : DeskId S) (seats : ℕ) (passes : List (PassView S)) → passes ≡ new_passes desk seats → AreOf desk passes
 new_of desk seats passes is = subst (AreOf desk) (sym is) (of_numbers desk (range_with_len 0 seats))
+
+-- and no call of theirs lacks its answer
+pub new_open : {S : Type 0} → (desk : DeskId S) (seats : ℕ) (passes : List (PassView S)) → passes ≡ new_passes desk seats → AreOpen desk passes
+new_open desk seats passes is = subst (AreOpen desk) (sym is) (open_numbers desk (range_with_len 0 seats))
 
 pub new_count : {S : Type 0} → (desk : DeskId S) (seats : ℕ) (passes : List (PassView S)) → passes ≡ new_passes desk seats → length passes ≡ seats
 new_count desk seats passes is = ap length is ∙ length-map-range_with_len (new_pass desk) 0 seats

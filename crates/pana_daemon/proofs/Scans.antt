@@ -9,7 +9,7 @@ use Rattle.pana_scan.specs.declared.step.Step.{Step}
 use Rattle.pana_scan.specs.Listing.{Contents}
 use Rattle.pana_hall.specs.declared.call.Query.TheVariants as queries
 use Rattle.pana_hall.specs.declared.holding.Holding.{Holding}
-use Rattle.pana_hall.specs.declared.reply.Reply.TheVariants.{Done, Families, Board, Stamps, Pair, Holdings, Journal, Refused}
+use Rattle.pana_hall.specs.declared.reply.Reply.TheVariants.{At, Status, Done, Families, Board, Stamps, Pair, Holdings, Journal, Refused}
 use Rattle.pana_scan.specs.declared.baseline.BaselineRow.{BaselineRow}
 use Rattle.pana_scan.specs.Plan.{plan_of}
 use Rattle.pana_scan.specs.declared.step.Plan.{Plan}
@@ -145,22 +145,24 @@ no_reports device listing old new (Given (Families rows)) same = (refl, refl, sa
 no_reports device listing old new (Given (Board board)) same = (refl, refl, same)
 no_reports device listing old new (Given (Stamps stamps)) same = (refl, refl, same)
 no_reports device listing old new (Given (Pair rel)) same = (refl, refl, same)
+no_reports device listing old new (Given (At standing)) same = (refl, refl, same)
+no_reports device listing old new (Given (Status rows)) same = (refl, refl, same)
 no_reports device listing old new (Given (Journal entries)) same = (refl, refl, same)
 no_reports device listing old new (Given (Refused cause)) same = (refl, refl, same)
 no_reports device listing old new NotKept same = (refl, refl, same)
 
 module _ {S : Type 0} (step : S → List ℕ → Call → Answer → S → Type 0) (device : List ℕ) where
   abbrev asking : Answer → Asked
-  asking answer = record { by = device; call = calls.Query (queries.Holdings device); answer = answer }
+  asking answer = record { by = device; call = calls.Query (queries.Holdings device None); answer = answer }
 
   -- the device asked, and reported nothing
-  pub asked : (listing : Contents) (answer : Answer) (old new : S) (marks_old marks_new : List BaselineRow) (first last : ScanTally) → listing.device ≡ device → step old device (calls.Query (queries.Holdings device)) answer new → marks_new ≡ marks_old → Tallies first last [] 1 → ScansOnce step device (Ok listing) old new marks_old marks_new first last
+  pub asked : (listing : Contents) (answer : Answer) (old new : S) (marks_old marks_new : List BaselineRow) (first last : ScanTally) → listing.device ≡ device → step old device (calls.Query (queries.Holdings device None)) answer new → marks_new ≡ marks_old → Tallies first last [] 1 → ScansOnce step device (Ok listing) old new marks_old marks_new first last
   asked listing answer old new marks_old marks_new first last own one marks tally = record {
     made = asking answer ∷ [];
     faults = 1;
     calls = (new, one, refl);
     is = (own, refl, refl, no_reports device listing marks_old marks_new answer marks);
-    tally = tallies_after_query first last device (queries.Holdings device) answer [] 1 tally;
+    tally = tallies_after_query first last device (queries.Holdings device None) answer [] 1 tally;
   }
 
   -- the device asked, and got no holdings
@@ -168,18 +170,18 @@ module _ {S : Type 0} (step : S → List ℕ → Call → Answer → S → Type 
   none_held listing old new marks_old marks_new first last own marks tally (answer, one) = asked listing answer old new marks_old marks_new first last own one marks tally
 
   -- the question for the holdings has no answer
-  pub none_asked : (fails : S → List ℕ → Call → S → Type 0) (listing : Contents) (old new : S) (marks : List BaselineRow) (tally : ScanTally) → listing.device ≡ device → fails old device (calls.Query (queries.Holdings device)) new → StopsScan step fails device (Ok listing) old new marks tally tally
+  pub none_asked : (fails : S → List ℕ → Call → S → Type 0) (listing : Contents) (old new : S) (marks : List BaselineRow) (tally : ScanTally) → listing.device ≡ device → fails old device (calls.Query (queries.Holdings device None)) new → StopsScan step fails device (Ok listing) old new marks tally tally
   none_asked fails listing old new marks tally own failed = record {
     mid = old;
     made = [];
     calls = refl;
-    call = calls.Query (queries.Holdings device);
+    call = calls.Query (queries.Holdings device None);
     is = λ answer. (1, marks, (own, refl, refl, no_reports device listing marks marks answer refl));
     tally = tallies_none tally;
     ends = failed;
   }
 
-  module _ (listing : Contents) (holdings : List Holding) (marks_old : List BaselineRow) (old mid : S) (own : listing.device ≡ device) (one : step old device (calls.Query (queries.Holdings device)) (Given (Holdings holdings)) mid) (first last : ScanTally)
+  module _ (listing : Contents) (holdings : List Holding) (marks_old : List BaselineRow) (old mid : S) (own : listing.device ≡ device) (one : step old device (calls.Query (queries.Holdings device None)) (Given (Holdings holdings)) mid) (first last : ScanTally)
       (plan : Plan) (is : plan ≡ plan_of marks_old holdings listing) where
     -- the device asked, got its holdings, and reported what was planned
     planned : (new : S) (marks_new : List BaselineRow) (steps : List Step) → steps ≡ plan.steps → ReportsSteps step device steps mid new plan.baseline marks_new first last → ScansOnce step device (Ok listing) old new marks_old marks_new first last
@@ -188,7 +190,7 @@ module _ {S : Type 0} (step : S → List ℕ → Call → Answer → S → Type 
       faults = reports.faults;
       calls = (mid, one, reports.calls);
       is = (own, refl, refl, inl (subst (λ (p : Plan). Reports device p.baseline p.steps reports.made reports.faults marks_new) is (subst (λ (s : List Step). Reports device plan.baseline s reports.made reports.faults marks_new) are reports.are)));
-      tally = tallies_after_query first last device (queries.Holdings device) (Given (Holdings holdings)) reports.made reports.faults reports.tally;
+      tally = tallies_after_query first last device (queries.Holdings device None) (Given (Holdings holdings)) reports.made reports.faults reports.tally;
     }
 
     stopped : (fails : S → List ℕ → Call → S → Type 0) (new : S) (steps : List Step) → steps ≡ plan.steps → StopsReporting step fails device steps mid new plan.baseline first last → StopsScan step fails device (Ok listing) old new marks_old first last
@@ -201,7 +203,7 @@ module _ {S : Type 0} (step : S → List ℕ → Call → Answer → S → Type 
           let so = stops.are answer in
           let more = stops.made ++ record { by = device; call = stops.call; answer = answer } ∷ [] in
           (so.0, so.1, (own, refl, refl, inl (subst (λ (p : Plan). Reports device p.baseline p.steps more so.0 so.1) is (subst (λ (s : List Step). Reports device plan.baseline s more so.0 so.1) are so.2))));
-      tally = tallies_after_query first last device (queries.Holdings device) (Given (Holdings holdings)) stops.made 0 stops.tally;
+      tally = tallies_after_query first last device (queries.Holdings device None) (Given (Holdings holdings)) stops.made 0 stops.tally;
       ends = stops.ends;
     }
 

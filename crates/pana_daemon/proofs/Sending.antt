@@ -1,28 +1,20 @@
--- A job may go to another thread where its session may, with its slot, and so may a session at a desk and a caller.
+-- A session at a desk may go to another thread where the session that all share may, and so may a caller.
 use denote.Ref.{NamedLft}
 use denote.RattleType.{RattleType}
 use denote.Struct.Field.{row_field}
 use denote.Param.SendFields.{as_row_send, declared_send}
 use denote.Param.Send.{IsSend, IsSync, sendable, view_send, shr_send}
 use Rattle.std.specs.contracts.result.Result as results_row
-use Rattle.std.proofs.option.Option.TheSendSync as options
-use Rattle.std.proofs.result.Result.TheSendSync as results
 use Rattle.pana_wire.specs.contracts.message.Message as message
 use Rattle.pana_wire.specs.contracts.answer.Answer as answer
 use Rattle.pana_wire.specs.contracts.answer.NoAnswer as no_answer
 use Rattle.pana_wire.specs.declared.session.Session.{Ghosts}
-use Rattle.pana_wire.proofs.tap.Tap.TheSendSync as taps
-use Rattle.pana_wire.proofs.serving.Served.TheSendSync as served
-use Rattle.pana_wire.proofs.serving.ServeFault.TheSendSync as faults
 use Rattle.pana_turn.specs.contracts.desk.Desk as desk
 use Rattle.pana_turn.specs.contracts.pass.Pass as pass
 use Rattle.pana_turn.proofs.Sending as turns
 use Rattle.pana_daemon.specs.contracts.shared.Shared as shared
 use Rattle.pana_daemon.specs.contracts.shared.Shared.TheInside as shared_inside
 use Rattle.pana_daemon.specs.contracts.shared.SharedMachine.TheImpl as machine
-use Rattle.pana_daemon.specs.contracts.jobs.SessionJob as job
-use Rattle.pana_daemon.specs.contracts.jobs.SessionEnd as session_end
-use Rattle.pana_daemon.specs.contracts.jobs.JobSlot as slot
 use Rattle.pana_daemon.specs.contracts.desk_session.DeskSession as session
 use Rattle.pana_daemon.specs.contracts.desk_session.DeskSession.TheInside as session_inside
 use Rattle.pana_daemon.specs.contracts.post.Caller as caller
@@ -39,17 +31,8 @@ module _ (S : RattleType) (g : Ghosts S.Denot) (s : IsSend S) where
   pub desk_sync : IsSync (desk.the_row (shared.the_row S) message.the_row (results_row.the_row answer.the_row no_answer.the_row) (machine.ghosts S g machine.no_dict machine.no_dict))
   desk_sync = turns.desk_sync (shared.the_row S) message.the_row (results_row.the_row answer.the_row no_answer.the_row) (machine.ghosts S g machine.no_dict machine.no_dict) shared_send
 
-  job_send : (R W : RattleType) → IsSend R → IsSend W → IsSend (job.the_row S R W g)
-  job_send R W r w = declared_send (job.the_type S R W g) (pass_send, (taps.the_send R r, (taps.the_send W w, tt)))
-
-  end_send : (R W : RattleType) → IsSend R → IsSend W → IsSend (session_end.the_row S R W g)
-  end_send R W r w = declared_send (session_end.the_type S R W g) (pass_send, (taps.the_send R r, (taps.the_send W w, (results.the_send _ _ served.the_send faults.the_send, tt))))
-
-  pub slot_send : (R W : RattleType) → IsSend R → IsSend W → IsSend (slot.the_row S R W g)
-  slot_send R W r w = declared_send (slot.the_type S R W g) (options.the_send _ (job_send R W r w), (options.the_send _ (end_send R W r w), tt))
-
   pub session_send : (lft : NamedLft) (T G : RattleType) → IsSync T → IsSync G → IsSend (session.the_row lft S T G g)
-  session_send lft T G t q = view_send _ _ _ _ _ (declared_send (session_inside.the_type lft S T G g) (shr_send _ _ T t, (shr_send _ _ _ desk_sync, (shr_send _ _ G q, (search sendable, (search sendable, (pass_send, tt)))))))
+  session_send lft T G t q = view_send _ _ _ _ _ (declared_send (session_inside.the_type lft S T G g) (shr_send _ _ T t, (shr_send _ _ _ desk_sync, (shr_send _ _ G q, (search sendable, (search sendable, (search sendable, (pass_send, tt))))))))
 
-  pub caller_send : (lft : NamedLft) (T G D F : RattleType) → IsSync T → IsSync G → IsSend D → IsSend F → IsSend (caller.the_row lft S T G D F g)
-  caller_send lft T G D F t q d f = declared_send (caller.the_type lft S T G D F g) (session_send lft T G t q, (posts.the_send lft D F d f, tt))
+  pub caller_send : (lft post_lft : NamedLft) (T G D F : RattleType) → IsSync T → IsSync G → IsSend D → IsSend F → IsSend (caller.the_row lft post_lft S T G D F g)
+  caller_send lft post_lft T G D F t q d f = declared_send (caller.the_type lft post_lft S T G D F g) (session_send lft T G t q, (posts.the_send post_lft D F d f, tt))

@@ -14,7 +14,6 @@ use Rattle.pana_wire.specs.Lines.{lines_of}
 use Rattle.pana_wire.specs.Timely.{IsTimely}
 use Rattle.pana_turn.specs.Passes.{AddsCall, IsSamePass}
 use Rattle.pana_daemon.specs.Desk.{Finished, PassView}
-use Rattle.pana_daemon.specs.inner.Passes.{HaveGrown}
 use Rattle.pana_daemon.specs.Served.{EndsWith, IsServed}
 use Rattle.pana_daemon.specs.Session.{Calls, MakesCall, GetsNone, GrowsTo, calls_seen}
 

@@ -1,5 +1,5 @@
 -- What a scanner counts.
-use Rattle.std.proofs.Common.{◌≡◌, ℕ, zero, suc, ◌+◌, ◌-◌, List, [], ◌∷◌, ◌++◌, refl, sym, ap, subst, ◌∙◌, arith}
+use Rattle.std.proofs.Common.{◌≡◌, ℕ, zero, suc, ◌+◌, List, [], ◌∷◌, ◌++◌, refl, sym, ap, subst, ◌∙◌, arith}
 use Rattle.pana_hall.specs.declared.call.Call.TheVariants as calls
 use Rattle.pana_hall.specs.declared.call.Query.{Query}
 use Rattle.pana_hall.specs.declared.reply.Reply.TheVariants.{Done}
@@ -7,7 +7,7 @@ use Rattle.pana_wire.specs.declared.answer.Answer.{Answer}
 use Rattle.pana_wire.specs.declared.answer.Answer.TheVariants.{Given}
 use Rattle.pana_scan.specs.declared.step.Step.{Step}
 use Rattle.pana_daemon.specs.declared.scanning.ScanTally.{ScanTally}
-use Rattle.pana_daemon.specs.Scan.{Asked, counted, done_as, done_in, refused_in}
+use Rattle.pana_daemon.specs.Scan.{Asked, counted, done_in, refused_in}
 use Rattle.pana_daemon.specs.inner.Scan.{Tallies, counted_on, reporting}
 
 -- counts and more counts

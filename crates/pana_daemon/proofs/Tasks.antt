@@ -1,5 +1,5 @@
 -- Doors and folders among posts.
-use Rattle.std.proofs.Common.{◌≡◌, ◌<◌, ◌+◌, ℕ, List, [], ◌∷◌, ◌++◌, length, take, get_or, refl, sym, ap, ◌∙◌, length-append, append-nil}
+use Rattle.std.proofs.Common.{◌≡◌, ◌<◌, ◌+◌, ℕ, zero, suc, List, [], ◌∷◌, ◌++◌, length, take, get_or, replicate, refl, sym, ap, ◌∙◌, append-nil}
 use Rattle.std.proofs.lemmas.List.{map-append}
 use Rattle.std.proofs.lemmas.Grind.{take_at_read}
 use Rattle.std.specs.Borrow.{Bor}
@@ -7,7 +7,7 @@ use Rattle.pana_daemon.specs.declared.post.Post.{Post}
 use Rattle.pana_daemon.specs.declared.post.Post.TheVariants.{Door, Folder}
 use Rattle.pana_daemon.specs.declared.root.Root.{Root}
 use Rattle.pana_daemon.specs.Post.{doors_in, folders_in}
-use Rattle.pana_daemon.specs.Serve.{named_by}
+use Rattle.pana_daemon.specs.Root.{folder_at, folders_of}
 
 module _ {D F : Type 0} where
   doors_append : (posts more : List (Post D F)) → doors_in (posts ++ more) ≡ doors_in posts ++ doors_in more
@@ -21,9 +21,9 @@ module _ {D F : Type 0} where
   folders_append (Folder device folder ∷ posts) more = ap (λ (fs : List (List ℕ × F)). (device.now, folder) ∷ fs) (folders_append posts more)
 
   -- one door more
-  pub door_more : (posts new : List (Post D F)) (door : D) → new ≡ posts ++ Door door ∷ [] → (length (doors_in new) ≡ length (doors_in posts) + 1) × (folders_in new ≡ folders_in posts)
+  pub door_more : (posts new : List (Post D F)) (door : D) → new ≡ posts ++ Door door ∷ [] → (doors_in new ≡ doors_in posts ++ door ∷ []) × (folders_in new ≡ folders_in posts)
   door_more posts new door is = (
-    ap (λ (ps : List (Post D F)). length (doors_in ps)) is ∙ ap length (doors_append posts (Door door ∷ [])) ∙ length-append (doors_in posts) (door ∷ []),
+    ap (λ (ps : List (Post D F)). doors_in ps) is ∙ doors_append posts (Door door ∷ []),
     ap (λ (ps : List (Post D F)). folders_in ps) is ∙ folders_append posts (Door door ∷ []) ∙ append-nil (folders_in posts),
   )
 
@@ -35,7 +35,13 @@ module _ {D F : Type 0} where
   )
 
 -- the roots so far, and one more
-pub named_more : (roots : List Root) (i : ℕ) (root : Root) → i < length roots → root ≡ get_or roots i root → named_by (take (i + 1) roots) ≡ named_by (take i roots) ++ (root.device, root.folder.now) ∷ []
-named_more roots i root within here =
-    ap named_by ((take_at_read roots i root within).1) ∙ map-append (λ r. (r.device, r.folder.now)) (take i roots) (get_or roots i root ∷ [])
-    ∙ ap (λ (r : Root). named_by (take i roots) ++ (r.device, r.folder.now) ∷ []) (sym here)
+pub folders_more : {K : Type 0} (disks : K) (roots : List Root) (i : ℕ) (root : Root) → i < length roots → root ≡ get_or roots i root
+    → folders_of disks (take (i + 1) roots) ≡ folders_of disks (take i roots) ++ (root.device, folder_at disks root) ∷ []
+folders_more disks roots i root within here =
+    ap (folders_of disks) ((take_at_read roots i root within).1) ∙ map-append (λ r. (r.device, folder_at disks r)) (take i roots) (get_or roots i root ∷ [])
+    ∙ ap (λ (r : Root). folders_of disks (take i roots) ++ (r.device, folder_at disks r) ∷ []) (sym here)
+
+-- one more of the same
+pub replicate_more : {X : Type 0} (n : ℕ) (x : X) → replicate n x ++ x ∷ [] ≡ replicate (suc n) x
+replicate_more zero x = refl
+replicate_more (suc n) x = ap (λ xs. x ∷ xs) (replicate_more n x)

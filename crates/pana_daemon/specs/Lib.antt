@@ -2,11 +2,12 @@ pub mod Desk
 pub mod Session
 pub mod Served
 pub mod Connection
-pub mod Jobs
 pub mod Objects
+pub mod Door
 pub mod Scan
 pub mod Post
 pub mod Pause
 pub mod Root
 pub mod Serve
+pub mod Program
 pub mod inner

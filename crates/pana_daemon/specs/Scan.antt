@@ -92,7 +92,7 @@ abbrev pub IsScan : List ℕ → Result Contents ScanFault → List BaselineRow 
 IsScan device given old [] faults new = IsForeign device given × (faults ≡ 1) × (new ≡ old)
 IsScan device (Err fault) old (asked ∷ reports) faults new = ⊥
 IsScan device (Ok listing) old (asked ∷ reports) faults new =
-    (listing.device ≡ device) × (asked.by ≡ device) × (asked.call ≡ calls.Query (queries.Holdings device)) × Follow device listing old asked.answer reports faults new
+    (listing.device ≡ device) × (asked.by ≡ device) × (asked.call ≡ calls.Query (queries.Holdings device None)) × Follow device listing old asked.answer reports faults new
 
 -- the call, whatever its answer is, is the next of the scan's calls, after these
 abbrev pub IsNext : List ℕ → Result Contents ScanFault → List BaselineRow → List Asked → Call → Type 0

@@ -1,5 +1,6 @@
 -- What callers leave of the session that all share.
-use Rattle.std.specs.Prelude.{◌≡◌, ℕ, List, length, map, Option, Result}
+use Rattle.std.specs.Prelude.{◌≡◌, ℕ, Bool, true, false, List, length, replicate, Option, Some, None, Result}
+use Rattle.std.specs.List.{list_any}
 use Rattle.pana_hall.specs.declared.call.Call.{Call}
 use Rattle.pana_scan.specs.declared.scan_fault.ScanFault.{ScanFault}
 use Rattle.pana_scan.specs.Listing.{Contents}
@@ -8,35 +9,58 @@ use Rattle.pana_turn.specs.Passes.{DeskId, new_passes}
 use Rattle.pana_wire.specs.declared.answer.Answer.{Answer}
 use Rattle.pana_daemon.specs.Desk.{PassView, SharedSteps}
 use Rattle.pana_daemon.specs.Post.{HaveDone, doors_in, folders_in, passes_of, posts_of}
+use Rattle.pana_daemon.specs.Session.{lacks_answer}
 use Rattle.pana_daemon.specs.declared.connection.Connection.{Connection}
+use Rattle.pana_daemon.specs.declared.daemon_fault.LateFault.{LateFault}
+use Rattle.pana_daemon.specs.declared.daemon_fault.LateFault.TheVariants.{NoThreads, Unanswered}
 use Rattle.pana_daemon.specs.declared.post.Post.{Post}
-use Rattle.pana_daemon.specs.declared.root.Root.{Root}
+use Rattle.pana_daemon.specs.Door.{DoorView, GivesDrawn, drawn_by, is_one_closed, limit_of, new_door}
+use Rattle.pana_daemon.specs.Root.{FolderView}
+use Rattle.pana_tickets.specs.Hands.{TicketsView}
 
 -- All share one desk, which was opened with the session that they began with: each post was done by a caller with a new
 -- pass of its own, and the desk was closed with their passes. So there is one history of calls: it begins with what each
 -- pass has seen, the calls in it with a pass's number are just those that this caller made, and it has no others; and
--- the session and the number of calls are those that it leaves.
+-- the session and the number of calls are those that it leaves. A call is said to have no answer just where one has none.
 pub record Ends {S D R W F : Type 0} (step : S → List ℕ → Call → Answer → S → Type 0) (fails : S → List ℕ → Call → S → Type 0)
     (gives : D → Option (Connection R W) → D → Type 0) (remaining : R → Option (List ℕ)) (contents : W → Option (List ℕ)) (finds : F → Option (Result Contents ScanFault) → F → Type 0)
-    (begun : S) (posts : List (Post D F)) (left : S) (calls : ℕ) : Type 0 where
+    (begun : S) (posts : List (Post D F)) (left : S) (posts_left : List (Post D F)) (calls : ℕ) (unanswered : Bool) : Type 0 where
   pub desk : DeskId S
   pub opened : desk.begun ≡ begun
   pub olds : List (Post D F × PassView S)
   pub news : List (Post D F × PassView S)
   pub posts_are : posts_of olds ≡ posts
+  pub posts_left_are : posts_of news ≡ posts_left
   pub are_new : passes_of olds ≡ new_passes desk (length posts)
   pub done : HaveDone step fails gives remaining contents finds olds news
   pub closed : Closes (SharedSteps step fails) (length posts) begun (passes_of news) left calls
+  pub lack : list_any lacks_answer (passes_of news) ≡ unanswered
 
--- the roots: each device, and the name of its folder
-abbrev pub named_by : List Root → List (List ℕ × List ℕ)
-named_by roots = map (λ root. (root.device, root.folder.now)) roots
+-- what has gone wrong, by whether a call has no answer, and whether connections are no longer taken though more are wanted
+abbrev pub fault_of : Bool → Bool → Option LateFault
+fault_of true is_closed = Some Unanswered
+fault_of false true = Some NoThreads
+fault_of false false = None
 
--- the daemon's callers have done so: 16 that serve connections, and for each root one that scans its folder, by its device
-pub record EndsDaemon {S D R W : Type 0} (step : S → List ℕ → Call → Answer → S → Type 0) (fails : S → List ℕ → Call → S → Type 0)
-    (gives : D → Option (Connection R W) → D → Type 0) (remaining : R → Option (List ℕ)) (contents : W → Option (List ℕ)) (finds : List ℕ → Option (Result Contents ScanFault) → List ℕ → Type 0)
-    (begun : S) (roots : List Root) (left : S) (calls : ℕ) : Type 0 where
-  pub posts : List (Post D (List ℕ))
-  pub workers : length (doors_in posts) ≡ 16
-  pub scanners : folders_in posts ≡ named_by roots
-  pub ends : Ends step fails gives remaining contents finds begun posts left calls
+-- The callers have done so, with these posts, whose doors draw tickets. That a call has no answer is reported just where
+-- one has none. Where none lacks one, and nothing else is reported, all tickets were drawn.
+pub record EndsDrawn {S R W K : Type 0} (step : S → List ℕ → Call → Answer → S → Type 0) (fails : S → List ℕ → Call → S → Type 0)
+    (remaining : R → Option (List ℕ)) (contents : W → Option (List ℕ)) (finds : FolderView K → Option (Result Contents ScanFault) → FolderView K → Type 0)
+    (begun : S) (tickets : TicketsView) (posts : List (Post DoorView (FolderView K))) (left : S) (calls : ℕ) (fault : Option LateFault) : Type 0 where
+  pub posts_left : List (Post DoorView (FolderView K))
+  pub unanswered : Bool
+  pub ends : Ends step fails GivesDrawn remaining contents finds begun posts left posts_left calls unanswered
+  pub drawn : is_one_closed (doors_in posts_left) ≡ false → drawn_by (doors_in posts_left) ≡ tickets.most
+  pub fault_is : fault ≡ fault_of unanswered (is_one_closed (doors_in posts_left))
+
+-- The daemon's callers have done so: 16 that serve connections, each of which draws a ticket, of as many as connections are
+-- wanted, and one for each root that scans its folder, by its device.
+pub record EndsDaemon {S R W K : Type 0} (step : S → List ℕ → Call → Answer → S → Type 0) (fails : S → List ℕ → Call → S → Type 0)
+    (remaining : R → Option (List ℕ)) (contents : W → Option (List ℕ)) (finds : FolderView K → Option (Result Contents ScanFault) → FolderView K → Type 0)
+    (begun : S) (wanted : Option ℕ) (folders : List (List ℕ × FolderView K)) (left : S) (calls : ℕ) (fault : Option LateFault) : Type 0 where
+  pub tickets : TicketsView
+  pub posts : List (Post DoorView (FolderView K))
+  pub most : tickets.most ≡ limit_of wanted
+  pub workers : doors_in posts ≡ replicate 16 (new_door tickets)
+  pub scanners : folders_in posts ≡ folders
+  pub ends : EndsDrawn step fails remaining contents finds begun tickets posts left calls fault

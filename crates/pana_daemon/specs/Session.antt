@@ -1,5 +1,6 @@
 -- What a session at a desk does to its pass.
-use Rattle.std.specs.Prelude.{◌≡◌, ◌⊎◌, ◌^◌, ◌≤◌, ℕ, List, length, Result, Ok, Err}
+use Rattle.std.specs.Prelude.{◌≡◌, ◌⊎◌, ◌^◌, ◌≤◌, ℕ, Bool, List, length, Result, Ok, Err, is_err}
+use Rattle.std.specs.List.{list_any}
 use mathlib.Core.List.{IsPrefix}
 use Rattle.pana_hall.specs.declared.call.Call.{Call}
 use Rattle.pana_wire.specs.declared.answer.Answer.{Answer}
@@ -35,6 +36,10 @@ module _ {S : Type 0} (step : S → List ℕ → Call → Answer → S → Type 
 -- how many calls the pass has seen finished: the moment of a session at a desk
 abbrev pub calls_seen : {S : Type 0} → PassView S → ℕ
 calls_seen pass = length pass.seen
+
+-- whether a call that the pass made has no answer
+abbrev pub lacks_answer : {S : Type 0} → PassView S → Bool
+lacks_answer pass = list_any (λ finished. is_err finished.reply) (own_calls pass)
 
 -- the pass before and after a session: the same, and it has seen what it had seen, and maybe more
 pub record GrowsTo {S : Type 0} (old new : PassView S) : Type 0 where

@@ -1,3 +1,3 @@
-pub mod JobSlots
 pub mod Passes
 pub mod Scan
+pub mod Doors

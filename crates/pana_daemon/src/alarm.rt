@@ -55,7 +55,7 @@ impl<'a> Alarm<'a> {
     }
 
     /// Whether a call had no answer.
-    pub fn has_rung(&self) -> bool {
+    fn has_rung(&self) -> bool {
         self.has_rung.load(Ordering::SeqCst)
     }
 

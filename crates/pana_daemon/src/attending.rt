@@ -1,9 +1,11 @@
 //! A desk, its callers, and what they leave.
 ghost use Rattle.std.specs.Prelude.{◌≡◌, ◌<◌, ◌≤◌, IfOk, length, map, vec_capacity};
+ghost use Rattle.std.specs.List.{list_any};
 ghost use denote.Param.Send.{IsSync, IsSend};
-ghost use Rattle.pana_daemon.specs.inner.Passes.{AreOf};
+ghost use Rattle.pana_daemon.specs.inner.Passes.{AreOpen};
 ghost use Rattle.pana_daemon.specs.Post.{HasDone, HaveDone, posted};
 ghost use Rattle.pana_daemon.specs.Serve.{Ends};
+ghost use Rattle.pana_daemon.specs.Session.{lacks_answer};
 
 use crate::daemon_fault::DaemonFault;
 use crate::desk_session::DeskSession;
@@ -20,25 +22,28 @@ use std::sync::Wait;
 use std::thread;
 use std::thread::Threads;
 
-/// What is left once all have done what they were to do: the session that they shared, and how many calls they made.
+/// What is left once all have done what they were to do: the session that they shared, their posts, how many calls they
+/// made, and whether one of these has no answer.
 #[derive(Drop)]
-pub struct Ended<S> {
+pub struct Ended<'a, S, D, F> {
     pub session: S,
+    pub posts: Vec<Post<'a, D, F>>,
     pub calls: u64,
+    pub unanswered: bool,
 }
 
 /// A caller for each post, in order, by the pass at its place; they are numbered from 1. Takes no memory where there is
 /// room for them.
-fn open_callers<'a, S: Session + Drop, T, G, D: Drop, F: Drop>(
+fn open_callers<'a, 'b, S: Session + Drop, T, G, D: Drop, F: Drop>(
     rt: &'a T,
     desk: &'a Desk<Shared<S>>,
     supervisor: &'a G,
-    posts: Vec<Post<'a, D, F>>,
+    posts: Vec<Post<'b, D, F>>,
     passes: Vec<Pass<Shared<S>>>,
-    mut callers: Vec<Caller<'a, S, T, G, D, F>>,
-) -> Vec<Caller<'a, S, T, G, D, F>>
+    mut callers: Vec<Caller<'a, 'b, S, T, G, D, F>>,
+) -> Vec<Caller<'a, 'b, S, T, G, D, F>>
     requires few { length posts.items ≤ 64 }
-    requires of { AreOf desk.now.id passes.items }
+    requires open { AreOpen desk.now.id passes.items }
     requires enough { length passes.items ≡ length posts.items }
     requires empty { length callers.items ≡ 0 }
     requires room { length posts.items ≤ vec_capacity callers }
@@ -67,28 +72,40 @@ fn run_all<
     G: Supervisor + Sync,
     D: Door + Send,
     F: Folder + Send,
->(rt: &T, alloc: Global, callers: &mut [Caller<'_, S, T, G, D, F>])
+>(rt: &T, alloc: Global, callers: &mut [Caller<'_, '_, S, T, G, D, F>])
     ensures { HaveDone S.step S.fails D.gives D.Reader.remaining D.Writer.contents F.gives
         (map posted callers.old) (map posted callers.new) }
 {
-    let run = move |_place: usize, caller: &mut Caller<'_, S, T, G, D, F>|
+    let run = move |_place: usize, caller: &mut Caller<'_, '_, S, T, G, D, F>|
         ensures { HasDone S.step S.fails D.gives D.Reader.remaining D.Writer.contents F.gives caller.entry.now.post caller.exit.now.post caller.entry.now.session caller.exit.now.session }
     { caller.run(rt, alloc) };
     thread::for_each_mut(rt, callers, 64, &run);
 }
 
-/// The callers' passes, in order. Takes no memory where there is room for them.
-fn take_passes<S: Session + Drop, T, G, D: Drop, F: Drop>(
-    callers: Vec<Caller<'_, S, T, G, D, F>>,
+/// Whether a call of one of them has no answer.
+fn lack_answer<S: Session + Drop, T, G, D, F>(callers: &[Caller<'_, '_, S, T, G, D, F>]) -> bool
+    ensures { result ≡ list_any (λ caller. lacks_answer caller.session) callers.now }
+{
+    callers.iter().any(|caller| caller.session.lacks_answer())
+}
+
+/// The callers' passes and posts, in order. Takes no memory where there is room for them.
+fn take_apart<'a, S: Session + Drop, T, G, D: Drop, F: Drop>(
+    callers: Vec<Caller<'_, 'a, S, T, G, D, F>>,
     passes: &mut Vec<Pass<Shared<S>>>,
+    posts: &mut Vec<Post<'a, D, F>>,
 )
-    requires empty { length passes.old.items ≡ 0 }
+    requires no_passes { length passes.old.items ≡ 0 }
+    requires no_posts { length posts.old.items ≡ 0 }
     requires room { length callers.items ≤ vec_capacity passes.old }
-    ensures { passes.new.items ≡ map (λ caller. caller.session) callers.entry.items }
+    requires places { length callers.items ≤ vec_capacity posts.old }
+    ensures passes { passes.new.items ≡ map (λ caller. caller.session) callers.entry.items }
+    ensures posts { posts.new.items ≡ map (λ caller. caller.post) callers.entry.items }
 {
     for caller in callers {
-        let Caller { session, post: _ } = caller;
+        let Caller { session, post } = caller;
         passes.push_reserved(session.into_pass());
+        posts.push_reserved(post);
     }
 }
 
@@ -100,6 +117,7 @@ fn take_passes<S: Session + Drop, T, G, D: Drop, F: Drop>(
 /// Only where memory runs out, before anything is begun; or what `begin` fails with, which is called just then.
 pub fn attend<
     'a,
+    'b,
     S: Session + Send + Drop,
     T: Threads + Wait + Sync,
     G: Supervisor + Sync,
@@ -111,27 +129,31 @@ pub fn attend<
     alloc: Global,
     supervisor: &'a G,
     session: S,
-    posts: Vec<Post<'a, D, F>>,
+    posts: Vec<Post<'b, D, F>>,
     begin: B,
-) -> Result<Ended<S>, DaemonFault>
+) -> Result<Ended<'b, S, D, F>, DaemonFault>
     requires some { 0 < length posts.items }
     requires few { length posts.items ≤ 64 }
     requires begin { B.pre begin }
-    ensures { IfOk result (λ ended. Ends S.step S.fails D.gives D.Reader.remaining D.Writer.contents F.gives session posts.entry.items ended.session ended.calls) }
+    ensures { IfOk result (λ ended. Ends S.step S.fails D.gives D.Reader.remaining D.Writer.contents F.gives session posts.entry.items ended.session ended.posts.items ended.calls ended.unanswered) }
 {
     let count = posts.len();
     let (desk, passes) = Desk::open(alloc, count as u32, Shared::new(session))?;
     let room = Vec::with_capacity(alloc, count)?;
     let mut back = Vec::with_capacity(alloc, count)?;
+    let mut left = Vec::with_capacity(alloc, count)?;
     begin()?;
     let mut callers = open_callers(&*rt, &desk, &*supervisor, posts, passes, room);
     run_all(&*rt, alloc, callers.as_mut_slice());
-    take_passes(callers, &mut back);
+    let unanswered = lack_answer(callers.as_slice());
+    take_apart(callers, &mut back, &mut left);
     let Ok(Closed { machine, calls }) = desk.close(back) else {
         unreachable!()
     };
     Ok(Ended {
         session: machine.into_session(),
+        posts: left,
         calls,
+        unanswered,
     })
 }

@@ -1,12 +1,15 @@
 //! Sessions and scanners, until both have ended.
-ghost use Rattle.std.specs.Prelude.{◌≡◌, ◌+◌, ◌<◌, ◌≤◌, IfOk, length};
+ghost use Rattle.std.specs.Prelude.{◌≡◌, ◌+◌, ◌<◌, ◌≤◌, IfOk, OnOk, length, replicate};
+ghost use Rattle.pana_tickets.specs.Hands.{hand};
+ghost use Rattle.pana_daemon.specs.Door.{GivesDrawn, new_door};
 ghost use Rattle.pana_daemon.specs.Post.{doors_in, folders_in};
-ghost use Rattle.pana_daemon.specs.Serve.{Ends, EndsDaemon, named_by};
+ghost use Rattle.pana_daemon.specs.Root.{folders_of};
+ghost use Rattle.pana_daemon.specs.Serve.{Ends, EndsDaemon, EndsDrawn};
 
 use crate::alarm::Alarm;
 use crate::attending::{Ended, attend};
 use crate::daemon_fault::{DaemonFault, LateFault};
-use crate::door::Door;
+use crate::disks::Disks;
 use crate::folder::Folder;
 use crate::listener::{CountedListener, Listener};
 use crate::patience::{Patience, PatientReader, PatientWriter};
@@ -14,9 +17,11 @@ use crate::post::Post;
 use crate::root::Root;
 use crate::root_folder::RootFolder;
 use crate::running::can_run;
+use crate::settling::{late_fault, limit_of, settle};
 use crate::signals::Signals;
 use crate::socket_door::SocketDoor;
 use crate::standard_input::StandardInput;
+use pana_tickets::{Share, Tickets};
 use pana_wire::Session;
 use std::alloc::{AllocError, Global};
 use std::io::{BufWriter, Read, Write};
@@ -34,7 +39,15 @@ const SESSIONS: usize = 16;
 const OTHERS: u32 = 2;
 
 /// The connections of sockets, or the folder of a root.
-type DaemonPost<'a, 'b, T> = Post<'a, SocketDoor<'a, T, Alarm<'b>>, RootFolder<'a, T>>;
+type DaemonPost<'a, 'b, T, K> = Post<'a, SocketDoor<'a, T, Alarm<'b>>, RootFolder<'a, T, K>>;
+
+/// What such posts leave.
+type DaemonEnded<'a, 'b, S, T, K> = Ended<
+    'a,
+    S,
+    SocketDoor<'a, T, Alarm<'b>>,
+    RootFolder<'a, T, K>,
+>;
 
 /// How the daemon has ended: the session that all shared, how many calls were made in it, and what has gone wrong.
 #[derive(Drop)]
@@ -56,31 +69,38 @@ fn alarm_of<'a>(
     Alarm::new(rt, &signals.start, closed).map_err(|_| DaemonFault::NoDescriptor)
 }
 
-/// The posts of 16 workers, and then those of the roots, in order.
-fn posts_of<'a, 'b, T: Wait + Clock>(
-    rt: &'a HostRuntime,
+/// The posts of 16 workers, each with a part of the whole of the tickets, and then those of the roots, in order.
+fn posts_of<'a, 'b, T: Wait + Clock, K: Disks>(
+    alloc: Global,
     threads: &'a T,
+    disks: &'a K,
     alarm: &'a Alarm<'b>,
     listener: &'a Mutex<CountedListener>,
     patience: Patience,
     signals: &'a Signals,
+    tickets: &'a Tickets,
+    whole: &mut Share,
     roots: &'a [Root<'a>],
-) -> Result<Vec<DaemonPost<'a, 'b, T>>, AllocError>
-    requires { length roots.now ≤ 8 }
+) -> Result<Vec<DaemonPost<'a, 'b, T, K>>, AllocError>
+    requires few { length roots.now ≤ 8 }
+    requires whole { whole.old ≡ record { id = tickets.now.id; hand = hand tickets.now.most 64 0 0 } }
     ensures count { IfOk result (λ posts. length posts.items ≡ 16 + length roots.now) }
-    ensures workers { IfOk result (λ posts. length (doors_in posts.items) ≡ 16) }
-    ensures scanners { IfOk result (λ posts. folders_in posts.items ≡ named_by roots.now) }
+    ensures workers { IfOk result (λ posts. doors_in posts.items ≡ replicate 16 (new_door tickets.now)) }
+    ensures scanners { IfOk result (λ posts. folders_in posts.items ≡ folders_of disks.now roots.now) }
+    ensures whole { OnOk result (whole.new ≡ record { id = tickets.now.id; hand = hand tickets.now.most 48 0 0 }) }
 {
-    let alloc = rt.alloc();
     let mut posts = Vec::with_capacity(alloc, SESSIONS + roots.len())?;
     for place in 0..SESSIONS {
         let _ = place;
-        posts.push_reserved(Post::Door(SocketDoor::new(threads, alloc, alarm, listener, patience)));
+        let share = tickets.divide(whole);
+        posts.push_reserved(Post::Door(SocketDoor::new(
+            threads, alloc, alarm, listener, patience, tickets, share,
+        )));
     }
     for root in roots {
         posts.push_reserved(Post::Folder(
             &root.device,
-            RootFolder::new(rt, threads, root, signals),
+            RootFolder::new(alloc, threads, disks, root, signals),
         ));
     }
     Ok(posts)
@@ -114,30 +134,25 @@ fn count_newlines<T: Wait>(
     }
 }
 
-/// What has gone wrong, once all have ended.
-fn late_fault(signals: &Signals, alarm: &Alarm<'_>) -> Option<LateFault> {
-    if signals.start.is_refused() {
-        return Some(LateFault::NoThreads);
-    }
-    if alarm.has_rung() {
-        return Some(LateFault::Unanswered);
-    }
-    None
-}
-
 /// Has the posts done, with a session that all share. Where nothing is begun, nothing else is to wait for it.
-fn attend_posts<'a, 'b, S: Session + Send + Drop, T: Threads + Wait + Clock + Sync>(
+fn attend_posts<
+    'a,
+    'b,
+    S: Session + Send + Drop,
+    T: Threads + Wait + Clock + Sync,
+    K: Disks + Sync,
+>(
     rt: &HostRuntime,
-    threads: &'a T,
+    threads: &T,
     address: &SocketAddr,
     signals: &Signals,
-    alarm: &'a Alarm<'b>,
-    posts: Vec<DaemonPost<'a, 'b, T>>,
+    alarm: &Alarm<'b>,
+    posts: Vec<DaemonPost<'a, 'b, T, K>>,
     session: S,
-) -> Result<Ended<S>, DaemonFault>
+) -> Result<DaemonEnded<'a, 'b, S, T, K>, DaemonFault>
     requires some { 0 < length posts.items }
     requires few { length posts.items ≤ 24 }
-    ensures { IfOk result (λ ended. Ends S.step S.fails ⟦<SocketDoor<'a, T, Alarm<'b>> as Door>⟧.gives ⟦<PatientReader<'a, T, Alarm<'b>> as Read>⟧.remaining ⟦<BufWriter<PatientWriter<'a, T, Alarm<'b>>, Global> as Write>⟧.contents ⟦<RootFolder<'a, T> as Folder>⟧.gives session posts.entry.items ended.session ended.calls) }
+    ensures { IfOk result (λ ended. Ends S.step S.fails GivesDrawn ⟦<PatientReader<'a, T, Alarm<'b>> as Read>⟧.remaining ⟦<BufWriter<PatientWriter<'a, T, Alarm<'b>>, Global> as Write>⟧.contents ⟦<RootFolder<'a, T, K> as Folder>⟧.gives session posts.entry.items ended.session ended.posts.items ended.calls ended.unanswered) }
 {
     let count = posts.len() as u32 + OTHERS;
     let begin = || announce(rt, threads, address, count);
@@ -148,20 +163,54 @@ fn attend_posts<'a, 'b, S: Session + Send + Drop, T: Threads + Wait + Clock + Sy
     ended
 }
 
+/// Has the posts done, with a session that all share, and says how that has ended.
+fn serve_posts<'a, 'b, S: Session + Send + Drop, T: Threads + Wait + Clock + Sync, K: Disks + Sync>(
+    rt: &HostRuntime,
+    threads: &T,
+    address: &SocketAddr,
+    signals: &Signals,
+    alarm: &Alarm<'b>,
+    tickets: &Tickets,
+    mut whole: Share,
+    posts: Vec<DaemonPost<'a, 'b, T, K>>,
+    session: S,
+) -> Result<DaemonEnd<S>, DaemonFault>
+    requires few { length posts.items ≤ 24 }
+    requires workers { doors_in posts.items ≡ replicate 16 (new_door tickets.now) }
+    requires whole { whole ≡ record { id = tickets.now.id; hand = hand tickets.now.most 48 0 0 } }
+    requires some { 0 < length posts.items }
+    ensures { IfOk result (λ ended. EndsDrawn S.step S.fails ⟦<PatientReader<'a, T, Alarm<'b>> as Read>⟧.remaining ⟦<BufWriter<PatientWriter<'a, T, Alarm<'b>>, Global> as Write>⟧.contents ⟦<RootFolder<'a, T, K> as Folder>⟧.gives session tickets.now posts.entry.items ended.session ended.calls ended.fault) }
+{
+    let ended = attend_posts(rt, threads, address, signals, alarm, posts, session)?;
+    let Ended {
+        session,
+        posts,
+        calls,
+        unanswered,
+    } = ended;
+    let is_closed = settle(tickets, &mut whole, posts);
+    Ok(DaemonEnd {
+        session,
+        calls,
+        fault: late_fault(unanswered, is_closed),
+    })
+}
+
 /// Prints where it listens, and then serves the listener's connections at a desk with this session, 16 at a time, and
 /// scans the roots: each by a thread of its own, at the start and after newlines on standard input. It ends once as many
 /// connections were taken as are wanted, these have ended and, where there is a root, standard input has ended too; where
 /// no number is given, only where a call has no answer and it isn't to stay: it takes no further connection then, closes
 /// those that are open still after 5 to 10 seconds, and doesn't wait for standard input. Then it closes the desk, and
-/// returns the session, with the number of calls that were made.
+/// returns the session, with the number of calls that were made, and what has gone wrong.
 ///
 /// # Errors
 ///
 /// Nothing was printed, no connection was taken and no folder was read: `OutOfMemory`; `NoThreads`; `NoDescriptor`;
 /// `Write`, where it can't be printed.
-pub fn serve<'a, S: Session + Send + Drop, T: Threads + Wait + Clock + Sync>(
+pub fn serve<'a, S: Session + Send + Drop, T: Threads + Wait + Clock + Sync, K: Disks + Sync>(
     rt: &'a HostRuntime,
     threads: &'a T,
+    disks: &'a K,
     address: &SocketAddr,
     listener: Listener,
     stays: bool,
@@ -169,7 +218,7 @@ pub fn serve<'a, S: Session + Send + Drop, T: Threads + Wait + Clock + Sync>(
     session: S,
 ) -> Result<DaemonEnd<S>, DaemonFault>
     requires few { length roots.now ≤ 8 }
-    ensures { IfOk result (λ ended. EndsDaemon S.step S.fails ⟦<SocketDoor<'a, T, Alarm<'a>> as Door>⟧.gives ⟦<PatientReader<'a, T, Alarm<'a>> as Read>⟧.remaining ⟦<BufWriter<PatientWriter<'a, T, Alarm<'a>>, Global> as Write>⟧.contents ⟦<RootFolder<'a, T> as Folder>⟧.gives session roots.now ended.session ended.calls) }
+    ensures { IfOk result (λ ended. EndsDaemon S.step S.fails ⟦<PatientReader<'a, T, Alarm<'a>> as Read>⟧.remaining ⟦<BufWriter<PatientWriter<'a, T, Alarm<'a>>, Global> as Write>⟧.contents ⟦<RootFolder<'a, T, K> as Folder>⟧.gives session listener.wanted (folders_of disks.now roots.now) ended.session ended.calls ended.fault) }
 {
     let signals = Signals::new(roots.len());
     let alarm = alarm_of(rt, &signals, &listener, stays)?;
@@ -178,32 +227,39 @@ pub fn serve<'a, S: Session + Send + Drop, T: Threads + Wait + Clock + Sync>(
         wanted,
         patience,
     } = listener;
+    let (tickets, mut whole) = Tickets::new(rt.alloc(), limit_of(wanted))?;
     let counted = Mutex::new(CountedListener::new(listener, wanted));
     let posts = posts_of(
-        &*rt, &*threads, &alarm, &counted, patience, &signals, &*roots,
+        rt.alloc(),
+        &*threads,
+        &*disks,
+        &alarm,
+        &counted,
+        patience,
+        &signals,
+        &tickets,
+        &mut whole,
+        &*roots,
     )?;
-    let (signals_seen, alarm_seen) = (&signals, &alarm);
+    let (signals_seen, alarm_seen, tickets_seen) = (&signals, &alarm, &tickets);
     let (ended, ()) = thread::join(
         threads,
         move ||
-            requires { (0 < length posts.items) × (length posts.items ≤ 24) }
+            requires { (length posts.items ≤ 24) × (doors_in posts.items ≡ replicate 16 (new_door tickets_seen.now)) × (whole ≡ record { id = tickets_seen.now.id; hand = hand tickets_seen.now.most 48 0 0 }) × (0 < length posts.items) }
         {
-            attend_posts(
+            serve_posts(
                 rt,
                 threads,
                 address,
                 signals_seen,
                 alarm_seen,
+                tickets_seen,
+                whole,
                 posts,
                 session,
             )
         },
         move || count_newlines(rt, threads, signals_seen, alarm_seen, roots),
     );
-    let Ended { session, calls } = ended?;
-    Ok(DaemonEnd {
-        session,
-        calls,
-        fault: late_fault(&signals, &alarm),
-    })
+    ended
 }

@@ -17,24 +17,28 @@ pub struct DeskSession<'a, S: Session + Drop, T, G> {
     supervisor: &'a G,
     caller: u32,
     calls: u64,
+    /// Whether a call that it made has no answer.
+    unanswered: bool,
     pass: Pass<Shared<S>>,
 }
 
 impl<'a, S: Session + Drop, T, G> Model for DeskSession<'a, S, T, G> {
     ghost use Rattle.std.specs.Prelude.{◌≡◌};
     ghost use Rattle.pana_daemon.specs.Desk.{PassView};
+    ghost use Rattle.pana_daemon.specs.Session.{lacks_answer};
 
     ghost Value = { PassView S };
 
     ghost view = { λ session. session.pass };
 
-    ghost invariant = { λ session. session.pass.desk ≡ session.desk.now.id };
+    ghost invariant = { λ session. (session.pass.desk ≡ session.desk.now.id) × (session.unanswered ≡ lacks_answer session.pass) };
 }
 
 impl<'a, S: Session + Drop, T, G> DeskSession<'a, S, T, G> {
-    ghost use Rattle.std.specs.Prelude.{◌≡◌};
+    ghost use Rattle.std.specs.Prelude.{◌≡◌, false};
+    ghost use Rattle.pana_daemon.specs.Session.{lacks_answer};
 
-    /// A session of this caller by a pass of the desk. Takes no memory.
+    /// A session of this caller by a pass of the desk, whose calls so far were answered. Takes no memory.
     pub fn new(
         rt: &'a T,
         desk: &'a Desk<Shared<S>>,
@@ -42,7 +46,8 @@ impl<'a, S: Session + Drop, T, G> DeskSession<'a, S, T, G> {
         caller: u32,
         pass: Pass<Shared<S>>,
     ) -> DeskSession<'a, S, T, G>
-        requires { pass.desk ≡ desk.now.id }
+        requires desk { pass.desk ≡ desk.now.id }
+        requires answered { lacks_answer pass ≡ false }
         ensures { result ≡ pass }
     {
         DeskSession {
@@ -51,8 +56,16 @@ impl<'a, S: Session + Drop, T, G> DeskSession<'a, S, T, G> {
             supervisor,
             caller,
             calls: 0,
+            unanswered: false,
             pass,
         }
+    }
+
+    /// Whether a call that it made has no answer.
+    pub(crate) fn lacks_answer(&self) -> bool
+        ensures { result ≡ lacks_answer self.now }
+    {
+        self.unanswered
     }
 
     /// The pass. Takes no memory.
@@ -65,6 +78,7 @@ impl<'a, S: Session + Drop, T, G> DeskSession<'a, S, T, G> {
             supervisor: _,
             caller: _,
             calls: _,
+            unanswered: _,
             pass,
         } = self;
         pass
@@ -96,6 +110,7 @@ impl<S: Session + Drop, T: Wait, G: Supervisor> Session for DeskSession<'_, S, T
             return Err(NoAnswer);
         };
         let Ok(answer) = reply else {
+            self.unanswered = true;
             self.supervisor.unanswered(self.caller, self.calls);
             return Err(NoAnswer);
         };

@@ -1,5 +1,5 @@
 //! A listener, and how many of its connections are taken.
-ghost use Rattle.std.specs.Prelude.{◌≡◌, ◌≤◌, ◌⊎◌, None, Some, IsSome, false};
+ghost use Rattle.std.specs.Prelude.{◌≡◌, ◌≤◌, None, Some, IsSome, false};
 ghost use Rattle.std.specs.Option.{ForSome};
 ghost use Rattle.pana_daemon.specs.Pause.{pause_after};
 
@@ -81,7 +81,7 @@ impl CountedListener {
     }
 
     /// Whether connections are to be taken at all. It waits until all is ready for the first one.
-    fn opens<T: Wait, G: Supervisor>(&mut self, rt: &T, supervisor: &G) -> bool
+    pub(crate) fn opens<T: Wait, G: Supervisor>(&mut self, rt: &T, supervisor: &G) -> bool
         ensures { self.new ≡ record self.old { opens = Some result } }
     {
         let opens = match self.opens {
@@ -92,7 +92,7 @@ impl CountedListener {
         opens
     }
 
-    /// The next connection, for which it waits; none where all that are wanted were taken, or no further one is to be.
+    /// The next connection, for which it waits; none only where the listener is closed.
     ///
     /// Where none can be taken, as where no descriptor is left, it tries again and again, after pauses.
     pub(crate) fn take<T: Wait, G: Supervisor>(
@@ -100,11 +100,8 @@ impl CountedListener {
         rt: &T,
         supervisor: &G,
     ) -> Option<TcpStream>
-        ensures { result ≡ None → (self.new.opens ≡ Some false) ⊎ (self.new.listener ≡ None) }
+        ensures { result ≡ None → self.new.listener ≡ None }
     {
-        if !self.opens(rt, supervisor) {
-            return None;
-        }
         if let Some(stream) = self.next.take() {
             return Some(stream);
         }

@@ -23,12 +23,12 @@ pub enum Post<'a, D, F> {
 
 /// A caller: the session by which it makes its calls, and what it is to do.
 #[derive(Drop)]
-pub(crate) struct Caller<'a, S: Session + Drop, T, G, D, F> {
+pub(crate) struct Caller<'a, 'b, S: Session + Drop, T, G, D, F> {
     pub(crate) session: DeskSession<'a, S, T, G>,
-    pub(crate) post: Post<'a, D, F>,
+    pub(crate) post: Post<'b, D, F>,
 }
 
-impl<S: Session + Drop, T: Wait, G: Supervisor, D: Door, F: Folder> Caller<'_, S, T, G, D, F> {
+impl<S: Session + Drop, T: Wait, G: Supervisor, D: Door, F: Folder> Caller<'_, '_, S, T, G, D, F> {
     /// Does what the caller is to do.
     pub(crate) fn run(&mut self, rt: &T, alloc: Global)
         ensures { HasDone S.step S.fails D.gives D.Reader.remaining D.Writer.contents F.gives self.old.post self.new.post self.old.session self.new.session }

@@ -36,6 +36,7 @@ fn entry_of(answer: Answer) -> Option<u64>
 
 /// Makes the report of a step, and says whether the next one is to be made; it isn't where memory runs out.
 fn report<S: Session>(
+    alloc: Global,
     session: &mut S,
     device: &DeviceName,
     step: &Step,
@@ -45,7 +46,7 @@ fn report<S: Session>(
     ensures ok { IfOk result (λ more. ReportsOne S.step device.now step.now session.old session.new more baseline.old baseline.new tally.old tally.new) }
     ensures fails { IfErr result (λ _. S.fails session.old device.now (Call.Report step.now.report) session.new × (tally.new ≡ tally.old)) }
 {
-    let Ok(report) = step.report.copy_of() else {
+    let Ok(report) = step.report.copy_of(alloc) else {
         tally.faults = tally.faults.saturating_add(1);
         return Ok(false);
     };
@@ -64,6 +65,7 @@ fn report<S: Session>(
 
 /// Makes the reports of the steps in order. The rest is passed over where memory runs out.
 fn report_all<S: Session>(
+    alloc: Global,
     session: &mut S,
     device: &DeviceName,
     steps: &[Step],
@@ -74,7 +76,7 @@ fn report_all<S: Session>(
     ensures fails { IfErr result (λ _. StopsReporting S.step S.fails device.now steps.now session.old session.new baseline.old tally.old tally.new) }
 {
     for step in steps {
-        if !report(session, device, step, baseline, tally)? {
+        if !report(alloc, session, device, step, baseline, tally)? {
             return Ok(());
         }
     }
@@ -87,10 +89,11 @@ fn holdings_of<S: Session>(
     device: &DeviceName,
 ) -> Result<Option<HoldingList>, NoAnswer>
     ensures ok { IfOk result (Asks S.step device.now session.old session.new) }
-    ensures fails { IfErr result (λ _. S.fails session.old device.now (Call.Query (Query.Holdings device.now)) session.new) }
+    ensures fails { IfErr result (λ _. S.fails session.old device.now (Call.Query (Query.Holdings device.now None)) session.new) }
 {
     let query = Query::Holdings {
         device: device.copy_of(),
+        from: None,
     };
     match session.call(device, Call::Query(query))? {
         Answer::Given(Reply::Holdings(holdings)) => Ok(Some(holdings)),
@@ -126,7 +129,7 @@ fn scan<S: Session>(
         return Ok(());
     };
     *baseline = planned;
-    report_all(session, device, steps.as_slice(), baseline, tally)
+    report_all(alloc, session, device, steps.as_slice(), baseline, tally)
 }
 
 /// Makes the calls for what the folder gave.

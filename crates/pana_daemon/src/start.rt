@@ -68,9 +68,4 @@ impl Start {
         }
         unreachable!()
     }
-
-    /// Whether something hasn't begun in time.
-    pub fn is_refused(&self) -> bool {
-        self.begun.load(Ordering::SeqCst) >= REFUSED
-    }
 }

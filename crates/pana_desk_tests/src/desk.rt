@@ -1,5 +1,5 @@
-//! Threads at a desk: lanes, scanners and connections.
+//! Threads at a desk: sessions, scanners and connections.
 
-mod jobs;
 mod listening;
 mod scanning;
+mod sessions;

@@ -18,7 +18,7 @@ fn register(alloc: Global) -> Result<Message, Fail> {
     };
     Ok(Message {
         by: DeviceName::new("laptop")?,
-        call: Call::Report(Report::Register { place }),
+        call: Call::Report(Report::Register { place, sum: None }),
     })
 }
 

@@ -8,7 +8,7 @@ use Rattle.pana_hall.proofs.Words.{stamp_rows, spot_of, IsThere, other_there, fi
 use Rattle.pana_hall.proofs.Words.{or_comm, cases_Bool, map-id, reverse-reverse, unknown_family, touch_in, of_known}
 use Rattle.pana_copies.proofs.Kept.{one_place}
 use Rattle.pana_hall.proofs.Lists.{is_last_push, each_map, each_of, each_unmap, each_weaker, any_push, is_last-push, entry_at_place, slice_get-each, found_by}
-use Rattle.pana_hall.proofs.Sound.{accepted_is_sound, all_none, beside, known, living_fit, none_false}
+use Rattle.pana_hall.proofs.Sound.{accepted_is_sound, all_none, beside, living_fit, none_false}
 use Rattle.pana_hall.proofs.Tables.{own_copy, ends_at, layer_now, each_has, pending_each}
 use Rattle.pana_hall.proofs.Places.{same_place-itself, none_passes, living_found, back_at}
 use Rattle.pana_hall.proofs.Stood.{count_rows, copies_sets, layers_stand, lives_rows, stood_one}

@@ -1,13 +1,13 @@
 -- What is pending in a family, and what takes it back.
-use Rattle.pana_hall.proofs.Words.{◌≡◌, ◌≢◌, ℕ, suc, ◌+◌, ◌-◌, ◌<◌, ◌≤◌, true, false, cond, ◌||◌, ◌==◌, List, [], ◌∷◌, ◌++◌, length, take, drop, reverse, None, Some, Bool, Option, option_map}
+use Rattle.pana_hall.proofs.Words.{◌≡◌, ◌≢◌, ℕ, suc, ◌+◌, ◌-◌, ◌<◌, ◌≤◌, true, false, cond, ◌||◌, ◌==◌, List, [], ◌∷◌, ◌++◌, length, take, drop, reverse, None, Some, Bool, Option}
 use Rattle.pana_hall.proofs.Words.{slice_get, AllByRecursion, list_any, refl, sym, ap, ◌∙◌, subst, inl, arith, append_assoc, eqb-true, ne_eqb, not-false, length-drop, reverse-append, take-append-drop}
 use Rattle.pana_hall.proofs.Words.{take_all, nat_tests, Confirm, Withdraw, Register, Entry, has, is_of_copies, living, copies_of, pending, last, behind, report_refusal, Accepts, layer, family_of_next}
-use Rattle.pana_hall.proofs.Words.{AreRising, of_each, of_pending, family_of, next_entry, place_before, undone_of, Place, entry_at, rows_after, rows_of, KeptRows, confirmed, kept_rows, new_kept}
+use Rattle.pana_hall.proofs.Words.{AreRising, of_each, of_pending, family_of, next_entry, before_of, undone_of, Place, entry_at, rows_after, rows_of, KeptRows, confirmed, kept_rows, new_kept}
 use Rattle.pana_hall.proofs.Words.{undone, withdrawn, history, Buffer, buffer, StampRow, IsKept, lives, seed_row, Undo, position, position_or_len, length-reverse}
-use Rattle.pana_hall.proofs.Words.{take_at, Undone, later_than, CanGoBack}
+use Rattle.pana_hall.proofs.Words.{take_at, Undone, earlier_of, later_than, CanGoBack}
 use Rattle.pana_hall.proofs.Lists.{each_append, each_weaker, at-push, rises_each}
 use Rattle.pana_hall.proofs.Sound.{none_against, none_false, IsSound, family_named, family_new, pends}
-use Rattle.pana_hall.proofs.Tables.{layer_undone, layer_confirm, layer_withdraw, layer_other, none_of, entry_at-other, layer_report, layer_new, pending_report, pending_withdraw, pending_other, pending_each, pending_rises, rises_end}
+use Rattle.pana_hall.proofs.Tables.{copies_of_none, layer_undone, layer_confirm, layer_withdraw, layer_other, none_of, entry_at-other, layer_report, layer_new, pending_report, pending_withdraw, pending_other, pending_each, pending_rises, rises_end}
 use Rattle.pana_hall.proofs.Stood.{rows_none, rows_of-push}
 use Rattle.pana_family.specs.Change.{after as after_change, Fits, IsRoomier, Room}
 
@@ -131,32 +131,33 @@ undone_stays journal entry family sound =
 pub family_report : (journal : List Entry) (entry : Entry) → IsSound 8 journal → Accepts 8 journal entry → is_of_copies entry.report ≡ true
     → family_of (journal ++ entry ∷ []) (family_of_next journal entry)
     ≡ kept_rows (family_of_next journal entry) (rows_after entry.number entry.report (rows_of (layer 8 0 (family_of_next journal entry) journal)))
-    (take 8 (undone entry.number (rows_of (layer 8 0 (family_of_next journal entry) journal)) (place_before (Some entry) (copies_of (layer 8 0 (family_of_next journal entry) journal)))
+    (take 8 (undone entry.number (rows_of (layer 8 0 (family_of_next journal entry) journal)) (before_of (Some entry) (copies_of (layer 8 0 (family_of_next journal entry) journal)))
     ∷ of_pending (undone_of journal) (family_of_next journal entry) journal))
 family_report journal entry sound accepts is =
     let family = family_of_next journal entry in
     let journal' = journal ++ entry ∷ [] in
     let old = layer 8 0 family journal in
     let now : rows_of (layer 8 0 family journal') ≡ rows_after entry.number entry.report (rows_of old) = grind (arith, nat_tests, layer_report, rows_of-push) in
-    let before : of_pending (undone_of journal') family journal' ≡ take 8 (undone entry.number (rows_of old) (place_before (Some entry) (copies_of old)) ∷ of_pending (undone_of journal) family journal) =
+    let before : of_pending (undone_of journal') family journal' ≡ take 8 (undone entry.number (rows_of old) (before_of (Some entry) (copies_of old)) ∷ of_pending (undone_of journal) family journal) =
     pending_made (undone_of journal') journal entry sound accepts is
-    ∙ ap (λ e. take 8 (undone entry.number (rows_of old) (place_before e (copies_of old)) ∷ of_pending (undone_of journal') family journal)) (ap (entry_at journal') accepts.next ∙ at-push journal entry)
-    ∙ ap (λ l. take 8 (undone entry.number (rows_of old) (place_before (Some entry) (copies_of old)) ∷ l)) (undone_stays journal entry family sound) in
+    ∙ ap (λ e. take 8 (undone entry.number (rows_of old) (before_of e (copies_of old)) ∷ of_pending (undone_of journal') family journal)) (ap (entry_at journal') accepts.next ∙ at-push journal entry)
+    ∙ ap (λ l. take 8 (undone entry.number (rows_of old) (before_of (Some entry) (copies_of old)) ∷ l)) (undone_stays journal entry family sound) in
     grind (arith, nat_tests)
 
 -- a Register begins a family
-pub family_begun : (journal : List Entry) (by : List ℕ) (place : Place) → IsSound 8 journal → Accepts 8 journal (next_entry journal by (Register place))
-    → family_of (journal ++ next_entry journal by (Register place) ∷ []) (length journal + 1) ≡ new_kept (length journal + 1)
-family_begun journal by place sound accepts =
-    let entry = next_entry journal by (Register place) in
+pub family_begun : (journal : List Entry) (by : List ℕ) (place : Place) (sum : Option (List ℕ)) → IsSound 8 journal → Accepts 8 journal (next_entry journal by (Register place sum))
+    → family_of (journal ++ next_entry journal by (Register place sum) ∷ []) (length journal + 1) ≡ new_kept (length journal + 1)
+family_begun journal by place sum sound accepts =
+    let entry = next_entry journal by (Register place sum) in
     let n = length journal + 1 in
-    let first : List Entry → List Undone → KeptRows = λ old before. kept_rows n (rows_after n (Register place) (rows_of old)) (take 8 (undone n (rows_of old) None ∷ before)) in
+    let first : List Entry → List Undone → KeptRows = λ old before. kept_rows n (rows_after n (Register place sum) (rows_of old)) (take 8 (undone n (rows_of old) (before_of (Some entry) (copies_of old)) ∷ before)) in
     let own_is : family_of_next journal entry ≡ n = family_new journal entry in
-    subst (λ f. family_of (journal ++ entry ∷ []) f ≡ kept_rows f (rows_after n (Register place) (rows_of (layer 8 0 f journal))) (take 8 (undone n (rows_of (layer 8 0 f journal)) None ∷ of_pending (undone_of journal) f journal))) own_is
+    subst (λ f. family_of (journal ++ entry ∷ []) f ≡ kept_rows f (rows_after n (Register place sum) (rows_of (layer 8 0 f journal))) (take 8 (undone n (rows_of (layer 8 0 f journal)) (before_of (Some entry) (copies_of (layer 8 0 f journal))) ∷ of_pending (undone_of journal) f journal))) own_is
     (family_report journal entry sound accepts refl)
     ∙ ap (λ l. first l (of_pending (undone_of journal) n journal)) (layer_new journal sound)
     ∙ ap (first []) (pending_begun (undone_of journal) journal sound)
-    ∙ ap (λ r. kept_rows n (rows_after n (Register place) r) (undone n r None ∷ [])) rows_none
+    ∙ ap (λ r. kept_rows n (rows_after n (Register place sum) r) (undone n r (before_of (Some entry) (copies_of [])) ∷ [])) rows_none
+    ∙ ap (λ c. kept_rows n (rows_after n (Register place sum) []) (undone n [] (before_of (Some entry) c) ∷ [])) copies_of_none
 
 -- a Withdraw
 pub family_withdraw : (m : ℕ) (journal : List Entry) (entry : Entry) → IsSound 8 journal → Accepts 8 journal entry → entry.report ≡ Withdraw m
@@ -188,13 +189,9 @@ family_other family journal entry sound accepts other =
 
 -- What the records of a family's pending entries give back.
 
--- the place that a record keeps
-abbrev pub place_of : Undo → Option Place
-place_of u = option_map (λ place. place.value) u.place
-
 -- a record is pushed, which gives the former rows back
 pub pushed : (rows new : List StampRow) (us : List Undo) (b : Buffer Undo) (u : Undo) (cap : ℕ) → cap ≡ 8 → b ≡ buffer (take cap (u ∷ us)) cap → after_change u.back new ≡ rows
-    → history new b.items ≡ take 8 (undone u.entry rows (place_of u) ∷ history rows us)
+    → history new b.items ≡ take 8 (undone u.entry rows (earlier_of u.before) ∷ history rows us)
 pushed rows new us b u cap eight is back = grind (arith, nat_tests)
 
 -- what can go back can with fewer records, and with more room
@@ -250,7 +247,7 @@ none_left [] e = refl
 none_left (v ∷ us) e = absurd (cc e)
 
 -- what the first one gives back
-pub history_first : (rows : List StampRow) (us : List Undo) (u : Undo) → slice_get us 0 ≡ Some u → history rows us ≡ undone u.entry (after_change u.back rows) (place_of u) ∷ history (after_change u.back rows) (drop 1 us)
+pub history_first : (rows : List StampRow) (us : List Undo) (u : Undo) → slice_get us 0 ≡ Some u → history rows us ≡ undone u.entry (after_change u.back rows) (earlier_of u.before) ∷ history (after_change u.back rows) (drop 1 us)
 history_first rows us u here = ap (history rows) (first_and_rest us u here)
 
 pub history_none : (rows : List StampRow) (us : List Undo) → slice_get us 0 ≡ None → history rows us ≡ []

@@ -1,14 +1,13 @@
 -- The tables of sets that a journal gives its families.
-use Rattle.pana_hall.proofs.Words.{◌≡◌, ℕ, true, false, cond, List, [], ◌∷◌, length, ◌<◌, ◌≤◌, ◌==◌, ◌++◌, Option, Some, None, IfSome, option_map, unwrap_or, zero, suc, ◌+◌, ◌-◌, ◌⊎◌, drop}
+use Rattle.pana_hall.proofs.Words.{Note, ◌≡◌, ℕ, true, false, cond, List, [], ◌∷◌, length, ◌<◌, ◌≤◌, ◌==◌, ◌++◌, Option, Some, None, IfSome, option_map, unwrap_or, zero, suc, ◌+◌, ◌-◌, ◌⊎◌, drop}
 use Rattle.pana_hall.proofs.Words.{AllByRecursion, filter_map, option_to_list, refl, sym, ap, ◌∙◌, subst, inl, inr, arith, cases_eq, cases_lt, map-append, length-drop, same_from_push, fold-append}
 use Rattle.pana_hall.proofs.Words.{filter-append, nat_tests, Report, Register, Duplicate, Edit, Reconcile, Merge, Relocate, Remove, Confirm, Entry, Known, In, IsAbove, set_in, CanReport, StampRow}
 use Rattle.pana_hall.proofs.Words.{FamilyReport, One, NamesOf, family_report, is_of_copies, left_out, Copy, after_report, comes, copies_of, copy_in, known_to, made, all_known, pending, last, Accepts}
-use Rattle.pana_hall.proofs.Words.{IsAccepted, family_of_next, layer, ap₂, known, parcel, is_in, knowing, any_from, in_append, in_filter, set_of, comes_known, know, know_two, made_known, pass}
+use Rattle.pana_hall.proofs.Words.{IsAccepted, family_of_next, layer, ap₂, is_in, knowing, any_from, in_append, in_filter, set_of, comes_known, know, know_two, made_known, pass}
 use Rattle.pana_hall.proofs.Words.{passed_heir, reported_is, united_known, unless, reported_by}
 use Rattle.pana_family.specs.Holders.{is_copy, passed}
 use Rattle.pana_family.specs.Table.{copies_of as known_copies}
 use Rattle.pana_family.specs.Report as by_family
-use Rattle.pana_family.specs.declared.report.FamilyReport.TheVariants as reports
 use Rattle.pana_family.proofs.Images.{in_leave, in_made, one_of, unless_of}
 use Rattle.pana_family.proofs.Tables.{Lives as KnownLives}
 use Rattle.pana_hall.specs.laws.Sets.{knowns_of}
@@ -140,14 +139,15 @@ names_known report rows table copies same lives = by_report report (λ c is. let
     by_copy c x at = record { by = x.known; there = at.there; named = at.named; free = at.free }
 
     by_report : (report : Report) → ((c : ℕ) → Names report c → KnownLives table c) → IfSome (family_report report) (λ of. CanReport of rows → NamesOf of table)
-    by_report (Register place) there = tt
-    by_report (Reconcile a b) there = λ can. (there a (inl refl), there b (inr refl), can.2)
-    by_report (Merge a b) there = λ can. (there a (inl refl), there b (inr refl), can.2)
+    by_report (Register place sum) there = tt
+    by_report (Reconcile a b sum) there = λ can. (there a (inl refl), there b (inr refl), can.2)
+    by_report (Merge a b sum) there = λ can. (there a (inl refl), there b (inr refl), can.2)
     by_report (Remove c None) there = λ can. there c refl
     by_report (Remove c (Some h)) there = λ can. (there c (inl refl), there h (inr refl), λ e. can.2 (ap Some e))
-    by_report (Duplicate source place) there = λ can. there source refl
-    by_report (Edit c) there = λ can. there c refl
+    by_report (Duplicate source place sum) there = λ can. there source refl
+    by_report (Edit c sum) there = λ can. there c refl
     by_report (Relocate c place) there = λ can. there c refl
+    by_report (Note c sum) there = λ can. there c refl
     by_report report there = tt
 
 -- The tables of sets that a journal gives its families: their copies are the families' living copies.

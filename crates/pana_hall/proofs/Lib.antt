@@ -1,3 +1,5 @@
+pub mod Said
+pub mod NextSaid
 pub mod Words
 pub mod Lists
 pub mod Sound
@@ -10,8 +12,12 @@ pub mod Ready
 pub mod Listed
 pub mod Answered
 pub mod Shown
+pub mod Related
+pub mod Advised
 pub mod Stood
 pub mod Longer
 pub mod Runs
 pub mod Worked
+pub mod WorkedContents
+pub mod WorkedStatus
 pub mod Sending

@@ -1,11 +1,11 @@
 -- The families that have begun, as a hall keeps them.
-use Rattle.pana_hall.proofs.Words.{◌≡◌, ℕ, ◌<◌, ◌≤◌, Bool, false, cond, ◌==◌, List, [], ◌∷◌, ◌++◌, map, filter, Some, None, option_map, option_and_then, ◌≢◌, zero, suc, ◌+◌, length, slice_get}
+use Rattle.pana_hall.proofs.Words.{AreContents, Option, ◌≡◌, ℕ, ◌<◌, ◌≤◌, Bool, false, cond, ◌==◌, List, [], ◌∷◌, ◌++◌, map, filter, Some, None, option_map, option_and_then, ◌≢◌, zero, suc, ◌+◌, length, slice_get}
 use Rattle.pana_hall.proofs.Words.{slice_index_or, is_none, then_some, bytes_eq, refl, sym, ap, ◌∙◌, subst, inl, inr, arith, append-nil, eqb-true, eq-eqb, cases_lt, slice_get_within, map-append}
 use Rattle.pana_hall.proofs.Words.{length-append, length-map, Entry, is_register, families, begun_or_joined, subject, Copy, copy_in, living, begun, holding, holdings, AreRising, family_of_next}
 use Rattle.pana_hall.proofs.Words.{AllByRecursion, nat_tests, Place, Table, kept, Report, Register, report_refusal, KeptRows, new_kept, IsFree, all_listed, listed, IsStepOf, ListedFamily, next_entry}
 use Rattle.pana_hall.proofs.Words.{AreSpots, IsReady, IsReadyAt, families_of, family_of, position_for, entry_at, IsAccepted, slice_set, cases_order, get_or_from_slice_get, slice_get-map, map-set}
 use Rattle.pana_hall.proofs.Words.{set-get_or, IsStep, Takes, ArePlaced, position_of_subject, IsWithin}
-use Rattle.pana_hall.specs.{inner.Kept.IsKept, declared.next.Step.Step, declared.next.Step.TheVariants.Begin, inner.Families.family_at, inner.Families.position_at}
+use Rattle.pana_hall.specs.{inner.Kept.IsKept, declared.next.Step.Step, declared.next.Step.TheVariants.Begin, declared.next.Step.TheVariants.Change, declared.next.Step.TheVariants.Settle, inner.Families.family_at, inner.Families.position_at}
 use Rattle.circular_buffer.proofs.Places.{slice_get-set_same}
 use Rattle.pana_hall.proofs.Lists.{rises_filter, each_filter, each_map, each_weaker, map_same, slice_get-each, entry_at_place, slice_get-append, slice_get-push, under, rises_map, found_by, at-append, none_under, rises_each, at-push}
 use Rattle.pana_hall.proofs.Sound.{none_against, family_new, accepted_is_sound, family_old, living_fit, LivesIn, named_report}
@@ -90,19 +90,19 @@ begun_within : (last : ℕ) (journal : List Entry) → AllByRecursion (λ e. e.n
 begun_within last journal within = grind (arith, nat_tests, each_map, each_filter)
 
 -- a step is of a family that has begun, or begins one
-pub step_takes : (n len capacity : ℕ) (list : List ListedFamily) (position : ℕ) (copies : Table) (report : Report) (step : Step) → ((place : Place) → step ≡ Begin place → ⊥)
-    → IsStep n len capacity list position copies report step → Takes n list position copies report step
-step_takes n len capacity list position copies report step never is = grind (arith, nat_tests)
+pub step_takes : (entry : Entry) (len capacity : ℕ) (list : List ListedFamily) (position : ℕ) (copies : List Copy) (step : Step) → ((place : Place) → step ≡ Begin place → ⊥)
+    → IsStep entry len capacity list position copies step → Takes entry list position copies step
+step_takes entry len capacity list position copies step never is = grind (arith, nat_tests)
 
-step_later : (n : ℕ) (it : ListedFamily) (copies : Table) (report : Report) (step : Step) → IsStepOf n it copies report step → is_register report ≡ false
-step_later n it copies report step is = grind (arith, nat_tests)
+step_later : (entry : Entry) (it : ListedFamily) (copies : List Copy) (step : Step) → IsStepOf entry it copies step → is_register entry.report ≡ false
+step_later entry it copies step is = grind (arith, nat_tests)
 
-pub takes_later : {n : ℕ} {list : List ListedFamily} {position : ℕ} {copies : Table} {report : Report} {step : Step} → Takes n list position copies report step → is_register report ≡ false
-takes_later {n} {list} {position} {copies} {report} {step} takes = step_later n takes.it copies report step takes.is
+pub takes_later : {entry : Entry} {list : List ListedFamily} {position : ℕ} {copies : List Copy} {step : Step} → Takes entry list position copies step → is_register entry.report ≡ false
+takes_later {entry} {list} {position} {copies} {step} takes = step_later entry takes.it copies step takes.is
 
-pub takes_at : {n : ℕ} {list : List ListedFamily} {position : ℕ} {copies : Table} {report : Report} {step : Step} → Takes n list position copies report step → (it d : ListedFamily) → it ≡ slice_index_or list position d
-    → IsStepOf n it copies report step
-takes_at {n} {list} {position} {copies} {report} {step} takes it d is = grind (arith, nat_tests, get_or_from_slice_get)
+pub takes_at : {entry : Entry} {list : List ListedFamily} {position : ℕ} {copies : List Copy} {step : Step} → Takes entry list position copies step → (it d : ListedFamily) → it ≡ slice_index_or list position d
+    → IsStepOf entry it copies step
+takes_at {entry} {list} {position} {copies} {step} takes it d is = grind (arith, nat_tests, get_or_from_slice_get)
 
 module _ (list : List ListedFamily) {journal : List Entry} {by : List ℕ} {report : Report} {position : ℕ} {copies : Table} where
   -- the family at the position
@@ -142,54 +142,61 @@ module _ (list : List ListedFamily) {journal : List Entry} {by : List ℕ} {repo
       ∙ set-get_or (all_listed list) position (listed after_it)
 
   -- which takes what was prepared for it
-  pub takes_set : IsReadyAt journal by report (all_listed list) position copies → is_register report ≡ false → (n : ℕ) (after_it : ListedFamily) (step : Step) → IsStepOf n after_it copies report step
-      → Takes n (slice_set list position after_it) position copies report step
-  takes_set ready later n after_it step is = grind (arith, nat_tests, found_there, slice_get-set_same, slice_get_within)
+  pub takes_set : IsReadyAt journal by report (all_listed list) position copies → is_register report ≡ false → (entry : Entry) (lives : List Copy) (after_it : ListedFamily) (step : Step) → IsStepOf entry after_it lives step
+      → Takes entry (slice_set list position after_it) position lives step
+  takes_set ready later entry lives after_it step is = grind (arith, nat_tests, found_there, slice_get-set_same, slice_get_within)
+
+  pub step_set : IsReadyAt journal by report (all_listed list) position copies → is_register report ≡ false → (entry : Entry) (lives : List Copy) (len capacity : ℕ) (after_it : ListedFamily) (step : Step) → IsStepOf entry after_it lives step
+      → IsStep entry len capacity (slice_set list position after_it) position lives step
+  step_set ready later entry lives len capacity after_it (Begin place) is = absurd is
+  step_set ready later entry lives len capacity after_it (Change change place before) is = takes_set ready later entry lives after_it (Change change place before) is
+  step_set ready later entry lives len capacity after_it Settle is = takes_set ready later entry lives after_it Settle is
 
   pub position_within : IsReadyAt journal by report (all_listed list) position copies → is_register report ≡ false → position < length list
   position_within ready later = let there = found_there ready later in slice_get_within list position there.0 there.1
 
-module _ {journal : List Entry} {by : List ℕ} {place : Place} {list : List KeptRows} {position : ℕ} {copies : Table} (ready : IsReadyAt journal by (Register place) list position copies) where
+module _ {journal : List Entry} {by : List ℕ} {place : Place} {sum : Option (List ℕ)} {list : List KeptRows} {position : ℕ} {copies : Table} (ready : IsReadyAt journal by (Register place sum) list position copies) where
   pub fresh_register : kept copies (length journal + 1) ≡ None
   fresh_register =
       ready.spots (length journal + 1)
       ∙ ap (option_map _) (none_below (length journal + 1) (living journal) (living_below 8 (length journal + 1) journal (accepted_is_sound 8 journal ready.accepted) refl))
 
   pub free_register : IsFree place copies
-  free_register = free_spots journal copies ready.spots place (none_against 8 journal (living journal) by (Register place) ready.free).1.0
+  free_register = free_spots journal copies ready.spots place (none_against 8 journal (living journal) by (Register place sum) ready.free).1.0
 
-  pub listed_push : (n : ℕ) → n ≡ length journal → list ++ new_kept (n + 1) ∷ [] ≡ families_of (journal ++ next_entry journal by (Register place) ∷ [])
+  pub listed_push : (n : ℕ) → n ≡ length journal → list ++ new_kept (n + 1) ∷ [] ≡ families_of (journal ++ next_entry journal by (Register place sum) ∷ [])
   listed_push n is =
-      let entry = next_entry journal by (Register place) in
+      let entry = next_entry journal by (Register place sum) in
       let journal' = journal ++ entry ∷ [] in
-      let accepts = accepts_next journal by (Register place) ready.free in
+      let accepts = accepts_next journal by (Register place sum) ready.free in
       let sound = accepted_is_sound 8 journal ready.accepted in
       let own : family_of_next journal entry ≡ length journal + 1 = family_new journal entry in
       let old : map (family_of journal') (begun journal) ≡ families_of journal =
       map_same (family_of journal') (family_of journal) (λ n. n ≤ length journal) (begun journal) (λ k within. family_other k journal entry sound accepts (λ h. omega arith))
       (begun_within (length journal) journal (each_weaker (IsWell (families journal) (length journal)) _ journal (λ e well. well.within) sound.well)) in
-      cc (ready.listed, family_begun journal by place sound accepts, map-append (family_of journal') (begun journal) ((length journal + 1) ∷ []), begun-next journal entry)
+      cc (ready.listed, family_begun journal by place sum sound accepts, map-append (family_of journal') (begun journal) ((length journal + 1) ∷ []), begun-next journal entry)
 
   pub spots_register : (n : ℕ) → n ≡ length journal → (after_it : Table)
       → ((number : ℕ) → kept after_it number ≡ cond (number == n + 1) (Some (record { family = n + 1; place = place })) (kept copies number))
-      → AreSpots (journal ++ next_entry journal by (Register place) ∷ []) after_it
+      → AreSpots (journal ++ next_entry journal by (Register place sum) ∷ []) after_it
   spots_register n is after_it goes number =
       goes number
       ∙ ap (λ k. cond (number == k + 1) (Some (record { family = k + 1; place = place })) (kept copies number)) is
       ∙ ap (λ s. cond (number == length journal + 1) (Some (record { family = length journal + 1; place = place })) s) (ready.spots number)
-      ∙ sym (spots_next 8 journal (next_entry journal by (Register place)) (accepted_is_sound 8 journal ready.accepted) (accepts_next journal by (Register place) ready.free) refl number)
+      ∙ sym (spots_next 8 journal (next_entry journal by (Register place sum)) (accepted_is_sound 8 journal ready.accepted) (accepts_next journal by (Register place sum) ready.free) refl number)
 
 -- a step that begins a family is of a Register
 pub record Begins (journal : List Entry) (by : List ℕ) (report : Report) (place : Place) (len capacity : ℕ) (list : List KeptRows) (position : ℕ) (copies : Table) : Type 0 where
-  pub is : report ≡ Register place
+  pub sum : Option (List ℕ)
+  pub is : report ≡ Register place sum
   pub more : len < capacity
-  pub ready : IsReadyAt journal by (Register place) list position copies
+  pub ready : IsReadyAt journal by (Register place sum) list position copies
 
-pub begins : {journal : List Entry} {by : List ℕ} {report : Report} {position : ℕ} {copies : Table} (list : List ListedFamily) (n len capacity : ℕ) {step : Step} {place : Place}
-    → IsReadyAt journal by report (all_listed list) position copies → step ≡ Begin place → IsStep n len capacity list position copies report step → Begins journal by report place len capacity (all_listed list) position copies
-begins {journal} {by} {report} {position} {copies} list n len capacity ready at is = grind (arith, nat_tests)
+pub begins : {journal : List Entry} {by : List ℕ} {report : Report} {position : ℕ} {copies : Table} (list : List ListedFamily) (len capacity : ℕ) (lives : List Copy) {step : Step} {place : Place}
+    → IsReadyAt journal by report (all_listed list) position copies → step ≡ Begin place → IsStep (next_entry journal by report) len capacity list position lives step → Begins journal by report place len capacity (all_listed list) position copies
+begins {journal} {by} {report} {position} {copies} list len capacity lives ready at is = grind (arith, nat_tests)
 
-pub not_register : (report : Report) → ((place : Place) → report ≡ Register place → ⊥) → is_register report ≡ false
+pub not_register : (report : Report) → ((place : Place) (sum : Option (List ℕ)) → report ≡ Register place sum → ⊥) → is_register report ≡ false
 not_register report h1 = grind (arith, nat_tests)
 
 -- What a hall keeps of its journal, as entries come.
@@ -230,9 +237,9 @@ pub ready_same : {journal : List Entry} {by : List ℕ} {report : Report} {list 
     → ((number : ℕ) → kept copies' number ≡ kept copies number) → IsReadyAt journal by report list position copies'
 ready_same ready copies' same = grind (arith, nat_tests)
 
-module _ (journal : List Entry) (by : List ℕ) (report : Report) (list : List KeptRows) (positions : List ℕ) (copies : Table) where
+module _ (journal : List Entry) (by : List ℕ) (report : Report) (list : List KeptRows) (positions : List ℕ) (copies : Table) (said : List (Option ℕ)) where
   -- a report has a position for its family
-  pub has_position : IsKept journal list positions copies → report_refusal 8 journal (living journal) by report ≡ None → (p : ℕ) × (position_for list positions report ≡ Some p)
+  pub has_position : IsKept journal list positions copies said → report_refusal 8 journal (living journal) by report ≡ None → (p : ℕ) × (position_for list positions report ≡ Some p)
   has_position all free =
       elim (subject report) as (λ s. subject report ≡ s → (p : ℕ) × (position_of_subject list positions s ≡ Some p)) [
         | None ↦ λ e. (length list, refl)
@@ -243,7 +250,7 @@ module _ (journal : List Entry) (by : List ℕ) (report : Report) (list : List K
       ] refl
 
   -- which is that of the family among those that have begun then
-  own_position : IsKept journal list positions copies → report_refusal 8 journal (living journal) by report ≡ None → (p : ℕ) → position_for list positions report ≡ Some p
+  own_position : IsKept journal list positions copies said → report_refusal 8 journal (living journal) by report ≡ None → (p : ℕ) → position_for list positions report ≡ Some p
       → slice_get (begun (journal ++ next_entry journal by report ∷ [])) p ≡ Some (family_of_next journal (next_entry journal by report))
   own_position all free p at =
       let entry = next_entry journal by report in
@@ -263,7 +270,7 @@ module _ (journal : List Entry) (by : List ℕ) (report : Report) (list : List K
             slice_get-append (begun journal) more p (families journal m) (ap (slice_get (begun journal)) (sym same) ∙ old.2)
       ] refl at ∙ ap (λ k. Some k) (sym (family_new journal entry))
 
-  pub ready_for : IsKept journal list positions copies → report_refusal 8 journal (living journal) by report ≡ None → (p : ℕ) → position_for list positions report ≡ Some p
+  pub ready_for : IsKept journal list positions copies said → report_refusal 8 journal (living journal) by report ≡ None → (p : ℕ) → position_for list positions report ≡ Some p
       → IsReadyAt journal by report list p copies
   ready_for all free p at =
       let entry = next_entry journal by report in
@@ -276,10 +283,10 @@ module _ (journal : List Entry) (by : List ℕ) (report : Report) (list : List K
       }
 
   -- what is kept then
-  pub kept_next : IsKept journal list positions copies → report_refusal 8 journal (living journal) by report ≡ None → (p : ℕ) → position_for list positions report ≡ Some p
-      → (list' : List KeptRows) (copies' : Table) → list' ≡ families_of (journal ++ next_entry journal by report ∷ []) → AreSpots (journal ++ next_entry journal by report ∷ []) copies'
-      → IsKept (journal ++ next_entry journal by report ∷ []) list' (positions ++ p ∷ []) copies'
-  kept_next all free p at list' copies' listed spots =
+  pub kept_next : IsKept journal list positions copies said → report_refusal 8 journal (living journal) by report ≡ None → (p : ℕ) → position_for list positions report ≡ Some p
+      → (list' : List KeptRows) (copies' : Table) (said' : List (Option ℕ)) → AreContents (journal ++ next_entry journal by report ∷ []) said' → list' ≡ families_of (journal ++ next_entry journal by report ∷ []) → AreSpots (journal ++ next_entry journal by report ∷ []) copies'
+      → IsKept (journal ++ next_entry journal by report ∷ []) list' (positions ++ p ∷ []) copies' said'
+  kept_next all free p at list' copies' said' contents listed spots =
       let entry = next_entry journal by report in
       let journal' = journal ++ entry ∷ [] in
       let longer = length-append journal (entry ∷ []) in
@@ -287,6 +294,7 @@ module _ (journal : List Entry) (by : List ℕ) (report : Report) (list : List K
         accepted = next_accepted 8 journal entry all.accepted (accepts_next journal by report free);
         listed = listed;
         spots = spots;
+        contents = contents;
         placed = record {
           count = length-append positions (p ∷ []) ∙ ap (λ n. n + 1) all.placed.count ∙ sym longer;
           at = λ n some within. elim (cases_lt n (length journal + 1)) [

@@ -4,8 +4,6 @@ use Rattle.pana_hall.proofs.Words.{eq-eqb, not-false, cases_eq, Report, Remove, 
 use Rattle.pana_hall.proofs.Words.{IsAccepted, family_of_next}
 use Rattle.pana_hall.proofs.{Lists.any_push, Lists.last_push, Lists.is_last-push, Tables.last_none}
 use Rattle.pana_hall.proofs.Sound.{none_against, none_false, IsSound, keeps_families, family_named, sound_grows, empty_is_sound, OfCopies, Confirms, Withdraws, kind_of, pend_copies, withdraw_free, left_by, pends_by}
-use Rattle.pana_hall.specs.declared.call.Call.TheVariants as calls
-use Rattle.pana_hall.specs.declared.reply.Reply.TheVariants as replies
 
 -- A longer pending list refuses no more than a list of one.
 

@@ -1,6 +1,6 @@
 -- What a report does to the copies.
 use Rattle.pana_hall.proofs.Words.{◌≡◌, ℕ, ◌<◌, true, cond, ◌==◌, List, [], ◌∷◌, ◌++◌, Option, Some, None, is_none, IfSome, option_and_then, ◌⊎◌, ◌≢◌, ◌≤◌, filter, fold, AllByRecursion}
-use Rattle.pana_hall.proofs.Words.{filter_map, option_to_list, refl, sym, ap, ◌∙◌, subst, inl, inr, arith, append-nil, eqb-true, Report, Register, Duplicate, Edit, Reconcile, Merge, Relocate, Remove}
+use Rattle.pana_hall.proofs.Words.{filter_map, option_to_list, refl, sym, ap, ◌∙◌, subst, inl, inr, arith, append-nil, eqb-true, Report, Register, Duplicate, Edit, Reconcile, Merge, Relocate, Remove, Note}
 use Rattle.pana_hall.proofs.Words.{Confirm, Withdraw, FamilyReport, Place, is_of_copies, family_report, is_register, subject, entries_of, Copy, copy_in, made, comes, after_report}
 use Rattle.pana_hall.proofs.Words.{after_entry, displaced, AreRising, filter-append, fold-append, nat_tests, Entry, is_of}
 use Rattle.pana_hall.specs.Living.{copies_of}
@@ -71,19 +71,20 @@ pub found_after : (n : ℕ) (report : Report) (copies : List Copy) (a : ℕ) →
 found_after n report copies a none = grind (arith, nat_tests, append-nil, found_among, made_same)
 
 -- a report of copies begins a family, or changes one that has begun
-pub made_of : (report : Report) → is_of_copies report ≡ true → ((place : Place) × (report ≡ Register place)) ⊎ ((of : FamilyReport) × (family_report report ≡ Some of))
-made_of (Register place) is = inl (place, refl)
+pub made_of : (report : Report) → is_of_copies report ≡ true → ((place : Place) × (sum : Option (List ℕ)) × (report ≡ Register place sum)) ⊎ ((of : FamilyReport) × (family_report report ≡ Some of))
+made_of (Register place sum) is = inl (place, sum, refl)
 made_of (Confirm m) is = absurd (cc)
 made_of (Withdraw m) is = absurd (cc)
 made_of report is = inr (_, refl)
 
 -- the report is about this copy
 abbrev pub Names : Report → ℕ → Type 0
-Names (Duplicate source place) c = source ≡ c
-Names (Edit x) c = x ≡ c
-Names (Reconcile a b) c = (a ≡ c) ⊎ (b ≡ c)
-Names (Merge a b) c = (a ≡ c) ⊎ (b ≡ c)
+Names (Duplicate source place sum) c = source ≡ c
+Names (Edit x sum) c = x ≡ c
+Names (Reconcile a b sum) c = (a ≡ c) ⊎ (b ≡ c)
+Names (Merge a b sum) c = (a ≡ c) ⊎ (b ≡ c)
 Names (Relocate x place) c = x ≡ c
+Names (Note x sum) c = x ≡ c
 Names (Remove x None) c = x ≡ c
 Names (Remove x (Some heir)) c = (x ≡ c) ⊎ (heir ≡ c)
 Names _ c = ⊥

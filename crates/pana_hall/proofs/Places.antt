@@ -1,15 +1,16 @@
 -- Where the copies are kept, as entries come and are withdrawn.
-use Rattle.pana_hall.proofs.Words.{◌≡◌, ◌≢◌, ℕ, not, ◌==◌, List, [], ◌∷◌, ◌++◌, length, filter, Some, None, option_and_then, ◌+◌, ◌<◌, Bool, true, false, cond, fold, Option, option_map, find, map}
+use Rattle.pana_hall.proofs.Words.{content_by, nat_le, subst, suc, take, zero, ◌≡◌, ◌≢◌, ℕ, not, ◌==◌, List, [], ◌∷◌, ◌++◌, length, filter, Some, None, option_and_then, ◌+◌, ◌<◌, Bool, true, false, cond, fold, Option, option_map, find, map}
 use Rattle.pana_hall.proofs.Words.{AllByRecursion, refl, sym, ap, ◌∙◌, inl, inr, arith, append-nil, or-false, filter_agree, Withdraw, Register, Duplicate, Relocate, Remove, Confirm, Entry, families}
 use Rattle.pana_hall.proofs.Words.{entries_of, effective, left_out, is_of_copies, Copy, new_copy, made, comes, copy_in, living, after_report, after_entry, last, brought_back, displaced}
-use Rattle.pana_hall.proofs.Words.{taken, taken_from, IsAccepted, Accepts, table, layer, option_to_list, eqb-true, cases_eq, Spot, placed, Report, spot_of, spot_in, mover, spot_to}
+use Rattle.pana_hall.proofs.Words.{taken_from, IsAccepted, Accepts, table, layer, option_to_list, eqb-true, cases_eq, Spot, placed, Report, spot_of, spot_in, mover, spot_to}
 use Rattle.pana_hall.proofs.Words.{put, spot_after, bytes_eq, nat_tests, Place, same_place, AreApart, AreRising, Holding, holding, holdings}
-use Rattle.pana_hall.specs.{Living.copies_of, Holdings.HaveOwnPaths}
+use Rattle.pana_hall.specs.{Living.copies_of, Holdings.HaveOwnPaths, Queries.holdings_from}
 use Rattle.pana_hall.proofs.Lists.{each_filter, filter_swap, last_push, each_weaker, each_two}
 use Rattle.pana_hall.proofs.Moves.{displaced_named, found_number, IsWell, found_fits, copies_fit, copies_of-family, copies_of-push, copy_in-family, AreBelow, made_same, new_number, each_after, none_below, found_push, found_after, Fits}
 use Rattle.pana_hall.proofs.Sound.{own, own_other, IsSound, accepted_is_sound, effective_well, effective-copies, living_fit, effective-confirm, free_place, in_accepted, OfCopies, Confirms, Withdraws, kind_of, effective-push}
 use Rattle.pana_hall.proofs.Tables.{EndsIn, all_but_last, last_none, layer_now, table_own, open_withdraw, living_rises}
 use Rattle.pana_hall.proofs.Knowns.{layer_founded}
+use Rattle.std.proofs.Math.Seq.{take-nil}
 use Rattle.pana_family.proofs.Images.{made_itself}
 use Rattle.std.proofs.lemmas.Slice.Eq.{bytes_eq-Decides}
 
@@ -109,11 +110,11 @@ cond_map f b x y = grind (arith, nat_tests)
 
 -- what a report of copies changes, the next number being above all others
 pub spots_report : (n : ℕ) (report : Report) (copies : List Copy) → AreBelow n copies → (a : ℕ) → spot_in (after_report n report copies) a ≡ spot_after n report (spot_in copies) a
-spots_report n (Register place) copies below a =
-    ap (λ l. spot_in (l ++ new_copy n n [] place ∷ []) a) (made_itself copies) ∙ ap (option_map spot_of) (found_push copies (new_copy n n [] place) a below) ∙ cond_map (option_map spot_of) (a == n) _ _
-spots_report n (Duplicate source place) copies below a =
-    ap (λ l. spot_in (l ++ option_to_list (comes n (Duplicate source place) copies)) a) (made_itself copies)
-    ∙ elim (copy_in copies source) as (λ o. spot_in (copies ++ option_to_list (option_map (λ c. new_copy n c.family c.known.set place) o)) a ≡ cond (a == n) (placed place (option_map spot_of o)) (spot_in copies a)) [
+spots_report n (Register place sum) copies below a =
+    ap (λ l. spot_in (l ++ new_copy n n [] place (content_by n (Register place sum) copies) ∷ []) a) (made_itself copies) ∙ ap (option_map spot_of) (found_push copies (new_copy n n [] place (content_by n (Register place sum) copies)) a below) ∙ cond_map (option_map spot_of) (a == n) _ _
+spots_report n (Duplicate source place sum) copies below a =
+    ap (λ l. spot_in (l ++ option_to_list (comes n (Duplicate source place sum) copies)) a) (made_itself copies)
+    ∙ elim (copy_in copies source) as (λ o. spot_in (copies ++ option_to_list (option_map (λ c. new_copy n c.family c.known.set place (content_by n (Duplicate source place sum) copies)) o)) a ≡ cond (a == n) (placed place (option_map spot_of o)) (spot_in copies a)) [
       | None ↦ ap (λ l. spot_in l a) (append-nil copies)
           ∙ elim (a == n) as (λ b. (a == n) ≡ b → spot_in copies a ≡ cond b None (spot_in copies a)) [
             | true ↦ λ e. grind (arith, nat_tests, none_below)
@@ -303,3 +304,26 @@ own_paths device (copy ∷ copies) apart =
 pub found_have_own_paths : (journal : List Entry) (copies : List Copy) (device : List ℕ) (found : List Holding)
     → IsAccepted 8 journal → copies ≡ living journal → found ≡ holdings copies device → HaveOwnPaths found
 found_have_own_paths journal copies device found accepted kept is = grind (arith, nat_tests, own_paths, accepted_is_apart)
+
+-- so have those of one page
+each_take : {X : Type 0} (P : X → Type 0) (n : ℕ) (xs : List X) → AllByRecursion P xs → AllByRecursion P (take n xs)
+each_take P n [] each = subst (AllByRecursion P) (sym (take-nil n)) tt
+each_take P zero (x ∷ xs) each = tt
+each_take P (suc n) (x ∷ xs) each = (each.0, each_take P n xs each.1)
+
+filtered_own : (p : Holding → Bool) (list : List Holding) → HaveOwnPaths list → HaveOwnPaths (filter p list)
+filtered_own p [] apart = tt
+filtered_own p (h ∷ list) apart =
+    elim (p h) as (λ b. HaveOwnPaths (cond b (h ∷ filter p list) (filter p list))) [
+      | true ↦ (each_filter (λ other. h.path ≢ other.path) p list apart.0, filtered_own p list apart.1)
+      | false ↦ filtered_own p list apart.1
+    ]
+
+taken_own : (n : ℕ) (list : List Holding) → HaveOwnPaths list → HaveOwnPaths (take n list)
+taken_own n [] apart = subst HaveOwnPaths (sym (take-nil n)) tt
+taken_own zero (h ∷ list) apart = tt
+taken_own (suc n) (h ∷ list) apart = (each_take (λ other. h.path ≢ other.path) n list apart.0, taken_own n list apart.1)
+
+pub page_own_paths : (from : Option ℕ) (list : List Holding) → HaveOwnPaths list → HaveOwnPaths (holdings_from from list)
+page_own_paths None list apart = apart
+page_own_paths (Some n) list apart = taken_own 1000 _ (filtered_own (λ h. nat_le n h.copy) list apart)

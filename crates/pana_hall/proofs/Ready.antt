@@ -1,5 +1,5 @@
 -- What holds where nothing stands against a report, and what it leaves.
-use Rattle.pana_hall.proofs.Words.{◌≡◌, ℕ, ◌+◌, List, length, Some, None, option_map, [], ◌∷◌, ◌++◌, Option, is_some, option_and_then, true, false, take, IfSome, IsSome, refl, sym, ap, ◌∙◌, subst}
+use Rattle.pana_hall.proofs.Words.{said_in, said_before, entry_of, first_said, second_said, before_of, Earlier, earlier, ◌⊎◌, inl, ◌<◌, ◌≤◌, ◌≡◌, ℕ, ◌+◌, List, length, Some, None, option_map, [], ◌∷◌, ◌++◌, Option, is_some, option_and_then, true, false, take, IfSome, IsSome, refl, sym, ap, ◌∙◌, subst}
 use Rattle.pana_hall.proofs.Words.{inr, reverse, Place, Table, kept, Spot, placed, Report, Entry, AreBefore, CanReport, FamilyReport, pending, families, family_report, begun_or_joined, subject}
 use Rattle.pana_hall.proofs.Words.{is_register, Copy, copy_in, copies_of, living, report_refusal, taken, brought_back, displaced, Accepts, layer, family_of_next, KeptRows, last_place, confirmed}
 use Rattle.pana_hall.proofs.Words.{kept_rows, reported_kept, undone, withdrawn, spot_of, IsFree, spot_in, mover, spot_to, spot_after, undone_spot, CanUndo, next_entry, AreSpots, IsReady, place_before}
@@ -10,8 +10,9 @@ use Rattle.pana_hall.proofs.Sound.{family_new, IsSound, accepted_is_sound, livin
 use Rattle.pana_hall.proofs.Tables.{own_copy, Open, open_withdraw, layer_now, EndsIn}
 use Rattle.pana_hall.proofs.Places.{living_below, Back, back_at, back_none, now_here, displaced_of, layer_before, copies_below, spots_report, spots_withdrawn, put_same, not_taken, living_confirmed, spots_next, back_before, none_passes, same_place-itself}
 use Rattle.pana_hall.proofs.Stood.{can_report, layers_stand, next_above, rows_changed}
+use Rattle.pana_hall.proofs.Lists.{each_weaker}
 use Rattle.pana_hall.proofs.Moves.{Names, none_below, displaced_named, made_of, removed_named}
-use Rattle.pana_hall.proofs.Knowns.{layer_founded}
+use Rattle.pana_hall.proofs.Knowns.{layer_founded, layer_within}
 use Rattle.std.proofs.Math.Path.{fun_ext}
 use Rattle.pana_hall.proofs.Histories as kept_families
 
@@ -112,8 +113,8 @@ module _ {journal : List Entry} {by : List ℕ} {m : ℕ} {it : KeptRows} {copie
       grind (arith, nat_tests, ready.spots c, now_here sound ends c of, spots_report m report (copies_of ends.entries) (copies_below m ends.entries ends.below) c, eq-eqb c c refl)
 
   undo_by : (report : Report) → ends.last.report ≡ report → CanUndo m report it.number (last_place it.undo) copies
-  undo_by (Register place) e = (front_none (ap displaced e), ap is_some (kept_moved m (ap (mover m) e) refl ∙ ap (λ r. spot_to m r (spot_in (copies_of ends.entries))) e))
-  undo_by (Duplicate source place) e =
+  undo_by (Register place sum) e = (front_none (ap displaced e), ap is_some (kept_moved m (ap (mover m) e) refl ∙ ap (λ r. spot_to m r (spot_in (copies_of ends.entries))) e))
+  undo_by (Duplicate source place sum) e =
       let lives = layer_founded journal ready.accepted 0 (families journal m) ends.entries ends.last (layer_now 8 (families journal m) journal ∙ ends.own) source (subst (λ r. Names r source) (sym e) refl) in (
         front_none (ap displaced e),
         ap is_some (kept_moved m (ap (mover m) e) refl ∙ ap (λ r. spot_to m r (spot_in (copies_of ends.entries))) e ∙ ap (λ x. placed place (option_map spot_of x)) lives.1),
@@ -193,50 +194,87 @@ module _ {journal : List Entry} {by : List ℕ} {report : Report} {it : KeptRows
   lives_displaced = grind (arith, nat_tests, kept_named, displaced_named)
 
   -- a duplicate is kept beside its source
-  spot_duplicate : {source : ℕ} {place : Place} → report ≡ Duplicate source place → Some (record { family = it.number; place = place }) ≡ placed place (kept copies source)
-  spot_duplicate {source} {place} is =
+  spot_duplicate : {source : ℕ} {place : Place} {sum : Option (List ℕ)} → report ≡ Duplicate source place sum → Some (record { family = it.number; place = place }) ≡ placed place (kept copies source)
+  spot_duplicate {source} {place} {sum} is =
       let there = named ready source (subst (λ r. Names r source) (sym is) refl) in
       grind (arith, nat_tests, there.of, family_of journal source there.copy (accepted_is_sound 8 journal ready.accepted) there.found, there.found, ready.spots source)
 
   -- a place that a report gives a copy is free
-  free_duplicate : {source : ℕ} {place : Place} → report ≡ Duplicate source place → IsFree place copies
-  free_duplicate {source} {place} is = grind (arith, nat_tests, free_spots, none_against, as_is)
+  free_duplicate : {source : ℕ} {place : Place} {sum : Option (List ℕ)} → report ≡ Duplicate source place sum → IsFree place copies
+  free_duplicate {source} {place} {sum} is = grind (arith, nat_tests, free_spots, none_against, as_is)
 
   free_relocate : {c : ℕ} {place : Place} → report ≡ Relocate c place → IsFreeFor c place copies
   free_relocate {c} {place} is number at = grind (arith, nat_tests, free_spots, none_against, as_is)
 
   -- so the copy can be kept as it says
   pub can_place : (n : ℕ) → n ≡ length journal → (r : Report) → report ≡ r → CanPlace (n + 1) r it.number copies
-  can_place n n_is (Register place) is = absurd (let later = ready.later in let yes : is_register report ≡ true = ap is_register is in cc)
-  can_place n n_is (Duplicate source place) is = (is_fresh ready n n_is, free_duplicate is, spot_duplicate is)
+  can_place n n_is (Register place sum) is = absurd (let later = ready.later in let yes : is_register report ≡ true = ap is_register is in cc)
+  can_place n n_is (Duplicate source place sum) is = (is_fresh ready n n_is, free_duplicate is, spot_duplicate is)
   can_place n n_is (Relocate c place) is = (kept_named is c refl, free_relocate is)
   can_place n n_is (Remove c heir) is = kept_named is c (removed_named c heir)
   can_place n n_is r is = tt
 
-  -- the copy that the report moves or removes is where it is kept
-  place_now : option_and_then (place_of copies) (displaced report) ≡ place_before (Some (next_entry journal by report)) (copies_of (layer 8 0 it.number journal))
-  place_now =
-      elim (displaced report) as (λ o. displaced report ≡ o → option_and_then (place_of copies) o ≡ option_and_then (λ c. option_map (λ copy. copy.place) (copy_in (copies_of (layer 8 0 it.number journal)) c)) o) [
+  -- a copy of whose content the report says something is one that it is about, or the new one
+  first_named : (n c : ℕ) → first_said n report ≡ Some c → Names report c ⊎ (c ≡ n)
+  first_named n c is = by_report report is
+    where
+      by_report : (r : Report) → first_said n r ≡ Some c → Names r c ⊎ (c ≡ n)
+      by_report r e = grind (arith, nat_tests, removed_named)
+
+  second_named : (c : ℕ) → second_said report ≡ Some c → Names report c
+  second_named c is = by_report report is
+    where
+      by_report : (r : Report) → second_said r ≡ Some c → Names r c
+      by_report r e = grind (arith, nat_tests)
+
+  -- the family's entries make the same of a copy that it is about as all do
+  own_named : (c : ℕ) → Names report c → copy_in (copies_of (layer 8 0 it.number journal)) c ≡ copy_in (living journal) c
+  own_named c names = own_copy journal it.number c (accepted_is_sound 8 journal ready.accepted) (named ready c names).of
+
+  own_new : copy_in (copies_of (layer 8 0 it.number journal)) (length journal + 1) ≡ copy_in (living journal) (length journal + 1)
+  own_new =
+      let sound = accepted_is_sound 8 journal ready.accepted in
+      let n = length journal + 1 in
+      none_below n _ (copies_below n (layer 8 0 it.number journal) (each_weaker (λ e. e.number ≤ length journal) (λ e. e.number < n) _ (λ e within. omega arith) (layer_within journal 0 it.number sound)))
+      ∙ sym (none_below n (living journal) (living_below 8 n journal sound refl))
+
+  said_now : (o : Option ℕ) → ((c : ℕ) → o ≡ Some c → Names report c ⊎ (c ≡ length journal + 1)) → said_before o (living journal) ≡ said_before o (copies_of (layer 8 0 it.number journal))
+  said_now None about = refl
+  said_now (Some c) about = elim (about c refl) [
+    | inl names ↦ ap (λ x. entry_of (option_and_then (λ copy. copy.content) x)) (sym (own_named c names))
+    | inr new ↦ subst (λ k. said_in (living journal) k ≡ said_in (copies_of (layer 8 0 it.number journal)) k) (sym new) (ap (λ x. entry_of (option_and_then (λ copy. copy.content) x)) (sym own_new))
+  ]
+
+  -- what is before the report among the living copies is before it among those of its family
+  before_now : before_of (Some (next_entry journal by report)) (living journal) ≡ before_of (Some (next_entry journal by report)) (copies_of (layer 8 0 it.number journal))
+  before_now =
+      let place = elim (displaced report) as (λ o. displaced report ≡ o → option_and_then (λ c. option_map (λ copy. copy.place) (copy_in (living journal) c)) o ≡ option_and_then (λ c. option_map (λ copy. copy.place) (copy_in (copies_of (layer 8 0 it.number journal)) c)) o) [
         | None ↦ λ e. refl
-        | Some c ↦ λ e. place_spots journal copies ready.spots c ∙ ap (option_map (λ copy. copy.place)) (sym (own_copy journal it.number c (accepted_is_sound 8 journal ready.accepted) (named ready c (displaced_named report c e)).of))
-      ] refl
+        | Some c ↦ λ e. ap (option_map (λ copy. copy.place)) (sym (own_named c (displaced_named report c e)))
+      ] refl in
+      let first = said_now (first_said (length journal + 1) report) (first_named (length journal + 1)) in
+      let second = said_now (second_said report) (λ c e. inl (second_named c e)) in
+      ap (λ p. earlier p (said_before (first_said (length journal + 1) report) (living journal)) (said_before (second_said report) (living journal))) place
+      ∙ ap (λ f. earlier (option_and_then (λ c. option_map (λ copy. copy.place) (copy_in (copies_of (layer 8 0 it.number journal)) c)) (displaced report)) f (said_before (second_said report) (living journal))) first
+      ∙ ap (λ s. earlier (option_and_then (λ c. option_map (λ copy. copy.place) (copy_in (copies_of (layer 8 0 it.number journal)) c)) (displaced report)) (said_before (first_said (length journal + 1) report) (copies_of (layer 8 0 it.number journal))) s) second
 
   -- the family, once the report is accepted
-  pub family_reported : {of : FamilyReport} → family_report report ≡ Some of → (n : ℕ) → n ≡ length journal → (after_it : KeptRows)
-      → IfSome (family_report report) (λ f. after_it ≡ reported_kept (n + 1) f (option_and_then (place_of copies) (displaced report)) it) → is_of_copies report ≡ true
+  pub family_reported : {of : FamilyReport} → family_report report ≡ Some of → (n : ℕ) → n ≡ length journal → (after_it : KeptRows) (before : Earlier)
+      → before ≡ before_of (Some (next_entry journal by report)) (living journal)
+      → IfSome (family_report report) (λ f. after_it ≡ reported_kept (n + 1) f before it) → is_of_copies report ≡ true
       → after_it ≡ family_kept (journal ++ next_entry journal by report ∷ []) it.number
-  family_reported {of} about n n_is after_it made is =
+  family_reported {of} about n n_is after_it before before_is made is =
       let entry = next_entry journal by report in
       let own = family_of_next journal entry in
       let number : it.number ≡ own = ap (λ (k : KeptRows). k.number) ready.kept in
-      let done : after_it ≡ reported_kept (n + 1) of (option_and_then (place_of copies) (displaced report)) it = subst (λ o. IfSome o (λ f. after_it ≡ reported_kept (n + 1) f (option_and_then (place_of copies) (displaced report)) it)) about made in
+      let done : after_it ≡ reported_kept (n + 1) of before it = subst (λ o. IfSome o (λ f. after_it ≡ reported_kept (n + 1) f before it)) about made in
       let rows = rows_of (layer 8 0 own journal) in
-      let place = place_before (Some entry) (copies_of (layer 8 0 own journal)) in
+      let then = before_of (Some entry) (copies_of (layer 8 0 own journal)) in
       done
-      ∙ ap (λ k. reported_kept (k + 1) of (option_and_then (place_of copies) (displaced report)) it) n_is
-      ∙ ap (λ p. reported_kept (length journal + 1) of p it) (place_now ∙ ap (λ f. place_before (Some entry) (copies_of (layer 8 0 f journal))) number)
-      ∙ ap (reported_kept (length journal + 1) of place) ready.kept
-      ∙ ap (λ (l : List StampRow). kept_rows own l (take 8 (undone (length journal + 1) rows place ∷ of_pending (undone_of journal) own journal))) (sym (rows_changed (length journal + 1) report of rows about))
+      ∙ ap (λ k. reported_kept (k + 1) of before it) n_is
+      ∙ ap (λ b. reported_kept (length journal + 1) of b it) (before_is ∙ before_now ∙ ap (λ f. before_of (Some entry) (copies_of (layer 8 0 f journal))) number)
+      ∙ ap (reported_kept (length journal + 1) of then) ready.kept
+      ∙ ap (λ (l : List StampRow). kept_rows own l (take 8 (undone (length journal + 1) rows then ∷ of_pending (undone_of journal) own journal))) (sym (rows_changed (length journal + 1) report of rows about))
       ∙ sym (kept_families.family_report journal entry (accepted_is_sound 8 journal ready.accepted) (accepts_next journal by report ready.free) is)
       ∙ ap (family_kept (journal ++ entry ∷ [])) (sym number)
 

@@ -1,5 +1,5 @@
 -- Runs, and the journals that refuse none of their entries.
-use Rattle.pana_hall.proofs.Words.{nat_tests, arith, ◌≡◌, ℕ, ◌+◌, List, [], ◌∷◌, ◌++◌, length, None, ◌≤◌, refl, sym, ap, ◌∙◌, subst, inl, append-nil, append_assoc, Report, Entry, Call}
+use Rattle.pana_hall.proofs.Words.{nat_tests, arith, ◌≡◌, ℕ, ◌+◌, List, [], ◌∷◌, ◌++◌, length, None, ◌≤◌, refl, sym, ap, ◌∙◌, subst, inl, append-nil, append_assoc, Entry, Call}
 use Rattle.pana_hall.proofs.Words.{Cause, living, report_refusal, journal_from, RunsTo, Accepts, AcceptsAll, IsAccepted, map-append, AllByRecursion, families, AreRising, Exchange, IsRun, IsRunFrom}
 use Rattle.pana_hall.proofs.Words.{IsNumbered, IsOrderly, OutOfMemory}
 use Rattle.pana_hall.specs.declared.call.Call.TheVariants as calls

@@ -1,5 +1,5 @@
 -- What holds of each journal that refuses none of its entries.
-use Rattle.pana_hall.proofs.Words.{◌≡◌, ℕ, Bool, true, false, not, List, ◌∷◌, Option, Some, None, find, ◌≢◌, ◌<◌, cond, ◌&&◌, ◌||◌, ◌==◌, [], ◌++◌, filter, fold, ◌+◌, ◌≤◌, length, map, slice_get, ◌⊎◌}
+use Rattle.pana_hall.proofs.Words.{Note, ◌≡◌, ℕ, Bool, true, false, not, List, ◌∷◌, Option, Some, None, find, ◌≢◌, ◌<◌, cond, ◌&&◌, ◌||◌, ◌==◌, [], ◌++◌, filter, fold, ◌+◌, ◌≤◌, length, map, slice_get, ◌⊎◌}
 use Rattle.pana_hall.proofs.Words.{then_some, refl, ap, ◌∙◌, arith, append-nil, sym, subst, inl, inr, append_assoc, eq-eqb, ne_eqb, cases_eq, Place, same_place, Entry, entry_at, Cause, families}
 use Rattle.pana_hall.proofs.Words.{begun_or_joined, subject, entries_of, is_of_copies, effective, Copy, copy_in, living, against, unknown, taken, other_family, first, report_refusal, full, same}
 use Rattle.pana_hall.proofs.Words.{pending_with, settled_or_followed, taken_since, AllByRecursion, filter-append, filter_agree, fold-append, Report, Confirm, Withdraw, Duplicate, Edit, Reconcile}
@@ -170,11 +170,12 @@ pub named_report : (most n : ℕ) (journal : List Entry) (by : List ℕ) (report
 named_report most n journal by report c fits free names = live report (none_against most journal (living journal) by report free).1 names
   where
     live : (report : Report) → AreNone (against most journal (living journal) by report) → Names report c → LivesIn journal (begun_or_joined (families journal) n (subject report)) c
-    live (Duplicate source place) none names = one journal source c none.0 names
-    live (Edit x) none names = one journal x c none.0 names
-    live (Reconcile a b) none names = two journal a b c fits none names
-    live (Merge a b) none names = two journal a b c fits none names
+    live (Duplicate source place sum) none names = one journal source c none.0 names
+    live (Edit x sum) none names = one journal x c none.0 names
+    live (Reconcile a b sum) none names = two journal a b c fits none names
+    live (Merge a b sum) none names = two journal a b c fits none names
     live (Relocate x place) none names = one journal x c none.0 names
+    live (Note x sum) none names = one journal x c none.0 names
     live (Remove x None) none names = one journal x c none.0 names
     live (Remove x (Some heir)) none names = two journal x heir c fits none names
     live report none names = absurd names

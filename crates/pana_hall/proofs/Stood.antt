@@ -1,9 +1,9 @@
 -- The rows that a journal gives a family stand for the sets that it gives it.
-use Rattle.pana_hall.proofs.Words.{◌≡◌, ℕ, zero, suc, ◌+◌, ◌<◌, ◌≤◌, List, [], ◌∷◌, length, filter, count_by, Some, None, IfSome, ◌≢◌, Bool, true, false, cond, not, ◌++◌, option_and_then}
+use Rattle.pana_hall.proofs.Words.{content_by, Note, Option, ◌≡◌, ℕ, zero, suc, ◌+◌, ◌<◌, ◌≤◌, List, [], ◌∷◌, length, filter, count_by, Some, None, IfSome, ◌≢◌, Bool, true, false, cond, not, ◌++◌, option_and_then}
 use Rattle.pana_hall.proofs.Words.{AllByRecursion, then_some, refl, sym, ap, ◌∙◌, subst, arith, inl, inr, not-false, length-map, length-filter, fold-append, nat_tests, Report, Register, Duplicate}
 use Rattle.pana_hall.proofs.Words.{Edit, Reconcile, Merge, Relocate, Remove, Entry, TooDeep, families, subject, entries_of, family_report, Copy, after_report, copy_in, living, new_copy, pending}
 use Rattle.pana_hall.proofs.Words.{all_known, is_of, sets_of, against, unknown, family_full, same, too_deep, Accepts, IsAccepted, layer, family_of_next, FamilyReport, IsKept, StampRow, Place}
-use Rattle.pana_hall.proofs.Words.{StandsFor, AreBefore, copy_rows, divides, lives, seed_row, CanReport, In, IsAbove, Known, same_copies, One, same_length, empty_kept, NamesOf, has, effective}
+use Rattle.pana_hall.proofs.Words.{StandsFor, AreBefore, copy_rows, divides, lives, seed_row, CanReport, In, IsAbove, Known, same_copies, One, same_length, empty_kept, NamesOf, effective}
 use Rattle.pana_hall.proofs.Words.{is_of_copies, sets_at, rows_after, stamp_rows, ◌^◌, leb-false, is_duplicate, duplicates_in, AreSound, deepest, AreBelow, same_before, same_living, one_known}
 use Rattle.pana_hall.proofs.Words.{divides_is, seed_kept, seed_sound, undivided_deep, IsTouched, numbers_reported, reported, rows_by}
 use Rattle.pana_hall.specs.{Living.copies_of, laws.Sets.knowns_of, StampRows.rows_of}
@@ -101,9 +101,9 @@ module _ (journal : List Entry) (entry : Entry) (sound : IsSound 8 journal) (acc
   pub next_above : IsStood before → AreBefore entry.number (rows_of before) × AreBelow entry.number (knowns_of before)
   next_above stood = stood_below before entry.number stood (layer_below journal 0 (family_of_next journal entry) entry.number sound accepts.next)
 
-  can_divide : (source : ℕ) (place : Place) → entry.report ≡ Duplicate source place → AreNone (against 8 journal (living journal) entry.by (Duplicate source place)) → IsStood before
+  can_divide : (source : ℕ) (place : Place) (sum : Option (List ℕ)) → entry.report ≡ Duplicate source place sum → AreNone (against 8 journal (living journal) entry.by (Duplicate source place sum)) → IsStood before
       → (length (copy_rows (rows_of before)) < 256) × (divides (rows_of before) source ≡ true)
-  can_divide source place is none stood =
+  can_divide source place sum is none stood =
       let own = family_of_next journal entry in
       let room = room_for source (living journal) none.0 none.1.1.0 in
       let of_own : room.0.family ≡ own = sym (family_of_copy 8 journal entry source room.0 sound (ap subject is) room.1) in
@@ -122,11 +122,12 @@ module _ (journal : List Entry) (entry : Entry) (sound : IsSound 8 journal) (acc
     where
       can : (report : Report) → entry.report ≡ report → AreNone (against 8 journal (living journal) entry.by report) → ((c : ℕ) → Names report c → lives (rows_of before) c ≡ true)
           → IfSome (family_report report) (λ of. CanReport of (rows_of before))
-      can (Duplicate source place) is none named = let divide = can_divide source place is none stood in (named source refl, divide.0, divides_is (rows_of before) source divide.1)
-      can (Edit c) is none named = named c refl
-      can (Reconcile a b) is none named = (named a (inl refl), named b (inr refl), differ a b none.1.1.0)
-      can (Merge a b) is none named = (named a (inl refl), named b (inr refl), differ a b none.1.1.0)
+      can (Duplicate source place sum) is none named = let divide = can_divide source place sum is none stood in (named source refl, divide.0, divides_is (rows_of before) source divide.1)
+      can (Edit c sum) is none named = named c refl
+      can (Reconcile a b sum) is none named = (named a (inl refl), named b (inr refl), differ a b none.1.1.0)
+      can (Merge a b sum) is none named = (named a (inl refl), named b (inr refl), differ a b none.1.1.0)
       can (Relocate c place) is none named = named c refl
+      can (Note c sum) is none named = named c refl
       can (Remove c None) is none named = (named c refl, tt, λ e. absurd (cc))
       can (Remove c (Some heir)) is none named = (named c (inl refl), named heir (inr refl), λ e. let one : heir ≡ c = cc in differ c heir none.1.1.0 (sym one))
       can report is none named = tt
@@ -164,25 +165,25 @@ module _ (journal : List Entry) (entry : Entry) (sound : IsSound 8 journal) (acc
       }
 
   -- a Register is the first entry of its family, and begins with its copy
-  register_first : (place : Place) → entry.report ≡ Register place → before ≡ []
-  register_first place is = cc (family_new journal entry, accepts.next, layer_new journal sound)
+  register_first : {sum : Option (List ℕ)} (place : Place) → entry.report ≡ Register place sum → before ≡ []
+  register_first {sum} place is = cc (family_new journal entry, accepts.next, layer_new journal sound)
 
-  pub register_sets : (place : Place) → entry.report ≡ Register place → knowns_of (before ++ entry ∷ []) ≡ by_table.registered entry.number
-  register_sets place is = grind (arith, nat_tests, knowns_of-push, register_first, knowns_none)
+  pub register_sets : {sum : Option (List ℕ)} (place : Place) → entry.report ≡ Register place sum → knowns_of (before ++ entry ∷ []) ≡ by_table.registered entry.number
+  register_sets {sum} place is = grind (arith, nat_tests, knowns_of-push, register_first, knowns_none)
 
-  step_begins : (place : Place) → entry.report ≡ Register place → IsStood (before ++ entry ∷ [])
-  step_begins place is =
+  step_begins : {sum : Option (List ℕ)} (place : Place) → entry.report ≡ Register place sum → IsStood (before ++ entry ∷ [])
+  step_begins {sum} place is =
       let n = entry.number in
       let none = register_first place is in
       let sets_is = sym (register_sets place is) in
       let rows_is : rows_of (before ++ entry ∷ []) ≡ seed_row n ∷ [] =
       rows_of-push before entry ∙ ap (rows_after n entry.report) (ap rows_of none ∙ rows_none) ∙ ap (λ r. rows_after n r []) is in
-      let copies_is : copies_of (before ++ entry ∷ []) ≡ new_copy n n [] place ∷ [] =
+      let copies_is : copies_of (before ++ entry ∷ []) ≡ new_copy n n [] place (content_by n (Register place sum) []) ∷ [] =
       copies_of-push before entry ∙ ap (after_report n entry.report) (ap copies_of none ∙ copies_of_none) ∙ ap (λ r. after_report n r []) is in
       grind (arith, nat_tests, seed_kept, seed_sound, seed_stands, each_last)
 
   step : is_of_copies entry.report ≡ true → IsStood before → IsStood (before ++ entry ∷ [])
-  step is stood = elim (made_of entry.report is) [ inl begins ↦ step_begins begins.0 begins.1 | inr changes ↦ step_changes changes.0 changes.1 is stood ]
+  step is stood = elim (made_of entry.report is) [ inl begins ↦ step_begins begins.0 begins.2 | inr changes ↦ step_changes changes.0 changes.1 is stood ]
 
 -- so the rows of each layer of each accepted journal stand for its sets
 pub layers_stand : (journal : List Entry) → IsAccepted 8 journal → (k family : ℕ) → IsStood (layer 8 k family journal)

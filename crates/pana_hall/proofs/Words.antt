@@ -33,7 +33,7 @@ pub use Rattle.pana_hall.specs.Accepted.{Accepts, AcceptsAll, IsAccepted}
 pub use Rattle.pana_hall.specs.Board.{all_known, is_of, sets_of}
 pub use Rattle.pana_hall.specs.Effective.{effective, is_of_copies, is_withdrawn, left_out, withdraws}
 pub use Rattle.pana_hall.specs.Family.{begun_or_joined, entries_of, families, family_report, is_duplicate, is_family, is_register, subject}
-pub use Rattle.pana_hall.specs.Living.{Copy, after_entry, after_report, comes, copies_of, copy_in, known_to, living, made, new_copy}
+pub use Rattle.pana_hall.specs.Living.{Content, Copy, after_entry, after_report, comes, content_by, content_in, copies_of, copy_in, known_to, living, made, new_copy, said}
 pub use Rattle.pana_hall.specs.Pending.{behind, is_last, last, pend, pending}
 pub use Rattle.pana_hall.specs.Queries.{begun, family_row, family_rows, holding, holdings, pair_of, row_of_sets}
 pub use Rattle.pana_hall.specs.Refusal.{against, against_two, brought_back, displaced, family_full, first, full, other_family, pending_with, report_refusal, same, settled_or_followed, taken}
@@ -47,13 +47,14 @@ pub use Rattle.pana_hall.specs.declared.cause.Cause.TheVariants.{FamilyFull, Not
 pub use Rattle.pana_hall.specs.declared.holding.Holding.{Holding}
 pub use Rattle.pana_hall.specs.declared.listed_family.ListedFamily.{ListedFamily}
 pub use Rattle.pana_hall.specs.declared.undo.Undo.{Undo}
-pub use Rattle.pana_hall.specs.inner.Kept.{ArePlaced, AreSpots, IsReady, IsReadyAt, IsWithin, families_of, family_of, next_entry, of_each, of_pending, place_before, position_for, position_of_subject}
+pub use Rattle.pana_hall.specs.inner.Kept.{ArePlaced, AreSpots, IsReady, IsReadyAt, IsWithin, families_of, family_of, next_entry, of_each, of_pending, before_of, said_before, place_before, position_for, position_of_subject}
 pub use Rattle.pana_hall.specs.inner.Kept.{undone_of}
+pub use Rattle.pana_hall.specs.inner.Contents.{AreContents, all_written, content_at, entry_of, first_said, said_in, say, second_said}
 pub use Rattle.pana_hall.specs.inner.Listed.{all_listed, listed}
-pub use Rattle.pana_hall.specs.inner.Next.{IsStep, IsStepOf, Takes}
-pub use Rattle.pana_hall.specs.inner.Rows.{holding_in, placed_row}
+pub use Rattle.pana_hall.specs.inner.Next.{AreSayings, IsStep, IsStepOf, Takes}
+pub use Rattle.pana_hall.specs.inner.Rows.{holding_from, holding_in, placed_row}
 pub use Rattle.pana_hall.specs.inner.Spots.{CanPlace, CanUndo, IsFree, IsFreeFor, IsThere, mover, other_there, put, spot_after, spot_in, spot_of, spot_to, undone_spot}
-pub use Rattle.pana_hall.specs.inner.Undo.{CanGoBack, IsPreparedIn, KeptRows, RoomyFamily, Undone, confirmed, ends_in, history, kept_rows, last_place, later_than, new_kept, reported_kept, undone}
+pub use Rattle.pana_hall.specs.inner.Undo.{CanGoBack, Earlier, IsPreparedIn, KeptRows, RoomyFamily, Undone, confirmed, earlier, earlier_of, ends_in, history, kept_rows, last_before, last_place, later_than, new_kept, reported_kept, undone}
 pub use Rattle.pana_hall.specs.inner.Undo.{withdrawn}
 pub use Rattle.pana_hall.specs.laws.Layers.{AddsLayer, AreApart, AreMerged, AreRising, IsOrderly, duplicates_in, family_of_next}
 pub use Rattle.pana_hall.specs.laws.Sets.{knowns_of, reported, reported_by, sets_at}
@@ -61,4 +62,4 @@ pub use Rattle.pana_hall.specs.laws.Tables.{layer, table}
 pub use Rattle.pana_journal.specs.Entries.{IsNumbered, entry_at, page}
 pub use Rattle.pana_journal.specs.declared.entry.Entry.{Entry}
 pub use Rattle.pana_journal.specs.declared.report.Report.{Report}
-pub use Rattle.pana_journal.specs.declared.report.Report.TheVariants.{Confirm, Duplicate, Edit, Merge, Reconcile, Register, Relocate, Remove, Withdraw}
+pub use Rattle.pana_journal.specs.declared.report.Report.TheVariants.{Confirm, Duplicate, Edit, Merge, Note, Reconcile, Register, Relocate, Remove, Withdraw}

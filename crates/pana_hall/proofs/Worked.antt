@@ -1,14 +1,31 @@
 -- Worked examples, and where the laws of the tables end, computed from the definitions.
-use Rattle.pana_hall.proofs.Words.{◌≡◌, ℕ, zero, suc, ◌+◌, true, false, List, [], ◌∷◌, ◌++◌, Option, Some, None, map, length, refl, Place, Report, Register, Duplicate, Edit, Reconcile, Merge}
+use Rattle.pana_hall.proofs.Words.{◌≡◌, ℕ, zero, suc, ◌+◌, true, false, List, [], ◌∷◌, ◌++◌, Option, Some, None, map, length, refl, Place, Report}
 use Rattle.pana_hall.proofs.Words.{Relocate, Remove, Confirm, Withdraw, Entry, Cause, PlaceTaken, FamilyFull, Settled, BoardRow, families, living, known_to, pending, holdings, report_refusal, table}
 use Rattle.pana_hall.proofs.Words.{AreApart, codes, UnknownCopy, SameCopy, OtherFamily, UnknownEntry, NotYours, UnknownFamily, page, family_rows, pair_of}
 use Rattle.pana_event.specs.declared.rel.Rel.TheVariants.{Equal, Older, Conflict}
 use Rattle.pana_hall.specs.{declared.call.Query.Query, declared.call.Query.TheVariants.Board, declared.call.Query.TheVariants.Pair, Living.copies_of, StampRows.rows_of}
 use Rattle.pana_hall.specs.{Board.board_of, Board.row_of, Refusal.refusal}
+use Rattle.pana_journal.specs.declared.report.Report.TheVariants as reports
 use Rattle.pana_hall.specs.declared.call.Call.TheVariants as calls
 use Rattle.pana_family.specs.Board.{board_newest, board_split}
 
 -- Worked examples, computed from the definitions.
+
+-- reports without a sum
+abbrev Register : Place → Report
+Register place = reports.Register place None
+
+abbrev Duplicate : ℕ → Place → Report
+Duplicate copy place = reports.Duplicate copy place None
+
+abbrev Edit : ℕ → Report
+Edit copy = reports.Edit copy None
+
+abbrev Reconcile : ℕ → ℕ → Report
+Reconcile a b = reports.Reconcile a b None
+
+abbrev Merge : ℕ → ℕ → Report
+Merge a b = reports.Merge a b None
 
 abbrev place : List ℕ → List ℕ → Place
 place device path = record { device = device; path = path }
@@ -62,7 +79,7 @@ first_path_board : board_of 1 (living first_path)
 unfolding copies_of board_of row_of board_newest board_split rows_of
 first_path_board = refl
 
-first_path_answers : (holdings (living first_path) (codes "usb") ≡ record { copy = 2; family = 1; path = codes "plan.txt"; touch = 2 } ∷ [])
+first_path_answers : (holdings (living first_path) (codes "usb") ≡ record { copy = 2; family = 1; path = codes "plan.txt"; sum = None; touch = 2 } ∷ [])
     × (page first_path 2 ≡ entry 2 (Duplicate 1 usb_plan) ∷ entry 3 (Edit 1) ∷ []) × (page first_path 0 ≡ first_path) × (page first_path 4 ≡ [])
 unfolding copies_of rows_of
 first_path_answers = (refl, refl, refl, refl)
@@ -119,8 +136,8 @@ abbrev relocated : List Entry
 relocated = reported two_files (Relocate 2 usb_b ∷ [])
 
 relocated_and_back : (length relocated ≡ 5) × (from_laptop relocated (Relocate 2 usb_b) ≡ Some (PlaceTaken 2))
-    × (holdings (living relocated) (codes "usb") ≡ record { copy = 2; family = 1; path = codes "b"; touch = 5 } ∷ [])
-    × (holdings (living (reported relocated (Withdraw 5 ∷ []))) (codes "usb") ≡ record { copy = 2; family = 1; path = codes "plan.txt"; touch = 2 } ∷ [])
+    × (holdings (living relocated) (codes "usb") ≡ record { copy = 2; family = 1; path = codes "b"; sum = None; touch = 5 } ∷ [])
+    × (holdings (living (reported relocated (Withdraw 5 ∷ []))) (codes "usb") ≡ record { copy = 2; family = 1; path = codes "plan.txt"; sum = None; touch = 2 } ∷ [])
     × (from_laptop (reported relocated (Withdraw 5 ∷ Remove 2 None ∷ [])) (Edit 2) ≡ Some (UnknownCopy 2))
 unfolding refusal copies_of rows_of
 relocated_and_back = (refl, refl, refl, refl, refl)
@@ -165,7 +182,7 @@ abbrev freed : List Entry
 freed = reported_by (codes "desk") removed (Remove 6 None ∷ [])
 
 withdraw_of_remove : (from_laptop removed (Withdraw 5) ≡ Some (PlaceTaken 6)) × (length freed ≡ 7) × (from_laptop freed (Withdraw 5) ≡ None)
-    × (holdings (living (reported freed (Withdraw 5 ∷ []))) (codes "usb") ≡ record { copy = 2; family = 1; path = codes "plan.txt"; touch = 4 } ∷ [])
+    × (holdings (living (reported freed (Withdraw 5 ∷ []))) (codes "usb") ≡ record { copy = 2; family = 1; path = codes "plan.txt"; sum = None; touch = 4 } ∷ [])
     × (known_to (living (reported freed (Withdraw 5 ∷ []))) 2 ≡ 4 ∷ [])
 unfolding refusal copies_of rows_of
 withdraw_of_remove = (refl, refl, refl, refl, refl)

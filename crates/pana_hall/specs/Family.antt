@@ -1,7 +1,7 @@
 -- The family of an entry.
 use Rattle.std.specs.Prelude.{ℕ, Bool, true, false, ◌==◌, List, filter, Option, Some, None, fold, if◌then◌else◌}
 use Rattle.pana_journal.specs.declared.report.Report.{Report}
-use Rattle.pana_journal.specs.declared.report.Report.TheVariants.{Register, Duplicate, Edit, Reconcile, Merge, Relocate, Remove, Confirm, Withdraw}
+use Rattle.pana_journal.specs.declared.report.Report.TheVariants.{Register, Duplicate, Edit, Reconcile, Merge, Relocate, Remove, Note, Confirm, Withdraw}
 use Rattle.pana_journal.specs.declared.entry.Entry.{Entry}
 use Rattle.pana_journal.specs.Entries.{entry_at}
 use Rattle.pana_family.specs.declared.report.FamilyReport.{FamilyReport}
@@ -9,13 +9,14 @@ use Rattle.pana_family.specs.declared.report.FamilyReport.TheVariants as family
 
 -- the copy, or the entry, to whose family a report belongs. A Register names none: it begins a family of its own
 abbrev pub subject : Report → Option ℕ
-subject (Register place) = None
-subject (Duplicate copy place) = Some copy
-subject (Edit copy) = Some copy
-subject (Reconcile a b) = Some a
-subject (Merge a b) = Some a
+subject (Register place sum) = None
+subject (Duplicate copy place sum) = Some copy
+subject (Edit copy sum) = Some copy
+subject (Reconcile a b sum) = Some a
+subject (Merge a b sum) = Some a
 subject (Relocate copy place) = Some copy
 subject (Remove copy heir) = Some copy
+subject (Note copy sum) = Some copy
 subject (Confirm entry) = Some entry
 subject (Withdraw entry) = Some entry
 
@@ -34,13 +35,14 @@ families journal = fold with_entry (λ n. n) journal
 
 -- what a report says of copies of a family that has begun, if it does
 abbrev pub family_report : Report → Option FamilyReport
-family_report (Register place) = None
-family_report (Duplicate source place) = Some (family.Duplicate source)
-family_report (Edit copy) = Some (family.Edit copy)
-family_report (Reconcile a b) = Some (family.Reconcile a b)
-family_report (Merge a b) = Some (family.Merge a b)
+family_report (Register place sum) = None
+family_report (Duplicate source place sum) = Some (family.Duplicate source)
+family_report (Edit copy sum) = Some (family.Edit copy)
+family_report (Reconcile a b sum) = Some (family.Reconcile a b)
+family_report (Merge a b sum) = Some (family.Merge a b)
 family_report (Relocate copy place) = Some (family.Touch copy)
 family_report (Remove copy heir) = Some (family.Remove copy heir)
+family_report (Note copy sum) = Some (family.Touch copy)
 family_report (Confirm entry) = None
 family_report (Withdraw entry) = None
 
@@ -50,12 +52,12 @@ entries_of family family_of entries = filter (λ entry. family_of entry.number =
 
 -- whether the report begins a family
 abbrev pub is_register : Report → Bool
-is_register (Register place) = true
+is_register (Register place sum) = true
 is_register _ = false
 
 -- whether the report makes a copy of another
 abbrev pub is_duplicate : Report → Bool
-is_duplicate (Duplicate copy place) = true
+is_duplicate (Duplicate copy place sum) = true
 is_duplicate _ = false
 
 -- whether there is such an entry, and its report passes the test

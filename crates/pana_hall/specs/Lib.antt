@@ -7,6 +7,8 @@ pub mod Board
 pub mod StampRows
 pub mod Stamps
 pub mod Holdings
+pub mod Standing
+pub mod Status
 pub mod Queries
 pub mod Refusal
 pub mod Permit

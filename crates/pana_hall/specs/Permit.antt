@@ -13,7 +13,8 @@ use Rattle.pana_hall.specs.Living.{living}
 use Rattle.pana_hall.specs.Board.{board_of}
 use Rattle.pana_family.specs.declared.stamps.CopyStamp.{CopyStamp}
 use Rattle.pana_hall.specs.Stamps.{AreStampsOf}
-use Rattle.pana_hall.specs.Queries.{family_rows, pair_of, holdings}
+use Rattle.pana_hall.specs.Queries.{family_rows, pair_of, holdings, holdings_from}
+use Rattle.pana_hall.specs.Status.{standing_at, status_rows}
 use Rattle.pana_journal.specs.Entries.{page}
 use Rattle.pana_hall.specs.Refusal.{refusal}
 
@@ -23,7 +24,9 @@ Answers journal queries.Families reply = reply ≡ replies.Families (family_rows
 Answers journal (queries.Board family) reply = reply ≡ replies.Board (board_of family (living journal))
 Answers journal (queries.Stamps family) reply = (stamps : List CopyStamp) × AreStampsOf family journal stamps × (reply ≡ replies.Stamps stamps)
 Answers journal (queries.Pair a b) reply = reply ≡ replies.Pair (pair_of (living journal) a b)
-Answers journal (queries.Holdings device) reply = reply ≡ replies.Holdings (holdings (living journal) device)
+Answers journal (queries.Holdings device from) reply = reply ≡ replies.Holdings (holdings_from from (holdings (living journal) device))
+Answers journal (queries.At place) reply = reply ≡ replies.At (standing_at (living journal) place)
+Answers journal (queries.Status device from) reply = reply ≡ replies.Status (status_rows (living journal) device from)
 Answers journal (queries.JournalFrom n) reply = reply ≡ replies.Journal (page journal n)
 
 -- the reply grants a call that nothing stands against: a report is the next entry, a query is answered

@@ -1,5 +1,5 @@
 -- The answers to queries, where nothing stands against them.
-use Rattle.std.specs.Prelude.{ℕ, List, map, filter, length}
+use Rattle.std.specs.Prelude.{ℕ, nat_le, List, map, filter, length, take, Option, Some, None}
 use Rattle.std.specs.List.{list_any}
 use Rattle.std.specs.Str.{bytes_eq}
 use Rattle.pana_event.specs.declared.rel.Rel.{Rel}
@@ -10,7 +10,7 @@ use Rattle.pana_family.specs.Relation.{relation}
 use Rattle.pana_family.specs.Table.{Known, copies_of}
 use Rattle.pana_family.specs.Board.{board_newest, board_split}
 use Rattle.pana_hall.specs.Family.{is_register}
-use Rattle.pana_hall.specs.Living.{Copy, number_of, known_to}
+use Rattle.pana_hall.specs.Living.{Copy, number_of, known_to, sum_of}
 use Rattle.pana_hall.specs.Board.{is_of, sets_of}
 
 -- the row of a family with this table of sets: how many living copies it has, how many of them are newest, and whether it is split
@@ -35,8 +35,13 @@ pair_of copies a b = relation (known_to copies a) (known_to copies b)
 
 -- a copy as a holding of its device
 abbrev pub holding : Copy → Holding
-holding copy = record { copy = number_of copy; family = copy.family; path = copy.place.path; touch = copy.known.touch }
+holding copy = record { copy = number_of copy; family = copy.family; path = copy.place.path; sum = sum_of copy; touch = copy.known.touch }
 
 -- the living copies on a device, by rising number
 abbrev pub holdings : List Copy → List ℕ → List Holding
 holdings copies device = map holding (filter (λ copy. bytes_eq copy.place.device device) copies)
+
+-- those of them with a number from this one on, at most 1,000; where there is none, all
+abbrev pub holdings_from : Option ℕ → List Holding → List Holding
+holdings_from None holdings = holdings
+holdings_from (Some from) holdings = take 1000 (filter (λ holding. nat_le from holding.copy) holdings)

@@ -5,7 +5,7 @@ use Rattle.std.specs.Str.{bytes_eq}
 use Rattle.pana_copies.specs.declared.place.Place.{Place}
 use Rattle.pana_copies.specs.Places.{same_place}
 use Rattle.pana_journal.specs.declared.report.Report.{Report}
-use Rattle.pana_journal.specs.declared.report.Report.TheVariants.{Register, Duplicate, Edit, Reconcile, Merge, Relocate, Remove, Confirm, Withdraw}
+use Rattle.pana_journal.specs.declared.report.Report.TheVariants.{Register, Duplicate, Edit, Reconcile, Merge, Relocate, Remove, Note, Confirm, Withdraw}
 use Rattle.pana_journal.specs.declared.entry.Entry.{Entry}
 use Rattle.pana_journal.specs.Entries.{entry_at}
 use Rattle.pana_hall.specs.declared.call.Query.{Query}
@@ -105,14 +105,15 @@ first (Some cause ∷ causes) = Some cause
 
 -- what may stand against a device's report, on a journal that isn't full and its living copies
 abbrev pub against : ℕ → List Entry → List Copy → List ℕ → Report → List (Option Cause)
-against most journal copies by (Register place) = taken place copies ∷ []
-against most journal copies by (Duplicate copy place) = unknown copy copies ∷ taken place copies ∷ family_full copy copies ∷ too_deep copy journal copies ∷ []
-against most journal copies by (Edit copy) = unknown copy copies ∷ []
-against most journal copies by (Reconcile a b) = against_two a b copies
-against most journal copies by (Merge a b) = against_two a b copies
+against most journal copies by (Register place sum) = taken place copies ∷ []
+against most journal copies by (Duplicate copy place sum) = unknown copy copies ∷ taken place copies ∷ family_full copy copies ∷ too_deep copy journal copies ∷ []
+against most journal copies by (Edit copy sum) = unknown copy copies ∷ []
+against most journal copies by (Reconcile a b sum) = against_two a b copies
+against most journal copies by (Merge a b sum) = against_two a b copies
 against most journal copies by (Relocate copy place) = unknown copy copies ∷ taken place copies ∷ []
 against most journal copies by (Remove copy None) = unknown copy copies ∷ []
 against most journal copies by (Remove copy (Some heir)) = against_two copy heir copies
+against most journal copies by (Note copy sum) = unknown copy copies ∷ []
 against most journal copies by (Confirm entry) = unknown_entry entry journal ∷ not_yours by entry journal ∷ settled most entry journal ∷ []
 against most journal copies by (Withdraw entry) = unknown_entry entry journal ∷ not_yours by entry journal ∷ settled_or_followed most entry journal ∷ taken_since entry journal ∷ []
 

@@ -1,5 +1,6 @@
 -- Words that only inner functions and proofs need: nobody has to believe them.
 pub mod Undo
+pub mod Contents
 pub mod Families
 pub mod Spots
 pub mod Listed
@@ -7,3 +8,4 @@ pub mod Kept
 pub mod Next
 pub mod State
 pub mod Rows
+pub mod Relatives

@@ -2,3 +2,4 @@
 pub mod Tables
 pub mod Sets
 pub mod Layers
+pub mod Advice

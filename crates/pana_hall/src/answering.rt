@@ -1,11 +1,12 @@
 //! The answers to queries, where nothing stands against them.
-ghost use Rattle.std.specs.Prelude.{◌≡◌, true, None, IsSome, IfOk, IfErr, List, map};
+ghost use Rattle.std.specs.Prelude.{◌≡◌, true, None, IsSome, IfOk, IfErr, List, filter, map, nat_le};
 ghost use Rattle.std.specs.{List.AllByRecursion, Str.bytes_eq};
 ghost use Rattle.pana_copies.specs.Spots.{kept};
 ghost use Rattle.pana_family.specs.{Stands.StandsFor, Table.Known};
 ghost use Rattle.pana_hall.specs.{Board.board_of, Stamps.AreStampsOf, Living.living, inner.Rows.holding_in, inner.Rows.placed_row};
 ghost use Rattle.pana_hall.specs.{Refusal.query_refusal, Permit.Answers, Permit.IsShortage, inner.State.IsHeld, inner.Listed.listed};
-ghost use Rattle.pana_hall.specs.Queries.{family_rows, holdings, pair_of, row_of_sets};
+ghost use Rattle.pana_hall.specs.Queries.{family_rows, holdings, holdings_from, pair_of, row_of_sets};
+ghost use Rattle.pana_hall.specs.inner.Rows.{holding_from, sum_in};
 
 use crate::board::{BoardRow, BoardView};
 use crate::call::{Call, Query};
@@ -15,14 +16,18 @@ use crate::holding::{Holding, HoldingList};
 use crate::listed_family::ListedFamily;
 use crate::reply::Reply;
 use crate::state::State;
-use pana_copies::{CopyTable, DeviceName, Place};
+use pana_copies::{CopyTable, DeviceName, Place, Sum};
 use pana_event::Rel;
 use pana_family::{CopyCounts, CopyStamp};
 use pana_list::PlainList;
 use std::alloc::{AllocError, Global};
 
+/// How many holdings an answer has at most that begins at a number.
+const MOST_HOLDINGS: usize = 1_000;
+
 impl State {
-    fn pair_of(&self, a: u64, b: u64) -> Rel
+    /// How the first copy relates to the second, of one family. Takes no memory.
+    pub fn pair_of(&self, a: u64, b: u64) -> Rel
         requires kept { IsHeld self.now }
         requires free { query_refusal self.now.journal.entries (living self.now.journal.entries) (Query.Pair a b) ≡ None }
         ensures { result ≡ pair_of (living self.now.journal.entries) a b }
@@ -42,9 +47,14 @@ impl State {
             Query::Board { family } => Ok(Reply::Board(self.board_of(alloc, family)?)),
             Query::Stamps { family } => Ok(Reply::Stamps(self.stamps_of(alloc, family)?)),
             Query::Pair { a, b } => Ok(Reply::Pair(self.pair_of(a, b))),
-            Query::Holdings { device } => {
-                let made = self.holdings(alloc, &device)?;
+            Query::Holdings { device, from } => {
+                let made = self.holdings_from(alloc, &device, from)?;
                 Ok(Reply::Holdings(HoldingList::from_vec(made)))
+            }
+            Query::At { place } => Ok(Reply::At(self.standing_at(alloc, &place)?)),
+            Query::Status { device, from } => {
+                let rows = self.status_rows(alloc, &device, from)?;
+                Ok(Reply::Status(PlainList::from_vec(rows)))
             }
             Query::JournalFrom { entry } => Ok(Reply::Journal(self.journal.slice(entry)?)),
         }
@@ -89,7 +99,12 @@ impl State {
     }
 
     /// The living copy with this number as a holding, if it is on the device.
-    fn holding_at(&self, device: &DeviceName, number: u64) -> Result<Option<Holding>, AllocError>
+    fn holding_at(
+        &self,
+        alloc: Global,
+        device: &DeviceName,
+        number: u64,
+    ) -> Result<Option<Holding>, AllocError>
         requires kept { IsHeld self.now }
         ensures { IfOk result (λ made. made ≡ holding_in (living self.now.journal.entries) device.now number) }
     {
@@ -100,26 +115,86 @@ impl State {
             return Ok(None);
         }
         let path = found.place.path.copy_of()?;
+        let sum = self.sum_of(alloc, number)?;
         Ok(Some(Holding {
             copy: number,
             family: found.family,
             path,
+            sum,
             touch: self.family(number).touch(number),
         }))
     }
 
-    /// The living copies on a device, by rising number.
-    fn holdings(&self, alloc: Global, device: &DeviceName) -> Result<Vec<Holding>, AllocError>
+    /// The sum of what a copy holds, where it is known.
+    pub fn sum_of(&self, alloc: Global, number: u64) -> Result<Option<Sum>, AllocError>
+        requires { IsHeld self.now }
+        ensures { IfOk result (λ sum. sum ≡ sum_in (living self.now.journal.entries) number) }
+    {
+        let Some(entry) = self.contents.of(number) else {
+            return Ok(None);
+        };
+        match self.sum_by(entry) {
+            Some(sum) => Ok(Some(sum.copy_of(alloc)?)),
+            None => Ok(None),
+        }
+    }
+
+    /// The same, where the number isn't below this one.
+    fn holding_from(
+        &self,
+        alloc: Global,
+        device: &DeviceName,
+        from: u64,
+        number: u64,
+    ) -> Result<Option<Holding>, AllocError>
         requires kept { IsHeld self.now }
-        ensures { IfOk result (λ made. made.items ≡ holdings (living self.now.journal.entries) device.now) }
+        ensures { IfOk result (λ made. made ≡ holding_from (living self.now.journal.entries) device.now from number) }
+    {
+        if from <= number {
+            self.holding_at(alloc, device, number)
+        } else {
+            Ok(None)
+        }
+    }
+
+    /// The living copies on a device with a number from this one on, by rising number.
+    fn holdings(
+        &self,
+        alloc: Global,
+        device: &DeviceName,
+        from: u64,
+    ) -> Result<Vec<Holding>, AllocError>
+        requires kept { IsHeld self.now }
+        ensures { IfOk result (λ made. made.items ≡ filter (λ holding. nat_le from holding.copy) (holdings (living self.now.journal.entries) device.now)) }
     {
         let mut made = Vec::new(alloc);
         for earlier in 0..self.journal.length() {
-            if let Some(holding) = self.holding_at(device, earlier + 1)? {
+            if let Some(holding) = self.holding_from(alloc, device, from, earlier + 1)? {
                 made.push(holding)?;
             }
         }
         Ok(made)
+    }
+
+    /// The living copies on a device, by rising number: those with a number from this one on, at most 1,000; where there is none,
+    /// all.
+    fn holdings_from(
+        &self,
+        alloc: Global,
+        device: &DeviceName,
+        from: Option<u64>,
+    ) -> Result<Vec<Holding>, AllocError>
+        requires kept { IsHeld self.now }
+        ensures { IfOk result (λ made. made.items ≡ holdings_from from (holdings (living self.now.journal.entries) device.now)) }
+    {
+        match from {
+            None => self.holdings(alloc, device, 0),
+            Some(from) => {
+                let mut made = self.holdings(alloc, device, from)?;
+                made.truncate(MOST_HOLDINGS);
+                Ok(made)
+            }
+        }
     }
 }
 

@@ -1,4 +1,4 @@
-use pana_copies::DeviceName;
+use pana_copies::{DeviceName, Place};
 use pana_journal::Report;
 
 /// What is asked of a hall. No query changes it.
@@ -7,15 +7,37 @@ pub enum Query {
     /// Each family with a living copy.
     Families,
     /// The board of the family with this number.
-    Board { family: u64 },
+    Board {
+        family: u64,
+    },
     /// The stamps of the living copies of the family with this number.
-    Stamps { family: u64 },
+    Stamps {
+        family: u64,
+    },
     /// How the first copy relates to the second.
-    Pair { a: u64, b: u64 },
-    /// The living copies on this device.
-    Holdings { device: DeviceName },
+    Pair {
+        a: u64,
+        b: u64,
+    },
+    /// The living copies on this device: those with a number from this one on, at most 1,000; where there is none, all.
+    Holdings {
+        device: DeviceName,
+        from: Option<u64>,
+    },
+    /// The living copy at this place, if one is there.
+    At {
+        place: Place,
+    },
+    /// The copies that are obsolete or in conflict, on this device, or where there is none on all: those with a number from this
+    /// one on, at most 100.
+    Status {
+        device: Option<DeviceName>,
+        from: u64,
+    },
     /// The entries from this number on, at most 100.
-    JournalFrom { entry: u64 },
+    JournalFrom {
+        entry: u64,
+    },
 }
 
 /// What a session or a scanner sends to a hall: it reports a change, or asks for an answer.

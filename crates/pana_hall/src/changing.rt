@@ -3,14 +3,16 @@ ghost use Rattle.std.specs.Prelude.{◌≡◌, ℕ, ◌<◌, Some, IfOk, IfSome,
 ghost use Rattle.pana_copies.specs.Spots.{kept, place_of};
 ghost use Rattle.pana_family.specs.{Rows.AreBefore, Report.CanReport};
 ghost use Rattle.pana_family.specs.declared.report.FamilyReport.{FamilyReport as OfFamily};
-ghost use Rattle.pana_hall.specs.{Family.family_report, Refusal.displaced, inner.Undo.last_place, inner.Undo.reported_kept, inner.Undo.withdrawn};
-ghost use Rattle.pana_hall.specs.{inner.Listed.IsGrown, inner.Listed.listed, inner.Next.IsStepOf};
+ghost use Rattle.pana_hall.specs.{Family.family_report, Refusal.displaced, inner.Undo.earlier_of, inner.Undo.last_place, inner.Undo.reported_kept, inner.Undo.withdrawn};
+ghost use Rattle.pana_hall.specs.{inner.Listed.IsGrown, inner.Listed.IsPreparedFor, inner.Listed.listed};
+ghost use Rattle.pana_hall.specs.inner.Contents.{content_at, first_said, second_said};
 ghost use Rattle.pana_hall.specs.inner.Spots.{CanPlace, CanUndo, place_in, spot_after, undone_spot};
 
+use crate::contents::{Contents, first_said, second_said};
 use crate::families::family_report;
 use crate::listed_family::ListedFamily;
-use crate::next::Step;
 use crate::refusal::displaced;
+use crate::undo::Before;
 use pana_copies::{CopyTable, Place};
 use pana_family::Change;
 use pana_journal::Report;
@@ -21,11 +23,38 @@ fn place_in(report: &Report) -> Result<Option<Place>, AllocError>
     ensures { IfOk result (λ place. place ≡ place_in report.now) }
 {
     match report {
-        Report::Register { place }
+        Report::Register { place, .. }
         | Report::Duplicate { place, .. }
         | Report::Relocate { place, .. } => Ok(Some(place.copy_of()?)),
         _ => Ok(None),
     }
+}
+
+/// The entry that says what a copy holds, if there is a copy.
+fn said_by(contents: &Contents, copy: Option<u64>) -> Option<u32>
+    ensures { result ≡ option_and_then (content_at contents.now.entries.items) copy }
+{
+    contents.of(copy?)
+}
+
+/// What is before the report of an entry.
+pub fn before(
+    alloc: Global,
+    copies: &CopyTable,
+    contents: &Contents,
+    entry: u64,
+    report: &Report,
+) -> Result<Before, AllocError>
+    requires { IfSome (displaced report.now) (λ copy. IsSome (kept copies.now copy)) }
+    ensures place { IfOk result (λ before. option_map (λ p. p.value) before.place ≡ option_and_then (place_of copies.now) (displaced report.now)) }
+    ensures first { IfOk result (λ before. before.first ≡ option_and_then (content_at contents.now.entries.items) (first_said entry report.now)) }
+    ensures second { IfOk result (λ before. before.second ≡ option_and_then (content_at contents.now.entries.items) (second_said report.now)) }
+{
+    Ok(Before {
+        place: place_before(alloc, copies, report)?,
+        first: said_by(contents, first_said(entry, report)),
+        second: said_by(contents, second_said(report)),
+    })
 }
 
 /// The place where the copy is kept that a report moves or removes, if it does.
@@ -74,25 +103,24 @@ fn place_copy(
     }
 }
 
-/// Takes the memory for what the next entry reports of copies of a family that has begun.
+/// Takes the memory for what the next entry reports of copies of a family that has begun: the change of the family, and the place
+/// that the report gives a copy.
 pub fn prepare_change(
     alloc: Global,
     it: &mut ListedFamily,
-    copies: &CopyTable,
     entry: u64,
     report: &Report,
-) -> Result<Step, AllocError>
+) -> Result<(Change, Option<Place>), AllocError>
     requires able { (of : OfFamily) × (family_report report.now ≡ Some of) × CanReport of (listed it.old).rows }
     requires new { AreBefore entry (listed it.old).rows }
-    requires lives { IfSome (displaced report.now) (λ copy. IsSome (kept copies.now copy)) }
     ensures same { listed it.new ≡ listed it.old }
-    ensures step { IfOk result (IsStepOf entry it.new copies.now report.now) }
+    ensures change { IfOk result (λ made. (of : OfFamily) × (family_report report.now ≡ Some of) × IsPreparedFor entry of made.0 it.new) }
+    ensures place { IfOk result (λ made. made.1 ≡ place_in report.now) }
 {
     let of_family = family_report(report).unwrap();
     let place = place_in(report)?;
-    let before = place_before(alloc, copies, report)?;
     let change = it.prepare(alloc, entry, of_family)?;
-    Ok(Step::Change(change, place, before))
+    Ok((change, place))
 }
 
 /// Records what the next entry reports of copies of a family that has begun, as `prepare_change` prepared it. Takes no memory.
@@ -103,13 +131,14 @@ pub fn apply_change(
     report: &Report,
     change: Change,
     place: Option<Place>,
-    before: Option<Box<Place>>,
+    before: Before,
 )
-    requires step { IsStepOf entry it.old copies.old report.now (Step.Change change place before) }
+    requires change { (of : OfFamily) × (family_report report.now ≡ Some of) × IsPreparedFor entry of change it.old }
+    requires place { place ≡ place_in report.now }
     requires can { CanPlace entry report.now (listed it.old).number copies.old }
     requires room { 0 < copies.old.room }
     ensures family { IfSome (family_report report.now)
-        (λ of. listed it.new ≡ reported_kept entry of (option_and_then (place_of copies.old) (displaced report.now)) (listed it.old)) }
+        (λ of. listed it.new ≡ reported_kept entry of (earlier_of before) (listed it.old)) }
     ensures spots { (number : ℕ) → kept copies.new number ≡ spot_after entry report.now (kept copies.old) number }
 {
     let family = it.number();

@@ -66,7 +66,8 @@ pub fn subject(report: &Report) -> Option<u64>
     match report {
         Report::Register { .. } => None,
         Report::Duplicate { copy, .. }
-        | Report::Edit { copy }
+        | Report::Edit { copy, .. }
+        | Report::Note { copy, .. }
         | Report::Relocate { copy, .. }
         | Report::Remove { copy, .. } => Some(*copy),
         Report::Reconcile { a, .. } | Report::Merge { a, .. } => Some(*a),
@@ -80,10 +81,12 @@ pub fn family_report(report: &Report) -> Option<FamilyReport>
 {
     match report {
         Report::Duplicate { copy, .. } => Some(FamilyReport::Duplicate(*copy)),
-        Report::Edit { copy } => Some(FamilyReport::Edit(*copy)),
-        Report::Reconcile { a, b } => Some(FamilyReport::Reconcile(*a, *b)),
-        Report::Merge { a, b } => Some(FamilyReport::Merge(*a, *b)),
-        Report::Relocate { copy, .. } => Some(FamilyReport::Touch(*copy)),
+        Report::Edit { copy, .. } => Some(FamilyReport::Edit(*copy)),
+        Report::Reconcile { a, b, .. } => Some(FamilyReport::Reconcile(*a, *b)),
+        Report::Merge { a, b, .. } => Some(FamilyReport::Merge(*a, *b)),
+        Report::Relocate { copy, .. } | Report::Note { copy, .. } => {
+            Some(FamilyReport::Touch(*copy))
+        }
         Report::Remove { copy, heir } => Some(FamilyReport::Remove(*copy, *heir)),
         Report::Register { .. } | Report::Confirm { .. } | Report::Withdraw { .. } => None,
     }

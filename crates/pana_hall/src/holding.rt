@@ -1,16 +1,18 @@
 //! Holdings of a device in an answer.
 ghost use Rattle.std.specs.Prelude.{◌≡◌, []};
 
-use pana_copies::CopyPath;
+use pana_copies::{CopyPath, Sum};
 use std::alloc::Global;
 use std::marker::Model;
 
-/// A living copy on the device that was asked for, and the entry that changed it last.
+/// A living copy on the device that was asked for, the entry that changed it last, and the sum of what it holds, where that is
+/// known.
 #[derive(Debug, PartialEq, Eq, Drop)]
 pub struct Holding {
     pub copy: u64,
     pub family: u64,
     pub path: CopyPath,
+    pub sum: Option<Sum>,
     pub touch: u64,
 }
 

@@ -2,9 +2,9 @@
 ghost use Rattle.std.specs.Prelude.{◌≡◌, ◌==◌, IfOk, option_map, option_copied};
 ghost use Rattle.std.specs.List.{list_any};
 ghost use Rattle.pana_family.specs.{Rows.AreBefore, Report.CanReport};
-ghost use Rattle.pana_hall.specs.inner.Undo.{IsPreparedIn, confirmed, ends_in, last_place, new_kept, reported_kept, withdrawn};
+ghost use Rattle.pana_hall.specs.inner.Undo.{IsPreparedIn, confirmed, earlier_of, ends_in, last_before, last_place, new_kept, reported_kept, withdrawn};
 
-use crate::undo::{Undo, has_entry, position_of};
+use crate::undo::{Before, Undo, has_entry, position_of};
 use circular_buffer::HeapCircularBuffer;
 use pana_copies::Place;
 use pana_family::{Change, Family, FamilyReport};
@@ -45,7 +45,11 @@ impl KeptFamily {
         undo.push_front(Undo {
             entry,
             back,
-            place: None,
+            before: Before {
+                place: None,
+                first: None,
+                second: None,
+            },
         });
         Ok(KeptFamily {
             number: entry,
@@ -73,11 +77,22 @@ impl KeptFamily {
         ensures { option_copied result ≡ last_place self.now.kept.undo }
     {
         match self.undo.front() {
-            Some(undo) => match &undo.place {
+            Some(undo) => match &undo.before.place {
                 Some(place) => Some(place),
                 None => None,
             },
             None => None,
+        }
+    }
+
+    /// The entries that said, before the last pending entry, what the copies held of whose content it says something. Takes no memory.
+    pub fn last_said(&self) -> (Option<u32>, Option<u32>)
+        ensures first { result.0 ≡ (last_before self.now.kept.undo).first }
+        ensures second { result.1 ≡ (last_before self.now.kept.undo).second }
+    {
+        match self.undo.front() {
+            Some(undo) => (undo.before.first, undo.before.second),
+            None => (None, None),
         }
     }
 
@@ -112,19 +127,17 @@ impl KeptFamily {
         }
     }
 
-    /// Records a report, whose change `prepare` gave; the copy that it moves or removes was at the place. Takes no memory.
-    pub fn apply(
-        &mut self,
-        entry: u64,
-        report: FamilyReport,
-        change: Change,
-        place: Option<Box<Place>>,
-    )
+    /// Records a report, whose change `prepare` gave, and what was before it. Takes no memory.
+    pub fn apply(&mut self, entry: u64, report: FamilyReport, change: Change, before: Before)
         requires { IsPreparedIn entry report change self.old }
-        ensures { self.new.kept ≡ reported_kept entry report (option_map (λ p. p.value) place) self.old.kept }
+        ensures { self.new.kept ≡ reported_kept entry report (earlier_of before) self.old.kept }
     {
         let back = self.family.apply(entry, report, change);
-        self.undo.push_front(Undo { entry, back, place });
+        self.undo.push_front(Undo {
+            entry,
+            back,
+            before,
+        });
     }
 
     /// Settles a pending entry and all before it. Takes no memory.
@@ -146,7 +159,7 @@ impl KeptFamily {
         match self.undo.pop_front() {
             Some(undo) => {
                 self.family.take_back(undo.back);
-                unboxed(undo.place)
+                unboxed(undo.before.place)
             }
             None => None,
         }

@@ -3,6 +3,7 @@
 //! pending entries left out.
 
 ghost use Rattle.std.specs.Prelude.{◌≡◌, ◌≢◌, ℕ, ◌+◌, ◌≤◌, List, [], ◌∷◌, ◌++◌, ◌==◌, length, find, count_by, option_and_then, option_map, if◌then◌else◌, Some, true};
+ghost use Rattle.std.specs.Prelude.{Option, false};
 ghost use Rattle.std.specs.{Bool.then_some, List.AllByRecursion, List.list_any, Str.bytes_eq};
 ghost use Rattle.pana_copies.specs.declared.place.Place.{Place};
 ghost use Rattle.pana_journal.specs.{declared.report.Report.TheVariants.Register, declared.report.Report.TheVariants.Confirm};
@@ -17,6 +18,10 @@ ghost use Rattle.pana_hall.specs.Family.{entries_of, families, is_family, is_reg
 ghost use Rattle.pana_hall.specs.Living.{Copy, copies_of, copy_in, known_to, living, number_of};
 ghost use Rattle.pana_hall.specs.Pending.{is_last, last, pend, pending};
 ghost use Rattle.pana_hall.specs.Queries.{begun, family_row, holding, holdings};
+ghost use Rattle.pana_rel.specs.Board.{counts_of};
+ghost use Rattle.pana_family.specs.{Board.known_relation, Board.number_of as board_number, Table.In};
+ghost use Rattle.pana_hall.specs.{Board.sets_of, Status.counts_among, Status.is_asked, Status.standing_of, Status.state_among, Status.status_row, Status.status_rows};
+ghost use Rattle.pana_hall.specs.laws.Advice.{Advises, IsInState, KnowsMost, Reach};
 ghost use Rattle.pana_hall.specs.laws.Layers.{AddsLayer, AddsSets, duplicates_in, AreApart, AreMerged, AreRising, DropsLayer, IsOrderly, KeepsLayers, LeavesAlone, family_of_next};
 
 /// After every run no two living copies have one place, their numbers rise, none is above that of the last entry, and
@@ -78,7 +83,7 @@ pub fn sets_go_by_report()
         → sets_at k (family_of_next journal entry) (journal ++ entry ∷ []) ≡ sets_at k (family_of_next journal entry) journal }
     ensures other { (journal : List Entry) (entry : Entry) (family k : ℕ) → IsAccepted 8 journal → Accepts 8 journal entry → family_of_next journal entry ≢ family
         → sets_at k family (journal ++ entry ∷ []) ≡ sets_at k family journal }
-    ensures begun { (journal : List Entry) (entry : Entry) (place : Place) → IsAccepted 8 journal → Accepts 8 journal entry → entry.report ≡ Register place
+    ensures begun { (journal : List Entry) (entry : Entry) (place : Place) (sum : Option (List ℕ)) → IsAccepted 8 journal → Accepts 8 journal entry → entry.report ≡ Register place sum
         → sets_at 0 entry.number (journal ++ entry ∷ []) ≡ registered entry.number }
     ensures above { (journal : List Entry) (family : ℕ) → IsAccepted 8 journal → IsAbove (length journal + 1) (sets_at 0 family journal) }
     ensures below { (journal : List Entry) (family : ℕ) → IsAccepted 8 journal → AreBelow (length journal + 1) (sets_at 0 family journal) }
@@ -176,4 +181,37 @@ pub fn holdings_and_families_rise()
         ≡ option_map holding (option_and_then (λ copy. then_some (bytes_eq copy.place.device device) copy) (copy_in (living journal) number)) }
     ensures families { (journal : List Entry) → IsAccepted 8 journal → AreRising (λ family. family) 0 (begun journal) }
     ensures next { (journal : List Entry) (entry : Entry) → begun (journal ++ entry ∷ []) ≡ begun journal ++ (if is_register entry.report then entry.number ∷ [] else []) }
+{}
+
+/// A copy is newest, obsolete or in conflict by what it knows and what the living copies of its family know.
+pub fn states_are_of_sets()
+    ensures { (journal : List Entry) (copy : Copy) → IsAccepted 8 journal → In copy (living journal) → IsInState (living journal) copy (state_among (living journal) copy) }
+{}
+
+/// Overwriting an obsolete copy by the copy that a status names with it loses no update: that copy lives in the same family, knows
+/// all that it knows, and no copy of the family knows all that that one knows, and more. Of two copies in conflict each knows an
+/// update that the other doesn't.
+pub fn overwriting_loses_no_update()
+    ensures { (journal : List Entry) (device : Option (List ℕ)) (from : ℕ) → IsAccepted 8 journal
+        → AllByRecursion (Advises (living journal)) (status_rows (living journal) device from) }
+{}
+
+/// A copy that a status leaves out, as far as its rows reach, knows all that any copy of its family knows.
+pub fn copies_left_out_know_most()
+    ensures { (journal : List Entry) (device : Option (List ℕ)) (from : ℕ) (copy : Copy) → IsAccepted 8 journal → In copy (living journal)
+        → is_asked device copy.place ≡ true → from ≤ number_of copy → Reach (number_of copy) (status_rows (living journal) device from)
+        → list_any (λ row. row.copy == number_of copy) (status_rows (living journal) device from) ≡ false → KnowsMost (living journal) copy }
+{}
+
+/// The rows of a status rise by copy, and are at most 100.
+pub fn status_rows_rise()
+    ensures rising { (journal : List Entry) (device : Option (List ℕ)) (from : ℕ) → IsAccepted 8 journal → AreRising (λ row. row.copy) 0 (status_rows (living journal) device from) }
+    ensures few { (copies : List Copy) (device : Option (List ℕ)) (from : ℕ) → length (status_rows copies device from) ≤ 100 }
+{}
+
+/// How a copy stands is read off its family's table, and its counts are those of its row on the board.
+pub fn standings_come_from_tables()
+    ensures standing { (journal : List Entry) (copy : Copy) → standing_of (table 8 0 copy.family journal) copy ≡ standing_of (living journal) copy }
+    ensures row { (journal : List Entry) (copy : Copy) → status_row (table 8 0 copy.family journal) copy ≡ status_row (living journal) copy }
+    ensures counts { (copies : List Copy) (copy : Copy) → counts_among copies copy ≡ counts_of board_number known_relation (sets_of copy.family copies) copy.known }
 {}

@@ -1,14 +1,15 @@
 //! A family as the list of them keeps it.
-ghost use Rattle.std.specs.Prelude.{◌≡◌, ◌==◌, List, IfOk, OnOk, true, length, map, nat_lt, option_copied, option_map};
+ghost use Rattle.std.specs.Prelude.{◌≡◌, ◌==◌, List, IfOk, OnOk, true, length, map, nat_lt, option_copied};
 ghost use Rattle.std.specs.List.{list_any};
 ghost use Rattle.pana_family.specs.{Board.board_rows, Board.board_newest, Board.board_split, Relation.relation, Report.CanReport, Stamps.AreStamps};
 ghost use Rattle.pana_family.specs.{Stamps.stamps_in, Stamps.text_of, Stands.StandsFor};
 ghost use Rattle.pana_family.specs.Rows.{AreBefore, copy_rows, divides, lives};
 ghost use Rattle.pana_family.specs.Table.{Known, copies_of, set_in, touch_in};
-ghost use Rattle.pana_hall.specs.inner.Undo.{confirmed, ends_in, last_place, reported_kept, withdrawn};
+ghost use Rattle.pana_hall.specs.inner.Undo.{confirmed, earlier_of, ends_in, last_before, last_place, reported_kept, withdrawn};
 ghost use Rattle.pana_hall.specs.inner.Listed.{IsGrown, IsPreparedFor, listed};
 
 use crate::kept_family::KeptFamily;
+use crate::undo::Before;
 use pana_copies::Place;
 use pana_event::Rel;
 use pana_family::{Change, CopyStamp, Family, FamilyBoard, FamilyReport};
@@ -119,6 +120,17 @@ impl ListedFamily {
         }
     }
 
+    /// The entries that said, before the last pending entry, what the copies held of whose content it says something. Takes no memory.
+    pub fn last_said(&self) -> (Option<u32>, Option<u32>)
+        ensures first { result.0 ≡ (last_before (listed self.now).undo).first }
+        ensures second { result.1 ≡ (last_before (listed self.now).undo).second }
+    {
+        match self {
+            ListedFamily::New(_) => (None, None),
+            ListedFamily::Changed(it) => it.last_said(),
+        }
+    }
+
     /// Whether the entry is pending. Takes no memory.
     pub fn has_pending(&self, entry: u64) -> bool
         ensures { result ≡ list_any (λ u. u.entry == entry) (listed self.now).undo }
@@ -170,20 +182,14 @@ impl ListedFamily {
         }
     }
 
-    /// Records a report, whose change `prepare` gave; the copy that it moves or removes was at the place. Takes no memory.
-    pub fn apply(
-        &mut self,
-        entry: u64,
-        report: FamilyReport,
-        change: Change,
-        place: Option<Box<Place>>,
-    )
+    /// Records a report, whose change `prepare` gave, and what was before it. Takes no memory.
+    pub fn apply(&mut self, entry: u64, report: FamilyReport, change: Change, before: Before)
         requires { IsPreparedFor entry report change self.old }
-        ensures { listed self.new ≡ reported_kept entry report (option_map (λ p. p.value) place) (listed self.old) }
+        ensures { listed self.new ≡ reported_kept entry report (earlier_of before) (listed self.old) }
     {
         match self {
             ListedFamily::New(_) => unreachable!(),
-            ListedFamily::Changed(it) => it.apply(entry, report, change, place),
+            ListedFamily::Changed(it) => it.apply(entry, report, change, before),
         }
     }
 

@@ -1,4 +1,6 @@
 //! The next entry of a journal, before it is made.
+use crate::contents::Sayings;
+use crate::undo::Before;
 use pana_copies::Place;
 use pana_family::Change;
 use pana_journal::Entry;
@@ -8,17 +10,17 @@ use pana_journal::Entry;
 pub enum Step {
     /// A family begins, with a copy at this place.
     Begin(Place),
-    /// A family's rows are changed so. The report keeps a copy at the first place, and moves or removes one that was at the
-    /// second.
-    Change(Change, Option<Place>, Option<Box<Place>>),
+    /// A family's rows are changed so. The report keeps a copy at this place, and this was before it.
+    Change(Change, Option<Place>, Before),
     /// Pending entries of a family are settled or taken back.
     Settle,
 }
 
-/// An entry that is to be the next, the position of its family, and what it changes.
+/// An entry that is to be the next, the position of its family, what it says of the contents of copies, and what it changes.
 #[derive(Drop)]
 pub struct Next {
     pub entry: Entry,
     pub position: usize,
+    pub sayings: Sayings,
     pub step: Step,
 }

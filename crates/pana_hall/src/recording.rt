@@ -6,10 +6,12 @@ ghost use Rattle.pana_hall.specs.{inner.Spots.IsFree, inner.Undo.new_kept, inner
 ghost use Rattle.pana_hall.specs.{inner.State.IsHeld, inner.State.IsRefused, inner.State.Records, Effective.is_of_copies, Living.living};
 ghost use Rattle.pana_hall.specs.{Refusal.report_refusal};
 ghost use Rattle.pana_hall.specs.inner.Kept.{next_entry, AreSpots, IsReady, IsReadyAt, families_of, family_of};
+ghost use Rattle.pana_hall.specs.inner.Contents.{AreContents};
 ghost use Rattle.pana_hall.specs.inner.Next.{IsNext, IsStep, IsStepOf, Takes};
 
 use crate::cause::Cause;
-use crate::changing::{apply_change, prepare_change, withdraw};
+use crate::changing::{apply_change, before, prepare_change, withdraw};
+use crate::contents::Contents;
 use crate::listed_family::ListedFamily;
 use crate::next::{Next, Step};
 use crate::state::State;
@@ -24,18 +26,25 @@ fn prepare_family(
     by: &DeviceName,
     it: &mut ListedFamily,
     copies: &CopyTable,
+    contents: &Contents,
     report: &Report,
 ) -> Result<Step, AllocError>
-    requires { IsReady journal.now.entries by.now report.now (listed it.old) copies.now }
+    requires ready { IsReady journal.now.entries by.now report.now (listed it.old) copies.now }
+    requires contents { AreContents journal.now.entries contents.now.entries.items }
     ensures same { listed it.new ≡ listed it.old }
-    ensures step { IfOk result (IsStepOf (length journal.now.entries + 1) it.new copies.now report.now) }
+    ensures step { IfOk result (IsStepOf (next_entry journal.now.entries by.now report.now) it.new (living journal.now.entries)) }
 {
     match report {
         Report::Confirm { .. } | Report::Withdraw { .. } => {
             it.grow(alloc)?;
             Ok(Step::Settle)
         }
-        _ => prepare_change(alloc, it, copies, journal.length() + 1, report),
+        _ => {
+            let entry = journal.length() + 1;
+            let before = before(alloc, copies, contents, entry, report)?;
+            let (change, place) = prepare_change(alloc, it, entry, report)?;
+            Ok(Step::Change(change, place, before))
+        }
     }
 }
 
@@ -47,14 +56,16 @@ fn prepare_step(
     list: &mut Vec<ListedFamily>,
     position: usize,
     copies: &CopyTable,
+    contents: &Contents,
     report: &Report,
 ) -> Result<Step, AllocError>
-    requires { IsReadyAt journal.now.entries by.now report.now (all_listed list.old.items) position copies.now }
+    requires ready { IsReadyAt journal.now.entries by.now report.now (all_listed list.old.items) position copies.now }
+    requires contents { AreContents journal.now.entries contents.now.entries.items }
     ensures same { all_listed list.new.items ≡ all_listed list.old.items }
-    ensures step { IfOk result (IsStep (length journal.now.entries + 1) (vec_len list.new) (vec_capacity list.new) list.new.items position copies.now report.now) }
+    ensures step { IfOk result (IsStep (next_entry journal.now.entries by.now report.now) (vec_len list.new) (vec_capacity list.new) list.new.items position (living journal.now.entries)) }
 {
     match report {
-        Report::Register { place } => {
+        Report::Register { place, .. } => {
             let place = place.copy_of()?;
             list.reserve(1)?;
             Ok(Step::Begin(place))
@@ -62,7 +73,8 @@ fn prepare_step(
         _ => {
             // whose contract says that the position is within the list
             let _ = list.as_slice();
-            prepare_family(alloc, journal, by, &mut list[position], copies, report)
+            let it = &mut list[position];
+            prepare_family(alloc, journal, by, it, copies, contents, report)
         }
     }
 }
@@ -101,7 +113,7 @@ fn change_family(
     step: Step,
 )
     requires ready { IsReady journal.now.entries by.now report.now (listed it.old) copies.old }
-    requires step { IsStepOf (length journal.now.entries + 1) it.old copies.old report.now step }
+    requires step { IsStepOf (next_entry journal.now.entries by.now report.now) it.old (living journal.now.entries) step }
     requires room { 0 < copies.old.room }
     ensures family { listed it.new ≡ family_of (journal.now.entries ++ next_entry journal.now.entries by.now report.now ∷ []) (listed it.old).number }
     ensures spots { AreSpots (journal.now.entries ++ next_entry journal.now.entries by.now report.now ∷ []) copies.new }
@@ -148,7 +160,7 @@ fn make_step(
     step: Step,
 )
     requires ready { IsReadyAt journal.now.entries by.now report.now (all_listed list.old.items) position copies.old }
-    requires step { IsStep (length journal.now.entries + 1) (vec_len list.old) (vec_capacity list.old) list.old.items position copies.old report.now step }
+    requires step { IsStep (next_entry journal.now.entries by.now report.now) (vec_len list.old) (vec_capacity list.old) list.old.items position (living journal.now.entries) step }
     requires room { 0 < copies.old.room }
     ensures list { all_listed list.new.items ≡ families_of (journal.now.entries ++ next_entry journal.now.entries by.now report.now ∷ []) }
     ensures spots { AreSpots (journal.now.entries ++ next_entry journal.now.entries by.now report.now ∷ []) copies.new }
@@ -180,6 +192,7 @@ impl State {
     {
         self.journal.reserve_one().map_err(|_| AllocError)?;
         self.copies.reserve()?;
+        self.contents.reserve()?;
         self.families.positions.reserve(1)?;
         let position = self.families.position_for(&report).unwrap();
         let list = &mut self.families.list;
@@ -190,8 +203,10 @@ impl State {
             list,
             position,
             &self.copies,
+            &self.contents,
             &report,
         )?;
+        let sayings = self.sayings(by, &report);
         let entry = Entry {
             number: self.journal.length() + 1,
             by: by.copy_of(),
@@ -200,6 +215,7 @@ impl State {
         Ok(Next {
             entry,
             position,
+            sayings,
             step,
         })
     }
@@ -231,6 +247,7 @@ impl State {
         let Next {
             entry: Entry { by, report, .. },
             position,
+            sayings,
             step,
         } = next;
         let list = &mut self.families.list;
@@ -243,6 +260,7 @@ impl State {
             &report,
             step,
         );
+        self.contents.push(sayings);
         self.families.positions.push_reserved(position);
         self.journal.append(by, report)
     }

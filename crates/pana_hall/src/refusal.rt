@@ -183,18 +183,18 @@ impl State {
         ensures { result ≡ report_refusal 8 self.now.journal.entries (living self.now.journal.entries) by.now report.now }
     {
         match report {
-            Report::Register { place } => self.full().or_else(|| self.taken(place)),
-            Report::Duplicate { copy, place } => self
+            Report::Register { place, .. } => self.full().or_else(|| self.taken(place)),
+            Report::Duplicate { copy, place, .. } => self
                 .full()
                 .or_else(|| self.unknown(*copy))
                 .or_else(|| self.taken(place))
                 .or_else(|| self.family_full(*copy))
                 .or_else(|| self.too_deep(*copy)),
-            Report::Edit { copy } | Report::Remove { copy, heir: None } => {
-                self.full().or_else(|| self.unknown(*copy))
-            }
-            Report::Reconcile { a, b }
-            | Report::Merge { a, b }
+            Report::Edit { copy, .. }
+            | Report::Note { copy, .. }
+            | Report::Remove { copy, heir: None } => { self.full().or_else(|| self.unknown(*copy)) }
+            Report::Reconcile { a, b, .. }
+            | Report::Merge { a, b, .. }
             | Report::Remove {
                 copy: a,
                 heir: Some(b),
@@ -232,7 +232,11 @@ impl State {
                 .unknown(*a)
                 .or_else(|| self.unknown(*b))
                 .or_else(|| self.other_family(*a, *b)),
-            Query::Families | Query::Holdings { .. } | Query::JournalFrom { .. } => None,
+            Query::Families
+            | Query::Holdings { .. }
+            | Query::At { .. }
+            | Query::Status { .. }
+            | Query::JournalFrom { .. } => None,
         }
     }
 }

@@ -2,6 +2,7 @@ use crate::board::BoardView;
 use crate::cause::Cause;
 use crate::family_row::FamilyRow;
 use crate::holding::HoldingList;
+use crate::standing::{CopyStanding, StatusRow};
 use pana_event::Rel;
 use pana_family::CopyStamp;
 use pana_journal::EntryList;
@@ -22,6 +23,10 @@ pub enum Reply {
     Pair(Rel),
     /// The living copies on the device, by rising number.
     Holdings(HoldingList),
+    /// The living copy at the place that was asked for, if one is there.
+    At(Option<CopyStanding>),
+    /// Copies that are obsolete or in conflict, by rising number.
+    Status(PlainList<StatusRow>),
     /// Entries of the journal.
     Journal(EntryList),
     /// The call was refused, and changed nothing.

@@ -2,18 +2,20 @@
 ghost use Rattle.pana_hall.specs.{Family.families, inner.Kept.IsWithin, inner.Kept.family_of, inner.Listed.listed, inner.State.IsHeld};
 ghost use Rattle.std.specs.Prelude.{◌≡◌, []};
 
+use crate::contents::Contents;
 use crate::families::Families;
 use crate::listed_family::ListedFamily;
 use pana_copies::CopyTable;
 use pana_journal::Journal;
 use std::alloc::Global;
 
-/// A journal, the families that it has begun, and where the living copies are kept.
+/// A journal, the families that it has begun, where the living copies are kept, and what they hold.
 #[derive(Drop)]
 pub struct State {
     pub journal: Journal,
     pub families: Families,
     pub copies: CopyTable,
+    pub contents: Contents,
 }
 
 impl State {
@@ -27,6 +29,7 @@ impl State {
             journal: Journal::new(alloc),
             families: Families::new(alloc),
             copies: CopyTable::new(alloc),
+            contents: Contents::new(alloc),
         }
     }
 

@@ -6,13 +6,21 @@ use circular_buffer::HeapCircularBuffer;
 use pana_copies::Place;
 use pana_family::Change;
 
-/// What takes a pending entry back: a change of its family's rows, and the place where the copy was that it moved or removed, if
-/// it did.
+/// What was before a report: the place of the copy that it moves or removes, if it does, and the entries that said what the copies
+/// held of whose content it says something.
+#[derive(Drop)]
+pub struct Before {
+    pub place: Option<Box<Place>>,
+    pub first: Option<u32>,
+    pub second: Option<u32>,
+}
+
+/// What takes a pending entry back: a change of its family's rows, and what else was before it.
 #[derive(Drop)]
 pub struct Undo {
     pub entry: u64,
     pub back: Change,
-    pub place: Option<Box<Place>>,
+    pub before: Before,
 }
 
 /// The position of an entry's record, if there is one.

@@ -16,6 +16,7 @@ fn calls_on_a_hall(rt: HostRuntime) -> Result<(), Fail> {
     let mut hall = Hall::new(alloc)?;
     let register = Report::Register {
         place: place(alloc, "laptop", "a")?,
+        sum: None,
     };
     assert!(rt;
         matches!(
@@ -28,9 +29,13 @@ fn calls_on_a_hall(rt: HostRuntime) -> Result<(), Fail> {
     let duplicate = Report::Duplicate {
         copy: 1,
         place: place(alloc, "usb", "a")?,
+        sum: None,
     };
     calls.push_back((by.copy_of(), Call::Report(duplicate)))?;
-    calls.push_back((by.copy_of(), Call::Report(Report::Edit { copy: 2 })))?;
+    calls.push_back((
+        by.copy_of(),
+        Call::Report(Report::Edit { copy: 2, sum: None }),
+    ))?;
     calls.push_back((by, Call::Query(Query::Board { family: 1 })))?;
     let replies = hall.apply_all(calls)?;
     assert_eq!(rt; replies.len(), 3);
@@ -61,8 +66,9 @@ fn a_dump_is_loaded(rt: HostRuntime) -> Result<(), Fail> {
     let reports = [
         Report::Register {
             place: place(alloc, "usb", "a")?,
+            sum: None,
         },
-        Report::Edit { copy: 1 },
+        Report::Edit { copy: 1, sum: None },
     ];
     for report in reports {
         let line = encode_call(alloc, &by, &report)?;

@@ -1,10 +1,16 @@
-//! A session's bytes, and an entry's line.
+//! A session's bytes, an entry's line, and what lines say of sums and places.
 
 use crate::places::place;
-use pana_copies::DeviceName;
-use pana_hall::{Call, Reply};
+use pana_copies::{CopyPath, DeviceName, Sum};
+use pana_hall::{
+    Call, CopyStanding, CopyState, Holding, HoldingList, PlacedCopy, Query, Reply, StatusRow,
+};
 use pana_journal::{Entry, Report};
-use pana_wire::{Answer, NoAnswer, Served, Session, Tap, encode_entry, serve};
+use pana_list::PlainList;
+use pana_wire::{
+    Answer, Field, NoAnswer, Served, Session, Tap, WireFault, decode, encode, encode_call,
+    encode_entry, serve,
+};
 use std::alloc::{AllocError, Global};
 use std::io;
 use std::io::{Read, Write};
@@ -14,7 +20,11 @@ use std::test::Fail;
 fn an_entry_is_written_as_a_line(rt: HostRuntime) -> Result<(), Fail> {
     let alloc = rt.alloc();
     let place = place(alloc, "usb", "a\"b\\c")?;
-    let report = Report::Duplicate { copy: 1, place };
+    let report = Report::Duplicate {
+        copy: 1,
+        place,
+        sum: None,
+    };
     let by = DeviceName::new("laptop")?;
     let line = encode_entry(
         alloc,
@@ -27,6 +37,140 @@ fn an_entry_is_written_as_a_line(rt: HostRuntime) -> Result<(), Fail> {
     assert_eq!(rt;
         line.as_str(),
         "{\"entries\":[{\"by\":\"laptop\",\"copy\":1,\"device\":\"usb\",\"do\":\"duplicate\",\"number\":2,\"path\":\"a\\\"b\\\\c\"}]}\n"
+    );
+    Ok(())
+}
+
+/// The SHA-256 of no bytes, and the line that notes it of a copy.
+const EMPTY: &str = "e3b0c44298fc1c149afbf4c8996fb92427ae41e4649b934ca495991b7852b855";
+
+const NOTE: &str =
+    "{\"by\":\"usb\",\"copy\":2,\"do\":\"note\",\"sum\":\"e3b0c44298fc1c149afbf4c8996fb92427ae41e4649b934ca495991b7852b855\"}";
+
+#[test]
+fn a_note_is_written_and_read(rt: HostRuntime) -> Result<(), Fail> {
+    let alloc = rt.alloc();
+    let sum = Sum::new(alloc, EMPTY)?;
+    let report = Report::Note { copy: 2, sum };
+    let line = encode_call(alloc, &DeviceName::new("usb")?, &report)?;
+    assert_eq!(rt; line.as_str(), NOTE);
+    assert_eq!(rt; decode(alloc, NOTE.as_bytes())?.call, Call::Report(report));
+    Ok(())
+}
+
+#[test]
+fn a_sum_may_be_given(rt: HostRuntime) -> Result<(), Fail> {
+    let alloc = rt.alloc();
+    for line in [
+        b"{\"by\":\"usb\",\"do\":\"edit\",\"copy\":2}".as_slice(),
+        b"{\"by\":\"usb\",\"do\":\"edit\",\"copy\":2,\"sum\":null}".as_slice(),
+    ] {
+        let report = Report::Edit { copy: 2, sum: None };
+        assert_eq!(rt; decode(alloc, line)?.call, Call::Report(report));
+    }
+    let line = format!(in alloc;
+        "{{\"by\":\"usb\",\"do\":\"edit\",\"copy\":2,\"sum\":\"{EMPTY}\"}}"
+    )?;
+    let sum = Some(Sum::new(alloc, EMPTY)?);
+    assert_eq!(rt;
+        decode(alloc, line.as_bytes())?.call,
+        Call::Report(Report::Edit { copy: 2, sum })
+    );
+    let line = format!(in alloc;
+        "{{\"by\":\"usb\",\"do\":\"edit\",\"copy\":2,\"sum\":\"{EMPTY}0\"}}"
+    )?;
+    assert_eq!(rt;
+        decode(alloc, line.as_bytes()),
+        Err(WireFault::BadField(Field::Sum))
+    );
+    Ok(())
+}
+
+#[test]
+fn holdings_with_sums_are_asked_and_written(rt: HostRuntime) -> Result<(), Fail> {
+    let alloc = rt.alloc();
+    let device = DeviceName::new("usb")?;
+    let asked = b"{\"by\":\"desk\",\"do\":\"holdings\",\"device\":\"usb\",\"from\":2}";
+    let query = Query::Holdings {
+        device,
+        from: Some(2),
+    };
+    assert_eq!(rt; decode(alloc, asked)?.call, Call::Query(query));
+    let holding = Holding {
+        copy: 2,
+        family: 1,
+        path: CopyPath::new(alloc, "plan.txt")?,
+        sum: Some(Sum::new(alloc, EMPTY)?),
+        touch: 3,
+    };
+    let holdings = HoldingList::from_vec(vec![in alloc; holding]?);
+    let text = encode(alloc, &Reply::Holdings(holdings))?;
+    assert_eq!(rt;
+        text.as_str(),
+        "{\"holdings\":[{\"copy\":2,\"family\":1,\"path\":\"plan.txt\",\"sum\":\"e3b0c44298fc1c149afbf4c8996fb92427ae41e4649b934ca495991b7852b855\",\"touch\":3}]}"
+    );
+    Ok(())
+}
+
+#[test]
+fn a_copy_at_a_place_is_asked_and_written(rt: HostRuntime) -> Result<(), Fail> {
+    let alloc = rt.alloc();
+    let asked = b"{\"by\":\"desk\",\"do\":\"at\",\"device\":\"usb\",\"path\":\"plan.txt\"}";
+    let place = place(alloc, "usb", "plan.txt")?;
+    assert_eq!(rt;
+        decode(alloc, asked)?.call,
+        Call::Query(Query::At { place })
+    );
+    assert_eq!(rt; encode(alloc, &Reply::At(None))?.as_str(), "{\"at\":null}");
+    let standing = CopyStanding {
+        copy: 2,
+        family: 1,
+        newer: 1,
+        older: 0,
+        equal: 1,
+        conflict: 0,
+        state: CopyState::Obsolete,
+        sum: Some(Sum::new(alloc, EMPTY)?),
+    };
+    let text = encode(alloc, &Reply::At(Some(standing)))?;
+    assert_eq!(rt;
+        text.as_str(),
+        "{\"at\":{\"conflict\":0,\"copy\":2,\"equal\":1,\"family\":1,\"newer\":1,\"older\":0,\"state\":\"obsolete\",\"sum\":\"e3b0c44298fc1c149afbf4c8996fb92427ae41e4649b934ca495991b7852b855\"}}"
+    );
+    Ok(())
+}
+
+#[test]
+fn what_to_do_is_asked_and_written(rt: HostRuntime) -> Result<(), Fail> {
+    let alloc = rt.alloc();
+    let asked = b"{\"by\":\"desk\",\"do\":\"status\",\"device\":\"usb\",\"from\":1}";
+    let device = Some(DeviceName::new("usb")?);
+    assert_eq!(rt;
+        decode(alloc, asked)?.call,
+        Call::Query(Query::Status { device, from: 1 })
+    );
+    let asked = b"{\"by\":\"desk\",\"do\":\"status\",\"from\":1}";
+    let query = Query::Status {
+        device: None,
+        from: 1,
+    };
+    assert_eq!(rt; decode(alloc, asked)?.call, Call::Query(query));
+    let row = StatusRow {
+        copy: 2,
+        place: place(alloc, "usb", "plan.txt")?,
+        state: CopyState::Obsolete,
+        with: PlacedCopy {
+            copy: 1,
+            place: place(alloc, "laptop", "plan.txt")?,
+        },
+    };
+    let text = encode(
+        alloc,
+        &Reply::Status(PlainList::from_vec(vec![in alloc; row]?)),
+    )?;
+    assert_eq!(rt;
+        text.as_str(),
+        "{\"status\":[{\"copy\":2,\"device\":\"usb\",\"path\":\"plan.txt\",\"state\":\"obsolete\",\"with\":{\"copy\":1,\"device\":\"laptop\",\"path\":\"plan.txt\"}}]}"
     );
     Ok(())
 }

@@ -101,9 +101,10 @@ impl Journal {
     pub fn slice(&self, from: u64) -> Result<EntryList, AllocError>
         ensures { IfOk result (λ list. list ≡ page self.now.entries from) }
     {
-        let mut copies = Vec::new(*self.entries.allocator());
+        let alloc = *self.entries.allocator();
+        let mut copies = Vec::new(alloc);
         for entry in self.page(from) {
-            copies.push(entry.copy_of()?)?;
+            copies.push(entry.copy_of(alloc)?)?;
         }
         Ok(EntryList::from_vec(copies))
     }

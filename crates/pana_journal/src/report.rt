@@ -1,47 +1,105 @@
-ghost use Rattle.std.specs.Prelude.{◌≡◌, IfOk};
+ghost use Rattle.std.specs.Prelude.{◌≡◌, IfOk, option_copied};
+ghost use Rattle.pana_journal.specs.Reports.{given_sum};
 
-use pana_copies::Place;
-use std::alloc::AllocError;
+use pana_copies::{Place, Sum};
+use std::alloc::{AllocError, Global};
 
-/// What a session or a scanner reports. A copy is named by the number of the entry that made it.
+/// What a session or a scanner reports. A copy is named by the number of the entry that made it. A sum is that of the bytes which
+/// the copies that the report is about hold from then on, where it is known.
 #[derive(Debug, PartialEq, Eq, Drop)]
 pub enum Report {
     /// A file is known from now on, by a first copy at this place, which knows no update.
-    Register { place: Place },
+    Register {
+        place: Place,
+        sum: Option<Sum>,
+    },
     /// A copy was made of this one, at this place. It knows what its source knows.
-    Duplicate { copy: u64, place: Place },
+    Duplicate {
+        copy: u64,
+        place: Place,
+        sum: Option<Sum>,
+    },
     /// This copy was changed.
-    Edit { copy: u64 },
+    Edit {
+        copy: u64,
+        sum: Option<Sum>,
+    },
     /// Each of the two copies got what the other knows.
-    Reconcile { a: u64, b: u64 },
+    Reconcile {
+        a: u64,
+        b: u64,
+        sum: Option<Sum>,
+    },
     /// The two copies were merged into one text, which is an update of its own.
-    Merge { a: u64, b: u64 },
+    Merge {
+        a: u64,
+        b: u64,
+        sum: Option<Sum>,
+    },
     /// This copy was moved to this place.
-    Relocate { copy: u64, place: Place },
+    Relocate {
+        copy: u64,
+        place: Place,
+    },
     /// This copy is no more. Another copy of its family may be its heir.
-    Remove { copy: u64, heir: Option<u64> },
+    Remove {
+        copy: u64,
+        heir: Option<u64>,
+    },
+    /// This copy holds bytes with this sum.
+    Note {
+        copy: u64,
+        sum: Sum,
+    },
     /// This entry and those of its family before it stay: they can't be withdrawn any more.
-    Confirm { entry: u64 },
+    Confirm {
+        entry: u64,
+    },
     /// This entry, the last of its family that is pending, is undone.
-    Withdraw { entry: u64 },
+    Withdraw {
+        entry: u64,
+    },
+}
+
+/// The same sum once more, if there is one. Fails only where memory runs out.
+fn copy_of(alloc: Global, sum: &Option<Sum>) -> Result<Option<Sum>, AllocError>
+    ensures { IfOk result (λ copy. copy ≡ sum.now) }
+{
+    match sum {
+        Some(sum) => Ok(Some(sum.copy_of(alloc)?)),
+        None => Ok(None),
+    }
 }
 
 impl Report {
     /// The same report once more. Fails only where memory runs out.
-    pub fn copy_of(&self) -> Result<Report, AllocError>
+    pub fn copy_of(&self, alloc: Global) -> Result<Report, AllocError>
         ensures { IfOk result (λ report. report ≡ self.now) }
     {
         Ok(match self {
-            Report::Register { place } => Report::Register {
+            Report::Register { place, sum } => Report::Register {
                 place: place.copy_of()?,
+                sum: copy_of(alloc, sum)?,
             },
-            Report::Duplicate { copy, place } => Report::Duplicate {
+            Report::Duplicate { copy, place, sum } => Report::Duplicate {
                 copy: *copy,
                 place: place.copy_of()?,
+                sum: copy_of(alloc, sum)?,
             },
-            Report::Edit { copy } => Report::Edit { copy: *copy },
-            Report::Reconcile { a, b } => Report::Reconcile { a: *a, b: *b },
-            Report::Merge { a, b } => Report::Merge { a: *a, b: *b },
+            Report::Edit { copy, sum } => Report::Edit {
+                copy: *copy,
+                sum: copy_of(alloc, sum)?,
+            },
+            Report::Reconcile { a, b, sum } => Report::Reconcile {
+                a: *a,
+                b: *b,
+                sum: copy_of(alloc, sum)?,
+            },
+            Report::Merge { a, b, sum } => Report::Merge {
+                a: *a,
+                b: *b,
+                sum: copy_of(alloc, sum)?,
+            },
             Report::Relocate { copy, place } => Report::Relocate {
                 copy: *copy,
                 place: place.copy_of()?,
@@ -50,8 +108,33 @@ impl Report {
                 copy: *copy,
                 heir: *heir,
             },
+            Report::Note { copy, sum } => Report::Note {
+                copy: *copy,
+                sum: sum.copy_of(alloc)?,
+            },
             Report::Confirm { entry } => Report::Confirm { entry: *entry },
             Report::Withdraw { entry } => Report::Withdraw { entry: *entry },
         })
+    }
+
+    /// The sum that the report gives, if it does. Takes no memory.
+    pub fn sum(&self) -> Option<&Sum>
+        ensures { option_copied result ≡ given_sum self.now }
+    {
+        match self {
+            Report::Register { sum, .. }
+            | Report::Duplicate { sum, .. }
+            | Report::Edit { sum, .. }
+            | Report::Reconcile { sum, .. }
+            | Report::Merge { sum, .. } => match sum {
+                Some(sum) => Some(sum),
+                None => None,
+            },
+            Report::Note { sum, .. } => Some(sum),
+            Report::Relocate { .. }
+            | Report::Remove { .. }
+            | Report::Confirm { .. }
+            | Report::Withdraw { .. } => None,
+        }
     }
 }

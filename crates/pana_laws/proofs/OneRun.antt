@@ -185,9 +185,9 @@ callers_within seats (x ∷ history) all zero d h = all 0 x (omega arith)
 callers_within seats (x ∷ history) all (suc k) d h = callers_within seats history (λ i e g. all (suc i) e (omega (arith, g))) k d (omega (arith, h))
 
 pub one_run : {D R W F : Type 0} (gives : D → Option (Connection R W) → D → Type 0) (remaining : R → Option (List ℕ)) (contents : W → Option (List ℕ)) (finds : F → Option (Result Contents ScanFault) → F → Type 0)
-    (begun : List Entry) (posts : List (Post D F)) (left : List Entry) (calls : ℕ)
-    → Ends Replies never gives remaining contents finds begun posts left calls → IsOneRun gives remaining contents finds begun posts left calls
-one_run {D = D} {F = F} gives remaining contents finds begun posts left calls e =
+    (begun : List Entry) (posts posts_left : List (Post D F)) (left : List Entry) (calls : ℕ) (unanswered : Bool)
+    → Ends Replies never gives remaining contents finds begun posts left posts_left calls unanswered → IsOneRun gives remaining contents finds begun posts left calls
+one_run {D = D} {F = F} gives remaining contents finds begun posts posts_left left calls unanswered e =
     let history = e.closed.history in
     let (runs, leaves) = history_runs begun history e.closed.run in
     let many : length posts ≡ length e.olds = ap length (sym e.posts_are) ∙ length-map e.olds (λ caller. caller.0) in

@@ -1,6 +1,6 @@
 //! The laws.
 
-ghost use Rattle.std.specs.Prelude.{◌≡◌, ℕ, IsTrue, List};
+ghost use Rattle.std.specs.Prelude.{◌≡◌, ℕ, Bool, IsTrue, List};
 ghost use Rattle.pana_journal.specs.declared.entry.Entry.{Entry};
 ghost use Rattle.pana_wire.specs.Answer.{Replies};
 ghost use Rattle.pana_store.specs.Store.{StoreView, IsKept, Keeps, Breaks};
@@ -16,8 +16,8 @@ use pana_log::{Device, LogState};
 /// began with: each reply is permitted on the journal that all calls before it leave. Each caller's calls in it are just
 /// those by which its connections were served, one session after another, or its folder was scanned.
 pub fn daemon_is_one_run<D: Door, F: Folder>()
-    ensures { (begun : List Entry) (posts : List (Post D F)) (left : List Entry) (calls : ℕ)
-        → Ends Replies never D.gives D.Reader.remaining D.Writer.contents F.gives begun posts left calls
+    ensures { (begun : List Entry) (posts posts_left : List (Post D F)) (left : List Entry) (calls : ℕ) (unanswered : Bool)
+        → Ends Replies never D.gives D.Reader.remaining D.Writer.contents F.gives begun posts left posts_left calls unanswered
         → IsOneRun D.gives D.Reader.remaining D.Writer.contents F.gives begun posts left calls }
 {}
 
@@ -25,9 +25,9 @@ pub fn daemon_is_one_run<D: Door, F: Folder>()
 /// history of the store, and nothing of it is lost: a crash at any moment leaves a file that loads to the first of its
 /// entries, with all that had been answered as done before that moment.
 pub fn daemon_keeps_what_is_done<V: Device, D: Door, F: Folder>()
-    ensures { IsTrue V.is_known → (begun left : StoreView V) (posts : List (Post D F)) (calls : ℕ)
+    ensures { IsTrue V.is_known → (begun left : StoreView V) (posts posts_left : List (Post D F)) (calls : ℕ) (unanswered : Bool)
         → begun.log.state ≡ LogState.Open → IsKept V.seen V.may_leave V.is_usable begun
         → Ends (Keeps V.is_known V.seen V.may_leave V.is_usable V.moment V.left_since V.has_failed) (Breaks V.is_known V.moment V.left_since V.has_failed)
-        D.gives D.Reader.remaining D.Writer.contents F.gives begun posts left calls
+        D.gives D.Reader.remaining D.Writer.contents F.gives begun posts left posts_left calls unanswered
         → IsKeptRun V.moment V.left_since (Keeps V.is_known V.seen V.may_leave V.is_usable V.moment V.left_since V.has_failed) (Breaks V.is_known V.moment V.left_since V.has_failed) begun left calls }
 {}

@@ -26,7 +26,7 @@ abbrev kept : Path → List ℕ → ℕ → BaselineRow
 kept path fingerprint touch = record { path = path; mark = record { fingerprint = fingerprint; touch = touch } }
 
 abbrev copy_2 : ℕ → List Holding
-copy_2 touch = record { copy = 2; family = 1; path = codes "a"; touch = touch } ∷ []
+copy_2 touch = record { copy = 2; family = 1; path = codes "a"; sum = None; touch = touch } ∷ []
 
 abbrev found : List FoundRow → Contents
 found rows = record { device = codes "usb"; rows = rows; skipped = 0 }
@@ -35,13 +35,13 @@ abbrev at : Path → Found → FoundRow
 at path it = record { path = path; found = it }
 
 abbrev edit_2 : Step
-edit_2 = record { path = codes "a"; fingerprint = Some second; report = Edit 2 }
+edit_2 = record { path = codes "a"; fingerprint = Some second; report = Edit 2 None }
 
 abbrev remove_2 : Step
 remove_2 = record { path = codes "a"; fingerprint = None; report = Remove 2 None }
 
 abbrev register : Path → List ℕ → Step
-register path fingerprint = record { path = path; fingerprint = Some fingerprint; report = Register (record { device = codes "usb"; path = path }) }
+register path fingerprint = record { path = path; fingerprint = Some fingerprint; report = Register (record { device = codes "usb"; path = path }) None }
 
 abbrev plan_from : List Step → List BaselineRow → Plan
 plan_from steps rows = record { steps = steps; baseline = rows }

@@ -29,13 +29,13 @@ keep mark = record { step = None; mark = mark }
 abbrev pub outcome_at : List ℕ → Path → Option Found → Option Mark → Option Holding → Outcome
 outcome_at device path (Some Unreadable) mark living = keep mark
 outcome_at device path (Some (Seen found)) None None = record {
-  step = Some (record { path = path; fingerprint = Some found; report = Register (record { device = device; path = path }) });
+  step = Some (record { path = path; fingerprint = Some found; report = Register (record { device = device; path = path }) None });
   mark = None;
 }
 outcome_at device path (Some (Seen found)) None (Some copy) = keep (Some (record { fingerprint = found; touch = copy.touch }))
 outcome_at device path (Some (Seen found)) (Some mark) (Some copy) =
     cond (not (bytes_eq found mark.fingerprint) && mark.touch == copy.touch)
-    (record { step = Some (record { path = path; fingerprint = Some found; report = Edit copy.copy }); mark = Some mark })
+    (record { step = Some (record { path = path; fingerprint = Some found; report = Edit copy.copy None }); mark = Some mark })
     (keep (Some (record { fingerprint = found; touch = copy.touch })))
 outcome_at device path (Some (Seen found)) (Some mark) None = keep (Some (record { fingerprint = found; touch = 0 }))
 outcome_at device path None (Some mark) (Some copy) = record {

@@ -93,19 +93,19 @@ impl Spot<'_> {
     }
 
     fn register(&self, fingerprint: [u8; 32], device: &DeviceName) -> Result<Step, AllocError>
-        ensures { IfOk result (λ step. step ≡ record { path = self.now.path.now; fingerprint = Some fingerprint; report = Register (record { device = device.now; path = self.now.path.now }) }) }
+        ensures { IfOk result (λ step. step ≡ record { path = self.now.path.now; fingerprint = Some fingerprint; report = Register (record { device = device.now; path = self.now.path.now }) None }) }
     {
         let place = Place {
             device: device.copy_of(),
             path: self.path.copy_of()?,
         };
-        self.step(Some(fingerprint), Report::Register { place })
+        self.step(Some(fingerprint), Report::Register { place, sum: None })
     }
 
     fn edit(&self, fingerprint: [u8; 32], copy: u64) -> Result<Step, AllocError>
-        ensures { IfOk result (λ step. step ≡ record { path = self.now.path.now; fingerprint = Some fingerprint; report = Edit copy }) }
+        ensures { IfOk result (λ step. step ≡ record { path = self.now.path.now; fingerprint = Some fingerprint; report = Edit copy None }) }
     {
-        self.step(Some(fingerprint), Report::Edit { copy })
+        self.step(Some(fingerprint), Report::Edit { copy, sum: None })
     }
 
     fn remove(&self, copy: u64) -> Result<Step, AllocError>

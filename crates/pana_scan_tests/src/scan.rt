@@ -45,6 +45,7 @@ fn register(alloc: Global, text: &str) -> Result<Report, NameFault> {
             device: DeviceName::new("usb")?,
             path: CopyPath::new(alloc, text)?,
         },
+        sum: None,
     })
 }
 
@@ -72,12 +73,13 @@ fn held(alloc: Global) -> Result<HoldingList, Fail> {
             return Err(Fail::from(AllocError));
         }
     }
-    let edit = Report::Edit { copy: 2 };
+    let edit = Report::Edit { copy: 2, sum: None };
     if !matches!(hall.apply(&usb, Call::Report(edit)), Reply::Done { .. }) {
         return Err(Fail::from(AllocError));
     }
     let device = usb.copy_of();
-    let Reply::Holdings(holdings) = hall.apply(&usb, Call::Query(Query::Holdings { device })) else {
+    let query = Query::Holdings { device, from: None };
+    let Reply::Holdings(holdings) = hall.apply(&usb, Call::Query(query)) else {
         return Err(Fail::from(AllocError));
     };
     Ok(holdings)
@@ -108,8 +110,8 @@ fn are_three(steps: &[Step]) -> bool {
     let [edit, register, remove] = steps else {
         return false;
     };
-    matches!(&edit.report, Report::Edit { copy: 1 })
-        && matches!(&register.report, Report::Register { place } if place.path.as_str() == "b")
+    matches!(&edit.report, Report::Edit { copy: 1, .. })
+        && matches!(&register.report, Report::Register { place, .. } if place.path.as_str() == "b")
         && matches!(
             &remove.report,
             Report::Remove {

@@ -61,6 +61,9 @@ reply_is_done (replies.Board board) n is = absurd (other_third _ n 98 refl refl 
 reply_is_done (replies.Stamps stamps) n is = absurd (other_third _ n 115 refl refl is)
 reply_is_done (replies.Pair rel) n is = absurd (other_third _ n 112 refl refl is)
 reply_is_done (replies.Holdings holdings) n is = absurd (other_third _ n 104 refl refl is)
+reply_is_done (replies.At None) n is = absurd (other_third _ n 97 refl refl is)
+reply_is_done (replies.At (Some standing)) n is = absurd (other_third _ n 97 refl refl is)
+reply_is_done (replies.Status rows) n is = absurd (other_third _ n 115 refl refl is)
 reply_is_done (replies.Journal entries) n is = absurd (other_third _ n 101 refl refl is)
 reply_is_done (replies.Refused cause) n is = absurd (refusal_is_other (code_of cause) (cause_copy cause) (cause_name cause) n is)
 
@@ -76,14 +79,15 @@ not_full false causes none = refl
 
 has_room : (journal : List Entry) (by : List ℕ) (report : Report) → refusal journal by (calls.Report report) ≡ None → nat_le 1000000 (length journal) ≡ false
 unfolding refusal
-has_room journal by (reports.Register place) none = not_full _ _ none
-has_room journal by (reports.Duplicate copy place) none = not_full _ _ none
-has_room journal by (reports.Edit copy) none = not_full _ _ none
-has_room journal by (reports.Reconcile a b) none = not_full _ _ none
-has_room journal by (reports.Merge a b) none = not_full _ _ none
+has_room journal by (reports.Register place sum) none = not_full _ _ none
+has_room journal by (reports.Duplicate copy place sum) none = not_full _ _ none
+has_room journal by (reports.Edit copy sum) none = not_full _ _ none
+has_room journal by (reports.Reconcile a b sum) none = not_full _ _ none
+has_room journal by (reports.Merge a b sum) none = not_full _ _ none
 has_room journal by (reports.Relocate copy place) none = not_full _ _ none
 has_room journal by (reports.Remove copy None) none = not_full _ _ none
 has_room journal by (reports.Remove copy (Some heir)) none = not_full _ _ none
+has_room journal by (reports.Note copy sum) none = not_full _ _ none
 has_room journal by (reports.Confirm entry) none = not_full _ _ none
 has_room journal by (reports.Withdraw entry) none = not_full _ _ none
 
@@ -92,7 +96,9 @@ no_query journal queries.Families m is = absurd (cc)
 no_query journal (queries.Board family) m is = absurd (cc)
 no_query journal (queries.Stamps family) m is = let no = is.2 in absurd (cc)
 no_query journal (queries.Pair a b) m is = absurd (cc)
-no_query journal (queries.Holdings device) m is = absurd (cc)
+no_query journal (queries.Holdings device from) m is = absurd (cc)
+no_query journal (queries.At place) m is = absurd (cc)
+no_query journal (queries.Status device from) m is = absurd (cc)
 no_query journal (queries.JournalFrom from) m is = absurd (cc)
 
 by_cause : (cause : Option Cause) (old : List Entry) (by : List ℕ) (report : Report) (m : ℕ) (new : List Entry) → (cause ≡ None → nat_le 1000000 (length old) ≡ false)

@@ -12,47 +12,41 @@ use Rattle.pana_journal.specs.declared.entry.Entry.{Entry}
 use Rattle.pana_journal.specs.declared.report.Report.{Report}
 use Rattle.pana_journal.specs.declared.report.Report.TheVariants as reports
 use Rattle.pana_hall.specs.declared.reply.Reply.{Reply}
-use Rattle.pana_hall.specs.declared.reply.Reply.TheVariants.{Done, Families, Board, Stamps, Pair, Holdings, Journal, Refused}
+use Rattle.pana_hall.specs.declared.reply.Reply.TheVariants.{Done, Families, Board, Stamps, Pair, Holdings, At, Status, Journal, Refused}
 use Rattle.pana_wire.specs.declared.field.Field.TheVariants as fields
 use Rattle.pana_wire.specs.Field.{field_name}
 use Rattle.pana_wire.specs.Word.{word_of}
-use Rattle.pana_wire.specs.Line.{device_in, path_in, number_in, heir_in, place_in, word_in, report_in, object_in, data_in}
+use Rattle.pana_wire.specs.Line.{device_in, path_in, number_in, sum_in, number_or_none, sum_or_none, place_in, word_in, report_in, object_in, data_in}
 use Rattle.pana_wire.specs.Dump.{are_objects, entry_in, entries_in, dump_says, IsReadBack}
 use Rattle.pana_wire.specs.Report.{number_data, put_report, entry_data}
 use Rattle.pana_wire.specs.Reply.{entries_data, reply_data, reply_text}
 use Rattle.pana_wire.specs.inner.Names.{HasNames, HasEntryNames, HasReplyNames}
 use Rattle.pana_wire.proofs.DumpBack.{objects_found}
 use Rattle.pana_wire.proofs.Short.{page_short}
+use Rattle.pana_wire.proofs.Whole.{entry_depth}
 
 abbrev entry_object : ℕ → List ℕ → Report → Data
 entry_object n by report = object (put_report by report (put (field_name fields.Number) (number_data n) no_members))
 
 entry_back : (n : ℕ) (by : List ℕ) (report : Report) → is_device by ≡ true → HasNames report
     → entry_in (entry_object n by report) ≡ Ok (record { number = n; by = by; report = report })
-unfolding put_report entry_in report_in word_in place_in device_in path_in number_in heir_in word_of
-entry_back n by (reports.Register place) named names = rw (named, names.0, names.1) refl
-entry_back n by (reports.Duplicate copy place) named names = rw (named, names.0, names.1) refl
-entry_back n by (reports.Edit copy) named names = rw named refl
-entry_back n by (reports.Reconcile a b) named names = rw named refl
-entry_back n by (reports.Merge a b) named names = rw named refl
+unfolding put_report entry_in report_in word_in place_in device_in path_in number_in sum_in number_or_none sum_or_none word_of
+entry_back n by (reports.Register place None) named names = rw (named, names.0.0, names.0.1) refl
+entry_back n by (reports.Register place (Some sum)) named names = rw (named, names.0.0, names.0.1, names.1) refl
+entry_back n by (reports.Duplicate copy place None) named names = rw (named, names.0.0, names.0.1) refl
+entry_back n by (reports.Duplicate copy place (Some sum)) named names = rw (named, names.0.0, names.0.1, names.1) refl
+entry_back n by (reports.Edit copy None) named names = rw named refl
+entry_back n by (reports.Edit copy (Some sum)) named names = rw (named, names) refl
+entry_back n by (reports.Reconcile a b None) named names = rw named refl
+entry_back n by (reports.Reconcile a b (Some sum)) named names = rw (named, names) refl
+entry_back n by (reports.Merge a b None) named names = rw named refl
+entry_back n by (reports.Merge a b (Some sum)) named names = rw (named, names) refl
 entry_back n by (reports.Relocate copy place) named names = rw (named, names.0, names.1) refl
 entry_back n by (reports.Remove copy None) named names = rw named refl
 entry_back n by (reports.Remove copy (Some heir)) named names = rw named refl
+entry_back n by (reports.Note copy sum) named names = rw (named, names) refl
 entry_back n by (reports.Confirm entry) named names = rw named refl
 entry_back n by (reports.Withdraw entry) named names = rw named refl
-
-entry_shallow : (n : ℕ) (by : List ℕ) (report : Report) → depth (entry_object n by report) ≤ 1
-unfolding put_report
-entry_shallow n by (reports.Register place) = omega arith
-entry_shallow n by (reports.Duplicate copy place) = omega arith
-entry_shallow n by (reports.Edit copy) = omega arith
-entry_shallow n by (reports.Reconcile a b) = omega arith
-entry_shallow n by (reports.Merge a b) = omega arith
-entry_shallow n by (reports.Relocate copy place) = omega arith
-entry_shallow n by (reports.Remove copy None) = omega arith
-entry_shallow n by (reports.Remove copy (Some heir)) = omega arith
-entry_shallow n by (reports.Confirm entry) = omega arith
-entry_shallow n by (reports.Withdraw entry) = omega arith
 
 pub entries_back : (entries : List Entry) → All HasEntryNames entries → entries_in (map entry_data entries) ≡ Ok entries
 unfolding entry_data
@@ -62,9 +56,8 @@ entries_back (entry ∷ entries) names =
     rw (entry_back entry.number entry.by entry.report named.0 named.1, entries_back entries (All-tail HasEntryNames entry entries names)) refl
 
 pub entries_shallow : (entries : List Entry) → items_depth (items_of (map entry_data entries)) ≤ 1
-unfolding entry_data
 entries_shallow [] = omega arith
-entries_shallow (entry ∷ entries) = omega (arith, entry_shallow entry.number entry.by entry.report, entries_shallow entries)
+entries_shallow (entry ∷ entries) = omega (arith, entry_depth entry, entries_shallow entries)
 
 pub all_objects : (entries : List Entry) → are_objects (map entry_data entries) ≡ true
 unfolding entry_data
@@ -95,5 +88,7 @@ reply_back (Board board) line names is utf8 reads = tt
 reply_back (Stamps stamps) line names is utf8 reads = tt
 reply_back (Pair rel) line names is utf8 reads = tt
 reply_back (Holdings holdings) line names is utf8 reads = tt
+reply_back (At standing) line names is utf8 reads = tt
+reply_back (Status rows) line names is utf8 reads = tt
 reply_back (Journal entries) line names is utf8 reads = λ short. dump_back line entries names utf8 (reads (reply_shallow entries)) (few_or_short entries line names is short)
 reply_back (Refused cause) line names is utf8 reads = tt

@@ -1,7 +1,7 @@
 -- The pieces of the line that answers with a fault.
 use Rattle.std.proofs.Common.{◌≡◌, ℕ, List, [], ◌∷◌, ◌++◌, Option, codes, refl, sym, subst}
 use Rattle.pana_wire.specs.declared.field.Field.{Field}
-use Rattle.pana_wire.specs.declared.field.Field.TheVariants.{By, Do, Device, Path, Copy, Family, A, B, Heir, Entry, From, Number, Entries}
+use Rattle.pana_wire.specs.declared.field.Field.TheVariants.{By, Do, Device, Path, Copy, Family, A, B, Heir, Sum, Entry, From, Number, Entries}
 use Rattle.pana_wire.specs.declared.fault.WireFault.{WireFault}
 use Rattle.pana_wire.specs.declared.fault.WireFault.TheVariants.{TooLong, NotUtf8, NotJson, NotObject, BadField, OutOfMemory}
 use Rattle.pana_wire.specs.declared.tap.Tap.{Tap}
@@ -46,6 +46,7 @@ fault_pieces (BadField Family) = refl
 fault_pieces (BadField A) = refl
 fault_pieces (BadField B) = refl
 fault_pieces (BadField Heir) = refl
+fault_pieces (BadField Sum) = refl
 fault_pieces (BadField Entry) = refl
 fault_pieces (BadField From) = refl
 fault_pieces (BadField Number) = refl

@@ -1,72 +1,20 @@
 -- The text of an answer has no newline.
-use Rattle.std.specs.Prelude.{◌≡◌, ℕ, ◌==◌, ◌&&◌, not, Bool, true, false, List, [], ◌∷◌, map, Option, Some, None}
+use Rattle.std.specs.Prelude.{◌≡◌, ℕ, ◌==◌, ◌&&◌, not, Bool, true, false, List, [], ◌∷◌}
 use Rattle.std.specs.List.{list_all}
 use Rattle.std.proofs.Common.{refl, sym, subst, ⊎_elim}
-use Rattle.serde_json.specs.View.{items_of}
-use Rattle.pana_family.specs.declared.stamps.CopyStamp.{CopyStamp}
-use Rattle.pana_journal.specs.declared.entry.Entry.{Entry}
 use Rattle.pana_hall.specs.declared.call.Call.{Call}
-use Rattle.pana_hall.specs.declared.family_row.FamilyRow.{FamilyRow}
-use Rattle.pana_hall.specs.declared.holding.Holding.{Holding}
-use Rattle.pana_hall.specs.declared.board.BoardRow.{BoardRow}
 use Rattle.pana_hall.specs.declared.reply.Reply.{Reply}
-use Rattle.pana_hall.specs.declared.reply.Reply.TheVariants as replies
-use Rattle.pana_hall.specs.Cause.{code_of, cause_name, cause_copy}
-use Rattle.pana_wire.specs.declared.field.Field.TheVariants.{By, Do, Device, Path, Copy, Family, A, B, Heir, Entry as AnEntry, From, Number, Entries}
+use Rattle.pana_wire.specs.declared.field.Field.TheVariants.{By, Do, Device, Path, Copy, Family, A, B, Heir, Sum, Entry, From, Number, Entries}
 use Rattle.pana_wire.specs.declared.fault.WireFault.{WireFault}
 use Rattle.pana_wire.specs.declared.fault.WireFault.TheVariants.{TooLong, NotUtf8, NotJson, NotObject, BadField, OutOfMemory}
 use Rattle.pana_wire.specs.Fault.{fault_text}
-use Rattle.pana_wire.specs.Report.{number_data, entry_data}
 use Rattle.pana_wire.specs.declared.answer.Answer.{Answer}
 use Rattle.pana_wire.specs.declared.answer.Answer.TheVariants.{Given, NotKept}
 use Rattle.pana_wire.specs.Answer.{answer_text, not_kept_text}
-use Rattle.pana_wire.specs.Reply.{numbers_data, row_data, rows_data, board_data, family_data, families_data, stamp_data, stamps_data, holding_data, holdings_data, entries_data, refusal_data, refused_data, reply_data, reply_text}
+use Rattle.pana_wire.specs.Reply.{reply_data, reply_text}
 use Rattle.pana_wire.specs.Timely.{IsAnswer}
-use Rattle.pana_wire.proofs.OneLine.{IsInLine, is_natural, items_natural, entry_natural, text_in_line}
-
-numbers_natural : (numbers : List ℕ) → items_natural (items_of (map number_data numbers)) ≡ true
-numbers_natural [] = refl
-numbers_natural (number ∷ numbers) = numbers_natural numbers
-
-rows_natural : (rows : List BoardRow) → items_natural (items_of (map row_data rows)) ≡ true
-unfolding row_data
-rows_natural [] = refl
-rows_natural (row ∷ rows) = rows_natural rows
-
-families_natural : (rows : List FamilyRow) → items_natural (items_of (map family_data rows)) ≡ true
-unfolding family_data
-families_natural [] = refl
-families_natural (row ∷ rows) = families_natural rows
-
-stamps_natural : (stamps : List CopyStamp) → items_natural (items_of (map stamp_data stamps)) ≡ true
-unfolding stamp_data
-stamps_natural [] = refl
-stamps_natural (stamp ∷ stamps) = stamps_natural stamps
-
-holdings_natural : (holdings : List Holding) → items_natural (items_of (map holding_data holdings)) ≡ true
-unfolding holding_data
-holdings_natural [] = refl
-holdings_natural (holding ∷ holdings) = holdings_natural holdings
-
-entries_natural : (entries : List Entry) → items_natural (items_of (map entry_data entries)) ≡ true
-unfolding entry_data
-entries_natural [] = refl
-entries_natural (entry ∷ entries) = rw (entry_natural entry.number entry.by entry.report) (entries_natural entries)
-
-refusal_natural : (code : ℕ) (copy : Option ℕ) (name : List ℕ) → is_natural (refusal_data code copy name) ≡ true
-refusal_natural code None name = refl
-refusal_natural code (Some copy) name = refl
-
-reply_natural : (reply : Reply) → is_natural (reply_data reply) ≡ true
-unfolding reply_data board_data numbers_data rows_data families_data stamps_data holdings_data entries_data refused_data
-reply_natural (replies.Done entry) = refl
-reply_natural (replies.Families rows) = rw (families_natural rows) refl
-reply_natural (replies.Board board) = rw (rows_natural board.rows, numbers_natural board.newest) refl
-reply_natural (replies.Stamps stamps) = rw (stamps_natural stamps) refl
-reply_natural (replies.Pair rel) = refl
-reply_natural (replies.Holdings holdings) = rw (holdings_natural holdings) refl
-reply_natural (replies.Journal entries) = rw (entries_natural entries) refl
-reply_natural (replies.Refused cause) = refusal_natural (code_of cause) (cause_copy cause) (cause_name cause)
+use Rattle.pana_wire.proofs.OneLine.{IsInLine, text_in_line}
+use Rattle.pana_wire.proofs.Whole.{reply_natural}
 
 reply_in_line : (reply : Reply) → IsInLine (reply_text reply)
 unfolding reply_text
@@ -94,7 +42,8 @@ fault_in_line (BadField Family) = all_in_line (fault_text (BadField Family)) ref
 fault_in_line (BadField A) = all_in_line (fault_text (BadField A)) refl
 fault_in_line (BadField B) = all_in_line (fault_text (BadField B)) refl
 fault_in_line (BadField Heir) = all_in_line (fault_text (BadField Heir)) refl
-fault_in_line (BadField AnEntry) = all_in_line (fault_text (BadField AnEntry)) refl
+fault_in_line (BadField Sum) = all_in_line (fault_text (BadField Sum)) refl
+fault_in_line (BadField Entry) = all_in_line (fault_text (BadField Entry)) refl
 fault_in_line (BadField From) = all_in_line (fault_text (BadField From)) refl
 fault_in_line (BadField Number) = all_in_line (fault_text (BadField Number)) refl
 fault_in_line (BadField Entries) = all_in_line (fault_text (BadField Entries)) refl

@@ -1,23 +1,19 @@
 -- The text of an entry has no newline.
-use Rattle.std.specs.Prelude.{◌≡◌, ℕ, zero, suc, ◌+◌, ◌==◌, ◌&&◌, ◌||◌, ◌/◌, ◌%◌, Bool, true, false, cond, nat_lt, List, [], ◌∷◌, ◌++◌, Some, None, Ok, slice_get}
+use Rattle.std.specs.Prelude.{◌≡◌, ℕ, zero, suc, ◌+◌, ◌==◌, ◌&&◌, ◌||◌, ◌/◌, ◌%◌, Bool, true, false, cond, nat_lt, List, [], ◌∷◌, ◌++◌, Some, Ok, slice_get}
 use Rattle.std.specs.Char.{digit_char}
 use Rattle.std.specs.Fmt.{decimal, digits, digits_onto, digit_glyph}
 use Rattle.std.specs.List.{AllByRecursion}
 use Rattle.std.proofs.Common.{refl, sym, ap, ◌∙◌, subst, inl, inr, arith, append-nil, append_assoc}
 use Rattle.std.proofs.lemmas.Bool.{ne_eqb, cases_Bool, ltb-false}
 use Rattle.json.specs.Print.{escape, escape_byte, escape_letter, quoted}
-use Rattle.serde_json.specs.Data.{unsigned, negative, float, Data, null, boolean, number, string, array, object, Items, no_items, item, Members, no_members, member, put}
+use Rattle.serde_json.specs.Data.{unsigned, negative, float, Data, null, boolean, number, string, array, object, Items, no_items, item, Members, no_members, member}
 use Rattle.serde_json.specs.Written.{compact_text, items_text, members_text, comma_if}
 use Rattle.pana_journal.specs.declared.entry.Entry.{Entry}
-use Rattle.pana_journal.specs.declared.report.Report.{Report}
-use Rattle.pana_journal.specs.declared.report.Report.TheVariants as reports
 use Rattle.pana_hall.specs.declared.reply.Reply.TheVariants.{Journal}
-use Rattle.pana_wire.specs.declared.field.Field.TheVariants as fields
-use Rattle.pana_wire.specs.Field.{field_name}
 use Rattle.pana_wire.specs.Lines.{ended, unended, lines_of}
-use Rattle.pana_wire.specs.Report.{number_data, put_report, entry_data}
-use Rattle.pana_wire.specs.Reply.{entries_data, reply_data, reply_text}
+use Rattle.pana_wire.specs.Reply.{reply_data, reply_text}
 use Rattle.pana_wire.specs.Dump.{dump_says, entry_text, IsEntryLine}
+use Rattle.pana_wire.proofs.Whole.{is_natural, items_natural, members_natural, reply_natural}
 
 -- no byte of a text is a newline
 abbrev pub IsInLine : List ℕ → Type 0
@@ -81,25 +77,6 @@ comma_in_line : (later : Bool) → IsInLine (comma_if later)
 comma_in_line true = (refl, tt)
 comma_in_line false = tt
 
--- each number of a value is a whole one from 0 on
-abbrev mutual
-  pub is_natural : Data → Bool
-  is_natural null = true
-  is_natural (boolean b) = true
-  is_natural (number (unsigned n)) = true
-  is_natural (number n) = false
-  is_natural (string s) = true
-  is_natural (array ds) = items_natural ds
-  is_natural (object ms) = members_natural ms
-
-  pub items_natural : Items → Bool
-  items_natural no_items = true
-  items_natural (item d ds) = is_natural d && items_natural ds
-
-  pub members_natural : Members → Bool
-  members_natural no_members = true
-  members_natural (member k d ms) = is_natural d && members_natural ms
-
 left_holds : (a b : Bool) → (a && b) ≡ true → a ≡ true
 left_holds true b is = refl
 left_holds false b is = absurd (cc)
@@ -133,23 +110,6 @@ mutual
       (both_in_line (quoted k) (58 ∷ (compact_text d ++ members_text true ms)) (quoted_in_line k)
       (refl, both_in_line (compact_text d) (members_text true ms) (text_in_line d (left_holds (is_natural d) (members_natural ms) is)) (members_in_line true ms (right_holds (is_natural d) (members_natural ms) is))))
 
-pub entry_natural : (n : ℕ) (by : List ℕ) (report : Report) → is_natural (object (put_report by report (put (field_name fields.Number) (number_data n) no_members))) ≡ true
-unfolding put_report
-entry_natural n by (reports.Register place) = refl
-entry_natural n by (reports.Duplicate copy place) = refl
-entry_natural n by (reports.Edit copy) = refl
-entry_natural n by (reports.Reconcile a b) = refl
-entry_natural n by (reports.Merge a b) = refl
-entry_natural n by (reports.Relocate copy place) = refl
-entry_natural n by (reports.Remove copy None) = refl
-entry_natural n by (reports.Remove copy (Some heir)) = refl
-entry_natural n by (reports.Confirm entry) = refl
-entry_natural n by (reports.Withdraw entry) = refl
-
-reply_natural : (entry : Entry) → is_natural (reply_data (Journal (entry ∷ []))) ≡ true
-unfolding reply_data entries_data entry_data
-reply_natural entry = rw (entry_natural entry.number entry.by entry.report) refl
-
 ended_one : (begun bytes : List ℕ) → IsInLine bytes → ended begun (bytes ++ 10 ∷ []) ≡ (begun ++ bytes) ∷ []
 ended_one begun [] line = ap (λ l. l ∷ []) (sym (append-nil begun))
 ended_one begun (b ∷ bytes) line =
@@ -166,7 +126,7 @@ lines_one bytes line = rw (ended_one [] bytes line, unended_one [] bytes line) r
 
 text_one : (entry : Entry) → IsInLine (entry_text entry)
 unfolding reply_text
-text_one entry = text_in_line (reply_data (Journal (entry ∷ []))) (reply_natural entry)
+text_one entry = text_in_line (reply_data (Journal (entry ∷ []))) (reply_natural (Journal (entry ∷ [])))
 
 text_opens : (entry : Entry) → slice_get (entry_text entry ++ 10 ∷ []) 0 ≡ Some 123
 unfolding reply_text reply_data

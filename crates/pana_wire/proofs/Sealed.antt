@@ -21,8 +21,8 @@ use Rattle.pana_wire.specs.inner.Names.{HasEntryNames}
 use Rattle.pana_wire.specs.inner.SealedData.{sealed_data}
 use Rattle.pana_wire.proofs.DumpBack.{objects_found}
 use Rattle.pana_wire.proofs.EntriesBack.{entries_back, entries_shallow, all_objects}
-use Rattle.pana_wire.proofs.OneLine.{IsInLine, text_in_line, is_natural, entry_natural, lines_one}
-use Rattle.pana_wire.proofs.Whole.{entries_whole}
+use Rattle.pana_wire.proofs.OneLine.{IsInLine, text_in_line, lines_one}
+use Rattle.pana_wire.proofs.Whole.{is_natural, natural_whole, entries_natural}
 
 -- ---- digits stand in a string as they are
 
@@ -97,9 +97,12 @@ text_is entry digest are =
 
 -- ---- what it says
 
-pub sealed_whole : (entry : Entry) (digest : List ℕ) → has_float (sealed_data entry digest) ≡ false
+sealed_natural : (entry : Entry) (digest : List ℕ) → is_natural (sealed_data entry digest) ≡ true
 unfolding sealed_data entries_data
-sealed_whole entry digest = rw (entries_whole (entry ∷ [])) refl
+sealed_natural entry digest = rw (entries_natural (entry ∷ [])) refl
+
+pub sealed_whole : (entry : Entry) (digest : List ℕ) → has_float (sealed_data entry digest) ≡ false
+sealed_whole entry digest = natural_whole (sealed_data entry digest) (sealed_natural entry digest)
 
 pub sealed_shallow : (entry : Entry) (digest : List ℕ) → depth (sealed_data entry digest) ≤ max_depth
 unfolding sealed_data entries_data
@@ -112,10 +115,6 @@ sealed_back entry digest line names utf8 is short =
     rw (within, utf8, is, objects_found (sealed_data entry digest) (map entry_data (entry ∷ [])) refl (all_objects (entry ∷ []))) (entries_back (entry ∷ []) (All-cons HasEntryNames entry [] names (All-nil HasEntryNames)))
 
 -- ---- the line
-
-sealed_natural : (entry : Entry) (digest : List ℕ) → is_natural (sealed_data entry digest) ≡ true
-unfolding sealed_data entries_data entry_data
-sealed_natural entry digest = rw (entry_natural entry.number entry.by entry.report) refl
 
 text_one : (entry : Entry) (digest : List ℕ) → IsBytes digest → IsInLine (sealed_text entry digest)
 text_one entry digest are = subst IsInLine (text_is entry digest are) (text_in_line (sealed_data entry digest) (sealed_natural entry digest))

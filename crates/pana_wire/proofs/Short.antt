@@ -1,11 +1,12 @@
 -- The text of a report, and that of 100 entries, is short enough to be read back.
-use Rattle.std.proofs.Common.{◌≡◌, ℕ, zero, suc, ◌+◌, ◌*◌, ◌≤◌, ◌==◌, ◌&&◌, ◌/◌, ◌%◌, Bool, true, false, cond, if◌then◌else◌, List, [], ◌∷◌, ◌++◌, length, map, nat_le, nat_lt, Some, None, Result, Ok, Err, refl, arith}
+use Rattle.std.proofs.Common.{◌≡◌, ℕ, zero, suc, ◌+◌, ◌*◌, ◌≤◌, ◌==◌, ◌&&◌, ◌/◌, ◌%◌, Bool, true, false, cond, if◌then◌else◌, List, [], ◌∷◌, ◌++◌, length, map, nat_le, nat_lt, Option, Some, None, Result, Ok, Err, Ordering, Less, Equal, Greater, refl, arith}
 use Rattle.std.specs.Prelude.{OnOk}
 use Rattle.std.specs.Result.{IfOk}
 use Rattle.std.specs.Char.{digit_char}
-use Rattle.std.specs.List.{All}
+use Rattle.std.specs.List.{All, list_all}
+use Rattle.std.specs.Ordering.{match_ordering}
 use Rattle.std.specs.Fmt.{decimal, digits, digits_onto, digit_glyph}
-use Rattle.std.proofs.lemmas.Bool.{leb-true}
+use Rattle.std.proofs.lemmas.Bool.{leb-true, and_parts, eqb-true}
 use Rattle.std.proofs.lemmas.List.{length-append}
 use Rattle.std.proofs.lemmas.List.Elements.{All-cons, All-nil, All-head, All-tail}
 use Rattle.hex.specs.Hex.{lower_digits}
@@ -15,15 +16,18 @@ use Rattle.serde_json.specs.Data.{unsigned, negative, float, Data, null, boolean
 use Rattle.serde_json.specs.View.{items_of}
 use Rattle.serde_json.specs.Written.{compact_text, items_text, members_text, comma_if, number_text}
 use Rattle.pana_copies.specs.Names.{is_device, is_path}
+use Rattle.pana_copies.specs.Sums.{is_sum, is_sum_digit}
 use Rattle.pana_journal.specs.declared.entry.Entry.{Entry}
 use Rattle.pana_journal.specs.declared.report.Report.{Report}
 use Rattle.pana_journal.specs.declared.report.Report.TheVariants as reports
 use Rattle.pana_hall.specs.declared.reply.Reply.TheVariants as replies
+use Rattle.pana_wire.specs.declared.field.Field.{Field}
 use Rattle.pana_wire.specs.declared.field.Field.TheVariants as fields
 use Rattle.pana_wire.specs.Field.{field_name}
-use Rattle.pana_wire.specs.Report.{number_data, put_report, report_data, report_text, entry_data}
+use Rattle.pana_wire.specs.Word.{word_name, fields_of}
+use Rattle.pana_wire.specs.Report.{number_data, sum_contents, contents_of, report_word, put_fields, put_report, report_data, report_text, entry_data}
 use Rattle.pana_wire.specs.Reply.{entries_data, reply_data, reply_text}
-use Rattle.pana_wire.specs.inner.Names.{HasNames, HasEntryNames}
+use Rattle.pana_wire.specs.inner.Names.{IsSumOrNone, HasNames, HasEntryNames}
 use Rattle.pana_wire.specs.inner.SealedData.{sealed_data}
 
 -- what follows of two facts about what was returned
@@ -134,38 +138,63 @@ device_short text is = length_short 1 32 (length text) _ is
 path_short : (text : List ℕ) → is_path text ≡ true → length text ≤ 1024
 path_short text is = length_short 1 1024 (length text) _ is
 
-pub report_short : (by : List ℕ) (report : Report) → is_device by ≡ true → HasNames report → length (report_text by report) ≤ 65536
-unfolding report_text report_data put_report
-report_short by (reports.Register place) named names = omega (arith, fits (report_data by (reports.Register place)), device_short by named, device_short place.device names.0, path_short place.path names.1)
-report_short by (reports.Duplicate copy place) named names = omega (arith, fits (report_data by (reports.Duplicate copy place)), device_short by named, device_short place.device names.0, path_short place.path names.1)
-report_short by (reports.Edit copy) named names = omega (arith, fits (report_data by (reports.Edit copy)), device_short by named)
-report_short by (reports.Reconcile a b) named names = omega (arith, fits (report_data by (reports.Reconcile a b)), device_short by named)
-report_short by (reports.Merge a b) named names = omega (arith, fits (report_data by (reports.Merge a b)), device_short by named)
-report_short by (reports.Relocate copy place) named names = omega (arith, fits (report_data by (reports.Relocate copy place)), device_short by named, device_short place.device names.0, path_short place.path names.1)
-report_short by (reports.Remove copy None) named names = omega (arith, fits (report_data by (reports.Remove copy None)), device_short by named)
-report_short by (reports.Remove copy (Some heir)) named names = omega (arith, fits (report_data by (reports.Remove copy (Some heir))), device_short by named)
-report_short by (reports.Confirm entry) named names = omega (arith, fits (report_data by (reports.Confirm entry)), device_short by named)
-report_short by (reports.Withdraw entry) named names = omega (arith, fits (report_data by (reports.Withdraw entry)), device_short by named)
+sum_short : (text : List ℕ) → is_sum text ≡ true → length text ≡ 64
+sum_short text is = eqb-true (length text) 64 (and_parts (length text == 64) (list_all is_sum_digit text) is).0
 
-entry_short : (n : ℕ) (by : List ℕ) (report : Report) → is_device by ≡ true → HasNames report → size (object (put_report by report (put (field_name fields.Number) (number_data n) no_members))) ≤ 8000
+-- how long the text of members in these fields may be
+abbrev fields_size : List Field → List Data → ℕ
+fields_size (field ∷ fields) (d ∷ ds) = 4 + 6 * length (field_name field) + size d + fields_size fields ds
+fields_size _ _ = 0
+
+either_size : (o : Ordering) (most : ℕ) (a b c : Members) → members_size a ≤ most → members_size b ≤ most → members_size c ≤ most → members_size (match_ordering o a b c) ≤ most
+either_size Less most a b c first second third = first
+either_size Equal most a b c first second third = second
+either_size Greater most a b c first second third = third
+
+put_size : (k : List ℕ) (d : Data) (ms : Members) → members_size (put k d ms) ≤ 4 + 6 * length k + size d + members_size ms
+put_size k d no_members = omega arith
+put_size k d (member l e ms) =
+    either_size _ (4 + 6 * length k + size d + members_size (member l e ms)) (member k d (member l e ms)) (member l d ms) (member l e (put k d ms)) (omega arith) (omega arith) (omega (arith, put_size k d ms))
+
+fields_fit : (fs : List Field) (ds : List Data) (ms : Members) → members_size (put_fields fs ds ms) ≤ fields_size fs ds + members_size ms
+fields_fit [] ds ms = omega arith
+fields_fit (f ∷ fs) [] ms = omega arith
+fields_fit (f ∷ fs) (d ∷ ds) ms = omega (arith, fields_fit fs ds (put (field_name f) d ms), put_size (field_name f) d ms)
+
+sum_fits : (sum : Option (List ℕ)) → IsSumOrNone sum → fields_size (fields.Sum ∷ []) (sum_contents sum) ≤ 500
+sum_fits None is = omega arith
+sum_fits (Some sum) is = omega (arith, sum_short sum is)
+
+contents_fit : (by : List ℕ) (report : Report) → is_device by ≡ true → HasNames report
+    → fields_size (fields.By ∷ fields.Do ∷ fields_of (report_word report)) (string by ∷ string (word_name (report_word report)) ∷ contents_of report) ≤ 7500
+contents_fit by (reports.Register place sum) named names = omega (arith, device_short by named, device_short place.device names.0.0, path_short place.path names.0.1, sum_fits sum names.1)
+contents_fit by (reports.Duplicate copy place sum) named names = omega (arith, device_short by named, device_short place.device names.0.0, path_short place.path names.0.1, sum_fits sum names.1)
+contents_fit by (reports.Edit copy sum) named names = omega (arith, device_short by named, sum_fits sum names)
+contents_fit by (reports.Reconcile a b sum) named names = omega (arith, device_short by named, sum_fits sum names)
+contents_fit by (reports.Merge a b sum) named names = omega (arith, device_short by named, sum_fits sum names)
+contents_fit by (reports.Relocate copy place) named names = omega (arith, device_short by named, device_short place.device names.0, path_short place.path names.1)
+contents_fit by (reports.Remove copy None) named names = omega (arith, device_short by named)
+contents_fit by (reports.Remove copy (Some heir)) named names = omega (arith, device_short by named)
+contents_fit by (reports.Note copy sum) named names = omega (arith, device_short by named, sum_short sum names)
+contents_fit by (reports.Confirm entry) named names = omega (arith, device_short by named)
+contents_fit by (reports.Withdraw entry) named names = omega (arith, device_short by named)
+
+report_fits : (by : List ℕ) (report : Report) (ms : Members) → is_device by ≡ true → HasNames report → members_size (put_report by report ms) ≤ 7500 + members_size ms
 unfolding put_report
-entry_short n by (reports.Register place) named names = omega (arith, device_short by named, device_short place.device names.0, path_short place.path names.1)
-entry_short n by (reports.Duplicate copy place) named names = omega (arith, device_short by named, device_short place.device names.0, path_short place.path names.1)
-entry_short n by (reports.Edit copy) named names = omega (arith, device_short by named)
-entry_short n by (reports.Reconcile a b) named names = omega (arith, device_short by named)
-entry_short n by (reports.Merge a b) named names = omega (arith, device_short by named)
-entry_short n by (reports.Relocate copy place) named names = omega (arith, device_short by named, device_short place.device names.0, path_short place.path names.1)
-entry_short n by (reports.Remove copy None) named names = omega (arith, device_short by named)
-entry_short n by (reports.Remove copy (Some heir)) named names = omega (arith, device_short by named)
-entry_short n by (reports.Confirm entry) named names = omega (arith, device_short by named)
-entry_short n by (reports.Withdraw entry) named names = omega (arith, device_short by named)
+report_fits by report ms named names =
+    omega (arith, fields_fit (fields.By ∷ fields.Do ∷ fields_of (report_word report)) (string by ∷ string (word_name (report_word report)) ∷ contents_of report) ms, contents_fit by report named names)
+
+pub report_short : (by : List ℕ) (report : Report) → is_device by ≡ true → HasNames report → length (report_text by report) ≤ 65536
+unfolding report_text report_data
+report_short by report named names = omega (arith, fits (report_data by report), report_fits by report no_members named names)
+
+entry_short : (entry : Entry) → HasEntryNames entry → size (entry_data entry) ≤ 8000
+unfolding entry_data
+entry_short entry names = omega (arith, report_fits entry.by entry.report (put (field_name fields.Number) (number_data entry.number) no_members) names.0 names.1)
 
 entries_short : (entries : List Entry) → All HasEntryNames entries → items_size (items_of (map entry_data entries)) ≤ 1 + 8001 * length entries
-unfolding entry_data
 entries_short [] names = omega arith
-entries_short (entry ∷ entries) names =
-    let named = All-head HasEntryNames entry entries names in
-    omega (arith, entry_short entry.number entry.by entry.report named.0 named.1, entries_short entries (All-tail HasEntryNames entry entries names))
+entries_short (entry ∷ entries) names = omega (arith, entry_short entry (All-head HasEntryNames entry entries names), entries_short entries (All-tail HasEntryNames entry entries names))
 
 pub page_short : (entries : List Entry) → All HasEntryNames entries → length entries ≤ 100 → length (reply_text (replies.Journal entries)) ≤ 1048576
 unfolding reply_text reply_data entries_data

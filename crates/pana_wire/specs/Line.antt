@@ -1,11 +1,12 @@
 -- What a line says: its message, or its first fault. What counts as JSON, which value counts where a name stands
 -- twice, and which number fits 64 bits, is what `serde_json` reads.
-use Rattle.std.specs.Prelude.{◌≡◌, ℕ, Bool, List, [], ◌∷◌, length, nat_lt, Option, Some, None, is_some, option_and_then, option_map, Result, Ok, Err, if◌then◌else◌}
+use Rattle.std.specs.Prelude.{◌≡◌, ℕ, Bool, false, List, [], ◌∷◌, length, nat_lt, Option, Some, None, is_some, option_and_then, not, Result, Ok, Err, if◌then◌else◌}
 use Rattle.std.specs.Str.{is_utf8}
 use Rattle.serde_json.specs.Data.{Data}
 use Rattle.serde_json.specs.Read.{read}
 use Rattle.serde_json.specs.Find.{get, as_null, as_str, as_number, as_u64, as_object}
 use Rattle.pana_copies.specs.Names.{is_device, is_path}
+use Rattle.pana_copies.specs.Sums.{is_sum}
 use Rattle.pana_copies.specs.declared.place.Place.{Place}
 use Rattle.pana_journal.specs.declared.report.Report.{Report}
 use Rattle.pana_journal.specs.declared.report.Report.TheVariants as reports
@@ -57,14 +58,28 @@ path_in field d = found field (option_and_then (when is_path) (string_in field d
 unfoldable pub number_in : Field → Data → Result ℕ WireFault
 number_in field d = found field (option_and_then as_u64 (option_and_then as_number (get (field_name field) d)))
 
--- the number that is there; none where there is nothing, or `null`
-abbrev pub number_or_none : Option Data → Option (Option ℕ)
-number_or_none None = Some None
-number_or_none (Some d) = if is_some (as_null d) then Some None else option_map (λ n. Some n) (option_and_then as_u64 (as_number d))
+-- the sum in a field
+unfoldable pub sum_in : Field → Data → Result (List ℕ) WireFault
+sum_in field d = found field (option_and_then (when is_sum) (string_in field d))
 
--- the heir in a field, where there is one
-unfoldable pub heir_in : Field → Data → Result (Option ℕ) WireFault
-heir_in field d = found field (number_or_none (get (field_name field) d))
+-- something stands in a field, and not `null`
+abbrev pub is_given : Option Data → Bool
+is_given None = false
+is_given (Some d) = not (is_some (as_null d))
+
+-- what is in a field that may be left out, or have `null`
+abbrev pub if_given : {A : Type 0} → (Field → Data → Result A WireFault) → Field → Data → Result (Option A) WireFault
+if_given read field d = if is_given (get (field_name field) d) then (read field d >>= λ x. Ok (Some x)) else Ok None
+
+-- the number in a field, the device's name, the sum, where there is one
+unfoldable pub number_or_none : Field → Data → Result (Option ℕ) WireFault
+number_or_none field d = if_given number_in field d
+
+unfoldable pub device_or_none : Field → Data → Result (Option (List ℕ)) WireFault
+device_or_none field d = if_given device_in field d
+
+unfoldable pub sum_or_none : Field → Data → Result (Option (List ℕ)) WireFault
+sum_or_none field d = if_given sum_in field d
 
 -- the place that two fields make
 unfoldable pub place_in : Field → Field → Data → Result Place WireFault
@@ -79,32 +94,41 @@ word_in d = found fields.Do (option_and_then word_of (string_in fields.Do d))
 
 -- the report of a word, from the fields that the word has; a word for a query has none
 abbrev pub report_from : Word → List Field → Data → Result Report WireFault
-report_from words.Register (device ∷ path ∷ []) d = do
+report_from words.Register (device ∷ path ∷ sum ∷ []) d = do
   place ← place_in device path d
-  Ok (reports.Register place)
-report_from words.Duplicate (copy ∷ device ∷ path ∷ []) d = do
+  sum ← sum_or_none sum d
+  Ok (reports.Register place sum)
+report_from words.Duplicate (copy ∷ device ∷ path ∷ sum ∷ []) d = do
   copy ← number_in copy d
   place ← place_in device path d
-  Ok (reports.Duplicate copy place)
-report_from words.Edit (copy ∷ []) d = do
+  sum ← sum_or_none sum d
+  Ok (reports.Duplicate copy place sum)
+report_from words.Edit (copy ∷ sum ∷ []) d = do
   copy ← number_in copy d
-  Ok (reports.Edit copy)
-report_from words.Reconcile (a ∷ b ∷ []) d = do
+  sum ← sum_or_none sum d
+  Ok (reports.Edit copy sum)
+report_from words.Reconcile (a ∷ b ∷ sum ∷ []) d = do
   a ← number_in a d
   b ← number_in b d
-  Ok (reports.Reconcile a b)
-report_from words.Merge (a ∷ b ∷ []) d = do
+  sum ← sum_or_none sum d
+  Ok (reports.Reconcile a b sum)
+report_from words.Merge (a ∷ b ∷ sum ∷ []) d = do
   a ← number_in a d
   b ← number_in b d
-  Ok (reports.Merge a b)
+  sum ← sum_or_none sum d
+  Ok (reports.Merge a b sum)
 report_from words.Relocate (copy ∷ device ∷ path ∷ []) d = do
   copy ← number_in copy d
   place ← place_in device path d
   Ok (reports.Relocate copy place)
 report_from words.Remove (copy ∷ heir ∷ []) d = do
   copy ← number_in copy d
-  heir ← heir_in heir d
+  heir ← number_or_none heir d
   Ok (reports.Remove copy heir)
+report_from words.Note (copy ∷ sum ∷ []) d = do
+  copy ← number_in copy d
+  sum ← sum_in sum d
+  Ok (reports.Note copy sum)
 report_from words.Confirm (entry ∷ []) d = do
   entry ← number_in entry d
   Ok (reports.Confirm entry)
@@ -129,9 +153,17 @@ call_from words.Pair (a ∷ b ∷ []) d = do
   a ← number_in a d
   b ← number_in b d
   Ok (calls.Query (queries.Pair a b))
-call_from words.Holdings (device ∷ []) d = do
+call_from words.Holdings (device ∷ from ∷ []) d = do
   device ← device_in device d
-  Ok (calls.Query (queries.Holdings device))
+  from ← number_or_none from d
+  Ok (calls.Query (queries.Holdings device from))
+call_from words.At (device ∷ path ∷ []) d = do
+  place ← place_in device path d
+  Ok (calls.Query (queries.At place))
+call_from words.Status (device ∷ from ∷ []) d = do
+  device ← device_or_none device d
+  from ← number_in from d
+  Ok (calls.Query (queries.Status device from))
 call_from words.Journal (entry ∷ []) d = do
   entry ← number_in entry d
   Ok (calls.Query (queries.JournalFrom entry))

@@ -1,6 +1,6 @@
 -- The object that each reply stands for, and its text.
 use Rattle.std.specs.Prelude.{ℕ, List, map, codes, Option, Some, None, string_bytes}
-use Rattle.serde_json.specs.Data.{Data, boolean, string, array, object, member, no_members}
+use Rattle.serde_json.specs.Data.{Data, boolean, string, array, object, member, no_members, null, put}
 use Rattle.serde_json.specs.View.{items_of}
 use Rattle.serde_json.specs.Written.{compact_text}
 use Rattle.pana_event.specs.Relation.{rel_name}
@@ -12,8 +12,12 @@ use Rattle.pana_hall.specs.declared.board.BoardView.{BoardView}
 use Rattle.pana_hall.specs.declared.cause.Cause.{Cause}
 use Rattle.pana_family.specs.declared.stamps.CopyStamp.{CopyStamp}
 use Rattle.pana_hall.specs.declared.reply.Reply.{Reply}
-use Rattle.pana_hall.specs.declared.reply.Reply.TheVariants.{Done, Families, Board, Stamps, Pair, Holdings, Journal, Refused}
+use Rattle.pana_hall.specs.declared.reply.Reply.TheVariants.{Done, Families, Board, Stamps, Pair, Holdings, At, Status, Journal, Refused}
+use Rattle.pana_hall.specs.declared.standing.CopyStanding.{CopyStanding}
+use Rattle.pana_hall.specs.declared.standing.PlacedCopy.{PlacedCopy}
+use Rattle.pana_hall.specs.declared.standing.StatusRow.{StatusRow}
 use Rattle.pana_hall.specs.Cause.{code_of, cause_name, cause_copy}
+use Rattle.pana_hall.specs.Standing.{state_name}
 use Rattle.pana_wire.specs.Report.{number_data, entry_data}
 
 -- a list of numbers
@@ -67,17 +71,60 @@ stamp_data stamp = object (
 unfoldable pub stamps_data : List CopyStamp → Data
 stamps_data stamps = array (items_of (map stamp_data stamps))
 
+-- the object, and where a sum is known one member more for it
+abbrev pub with_sum : Option (List ℕ) → Data → Data
+with_sum (Some sum) (object members) = object (put (codes "sum") (string sum) members)
+with_sum _ d = d
+
 -- a living copy on a device
 unfoldable pub holding_data : Holding → Data
-holding_data holding = object (
+holding_data holding = with_sum holding.sum (object (
     member (codes "copy") (number_data holding.copy) (
     member (codes "family") (number_data holding.family) (
     member (codes "path") (string holding.path) (
     member (codes "touch") (number_data holding.touch)
-    no_members))))
+    no_members)))))
 
 unfoldable pub holdings_data : List Holding → Data
 holdings_data holdings = array (items_of (map holding_data holdings))
+
+-- a living copy: how it relates to the others of its family
+unfoldable pub standing_data : CopyStanding → Data
+standing_data standing = object (
+    member (codes "conflict") (number_data standing.conflict) (
+    member (codes "copy") (number_data standing.copy) (
+    member (codes "equal") (number_data standing.equal) (
+    member (codes "family") (number_data standing.family) (
+    member (codes "newer") (number_data standing.newer) (
+    member (codes "older") (number_data standing.older) (
+    member (codes "state") (string (state_name standing.state))
+    no_members)))))))
+
+-- the living copy at a place; where there is none, `null`
+abbrev pub at_data : Option CopyStanding → Data
+at_data None = null
+at_data (Some standing) = with_sum standing.sum (standing_data standing)
+
+-- a copy and its place
+unfoldable pub placed_data : PlacedCopy → Data
+placed_data placed = object (
+    member (codes "copy") (number_data placed.copy) (
+    member (codes "device") (string placed.place.device) (
+    member (codes "path") (string placed.place.path)
+    no_members)))
+
+-- a copy that is obsolete or in conflict, and the other
+unfoldable pub status_row_data : StatusRow → Data
+status_row_data row = object (
+    member (codes "copy") (number_data row.copy) (
+    member (codes "device") (string row.place.device) (
+    member (codes "path") (string row.place.path) (
+    member (codes "state") (string (state_name row.state)) (
+    member (codes "with") (placed_data row.with)
+    no_members)))))
+
+unfoldable pub status_data : List StatusRow → Data
+status_data rows = array (items_of (map status_row_data rows))
 
 -- entries of the journal
 unfoldable pub entries_data : List Entry → Data
@@ -107,6 +154,8 @@ reply_data (Board board) = object (member (codes "board") (board_data board) no_
 reply_data (Stamps stamps) = object (member (codes "stamps") (stamps_data stamps) no_members)
 reply_data (Pair rel) = object (member (codes "pair") (string (rel_name rel)) no_members)
 reply_data (Holdings holdings) = object (member (codes "holdings") (holdings_data holdings) no_members)
+reply_data (At standing) = object (member (codes "at") (at_data standing) no_members)
+reply_data (Status rows) = object (member (codes "status") (status_data rows) no_members)
 reply_data (Journal entries) = object (member (codes "entries") (entries_data entries) no_members)
 reply_data (Refused cause) = refused_data cause
 

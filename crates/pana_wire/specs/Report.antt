@@ -1,11 +1,11 @@
 -- The line of a report, and an entry: objects with the device that speaks, the word, and the word's fields.
-use Rattle.std.specs.Prelude.{ℕ, List, [], ◌∷◌, Option, Some, None}
+use Rattle.std.specs.Prelude.{ℕ, List, [], ◌∷◌, ◌++◌, Option, Some, None}
 use Rattle.serde_json.specs.Data.{Data, number, unsigned, string, object, Members, no_members, put}
 use Rattle.serde_json.specs.Written.{compact_text}
 use Rattle.pana_copies.specs.declared.place.Place.{Place}
 use Rattle.pana_journal.specs.declared.entry.Entry.{Entry}
 use Rattle.pana_journal.specs.declared.report.Report.{Report}
-use Rattle.pana_journal.specs.declared.report.Report.TheVariants.{Register, Duplicate, Edit, Reconcile, Merge, Relocate, Remove, Confirm, Withdraw}
+use Rattle.pana_journal.specs.declared.report.Report.TheVariants.{Register, Duplicate, Edit, Reconcile, Merge, Relocate, Remove, Note, Confirm, Withdraw}
 use Rattle.pana_wire.specs.declared.field.Field.{Field}
 use Rattle.pana_wire.specs.declared.field.Field.TheVariants as fields
 use Rattle.pana_wire.specs.declared.word.Word.{Word}
@@ -15,13 +15,14 @@ use Rattle.pana_wire.specs.Word.{word_name, fields_of}
 
 -- the word of a report
 abbrev pub report_word : Report → Word
-report_word (Register place) = words.Register
-report_word (Duplicate copy place) = words.Duplicate
-report_word (Edit copy) = words.Edit
-report_word (Reconcile a b) = words.Reconcile
-report_word (Merge a b) = words.Merge
+report_word (Register place sum) = words.Register
+report_word (Duplicate copy place sum) = words.Duplicate
+report_word (Edit copy sum) = words.Edit
+report_word (Reconcile a b sum) = words.Reconcile
+report_word (Merge a b sum) = words.Merge
 report_word (Relocate copy place) = words.Relocate
 report_word (Remove copy heir) = words.Remove
+report_word (Note copy sum) = words.Note
 report_word (Confirm entry) = words.Confirm
 report_word (Withdraw entry) = words.Withdraw
 
@@ -29,7 +30,7 @@ report_word (Withdraw entry) = words.Withdraw
 abbrev pub number_data : ℕ → Data
 number_data n = number (unsigned n)
 
--- what stands in the fields of a place, of an heir where there is one, and in those of a report's word
+-- what stands in the fields of a place, of an heir and of a sum where there is one, and in those of a report's word
 abbrev pub place_contents : Place → List Data
 place_contents place = string place.device ∷ string place.path ∷ []
 
@@ -37,14 +38,19 @@ abbrev pub heir_contents : Option ℕ → List Data
 heir_contents None = []
 heir_contents (Some heir) = number_data heir ∷ []
 
+abbrev pub sum_contents : Option (List ℕ) → List Data
+sum_contents None = []
+sum_contents (Some sum) = string sum ∷ []
+
 abbrev pub contents_of : Report → List Data
-contents_of (Register place) = place_contents place
-contents_of (Duplicate copy place) = number_data copy ∷ place_contents place
-contents_of (Edit copy) = number_data copy ∷ []
-contents_of (Reconcile a b) = number_data a ∷ number_data b ∷ []
-contents_of (Merge a b) = number_data a ∷ number_data b ∷ []
+contents_of (Register place sum) = place_contents place ++ sum_contents sum
+contents_of (Duplicate copy place sum) = number_data copy ∷ place_contents place ++ sum_contents sum
+contents_of (Edit copy sum) = number_data copy ∷ sum_contents sum
+contents_of (Reconcile a b sum) = number_data a ∷ number_data b ∷ sum_contents sum
+contents_of (Merge a b sum) = number_data a ∷ number_data b ∷ sum_contents sum
 contents_of (Relocate copy place) = number_data copy ∷ place_contents place
 contents_of (Remove copy heir) = number_data copy ∷ heir_contents heir
+contents_of (Note copy sum) = number_data copy ∷ string sum ∷ []
 contents_of (Confirm entry) = number_data entry ∷ []
 contents_of (Withdraw entry) = number_data entry ∷ []
 

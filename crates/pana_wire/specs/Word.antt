@@ -4,7 +4,7 @@ use Rattle.std.specs.Str.{bytes_eq}
 use Rattle.pana_wire.specs.declared.field.Field.{Field}
 use Rattle.pana_wire.specs.declared.field.Field.TheVariants as fields
 use Rattle.pana_wire.specs.declared.word.Word.{Word}
-use Rattle.pana_wire.specs.declared.word.Word.TheVariants.{Register, Duplicate, Edit, Reconcile, Merge, Relocate, Remove, Confirm, Withdraw, Families, Board, Stamps, Pair, Holdings, Journal}
+use Rattle.pana_wire.specs.declared.word.Word.TheVariants.{Register, Duplicate, Edit, Reconcile, Merge, Relocate, Remove, Note, Confirm, Withdraw, Families, Board, Stamps, Pair, Holdings, At, Status, Journal}
 
 -- the word as it is spelled
 abbrev pub word_name : Word → List ℕ
@@ -15,6 +15,7 @@ word_name Reconcile = codes "reconcile"
 word_name Merge = codes "merge"
 word_name Relocate = codes "relocate"
 word_name Remove = codes "remove"
+word_name Note = codes "note"
 word_name Confirm = codes "confirm"
 word_name Withdraw = codes "withdraw"
 word_name Families = codes "families"
@@ -22,29 +23,34 @@ word_name Board = codes "board"
 word_name Stamps = codes "stamps"
 word_name Pair = codes "pair"
 word_name Holdings = codes "holdings"
+word_name At = codes "at"
+word_name Status = codes "status"
 word_name Journal = codes "journal"
 
 -- the fields of a word beside `by` and `do`, in the order in which they are tried
 abbrev pub fields_of : Word → List Field
-fields_of Register = fields.Device ∷ fields.Path ∷ []
-fields_of Duplicate = fields.Copy ∷ fields.Device ∷ fields.Path ∷ []
-fields_of Edit = fields.Copy ∷ []
-fields_of Reconcile = fields.A ∷ fields.B ∷ []
-fields_of Merge = fields.A ∷ fields.B ∷ []
+fields_of Register = fields.Device ∷ fields.Path ∷ fields.Sum ∷ []
+fields_of Duplicate = fields.Copy ∷ fields.Device ∷ fields.Path ∷ fields.Sum ∷ []
+fields_of Edit = fields.Copy ∷ fields.Sum ∷ []
+fields_of Reconcile = fields.A ∷ fields.B ∷ fields.Sum ∷ []
+fields_of Merge = fields.A ∷ fields.B ∷ fields.Sum ∷ []
 fields_of Relocate = fields.Copy ∷ fields.Device ∷ fields.Path ∷ []
 fields_of Remove = fields.Copy ∷ fields.Heir ∷ []
+fields_of Note = fields.Copy ∷ fields.Sum ∷ []
 fields_of Confirm = fields.Entry ∷ []
 fields_of Withdraw = fields.Entry ∷ []
 fields_of Families = []
 fields_of Board = fields.Family ∷ []
 fields_of Stamps = fields.Family ∷ []
 fields_of Pair = fields.A ∷ fields.B ∷ []
-fields_of Holdings = fields.Device ∷ []
+fields_of Holdings = fields.Device ∷ fields.From ∷ []
+fields_of At = fields.Device ∷ fields.Path ∷ []
+fields_of Status = fields.Device ∷ fields.From ∷ []
 fields_of Journal = fields.From ∷ []
 
 -- all words
 abbrev pub words : List Word
-words = Register ∷ Duplicate ∷ Edit ∷ Reconcile ∷ Merge ∷ Relocate ∷ Remove ∷ Confirm ∷ Withdraw ∷ Families ∷ Board ∷ Stamps ∷ Pair ∷ Holdings ∷ Journal ∷ []
+words = Register ∷ Duplicate ∷ Edit ∷ Reconcile ∷ Merge ∷ Relocate ∷ Remove ∷ Note ∷ Confirm ∷ Withdraw ∷ Families ∷ Board ∷ Stamps ∷ Pair ∷ Holdings ∷ At ∷ Status ∷ Journal ∷ []
 
 -- the word that a text is
 unfoldable pub word_of : List ℕ → Option Word

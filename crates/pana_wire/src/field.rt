@@ -22,9 +22,11 @@ pub enum Field {
     B,
     /// The number of the copy that inherits, where one does.
     Heir,
+    /// The sum of what copies hold, where it is given.
+    Sum,
     /// The number of an entry.
     Entry,
-    /// The number of the first entry of a page.
+    /// The number of the first entry, or the first copy, of a page.
     From,
     /// The number that an entry has.
     Number,
@@ -47,6 +49,7 @@ impl Field {
             Field::A => "a",
             Field::B => "b",
             Field::Heir => "heir",
+            Field::Sum => "sum",
             Field::Entry => "entry",
             Field::From => "from",
             Field::Number => "number",

@@ -1,12 +1,14 @@
 ghost use Rattle.std.specs.Prelude.{◌≡◌, ◌≢◌, IfErr, OnOk};
+ghost use Rattle.serde_json.specs.Find.{get};
 ghost use Rattle.serde_json.specs.View.{view};
-ghost use Rattle.pana_wire.specs.Line.{Gives, IsText, Shows, text_within, data_in, object_in, device_in, path_in, number_in, heir_in, place_in, word_in, report_in, call_in, message_in, line_says};
+ghost use Rattle.pana_wire.specs.Field.{field_name};
+ghost use Rattle.pana_wire.specs.Line.{Gives, IsText, Shows, text_within, data_in, object_in, device_in, path_in, number_in, sum_in, is_given, number_or_none, device_or_none, sum_or_none, place_in, word_in, report_in, call_in, message_in, line_says};
 
 use crate::fault::WireFault;
 use crate::field::Field;
 use crate::message::Message;
 use crate::word::{Word, word_of};
-use pana_copies::{CopyPath, DeviceName, NameFault, Place};
+use pana_copies::{CopyPath, DeviceName, NameFault, Place, Sum};
 use pana_hall::{Call, Query};
 use pana_journal::Report;
 use serde_json::Value;
@@ -109,6 +111,14 @@ fn call_in(alloc: Global, word: Word, value: &Value) -> Result<Call, WireFault>
         },
         Word::Holdings => Query::Holdings {
             device: device_in(fields[0], value)?,
+            from: number_or_none(fields[1], value)?,
+        },
+        Word::At => Query::At {
+            place: place_in(alloc, fields[0], fields[1], value)?,
+        },
+        Word::Status => Query::Status {
+            device: device_or_none(fields[0], value)?,
+            from: number_in(fields[1], value)?,
         },
         Word::Journal => Query::JournalFrom {
             entry: number_in(fields[0], value)?,
@@ -126,21 +136,26 @@ pub fn report_in(alloc: Global, word: Word, value: &Value) -> Result<Report, Wir
     match word {
         Word::Register => Ok(Report::Register {
             place: place_in(alloc, fields[0], fields[1], value)?,
+            sum: sum_or_none(alloc, fields[2], value)?,
         }),
         Word::Duplicate => Ok(Report::Duplicate {
             copy: number_in(fields[0], value)?,
             place: place_in(alloc, fields[1], fields[2], value)?,
+            sum: sum_or_none(alloc, fields[3], value)?,
         }),
         Word::Edit => Ok(Report::Edit {
             copy: number_in(fields[0], value)?,
+            sum: sum_or_none(alloc, fields[1], value)?,
         }),
         Word::Reconcile => Ok(Report::Reconcile {
             a: number_in(fields[0], value)?,
             b: number_in(fields[1], value)?,
+            sum: sum_or_none(alloc, fields[2], value)?,
         }),
         Word::Merge => Ok(Report::Merge {
             a: number_in(fields[0], value)?,
             b: number_in(fields[1], value)?,
+            sum: sum_or_none(alloc, fields[2], value)?,
         }),
         Word::Relocate => Ok(Report::Relocate {
             copy: number_in(fields[0], value)?,
@@ -148,7 +163,11 @@ pub fn report_in(alloc: Global, word: Word, value: &Value) -> Result<Report, Wir
         }),
         Word::Remove => Ok(Report::Remove {
             copy: number_in(fields[0], value)?,
-            heir: heir_in(fields[1], value)?,
+            heir: number_or_none(fields[1], value)?,
+        }),
+        Word::Note => Ok(Report::Note {
+            copy: number_in(fields[0], value)?,
+            sum: sum_in(alloc, fields[1], value)?,
         }),
         Word::Confirm => Ok(Report::Confirm {
             entry: number_in(fields[0], value)?,
@@ -203,18 +222,58 @@ pub fn number_in(field: Field, value: &Value) -> Result<u64, WireFault>
     }
 }
 
-#[tactic(auto, unfolding(crate::specs::Line::heir_in))]
-fn heir_in(field: Field, value: &Value) -> Result<Option<u64>, WireFault>
-    ensures { Gives result (heir_in field (view value.now)) }
+#[tactic(auto, unfolding(crate::specs::Line::sum_in))]
+fn sum_in(alloc: Global, field: Field, value: &Value) -> Result<Sum, WireFault>
+    ensures { Gives result (sum_in field (view value.now)) }
 {
-    let Some(heir) = value.get(field.name()) else {
-        return Ok(None);
+    let Some(text) = value.get(field.name()).and_then(Value::as_str) else {
+        return Err(WireFault::BadField(field));
     };
-    if heir.is_null() {
-        return Ok(None);
+    match Sum::new(alloc, text) {
+        Ok(sum) => Ok(sum),
+        Err(NameFault::BadSum) => Err(WireFault::BadField(field)),
+        Err(_) => Err(WireFault::OutOfMemory),
     }
-    match heir.as_u64() {
-        Some(number) => Ok(Some(number)),
-        None => Err(WireFault::BadField(field)),
+}
+
+fn is_given(field: Field, value: &Value) -> bool
+    ensures { result ≡ is_given (get (field_name field) (view value.now)) }
+{
+    match value.get(field.name()) {
+        Some(content) => !content.is_null(),
+        None => false,
+    }
+}
+
+#[tactic(auto, unfolding(crate::specs::Line::number_or_none))]
+fn number_or_none(field: Field, value: &Value) -> Result<Option<u64>, WireFault>
+    ensures { Gives result (number_or_none field (view value.now)) }
+{
+    if is_given(field, value) {
+        Ok(Some(number_in(field, value)?))
+    } else {
+        Ok(None)
+    }
+}
+
+#[tactic(auto, unfolding(crate::specs::Line::device_or_none))]
+fn device_or_none(field: Field, value: &Value) -> Result<Option<DeviceName>, WireFault>
+    ensures { Gives result (device_or_none field (view value.now)) }
+{
+    if is_given(field, value) {
+        Ok(Some(device_in(field, value)?))
+    } else {
+        Ok(None)
+    }
+}
+
+#[tactic(auto, unfolding(crate::specs::Line::sum_or_none))]
+fn sum_or_none(alloc: Global, field: Field, value: &Value) -> Result<Option<Sum>, WireFault>
+    ensures { Gives result (sum_or_none field (view value.now)) }
+{
+    if is_given(field, value) {
+        Ok(Some(sum_in(alloc, field, value)?))
+    } else {
+        Ok(None)
     }
 }

@@ -1,18 +1,20 @@
 //! Reports and entries as objects.
-ghost use Rattle.std.specs.Prelude.{◌≡◌, true, IfOk, OnOk, string_bytes};
+ghost use Rattle.std.specs.Prelude.{◌≡◌, [], ◌∷◌, true, IfOk, OnOk, string_bytes};
 ghost use Rattle.std.specs.List.{All};
 ghost use Rattle.serde_json.specs.Data.{string, put};
 ghost use Rattle.serde_json.specs.View.{view, members_view};
 ghost use Rattle.pana_copies.specs.Names.{is_device};
 ghost use Rattle.pana_wire.specs.Field.{field_name};
 ghost use Rattle.pana_wire.specs.Line.{line_says};
-ghost use Rattle.pana_wire.specs.inner.Names.{HasPlaceNames, HasNames, HasEntryNames};
-ghost use Rattle.pana_wire.specs.Report.{number_data, report_word, put_report, report_data, report_text, entry_data};
+ghost use Rattle.pana_copies.specs.Sums.{is_sum};
+ghost use Rattle.pana_wire.specs.Word.{fields_of};
+ghost use Rattle.pana_wire.specs.inner.Names.{HasPlaceNames, IsSumOrNone, HasNames, HasEntryNames};
+ghost use Rattle.pana_wire.specs.Report.{number_data, heir_contents, sum_contents, report_word, contents_of, put_fields, put_report, report_data, report_text, entry_data};
 ghost use Rattle.pana_wire.specs.Reply.{entries_data};
 
 use crate::field::Field;
 use crate::word::Word;
-use pana_copies::{DeviceName, Place};
+use pana_copies::{DeviceName, Place, Sum};
 use pana_hall::Call;
 use pana_journal::{Entry, Report};
 use serde_json::{Map, Value};
@@ -75,6 +77,7 @@ fn report_word(report: &Report) -> Word
         Report::Merge { .. } => Word::Merge,
         Report::Relocate { .. } => Word::Relocate,
         Report::Remove { .. } => Word::Remove,
+        Report::Note { .. } => Word::Note,
         Report::Confirm { .. } => Word::Confirm,
         Report::Withdraw { .. } => Word::Withdraw,
     }
@@ -91,27 +94,50 @@ fn put_report(
     ensures by { OnOk result (is_device by.now ≡ true) }
     ensures names { OnOk result (HasNames report.now) }
 {
-    let word = report_word(report);
-    let fields = word.fields();
     put_text(alloc, members, Field::By, by.as_str())?;
-    put_text(alloc, members, Field::Do, word.name())?;
+    put_text(alloc, members, Field::Do, report_word(report).name())?;
+    put_contents(alloc, members, report)
+}
+
+fn put_contents(
+    alloc: Global,
+    members: &mut Map<String, Value>,
+    report: &Report,
+) -> Result<(), AllocError>
+    ensures value { OnOk result (members_view members.new.entries ≡ put_fields (fields_of (report_word report.now)) (contents_of report.now) (members_view members.old.entries)) }
+    ensures names { OnOk result (HasNames report.now) }
+{
+    let fields = report_word(report).fields();
     match report {
-        Report::Register { place } => put_place(alloc, members, fields[0], fields[1], place),
-        Report::Duplicate { copy, place } | Report::Relocate { copy, place } => {
+        Report::Register { place, sum } => {
+            put_place(alloc, members, fields[0], fields[1], place)?;
+            put_sum_if_given(alloc, members, fields[2], sum)
+        }
+        Report::Duplicate { copy, place, sum } => {
+            put_number(alloc, members, fields[0], *copy)?;
+            put_place(alloc, members, fields[1], fields[2], place)?;
+            put_sum_if_given(alloc, members, fields[3], sum)
+        }
+        Report::Edit { copy, sum } => {
+            put_number(alloc, members, fields[0], *copy)?;
+            put_sum_if_given(alloc, members, fields[1], sum)
+        }
+        Report::Reconcile { a, b, sum } | Report::Merge { a, b, sum } => {
+            put_number(alloc, members, fields[0], *a)?;
+            put_number(alloc, members, fields[1], *b)?;
+            put_sum_if_given(alloc, members, fields[2], sum)
+        }
+        Report::Relocate { copy, place } => {
             put_number(alloc, members, fields[0], *copy)?;
             put_place(alloc, members, fields[1], fields[2], place)
         }
-        Report::Edit { copy } => put_number(alloc, members, fields[0], *copy),
-        Report::Reconcile { a, b } | Report::Merge { a, b } => {
-            put_number(alloc, members, fields[0], *a)?;
-            put_number(alloc, members, fields[1], *b)
-        }
         Report::Remove { copy, heir } => {
             put_number(alloc, members, fields[0], *copy)?;
-            match heir {
-                Some(heir) => put_number(alloc, members, fields[1], *heir),
-                None => Ok(()),
-            }
+            put_number_if_given(alloc, members, fields[1], *heir)
+        }
+        Report::Note { copy, sum } => {
+            put_number(alloc, members, fields[0], *copy)?;
+            put_sum(alloc, members, fields[1], sum)
         }
         Report::Confirm { entry } | Report::Withdraw { entry } => {
             put_number(alloc, members, fields[0], *entry)
@@ -131,6 +157,48 @@ fn put_place(
 {
     put_text(alloc, members, device, place.device.as_str())?;
     put_text(alloc, members, path, place.path.as_str())
+}
+
+fn put_number_if_given(
+    alloc: Global,
+    members: &mut Map<String, Value>,
+    field: Field,
+    number: Option<u64>,
+) -> Result<(), AllocError>
+    ensures { OnOk result (members_view members.new.entries ≡ put_fields (field ∷ []) (heir_contents number) (members_view members.old.entries)) }
+{
+    match number {
+        Some(number) => put_number(alloc, members, field, number),
+        None => Ok(()),
+    }
+}
+
+fn put_sum_if_given(
+    alloc: Global,
+    members: &mut Map<String, Value>,
+    field: Field,
+    sum: &Option<Sum>,
+) -> Result<(), AllocError>
+    ensures value { OnOk result (members_view members.new.entries ≡ put_fields (field ∷ []) (sum_contents sum.now) (members_view members.old.entries)) }
+    ensures sum { OnOk result (IsSumOrNone sum.now) }
+{
+    match sum {
+        Some(sum) => put_sum(alloc, members, field, sum),
+        None => Ok(()),
+    }
+}
+
+pub fn put_sum(
+    alloc: Global,
+    members: &mut Map<String, Value>,
+    field: Field,
+    sum: &Sum,
+) -> Result<(), AllocError>
+    ensures value { OnOk result (members_view members.new.entries ≡ put (field_name field) (string sum.now) (members_view members.old.entries)) }
+    ensures sum { OnOk result (is_sum sum.now ≡ true) }
+{
+    let text = sum.text(alloc)?;
+    put_text(alloc, members, field, text.as_str())
 }
 
 fn put_number(

@@ -13,6 +13,7 @@ pub enum Word {
     Merge,
     Relocate,
     Remove,
+    Note,
     Confirm,
     Withdraw,
     Families,
@@ -20,11 +21,13 @@ pub enum Word {
     Stamps,
     Pair,
     Holdings,
+    At,
+    Status,
     Journal,
 }
 
 /// All words.
-const WORDS: [Word; 15] = [
+const WORDS: [Word; 18] = [
     Word::Register,
     Word::Duplicate,
     Word::Edit,
@@ -32,6 +35,7 @@ const WORDS: [Word; 15] = [
     Word::Merge,
     Word::Relocate,
     Word::Remove,
+    Word::Note,
     Word::Confirm,
     Word::Withdraw,
     Word::Families,
@@ -39,6 +43,8 @@ const WORDS: [Word; 15] = [
     Word::Stamps,
     Word::Pair,
     Word::Holdings,
+    Word::At,
+    Word::Status,
     Word::Journal,
 ];
 
@@ -55,6 +61,7 @@ impl Word {
             Word::Merge => "merge",
             Word::Relocate => "relocate",
             Word::Remove => "remove",
+            Word::Note => "note",
             Word::Confirm => "confirm",
             Word::Withdraw => "withdraw",
             Word::Families => "families",
@@ -62,6 +69,8 @@ impl Word {
             Word::Stamps => "stamps",
             Word::Pair => "pair",
             Word::Holdings => "holdings",
+            Word::At => "at",
+            Word::Status => "status",
             Word::Journal => "journal",
         }
     }
@@ -71,20 +80,23 @@ impl Word {
         ensures { result.now ≡ fields_of self }
     {
         match self {
-            Word::Register => &[Field::Device, Field::Path],
-            Word::Duplicate => &[Field::Copy, Field::Device, Field::Path],
-            Word::Edit => &[Field::Copy],
-            Word::Reconcile => &[Field::A, Field::B],
-            Word::Merge => &[Field::A, Field::B],
+            Word::Register => &[Field::Device, Field::Path, Field::Sum],
+            Word::Duplicate => &[Field::Copy, Field::Device, Field::Path, Field::Sum],
+            Word::Edit => &[Field::Copy, Field::Sum],
+            Word::Reconcile => &[Field::A, Field::B, Field::Sum],
+            Word::Merge => &[Field::A, Field::B, Field::Sum],
             Word::Relocate => &[Field::Copy, Field::Device, Field::Path],
             Word::Remove => &[Field::Copy, Field::Heir],
+            Word::Note => &[Field::Copy, Field::Sum],
             Word::Confirm => &[Field::Entry],
             Word::Withdraw => &[Field::Entry],
             Word::Families => &[],
             Word::Board => &[Field::Family],
             Word::Stamps => &[Field::Family],
             Word::Pair => &[Field::A, Field::B],
-            Word::Holdings => &[Field::Device],
+            Word::Holdings => &[Field::Device, Field::From],
+            Word::At => &[Field::Device, Field::Path],
+            Word::Status => &[Field::Device, Field::From],
             Word::Journal => &[Field::From],
         }
     }

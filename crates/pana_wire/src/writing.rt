@@ -4,11 +4,16 @@ ghost use Rattle.pana_hall.specs.declared.reply.Reply.TheVariants.{Journal};
 ghost use Rattle.pana_wire.specs.inner.Names.{HasEntryNames, HasReplyNames};
 ghost use Rattle.pana_wire.specs.Dump.{IsReadBack, IsEntryLine, dump_says, entry_text};
 ghost use Rattle.pana_wire.specs.Answer.{answer_text};
-ghost use Rattle.pana_wire.specs.Reply.{row_data, rows_data, numbers_data, board_data, stamp_data, stamps_data, family_data, families_data, holding_data, holdings_data, refused_data, reply_data, reply_text};
+ghost use Rattle.pana_wire.specs.Reply.{row_data, rows_data, numbers_data, board_data, stamp_data, stamps_data, family_data, families_data, with_sum, holding_data, holdings_data, standing_data, at_data, placed_data, status_row_data, status_data, refused_data, reply_data, reply_text};
 
 use crate::answer::Answer;
-use crate::report_writing::{entries_value, entry_value};
-use pana_hall::{BoardRow, BoardView, Cause, CopyStamp, FamilyRow, Holding, Reply};
+use crate::field::Field;
+use crate::report_writing::{entries_value, entry_value, put_sum};
+use pana_copies::Sum;
+use pana_hall::{
+    BoardRow, BoardView, Cause, CopyStamp, CopyStanding, FamilyRow, Holding, PlacedCopy, Reply,
+    StatusRow,
+};
 use pana_journal::Entry;
 use serde_json::{Value, json};
 use std::alloc::{AllocError, Global};
@@ -94,6 +99,14 @@ fn reply_value(alloc: Global, reply: &Reply) -> Result<Value, AllocError>
         Reply::Holdings(rows) => {
             let holdings = holdings_value(alloc, rows.as_slice())?;
             json!(in alloc; { "holdings": holdings })
+        }
+        Reply::At(standing) => {
+            let standing = at_value(alloc, standing)?;
+            json!(in alloc; { "at": standing })
+        }
+        Reply::Status(rows) => {
+            let status = status_value(alloc, rows.as_slice())?;
+            json!(in alloc; { "status": status })
         }
         Reply::Journal(list) => {
             let entries = entries_value(alloc, list.as_slice())?;
@@ -210,11 +223,90 @@ fn holdings_value(alloc: Global, holdings: &[Holding]) -> Result<Value, AllocErr
 fn holding_value(alloc: Global, holding: &Holding) -> Result<Value, AllocError>
     ensures { IfOk result (λ value. view value ≡ holding_data holding.now) }
 {
-    json!(in alloc; {
+    let object = json!(in alloc; {
         "copy": holding.copy,
         "family": holding.family,
         "path": holding.path.as_str(),
         "touch": holding.touch
+    })?;
+    with_sum(alloc, object, &holding.sum)
+}
+
+fn with_sum(alloc: Global, object: Value, sum: &Option<Sum>) -> Result<Value, AllocError>
+    ensures { IfOk result (λ value. view value ≡ with_sum sum.now (view object)) }
+{
+    let Some(sum) = sum else {
+        return Ok(object);
+    };
+    match object {
+        Value::Object(mut members) => {
+            put_sum(alloc, &mut members, Field::Sum, sum)?;
+            Ok(Value::Object(members))
+        }
+        other => Ok(other),
+    }
+}
+
+fn at_value(alloc: Global, standing: &Option<CopyStanding>) -> Result<Value, AllocError>
+    ensures { IfOk result (λ value. view value ≡ at_data standing.now) }
+{
+    match standing {
+        Some(standing) => {
+            let value = standing_value(alloc, standing)?;
+            with_sum(alloc, value, &standing.sum)
+        }
+        None => Ok(Value::Null),
+    }
+}
+
+#[tactic(auto, unfolding(crate::specs::Reply::standing_data))]
+fn standing_value(alloc: Global, standing: &CopyStanding) -> Result<Value, AllocError>
+    ensures { IfOk result (λ value. view value ≡ standing_data standing.now) }
+{
+    json!(in alloc; {
+        "conflict": standing.conflict,
+        "copy": standing.copy,
+        "equal": standing.equal,
+        "family": standing.family,
+        "newer": standing.newer,
+        "older": standing.older,
+        "state": standing.state.name()
+    })
+}
+
+#[tactic(auto, unfolding(crate::specs::Reply::status_data))]
+fn status_value(alloc: Global, rows: &[StatusRow]) -> Result<Value, AllocError>
+    ensures { IfOk result (λ value. view value ≡ status_data rows.now) }
+{
+    let mut values = Vec::new(alloc);
+    for row in rows {
+        values.push(status_row_value(alloc, row)?)?;
+    }
+    Ok(Value::Array(values))
+}
+
+#[tactic(auto, unfolding(crate::specs::Reply::status_row_data))]
+fn status_row_value(alloc: Global, row: &StatusRow) -> Result<Value, AllocError>
+    ensures { IfOk result (λ value. view value ≡ status_row_data row.now) }
+{
+    let with = placed_value(alloc, &row.with)?;
+    json!(in alloc; {
+        "copy": row.copy,
+        "device": row.place.device.as_str(),
+        "path": row.place.path.as_str(),
+        "state": row.state.name(),
+        "with": with
+    })
+}
+
+#[tactic(auto, unfolding(crate::specs::Reply::placed_data))]
+fn placed_value(alloc: Global, placed: &PlacedCopy) -> Result<Value, AllocError>
+    ensures { IfOk result (λ value. view value ≡ placed_data placed.now) }
+{
+    json!(in alloc; {
+        "copy": placed.copy,
+        "device": placed.place.device.as_str(),
+        "path": placed.place.path.as_str()
     })
 }
 

@@ -1,4 +1,4 @@
-use crate::daemon::{self, Wishes};
+use crate::daemon;
 use crate::descriptors::take_standard_descriptors;
 use crate::fault::ProgramFault;
 use crate::keeping::{run_kept, show_kept};
@@ -8,7 +8,7 @@ use crate::version::VERSION;
 use clap::error::{Error, ErrorKind};
 use clap::{Arg, ArgAction, ArgMatches, Command, value_parser};
 use pana_commands::{Printout, compare_on, load_on, run_on, scan_on, show_on};
-use pana_daemon::Patience;
+use pana_daemon::{Patience, Wishes};
 use pana_log::ends_journal;
 use pana_scan::SystemDisk;
 use pana_store::before_end;
@@ -33,8 +33,9 @@ Each line of input to `panad run` is what a device reports, or asks:
     {\"by\":\"usb\",\"do\":\"edit\",\"copy\":2}
     {\"by\":\"desk\",\"do\":\"board\",\"family\":1}
 
-Reports: register, duplicate, edit, reconcile, merge, relocate, remove, confirm,
-withdraw. Questions: families, board, stamps, pair, holdings, journal.
+Reports: register, duplicate, edit, reconcile, merge, relocate, remove, note,
+confirm, withdraw. Questions: families, board, stamps, pair, holdings, at, status,
+journal.
 
 `panad show` takes such lines and prints tables in place of the answers, and
 `panad serve` answers them over TCP, to several devices at a time.
@@ -334,19 +335,19 @@ fn serve<T: Threads + Wait + Clock + Sync>(
 ) -> Result<ExitCode, ProgramFault> {
     // The port is required, so it is there.
     let port = words.get_one(PORT).unwrap_or(0);
-    let roots = words.get_strs(ROOT).unwrap_or(&[]);
-    let journal = words.get_str(JOURNAL);
     let patience = Patience {
         hurry: words.get_one(HURRY).unwrap_or(HURRY_SECONDS),
         idle: words.get_one(IDLE).unwrap_or(IDLE_SECONDS),
     };
     let wishes = Wishes {
         port,
+        journal: words.get_str(JOURNAL),
+        roots: words.get_strs(ROOT).unwrap_or(&[]),
         wanted: words.get_one(SESSIONS),
         patience,
         stays: words.get_flag(STAY),
     };
-    daemon::serve(rt, threads, wishes, journal, roots)
+    daemon::serve(rt, threads, wishes)
 }
 
 /// The bytes of a file, or `None` where it can't be read.

@@ -8,21 +8,63 @@ use pana_commands::{Printout, tables_of};
 use pana_log::{FileDevice, Log};
 use pana_store::{OpenFault, Opened, Store, serve_kept};
 use pana_wire::{ServeFault, Tap};
+use std::alloc::AllocError;
+use std::fmt;
 use std::fs::File;
 use std::process::ExitCode;
 
-fn report_file(rt: &HostRuntime, name: &str, fault: FileFault) -> Result<ExitCode, ProgramFault> {
-    let text = match fault {
-        FileFault::CannotOpen => format!(in rt.alloc(); "cannot open journal {name}")?,
-        FileFault::InUse => format!(in rt.alloc(); "journal {name} is in use")?,
-        FileFault::OutOfMemory => return Err(ProgramFault::OutOfMemory),
-    };
-    print_out(rt, &Printout::reported(rt.alloc(), &text)?)
+/// Why a journal's file can't be used.
+#[derive(Drop)]
+pub enum NoStore {
+    /// For this reason, as a text.
+    Because(String),
+    /// The program can't go on.
+    Fault(ProgramFault),
 }
 
-fn report_fault(rt: &HostRuntime, name: &str, fault: OpenFault) -> Result<ExitCode, ProgramFault> {
-    let text = format!(in rt.alloc(); "journal {name}: {fault}")?;
-    print_out(rt, &Printout::reported(rt.alloc(), &text)?)
+impl From<ProgramFault> for NoStore {
+    fn from(fault: ProgramFault) -> NoStore {
+        NoStore::Fault(fault)
+    }
+}
+
+impl From<AllocError> for NoStore {
+    fn from(_error: AllocError) -> NoStore {
+        NoStore::Fault(ProgramFault::OutOfMemory)
+    }
+}
+
+impl fmt::Display for NoStore {
+    fn fmt<W: fmt::Write>(&self, f: &mut fmt::Formatter<W>) -> fmt::Result {
+        match self {
+            NoStore::Because(text) => f.write_str(text.as_str()),
+            NoStore::Fault(fault) => write!(f, "{fault}"),
+        }
+    }
+}
+
+/// Why there is no store, where the file can't be had.
+fn no_file(rt: &HostRuntime, name: &str, fault: FileFault) -> Result<NoStore, AllocError> {
+    Ok(match fault {
+        FileFault::CannotOpen => {
+            NoStore::Because(format!(in rt.alloc(); "cannot open journal {name}")?)
+        }
+        FileFault::InUse => NoStore::Because(format!(in rt.alloc(); "journal {name} is in use")?),
+        FileFault::OutOfMemory => NoStore::Fault(ProgramFault::OutOfMemory),
+    })
+}
+
+/// Why there is no store, where the file is none of a journal that can be used.
+fn no_journal(rt: &HostRuntime, name: &str, fault: OpenFault) -> Result<NoStore, AllocError> {
+    Ok(NoStore::Because(format!(in rt.alloc(); "journal {name}: {fault}")?))
+}
+
+/// Prints why there is no store, and returns the status.
+fn report(rt: &HostRuntime, refusal: NoStore) -> Result<ExitCode, ProgramFault> {
+    match refusal {
+        NoStore::Because(text) => print_out(rt, &Printout::reported(rt.alloc(), &text)?),
+        NoStore::Fault(fault) => Err(fault),
+    }
 }
 
 /// Says how many bytes a crash has left behind the last entry. That standard error can't be written is no fault.
@@ -55,31 +97,28 @@ fn log_of(rt: &HostRuntime, name: &str, file: File) -> Result<Log<FileDevice>, P
     Ok(Log::new(FileDevice::new(rt.clone()?, name, file)))
 }
 
-/// The store of a journal's file; or the status, where a line says why there is none.
-pub fn open_store(
-    rt: &HostRuntime,
-    name: &str,
-) -> Result<Result<Store<FileDevice>, ExitCode>, ProgramFault> {
+/// The store of a journal's file; or why there is none.
+pub fn open_store(rt: &HostRuntime, name: &str) -> Result<Store<FileDevice>, NoStore> {
     let file = match open_locked(rt, name) {
         Ok(file) => file,
-        Err(fault) => return Ok(Err(report_file(rt, name, fault)?)),
+        Err(fault) => return Err(no_file(rt, name, fault)?),
     };
     let mut log = log_of(rt, name, file)?;
     match pana_store::open(rt.alloc(), &mut log) {
         Ok(Opened { hall, sealer, torn }) => {
             report_torn(rt, name, torn)?;
-            Ok(Ok(Store::new(rt.alloc(), hall, log, sealer)))
+            Ok(Store::new(rt.alloc(), hall, log, sealer))
         }
-        Err(fault) => Ok(Err(report_fault(rt, name, fault)?)),
+        Err(fault) => Err(no_journal(rt, name, fault)?),
     }
 }
 
 /// Serves standard input as `run` does, on the store of a journal's file, which keeps each entry before its `Done` is
 /// printed.
 pub fn run_kept(rt: &HostRuntime, name: &str) -> Result<ExitCode, ProgramFault> {
-    match open_store(rt, name)? {
+    match open_store(rt, name) {
         Ok(store) => serve_input(rt, store),
-        Err(status) => Ok(status),
+        Err(refusal) => report(rt, refusal),
     }
 }
 
@@ -87,7 +126,7 @@ pub fn run_kept(rt: &HostRuntime, name: &str) -> Result<ExitCode, ProgramFault> 
 pub fn show_kept(rt: &HostRuntime, name: &str) -> Result<ExitCode, ProgramFault> {
     let file = match open_to_read(rt, name) {
         Ok(file) => file,
-        Err(fault) => return report_file(rt, name, fault),
+        Err(fault) => return report(rt, no_file(rt, name, fault)?),
     };
     let mut log = log_of(rt, name, file)?;
     match pana_store::read(rt.alloc(), &mut log) {
@@ -95,6 +134,6 @@ pub fn show_kept(rt: &HostRuntime, name: &str) -> Result<ExitCode, ProgramFault>
             let tables = tables_of(rt.alloc(), &mut hall)?;
             print_out(rt, &Printout::printed(rt.alloc(), tables))
         }
-        Err(fault) => report_fault(rt, name, fault),
+        Err(fault) => report(rt, no_journal(rt, name, fault)?),
     }
 }

@@ -64,8 +64,8 @@ pub record StopsReporting {S : Type 0} (step : S → List ℕ → Call → Answe
 
 -- the session asks for the device's holdings, and gets them or another answer
 abbrev pub Asks : {S : Type 0} → (S → List ℕ → Call → Answer → S → Type 0) → List ℕ → S → S → Option (List Holding) → Type 0
-Asks step device old new (Some holdings) = step old device (calls.Query (queries.Holdings device)) (Given (Holdings holdings)) new
-Asks step device old new None = (answer : Answer) × step old device (calls.Query (queries.Holdings device)) answer new
+Asks step device old new (Some holdings) = step old device (calls.Query (queries.Holdings device None)) (Given (Holdings holdings)) new
+Asks step device old new None = (answer : Answer) × step old device (calls.Query (queries.Holdings device None)) answer new
 
 -- the session makes the calls of a scan
 pub record ScansOnce {S : Type 0} (step : S → List ℕ → Call → Answer → S → Type 0) (device : List ℕ) (given : Result Contents ScanFault) (old new : S) (marks_old marks_new : List BaselineRow) (tally_old tally_new : ScanTally) : Type 0 where

@@ -1,10 +1,11 @@
 //! What no clause says of connections: that each is taken, and answered where memory is there.
 
 use pana_daemon::{
-    CountedListener, DaemonFault, Ended, Folder, IdleSupervisor, Patience, Post, SocketDoor, attend,
+    CountedListener, DaemonFault, Folder, IdleSupervisor, Patience, Post, SocketDoor, attend,
 };
 use pana_hall::Hall;
 use pana_scan::{Listing, ScanFault};
+use pana_tickets::Tickets;
 use std::alloc::{AllocError, Global};
 use std::io;
 use std::io::Write;
@@ -39,24 +40,28 @@ fn client<R: Net>(rt: &R, listener: &TcpListener, lines: &str) -> io::Result<R::
     Ok(stream)
 }
 
-/// Serves the listener's connections one after another, until all that are wanted were taken.
+/// Serves the listener's connections one after another, until all that are wanted were taken; returns how many calls were
+/// made, and how many entries they left.
 fn serve_all<'a, T: Threads + Wait + Clock + Sync>(
     rt: &'a T,
     alloc: Global,
     supervisor: &'a IdleSupervisor,
     listener: &'a Mutex<CountedListener>,
-) -> Result<Ended<Hall>, Fail> {
+    wanted: u32,
+) -> Result<(u64, u64), Fail> {
     let patience = Patience {
         hurry: 5,
         idle: 300,
     };
-    let door = SocketDoor::new(rt, alloc, supervisor, listener, patience);
-    let mut posts: Vec<Post<'static, _, NoFolder>> = Vec::with_capacity(alloc, 1)?;
+    let (tickets, mut whole) = Tickets::new(alloc, u64::from(wanted))?;
+    let share = tickets.divide(&mut whole);
+    let door = SocketDoor::new(rt, alloc, supervisor, listener, patience, &tickets, share);
+    let mut posts: Vec<Post<'_, _, NoFolder>> = Vec::with_capacity(alloc, 1)?;
     posts.push_reserved(Post::Door(door));
     let hall = Hall::new(alloc)?;
     let begin = || -> Result<(), DaemonFault> { Ok(()) };
     match attend(rt, alloc, supervisor, hall, posts, begin) {
-        Ok(ended) => Ok(ended),
+        Ok(ended) => Ok((ended.calls, ended.session.length())),
         Err(_) => Err(Fail::from(AllocError)),
     }
 }
@@ -69,8 +74,8 @@ fn connections_one_after_another(rt: HostRuntime) -> Result<(), Fail> {
     let page = client(&rt, &listener, REQUEST)?;
     let second = client(&rt, &listener, PAIR)?;
     let counted = Mutex::new(CountedListener::new(listener, Some(3)));
-    let ended = serve_all(&rt, alloc, &IdleSupervisor, &counted)?;
-    assert_eq!(rt; (ended.calls, ended.session.length()), (2, 1));
+    let (calls, entries) = serve_all(&rt, alloc, &IdleSupervisor, &counted, 3)?;
+    assert_eq!(rt; (calls, entries), (2, 1));
     let answer = io::read_to_string(alloc, first)?;
     assert_eq!(rt; answer.as_str(), "{\"done\":1}\n");
     let answer = io::read_to_string(alloc, page)?;

@@ -14,7 +14,8 @@ use Rattle.pana_hall.specs.laws.Tables.{layer}
 use Rattle.pana_hall.specs.laws.Layers.{family_of_next}
 use Rattle.pana_hall.specs.Pending.{pending}
 use Rattle.pana_hall.specs.StampRows.{rows_of}
-use Rattle.pana_hall.specs.inner.Undo.{KeptRows, Undone, kept_rows, undone}
+use Rattle.pana_hall.specs.inner.Undo.{Earlier, KeptRows, Undone, earlier, kept_rows, undone}
+use Rattle.pana_hall.specs.inner.Contents.{AreContents, first_said, said_in, second_said}
 use Rattle.pana_hall.specs.inner.Families.{position_at}
 use Rattle.pana_hall.specs.inner.Spots.{spot_in}
 
@@ -26,9 +27,20 @@ next_entry journal by report = record { number = length journal + 1; by = by; re
 abbrev pub place_before : Option Entry → List Copy → Option Place
 place_before entry copies = option_and_then (λ e. option_and_then (λ c. option_map (λ copy. copy.place) (copy_in copies c)) (displaced e.report)) entry
 
+-- the entries that say what the copies hold among these of whose content entry n's report says something
+abbrev pub said_before : Option ℕ → List Copy → Option ℕ
+said_before number copies = option_and_then (said_in copies) number
+
+-- what is before an entry, if there is one, among these copies
+abbrev pub before_of : Option Entry → List Copy → Earlier
+before_of entry copies = earlier
+    (place_before entry copies)
+    (said_before (option_and_then (λ e. first_said e.number e.report) entry) copies)
+    (said_before (option_and_then (λ e. second_said e.report) entry) copies)
+
 -- pending entry n, before which the family has these entries
 abbrev pub undone_of : List Entry → ℕ → List Entry → Undone
-undone_of journal n entries = undone n (rows_of entries) (place_before (entry_at journal n) (copies_of entries))
+undone_of journal n entries = undone n (rows_of entries) (before_of (entry_at journal n) (copies_of entries))
 
 -- something of each of these pending entries, the latest first, and of the layer that goes with it
 abbrev pub of_each : {X : Type 0} → (ℕ → List Entry → X) → (ℕ → List Entry) → List ℕ → List X
@@ -60,12 +72,13 @@ pub record ArePlaced (journal : List Entry) (positions : List ℕ) : Type 0 wher
 abbrev pub IsWithin : List Entry → ℕ → Type 0
 IsWithin journal n = (0 < n) × (n ≤ length journal)
 
--- what a hall keeps of its journal: the families that have begun, the family of each entry, and the living copies' places
-pub record IsKept (journal : List Entry) (list : List KeptRows) (positions : List ℕ) (copies : Table) : Type 0 where
+-- what a hall keeps of its journal: the families that have begun, the family of each entry, and the living copies' places and contents
+pub record IsKept (journal : List Entry) (list : List KeptRows) (positions : List ℕ) (copies : Table) (said : List (Option ℕ)) : Type 0 where
   pub accepted : IsAccepted 8 journal
   pub listed : list ≡ families_of journal
   pub placed : ArePlaced journal positions
   pub spots : AreSpots journal copies
+  pub contents : AreContents journal said
 
 -- the position of the family of a copy or an entry; without one, the next position
 abbrev pub position_of_subject : List KeptRows → List ℕ → Option ℕ → Option ℕ

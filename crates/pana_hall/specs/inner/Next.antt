@@ -1,7 +1,5 @@
 -- The next entry of a journal, before it is made.
-use Rattle.std.specs.Prelude.{◌≡◌, ℕ, ◌+◌, ◌<◌, length, List, Some, None, false, option_map, option_and_then, slice_get, vec_len, vec_capacity}
-use Rattle.pana_copies.specs.Spots.{Table, place_of}
-use Rattle.pana_journal.specs.declared.report.Report.{Report}
+use Rattle.std.specs.Prelude.{◌≡◌, ℕ, ◌+◌, ◌<◌, ◌≤◌, length, List, [], ◌∷◌, ◌++◌, Option, Some, None, IfSome, false, slice_get, vec_len, vec_capacity}
 use Rattle.pana_journal.specs.declared.report.Report.TheVariants.{Register}
 use Rattle.pana_family.specs.declared.report.FamilyReport.{FamilyReport}
 use Rattle.pana_hall.specs.declared.listed_family.ListedFamily.{ListedFamily}
@@ -9,32 +7,42 @@ use Rattle.pana_hall.specs.declared.next.Next.{Next}
 use Rattle.pana_hall.specs.declared.next.Step.{Step}
 use Rattle.pana_hall.specs.declared.next.Step.TheVariants.{Begin, Change, Settle}
 use Rattle.pana_hall.specs.declared.state.State.{State}
+use Rattle.pana_hall.specs.declared.contents.Sayings.{Sayings}
+use Rattle.pana_journal.specs.declared.entry.Entry.{Entry}
 use Rattle.pana_hall.specs.Family.{family_report}
 use Rattle.pana_hall.specs.Effective.{is_of_copies}
-use Rattle.pana_hall.specs.Refusal.{displaced, report_refusal}
-use Rattle.pana_hall.specs.Living.{living}
+use Rattle.pana_hall.specs.Refusal.{report_refusal}
+use Rattle.pana_hall.specs.Living.{Copy, living}
 use Rattle.pana_hall.specs.inner.Spots.{place_in}
 use Rattle.pana_hall.specs.inner.Listed.{IsGrown, IsPreparedFor, all_listed}
-use Rattle.pana_hall.specs.inner.Kept.{position_for}
+use Rattle.pana_hall.specs.inner.Kept.{before_of, position_for}
+use Rattle.pana_hall.specs.inner.Undo.{earlier_of}
+use Rattle.pana_hall.specs.inner.Contents.{all_written, content_at, said_in}
 
--- the step is what entry n's report makes of a family that has begun
-abbrev pub IsStepOf : ℕ → ListedFamily → Table → Report → Step → Type 0
-IsStepOf n it copies report (Begin place) = ⊥
-IsStepOf n it copies report (Change change place before) =
-    (of : FamilyReport) × (family_report report ≡ Some of) × IsPreparedFor n of change it × (place ≡ place_in report)
-    × (option_map (λ p. p.value) before ≡ option_and_then (place_of copies) (displaced report))
-IsStepOf n it copies report Settle = (is_of_copies report ≡ false) × IsGrown it
+-- the step is what an entry makes of a family that has begun, before which these copies live
+abbrev pub IsStepOf : Entry → ListedFamily → List Copy → Step → Type 0
+IsStepOf entry it copies (Begin place) = ⊥
+IsStepOf entry it copies (Change change place before) =
+    (of : FamilyReport) × (family_report entry.report ≡ Some of) × IsPreparedFor entry.number of change it × (place ≡ place_in entry.report)
+    × (earlier_of before ≡ before_of (Some entry) copies)
+IsStepOf entry it copies Settle = (is_of_copies entry.report ≡ false) × IsGrown it
 
 -- the family at the position takes the step
-pub record Takes (n : ℕ) (list : List ListedFamily) (position : ℕ) (copies : Table) (report : Report) (step : Step) : Type 0 where
+pub record Takes (entry : Entry) (list : List ListedFamily) (position : ℕ) (copies : List Copy) (step : Step) : Type 0 where
   pub it : ListedFamily
   pub found : slice_get list position ≡ Some it
-  pub is : IsStepOf n it copies report step
+  pub is : IsStepOf entry it copies step
 
--- what entry n's report makes of the families, of which a list of this length and capacity has these
-abbrev pub IsStep : ℕ → ℕ → ℕ → List ListedFamily → ℕ → Table → Report → Step → Type 0
-IsStep n len capacity list position copies report (Begin place) = (report ≡ Register place) × (len < capacity)
-IsStep n len capacity list position copies report step = Takes n list position copies report step
+-- what an entry makes of the families, of which a list of this length and capacity has these
+abbrev pub IsStep : Entry → ℕ → ℕ → List ListedFamily → ℕ → List Copy → Step → Type 0
+IsStep entry len capacity list position copies (Begin place) = (sum : Option (List ℕ)) × (entry.report ≡ Register place sum) × (len < capacity)
+IsStep entry len capacity list position copies step = Takes entry list position copies step
+
+-- the sayings are of copies that the journal has made, with its next entry, and with them the contents are those after the entry
+pub record AreSayings (journal : List Entry) (entry : Entry) (contents : List (Option ℕ)) (sayings : Sayings) : Type 0 where
+  pub first : IfSome sayings.first (λ s. (0 < s.copy) × (s.copy ≤ length journal + 1))
+  pub second : IfSome sayings.second (λ s. (0 < s.copy) × (s.copy ≤ length journal + 1))
+  pub at : (number : ℕ) → all_written sayings (content_at contents) number ≡ said_in (living (journal ++ entry ∷ [])) number
 
 -- nothing stands against the report, and there is room for all that it changes
 pub record IsNext (state : State) (next : Next) : Type 0 where
@@ -44,4 +52,6 @@ pub record IsNext (state : State) (next : Next) : Type 0 where
   pub entries : 0 < state.journal.room
   pub positions : vec_len state.families.positions < vec_capacity state.families.positions
   pub copies : 0 < state.copies.room
-  pub step : IsStep (length state.journal.entries + 1) (vec_len state.families.list) (vec_capacity state.families.list) state.families.list.items next.position state.copies next.entry.report next.step
+  pub contents : vec_len state.contents.entries < vec_capacity state.contents.entries
+  pub sayings : AreSayings state.journal.entries next.entry state.contents.entries.items next.sayings
+  pub step : IsStep next.entry (vec_len state.families.list) (vec_capacity state.families.list) state.families.list.items next.position (living state.journal.entries) next.step

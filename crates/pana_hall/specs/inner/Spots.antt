@@ -18,14 +18,14 @@ spot_in copies number = option_map spot_of (copy_in copies number)
 
 -- the number of the copy that entry n's report makes, moves or removes
 abbrev pub mover : ℕ → Report → Option ℕ
-mover n (Register place) = Some n
-mover n (Duplicate source place) = Some n
+mover n (Register place sum) = Some n
+mover n (Duplicate source place sum) = Some n
 mover n report = displaced report
 
 -- where the report puts it, where it puts it somewhere
 abbrev pub spot_to : ℕ → Report → (ℕ → Option Spot) → Option Spot
-spot_to n (Register place) spots = Some (record { family = n; place = place })
-spot_to n (Duplicate source place) spots = placed place (spots source)
+spot_to n (Register place sum) spots = Some (record { family = n; place = place })
+spot_to n (Duplicate source place sum) spots = placed place (spots source)
 spot_to n (Relocate copy place) spots = placed place (spots copy)
 spot_to n _ spots = None
 
@@ -48,15 +48,15 @@ IsFreeFor copy place table = (number : ℕ) → place_of table number ≡ Some p
 
 -- the place that a report gives a copy, if it does
 abbrev pub place_in : Report → Option Place
-place_in (Register place) = Some place
-place_in (Duplicate source place) = Some place
+place_in (Register place sum) = Some place
+place_in (Duplicate source place sum) = Some place
 place_in (Relocate copy place) = Some place
 place_in _ = None
 
 -- the copy that entry n's report makes, moves or removes can be kept as it says, in this family
 abbrev pub CanPlace : ℕ → Report → ℕ → Table → Type 0
-CanPlace n (Register place) family table = (kept table n ≡ None) × IsFree place table × (family ≡ n)
-CanPlace n (Duplicate source place) family table = (kept table n ≡ None) × IsFree place table × (Some (record { family = family; place = place }) ≡ placed place (kept table source))
+CanPlace n (Register place sum) family table = (kept table n ≡ None) × IsFree place table × (family ≡ n)
+CanPlace n (Duplicate source place sum) family table = (kept table n ≡ None) × IsFree place table × (Some (record { family = family; place = place }) ≡ placed place (kept table source))
 CanPlace n (Relocate copy place) family table = IsSome (kept table copy) × IsFreeFor copy place table
 CanPlace n (Remove copy heir) family table = IsSome (kept table copy)
 CanPlace n _ family table = Unit {0}
@@ -82,8 +82,8 @@ pub record CanReturn (copy : ℕ) (back : Option Place) (table : Table) : Type 0
 
 -- entry n's report can be undone
 abbrev pub CanUndo : ℕ → Report → ℕ → Option Place → Table → Type 0
-CanUndo n (Register place) family back table = (back ≡ None) × IsSome (kept table n)
-CanUndo n (Duplicate source place) family back table = (back ≡ None) × IsSome (kept table n)
+CanUndo n (Register place sum) family back table = (back ≡ None) × IsSome (kept table n)
+CanUndo n (Duplicate source place sum) family back table = (back ≡ None) × IsSome (kept table n)
 CanUndo n (Relocate copy place) family back table = CanMove family copy back table
 CanUndo n (Remove copy heir) family back table = CanReturn copy back table
 CanUndo n _ family back table = Unit {0}

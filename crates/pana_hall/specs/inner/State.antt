@@ -12,7 +12,7 @@ use Rattle.pana_hall.specs.inner.Kept.{IsKept, next_entry}
 
 -- all is kept of its journal
 abbrev pub IsHeld : State → Type 0
-IsHeld state = IsKept state.journal.entries (all_listed state.families.list.items) state.families.positions.items state.copies
+IsHeld state = IsKept state.journal.entries (all_listed state.families.list.items) state.families.positions.items state.copies state.contents.entries.items
 
 -- the report is the journal's next entry, and all is kept of it
 pub record Records (journal : List Entry) (by : List ℕ) (report : Report) (n : ℕ) (state : State) : Type 0 where

@@ -12,13 +12,28 @@ use Rattle.pana_family.specs.Kept.{IsKept}
 use Rattle.pana_family.specs.View.{IsPrepared}
 use Rattle.pana_family.specs.declared.change.Change.{Change}
 use Rattle.pana_family.specs.Rows.{seed_row}
+use Rattle.pana_hall.specs.declared.undo.Before.{Before}
 use Rattle.pana_hall.specs.declared.undo.Undo.{Undo}
 
--- a pending entry, the rows from before it, and the place where the copy was that it moved or removed, if it did
+-- what was before a report: the place of the copy that it moves or removes, if it does, and the entries that said what the copies
+-- held of whose content it says something
+pub record Earlier : Type 0 where
+  pub place : Option Place
+  pub first : Option ℕ
+  pub second : Option ℕ
+
+abbrev pub earlier : Option Place → Option ℕ → Option ℕ → Earlier
+earlier place first second = record { place = place; first = first; second = second }
+
+-- as it is kept
+abbrev pub earlier_of : Before → Earlier
+earlier_of before = earlier (option_map (λ place. place.value) before.place) before.first before.second
+
+-- a pending entry, the rows from before it, and what else was before it
 pub record Undone : Type 0 where
   pub entry : ℕ
   pub rows : List StampRow
-  pub place : Option Place
+  pub before : Earlier
 
 -- a family: the entry that began it, its rows, and its pending entries, the last one first
 pub record KeptRows : Type 0 where
@@ -26,8 +41,8 @@ pub record KeptRows : Type 0 where
   pub rows : List StampRow
   pub undo : List Undone
 
-abbrev pub undone : ℕ → List StampRow → Option Place → Undone
-undone entry rows place = record { entry = entry; rows = rows; place = place }
+abbrev pub undone : ℕ → List StampRow → Earlier → Undone
+undone entry rows before = record { entry = entry; rows = rows; before = before }
 
 abbrev pub kept_rows : ℕ → List StampRow → List Undone → KeptRows
 kept_rows number rows undo = record { number = number; rows = rows; undo = undo }
@@ -41,10 +56,15 @@ abbrev pub with_room : KeptRows → Room → RoomyFamily
 with_room kept room = record { kept = kept; room = room }
 
 -- how these are kept as numbers
+abbrev pub earlier_code : Coded Earlier
+earlier_code =
+    code_by (Option Place × (Option ℕ × Option ℕ)) (coded× (coded_option copy_place.the_row.coded) (coded× (coded_option coded_ℕ) (coded_option coded_ℕ)))
+    (λ e. (e.place, (e.first, e.second))) (λ p. earlier p.0 p.1.0 p.1.1) (λ _. refl)
+
 abbrev pub undone_code : Coded Undone
 undone_code =
-    code_by (ℕ × (List StampRow × Option Place)) (coded× coded_ℕ (coded× (coded_list stamp_row.the_row.coded) (coded_option copy_place.the_row.coded)))
-    (λ u. (u.entry, (u.rows, u.place))) (λ p. record { entry = p.0; rows = p.1.0; place = p.1.1 }) (λ _. refl)
+    code_by (ℕ × (List StampRow × Earlier)) (coded× coded_ℕ (coded× (coded_list stamp_row.the_row.coded) earlier_code))
+    (λ u. (u.entry, (u.rows, u.before))) (λ p. record { entry = p.0; rows = p.1.0; before = p.1.1 }) (λ _. refl)
 
 abbrev pub kept_rows_code : Coded KeptRows
 kept_rows_code =
@@ -60,7 +80,7 @@ abbrev pub history : List StampRow → List Undo → List Undone
 history rows [] = []
 history rows (u ∷ undo) =
     let old = after_change u.back rows in
-    undone u.entry old (option_map (λ place. place.value) u.place) ∷ history old undo
+    undone u.entry old (earlier_of u.before) ∷ history old undo
 
 -- each of them can be made in turn, in this room
 abbrev pub CanGoBack : Room → List StampRow → List Undo → Type 0
@@ -73,11 +93,11 @@ IsPreparedIn n report change it = IsPrepared n report change (record { rows = it
 
 -- the family that entry n begins: its copy alone, and nothing before it
 abbrev pub new_kept : ℕ → KeptRows
-new_kept n = kept_rows n (seed_row n ∷ []) (undone n [] None ∷ [])
+new_kept n = kept_rows n (seed_row n ∷ []) (undone n [] (earlier None None None) ∷ [])
 
--- the family after report n, of which the entry is pending; the copy that it moves or removes was at the place
-abbrev pub reported_kept : ℕ → FamilyReport → Option Place → KeptRows → KeptRows
-reported_kept n report place it = kept_rows it.number (reported_rows n report it.rows) (take 8 (undone n it.rows place ∷ it.undo))
+-- the family after report n, of which the entry is pending, and this was before it
+abbrev pub reported_kept : ℕ → FamilyReport → Earlier → KeptRows → KeptRows
+reported_kept n report before it = kept_rows it.number (reported_rows n report it.rows) (take 8 (undone n it.rows before ∷ it.undo))
 
 -- those later than an entry
 abbrev pub later_than : ℕ → List Undone → List Undone
@@ -101,7 +121,11 @@ abbrev pub ends_in : ℕ → List Undone → Bool
 ends_in n [] = false
 ends_in n (u ∷ undo) = u.entry == n
 
--- the place where the copy was that the last pending entry moved or removed, if it did
+-- what was before the last pending entry
+abbrev pub last_before : List Undone → Earlier
+last_before [] = earlier None None None
+last_before (u ∷ undo) = u.before
+
+-- the place where the copy was that it moved or removed, if it did
 abbrev pub last_place : List Undone → Option Place
-last_place [] = None
-last_place (u ∷ undo) = u.place
+last_place undo = (last_before undo).place

@@ -1,5 +1,5 @@
 use Rattle.std.proofs.Common.{◌≡◌, ◌≤◌, ◌+◌, ◌++◌, length, map, vec_capacity}
-use Rattle.pana_daemon.specs.inner.Passes.{AreOf}
+use Rattle.pana_daemon.specs.inner.Passes.{AreOpen}
 use Rattle.pana_daemon.proofs.attending.open_callers.Given as goal
 
 -- a caller for each post so far, by the pass at its place; the passes that are left are of the desk, one for each post
@@ -8,7 +8,7 @@ abbrev pub invariant-loop-post : goal.invariant-loop-post
 invariant-loop-post g l =
     (goal.iterator-loop-post g).can_next l.post-iterator
     × (goal.iterator-loop-post g).is_finite l.post-iterator
-    × AreOf l.fn.desk.id l.passes.rest.items
+    × AreOpen l.fn.desk.id l.passes.rest.items
     × (map (λ caller. caller.post) l.callers.items ++ l.post-iterator.rest.items ≡ l.fn.posts.items)
     × (map (λ caller. caller.session) l.callers.items ++ l.passes.rest.items ≡ l.fn.passes.items)
     × (length l.passes.rest.items ≡ length l.post-iterator.rest.items)

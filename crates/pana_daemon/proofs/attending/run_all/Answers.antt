@@ -10,7 +10,7 @@ use Rattle.pana_daemon.proofs.attending.run_all.Goals as goal
 
 pub for_each_mut-requires-send-T : goal.for_each_mut-requires-send-T
 for_each_mut-requires-send-T g c κs within =
-    param_send 1 _ (arg_send _ no _ (caller_send (param 0 g.row.S) g.S.Session c.type_bounds.send-S (record { mir = named 6; lft = _ }) (param 1 g.row.T) (param 2 g.row.G) (param 3 g.row.D) (param 4 g.row.F) c.type_bounds.sync-T c.type_bounds.sync-G c.type_bounds.send-D c.type_bounds.send-F))
+    param_send 1 _ (arg_send _ no _ (caller_send (param 0 g.row.S) g.S.Session c.type_bounds.send-S (record { mir = named 6; lft = _ }) (record { mir = named 7; lft = _ }) (param 1 g.row.T) (param 2 g.row.G) (param 3 g.row.D) (param 4 g.row.F) c.type_bounds.sync-T c.type_bounds.sync-G c.type_bounds.send-D c.type_bounds.send-F))
 
 pub for_each_mut-requires-clause-accepts : goal.for_each_mut-requires-clause-accepts
 for_each_mut-requires-clause-accepts g c κs within = λ i p inside is. (

@@ -1,17 +1,23 @@
-use Rattle.std.proofs.Common.{◌≡◌, ◌≤◌, ◌+◌, [], length, take, vec_capacity}
+use Rattle.std.proofs.Common.{◌≡◌, ◌≤◌, ◌+◌, ◌-◌, [], length, replicate, take, vec_capacity}
+use Rattle.pana_tickets.specs.Hands.{hand}
+use Rattle.pana_daemon.specs.Door.{new_door}
 use Rattle.pana_daemon.specs.Post.{doors_in, folders_in}
-use Rattle.pana_daemon.specs.Serve.{named_by}
+use Rattle.pana_daemon.specs.Root.{folders_of}
 use Rattle.pana_daemon.proofs.daemon.posts_of.Given as goal
 
--- the posts of workers so far; there is room for the rest, and for the roots'
+-- the posts of workers so far, each with a part of the whole; there is room for the rest, and for the roots'
 abbrev pub invariant-loop-place : goal.invariant-loop-place
 invariant-loop-place g l =
-    (length l.posts.items ≡ l.place) × (length (doors_in l.posts.items) ≡ l.place) × (folders_in l.posts.items ≡ []) × (16 + length l.fn.roots ≤ vec_capacity l.posts)
+    (length l.posts.items ≡ l.place)
+    × (doors_in l.posts.items ≡ replicate l.place (new_door l.fn.tickets))
+    × (folders_in l.posts.items ≡ [])
+    × (16 + length l.fn.roots ≤ vec_capacity l.posts)
+    × (l.whole ≡ record { id = l.fn.tickets.id; hand = hand l.fn.tickets.most (64 - l.place) 0 0 })
 
 -- all of these, and the posts of the roots so far
 abbrev pub invariant-loop-root : goal.invariant-loop-root
 invariant-loop-root g l =
     (length l.posts.items ≡ 16 + l.root-index)
-    × (length (doors_in l.posts.items) ≡ 16)
-    × (folders_in l.posts.items ≡ named_by (take l.root-index l.fn.roots))
+    × (doors_in l.posts.items ≡ replicate 16 (new_door l.fn.tickets))
+    × (folders_in l.posts.items ≡ folders_of l.fn.disks (take l.root-index l.fn.roots))
     × (16 + length l.fn.roots ≤ vec_capacity l.posts)

@@ -14,7 +14,7 @@ returns c = record {
   withdraw = λ journal entry m k accepted accepts is. ap knowns_of (layer_withdraw 8 m k journal entry (accepted_is_sound 8 journal accepted) accepts is);
   confirm = λ journal entry m k accepted accepts is within. ap knowns_of (layer_confirm 8 m k journal entry (accepted_is_sound 8 journal accepted) accepts is within);
   other = λ journal entry family k accepted accepts is. ap knowns_of (layer_other 8 k family journal entry (accepted_is_sound 8 journal accepted) accepts is);
-  begun = λ journal entry place accepted accepts is.
+  begun = λ journal entry place sum accepted accepts is.
       let sound = accepted_is_sound 8 journal accepted in
       let own : family_of_next journal entry ≡ entry.number = family_new journal entry ∙ ap (λ r. begun_or_joined (families journal) entry.number (subject r)) is in
       ap (λ f. sets_at 0 f (journal ++ entry ∷ [])) (sym own) ∙ ap knowns_of (layer_report 8 journal entry sound accepts (ap is_of_copies is)) ∙ register_sets journal entry sound accepts place is;

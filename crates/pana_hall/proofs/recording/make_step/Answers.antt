@@ -25,14 +25,14 @@ returns-in-Begin-clause-spots c =
 
 pub index_mut-requires : goal.index_mut-requires
 index_mut-requires c =
-    let takes = step_takes _ _ _ _ _ _ _ c.args.step c.in_default.not-Begin c.requires.step in
+    let takes = step_takes _ _ _ _ _ _ c.args.step c.in_default.not-Begin c.requires.step in
     let within = position_within c.args.list.now.items c.requires.ready (takes_later takes) in
     let same : length c.as_slice.result.now ≡ length c.args.list.now.items = ap length c.as_slice.ensures.value in
     omega (arith, c.as_slice.ensures.len)
 
 pub change_family-requires-clause-ready : goal.change_family-requires-clause-ready
 change_family-requires-clause-ready c =
-    let takes = step_takes _ _ _ _ _ _ _ c.args.step c.in_default.not-Begin c.requires.step in
+    let takes = step_takes _ _ _ _ _ _ c.args.step c.in_default.not-Begin c.requires.step in
     ready_at c.args.list.now.items c.requires.ready (takes_later takes) c.index_mut.result.now c.index_mut.result.now c.index_mut.ensures.value
 
 pub change_family-requires-clause-step : goal.change_family-requires-clause-step
@@ -40,7 +40,7 @@ change_family-requires-clause-step c = grind (arith, nat_tests, step_takes, take
 
 pub returns-in_default-clause-list : goal.returns-in_default-clause-list
 returns-in_default-clause-list c =
-    let takes = step_takes _ _ _ _ _ _ _ c.args.step c.in_default.not-Begin c.requires.step in
+    let takes = step_takes _ _ _ _ _ _ c.args.step c.in_default.not-Begin c.requires.step in
     listed_set c.args.list.now.items c.requires.ready (takes_later takes) c.index_mut.result.now c.index_mut.result.now c.change_family.new.it c.index_mut.ensures.value c.change_family.ensures.family
 
 pub returns-in_default-clause-spots : goal.returns-in_default-clause-spots

@@ -5,7 +5,7 @@ use Rattle.pana_laws.proofs.KeptRun.{keeps_all, keeps_done}
 use Rattle.pana_laws.proofs.laws.daemon_keeps_what_is_done.Goals as goal
 
 pub returns : goal.returns
-returns g c known begun left posts calls works kept e =
+returns g c known begun left posts posts_left calls unanswered works kept e =
     let history = e.closed.history in
     let all = keeps_all g.V.Device.is_known g.V.Device.seen g.V.Device.may_leave g.V.Device.is_usable g.V.Device.moment g.V.Device.left_since g.V.Device.has_failed known g.met.V.Device.only_now begun history works kept e.closed.run in
     let done = keeps_done g.V.Device.is_known g.V.Device.seen g.V.Device.may_leave g.V.Device.is_usable g.V.Device.moment g.V.Device.left_since g.V.Device.has_failed known g.met.V.Device.only_now begun history e.closed.run in

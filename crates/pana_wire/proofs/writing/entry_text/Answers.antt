@@ -1,5 +1,5 @@
 use Rattle.std.proofs.Common.{◌≤◌, Some, [], ◌∷◌, sym, subst, ◌∙◌, ap, inl, arith}
-use Rattle.std.specs.Prelude.{◌≡◌, ℕ, List, Ok, Err, Result, IfOk, OnOk, string_bytes}
+use Rattle.std.specs.Prelude.{◌≡◌, ℕ, List, Ok, string_bytes}
 use Rattle.std.proofs.lemmas.List.Elements.{All-cons, All-nil}
 use Rattle.std.proofs.lemmas.Result.{IfOk-weaker}
 use Rattle.std.proofs.lemmas.Str.{IsUtf8-string_bytes, is_utf8-from_IsUtf8}

@@ -1,4 +1,4 @@
-use Rattle.pana_hall.proofs.Words.{nat_tests, arith, List, ◌∷◌, take, option_map, sym, ap, subst, ◌∙◌, StampRow, RoomyFamily, history, kept_rows, reported_kept, undone, IsPreparedIn}
+use Rattle.pana_hall.proofs.Words.{nat_tests, arith, List, ◌∷◌, take, earlier_of, sym, ap, subst, ◌∙◌, StampRow, RoomyFamily, history, kept_rows, reported_kept, undone, IsPreparedIn}
 use Rattle.pana_hall.proofs.Histories.{kept_pushed, pushed}
 use Rattle.pana_hall.proofs.kept_family.KeptFamily.apply.Goals as goal
 
@@ -11,9 +11,9 @@ invariant_of-self c = grind (arith, nat_tests, kept_pushed)
 pub returns : goal.returns
 returns c =
     let old = c.self.inside.undo.items in
-    let place = option_map (λ p. p.value) c.args.place in
+    let before = earlier_of c.args.before in
     ap (λ u. kept_rows c.self.inside.number c.apply-back.new.self.rows u)
-    (pushed c.self.inside.family.rows c.apply-back.new.self.rows old c.push_front.new.self (record { entry = c.args.entry; back = c.apply-back.result; place = c.args.place }) c.self.inside.undo.capacity c.self.invariant.0 c.push_front.ensures.items
+    (pushed c.self.inside.family.rows c.apply-back.new.self.rows old c.push_front.new.self (record { entry = c.args.entry; back = c.apply-back.result; before = c.args.before }) c.self.inside.undo.capacity c.self.invariant.0 c.push_front.ensures.items
     c.apply-back.ensures.back.rows)
-    ∙ ap (λ (r : List StampRow). kept_rows c.self.inside.number r (take 8 (undone c.args.entry c.self.inside.family.rows place ∷ history c.self.inside.family.rows old))) c.apply-back.ensures.rows
-    ∙ ap (λ (k : RoomyFamily). reported_kept c.args.entry c.args.report place k.kept) c.self.view_is
+    ∙ ap (λ (r : List StampRow). kept_rows c.self.inside.number r (take 8 (undone c.args.entry c.self.inside.family.rows before ∷ history c.self.inside.family.rows old))) c.apply-back.ensures.rows
+    ∙ ap (λ (k : RoomyFamily). reported_kept c.args.entry c.args.report before k.kept) c.self.view_is

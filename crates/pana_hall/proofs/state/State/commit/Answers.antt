@@ -1,12 +1,13 @@
 use Rattle.pana_hall.proofs.Words.{nat_tests, arith, all_listed}
 use Rattle.pana_hall.proofs.Listed.{ready_for, kept_next}
+use Rattle.pana_hall.proofs.NextSaid.{said_kept}
 use Rattle.pana_hall.proofs.state.State.commit.Goals as goal
 
 pub make_step-requires-clause-ready : goal.make_step-requires-clause-ready
 make_step-requires-clause-ready c =
     let next = c.args.next in
     let families = c.args.self.now.families in
-    ready_for c.args.self.now.journal.entries next.entry.by next.entry.report (all_listed families.list.items) families.positions.items c.args.self.now.copies c.requires.kept c.requires.next.free next.position c.requires.next.position
+    ready_for c.args.self.now.journal.entries next.entry.by next.entry.report (all_listed families.list.items) families.positions.items c.args.self.now.copies c.args.self.now.contents.entries.items c.requires.kept c.requires.next.free next.position c.requires.next.position
 
 pub returns : goal.returns
 returns c =
@@ -15,6 +16,8 @@ returns c =
     let journal = c.args.self.now.journal.entries in
     let list' = all_listed c.make_step.new.list.items in
     let copies' = c.make_step.new.copies in
-    let all = kept_next journal next.entry.by next.entry.report (all_listed families.list.items) families.positions.items c.args.self.now.copies c.requires.kept c.requires.next.free next.position c.requires.next.position list' copies' c.make_step.ensures.list
+    let all = kept_next journal next.entry.by next.entry.report (all_listed families.list.items) families.positions.items c.args.self.now.copies c.args.self.now.contents.entries.items c.requires.kept c.requires.next.free next.position c.requires.next.position list' copies' c.push.new.self.entries.items
+    (said_kept journal next.entry c.args.self.now.contents.entries.items c.push.new.self.entries.items next.sayings c.requires.next.number c.requires.kept.contents c.requires.next.sayings c.push.ensures.count c.push.ensures.at)
+    c.make_step.ensures.list
     c.make_step.ensures.spots in
     grind (arith, nat_tests, c.append.ensures.number, c.push_reserved.ensures.items)

@@ -1,0 +1,113 @@
+ghost use Rattle.std.specs.Prelude.{◌≡◌, ◌⊎◌, ◌↔◌, true, false, IfOk, IfErr, IsErrOf, string_bytes};
+ghost use Rattle.std.specs.List.{list_all};
+ghost use Rattle.pana_copies.specs.Sums.{is_sum, is_sum_digit};
+
+use crate::name_fault::NameFault;
+use hex::{decode_to_slice, encode};
+use std::alloc::{AllocError, Global};
+use std::marker::Model;
+
+/// How many digits a sum has.
+const DIGITS: usize = 64;
+
+/// How many bytes they stand for.
+const BYTES: usize = 32;
+
+/// The SHA-256 of a file's bytes: 64 of `0` to `9` and `a` to `f`.
+///
+/// It takes an allocation of 32 bytes. To contracts it is its text.
+#[derive(Debug, Drop)]
+pub struct Sum {
+    bytes: Box<[u8; BYTES]>,
+}
+
+impl Model for Sum {
+    ghost use Rattle.std.specs.Prelude.{List, ℕ};
+    ghost use Rattle.hex.specs.Hex.{encode_lower};
+    ghost use Rattle.pana_copies.specs.inner.SumBytes.{AreSumBytes};
+
+    ghost Value = { List ℕ };
+
+    ghost view = { λ sum. encode_lower sum.bytes.value };
+
+    ghost invariant = { λ sum. AreSumBytes sum.bytes.value };
+}
+
+fn is_sum_digit(byte: u8) -> bool
+    ensures { result ≡ is_sum_digit byte }
+{
+    matches!(byte, b'0'..=b'9' | b'a'..=b'f')
+}
+
+fn are_sum_digits(bytes: &[u8]) -> bool
+    ensures { result ≡ list_all is_sum_digit bytes.now }
+{
+    bytes.iter().all(|byte| is_sum_digit(*byte))
+}
+
+fn is_sum(text: &str) -> bool
+    ensures { result ≡ is_sum text.now }
+{
+    text.len() == DIGITS && are_sum_digits(text.as_bytes())
+}
+
+impl Sum {
+    /// Takes a text as a sum.
+    ///
+    /// # Errors
+    ///
+    /// `BadSum` where the text is no such sum; `OutOfMemory`.
+    pub fn new(alloc: Global, text: &str) -> Result<Sum, NameFault>
+        ensures ok { IfOk result (λ sum. sum ≡ text.now) }
+        ensures bad { IsErrOf result NameFault.BadSum ↔ (is_sum text.now ≡ false) }
+        ensures others { IfErr result (λ fault. (fault ≡ NameFault.BadSum) ⊎ (fault ≡ NameFault.OutOfMemory)) }
+    {
+        if !is_sum(text) {
+            return Err(NameFault::BadSum);
+        }
+        let mut bytes = [0; BYTES];
+        decode_to_slice(text, &mut bytes).unwrap();
+        match Box::new(alloc, bytes) {
+            Ok(bytes) => Ok(Sum { bytes }),
+            Err(_) => Err(NameFault::OutOfMemory),
+        }
+    }
+
+    /// The sum as text. Fails only where memory runs out.
+    pub fn text(&self, alloc: Global) -> Result<String, AllocError>
+        ensures text { IfOk result (λ text. string_bytes text ≡ self.now) }
+        ensures sum { is_sum self.now ≡ true }
+    {
+        encode(alloc, *self.bytes)
+    }
+
+    /// The same sum once more. Fails only where memory runs out.
+    pub fn copy_of(&self, alloc: Global) -> Result<Sum, AllocError>
+        ensures { IfOk result (λ sum. sum ≡ self.now) }
+    {
+        Ok(Sum {
+            bytes: Box::new(alloc, *self.bytes)?,
+        })
+    }
+}
+
+impl PartialEq for Sum {
+    ghost use Rattle.std.specs.Str.{bytes_eq};
+    ghost use Rattle.std.specs.Cmp.Rules.{comparing};
+    ghost use Rattle.std.proofs.Common.{rules};
+
+    ghost eq = { λ a b. bytes_eq a b };
+
+    ghost laws = { Prim.search (comparing, rules) };
+
+    fn eq(&self, other: &Sum) -> bool {
+        self.bytes.as_slice() == other.bytes.as_slice()
+    }
+}
+
+impl Eq for Sum {
+    ghost use Rattle.std.specs.Cmp.Rules.{comparing};
+    ghost use Rattle.std.proofs.Common.{rules};
+
+    ghost laws = { Prim.search (comparing, rules) };
+}
