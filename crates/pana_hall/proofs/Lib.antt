@@ -20,4 +20,5 @@ pub mod Runs
 pub mod Worked
 pub mod WorkedContents
 pub mod WorkedStatus
+pub mod WorkedFinding
 pub mod Sending

@@ -9,6 +9,7 @@ pub mod Stamps
 pub mod Holdings
 pub mod Standing
 pub mod Status
+pub mod Finding
 pub mod Queries
 pub mod Refusal
 pub mod Permit

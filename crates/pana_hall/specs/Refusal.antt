@@ -1,6 +1,7 @@
 -- Why a call is refused: the first cause that holds, in the order that its kind of call has.
-use Rattle.std.specs.Prelude.{ℕ, not, ◌==◌, ◌&&◌, nat_le, List, [], ◌∷◌, length, Option, Some, None, is_none, option_map, option_and_then, find, count_by}
+use Rattle.std.specs.Prelude.{ℕ, ◌+◌, not, ◌==◌, ◌&&◌, nat_le, List, [], ◌∷◌, ◌++◌, length, Option, Some, None, is_none, option_map, option_and_then, find, count_by}
 use Rattle.std.specs.Bool.{then_some}
+use Rattle.std.specs.Option.{option_or}
 use Rattle.std.specs.Str.{bytes_eq}
 use Rattle.pana_copies.specs.declared.place.Place.{Place}
 use Rattle.pana_copies.specs.Places.{same_place}
@@ -12,6 +13,8 @@ use Rattle.pana_hall.specs.declared.call.Query.{Query}
 use Rattle.pana_hall.specs.declared.call.Query.TheVariants as queries
 use Rattle.pana_hall.specs.declared.call.Call.{Call}
 use Rattle.pana_hall.specs.declared.call.Call.TheVariants as calls
+use Rattle.pana_hall.specs.declared.decision.Decision.{Decision}
+use Rattle.pana_hall.specs.declared.decision.Decision.TheVariants.{Known, One, Both}
 use Rattle.pana_hall.specs.declared.cause.Cause.{Cause}
 use Rattle.pana_hall.specs.declared.cause.Cause.TheVariants.{JournalFull, UnknownCopy, SameCopy, OtherFamily, PlaceTaken, FamilyFull, TooDeep, UnknownEntry, NotYours, Settled, UnknownFamily}
 use Rattle.pana_family.specs.Updates.{has}
@@ -22,6 +25,7 @@ use Rattle.pana_hall.specs.Living.{Copy, number_of, copy_in, copies_of, living}
 use Rattle.pana_hall.specs.Pending.{pending, is_last}
 use Rattle.pana_hall.specs.StampRows.{stamp_rows}
 use Rattle.pana_hall.specs.Board.{is_of}
+use Rattle.pana_hall.specs.Finding.{decision}
 
 -- the journal has all the entries that it takes
 abbrev pub full : List Entry → Option Cause
@@ -121,6 +125,19 @@ against most journal copies by (Withdraw entry) = unknown_entry entry journal �
 abbrev pub report_refusal : ℕ → List Entry → List Copy → List ℕ → Report → Option Cause
 report_refusal most journal copies by report = first (full journal ∷ against most journal copies by report)
 
+-- the journal with a device's report as its next entry
+abbrev pub with_report : List Entry → List ℕ → Report → List Entry
+with_report journal by report = journal ++ record { number = length journal + 1; by = by; report = report } ∷ []
+
+-- why what is done of a device's sighting is refused: as the report that is made; where there are two, as the first, or else as
+-- the second, which comes behind it
+abbrev pub decision_refusal : ℕ → List Entry → List ℕ → Decision → Option Cause
+decision_refusal most journal by (Known copy) = None
+decision_refusal most journal by (One report) = report_refusal most journal (living journal) by report
+decision_refusal most journal by (Both report second) =
+    let next = with_report journal by report in
+    option_or (report_refusal most journal (living journal) by report) (report_refusal most next (living next) by second)
+
 -- why a query is refused
 abbrev pub query_refusal : List Entry → List Copy → Query → Option Cause
 query_refusal journal copies (queries.Board family) = first (unknown_family family journal ∷ [])
@@ -131,4 +148,5 @@ query_refusal journal copies _ = None
 -- why a call by the device is refused, memory aside; a family's last 8 entries are pending
 unfoldable pub refusal : List Entry → List ℕ → Call → Option Cause
 refusal journal by (calls.Report report) = report_refusal 8 journal (living journal) by report
+refusal journal by (calls.Sighting sighting) = decision_refusal 8 journal by (decision (living journal) sighting)
 refusal journal by (calls.Query query) = query_refusal journal (living journal) query

@@ -1,4 +1,4 @@
-use pana_copies::{DeviceName, Place};
+use pana_copies::{DeviceName, Place, Sum};
 use pana_journal::Report;
 
 /// What is asked of a hall. No query changes it.
@@ -40,9 +40,24 @@ pub enum Query {
     },
 }
 
-/// What a session or a scanner sends to a hall: it reports a change, or asks for an answer.
+/// What was seen at a place, by whoever looks at files and knows no numbers of copies.
+#[derive(Debug, PartialEq, Eq, Drop)]
+pub enum Sighting {
+    /// A file is there, whose bytes have this sum.
+    Found {
+        place: Place,
+        sum: Sum,
+    },
+    /// No file is there.
+    Missing {
+        place: Place,
+    },
+}
+
+/// What a session or a scanner sends to a hall: it reports a change, or what it saw, or asks for an answer.
 #[derive(Debug, PartialEq, Eq, Drop)]
 pub enum Call {
     Report(Report),
+    Sighting(Sighting),
     Query(Query),
 }

@@ -46,14 +46,16 @@ impl Hall {
         })
     }
 
-    /// Takes one call of a device and returns its reply: a report is refused, or is the next entry of the journal; a
-    /// query is refused or answered, and changes nothing. A refused call changes nothing.
+    /// Takes one call of a device and returns its reply: a report is refused, or is the next entry of the journal; of a sighting
+    /// is done what it comes to, by reports, or it is known, or refused; a query is refused or answered, and changes nothing. A
+    /// refused call changes nothing.
     pub fn apply(&mut self, by: &DeviceName, call: Call) -> Reply
         ensures permitted { Permits self.old by.now call result }
         ensures journal { self.new ≡ journal_after self.old by.now call result }
     {
         match call {
             Call::Report(report) => self.report(by, report),
+            Call::Sighting(_) => Reply::Refused(Cause::OutOfMemory),
             Call::Query(query) => self.query(by, query),
         }
     }
@@ -106,7 +108,7 @@ impl Hall {
     }
 
     #[tactic(auto, unfolding(crate::specs::Permit::Permits, crate::specs::Permit::journal_after, crate::specs::Refusal::refusal))]
-    fn query(&self, by: &DeviceName, query: Query) -> Reply
+    pub(crate) fn query(&self, by: &DeviceName, query: Query) -> Reply
         ensures permitted { Permits self.now by.now (calls.Query query) result }
         ensures journal { self.now ≡ journal_after self.now by.now (calls.Query query) result }
     {

@@ -7,6 +7,7 @@ mod call;
 mod cause;
 mod changing;
 mod contents;
+mod decision;
 mod families;
 mod family_row;
 mod hall;
@@ -29,7 +30,7 @@ mod taking;
 mod undo;
 
 pub use crate::board::{BoardRow, BoardView};
-pub use crate::call::{Call, Query};
+pub use crate::call::{Call, Query, Sighting};
 pub use crate::cause::Cause;
 pub use crate::family_row::FamilyRow;
 pub use crate::hall::Hall;

@@ -5,7 +5,7 @@ use crate::holding::HoldingList;
 use crate::standing::{CopyStanding, StatusRow};
 use pana_event::Rel;
 use pana_family::CopyStamp;
-use pana_journal::EntryList;
+use pana_journal::{EntryList, ReportKind};
 use pana_list::PlainList;
 
 /// The answer of a hall to a call.
@@ -13,6 +13,10 @@ use pana_list::PlainList;
 pub enum Reply {
     /// The report was accepted, as the entry with this number.
     Done { entry: u64 },
+    /// What was seen was reported, by an entry of this kind; where it took two, that is the last one's kind and number.
+    Did { kind: ReportKind, entry: u64 },
+    /// What was seen was known: nothing was to be done of the copy with this number, or no copy is at the place.
+    Known { copy: Option<u64> },
     /// The families that have a living copy, by rising number.
     Families(PlainList<FamilyRow>),
     /// The board that was asked for.

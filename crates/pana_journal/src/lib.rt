@@ -4,7 +4,9 @@
 mod entry;
 mod journal;
 mod report;
+mod report_kind;
 
 pub use crate::entry::Entry;
 pub use crate::journal::{EntryList, Journal, JournalFault};
 pub use crate::report::Report;
+pub use crate::report_kind::ReportKind;
