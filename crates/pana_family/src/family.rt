@@ -5,7 +5,7 @@ ghost use Rattle.std.specs.Prelude.{◌≡◌, ◌≤◌, [], ◌∷◌, length,
 ghost use Rattle.pana_family.specs.declared.fault.FamilyFault.{FamilyFault as Fault};
 ghost use Rattle.pana_family.specs.{Rows.AreBefore, Rows.seed_row, Kept.IsKept, Paired.ArePaired, Change.after, Change.Fits, Change.IsRoomier};
 ghost use Rattle.pana_family.specs.{After.reported_rows, Report.IsMade};
-ghost use Rattle.pana_family.specs.View.{NamesLiving, fault_of, IsPrepared, TakesBack};
+ghost use Rattle.pana_family.specs.View.{NamesLiving, fault_of, IsFaultOfTwo, IsPrepared, IsPreparedBehind, TakesBack};
 
 use crate::change::{Change, Exchange, apply, room_of};
 use crate::comparing::{follow, follow_change};
@@ -196,14 +196,49 @@ impl Family {
     }
 
     /// Makes a change that takes one back: the copies and parcels have the stamps, holders and touches from before it, tree
-    /// for tree. Takes no memory.
-    pub fn take_back(&mut self, back: Change)
+    /// for tree. Returns the change that makes it again. Takes no memory.
+    pub fn take_back(&mut self, back: Change) -> Change
         requires kept { IsKept (after back self.old.rows) }
         requires fits { Fits back self.old.rows self.old.room }
         ensures rows { self.new.rows ≡ after back self.old.rows }
+        ensures again { after result self.new.rows ≡ self.old.rows }
+        ensures fits { Fits result self.new.rows self.new.room }
         ensures room { IsRoomier self.old.room self.new.room }
     {
-        let _ = self.exchange(back, None);
+        self.exchange(back, None)
+    }
+
+    /// What two reports change, one made behind the other. Nothing is changed yet, and once this succeeded `apply` of the first
+    /// and then of the second takes no memory.
+    ///
+    /// # Errors
+    ///
+    /// Those of `prepare`, for the first report and then for the second, once the first is made.
+    pub fn prepare_two(
+        &mut self,
+        entry: u64,
+        report: FamilyReport,
+        next: u64,
+        second: FamilyReport,
+    ) -> Result<(Change, Change), FamilyFault>
+        requires living { NamesLiving report self.old.rows }
+        requires new { AreBefore entry self.old.rows }
+        requires second_living { NamesLiving second (reported_rows entry report self.old.rows) }
+        requires second_new { AreBefore next (reported_rows entry report self.old.rows) }
+        ensures rows { self.new.rows ≡ self.old.rows }
+        ensures room { IsRoomier self.old.room self.new.room }
+        ensures first { IfOk result (λ made. IsPrepared entry report made.0 self.new) }
+        ensures second { IfOk result (λ made. IsPreparedBehind next second made.1 (reported_rows entry report self.old.rows) self.new.room) }
+        ensures fault { IfErr result (IsFaultOfTwo report self.old.rows second (reported_rows entry report self.old.rows)) }
+    {
+        let change = self.prepare(entry, report)?;
+        let back = self.apply(entry, report, change);
+        let behind = self.prepare(next, second);
+        let change = self.take_back(back);
+        match behind {
+            Ok(behind) => Ok((change, behind)),
+            Err(fault) => Err(fault),
+        }
     }
 
     /// Records a report, with the entry as its number, and returns the change that takes it back: `prepare` and `apply`.

@@ -17,7 +17,7 @@ const PAGE: usize = 100;
 /// Entries of a journal.
 pub type EntryList = PlainList<Entry>;
 
-/// Why there is no room for one more entry.
+/// Why there is no room for more entries.
 #[derive(Clone, Copy, Debug, PartialEq, Eq, Error)]
 pub enum JournalFault {
     #[error("the journal has 1,000,000 entries")]
@@ -28,7 +28,7 @@ pub enum JournalFault {
 
 /// The entries in order, numbered from 1 without gaps.
 ///
-/// An entry goes in by two calls: `reserve_one`, which may fail, and then `append`, which can't.
+/// An entry goes in by two calls: `reserve`, which may fail, and then `append`, which can't.
 #[derive(Debug, Drop)]
 pub struct Journal {
     entries: Vec<Entry>,
@@ -57,21 +57,21 @@ impl Journal {
         }
     }
 
-    /// Reserves room for one entry more, which stays until it is used.
+    /// Reserves room for so many entries more, which stays until it is used.
     ///
     /// # Errors
     ///
-    /// `JournalFull` at 1,000,000 entries; `OutOfMemory`. The room is then as it was.
-    pub fn reserve_one(&mut self) -> Result<(), JournalFault>
+    /// `JournalFull` where there would be more than 1,000,000 entries; `OutOfMemory`. The room is then as it was.
+    pub fn reserve(&mut self, count: usize) -> Result<(), JournalFault>
         ensures entries { self.new.entries ≡ self.old.entries }
-        ensures ok { OnOk result (0 < self.new.room) }
-        ensures full { IsErrOf result JournalFault.JournalFull ↔ (1000000 ≤ length self.old.entries) }
+        ensures ok { OnOk result (count ≤ self.new.room) }
+        ensures full { IsErrOf result JournalFault.JournalFull ↔ (1000000 < length self.old.entries + count) }
         ensures err { OnErr result (self.new ≡ self.old) }
     {
-        if self.is_full() {
+        if MOST_ENTRIES - self.entries.len() < count {
             return Err(JournalFault::JournalFull);
         }
-        match self.entries.reserve(1) {
+        match self.entries.reserve(count) {
             Ok(()) => Ok(()),
             Err(_) => Err(JournalFault::OutOfMemory),
         }
@@ -82,6 +82,7 @@ impl Journal {
         requires { 0 < self.old.room }
         ensures number { result ≡ length self.old.entries + 1 }
         ensures entries { self.new.entries ≡ self.old.entries ++ record { number = result; by = by; report = report } ∷ [] }
+        ensures room { self.old.room ≤ self.new.room + 1 }
     {
         let number = self.length() + 1;
         self.entries.push_reserved(Entry { number, by, report });
