@@ -31,7 +31,7 @@ fn place_in(report: &Report) -> Result<Option<Place>, AllocError>
 }
 
 /// The entry that says what a copy holds, if there is a copy.
-fn said_by(contents: &Contents, copy: Option<u64>) -> Option<u32>
+pub fn said_by(contents: &Contents, copy: Option<u64>) -> Option<u32>
     ensures { result ≡ option_and_then (content_at contents.now.entries.items) copy }
 {
     contents.of(copy?)

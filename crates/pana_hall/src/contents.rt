@@ -44,12 +44,12 @@ impl Contents {
         *self.entries.get(index)?
     }
 
-    /// Makes room for one entry more. Fails only where memory runs out.
-    pub fn reserve(&mut self) -> Result<(), AllocError>
+    /// Makes room for so many entries more. Fails only where memory runs out.
+    pub fn reserve(&mut self, count: usize) -> Result<(), AllocError>
         ensures entries { self.new.entries.items ≡ self.old.entries.items }
-        ensures room { OnOk result (vec_len self.new.entries < vec_capacity self.new.entries) }
+        ensures room { OnOk result (vec_len self.new.entries + count ≤ vec_capacity self.new.entries) }
     {
-        self.entries.reserve(1)
+        self.entries.reserve(count)
     }
 
     /// Keeps what the next entry says, in room that was made by `reserve`. Takes no memory.
@@ -58,6 +58,7 @@ impl Contents {
         requires first { IfSome sayings.first (λ s. (0 < s.copy) × (s.copy ≤ length self.old.entries.items + 1)) }
         requires second { IfSome sayings.second (λ s. (0 < s.copy) × (s.copy ≤ length self.old.entries.items + 1)) }
         ensures count { length self.new.entries.items ≡ length self.old.entries.items + 1 }
+        ensures room { vec_capacity self.old.entries ≤ vec_capacity self.new.entries }
         ensures at { (number : ℕ) → content_at self.new.entries.items number ≡ all_written sayings (content_at self.old.entries.items) number }
     {
         self.entries.push_reserved(None);
@@ -68,6 +69,7 @@ impl Contents {
     fn write(&mut self, saying: Option<Saying>)
         requires { IfSome saying (λ s. (0 < s.copy) × (s.copy ≤ length self.old.entries.items)) }
         ensures count { length self.new.entries.items ≡ length self.old.entries.items }
+        ensures room { vec_capacity self.old.entries ≤ vec_capacity self.new.entries }
         ensures at { (number : ℕ) → content_at self.new.entries.items number ≡ written saying (content_at self.old.entries.items) number }
     {
         if let Some(Saying { copy, entry }) = saying {

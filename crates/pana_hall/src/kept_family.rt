@@ -1,7 +1,7 @@
 //! A family as the hall keeps it.
 ghost use Rattle.std.specs.Prelude.{◌≡◌, ◌==◌, IfOk, option_map, option_copied};
 ghost use Rattle.std.specs.List.{list_any};
-ghost use Rattle.pana_family.specs.{Rows.AreBefore, Report.CanReport};
+ghost use Rattle.pana_family.specs.{After.reported_rows, Change.IsRoomier, Rows.AreBefore, Report.CanReport, View.IsPreparedBehind};
 ghost use Rattle.pana_hall.specs.inner.Undo.{IsPreparedIn, confirmed, earlier_of, ends_in, last_before, last_place, new_kept, reported_kept, withdrawn};
 
 use crate::undo::{Before, Undo, has_entry, position_of};
@@ -127,10 +127,34 @@ impl KeptFamily {
         }
     }
 
+    /// What the reports of two entries change, one made behind the other. Nothing is changed yet, and once this succeeded `apply`
+    /// of the first and then of the second takes no memory. Fails only where memory runs out.
+    pub fn prepare_two(
+        &mut self,
+        entry: u64,
+        report: FamilyReport,
+        next: u64,
+        second: FamilyReport,
+    ) -> Result<(Change, Change), AllocError>
+        requires able { CanReport report self.old.kept.rows }
+        requires new { AreBefore entry self.old.kept.rows }
+        requires second_able { CanReport second (reported_rows entry report self.old.kept.rows) }
+        requires second_new { AreBefore next (reported_rows entry report self.old.kept.rows) }
+        ensures same { self.new.kept ≡ self.old.kept }
+        ensures first { IfOk result (λ made. IsPreparedIn entry report made.0 self.new) }
+        ensures second { IfOk result (λ made. IsPreparedBehind next second made.1 (reported_rows entry report self.new.kept.rows) self.new.room) }
+    {
+        match self.family.prepare_two(entry, report, next, second) {
+            Ok(changes) => Ok(changes),
+            Err(_) => Err(AllocError),
+        }
+    }
+
     /// Records a report, whose change `prepare` gave, and what was before it. Takes no memory.
     pub fn apply(&mut self, entry: u64, report: FamilyReport, change: Change, before: Before)
         requires { IsPreparedIn entry report change self.old }
-        ensures { self.new.kept ≡ reported_kept entry report (earlier_of before) self.old.kept }
+        ensures kept { self.new.kept ≡ reported_kept entry report (earlier_of before) self.old.kept }
+        ensures room { IsRoomier self.old.room self.new.room }
     {
         let back = self.family.apply(entry, report, change);
         self.undo.push_front(Undo {
@@ -158,7 +182,7 @@ impl KeptFamily {
     {
         match self.undo.pop_front() {
             Some(undo) => {
-                self.family.take_back(undo.back);
+                let _ = self.family.take_back(undo.back);
                 unboxed(undo.before.place)
             }
             None => None,

@@ -19,6 +19,7 @@ mod loading;
 mod next;
 mod prepared;
 mod recording;
+mod recording_two;
 mod refusal;
 mod relating;
 mod reply;

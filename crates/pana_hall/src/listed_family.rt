@@ -1,12 +1,14 @@
 //! A family as the list of them keeps it.
-ghost use Rattle.std.specs.Prelude.{◌≡◌, ◌==◌, List, IfOk, OnOk, true, length, map, nat_lt, option_copied};
+ghost use Rattle.std.specs.Prelude.{◌≡◌, ◌==◌, ℕ, List, IfOk, OnOk, true, length, map, nat_lt, option_copied};
 ghost use Rattle.std.specs.List.{list_any};
 ghost use Rattle.pana_family.specs.{Board.board_rows, Board.board_newest, Board.board_split, Relation.relation, Report.CanReport, Stamps.AreStamps};
 ghost use Rattle.pana_family.specs.{Stamps.stamps_in, Stamps.text_of, Stands.StandsFor};
 ghost use Rattle.pana_family.specs.Rows.{AreBefore, copy_rows, divides, lives};
 ghost use Rattle.pana_family.specs.Table.{Known, copies_of, set_in, touch_in};
 ghost use Rattle.pana_hall.specs.inner.Undo.{confirmed, earlier_of, ends_in, last_before, last_place, reported_kept, withdrawn};
-ghost use Rattle.pana_hall.specs.inner.Listed.{IsGrown, IsPreparedFor, listed};
+ghost use Rattle.pana_hall.specs.inner.Listed.{IsGrown, IsPreparedAfter, IsPreparedFor, listed};
+ghost use Rattle.pana_family.specs.After.{reported_rows};
+ghost use Rattle.pana_family.specs.declared.report.FamilyReport.{FamilyReport as OfFamily};
 
 use crate::kept_family::KeptFamily;
 use crate::undo::Before;
@@ -182,10 +184,36 @@ impl ListedFamily {
         }
     }
 
+    /// What the reports of two entries change, one made behind the other. Nothing is changed yet, and once this succeeded `apply`
+    /// of the first and then of the second takes no memory. Fails only where memory runs out.
+    pub fn prepare_two(
+        &mut self,
+        alloc: Global,
+        entry: u64,
+        report: FamilyReport,
+        next: u64,
+        second: FamilyReport,
+    ) -> Result<(Change, Change), AllocError>
+        requires able { CanReport report (listed self.old).rows }
+        requires new { AreBefore entry (listed self.old).rows }
+        requires second_able { CanReport second (reported_rows entry report (listed self.old).rows) }
+        requires second_new { AreBefore next (reported_rows entry report (listed self.old).rows) }
+        ensures same { listed self.new ≡ listed self.old }
+        ensures first { IfOk result (λ made. IsPreparedFor entry report made.0 self.new) }
+        ensures second { IfOk result (λ made. IsPreparedAfter entry report next second made.1 self.new) }
+    {
+        self.grow(alloc)?;
+        match self {
+            ListedFamily::New(_) => unreachable!(),
+            ListedFamily::Changed(it) => it.prepare_two(entry, report, next, second),
+        }
+    }
+
     /// Records a report, whose change `prepare` gave, and what was before it. Takes no memory.
     pub fn apply(&mut self, entry: u64, report: FamilyReport, change: Change, before: Before)
         requires { IsPreparedFor entry report change self.old }
-        ensures { listed self.new ≡ reported_kept entry report (earlier_of before) (listed self.old) }
+        ensures kept { listed self.new ≡ reported_kept entry report (earlier_of before) (listed self.old) }
+        ensures behind { (next : ℕ) (second : OfFamily) (other : Change) → IsPreparedAfter entry report next second other self.old → IsPreparedFor next second other self.new }
     {
         match self {
             ListedFamily::New(_) => unreachable!(),

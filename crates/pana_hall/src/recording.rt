@@ -190,9 +190,9 @@ impl State {
         ensures entry { IfOk result (λ next. next.entry ≡ next_entry self.old.journal.entries by.now report) }
         ensures next { IfOk result (IsNext self.new) }
     {
-        self.journal.reserve_one().map_err(|_| AllocError)?;
+        self.journal.reserve(1).map_err(|_| AllocError)?;
         self.copies.reserve()?;
-        self.contents.reserve()?;
+        self.contents.reserve(1)?;
         self.families.positions.reserve(1)?;
         let position = self.families.position_for(&report).unwrap();
         let list = &mut self.families.list;

@@ -3,6 +3,7 @@ use Rattle.std.specs.Prelude.{◌≡◌, ℕ, ◌-◌, ◌==◌, List, length, O
 use Rattle.pana_journal.specs.declared.report.Report.{Report}
 use Rattle.pana_journal.specs.declared.report.Report.TheVariants.{Register, Duplicate, Edit, Reconcile, Merge, Remove, Note}
 use Rattle.pana_journal.specs.declared.entry.Entry.{Entry}
+use Rattle.pana_journal.specs.Reports.{given_sum}
 use Rattle.pana_hall.specs.Living.{Content, Copy, content_in, living}
 use Rattle.pana_hall.specs.declared.contents.Saying.{Saying}
 use Rattle.pana_hall.specs.declared.contents.Sayings.{Sayings}
@@ -52,3 +53,9 @@ written (Some saying) entries number = if number == saying.copy then saying.entr
 
 abbrev pub all_written : Sayings → (ℕ → Option ℕ) → ℕ → Option ℕ
 all_written sayings entries = written sayings.second (written sayings.first entries)
+
+-- the entries once entry n's report, which gives a sum or leaves it unknown, says so of the copies of whose content it says something
+abbrev pub said_by_sum : ℕ → Report → (ℕ → Option ℕ) → ℕ → Option ℕ
+said_by_sum n report entries =
+    let entry = option_map (λ sum. n) (given_sum report) in
+    say (second_said report) entry (say (first_said n report) entry entries)

@@ -2,6 +2,8 @@
 use Rattle.std.specs.Prelude.{ℕ, List, map}
 use Rattle.pana_family.specs.declared.report.FamilyReport.{FamilyReport}
 use Rattle.pana_family.specs.declared.change.Change.{Change}
+use Rattle.pana_family.specs.After.{reported_rows}
+use Rattle.pana_family.specs.View.{IsPreparedBehind}
 use Rattle.pana_hall.specs.inner.Undo.{KeptRows, IsPreparedIn, new_kept}
 use Rattle.pana_hall.specs.declared.listed_family.ListedFamily.{ListedFamily}
 use Rattle.pana_hall.specs.declared.listed_family.ListedFamily.TheVariants.{New, Changed}
@@ -24,3 +26,8 @@ IsGrown (Changed it) = Unit {0}
 abbrev pub IsPreparedFor : ℕ → FamilyReport → Change → ListedFamily → Type 0
 IsPreparedFor n report change (New entry) = ⊥
 IsPreparedFor n report change (Changed it) = IsPreparedIn n report change it.value
+
+-- the change is what report m makes of the family once report n is made, and there is room for it then
+abbrev pub IsPreparedAfter : ℕ → FamilyReport → ℕ → FamilyReport → Change → ListedFamily → Type 0
+IsPreparedAfter n report m second change (New entry) = ⊥
+IsPreparedAfter n report m second change (Changed it) = IsPreparedBehind m second change (reported_rows n report it.value.kept.rows) it.value.room

@@ -1,6 +1,7 @@
 -- The next entry of a journal, before it is made.
-use Rattle.std.specs.Prelude.{◌≡◌, ℕ, ◌+◌, ◌<◌, ◌≤◌, length, List, [], ◌∷◌, ◌++◌, Option, Some, None, IfSome, false, slice_get, vec_len, vec_capacity}
-use Rattle.pana_journal.specs.declared.report.Report.TheVariants.{Register}
+use Rattle.std.specs.Prelude.{◌≡◌, ◌≢◌, IsSome, ℕ, ◌+◌, ◌<◌, ◌≤◌, length, List, [], ◌∷◌, ◌++◌, Option, Some, None, IfSome, false, slice_get, vec_len, vec_capacity}
+use Rattle.pana_journal.specs.declared.report.Report.{Report}
+use Rattle.pana_journal.specs.declared.report.Report.TheVariants.{Edit, Register}
 use Rattle.pana_family.specs.declared.report.FamilyReport.{FamilyReport}
 use Rattle.pana_hall.specs.declared.listed_family.ListedFamily.{ListedFamily}
 use Rattle.pana_hall.specs.declared.next.Next.{Next}
@@ -9,15 +10,15 @@ use Rattle.pana_hall.specs.declared.next.Step.TheVariants.{Begin, Change, Settle
 use Rattle.pana_hall.specs.declared.state.State.{State}
 use Rattle.pana_hall.specs.declared.contents.Sayings.{Sayings}
 use Rattle.pana_journal.specs.declared.entry.Entry.{Entry}
-use Rattle.pana_hall.specs.Family.{family_report}
+use Rattle.pana_hall.specs.Family.{families, family_report}
 use Rattle.pana_hall.specs.Effective.{is_of_copies}
-use Rattle.pana_hall.specs.Refusal.{report_refusal}
-use Rattle.pana_hall.specs.Living.{Copy, living}
+use Rattle.pana_hall.specs.Refusal.{report_refusal, with_report}
+use Rattle.pana_hall.specs.Living.{Copy, copy_in, living}
 use Rattle.pana_hall.specs.inner.Spots.{place_in}
-use Rattle.pana_hall.specs.inner.Listed.{IsGrown, IsPreparedFor, all_listed}
-use Rattle.pana_hall.specs.inner.Kept.{before_of, position_for}
+use Rattle.pana_hall.specs.inner.Listed.{IsGrown, IsPreparedAfter, IsPreparedFor, all_listed}
+use Rattle.pana_hall.specs.inner.Kept.{before_of, next_entry, position_for}
 use Rattle.pana_hall.specs.inner.Undo.{earlier_of}
-use Rattle.pana_hall.specs.inner.Contents.{all_written, content_at, said_in}
+use Rattle.pana_hall.specs.inner.Contents.{AreContents, all_written, content_at, said_in}
 
 -- the step is what an entry makes of a family that has begun, before which these copies live
 abbrev pub IsStepOf : Entry → ListedFamily → List Copy → Step → Type 0
@@ -55,3 +56,46 @@ pub record IsNext (state : State) (next : Next) : Type 0 where
   pub contents : vec_len state.contents.entries < vec_capacity state.contents.entries
   pub sayings : AreSayings state.journal.entries next.entry state.contents.entries.items next.sayings
   pub step : IsStep next.entry (vec_len state.families.list) (vec_capacity state.families.list) state.families.list.items next.position (living state.journal.entries) next.step
+
+-- the step is what an entry makes of a family behind the one before it, when these copies live
+abbrev pub IsStepAfter : Entry → Entry → ListedFamily → List Copy → Step → Type 0
+IsStepAfter entry next it copies (Change change place before) =
+    (of : FamilyReport) × (family_report entry.report ≡ Some of) × (second : FamilyReport) × (family_report next.report ≡ Some second)
+    × IsPreparedAfter entry.number of next.number second change it × (earlier_of before ≡ before_of (Some next) copies)
+IsStepAfter entry next it copies step = ⊥
+
+-- the family at the position takes the step then
+pub record TakesAfter (entry next : Entry) (list : List ListedFamily) (position : ℕ) (copies : List Copy) (step : Step) : Type 0 where
+  pub it : ListedFamily
+  pub found : slice_get list position ≡ Some it
+  pub is : IsStepAfter entry next it copies step
+
+-- Edits of two living copies of one family
+pub record AreTwo (journal : List Entry) (first second : Report) : Type 0 where
+  pub a : ℕ
+  pub b : ℕ
+  pub first_sum : Option (List ℕ)
+  pub second_sum : Option (List ℕ)
+  pub first_is : first ≡ Edit a first_sum
+  pub second_is : second ≡ Edit b second_sum
+  pub other : a ≢ b
+  pub first_lives : IsSome (copy_in (living journal) a)
+  pub second_lives : IsSome (copy_in (living journal) b)
+  pub family : families journal a ≡ families journal b
+
+-- these are to be the next two entries, and there is room for all that they change
+pub record AreNext (state : State) (first second : Next) : Type 0 where
+  pub is_first : IsNext state first
+  pub two : AreTwo state.journal.entries first.entry.report second.entry.report
+  pub entry : second.entry ≡ next_entry (with_report state.journal.entries first.entry.by first.entry.report) first.entry.by second.entry.report
+  pub free : (let journal = with_report state.journal.entries first.entry.by first.entry.report in report_refusal 8 journal (living journal) first.entry.by second.entry.report ≡ None)
+  pub entries : 2 ≤ state.journal.room
+  pub positions : vec_len state.families.positions + 2 ≤ vec_capacity state.families.positions
+  pub contents : vec_len state.contents.entries + 2 ≤ vec_capacity state.contents.entries
+  pub sayings : (said : List (Option ℕ)) → (let journal = with_report state.journal.entries first.entry.by first.entry.report in AreContents journal said → AreSayings journal second.entry said second.sayings)
+  pub step : TakesAfter first.entry second.entry state.families.list.items first.position (living (with_report state.journal.entries first.entry.by first.entry.report)) second.step
+
+-- an entry, or two
+abbrev pub ArePlanned : State → Next → Option Next → Type 0
+ArePlanned state next None = IsNext state next
+ArePlanned state next (Some second) = AreNext state next second

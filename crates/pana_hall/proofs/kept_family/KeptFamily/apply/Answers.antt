@@ -8,8 +8,8 @@ apply-back-requires c = subst (IsPreparedIn c.args.entry c.args.report c.args.ch
 pub invariant_of-self : goal.invariant_of-self
 invariant_of-self c = grind (arith, nat_tests, kept_pushed)
 
-pub returns : goal.returns
-returns c =
+pub returns-clause-kept : goal.returns-clause-kept
+returns-clause-kept c =
     let old = c.self.inside.undo.items in
     let before = earlier_of c.args.before in
     ap (λ u. kept_rows c.self.inside.number c.apply-back.new.self.rows u)
