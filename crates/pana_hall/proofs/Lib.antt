@@ -10,6 +10,7 @@ pub mod Places
 pub mod Histories
 pub mod Ready
 pub mod Listed
+pub mod Twice
 pub mod Answered
 pub mod Shown
 pub mod Related

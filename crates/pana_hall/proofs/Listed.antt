@@ -58,7 +58,7 @@ pub holdings_under : (device : List ℕ) (n : ℕ) (copies : List Copy) → AreR
 holdings_under device n copies rises = grind (arith, nat_tests, under_map holding (λ c. c.known.copy) (λ h. h.copy) (λ c. refl) n (filter (λ c. bytes_eq c.place.device device) copies), under_filter)
 
 -- the families that an entry has begun
-begun_later : (journal : List Entry) (entry : Entry) → is_register entry.report ≡ false → begun (journal ++ entry ∷ []) ≡ begun journal
+pub begun_later : (journal : List Entry) (entry : Entry) → is_register entry.report ≡ false → begun (journal ++ entry ∷ []) ≡ begun journal
 begun_later journal entry later = begun-next journal entry ∙ ap (λ b. begun journal ++ cond b (entry.number ∷ []) []) later ∙ append-nil (begun journal)
 
 -- and they rise
@@ -75,7 +75,7 @@ get_unmap f xs p y at = grind (arith, nat_tests)
 pub get_map : {X : Type 0} (f : ℕ → X) (numbers : List ℕ) (p n : ℕ) → slice_get numbers p ≡ Some n → slice_get (map f numbers) p ≡ Some (f n)
 get_map f numbers p n at = slice_get-map f numbers p ∙ ap (option_map f) at
 
-map_set : {X : Type 0} (f g : ℕ → X) (low : ℕ) (numbers : List ℕ) (p n : ℕ) → AreRising (λ k. k) low numbers → slice_get numbers p ≡ Some n → ((k : ℕ) → k ≢ n → g k ≡ f k)
+pub map_set : {X : Type 0} (f g : ℕ → X) (low : ℕ) (numbers : List ℕ) (p n : ℕ) → AreRising (λ k. k) low numbers → slice_get numbers p ≡ Some n → ((k : ℕ) → k ≢ n → g k ≡ f k)
     → slice_set (map f numbers) p (g n) ≡ map g numbers
 map_set f g low [] p n rises at same = absurd (cc)
 map_set f g low (m ∷ numbers) zero n rises at same =
@@ -140,6 +140,10 @@ module _ (list : List ListedFamily) {journal : List Entry} {by : List ℕ} {repo
       ∙ ap (slice_set (all_listed list) position) (sym (get_or_from_slice_get (all_listed list) position (listed after_it) (listed after_it)
       (ap (λ l. slice_get l position) ready.listed ∙ get_map (family_of journal) (begun journal) position _ (ready.at later) ∙ ap (λ k. Some k) (sym (same ∙ (ready_at ready later it d is).kept)))))
       ∙ set-get_or (all_listed list) position (listed after_it)
+
+  -- at the position is what was put there
+  pub found_set : IsReadyAt journal by report (all_listed list) position copies → is_register report ≡ false → (after_it : ListedFamily) → slice_get (slice_set list position after_it) position ≡ Some after_it
+  found_set ready later after_it = grind (arith, nat_tests, found_there, slice_get-set_same, slice_get_within)
 
   -- which takes what was prepared for it
   pub takes_set : IsReadyAt journal by report (all_listed list) position copies → is_register report ≡ false → (entry : Entry) (lives : List Copy) (after_it : ListedFamily) (step : Step) → IsStepOf entry after_it lives step
