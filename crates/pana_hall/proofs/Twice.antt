@@ -3,9 +3,16 @@ use Rattle.pana_hall.proofs.Words.{◌≡◌, ◌≢◌, ℕ, ◌+◌, ◌<◌, 
 use Rattle.pana_hall.proofs.Words.{refl, sym, ap, ◌∙◌, subst, inl, inr, arith, nat_tests, ne_eqb, eqb-true, length-append, slice_get, slice_set, slice_index_or, map, map-set, cases_order}
 use Rattle.pana_hall.proofs.Words.{Entry, Report, Edit, Copy, copy_in, living, families, report_refusal, subject, family_report, FamilyReport, begun, next_entry, AreSpots, AreBefore, CanReport, Table, kept, is_register, is_of_copies}
 use Rattle.pana_hall.proofs.Words.{IsAccepted, IsReady, IsReadyAt, KeptRows, StampRow, reported_kept, families_of, all_listed, listed, ListedFamily, family_of_next, AreRising, AreContents, AreSayings, content_at, said_in, first_said, second_said}
-use Rattle.pana_hall.proofs.Words.{before_of, earlier, earlier_of, get_or_from_slice_get, Earlier, position_for, IsStepOf, Takes, spot_after, begun_or_joined, say, all_written, IsWithin}
+use Rattle.pana_hall.proofs.Words.{zero, suc, cases_lt, spot_in, spot_of, vec_capacity, before_of, earlier, earlier_of, get_or_from_slice_get, Earlier, position_for, IsStepOf, Takes, spot_after, begun_or_joined, say, all_written, IsWithin}
 use Rattle.pana_hall.specs.Living.{content_by}
-use Rattle.pana_hall.specs.Refusal.{with_report}
+use Rattle.std.specs.Prelude.{vec_len}
+use Rattle.std.specs.Option.{option_or}
+use Rattle.pana_journal.specs.Reports.{given_sum}
+use Rattle.pana_hall.specs.declared.decision.Decision.TheVariants.{Both}
+use Rattle.pana_hall.specs.declared.cause.Cause.TheVariants.{JournalFull}
+use Rattle.pana_hall.specs.declared.next.Next.{Next}
+use Rattle.pana_hall.specs.declared.state.State.{State}
+use Rattle.pana_hall.specs.Refusal.{decision_refusal, with_report}
 use Rattle.pana_hall.specs.declared.next.Step.{Step}
 use Rattle.pana_hall.specs.declared.contents.Sayings.{Sayings}
 use Rattle.pana_hall.specs.inner.Contents.{said_by_sum, entry_of}
@@ -13,13 +20,15 @@ use Rattle.pana_hall.specs.inner.Families.{position_at}
 use Rattle.pana_hall.specs.inner.Kept.{family_of as family_kept, IsKept as IsKeptOf}
 use Rattle.pana_hall.specs.inner.Listed.{IsPreparedAfter}
 use Rattle.pana_family.specs.declared.change.Change.{Change}
-use Rattle.pana_hall.specs.inner.Next.{AreTwo, IsStepAfter, TakesAfter}
+use Rattle.pana_hall.specs.inner.Next.{AreTwo, IsSecond, IsStepAfter, TakesAfter}
 use Rattle.pana_family.specs.After.{reported_rows}
 use Rattle.pana_family.specs.declared.report.FamilyReport.TheVariants as family
 use Rattle.pana_hall.proofs.Sound.{accepted_is_sound, family_new, family_old, LivesIn}
 use Rattle.pana_hall.proofs.Ready.{able_there, accepts_next, family_reported, new_there, own_is, spots_reported}
 use Rattle.pana_hall.proofs.Runs.{next_accepted}
 use Rattle.pana_hall.proofs.Histories.{family_other}
+use Rattle.pana_hall.proofs.Lists.{at-append, rises_each, slice_get-each}
+use Rattle.pana_hall.proofs.Places.{spots_next}
 use Rattle.pana_hall.proofs.Listed.{begun_later, begun_rises, found_entry, map_set, ready_at}
 use Rattle.pana_hall.proofs.Said.{said_next}
 use Rattle.pana_hall.proofs.NextSaid.{next_sayings}
@@ -28,6 +37,9 @@ use Rattle.pana_hall.proofs.NextSaid.{next_sayings}
 pub after_at : {entry next : Entry} {list : List ListedFamily} {position : ℕ} {copies : List Copy} {step : Step} → TakesAfter entry next list position copies step → (it d : ListedFamily) → it ≡ slice_index_or list position d
     → IsStepAfter entry next it copies step
 after_at {entry} {next} {list} {position} {copies} {step} takes it d is = grind (arith, nat_tests, get_or_from_slice_get)
+
+abbrev pub entry_with : ℕ → List ℕ → Report → Entry
+entry_with n by report = record { number = n; by = by; report = report }
 
 has_copy : (o : Option Copy) → IsSome o → (x : Copy) × (o ≡ Some x)
 has_copy None some = absurd (cc)
@@ -157,3 +169,147 @@ module _ (journal : List Entry) (by : List ℕ) (first second : Report) (accepte
       (λ k other. family_other k next more next_sound (accepts_next next by second behind) (λ h. other (sym h ∙ same)) ∙ family_other k journal entry sound (accepts_next journal by first free) (λ h. other (sym h)))
       ∙ ap (map (family_kept (with_report next by second))) (sym (begun_later journal entry later))
       ∙ ap (map (family_kept (with_report next by second))) (sym (begun_later next more next_later))
+
+-- Nothing stands against an Edit of a living copy, but that the journal is full.
+
+free_edit : (journal : List Entry) (copies : List Copy) (by : List ℕ) (c : ℕ) (sum : Option (List ℕ)) → length journal < 1000000 → IsSome (copy_in copies c) → report_refusal 8 journal copies by (Edit c sum) ≡ None
+free_edit journal copies by c sum few lives =
+    let there = has_copy (copy_in copies c) lives in
+    grind (arith, nat_tests, there.1)
+
+full_edit : (journal : List Entry) (copies : List Copy) (by : List ℕ) (c : ℕ) (sum : Option (List ℕ)) → 1000000 ≤ length journal → report_refusal 8 journal copies by (Edit c sum) ≡ Some JournalFull
+full_edit journal copies by c sum many = grind (arith, nat_tests)
+
+-- after it the copies are where they were
+edit_spots : (journal : List Entry) (by : List ℕ) (report : Report) (c : ℕ) (sum : Option (List ℕ)) → report ≡ Edit c sum → IsAccepted 8 journal → report_refusal 8 journal (living journal) by report ≡ None
+    → (number : ℕ) → spot_in (living (with_report journal by report)) number ≡ spot_in (living journal) number
+edit_spots journal by report c sum is accepted free number =
+    spots_next 8 journal (next_entry journal by report) (accepted_is_sound 8 journal accepted) (accepts_next journal by report free) (ap is_of_copies is) number
+    ∙ ap (λ r. spot_after (length journal + 1) r (spot_in (living journal)) number) is
+
+pub same_table : (journal : List Entry) (by : List ℕ) (report : Report) (c : ℕ) (sum : Option (List ℕ)) (copies : Table) → report ≡ Edit c sum → IsAccepted 8 journal → report_refusal 8 journal (living journal) by report ≡ None
+    → AreSpots journal copies → AreSpots (with_report journal by report) copies
+same_table journal by report c sum copies is accepted free spots number = spots number ∙ sym (edit_spots journal by report c sum is accepted free number)
+
+spot_lives : (copies : List Copy) (n : ℕ) → IsSome (spot_in copies n) → IsSome (copy_in copies n)
+spot_lives copies n some = by_copy (copy_in copies n) some
+  where
+    by_copy : (o : Option Copy) → IsSome (option_map spot_of o) → IsSome o
+    by_copy None lives = lives
+    by_copy (Some x) lives = refl
+
+module _ (journal : List Entry) (by : List ℕ) (first second : Report) (accepted : IsAccepted 8 journal) (two : AreTwo journal first second) where
+  pub first_free : length journal < 1000000 → report_refusal 8 journal (living journal) by first ≡ None
+  first_free few = subst (λ r. report_refusal 8 journal (living journal) by r ≡ None) (sym two.first_is) (free_edit journal (living journal) by two.a two.first_sum few two.first_lives)
+
+  second_lives : report_refusal 8 journal (living journal) by first ≡ None → IsSome (copy_in (living (with_report journal by first)) two.b)
+  second_lives free =
+      let there = has_copy (copy_in (living journal) two.b) two.second_lives in
+      spot_lives (living (with_report journal by first)) two.b
+      (subst IsSome (sym (edit_spots journal by first two.a two.first_sum two.first_is accepted free two.b ∙ ap (option_map spot_of) there.1)) refl)
+
+  pub second_free : length journal + 2 ≤ 1000000 → report_refusal 8 (with_report journal by first) (living (with_report journal by first)) by second ≡ None
+  second_free few =
+      let free = first_free (omega arith) in
+      let long = length-append journal (next_entry journal by first ∷ []) in
+      subst (λ r. report_refusal 8 (with_report journal by first) (living (with_report journal by first)) by r ≡ None) (sym two.second_is)
+      (free_edit (with_report journal by first) (living (with_report journal by first)) by two.b two.second_sum (omega (arith, long)) (second_lives free))
+
+  pub both_free : length journal + 2 ≤ 1000000 → decision_refusal 8 journal by (Both first second) ≡ None
+  both_free few =
+      ap (λ o. option_or o (report_refusal 8 (with_report journal by first) (living (with_report journal by first)) by second)) (first_free (omega arith)) ∙ second_free few
+
+  pub both_full : 1000000 < length journal + 2 → decision_refusal 8 journal by (Both first second) ≡ Some JournalFull
+  both_full many = elim (cases_lt (length journal) 1000000) [
+    | inl few ↦
+        let long = length-append journal (next_entry journal by first ∷ []) in
+        ap (λ o. option_or o (report_refusal 8 (with_report journal by first) (living (with_report journal by first)) by second)) (first_free few)
+        ∙ subst (λ r. report_refusal 8 (with_report journal by first) (living (with_report journal by first)) by r ≡ Some JournalFull) (sym two.second_is)
+        (full_edit (with_report journal by first) (living (with_report journal by first)) by two.b two.second_sum (omega (arith, long)))
+    | inr full ↦
+        let whole : report_refusal 8 journal (living journal) by first ≡ Some JournalFull =
+        subst (λ r. report_refusal 8 journal (living journal) by r ≡ Some JournalFull) (sym two.first_is) (full_edit journal (living journal) by two.a two.first_sum full) in
+        ap (λ o. option_or o (report_refusal 8 (with_report journal by first) (living (with_report journal by first)) by second)) whole
+  ]
+
+-- What the second says of contents.
+
+edit_content : (m k b : ℕ) (sum : Option (List ℕ)) (copies : List Copy) → k ≡ m → option_map (λ s. k) sum ≡ entry_of (content_by m (Edit b sum) copies)
+edit_content m k b None copies is = refl
+edit_content m k b (Some s) copies is = ap (λ x. Some x) is
+
+pub second_sayings : (journal : List Entry) (by : List ℕ) (report : Report) (b : ℕ) (sum : Option (List ℕ)) → report ≡ Edit b sum → IsAccepted 8 journal → report_refusal 8 journal (living journal) by report ≡ None → (n : ℕ) → n ≡ length journal
+    → (contents : List (Option ℕ)) (sayings : Sayings) → AreContents journal contents
+    → ((entries : ℕ → Option ℕ) (number : ℕ) → all_written sayings entries number ≡ said_by_sum (n + 1) report entries number)
+    → option_map (λ s. s.copy) sayings.first ≡ first_said (n + 1) report → option_map (λ s. s.copy) sayings.second ≡ second_said report → AreSayings journal (next_entry journal by report) contents sayings
+second_sayings journal by report b sum is accepted free n n_is contents sayings are written first second =
+    next_sayings journal by report accepted free contents (option_map (λ s. n + 1) (given_sum report)) n sayings are (λ m withdraws. absurd (cc))
+    (ap (λ r. option_map (λ s. n + 1) (given_sum r)) is ∙ edit_content (length journal + 1) (n + 1) b sum (living journal) (ap (λ k. k + 1) n_is) ∙ ap (λ r. entry_of (content_by (length journal + 1) r (living journal))) (sym is))
+    n_is written first second
+
+-- The two are next.
+
+-- numbers that rise stand each at one place
+rising_once : (low : ℕ) (numbers : List ℕ) (p q n : ℕ) → AreRising (λ k. k) low numbers → slice_get numbers p ≡ Some n → slice_get numbers q ≡ Some n → p ≡ q
+rising_once low [] p q n rises at also = absurd (cc)
+rising_once low (m ∷ numbers) zero zero n rises at also = refl
+rising_once low (m ∷ numbers) zero (suc q) n rises at also =
+    let above = slice_get-each (λ k. m < k) numbers q n (rises_each (λ k. k) m numbers rises.1) also in
+    let same : m ≡ n = cc in
+    absurd (omega (arith, above))
+rising_once low (m ∷ numbers) (suc p) zero n rises at also =
+    let above = slice_get-each (λ k. m < k) numbers p n (rises_each (λ k. k) m numbers rises.1) at in
+    let same : m ≡ n = cc in
+    absurd (omega (arith, above))
+rising_once low (m ∷ numbers) (suc p) (suc q) n rises at also = ap suc (rising_once m numbers p q n rises.1 at also)
+
+-- both are of the family at one position
+pub second_position : (journal : List Entry) (first second : Report) (list : List KeptRows) (positions : List ℕ) (copies : Table) (said : List (Option ℕ)) (p : ℕ) → IsKeptOf journal list positions copies said → AreTwo journal first second
+    → position_for list positions first ≡ Some p → position_for list positions second ≡ Some p
+second_position journal first second list positions copies said p all two at =
+    let first_there = has_copy (copy_in (living journal) two.a) two.first_lives in
+    let second_there = has_copy (copy_in (living journal) two.b) two.second_lives in
+    let first_in = found_entry journal two.a first_there.0 all.accepted first_there.1 in
+    let second_in = found_entry journal two.b second_there.0 all.accepted second_there.1 in
+    let one = all.placed.at two.a first_in.0 first_in.1 in
+    let other = all.placed.at two.b second_in.0 second_in.1 in
+    let here : Some p ≡ Some one.0 = sym at ∙ ap (λ r. position_for list positions r) two.first_is ∙ one.1 in
+    let p_is : p ≡ one.0 = cc in
+    let same : other.0 ≡ one.0 =
+    rising_once 0 (begun journal) other.0 one.0 (families journal two.a) (begun_rises journal (accepted_is_sound 8 journal all.accepted).rising) (other.2 ∙ ap (λ f. Some f) (sym two.family)) one.2 in
+    ap (λ r. position_for list positions r) two.second_is ∙ other.1 ∙ ap (λ k. Some k) (same ∙ sym p_is)
+
+-- also once the first is made
+pub second_placed : (journal : List Entry) (by : List ℕ) (first second : Report) (list : List KeptRows) (positions : List ℕ) (copies : Table) (said : List (Option ℕ)) (p : ℕ) → IsKeptOf journal list positions copies said → AreTwo journal first second
+    → position_for list positions first ≡ Some p → position_for (families_of (with_report journal by first)) (positions ++ p ∷ []) second ≡ Some p
+second_placed journal by first second list positions copies said p all two at =
+    let there = second_position journal first second list positions copies said p all two at in
+    let here : position_at positions two.b ≡ Some p = sym (ap (λ r. position_for list positions r) two.second_is) ∙ there in
+    ap (λ r. position_for (families_of (with_report journal by first)) (positions ++ p ∷ []) r) two.second_is ∙ at-append positions (p ∷ []) two.b p here
+
+-- what holds at these values holds of the two
+module _ (state : State) (first second : Next) (journal : List Entry) (by : List ℕ) (one other : Report) (journal_is : state.journal.entries ≡ journal) (first_is : first.entry ≡ next_entry journal by one)
+    (second_is : second.entry ≡ next_entry (with_report journal by one) by other) where
+  at_these : (P : List Entry → List ℕ → Report → Report → Type 0) → P journal by one other → P state.journal.entries first.entry.by first.entry.report second.entry.report
+  at_these P p =
+      subst (λ j. P j first.entry.by first.entry.report second.entry.report) (sym journal_is)
+      (subst (λ b. P journal b first.entry.report second.entry.report) (ap (λ (e : Entry). e.by) (sym first_is))
+      (subst (λ r. P journal by r second.entry.report) (ap (λ (e : Entry). e.report) (sym first_is)) (subst (λ r. P journal by one r) (ap (λ (e : Entry). e.report) (sym second_is)) p)))
+
+  pub next_two : AreTwo journal one other → report_refusal 8 (with_report journal by one) (living (with_report journal by one)) by other ≡ None → 2 ≤ state.journal.room
+      → vec_len state.families.positions + 2 ≤ vec_capacity state.families.positions → vec_len state.contents.entries + 2 ≤ vec_capacity state.contents.entries
+      → ((said : List (Option ℕ)) → AreContents (with_report journal by one) said → AreSayings (with_report journal by one) (next_entry (with_report journal by one) by other) said second.sayings)
+      → TakesAfter (next_entry journal by one) (next_entry (with_report journal by one) by other) state.families.list.items first.position (living (with_report journal by one)) second.step → IsSecond state first second
+  next_two two free entries positions contents sayings step = record {
+    two = at_these (λ j b r s. AreTwo j r s) two;
+    entry = at_these (λ j b r s. second.entry ≡ next_entry (with_report j b r) b s) second_is;
+    free = at_these (λ j b r s. report_refusal 8 (with_report j b r) (living (with_report j b r)) b s ≡ None) free;
+    entries = entries;
+    positions = positions;
+    contents = contents;
+    sayings = at_these (λ j b r s. (said : List (Option ℕ)) → AreContents (with_report j b r) said → AreSayings (with_report j b r) second.entry said second.sayings)
+        (subst (λ e. (said : List (Option ℕ)) → AreContents (with_report journal by one) said → AreSayings (with_report journal by one) e said second.sayings) (sym second_is) sayings);
+    step = at_these (λ j b r s. TakesAfter first.entry second.entry state.families.list.items first.position (living (with_report j b r)) second.step)
+        (subst (λ e. TakesAfter e second.entry state.families.list.items first.position (living (with_report journal by one)) second.step) (sym first_is)
+        (subst (λ e. TakesAfter (next_entry journal by one) e state.families.list.items first.position (living (with_report journal by one)) second.step) (sym second_is) step));
+  }

@@ -8,7 +8,7 @@ ghost use Rattle.pana_hall.specs.{inner.Listed.all_listed, inner.Listed.listed, 
 ghost use Rattle.pana_hall.specs.inner.Contents.{AreContents, all_written, content_at, first_said, said_by_sum, second_said};
 ghost use Rattle.pana_hall.specs.inner.Undo.{earlier, earlier_of};
 ghost use Rattle.pana_hall.specs.inner.Kept.{AreSpots, IsReady, IsReadyAt, families_of, family_of, next_entry};
-ghost use Rattle.pana_hall.specs.inner.Next.{AreNext, AreTwo, IsStepAfter, IsStepOf, Takes, TakesAfter};
+ghost use Rattle.pana_hall.specs.inner.Next.{AreTwo, IsNext, IsSecond, IsStepAfter, IsStepOf, Takes, TakesAfter};
 
 use crate::cause::Cause;
 use crate::changing::said_by;
@@ -197,7 +197,8 @@ impl State {
         ensures kept { IsHeld self.new }
         ensures first { IfOk result (λ made. made.0.entry ≡ next_entry self.old.journal.entries by.now first) }
         ensures second { IfOk result (λ made. made.1.entry ≡ next_entry (with_report self.old.journal.entries by.now first) by.now second) }
-        ensures next { IfOk result (λ made. AreNext self.new made.0 made.1) }
+        ensures next { IfOk result (λ made. IsNext self.new made.0) }
+        ensures behind { IfOk result (λ made. IsSecond self.new made.0 made.1) }
     {
         self.journal.reserve(2).map_err(|_| AllocError)?;
         self.copies.reserve()?;
@@ -252,7 +253,8 @@ impl State {
         ensures free { OnOk result (decision_refusal 8 self.old.journal.entries by.now (Both first second) ≡ None) }
         ensures first { IfOk result (λ made. made.0.entry ≡ next_entry self.old.journal.entries by.now first) }
         ensures second { IfOk result (λ made. made.1.entry ≡ next_entry (with_report self.old.journal.entries by.now first) by.now second) }
-        ensures next { IfOk result (λ made. AreNext self.new made.0 made.1) }
+        ensures next { IfOk result (λ made. IsNext self.new made.0) }
+        ensures behind { IfOk result (λ made. IsSecond self.new made.0 made.1) }
     {
         if self.journal.length() + 2 > MOST_ENTRIES {
             return Err(Cause::JournalFull);
@@ -266,7 +268,8 @@ impl State {
     /// Makes two Edits that were prepared the next entries of the journal, and returns the second's number. Takes no memory.
     pub fn commit_two(&mut self, first: Next, second: Next) -> u64
         requires kept { IsHeld self.old }
-        requires next { AreNext self.old first second }
+        requires next { IsNext self.old first }
+        requires behind { IsSecond self.old first second }
         ensures { Records (with_report self.old.journal.entries first.entry.by first.entry.report) first.entry.by second.entry.report result self.new }
     {
         let Next {

@@ -83,9 +83,8 @@ pub record AreTwo (journal : List Entry) (first second : Report) : Type 0 where
   pub second_lives : IsSome (copy_in (living journal) b)
   pub family : families journal a ≡ families journal b
 
--- these are to be the next two entries, and there is room for all that they change
-pub record AreNext (state : State) (first second : Next) : Type 0 where
-  pub is_first : IsNext state first
+-- the second is to be the entry behind the next one, and there is room for all that both change
+pub record IsSecond (state : State) (first second : Next) : Type 0 where
   pub two : AreTwo state.journal.entries first.entry.report second.entry.report
   pub entry : second.entry ≡ next_entry (with_report state.journal.entries first.entry.by first.entry.report) first.entry.by second.entry.report
   pub free : (let journal = with_report state.journal.entries first.entry.by first.entry.report in report_refusal 8 journal (living journal) first.entry.by second.entry.report ≡ None)
@@ -98,4 +97,4 @@ pub record AreNext (state : State) (first second : Next) : Type 0 where
 -- an entry, or two
 abbrev pub ArePlanned : State → Next → Option Next → Type 0
 ArePlanned state next None = IsNext state next
-ArePlanned state next (Some second) = AreNext state next second
+ArePlanned state next (Some second) = IsNext state next × IsSecond state next second
