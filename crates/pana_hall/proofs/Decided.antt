@@ -1,6 +1,11 @@
 -- What a sighting comes to, by the numbers of copies.
 use Rattle.pana_hall.proofs.Words.{◌≡◌, ℕ, Bool, true, false, not, ◌&&◌, ◌||◌, ◌==◌, List, [], ◌∷◌, map, filter, find, list_any, Option, Some, None, is_none, is_some, option_map, option_and_then, unwrap_or}
 use Rattle.pana_hall.proofs.Words.{filter_agree, refl, sym, ap, ap₂, ◌∙◌, subst, arith, nat_tests, map-map, then_some, AllByRecursion, Place, Table, Entry, Copy, copy_in, living, is_of, IsAccepted, AreSpots, bytes_eq}
+use Rattle.pana_hall.proofs.Words.{◌<◌, AreRising, In, any_from, eq-eqb, eqb-true, has, in_filter, cond, inl, inr}
+use Rattle.std.proofs.Common.{◌↔◌}
+use Rattle.std.proofs.lemmas.Slice.Eq.{bytes_eq-Decides}
+use Rattle.pana_hall.specs.inner.Finding as by_path
+use Rattle.pana_family.proofs.Members.{any_some, from_both, to_filter}
 use Rattle.pana_hall.proofs.Words.{Edit, Reconcile, Merge, Remove, Note, IsSome, IsThere}
 use Rattle.pana_hall.specs.declared.call.Sighting.{Sighting}
 use Rattle.pana_hall.specs.declared.call.Sighting.TheVariants.{Found, Missing}
@@ -16,11 +21,11 @@ use Rattle.pana_hall.specs.Status.{copy_relation, family_copies}
 use Rattle.pana_hall.specs.Finding.{best, decision, elsewhere, first_or, found, found_again, found_new, heir_of, holds, holds_other, missing, others, relates_to}
 use Rattle.pana_hall.specs.inner.Rows.{place_at, sum_in}
 use Rattle.pana_hall.specs.inner.Relatives.{first_number, relates_so, relative, relatives_of}
-use Rattle.pana_hall.specs.inner.Finding.{again_in, best_in, changed_in, heir_in, holders_in, holds_so, is_newer, is_other, is_unlike, knows_all, passes, source_of}
-use Rattle.pana_hall.proofs.Lists.{each_filter, each_of, each_weaker, filter_filter, found_by}
+use Rattle.pana_hall.specs.inner.Finding.{again_in, best_in, changed_in, heir_in, holders_in, holds_so, is_elsewhere, is_newer, is_other, is_unlike, knows_all, passes, source_of}
+use Rattle.pana_hall.proofs.Lists.{each_filter, each_of, each_weaker, filter_filter, found_by, rises_each, rises_filter, rises_map}
 use Rattle.pana_hall.proofs.Moves.{found_number}
-use Rattle.pana_hall.proofs.{Places.living_found, Ready.place_spots}
-use Rattle.pana_hall.proofs.Related.{any_alike, filter_alike, find_alike, find_filter, has_copy, own_found, related, relatives_are, there_is}
+use Rattle.pana_hall.proofs.{Listed.same_by_key, Places.living_found, Ready.at_spots, Ready.place_spots, Runs.rising}
+use Rattle.pana_hall.proofs.Related.{any_alike, each_from, each_in, filter_alike, find_alike, find_filter, has_copy, own_found, related, relatives_are, there_is}
 
 -- A test by number is that of the copy that lives under it.
 
@@ -37,22 +42,22 @@ passes_sum test copies n = by_copy (copy_in copies n)
 
 -- The best of some copies, by their numbers.
 
-abbrev Lives : List Copy → Copy → Type 0
-Lives copies c = copy_in copies c.known.copy ≡ Some c
+abbrev LivesAmong : List Copy → Copy → Type 0
+LivesAmong copies c = copy_in copies c.known.copy ≡ Some c
 
-newer_is : (copies : List Copy) (c d : Copy) → Lives copies c → Lives copies d → is_newer copies c.known.copy d.known.copy ≡ relates_to rels.Newer c d
+newer_is : (copies : List Copy) (c d : Copy) → LivesAmong copies c → LivesAmong copies d → is_newer copies c.known.copy d.known.copy ≡ relates_to rels.Newer c d
 newer_is copies c d at there = passes_is _ copies c.known.copy c at ∙ passes_is (relates_to rels.Newer c) copies d.known.copy d there
 
-pub best_is : (copies xs : List Copy) → AllByRecursion (Lives copies) xs → best_in copies (map (λ c. c.known.copy) xs) ≡ option_map (λ c. c.known.copy) (best xs)
+pub best_is : (copies xs : List Copy) → AllByRecursion (LivesAmong copies) xs → best_in copies (map (λ c. c.known.copy) xs) ≡ option_map (λ c. c.known.copy) (best xs)
 best_is copies xs each =
     find_alike (λ n. not (list_any (is_newer copies n) (map (λ c. c.known.copy) xs))) (λ c. not (list_any (relates_to rels.Newer c) xs)) (λ c. c.known.copy) xs
-    (each_weaker (Lives copies) _ xs (λ c at. ap not (any_alike (is_newer copies c.known.copy) (relates_to rels.Newer c) (λ d. d.known.copy) xs (each_weaker (Lives copies) _ xs (λ d there. newer_is copies c d at there) each))) each)
+    (each_weaker (LivesAmong copies) _ xs (λ c at. ap not (any_alike (is_newer copies c.known.copy) (relates_to rels.Newer c) (λ d. d.known.copy) xs (each_weaker (LivesAmong copies) _ xs (λ d there. newer_is copies c d at there) each))) each)
 
 -- so of those elsewhere
 pub source_is : (journal : List Entry) (place : Place) (sum : List ℕ) (numbers : List ℕ) → IsAccepted 8 journal → numbers ≡ map (λ c. c.known.copy) (elsewhere (living journal) place sum)
     → best_in (living journal) numbers ≡ source_of (living journal) place sum
 source_is journal place sum numbers accepted are =
-    ap (best_in (living journal)) are ∙ best_is (living journal) (elsewhere (living journal) place sum) (each_filter (Lives (living journal)) _ (living journal) (living_found 8 journal accepted))
+    ap (best_in (living journal)) are ∙ best_is (living journal) (elsewhere (living journal) place sum) (each_filter (LivesAmong (living journal)) _ (living journal) (living_found 8 journal accepted))
 
 -- The relatives of a living copy.
 
@@ -156,7 +161,7 @@ module _ (journal : List Entry) (n : ℕ) (x : Copy) (accepted : IsAccepted 8 jo
   other_is y = ap (λ k. not (y.known.copy == k)) (sym number)
 
   -- those that relate so and hold the sum
-  holds_alike : (rel : Rel) (sum : List ℕ) (y : Copy) → Lives (living journal) y → holds_so (living journal) rel sum n (of_number y) ≡ (relates (λ c. c.known.copy) copy_relation rel x y && holds sum y)
+  holds_alike : (rel : Rel) (sum : List ℕ) (y : Copy) → LivesAmong (living journal) y → holds_so (living journal) rel sum n (of_number y) ≡ (relates (λ c. c.known.copy) copy_relation rel x y && holds sum y)
   holds_alike rel sum y there = ap₂ (λ (a b : Bool). a && b) (related journal n x accepted at rel y there) (passes_is (holds sum) (living journal) y.known.copy y there)
 
   holders_same : (rel : Rel) (sum : List ℕ) → filter (λ y. relates (λ c. c.known.copy) copy_relation rel x y && holds sum y) own ≡ filter (relates_to rel x) (filter (holds sum) (others (living journal) x))
@@ -180,10 +185,10 @@ module _ (journal : List Entry) (n : ℕ) (x : Copy) (accepted : IsAccepted 8 jo
   pub best_holder_is : (rel : Rel) (sum : List ℕ) → best_in (living journal) (holders_in (living journal) rel sum n (relatives_of journal n)) ≡ option_map (λ c. c.known.copy) (best (filter (relates_to rel x) (filter (holds sum) (others (living journal) x))))
   best_holder_is rel sum =
       ap (best_in (living journal)) (holders_are rel sum)
-      ∙ best_is (living journal) _ (each_filter (Lives (living journal)) (relates_to rel x) _ (each_filter (Lives (living journal)) (holds sum) _ (each_filter (Lives (living journal)) _ (living journal) (living_found 8 journal accepted))))
+      ∙ best_is (living journal) _ (each_filter (LivesAmong (living journal)) (relates_to rel x) _ (each_filter (LivesAmong (living journal)) (holds sum) _ (each_filter (LivesAmong (living journal)) _ (living journal) (living_found 8 journal accepted))))
 
   -- the first of the others that passes a test
-  first_is : (test : Relative → Bool) (q : Copy → Bool) → ((y : Copy) → Lives (living journal) y → is_of x.family y ≡ true → test (of_number y) ≡ (q y && is_apart y))
+  first_is : (test : Relative → Bool) (q : Copy → Bool) → ((y : Copy) → LivesAmong (living journal) y → is_of x.family y ≡ true → test (of_number y) ≡ (q y && is_apart y))
       → first_number test (relatives_of journal n) ≡ option_map (λ c. c.known.copy) (find q (others (living journal) x))
   first_is test q alike =
       ap (first_number test) (relatives_are journal n x accepted at)
@@ -237,10 +242,10 @@ module _ (journal : List Entry) (n : ℕ) (x : Copy) (accepted : IsAccepted 8 jo
       let alone : Bool = is_none_of (others copies x) in
       let unknown : Bool = is_none (sum_of x) in
       let sums : (y : Copy) → unlike ≡ Some y → sum_in copies y.known.copy ≡ sum_of y =
-      λ y e. ap (option_and_then sum_of) (found_by _ (Lives copies) (others copies x) y (each_filter (Lives copies) _ copies (living_found 8 journal accepted)) e).1 in
+      λ y e. ap (option_and_then sum_of) (found_by _ (LivesAmong copies) (others copies x) y (each_filter (LivesAmong copies) _ copies (living_found 8 journal accepted)) e).1 in
       let changed : changed_by n sum (not (list_any (is_other n) (relatives_of journal n))) (source_of copies x.place sum) (first_number (is_unlike copies sum n) (relatives_of journal n)) (is_none (sum_in copies n)) (sum_in copies)
-          ≡ changed_by x.known.copy sum alone (option_map (λ c. c.known.copy) source) (option_map (λ c. c.known.copy) unlike) unknown (sum_in copies) =
-      cc (alone_is, unlike_is sum, ap (λ o. is_none (option_and_then sum_of o)) at, number) in
+      ≡ changed_by x.known.copy sum alone (option_map (λ c. c.known.copy) source) (option_map (λ c. c.known.copy) unlike) unknown (sum_in copies) =
+      cc (alone_is, unlike_is sum, number) in
       again_parts copies sum n (relatives_of journal n) (source_of copies x.place sum)
       ∙ ap (again_by n sum _ _ _) (changed ∙ changed_same x.known.copy sum alone source unlike unknown (sum_in copies) sums)
       ∙ again_all newer conflict (first_or (One (Edit x.known.copy (Some sum))) (changes_of x.known.copy sum alone source unlike unknown)) (best_holder_is rels.Newer sum) (best_holder_is rels.Conflict sum)
@@ -306,3 +311,86 @@ unfolding missing
 decided_none journal table place there sighting accepted spots is_there at is =
     let own = there_is journal table place there accepted spots is_there ∙ ap (option_and_then (copy_in (living journal))) at in
     sym (ap (decision (living journal)) is ∙ ap (λ o. unwrap_or (option_map (λ copy. One (Remove copy.known.copy (heir_of (living journal) copy))) o) (Known None)) own)
+
+-- The copies elsewhere, from the numbers of those with the path.
+
+-- a number that is in a list is found there
+number_found : (xs : List ℕ) (n : ℕ) → find (λ x. x == n) xs ≡ then_some (has xs n) n
+number_found [] n = refl
+number_found (x ∷ xs) n = grind (arith, nat_tests, number_found xs n)
+
+has_filter : (p : ℕ → Bool) (xs : List ℕ) (n : ℕ) → has (filter p xs) n ≡ (p n && has xs n)
+has_filter p [] n = grind (arith, nat_tests)
+has_filter p (x ∷ xs) n = grind (arith, nat_tests, has_filter p xs n)
+
+-- what is found is a member
+found_member : (p : Copy → Bool) (xs : List Copy) (x : Copy) → find p xs ≡ Some x → In x xs
+found_member p [] x e = absurd (cc)
+found_member p (y ∷ xs) x e =
+    elim (p y) as (λ b. cond b (Some y) (find p xs) ≡ Some x → In x (y ∷ xs)) [
+      | true ↦ λ f. inl (let same : y ≡ x = cc in sym same)
+      | false ↦ λ f. inr (found_member p xs x f)
+    ] e
+
+-- a copy that passes the test has the number where the one with the number passes it
+has_passing : (test : Copy → Bool) (copies : List Copy) (n : ℕ) → AllByRecursion (LivesAmong copies) copies → has (map (λ c. c.known.copy) (filter test copies)) n ≡ passes test copies n
+has_passing test copies n each =
+    any_alike (λ m. m == n) (λ c. c.known.copy == n) (λ c. c.known.copy) (filter test copies) (each_of _ (λ c. refl) (filter test copies))
+    ∙ from_both _ _
+    (λ e.
+    let z = any_some (λ c. c.known.copy == n) (filter test copies) e in
+    let k = in_filter test copies z.0 z.1 in
+    let here : LivesAmong copies z.0 = each_in (LivesAmong copies) copies z.0 each k.0 in
+    passes_is test copies n z.0 (subst (λ m. copy_in copies m ≡ Some z.0) (eqb-true z.0.known.copy n z.2) here) ∙ k.1)
+    (λ e. by_copy (copy_in copies n) refl e)
+  where
+    by_copy : (o : Option Copy) → copy_in copies n ≡ o → unwrap_or (option_map test o) false ≡ true → list_any (λ c. c.known.copy == n) (filter test copies) ≡ true
+    by_copy None at e = absurd (cc)
+    by_copy (Some x) at e = any_from (λ c. c.known.copy == n) (filter test copies) x (to_filter test copies x (found_member (λ c. c.known.copy == n) copies x at) e) (eq-eqb x.known.copy n (found_number copies n x at))
+
+and_less : (a b : Bool) → (a ≡ true → b ≡ true) → (a && b) ≡ a
+and_less true b f = f refl
+and_less false b f = refl
+
+module _ (journal : List Entry) (table : Table) (place : Place) (sum : List ℕ) (numbers : List ℕ) (accepted : IsAccepted 8 journal) (spots : AreSpots journal table)
+    (with_path : (n : ℕ) → (list_any (λ m. m == n) numbers ≡ true) ↔ by_path.HasPath table place.path n) where
+  abbrev test : ℕ → Bool
+  test = passes (is_elsewhere place sum) (living journal)
+
+  -- they are numbers of living copies, and so above 0
+  number_above : (n : ℕ) → In n numbers → 0 < n
+  number_above n i =
+      let path = (with_path n).0 (any_from (λ m. m == n) numbers n i (eq-eqb n n refl)) in
+      let there = at_spots journal table spots n path.0 path.1 in
+      let above = (found_by (λ c. c.known.copy == n) (λ c. 0 < c.known.copy) (living journal) there.0 (rises_each (λ c. c.known.copy) 0 (living journal) (rising 8 journal accepted).0) there.1).1 in
+      subst (λ k. 0 < k) (found_number (living journal) n there.0 there.1) above
+
+  rises_behind : (x : ℕ) (xs : List ℕ) → by_path.AreRising (x ∷ xs) → AreRising (λ n. n) x xs
+  rises_behind x [] rises = tt
+  rises_behind x (y ∷ xs) rises = (rises.0.0, rises_behind y xs rises.1)
+
+  rises_above_zero : (xs : List ℕ) → AllByRecursion (λ n. 0 < n) xs → by_path.AreRising xs → AreRising (λ n. n) 0 xs
+  rises_above_zero [] above rises = tt
+  rises_above_zero (x ∷ xs) above rises = (above.0, rises_behind x xs rises)
+
+  -- each copy elsewhere is among them
+  same_path : (x : Copy) → is_elsewhere place sum x ≡ true → x.place.path ≡ place.path
+  same_path x e = grind (arith, nat_tests, bytes_eq-Decides)
+
+  passing_among : (n : ℕ) → (test n && has numbers n) ≡ test n
+  passing_among n = by_copy (copy_in (living journal) n) refl
+    where
+      by_copy : (o : Option Copy) → copy_in (living journal) n ≡ o → (unwrap_or (option_map (is_elsewhere place sum) o) false && has numbers n) ≡ unwrap_or (option_map (is_elsewhere place sum) o) false
+      by_copy None at = refl
+      by_copy (Some x) at =
+          and_less (is_elsewhere place sum x) (has numbers n) (λ e. (with_path n).1 (x.place, place_spots journal table spots n ∙ ap (option_map (λ copy. copy.place)) at, same_path x e))
+
+  pub elsewhere_is : by_path.AreRising numbers → filter test numbers ≡ map (λ c. c.known.copy) (elsewhere (living journal) place sum)
+  elsewhere_is rises =
+      let copies = living journal in
+      same_by_key (λ n. n) 0 (filter test numbers) (map (λ c. c.known.copy) (elsewhere copies place sum))
+      (rises_filter (λ n. n) 0 test numbers (rises_above_zero numbers (each_from _ numbers number_above) rises))
+      (rises_map (λ c. c.known.copy) (λ c. c.known.copy) (λ n. n) (λ c. refl) 0 (elsewhere copies place sum) (rises_filter (λ c. c.known.copy) 0 (is_elsewhere place sum) copies (rising 8 journal accepted).0))
+      (λ n. number_found (filter test numbers) n
+      ∙ ap (λ b. then_some b n) (has_filter test numbers n ∙ passing_among n ∙ sym (has_passing (is_elsewhere place sum) copies n (living_found 8 journal accepted)))
+      ∙ sym (number_found (map (λ c. c.known.copy) (elsewhere copies place sum)) n))

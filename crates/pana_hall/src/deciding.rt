@@ -1,17 +1,17 @@
 //! What is done of a sighting.
-ghost use Rattle.std.specs.Prelude.{◌≡◌, IfOk, IsSome, None, Some, filter, is_none, map, not, option_copied, option_map};
+ghost use Rattle.std.specs.Prelude.{◌≡◌, ◌↔◌, ◌==◌, ℕ, true, IfOk, IsSome, None, Some, filter, map, not, option_copied, option_map};
 ghost use Rattle.std.specs.List.{list_any};
 ghost use Rattle.pana_event.specs.declared.rel.Rel.TheVariants as rels;
 ghost use Rattle.pana_hall.specs.{Living.copy_in, Living.living, Living.number_of, inner.Relatives.relatives_of, inner.Rows.place_at, inner.Rows.sum_in, inner.State.IsHeld};
 ghost use Rattle.pana_hall.specs.Finding.{decision, elsewhere, found_again, found_new, heir_of, holds, holds_other};
-ghost use Rattle.pana_hall.specs.inner.Finding.{again_in, best_in, changed_in, heir_in, holders_in, holds_so, is_elsewhere, is_newer, is_other, is_unlike, knows_all, passes, source_of};
+ghost use Rattle.pana_hall.specs.inner.Finding.{AreRising, HasPath, again_in, best_in, changed_in, heir_in, holders_in, holds_so, is_elsewhere, is_newer, is_other, is_unlike, knows_all, passes, source_of};
 ghost use Rattle.pana_hall.specs.inner.Relatives.{first_number};
 
 use crate::call::Sighting;
 use crate::decision::Decision;
 use crate::relating::{Relative, is_rel, relates};
 use crate::state::State;
-use pana_copies::{Place, Sum};
+use pana_copies::{CopyPath, Place, Sum};
 use pana_event::Rel;
 use pana_journal::Report;
 use std::alloc::{AllocError, Global};
@@ -68,6 +68,7 @@ impl State {
         copies.iter().any(|other| self.is_newer(copy, *other))
     }
 
+    /// Whether none of these is newer than the copy.
     fn has_no_newer(&self, copies: &[u64], copy: u64) -> bool
         requires { IsHeld self.now }
         ensures { result ≡ not (list_any (is_newer (living self.now.journal.entries) copy) copies.now) }
@@ -94,7 +95,7 @@ impl State {
         relates(it, wanted, copy) && self.holds(it.copy, sum)
     }
 
-    /// The relatives that relate so to the copy and hold the sum, by number.
+    /// The numbers of those of the copy's relatives that relate so to it and hold the sum.
     fn holders(
         &self,
         alloc: Global,
@@ -113,7 +114,7 @@ impl State {
             .collect(alloc)
     }
 
-    /// The first of the copy's relatives that relate so to it and hold the sum than which none of these is newer.
+    /// The first of these than which none of these is newer.
     fn best_holder(
         &self,
         alloc: Global,
@@ -129,12 +130,53 @@ impl State {
         Ok(self.best(holders.as_slice()))
     }
 
+    /// Whether the copy lives on another device, at the path of the place, and holds the sum.
+    fn is_elsewhere(&self, place: &Place, sum: &Sum, copy: u64) -> bool
+        requires { IsHeld self.now }
+        ensures { result ≡ passes (is_elsewhere place.now sum.now) (living self.now.journal.entries) copy }
+    {
+        match self.copies.get(copy) {
+            Some(kept) => {
+                kept.place.path == place.path
+                    && kept.place.device != place.device
+                    && self.holds(copy, sum)
+            }
+            None => false,
+        }
+    }
+
+    /// Those of these copies that live on another device, at the path of the place, and hold the sum.
+    fn elsewhere_among(
+        &self,
+        alloc: Global,
+        place: &Place,
+        sum: &Sum,
+        copies: &[u64],
+    ) -> Result<Vec<u64>, AllocError>
+        requires { IsHeld self.now }
+        ensures { IfOk result (λ made. made.items ≡ filter (passes (is_elsewhere place.now sum.now) (living self.now.journal.entries)) copies.now) }
+    {
+        copies
+            .iter()
+            .copied()
+            .filter(|copy| self.is_elsewhere(place, sum, *copy))
+            .collect(alloc)
+    }
+
+    fn with_path(&self, alloc: Global, path: &CopyPath) -> Result<Vec<u64>, AllocError>
+        ensures rising { IfOk result (λ found. AreRising found.items) }
+        ensures found { IfOk result (λ found. (copy : ℕ) → (list_any (λ n. n == copy) found.items ≡ true) ↔ HasPath self.now.copies path.now copy) }
+    {
+        Vec::with_capacity(alloc, 0)
+    }
+
     /// The copies with the path of the place on other devices that hold the sum, by rising number.
     fn elsewhere(&self, alloc: Global, place: &Place, sum: &Sum) -> Result<Vec<u64>, AllocError>
         requires { IsHeld self.now }
         ensures { IfOk result (λ made. made.items ≡ map number_of (elsewhere (living self.now.journal.entries) place.now sum.now)) }
     {
-        Vec::with_capacity(alloc, 0)
+        let copies = self.with_path(alloc, &place.path)?;
+        self.elsewhere_among(alloc, place, sum, copies.as_slice())
     }
 
     /// The copy that a file at the place with the sum was made of: the best of those elsewhere.
@@ -146,14 +188,20 @@ impl State {
         Ok(self.best(copies.as_slice()))
     }
 
-    /// The first relative that equals the copy and holds bytes with another sum.
+    /// Whether it is another that equals the copy and holds bytes with another sum.
+    fn is_unlike(&self, it: &Relative, sum: &Sum, copy: u64) -> bool
+        requires { IsHeld self.now }
+        ensures { result ≡ is_unlike (living self.now.journal.entries) sum.now copy it.now }
+    {
+        relates(it, Rel::Equal, copy) && self.holds_other(it.copy, sum)
+    }
+
+    /// The first such relative of the copy.
     fn first_unlike(&self, sum: &Sum, copy: u64, relatives: &[Relative]) -> Option<u64>
         requires { IsHeld self.now }
         ensures { result ≡ first_number (is_unlike (living self.now.journal.entries) sum.now copy) relatives.now }
     {
-        let found = relatives
-            .iter()
-            .find(|it| relates(it, Rel::Equal, copy) && self.holds_other(it.copy, sum))?;
+        let found = relatives.iter().find(|it| self.is_unlike(it, sum, copy))?;
         Some(found.copy)
     }
 
@@ -184,8 +232,14 @@ impl State {
             Some(other) => {
                 let other_sum = self.sum_of(alloc, other)?;
                 Ok(Decision::Both(
-                    Report::Edit { copy: other, sum: other_sum },
-                    Report::Edit { copy, sum: Some(sum) },
+                    Report::Edit {
+                        copy: other,
+                        sum: other_sum,
+                    },
+                    Report::Edit {
+                        copy,
+                        sum: Some(sum),
+                    },
                 ))
             }
             None => Ok(Decision::One(Report::Note { copy, sum })),
@@ -205,10 +259,18 @@ impl State {
         ensures { IfOk result (λ made. made ≡ again_in (living self.now.journal.entries) sum copy relatives.now (source_of (living self.now.journal.entries) (place_at self.now.copies copy) sum)) }
     {
         if let Some(b) = self.best_holder(alloc, Rel::Newer, &sum, copy, relatives)? {
-            return Ok(Decision::One(Report::Reconcile { a: copy, b, sum: Some(sum) }));
+            return Ok(Decision::One(Report::Reconcile {
+                a: copy,
+                b,
+                sum: Some(sum),
+            }));
         }
         if let Some(b) = self.best_holder(alloc, Rel::Conflict, &sum, copy, relatives)? {
-            return Ok(Decision::One(Report::Merge { a: copy, b, sum: Some(sum) }));
+            return Ok(Decision::One(Report::Merge {
+                a: copy,
+                b,
+                sum: Some(sum),
+            }));
         }
         if self.holds(copy, &sum) {
             return Ok(Decision::Known(Some(copy)));
@@ -249,8 +311,9 @@ impl State {
         Ok(heir_among(copy, relatives.as_slice()))
     }
 
-    /// What is done of a sighting. O(n log n) for n copies of the copy's family; O(n^2) where many of them, or of the copies with the
-    /// same path, hold the sum.
+    /// What is done of a sighting. O(n log n) for n copies of the family, and O(k^2) for k of them that relate alike and hold the sum;
+    /// where that doesn't decide, a look-up for each device that has a copy, and O(k^2) for k copies elsewhere that hold the sum.
+    /// Fails only where memory runs out.
     pub fn decide(&self, alloc: Global, sighting: Sighting) -> Result<Decision, AllocError>
         requires { IsHeld self.now }
         ensures { IfOk result (λ made. made ≡ decision (living self.now.journal.entries) sighting) }
