@@ -1,10 +1,10 @@
 -- What a sighting comes to, by the numbers of copies.
 use Rattle.pana_hall.proofs.Words.{◌≡◌, ℕ, Bool, true, false, not, ◌&&◌, ◌||◌, ◌==◌, List, [], ◌∷◌, map, filter, find, list_any, Option, Some, None, is_none, is_some, option_map, option_and_then, unwrap_or}
-use Rattle.pana_hall.proofs.Words.{filter_agree, refl, sym, ap, ap₂, ◌∙◌, subst, arith, nat_tests, map-map, then_some, AllByRecursion, Place, Table, Entry, Copy, copy_in, living, is_of, IsAccepted, AreSpots, bytes_eq}
+use Rattle.pana_hall.proofs.Words.{filter_agree, refl, sym, ap, ap₂, ◌∙◌, subst, arith, nat_tests, map-map, then_some, AllByRecursion, Place, Table, Entry, Copy, copy_in, living, is_of, IsAccepted, AreSpots}
 use Rattle.pana_hall.proofs.Words.{◌<◌, AreRising, In, any_from, eq-eqb, eqb-true, has, in_filter, cond, inl, inr}
 use Rattle.std.proofs.Common.{◌↔◌}
 use Rattle.std.proofs.lemmas.Slice.Eq.{bytes_eq-Decides}
-use Rattle.pana_hall.specs.inner.Finding as by_path
+use Rattle.pana_copies.specs.Spots as tables
 use Rattle.pana_family.proofs.Members.{any_some, from_both, to_filter}
 use Rattle.pana_hall.proofs.Words.{Edit, Reconcile, Merge, Remove, Note, IsSome, IsThere}
 use Rattle.pana_hall.specs.declared.call.Sighting.{Sighting}
@@ -20,8 +20,8 @@ use Rattle.pana_hall.specs.Living.{sum_of}
 use Rattle.pana_hall.specs.Status.{copy_relation, family_copies}
 use Rattle.pana_hall.specs.Finding.{best, decision, elsewhere, first_or, found, found_again, found_new, heir_of, holds, holds_other, missing, others, relates_to}
 use Rattle.pana_hall.specs.inner.Rows.{place_at, sum_in}
-use Rattle.pana_hall.specs.inner.Relatives.{first_number, relates_so, relative, relatives_of}
-use Rattle.pana_hall.specs.inner.Finding.{again_in, best_in, changed_in, heir_in, holders_in, holds_so, is_elsewhere, is_newer, is_other, is_unlike, knows_all, passes, source_of}
+use Rattle.pana_hall.specs.inner.Relatives.{first_number, relative, relatives_of}
+use Rattle.pana_hall.specs.inner.Finding.{again_in, best_in, heir_in, holders_in, holds_so, is_elsewhere, is_newer, is_other, is_unlike, knows_all, passes, source_of}
 use Rattle.pana_hall.proofs.Lists.{each_filter, each_of, each_weaker, filter_filter, found_by, rises_each, rises_filter, rises_map}
 use Rattle.pana_hall.proofs.Moves.{found_number}
 use Rattle.pana_hall.proofs.{Listed.same_by_key, Places.living_found, Ready.at_spots, Ready.place_spots, Runs.rising}
@@ -31,14 +31,6 @@ use Rattle.pana_hall.proofs.Related.{any_alike, each_from, each_in, filter_alike
 
 pub passes_is : (test : Copy → Bool) (copies : List Copy) (n : ℕ) (x : Copy) → copy_in copies n ≡ Some x → passes test copies n ≡ test x
 passes_is test copies n x at = ap (λ o. unwrap_or (option_map test o) false) at
-
--- of what it holds
-pub passes_sum : (test : List ℕ → Bool) (copies : List Copy) (n : ℕ) → passes (λ c. unwrap_or (option_map test (sum_of c)) false) copies n ≡ unwrap_or (option_map test (sum_in copies n)) false
-passes_sum test copies n = by_copy (copy_in copies n)
-  where
-    by_copy : (o : Option Copy) → unwrap_or (option_map (λ c. unwrap_or (option_map test (sum_of c)) false) o) false ≡ unwrap_or (option_map test (option_and_then sum_of o)) false
-    by_copy None = refl
-    by_copy (Some x) = refl
 
 -- The best of some copies, by their numbers.
 
@@ -353,7 +345,7 @@ and_less true b f = f refl
 and_less false b f = refl
 
 module _ (journal : List Entry) (table : Table) (place : Place) (sum : List ℕ) (numbers : List ℕ) (accepted : IsAccepted 8 journal) (spots : AreSpots journal table)
-    (with_path : (n : ℕ) → (list_any (λ m. m == n) numbers ≡ true) ↔ by_path.HasPath table place.path n) where
+    (with_path : (n : ℕ) → (list_any (λ m. m == n) numbers ≡ true) ↔ tables.HasPath table place.path n) where
   abbrev test : ℕ → Bool
   test = passes (is_elsewhere place sum) (living journal)
 
@@ -365,11 +357,11 @@ module _ (journal : List Entry) (table : Table) (place : Place) (sum : List ℕ)
       let above = (found_by (λ c. c.known.copy == n) (λ c. 0 < c.known.copy) (living journal) there.0 (rises_each (λ c. c.known.copy) 0 (living journal) (rising 8 journal accepted).0) there.1).1 in
       subst (λ k. 0 < k) (found_number (living journal) n there.0 there.1) above
 
-  rises_behind : (x : ℕ) (xs : List ℕ) → by_path.AreRising (x ∷ xs) → AreRising (λ n. n) x xs
+  rises_behind : (x : ℕ) (xs : List ℕ) → tables.AreRising (x ∷ xs) → AreRising (λ n. n) x xs
   rises_behind x [] rises = tt
   rises_behind x (y ∷ xs) rises = (rises.0.0, rises_behind y xs rises.1)
 
-  rises_above_zero : (xs : List ℕ) → AllByRecursion (λ n. 0 < n) xs → by_path.AreRising xs → AreRising (λ n. n) 0 xs
+  rises_above_zero : (xs : List ℕ) → AllByRecursion (λ n. 0 < n) xs → tables.AreRising xs → AreRising (λ n. n) 0 xs
   rises_above_zero [] above rises = tt
   rises_above_zero (x ∷ xs) above rises = (above.0, rises_behind x xs rises)
 
@@ -385,7 +377,7 @@ module _ (journal : List Entry) (table : Table) (place : Place) (sum : List ℕ)
       by_copy (Some x) at =
           and_less (is_elsewhere place sum x) (has numbers n) (λ e. (with_path n).1 (x.place, place_spots journal table spots n ∙ ap (option_map (λ copy. copy.place)) at, same_path x e))
 
-  pub elsewhere_is : by_path.AreRising numbers → filter test numbers ≡ map (λ c. c.known.copy) (elsewhere (living journal) place sum)
+  pub elsewhere_is : tables.AreRising numbers → filter test numbers ≡ map (λ c. c.known.copy) (elsewhere (living journal) place sum)
   elsewhere_is rises =
       let copies = living journal in
       same_by_key (λ n. n) 0 (filter test numbers) (map (λ c. c.known.copy) (elsewhere copies place sum))

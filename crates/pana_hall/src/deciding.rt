@@ -1,17 +1,17 @@
 //! What is done of a sighting.
-ghost use Rattle.std.specs.Prelude.{◌≡◌, ◌↔◌, ◌==◌, ℕ, true, IfOk, IsSome, None, Some, filter, map, not, option_copied, option_map};
+ghost use Rattle.std.specs.Prelude.{◌≡◌, IfOk, IsSome, None, Some, filter, map, not, option_copied, option_map};
 ghost use Rattle.std.specs.List.{list_any};
 ghost use Rattle.pana_event.specs.declared.rel.Rel.TheVariants as rels;
 ghost use Rattle.pana_hall.specs.{Living.copy_in, Living.living, Living.number_of, inner.Relatives.relatives_of, inner.Rows.place_at, inner.Rows.sum_in, inner.State.IsHeld};
 ghost use Rattle.pana_hall.specs.Finding.{decision, elsewhere, found_again, found_new, heir_of, holds, holds_other};
-ghost use Rattle.pana_hall.specs.inner.Finding.{AreRising, HasPath, again_in, best_in, changed_in, heir_in, holders_in, holds_so, is_elsewhere, is_newer, is_other, is_unlike, knows_all, passes, source_of};
+ghost use Rattle.pana_hall.specs.inner.Finding.{again_in, best_in, changed_in, heir_in, holders_in, holds_so, is_elsewhere, is_newer, is_other, is_unlike, knows_all, passes, source_of};
 ghost use Rattle.pana_hall.specs.inner.Relatives.{first_number};
 
 use crate::call::Sighting;
 use crate::decision::Decision;
 use crate::relating::{Relative, is_rel, relates};
 use crate::state::State;
-use pana_copies::{CopyPath, Place, Sum};
+use pana_copies::{Place, Sum};
 use pana_event::Rel;
 use pana_journal::Report;
 use std::alloc::{AllocError, Global};
@@ -163,19 +163,12 @@ impl State {
             .collect(alloc)
     }
 
-    fn with_path(&self, alloc: Global, path: &CopyPath) -> Result<Vec<u64>, AllocError>
-        ensures rising { IfOk result (λ found. AreRising found.items) }
-        ensures found { IfOk result (λ found. (copy : ℕ) → (list_any (λ n. n == copy) found.items ≡ true) ↔ HasPath self.now.copies path.now copy) }
-    {
-        Vec::with_capacity(alloc, 0)
-    }
-
     /// The copies with the path of the place on other devices that hold the sum, by rising number.
     fn elsewhere(&self, alloc: Global, place: &Place, sum: &Sum) -> Result<Vec<u64>, AllocError>
         requires { IsHeld self.now }
         ensures { IfOk result (λ made. made.items ≡ map number_of (elsewhere (living self.now.journal.entries) place.now sum.now)) }
     {
-        let copies = self.with_path(alloc, &place.path)?;
+        let copies = self.copies.with_path(alloc, &place.path)?;
         self.elsewhere_among(alloc, place, sum, copies.as_slice())
     }
 

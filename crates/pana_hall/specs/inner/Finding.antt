@@ -1,11 +1,10 @@
 -- The words of a sighting's decision, by the numbers of copies.
-use Rattle.std.specs.Prelude.{◌≡◌, ◌<◌, ℕ, Bool, false, not, ◌&&◌, ◌||◌, ◌==◌, List, [], ◌∷◌, map, filter, find, Option, Some, None, is_none, is_some, option_map, option_and_then, unwrap_or}
+use Rattle.std.specs.Prelude.{ℕ, Bool, false, not, ◌&&◌, ◌||◌, ◌==◌, List, [], ◌∷◌, map, filter, find, Option, Some, None, is_none, is_some, option_map, option_and_then, unwrap_or}
 use Rattle.std.specs.Bool.{then_some}
 use Rattle.std.specs.Option.{option_or}
-use Rattle.std.specs.List.{AllByRecursion, list_any}
+use Rattle.std.specs.List.{list_any}
 use Rattle.std.specs.Str.{bytes_eq}
 use Rattle.pana_copies.specs.declared.place.Place.{Place}
-use Rattle.pana_copies.specs.Spots.{Table, place_of}
 use Rattle.pana_event.specs.declared.rel.Rel.{Rel}
 use Rattle.pana_event.specs.declared.rel.Rel.TheVariants as rels
 use Rattle.pana_journal.specs.declared.report.Report.TheVariants.{Edit, Reconcile, Merge, Remove, Note}
@@ -80,11 +79,3 @@ again_in copies sum number relatives source =
     ∷ then_some (passes (holds sum) copies number) (Known (Some number))
     ∷ []
     )
-
--- TEMPORARY
-abbrev pub HasPath : Table → List ℕ → ℕ → Type 0
-HasPath table path copy = (place : Place) × (place_of table copy ≡ Some place) × (place.path ≡ path)
-
-abbrev pub AreRising : List ℕ → Type 0
-AreRising [] = Unit {0}
-AreRising (x ∷ xs) = AllByRecursion (λ y. x < y) xs × AreRising xs

@@ -1,5 +1,5 @@
 use Rattle.std.proofs.lemmas.Result.{IfOk-weaker}
-use Rattle.pana_hall.proofs.Words.{List, ℕ, filter, subst, ap, sym, ◌∙◌, living, ◌≡◌}
+use Rattle.pana_hall.proofs.Words.{filter, ap, ◌∙◌, living}
 use Rattle.pana_hall.specs.inner.Finding.{is_elsewhere, passes}
 use Rattle.pana_hall.proofs.Decided.{elsewhere_is}
 use Rattle.pana_hall.proofs.state.State.elsewhere.Goals as goal

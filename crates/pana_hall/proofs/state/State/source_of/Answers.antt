@@ -1,5 +1,4 @@
-use Rattle.pana_hall.proofs.Words.{ap, ◌∙◌, living}
-use Rattle.pana_hall.specs.inner.Finding.{best_in}
+use Rattle.pana_hall.proofs.Words.{◌∙◌}
 use Rattle.pana_hall.proofs.Decided.{source_is}
 use Rattle.pana_hall.proofs.state.State.source_of.Goals as goal
 
