@@ -35,6 +35,24 @@ fn copies_are_kept_at_places(rt: HostRuntime) -> Result<(), Fail> {
 }
 
 #[test]
+fn copies_at_one_path_are_found_on_each_device(rt: HostRuntime) -> Result<(), Fail> {
+    let alloc = rt.alloc();
+    let mut table = CopyTable::new(alloc);
+    for (copy, device) in [(9, "desk"), (4, "phone"), (6, "laptop")] {
+        assert!(rt; keep(alloc, &mut table, copy, device)?);
+    }
+    if table.get(4).is_some() {
+        table.remove(4);
+    }
+    let path = CopyPath::new(alloc, "work/notes.txt")?;
+    let found = table.with_path(alloc, &path)?;
+    assert_eq!(rt; found.as_slice(), [6, 9].as_slice());
+    let other = CopyPath::new(alloc, "work/other.txt")?;
+    assert!(rt; table.with_path(alloc, &other)?.is_empty());
+    Ok(())
+}
+
+#[test]
 fn a_place_is_copied(rt: HostRuntime) -> Result<(), Fail> {
     let place = notes(rt.alloc(), "laptop")?;
     let copy = place.copy_of()?;

@@ -35,7 +35,7 @@ one_place p q test =
     let path : p.path ≡ q.path = (bytes_eq-Decides p.path q.path).0 both.1 in
     λ j. record { device = device j; path = path j }
 
-same_place-Decides : (p q : Place) → Decides (same_place p q) (p ≡ q)
+pub same_place-Decides : (p q : Place) → Decides (same_place p q) (p ≡ q)
 same_place-Decides p q = (one_place p q, λ same. subst (λ x. same_place p x ≡ true) same (same_as_itself p))
 
 -- the place that a search for a place finds is that one
@@ -181,6 +181,7 @@ module _ (es : List (ℕ × ℕ)) (ps : List Place) (even : IsEven es ps) where
 -- both sides once one more copy was inserted
 pub record Pushed (es : List (ℕ × ℕ)) (ps : List Place) (copy family : ℕ) (place : Place) (fs : List (ℕ × ℕ)) (qs : List Place) : Type 0 where
   pub even : IsEven fs qs
+  pub places : qs ≡ ps ++ place ∷ []
   pub spots : (number : ℕ) → lookup (nat_eq number) (spots_of fs qs) ≡ cond (number == copy) (Some (record { family = family; place = place })) (lookup (nat_eq number) (spots_of es ps))
 
 pub pushed : (es : List (ℕ × ℕ)) (ps : List Place) → IsEven es ps → (copy family : ℕ) (place : Place) → lookup (nat_eq copy) (spots_of es ps) ≡ None
@@ -193,6 +194,7 @@ pushed es ps even copy family place new free fs qs first second copies_apart pla
     let two : qs ≡ ps ++ place ∷ [] = second ∙ ap (λ b. cond b ps (ps ++ place ∷ [])) (absent_place es ps even place free) in
     record {
       even = record { long = omega (arith, ap length one, ap length two, length_push es (copy, family), length_push ps place, even.long); copies_apart = copies_apart; places_apart = places_apart };
+      places = two;
       spots = λ number. ap₂ (λ l m. lookup (nat_eq number) (spots_of l m)) one two ∙ kept-push es ps even copy family place new number;
     }
 

@@ -1,4 +1,6 @@
 pub mod Sides
 pub mod Kept
+pub mod Counts
+pub mod Paths
 pub mod DeviceText
 pub mod Sums

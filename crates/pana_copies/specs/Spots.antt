@@ -1,5 +1,6 @@
 -- Where copies are kept.
-use Rattle.std.specs.Prelude.{ℕ, ◌==◌, List, Option, option_map}
+use Rattle.std.specs.Prelude.{◌≡◌, ℕ, ◌==◌, ◌<◌, List, [], ◌∷◌, Option, Some, option_map}
+use Rattle.std.specs.List.{AllByRecursion}
 use Rattle.std.specs.Map.{lookup}
 use Rattle.pana_copies.specs.declared.place.Place.{Place}
 
@@ -24,3 +25,12 @@ place_of table copy = option_map (λ spot. spot.place) (kept table copy)
 -- the same spot at another place
 abbrev pub placed : Place → Option Spot → Option Spot
 placed place spot = option_map (λ s. record { family = s.family; place = place }) spot
+
+-- the copy is kept at this path, on some device
+abbrev pub HasPath : Table → List ℕ → ℕ → Type 0
+HasPath table path copy = (place : Place) × (place_of table copy ≡ Some place) × (place.path ≡ path)
+
+-- each number is below all behind it
+abbrev pub AreRising : List ℕ → Type 0
+AreRising [] = Unit {0}
+AreRising (x ∷ xs) = AllByRecursion (λ y. x < y) xs × AreRising xs

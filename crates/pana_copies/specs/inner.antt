@@ -1,3 +1,5 @@
 -- Words that only inner functions and proofs need: nobody has to believe them.
+pub mod Counts
+pub mod Indexes
 pub mod Sides
 pub mod SumBytes

@@ -1,11 +1,14 @@
 //! Where the living copies are kept.
 #![tactic(auto, unfolding(crate::specs::Spots::kept))]
 
-ghost use Rattle.std.specs.Prelude.{◌≡◌, ℕ, ◌+◌, ◌<◌, ◌≤◌, ◌==◌, ◌↔◌, None, Some, IsSome, OnOk, if◌then◌else◌, length, nat_eq, option_map};
-ghost use Rattle.std.specs.List.{IsDistinct};
+ghost use Rattle.std.specs.Prelude.{◌≡◌, ℕ, ◌+◌, ◌<◌, ◌≤◌, ◌==◌, ◌↔◌, true, None, Some, IsSome, IfOk, OnOk, if◌then◌else◌, length, nat_eq, option_map};
+ghost use Rattle.std.specs.List.{IsDistinct, list_any};
 ghost use Rattle.std.specs.Map.{keys_of};
-ghost use Rattle.pana_copies.specs.Spots.{kept, place_of, placed};
+ghost use Rattle.pana_copies.specs.Spots.{kept, place_of, placed, AreRising, HasPath};
 
+use crate::copy_path::CopyPath;
+use crate::device_counts::{count_down, count_up};
+use crate::device_name::DeviceName;
 use crate::place::Place;
 use indexmap::{IndexMap, IndexSet};
 use std::alloc::{AllocError, Global};
@@ -19,6 +22,8 @@ pub struct CopyTable {
     // The place of the copy at an index is at the same index of the other list, so it is kept once.
     families: IndexMap<u64, u64>,
     places: IndexSet<Place>,
+    // Each device that has a copy, with how many it has.
+    devices: IndexMap<DeviceName, u64>,
 }
 
 impl Model for CopyTable {
@@ -26,13 +31,14 @@ impl Model for CopyTable {
     ghost use Rattle.indexmap.specs.IndexMap.{spare};
     ghost use Rattle.indexmap.specs.IndexSet.{spare as spare_places};
     ghost use Rattle.pana_copies.specs.Spots.{Table};
-    ghost use Rattle.pana_copies.specs.inner.Sides.{spots_of, IsEven};
+    ghost use Rattle.pana_copies.specs.inner.Sides.{spots_of};
+    ghost use Rattle.pana_copies.specs.inner.Indexes.{IsIndexed};
 
     ghost Value = { Table };
 
-    ghost view = { λ a. record { spots = spots_of a.families.entries a.places.keys; room = min (spare a.families) (spare_places a.places) } };
+    ghost view = { λ a. record { spots = spots_of a.families.entries a.places.keys; room = min (spare a.devices) (min (spare a.families) (spare_places a.places)) } };
 
-    ghost invariant = { λ a. IsEven a.families.entries a.places.keys };
+    ghost invariant = { λ a. IsIndexed a.families.entries a.places.keys a.devices.entries };
 }
 
 /// The family of a copy, and the place where it is kept.
@@ -50,6 +56,7 @@ impl CopyTable {
         CopyTable {
             families: IndexMap::new(alloc),
             places: IndexSet::new(alloc),
+            devices: IndexMap::new(alloc),
         }
     }
 
@@ -82,6 +89,45 @@ impl CopyTable {
         Some(*copy)
     }
 
+    /// The copies that are kept at this path, in no order that counts.
+    ///
+    /// # Errors
+    ///
+    /// `AllocError` where an allocation failed.
+    fn find_with_path(&self, alloc: Global, path: &CopyPath) -> Result<Vec<u64>, AllocError>
+        ensures once { IfOk result (λ found. IsDistinct nat_eq found.items) }
+        ensures found { IfOk result (λ found. (copy : ℕ) → (list_any (λ n. n == copy) found.items ≡ true) ↔ HasPath self.now path.now copy) }
+    {
+        let mut own = path.copy_of()?;
+        let mut copies = Vec::new(alloc);
+        for device in self.devices.keys() {
+            let place = Place {
+                device: device.copy_of(),
+                path: own,
+            };
+            if let Some(copy) = self.at(&place) {
+                copies.push(copy)?;
+            }
+            own = place.path;
+        }
+        Ok(copies)
+    }
+
+    /// The copies that are kept at this path, at most one on each device, by rising number. One look-up for each device that has a
+    /// copy.
+    ///
+    /// # Errors
+    ///
+    /// `AllocError` where an allocation failed.
+    pub fn with_path(&self, alloc: Global, path: &CopyPath) -> Result<Vec<u64>, AllocError>
+        ensures rising { IfOk result (λ found. AreRising found.items) }
+        ensures found { IfOk result (λ found. (copy : ℕ) → (list_any (λ n. n == copy) found.items ≡ true) ↔ HasPath self.now path.now copy) }
+    {
+        let mut copies = self.find_with_path(alloc, path)?;
+        copies.sort_unstable();
+        Ok(copies)
+    }
+
     /// Makes room for one more copy, so that the next `insert` or `relocate` needs no memory.
     ///
     /// # Errors
@@ -92,7 +138,8 @@ impl CopyTable {
         ensures same { (number : ℕ) → kept self.new number ≡ kept self.old number }
     {
         self.families.reserve(1)?;
-        self.places.reserve(1)
+        self.places.reserve(1)?;
+        self.devices.reserve(1)
     }
 
     /// Keeps one more copy, in room that was made by `reserve`. Takes no memory; O(1) on average.
@@ -103,6 +150,9 @@ impl CopyTable {
         ensures spots { (number : ℕ) → kept self.new number ≡ (if number == copy then Some (record { family = family; place = place }) else kept self.old number) }
         ensures room { self.old.room ≤ self.new.room + 1 }
     {
+        // A device has no more copies than there are places, so one more can be counted.
+        prove!(self.places.len() < usize::MAX);
+        count_up(&mut self.devices, place.device.copy_of());
         self.families.insert(copy, family).unwrap();
         self.places.insert(place).unwrap();
     }
@@ -132,6 +182,8 @@ impl CopyTable {
     {
         let index = self.families.get_index_of(&copy).unwrap();
         self.families.swap_remove_index(index).unwrap();
-        self.places.swap_remove_index(index).unwrap()
+        let place = self.places.swap_remove_index(index).unwrap();
+        count_down(&mut self.devices, &place.device);
+        place
     }
 }

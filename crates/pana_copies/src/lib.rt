@@ -3,6 +3,7 @@
 
 mod copy_path;
 mod copy_table;
+mod device_counts;
 mod device_name;
 mod name_fault;
 mod place;

@@ -16,6 +16,7 @@ pub mod Shown
 pub mod Related
 pub mod Advised
 pub mod Stood
+pub mod Decided
 pub mod Longer
 pub mod Runs
 pub mod Worked

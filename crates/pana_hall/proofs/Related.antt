@@ -119,7 +119,7 @@ module _ (journal : List Entry) (n : ℕ) (x : Copy) (accepted : IsAccepted 8 jo
       relatives_in f = map (relative (living journal) n) (map (λ c. c.known.copy) (filter (is_of f) (living journal)))
 
   -- a copy of the family relates by its number as it does
-  related : (wanted : Rel) (y : Copy) → copy_in (living journal) y.known.copy ≡ Some y → relates_so wanted n (relative (living journal) n y.known.copy) ≡ relates (λ c. c.known.copy) copy_relation wanted x y
+  pub related : (wanted : Rel) (y : Copy) → copy_in (living journal) y.known.copy ≡ Some y → relates_so wanted n (relative (living journal) n y.known.copy) ≡ relates (λ c. c.known.copy) copy_relation wanted x y
   related wanted y there = rw (there, at, found_number (living journal) n x at) refl
 
   all_related : (wanted : Rel) → AllByRecursion (λ y. relates_so wanted n (relative (living journal) n y.known.copy) ≡ relates (λ c. c.known.copy) copy_relation wanted x y) own

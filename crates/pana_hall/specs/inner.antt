@@ -9,3 +9,4 @@ pub mod Next
 pub mod State
 pub mod Rows
 pub mod Relatives
+pub mod Finding

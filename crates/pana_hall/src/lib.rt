@@ -7,6 +7,7 @@ mod call;
 mod cause;
 mod changing;
 mod contents;
+mod deciding;
 mod decision;
 mod families;
 mod family_row;

@@ -32,7 +32,8 @@ impl ListedFamily {
     }
 }
 
-fn is_rel(rel: Rel, wanted: Rel) -> bool
+/// Whether the relation is the one that is wanted.
+pub fn is_rel(rel: Rel, wanted: Rel) -> bool
     ensures { result ≡ is_rel rel wanted }
 {
     rel == wanted

@@ -40,7 +40,7 @@ impl State {
     }
 
     /// The living copies of a living copy's family, by rising number, each with how it relates to that. O(n log n) for n copies.
-    fn relatives(&self, alloc: Global, copy: u64) -> Result<Vec<Relative>, AllocError>
+    pub fn relatives(&self, alloc: Global, copy: u64) -> Result<Vec<Relative>, AllocError>
         requires kept { IsHeld self.now }
         requires lives { IsSome (copy_in (living self.now.journal.entries) copy) }
         ensures { IfOk result (λ made. made.items ≡ relatives_of self.now.journal.entries copy) }

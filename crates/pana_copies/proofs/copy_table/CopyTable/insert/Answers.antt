@@ -1,8 +1,12 @@
-use Rattle.std.proofs.Common.{◌≡◌, ℕ, nat_eq, OnOk, Some, None, sym, subst}
+use Rattle.std.proofs.Common.{◌≡◌, ℕ, ◌+◌, cond, nat_eq, List, OnOk, Some, None, sym, subst, ◌∙◌}
+use Rattle.std.specs.Map.{lookup}
+use Rattle.std.specs.Str.{bytes_eq}
 use Rattle.indexmap.specs.IndexMap.{insert_entry}
 use Rattle.indexmap.specs.IndexSet.{insert_key}
 use Rattle.pana_copies.specs.Places.{same_place}
 use Rattle.pana_copies.specs.Spots.{kept, place_of}
+use Rattle.pana_copies.specs.inner.Counts.{counted, AreCounted}
+use Rattle.pana_copies.proofs.Counts.{counted_more}
 use Rattle.pana_copies.proofs.Kept.{pushed, Pushed}
 use Rattle.pana_copies.proofs.copy_table.CopyTable.insert.Goals as goal
 
@@ -10,7 +14,7 @@ use Rattle.pana_copies.proofs.copy_table.CopyTable.insert.Goals as goal
 after : (c : goal.After-unwrap-2) → Pushed c.self.inside.families.entries c.self.inside.places.keys c.args.copy c.args.family c.args.place c.insert.new.self.entries c.insert-2.new.self.keys
 unfolding kept
 after c =
-    pushed c.self.inside.families.entries c.self.inside.places.keys c.self.invariant c.args.copy c.args.family c.args.place
+    pushed c.self.inside.families.entries c.self.inside.places.keys c.self.invariant.even c.args.copy c.args.family c.args.place
     (subst (λ t. kept t c.args.copy ≡ None) (sym c.self.view_is) c.requires.new)
     (subst (λ t. (number : ℕ) → ¬ (place_of t number ≡ Some c.args.place)) (sym c.self.view_is) c.requires.free)
     c.insert.new.self.entries c.insert-2.new.self.keys
@@ -19,7 +23,12 @@ after c =
     c.insert.ensures.unique c.insert-2.ensures.unique
 
 pub invariant_of-self : goal.invariant_of-self
-invariant_of-self c = (after c).even
+invariant_of-self c =
+    let counts = c.self.inside.devices.entries in
+    let more = c.count_up.new.counts.entries in
+    let device = c.copy_of.ensures in
+    let says = λ (other : List ℕ). c.count_up.ensures.counts other ∙ (λ j. cond (bytes_eq (device j) other) (Some (counted counts (device j) + 1)) (lookup (bytes_eq other) counts)) in
+    record { even = (after c).even; counted = subst (AreCounted more) (sym (after c).places) (counted_more counts more c.self.inside.places.keys c.args.place c.self.invariant.counted says) }
 
 pub returns-clause-spots : goal.returns-clause-spots
 unfolding kept

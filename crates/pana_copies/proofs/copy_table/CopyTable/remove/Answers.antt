@@ -1,6 +1,8 @@
 use Rattle.std.proofs.Common.{◌≡◌, ◌<◌, length, is_some, IsSome, IfSome, sym, subst, ap, ◌∙◌, arith}
 use Rattle.std.specs.List.{swap_remove}
 use Rattle.pana_copies.specs.Spots.{kept}
+use Rattle.pana_copies.specs.inner.Counts.{AreCounted}
+use Rattle.pana_copies.proofs.Counts.{counted_fewer}
 use Rattle.pana_copies.proofs.Kept.{some-spots, some_within, index_within, taken, Taken}
 use Rattle.pana_copies.proofs.copy_table.CopyTable.remove.Goals as goal
 
@@ -8,7 +10,7 @@ pub unwrap-index-requires : goal.unwrap-index-requires
 unfolding kept
 unwrap-index-requires c =
     let lives = subst (λ t. IsSome (kept t c.args.copy)) (sym c.self.view_is) c.requires.lives in
-    c.get_index_of.ensures.found ∙ sym (some-spots _ _ c.self.invariant _) ∙ lives
+    c.get_index_of.ensures.found ∙ sym (some-spots _ _ c.self.invariant.even _) ∙ lives
 
 pub unwrap-requires : goal.unwrap-requires
 unwrap-requires c =
@@ -16,27 +18,37 @@ unwrap-requires c =
     let within : c.unwrap-index.result < length es = index_within c.unwrap-index.ensures c.get_index_of.ensures.within in
     ap is_some c.swap_remove_index.ensures.entry ∙ some_within es c.unwrap-index.result within
 
-pub unwrap-requires-2 : goal.unwrap-requires-2
-unwrap-requires-2 c =
+pub unwrap-place-requires : goal.unwrap-place-requires
+unwrap-place-requires c =
     let ps = c.self.inside.places.keys in
     let within : c.unwrap-index.result < length c.self.inside.families.entries = index_within c.unwrap-index.ensures c.get_index_of.ensures.within in
-    ap is_some c.swap_remove_index-2.ensures.key ∙ some_within ps c.unwrap-index.result (omega (arith, within, c.self.invariant.long))
+    ap is_some c.swap_remove_index-2.ensures.key ∙ some_within ps c.unwrap-index.result (omega (arith, within, c.self.invariant.even.long))
 
 -- what the two sides are once both calls have returned
-after : (c : goal.After-unwrap-2) → Taken c.self.inside.families.entries c.self.inside.places.keys c.args.copy c.unwrap-2.result c.swap_remove_index.new.self.entries c.swap_remove_index-2.new.self.keys
+after : (c : goal.After-count_down) → Taken c.self.inside.families.entries c.self.inside.places.keys c.args.copy c.unwrap-place.result c.swap_remove_index.new.self.entries c.swap_remove_index-2.new.self.keys
 after c =
     let es = c.self.inside.families.entries in
     let ps = c.self.inside.places.keys in
     let i = c.unwrap-index.result in
-    taken es ps c.self.invariant c.args.copy i c.unwrap.result c.unwrap-2.result
-    (sym c.get_index_of.ensures.index ∙ c.unwrap-index.ensures) (sym c.swap_remove_index.ensures.entry ∙ c.unwrap.ensures) (sym c.swap_remove_index-2.ensures.key ∙ c.unwrap-2.ensures)
+    taken es ps c.self.invariant.even c.args.copy i c.unwrap.result c.unwrap-place.result
+    (sym c.get_index_of.ensures.index ∙ c.unwrap-index.ensures) (sym c.swap_remove_index.ensures.entry ∙ c.unwrap.ensures) (sym c.swap_remove_index-2.ensures.key ∙ c.unwrap-place.ensures)
     c.swap_remove_index.new.self.entries c.swap_remove_index-2.new.self.keys
     (subst (λ r. IfSome r (λ e. c.swap_remove_index.new.self.entries ≡ swap_remove es i e)) c.unwrap.ensures c.swap_remove_index.ensures.entries)
-    (subst (λ r. IfSome r (λ p. c.swap_remove_index-2.new.self.keys ≡ swap_remove ps i p)) c.unwrap-2.ensures c.swap_remove_index-2.ensures.keys)
+    (subst (λ r. IfSome r (λ p. c.swap_remove_index-2.new.self.keys ≡ swap_remove ps i p)) c.unwrap-place.ensures c.swap_remove_index-2.ensures.keys)
     c.swap_remove_index.ensures.unique c.swap_remove_index-2.ensures.unique
 
 pub invariant_of-self : goal.invariant_of-self
-invariant_of-self c = (after c).even
+invariant_of-self c =
+    let ps = c.self.inside.places.keys in
+    let i = c.unwrap-index.result in
+    let p = c.unwrap-place.result in
+    let fewer = c.count_down.new.counts.entries in
+    let places : c.swap_remove_index-2.new.self.keys ≡ swap_remove ps i p = subst (λ r. IfSome r (λ q. c.swap_remove_index-2.new.self.keys ≡ swap_remove ps i q)) c.unwrap-place.ensures c.swap_remove_index-2.ensures.keys in
+    record {
+      even = (after c).even;
+      counted = subst (AreCounted fewer) (sym places)
+          (counted_fewer c.self.inside.devices.entries fewer ps i p c.self.invariant.counted (sym c.swap_remove_index-2.ensures.key ∙ c.unwrap-place.ensures) c.count_down.ensures.counts);
+    }
 
 pub returns-clause-spots : goal.returns-clause-spots
 unfolding kept
