@@ -13,7 +13,7 @@ and where a call was taken whose answer could not be encoded, so never at a faul
 What the queries must show is recorded in a run with no failed allocation, whose other answers must be the
 scenario's output.
 Each session of `run` is swept once more with a journal on disk, a new one for each run, which afterwards has to
-load to as many entries as were answered as done, or one more where the program ended after a call.
+load to as many entries as were answered as done, or, where the program ended after a call, with all that the call makes.
 Of a scenario of several runs each is swept by itself: it must end as it says, or, where an allocation
 failed, with status 1, no output, and one of the lines of the file sweep on standard error.
 The last line is 'N passed, M failed', one for each scenario swept.
@@ -44,6 +44,8 @@ REFUSED = b'{"code":9,"refused":"OutOfMemory"}'
 FAULT = b'{"fault":"OutOfMemory"}'
 # Expected answers of lines that make no call, or whose call finds its answer with no allocation.
 ALLOCATE_NOTHING = (b'{"fault"', b'{"code"', b'{"pair"')
+# Answers with the number of the last entry that a call made.
+DONE = (b'{"done"', b'{"did"')
 LAST_WORDS = b"panad: out of memory\n"
 
 
@@ -71,9 +73,9 @@ class Session:
     is_kept: bool = False
 
     def judge(self, talk):
-        kind, done = talk_through(talk, self)
+        kind, done, most = talk_through(talk, self)
         if self.is_kept:
-            want_kept(self, talk.journal, done, kind.startswith("ended"))
+            want_kept(self, talk.journal, done, most, kind.startswith("ended"))
         return kind
 
 
@@ -176,17 +178,22 @@ def want_same_state(talk, plan, step):
         want(f"after OutOfMemory at {clipped(step.line)} the answer to {clipped(query)}", shown, talk.ask(query))
 
 
-def want_kept(plan, journal, done, may_have_more):
-    """Holds a journal to the number of entries that were acknowledged."""
+def entries_after(answer, before):
+    """How many entries there are after an answer: its last entry's number, where it reports one."""
+    return json.loads(answer)["done"] if answer.startswith(DONE) else before
+
+
+def want_kept(plan, journal, done, most, may_have_more):
+    """Holds a journal to the number of entries that were acknowledged, or that the last call would have left."""
     if not os.path.exists(journal) and done == 0:
         return
-    pages = b"".join(b'{"by":"x","do":"journal","from":%d}\n' % at for at in range(1, done + 2, 100))
+    pages = b"".join(b'{"by":"x","do":"journal","from":%d}\n' % at for at in range(1, most + 2, 100))
     words = [*plan.command, "--journal", journal]
     read = subprocess.run(words, input=pages, capture_output=True, timeout=SECONDS, check=False)
     want("what opening the journal reports", (0, b""), (read.returncode, read.stderr.partition(b" bytes behind")[0] if may_have_more else read.stderr))
     there = sum(len(json.loads(it)["entries"]) for it in read.stdout.splitlines())
-    if there != done and not (may_have_more and there == done + 1):
-        raise Broken(f"{done} reports were answered as done, and the journal has {there}")
+    if there not in (done, most):
+        raise Broken(f"{done} entries were answered as done, and the journal has {there}")
 
 
 def judge_end(talk, step, is_first):
@@ -203,7 +210,8 @@ def judge_end(talk, step, is_first):
 
 
 def talk_through(talk, plan):
-    """Sends all lines, judges each answer, and returns what came of the failed allocation, and how many were done."""
+    """Sends all lines, judges each answer, and returns what came of the failed allocation, how many entries were
+    answered as done, and how many there may be: more than that only where the program ended after a call."""
     kind, done = "left no trace", 0
     for at, step in enumerate(plan.steps):
         answer = talk.ask(step.line)
@@ -216,11 +224,11 @@ def talk_through(talk, plan):
         if answer is None:
             if kind == "answered OutOfMemory" or not talk.counts()[1]:
                 raise Broken(f"it ended at {clipped(step.line)}, and no allocation failed for it: {talk.end()}")
-            return judge_end(talk, step, at == 0), done
+            return judge_end(talk, step, at == 0), done, entries_after(step.answer, done)
         want(f"the answer to {clipped(step.line)}", step.answer, answer)
-        done += answer.startswith(b'{"done"')
+        done = entries_after(answer, done)
     want_end(talk, 0, b"")
-    return kind, done
+    return kind, done, done
 
 
 def judge_single(talk, plan):
