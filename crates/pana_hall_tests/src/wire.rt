@@ -33,6 +33,7 @@ fn an_entry_is_written_as_a_line(rt: HostRuntime) -> Result<(), Fail> {
             by,
             report,
         },
+        None,
     )?;
     assert_eq!(rt;
         line.as_str(),

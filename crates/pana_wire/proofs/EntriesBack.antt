@@ -12,7 +12,7 @@ use Rattle.pana_journal.specs.declared.entry.Entry.{Entry}
 use Rattle.pana_journal.specs.declared.report.Report.{Report}
 use Rattle.pana_journal.specs.declared.report.Report.TheVariants as reports
 use Rattle.pana_hall.specs.declared.reply.Reply.{Reply}
-use Rattle.pana_hall.specs.declared.reply.Reply.TheVariants.{Done, Families, Board, Stamps, Pair, Holdings, At, Status, Journal, Refused}
+use Rattle.pana_hall.specs.declared.reply.Reply.TheVariants.{Done, Did, Known, Families, Board, Stamps, Pair, Holdings, At, Status, Journal, Refused}
 use Rattle.pana_wire.specs.declared.field.Field.TheVariants as fields
 use Rattle.pana_wire.specs.Field.{field_name}
 use Rattle.pana_wire.specs.Word.{word_of}
@@ -83,6 +83,8 @@ few_or_short entries line names is (inr short) = short
 pub reply_back : (reply : Reply) (line : List ℕ) → HasReplyNames reply → line ≡ reply_text reply → is_utf8 line ≡ true → (depth (reply_data reply) ≤ max_depth → read line ≡ Some (reply_data reply))
     → IsReadBack reply line
 reply_back (Done entry) line names is utf8 reads = tt
+reply_back (Did kind entry) line names is utf8 reads = tt
+reply_back (Known copy) line names is utf8 reads = tt
 reply_back (Families rows) line names is utf8 reads = tt
 reply_back (Board board) line names is utf8 reads = tt
 reply_back (Stamps stamps) line names is utf8 reads = tt
