@@ -44,14 +44,9 @@ pub enum Query {
 #[derive(Debug, PartialEq, Eq, Drop)]
 pub enum Sighting {
     /// A file is there, whose bytes have this sum.
-    Found {
-        place: Place,
-        sum: Sum,
-    },
+    Found { place: Place, sum: Sum },
     /// No file is there.
-    Missing {
-        place: Place,
-    },
+    Missing { place: Place },
 }
 
 /// What a session or a scanner sends to a hall: it reports a change, or what it saw, or asks for an answer.

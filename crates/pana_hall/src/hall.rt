@@ -113,11 +113,13 @@ impl Hall {
         ensures journal { self.new ≡ journal_after self.old by.now (calls.Sighting sighting) result }
     {
         match self.state.plan(self.alloc, by, sighting) {
-            Ok(Plan {
-                next,
-                second,
-                reply,
-            }) => {
+            Ok(
+                Plan {
+                    next,
+                    second,
+                    reply,
+                },
+            ) => {
                 self.state.commit_all(next, second);
                 reply
             }

@@ -82,7 +82,12 @@ impl State {
     /// # Errors
     ///
     /// The reply, where it makes no entry: it is known, or refused.
-    pub fn plan(&mut self, alloc: Global, by: &DeviceName, sighting: Sighting) -> Result<Plan, Reply>
+    pub fn plan(
+        &mut self,
+        alloc: Global,
+        by: &DeviceName,
+        sighting: Sighting,
+    ) -> Result<Plan, Reply>
         requires { IsHeld self.old }
         ensures journal { self.new.journal.entries ≡ self.old.journal.entries }
         ensures kept { IsHeld self.new }

@@ -114,11 +114,13 @@ impl Hall {
         ensures reply { IfErr result (λ it. AnswersAt self by.now (calls.Sighting sighting) it.reply) }
     {
         match self.state.plan(self.alloc, by, sighting) {
-            Ok(Plan {
-                next,
-                second,
-                reply,
-            }) => Ok(Prepared {
+            Ok(
+                Plan {
+                    next,
+                    second,
+                    reply,
+                },
+            ) => Ok(Prepared {
                 alloc: self.alloc,
                 state: self.state,
                 next,

@@ -135,12 +135,7 @@ fn edit_twice(
         (Step::Change(change, _, before), Step::Change(behind, _, later)) => {
             let entry = journal.length() + 1;
             it.apply(entry, family_report(first).unwrap(), change, before);
-            it.apply(
-                entry + 1,
-                family_report(second).unwrap(),
-                behind,
-                later,
-            );
+            it.apply(entry + 1, family_report(second).unwrap(), behind, later);
         }
         _ => unreachable!(),
     }

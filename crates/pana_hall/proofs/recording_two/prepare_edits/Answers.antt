@@ -35,5 +35,5 @@ returns-clause-second c =
       sym c.family_report-2.ensures ∙ c.unwrap-2.ensures,
       after,
       c.before_edit-2.ensures
-      ∙ before_second journal c.args.by.now c.args.first.now c.args.second.now c.requires.ready.accepted c.requires.two c.requires.ready.free c.requires.free c.args.contents.now.entries.items (c.length-entry.result + 1 + 1) c.requires.contents,
+          ∙ before_second journal c.args.by.now c.args.first.now c.args.second.now c.requires.ready.accepted c.requires.two c.requires.ready.free c.requires.free c.args.contents.now.entries.items (c.length-entry.result + 1 + 1) c.requires.contents,
     )
