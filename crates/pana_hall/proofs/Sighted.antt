@@ -1,6 +1,6 @@
 -- What a sighting comes to, once it is decided.
-use Rattle.pana_hall.proofs.Words.{◌≡◌, ◌≢◌, ◌⊎◌, ℕ, ◌+◌, ◌==◌, ◌&&◌, Bool, true, false, not, List, [], ◌∷◌, ◌++◌, length, find, filter, Option, Some, None, option_map, option_and_then, option_to_list, then_some, unwrap_or, is_none, AllByRecursion, IsSome}
-use Rattle.pana_hall.proofs.Words.{refl, sym, ap, ◌∙◌, subst, inl, inr, arith, nat_tests, append_assoc, cases_Bool, eq-eqb, eqb-true, cond, Entry, Report, Duplicate, Edit, Merge, Note, Reconcile, Register, Remove, Copy, copy_in, living, families, is_of, Place, IsAccepted, Cause, OutOfMemory, same_place}
+use Rattle.pana_hall.proofs.Words.{◌≡◌, ℕ, ◌==◌, ◌&&◌, Bool, true, false, not, List, [], ◌∷◌, find, filter, Option, Some, None, option_map, option_and_then, then_some, unwrap_or, is_none, AllByRecursion, IsSome}
+use Rattle.pana_hall.proofs.Words.{refl, sym, ap, ◌∙◌, subst, inl, inr, eq-eqb, eqb-true, cond, Entry, Report, Duplicate, Edit, Merge, Note, Reconcile, Register, Remove, Copy, copy_in, living, is_of, IsAccepted, Cause, OutOfMemory, same_place}
 use Rattle.pana_hall.specs.declared.call.Sighting.{Sighting}
 use Rattle.pana_hall.specs.declared.call.Sighting.TheVariants.{Found, Missing}
 use Rattle.pana_hall.specs.declared.call.Call.TheVariants as calls

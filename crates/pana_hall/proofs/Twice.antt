@@ -1,9 +1,9 @@
 -- Edits of two copies of one family, one behind the other.
-use Rattle.pana_hall.proofs.Words.{◌≡◌, ◌≢◌, ℕ, ◌+◌, ◌<◌, ◌≤◌, false, true, List, [], ◌∷◌, ◌++◌, length, Option, Some, None, IfOk, IfSome, IsSome, option_and_then, option_map, cond, ◌==◌}
-use Rattle.pana_hall.proofs.Words.{refl, sym, ap, ◌∙◌, subst, inl, inr, arith, nat_tests, ne_eqb, eqb-true, length-append, slice_get, slice_set, slice_index_or, map, map-set, cases_order}
+use Rattle.pana_hall.proofs.Words.{◌≡◌, ℕ, ◌+◌, ◌<◌, ◌≤◌, false, List, [], ◌∷◌, ◌++◌, length, Option, Some, None, IfSome, IsSome, option_and_then, option_map, cond}
+use Rattle.pana_hall.proofs.Words.{refl, sym, ap, ◌∙◌, subst, inl, inr, arith, nat_tests, ne_eqb, length-append, slice_get, slice_set, slice_index_or, map, map-set}
 use Rattle.pana_hall.proofs.Words.{Entry, Report, Edit, Copy, copy_in, living, families, report_refusal, subject, family_report, FamilyReport, begun, next_entry, AreSpots, AreBefore, CanReport, Table, kept, is_register, is_of_copies}
-use Rattle.pana_hall.proofs.Words.{IsAccepted, IsReady, IsReadyAt, KeptRows, StampRow, reported_kept, families_of, all_listed, listed, ListedFamily, family_of_next, AreRising, AreContents, AreSayings, content_at, said_in, first_said, second_said}
-use Rattle.pana_hall.proofs.Words.{zero, suc, cases_lt, spot_in, spot_of, vec_capacity, before_of, earlier, earlier_of, get_or_from_slice_get, Earlier, position_for, IsStepOf, Takes, spot_after, begun_or_joined, say, all_written, IsWithin}
+use Rattle.pana_hall.proofs.Words.{IsAccepted, IsReady, IsReadyAt, KeptRows, reported_kept, families_of, all_listed, listed, ListedFamily, family_of_next, AreRising, AreContents, AreSayings, content_at, said_in, first_said, second_said}
+use Rattle.pana_hall.proofs.Words.{zero, suc, cases_lt, spot_in, spot_of, vec_capacity, before_of, earlier, get_or_from_slice_get, Earlier, position_for, spot_after, begun_or_joined, say, all_written, IsWithin}
 use Rattle.pana_hall.specs.Living.{content_by}
 use Rattle.std.specs.Prelude.{vec_len}
 use Rattle.std.specs.Option.{option_or}
@@ -23,7 +23,7 @@ use Rattle.pana_family.specs.declared.change.Change.{Change}
 use Rattle.pana_hall.specs.inner.Next.{AreTwo, IsSecond, IsStepAfter, TakesAfter}
 use Rattle.pana_family.specs.After.{reported_rows}
 use Rattle.pana_family.specs.declared.report.FamilyReport.TheVariants as family
-use Rattle.pana_hall.proofs.Sound.{accepted_is_sound, family_new, family_old, LivesIn}
+use Rattle.pana_hall.proofs.Sound.{accepted_is_sound, family_new, family_old}
 use Rattle.pana_hall.proofs.Ready.{able_there, accepts_next, family_reported, new_there, own_is, spots_reported}
 use Rattle.pana_hall.proofs.Runs.{next_accepted}
 use Rattle.pana_hall.proofs.Histories.{family_other}

@@ -1,5 +1,5 @@
 -- Worked examples of what it comes to that a file is found at a place, or that none is there.
-use Rattle.pana_hall.proofs.Words.{◌≡◌, ℕ, List, [], ◌∷◌, ◌++◌, Option, Some, None, refl, Place, Report, Register, Duplicate, Edit, Reconcile, Merge, Remove, Note, Entry, codes, living}
+use Rattle.pana_hall.proofs.Words.{◌≡◌, ℕ, List, [], ◌∷◌, ◌++◌, Some, None, refl, Place, Report, Register, Duplicate, Edit, Reconcile, Merge, Remove, Note, Entry, codes, living}
 use Rattle.pana_hall.specs.Living.{copies_of}
 use Rattle.pana_hall.specs.declared.decision.Decision.TheVariants.{Known, One, Both}
 use Rattle.pana_hall.specs.Finding.{found, missing}

@@ -10,7 +10,6 @@ use Rattle.pana_copies.specs.Places.{same_place}
 use Rattle.pana_event.specs.declared.rel.Rel.TheVariants as rels
 use Rattle.pana_event.specs.declared.rel.Rel.{Rel}
 use Rattle.pana_rel.specs.Board.{is_rel}
-use Rattle.pana_journal.specs.declared.report.Report.{Report}
 use Rattle.pana_journal.specs.declared.report.Report.TheVariants.{Register, Duplicate, Edit, Reconcile, Merge, Remove, Note}
 use Rattle.pana_hall.specs.declared.call.Sighting.{Sighting}
 use Rattle.pana_hall.specs.declared.call.Sighting.TheVariants.{Found, Missing}

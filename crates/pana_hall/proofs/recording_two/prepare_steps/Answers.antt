@@ -1,4 +1,4 @@
-use Rattle.pana_hall.proofs.Words.{◌≡◌, false, length, ap, arith, is_register}
+use Rattle.pana_hall.proofs.Words.{◌≡◌, length, ap, arith, is_register}
 use Rattle.std.proofs.lemmas.Result.{IfOk-weaker}
 use Rattle.pana_hall.proofs.Listed.{found_set, position_within, ready_at, still_there}
 use Rattle.pana_hall.proofs.recording_two.prepare_steps.Goals as goal

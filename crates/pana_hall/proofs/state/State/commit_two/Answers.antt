@@ -1,4 +1,4 @@
-use Rattle.pana_hall.proofs.Words.{◌≡◌, ℕ, ◌+◌, ◌<◌, ◌≤◌, List, [], ◌∷◌, ◌++◌, Option, IfSome, length, refl, sym, ap, ◌∙◌, subst, arith, Entry, all_listed, families_of, AreContents, next_entry}
+use Rattle.pana_hall.proofs.Words.{◌≡◌, ℕ, ◌+◌, ◌<◌, ◌≤◌, List, [], ◌∷◌, ◌++◌, IfSome, length, refl, sym, ap, ◌∙◌, subst, Entry, all_listed, families_of, AreContents, next_entry}
 use Rattle.pana_hall.specs.Refusal.{with_report}
 use Rattle.pana_hall.specs.inner.Kept.{IsKept}
 use Rattle.pana_hall.proofs.Listed.{ready_for, kept_next}
