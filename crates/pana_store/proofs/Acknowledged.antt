@@ -1,9 +1,8 @@
--- An entry whose line was written is kept from then on.
+-- An entry is kept from then on at which a line that acknowledges it was written.
 use Rattle.std.proofs.Common.{◌≡◌, ℕ, ◌<◌, ◌^◌, Bool, IsTrue, List, [], ◌∷◌, ◌++◌, Option, sym, ap, subst, ◌∙◌, append-nil, append_assoc, ⊎_elim}
 use Rattle.std.proofs.lemmas.Fmt.{decimal_injective}
 use Rattle.std.proofs.lemmas.List.{append_cancel_left}
 use Rattle.pana_hall.specs.declared.call.Call.{Call}
-use Rattle.pana_hall.specs.declared.reply.Reply.TheVariants.{Done}
 use Rattle.pana_wire.specs.declared.answer.Answer.{Answer}
 use Rattle.pana_wire.specs.declared.answer.Answer.TheVariants.{Given}
 use Rattle.pana_wire.specs.declared.tap.Tap.{Tap}
@@ -13,7 +12,7 @@ use Rattle.pana_wire.specs.Timely.{IsAnswer, WritesAnswers, IsTimely}
 use Rattle.pana_wire.proofs.InLine.{answer_in_line}
 use Rattle.pana_wire.proofs.Timely.{answers_append, one_answers}
 use Rattle.pana_log.specs.declared.log_state.LogState.TheVariants.{Open}
-use Rattle.pana_store.specs.Acknowledged.{done_line, Acknowledges}
+use Rattle.pana_store.specs.Acknowledged.{AcknowledgesEntry, Acknowledges}
 use Rattle.pana_store.specs.Entries.{LoadsFirst}
 use Rattle.pana_store.specs.Store.{StoreView, Becomes, KeepsAll, Keeps, Breaks}
 use Rattle.pana_store.proofs.Done.{fault_is_other, answer_is_done, done_is_last}
@@ -48,21 +47,21 @@ module _ {D : Type 0} (is_known : Bool) (seen : D → List ℕ) (may_leave : D �
   stays_open old new text works answer = ⊎_elim (λ a. ap (λ (kept : StoreView D). kept.log.state) a.2 ∙ works) (λ a. a.3.state ∙ works) answer
 
   -- the answer that acknowledges an entry leaves as many entries, and they are kept from then on
-  acknowledged : (old next new : StoreView D) (text : List ℕ) (n : ℕ) → old.log.state ≡ Open → n < 2 ^ 64 → text ≡ done_line n → IsAnswer Step old text next
+  acknowledged : (old next new : StoreView D) (text : List ℕ) (n : ℕ) → old.log.state ≡ Open → n < 2 ^ 64 → AcknowledgesEntry n text → IsAnswer Step old text next
       → (Runs next next → KeepsAll moment left_since next new) → (c : List ℕ) → left_since new.log.device (Moment next) c → LoadsFirst n new.entries c
   acknowledged old next new text n works small line answer on c left = ⊎_elim
-      (λ a. absurd (fault_is_other a.0 n (sym a.1 ∙ line)))
+      (λ a. absurd (fault_is_other a.0 n (subst (AcknowledgesEntry n) a.1 line)))
       (λ a.
-      let (m, is, digits) = answer_is_done a.2 n (sym a.4 ∙ line) in
+      let (m, reply, is, done, digits) = answer_is_done a.2 n (subst (AcknowledgesEntry n) a.4 line) in
       let step : Step old a.0 a.1 a.2 next = a.3 in
-      let last = done_is_last old.entries a.0 a.1 m next.entries (subst (λ (answer : Answer). Becomes old.entries a.0 a.1 answer next.entries) is step.answers) in
+      let last = done_is_last old.entries a.0 a.1 m reply next.entries done (subst (λ (answer : Answer). Becomes old.entries a.0 a.1 answer next.entries) is step.answers) in
       let number : m ≡ n = decimal_injective m n last.1 small digits in
       let ran = begun is_known seen may_leave is_usable moment left_since has_failed known next (step.state ∙ works) (step.kept known) (only_now next.log.device) in
       subst (λ (k : ℕ). LoadsFirst k new.entries c) (sym last.0 ∙ number) ((on ran).each c left)) answer
 
   module _ (last new : StoreView D) (ends : (old : StoreView D) → Runs old last → KeepsAll moment left_since old new) where
     find : (old : StoreView D) (texts : List (List ℕ)) (notes before : List Note) (t : ℕ) (after : List Note) (n : ℕ) → old.log.state ≡ Open → n < 2 ^ 64
-        → WritesAnswers Step Moment old texts notes last → notes ≡ before ++ record { byte = 10; moment = t } ∷ after → unended [] (bytes_in before) ≡ done_line n
+        → WritesAnswers Step Moment old texts notes last → notes ≡ before ++ record { byte = 10; moment = t } ∷ after → AcknowledgesEntry n (unended [] (bytes_in before))
         → (c : List ℕ) → left_since new.log.device t c → LoadsFirst n new.entries c
     find old [] notes [] t after n works small a is line c left = let no = sym a.0 ∙ is in absurd (cc)
     find old [] notes (note ∷ before) t after n works small a is line c left = let no = sym a.0 ∙ is in absurd (cc)
@@ -71,11 +70,11 @@ module _ {D : Type 0} (is_known : Bool) (seen : D → List ℕ) (may_leave : D �
         let alone = answer_in_line Step old text next answer in
         ⊎_elim
         (λ here.
-        let said : text ≡ done_line n = sym (unended_alone [] text alone) ∙ ap (unended []) (sym here.0) ∙ line in
+        let said : AcknowledgesEntry n text = subst (AcknowledgesEntry n) (ap (unended []) here.0 ∙ unended_alone [] text alone) line in
         acknowledged old next new text n works small said answer (λ ran. ends next (ran_answers next next last texts rest ran others)) c
         (subst (λ (k : ℕ). left_since new.log.device k c) here.1 left))
         (λ later.
-        let same : unended [] (bytes_in later.0) ≡ done_line n = sym (unended_after [] text (bytes_in later.0) alone) ∙ ap (unended []) (sym later.1) ∙ line in
+        let same : AcknowledgesEntry n (unended [] (bytes_in later.0)) = subst (AcknowledgesEntry n) (ap (unended []) later.1 ∙ unended_after [] text (bytes_in later.0) alone) line in
         find next texts rest later.0 t after n (stays_open old next text works answer) small others later.2 same c left)
         (ends_at (Moment next) text rest before t after alone (sym whole ∙ is))
 

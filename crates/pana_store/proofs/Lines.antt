@@ -1,10 +1,10 @@
--- The line of an entry is whole, sealed, and its only one.
+-- The line of entries is whole, sealed, and their only one.
 use Rattle.std.proofs.Common.{◌≡◌, inl, inr, ℕ, suc, ◌-◌, ◌<◌, ◌≤◌, ◌==◌, true, false, cond, List, [], ◌∷◌, ◌++◌, length, length-append, take, Some, refl, sym, ap, ◌∙◌, subst, arith}
 use Rattle.std.specs.Prelude.{slice_get}
 use Rattle.std.proofs.lemmas.List.{append-nil, take-append-le}
 use Rattle.pana_journal.specs.declared.entry.Entry.{Entry}
-use Rattle.pana_wire.specs.Dump.{entry_text}
-use Rattle.pana_wire.specs.Seal.{entry_body, sealed_text, IsSealedLine}
+use Rattle.pana_wire.specs.Dump.{entries_text}
+use Rattle.pana_wire.specs.Seal.{entries_body, sealed_text, IsSealedLine}
 use Rattle.pana_wire.specs.Lines.{ended, unended, last_line, lines_of}
 use Rattle.pana_wire.specs.Reply.{reply_data, reply_text}
 use Rattle.pana_log.specs.Lines.{opens, recovered, text_of, HasNoBreak, AreLines}
@@ -52,10 +52,10 @@ only_line line text is one gate =
     let are : AreLines (line ∷ []) = (gate_opens line (subst (λ (t : List ℕ). slice_get t 0 ≡ Some 123) is gate), one_line line (sym (ap lines_of is) ∙ one), tt) in
     ap recovered (is ∙ sym (append-nil (line ++ 10 ∷ []))) ∙ recovered_lines (line ∷ []) [] are
 
--- the sealed line of an entry is one that a journal can hold
-pub is_line : (entry : Entry) (digest text : List ℕ) → IsSealedLine entry digest text → IsLineOf entry text
-is_line entry digest text is =
-    let line = sealed_text entry digest in
+-- the sealed line of entries is one that a journal can hold
+pub is_line : (entries : List Entry) (digest text : List ℕ) → IsSealedLine entries digest text → IsLineOf entries text
+is_line entries digest text is =
+    let line = sealed_text entries digest in
     let found : recovered text ≡ line ∷ [] = only_line line text is.text is.one is.opens in
     record {
       whole = record {
@@ -68,13 +68,13 @@ is_line entry digest text is =
       short = is.short;
     }
 
-pub is_sealed_behind : (before : List ℕ) (entry : Entry) (digest text : List ℕ) → digest ≡ digest_of before (entry_body entry) → IsSealedLine entry digest text → IsSealedBehind before text
-is_sealed_behind before entry digest text made is =
-    (sealed_text entry digest, only_line (sealed_text entry digest) text is.text is.one is.opens, sealed_by before (entry_body entry) digest made)
+pub is_sealed_behind : (before : List ℕ) (entries : List Entry) (digest text : List ℕ) → digest ≡ digest_of before (entries_body entries) → IsSealedLine entries digest text → IsSealedBehind before text
+is_sealed_behind before entries digest text made is =
+    (sealed_text entries digest, only_line (sealed_text entries digest) text is.text is.one is.opens, sealed_by before (entries_body entries) digest made)
 
--- the text of an entry but for its brace and its newline
-pub body_of_line : (entry : Entry) (line : List ℕ) → line ≡ entry_text entry ++ 10 ∷ [] → take (length line - 2) line ≡ entry_body entry
-body_of_line entry line is =
-    let text = entry_text entry in
+-- the text of entries but for its brace and its newline
+pub body_of_line : (entries : List Entry) (line : List ℕ) → line ≡ entries_text entries ++ 10 ∷ [] → take (length line - 2) line ≡ entries_body entries
+body_of_line entries line is =
+    let text = entries_text entries in
     let count : length line - 2 ≡ length text - 1 = omega (arith, ap length is, length-append text (10 ∷ [])) in
     ap (λ (n : ℕ). take n line) count ∙ ap (take (length text - 1)) is ∙ take-append-le (length text - 1) text (10 ∷ []) (omega arith)

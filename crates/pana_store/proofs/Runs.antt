@@ -1,5 +1,5 @@
 -- Sessions: what is kept over a run of calls.
-use Rattle.std.proofs.Common.{◌≡◌, ◌⊎◌, inl, inr, ⊎_elim, ℕ, Bool, IsTrue, List, [], ◌∷◌, ◌++◌, Result, Ok, Err, refl, sym, ◌∙◌, ap, subst, append_assoc}
+use Rattle.std.proofs.Common.{◌≡◌, ◌⊎◌, inl, inr, ⊎_elim, ℕ, ◌+◌, length, Bool, IsTrue, List, [], ◌∷◌, ◌++◌, Result, Ok, Err, refl, sym, ◌∙◌, ap, subst, append_assoc}
 use Rattle.std.specs.Prelude.{IfOk, IfErr}
 use Rattle.std.proofs.lemmas.List.{append-nil}
 use Rattle.pana_journal.specs.declared.entry.Entry.{Entry}
@@ -7,7 +7,12 @@ use Rattle.pana_hall.specs.declared.call.Call.{Call}
 use Rattle.pana_hall.specs.declared.call.Call.TheVariants as calls
 use Rattle.pana_hall.specs.declared.reply.Reply.{Reply}
 use Rattle.pana_hall.specs.declared.reply.Reply.TheVariants as replies
-use Rattle.pana_hall.specs.Permit.{journal_after}
+use Rattle.pana_hall.specs.declared.decision.Decision.{Decision}
+use Rattle.pana_hall.specs.declared.decision.Decision.TheVariants as decisions
+use Rattle.pana_hall.specs.Finding.{decision}
+use Rattle.pana_hall.specs.Living.{living}
+use Rattle.pana_hall.specs.Permit.{journal_after, after_decision}
+use Rattle.pana_hall.specs.Refusal.{with_report}
 use Rattle.pana_wire.specs.declared.fault.WireFault.{WireFault}
 use Rattle.pana_wire.specs.declared.message.Message.{Message}
 use Rattle.pana_wire.specs.declared.serving.ServeFault.{ServeFault}
@@ -20,17 +25,27 @@ use Rattle.pana_wire.specs.declared.answer.Answer.{Answer}
 use Rattle.pana_wire.specs.declared.answer.Answer.TheVariants.{Given, NotKept}
 use Rattle.pana_hall.specs.Step.{Steps}
 use Rattle.pana_store.specs.Store.{StoreView, IsKept, KeepsAll, Becomes, Keeps, Breaks}
-use Rattle.pana_store.proofs.Said.{keeps_on, keeps_start}
+use Rattle.pana_store.proofs.Said.{keeps_on, keeps_start, either_all}
+
+-- what is done of a sighting adds one entry, or two, or none
+decided_grows : (journal : List Entry) (by : List ℕ) (decision : Decision) → (some : List Entry) × (after_decision journal by decision ≡ journal ++ some)
+decided_grows journal by (decisions.Known copy) = ([], sym (append-nil journal))
+decided_grows journal by (decisions.One report) = (record { number = length journal + 1; by = by; report = report } ∷ [], refl)
+decided_grows journal by (decisions.Both report second) =
+    let next : Entry = record { number = length journal + 1; by = by; report = report } in
+    let last : Entry = record { number = length (with_report journal by report) + 1; by = by; report = second } in
+    (next ∷ last ∷ [], append_assoc journal (next ∷ []) (last ∷ []))
 
 pub after_grows : (journal : List Entry) (by : List ℕ) (call : Call) (reply : Reply) → (some : List Entry) × (journal_after journal by call reply ≡ journal ++ some)
 unfolding journal_after
 after_grows journal by (calls.Report report) (replies.Done n) = (record { number = n; by = by; report = report } ∷ [], refl)
+after_grows journal by (calls.Sighting sighting) (replies.Did kind n) = decided_grows journal by (decision (living journal) sighting)
 after_grows journal by call reply = ([], sym (append-nil journal))
 
 -- a call that is answered leaves the entries, or some more
 pub becomes_grows : (old : List Entry) (by : List ℕ) (call : Call) (answer : Answer) (new : List Entry) → Becomes old by call answer new → (some : List Entry) × (new ≡ old ++ some)
 becomes_grows old by call (Given reply) new steps = let after = after_grows old by call reply in (after.0, steps.1 ∙ after.1)
-becomes_grows old by call NotKept new not = ([], not.2 ∙ sym (append-nil old))
+becomes_grows old by call NotKept new not = ([], not.3 ∙ sym (append-nil old))
 
 -- and so does one that has no answer
 pub breaks_grows : (old : List Entry) (by : List ℕ) (call : Call) (new : List Entry) → (new ≡ old) ⊎ ((reply : Reply) × Steps old by call reply new) → (some : List Entry) × (new ≡ old ++ some)
@@ -66,7 +81,8 @@ module _ {D : Type 0} (is_known : Bool) (seen : D → List ℕ) (may_leave : D �
         works = step.state ∙ ran.works;
         more = ran.more ++ some.0;
         grown = some.1 ∙ ap (λ (es : List Entry). es ++ some.0) ran.grown ∙ append_assoc old.entries ran.more some.0;
-        keeps_all = keeps_on moment left_since old.log.device mid.log.device new.log.device old.entries mid.entries new.entries ran.more some.0 ran.grown some.1 ran.keeps_all (step.keeps_all known ran.works);
+        keeps_all = keeps_on moment left_since old.log.device mid.log.device new.log.device old.entries mid.entries new.entries ran.more some.0 ran.grown some.1 ran.keeps_all
+            (either_all moment left_since mid.log.device new.log.device mid.entries new.entries some.0 some.1 (step.keeps_either known ran.works));
       }
 
   ran_said : (old mid new : StoreView D) (said : Result Message WireFault) (text : List ℕ) (steps : ℕ) → Ran old mid → AnswersSaid Step mid said text new steps → Ran old new
@@ -84,7 +100,8 @@ module _ {D : Type 0} (is_known : Bool) (seen : D → List ℕ) (may_leave : D �
   pub failed : (old mid new : StoreView D) (by : List ℕ) (call : Call) → Ran old mid → Fails mid by call new → KeepsAll moment left_since old new
   failed old mid new by call ran breaks =
       let some = breaks_grows mid.entries by call new.entries breaks.entries in
-      keeps_on moment left_since old.log.device mid.log.device new.log.device old.entries mid.entries new.entries ran.more some.0 ran.grown some.1 ran.keeps_all (breaks.keeps_all known ran.works)
+      keeps_on moment left_since old.log.device mid.log.device new.log.device old.entries mid.entries new.entries ran.more some.0 ran.grown some.1 ran.keeps_all
+      (either_all moment left_since mid.log.device new.log.device mid.entries new.entries some.0 some.1 (breaks.keeps_either known ran.works))
 
   breaks_at : (fault : ServeFault) (old mid new : StoreView D) (line output : List ℕ) → Ran old mid → BreaksAt Step Fails fault mid line output new → KeepsAll moment left_since old new
   breaks_at Read old mid new line output ran breaks = absurd breaks

@@ -1,5 +1,5 @@
 -- What lines say, and prefixes of it.
-use Rattle.std.proofs.Common.{◌≡◌, inl, inr, ⊎_elim, ℕ, ◌≤◌, Bool, List, [], ◌∷◌, ◌++◌, length, refl, sym, ◌∙◌, ap, subst, arith, append_assoc, length-append}
+use Rattle.std.proofs.Common.{◌≡◌, inl, inr, ⊎_elim, ℕ, ◌≤◌, Bool, List, [], ◌∷◌, ◌++◌, length, refl, sym, ◌∙◌, ap, subst, arith, append_assoc, append-nil, length-append}
 use Rattle.std.proofs.lemmas.List.{take_at, take_all, take-append-le}
 use Rattle.pana_journal.specs.declared.entry.Entry.{Entry}
 use Rattle.pana_log.specs.declared.log.Log.{Log}
@@ -11,7 +11,7 @@ use Rattle.pana_log.proofs.Settled.{recovered_same}
 use Rattle.pana_wire.specs.DumpLines.{Say}
 use Rattle.pana_seal.specs.Seal.{IsIntact}
 use Rattle.pana_seal.proofs.Intact.{intact_more}
-use Rattle.pana_store.specs.Entries.{LoadsTo, LoadsFirst, IsLineOf, IsSealedBehind}
+use Rattle.pana_store.specs.Entries.{LoadsTo, LoadsFirst, LoadsEither, IsLineOf, IsSealedBehind}
 
 pub say_append : (ls ms : List (List ℕ)) (es fs : List Entry) → Say ls es → Say ms fs → Say (ls ++ ms) (es ++ fs)
 say_append [] ms es fs none says = subst (λ (xs : List Entry). Say ms (xs ++ fs)) (sym none) says
@@ -22,27 +22,31 @@ pub loads_same : (es : List Entry) (file other : List ℕ) → recovered other �
 loads_same es file other same loads = (subst (λ (ls : List (List ℕ)). Say ls es) (sym same) loads.0, subst IsIntact (sym same) loads.1)
 
 -- one line more
-pub loads_more : (es : List Entry) (e : Entry) (old text file : List ℕ) → LoadsTo es old → IsLineOf e text → IsSealedBehind (text_of (recovered old)) text → recovered file ≡ recovered old ++ recovered text → LoadsTo (es ++ e ∷ []) file
-loads_more es e old text file loads line sealed after =
-    let says : Say (recovered text) (e ∷ []) = subst (λ (ls : List (List ℕ)). Say ls (e ∷ [])) (sym line.one) (e ∷ [], [], line.says, refl, refl) in (
-      subst (λ (ls : List (List ℕ)). Say ls (es ++ e ∷ [])) (sym after) (say_append (recovered old) (recovered text) es (e ∷ []) loads.0 says),
+pub loads_more : (es more : List Entry) (old text file : List ℕ) → LoadsTo es old → IsLineOf more text → IsSealedBehind (text_of (recovered old)) text → recovered file ≡ recovered old ++ recovered text → LoadsTo (es ++ more) file
+loads_more es more old text file loads line sealed after =
+    let says : Say (recovered text) more = subst (λ (ls : List (List ℕ)). Say ls more) (sym line.one) (more, [], line.says, refl, sym (append-nil more)) in (
+      subst (λ (ls : List (List ℕ)). Say ls (es ++ more)) (sym after) (say_append (recovered old) (recovered text) es more loads.0 says),
       subst IsIntact (sym (after ∙ ap (λ (ls : List (List ℕ)). recovered old ++ ls) sealed.1)) (intact_more (recovered old) sealed.0 loads.1 (λ due. sealed.2)),
     )
 
 -- all of the entries are the first ones
-pub loads_all : (least : ℕ) (es : List Entry) (file : List ℕ) → least ≤ length es → LoadsTo es file → LoadsFirst least es file
+loads_all : (least : ℕ) (es : List Entry) (file : List ℕ) → least ≤ length es → LoadsTo es file → LoadsFirst least es file
 loads_all least es file within loads = (length es, within, omega arith, subst (λ (xs : List Entry). LoadsTo xs file) (sym (take_all (length es) es (omega arith))) loads)
 
--- and so are all but the last
-pub loads_before : (es : List Entry) (e : Entry) (file : List ℕ) → LoadsTo es file → LoadsFirst (length es) (es ++ e ∷ []) file
-loads_before es e file loads =
-    (length es, omega arith, omega (arith, length-append es (e ∷ [])), subst (λ (xs : List Entry). LoadsTo xs file) (sym (take_at es (e ∷ []) (length es) refl)) loads)
+-- and so are all of those from before
+loads_before : (es more : List Entry) (file : List ℕ) → LoadsTo es file → LoadsFirst (length es) (es ++ more) file
+loads_before es more file loads =
+    (length es, omega arith, omega (arith, length-append es more), subst (λ (xs : List Entry). LoadsTo xs file) (sym (take_at es more (length es) refl)) loads)
 
--- one more may be there or not
-pub loads_either : (es : List Entry) (e : Entry) (old text file : List ℕ) → LoadsTo es old → IsLineOf e text → IsSealedBehind (text_of (recovered old)) text → IsBeforeOrAfter (recovered old) (recovered text) file → LoadsFirst (length es) (es ++ e ∷ []) file
-loads_either es e old text file loads line sealed (inl before) = loads_before es e file (loads_same es old file before loads)
-loads_either es e old text file loads line sealed (inr after) =
-    loads_all (length es) (es ++ e ∷ []) file (omega (arith, length-append es (e ∷ []))) (loads_more es e old text file loads line sealed after)
+-- all of before or all of now
+loads_front : (es more : List Entry) (file : List ℕ) → LoadsEither es (es ++ more) file → LoadsFirst (length es) (es ++ more) file
+loads_front es more file (inl before) = loads_before es more file before
+loads_front es more file (inr after) = loads_all (length es) (es ++ more) file (omega (arith, length-append es more)) after
+
+-- one line more may be there or not
+loads_either : (es more : List Entry) (old text file : List ℕ) → LoadsTo es old → IsLineOf more text → IsSealedBehind (text_of (recovered old)) text → IsBeforeOrAfter (recovered old) (recovered text) file → LoadsEither es (es ++ more) file
+loads_either es more old text file loads line sealed (inl before) = inl (loads_same es old file before loads)
+loads_either es more old text file loads line sealed (inr after) = inr (loads_more es more old text file loads line sealed after)
 
 loads_grown : (least : ℕ) (es more : List Entry) (file : List ℕ) → LoadsFirst least es file → LoadsFirst least (es ++ more) file
 loads_grown least es more file loads =
@@ -57,17 +61,43 @@ module _ {D : Type 0} (moment : D → ℕ) (left_since : D → ℕ → List ℕ 
       (λ f p. subst (λ (es : List Entry). LoadsFirst (length old) es f) (sym grown_more) (loads_grown (length old) mid more f p))
       (λ f q. (q.0, omega (arith, q.1, ap length grown, length-append old some), q.2, q.3))
 
-  -- at first, and over a call that leaves the device alone
+  -- at first
   pub keeps_start : (seen : D → List ℕ) (may_leave : D → List ℕ → Type 0) (is_usable : D → Bool) (log : Log D) (es : List Entry) → IsSettled seen may_leave is_usable log → LoadsTo es (seen log.device)
       → ((c : List ℕ) → left_since log.device (moment log.device) c → may_leave log.device c) → LeavesOnly moment left_since log.device log.device (LoadsFirst (length es) es)
   keeps_start seen may_leave is_usable log es settled loads only_now =
       started moment left_since log.device (LoadsFirst (length es) es)
       (λ f left. loads_all (length es) es f (omega arith) (loads_same es (seen log.device) f (recovered_same (seen log.device) f (settled.durable f (only_now f left))) loads))
 
-  -- a line that is only staged
-  pub keeps_same : (a b : D) (seen_a : List ℕ) (es : List Entry) → LoadsTo es seen_a → LeavesOnly moment left_since a b (λ f. recovered f ≡ recovered seen_a) → LeavesOnly moment left_since a b (LoadsFirst (length es) es)
-  keeps_same a b seen_a es loads run = record {
+  -- over a call that leaves the device alone
+  pub either_start : (seen : D → List ℕ) (may_leave : D → List ℕ → Type 0) (is_usable : D → Bool) (log : Log D) (es : List Entry) → IsSettled seen may_leave is_usable log → LoadsTo es (seen log.device)
+      → ((c : List ℕ) → left_since log.device (moment log.device) c → may_leave log.device c) → LeavesOnly moment left_since log.device log.device (LoadsEither es es)
+  either_start seen may_leave is_usable log es settled loads only_now =
+      started moment left_since log.device (LoadsEither es es)
+      (λ f left. inl (loads_same es (seen log.device) f (recovered_same (seen log.device) f (settled.durable f (only_now f left))) loads))
+
+  weaker : (a b : D) (P Q : List ℕ → Type 0) → ((f : List ℕ) → P f → Q f) → LeavesOnly moment left_since a b P → LeavesOnly moment left_since a b Q
+  weaker a b P Q from run = record {
     later = run.later;
-    each = λ f left. loads_all (length es) es f (omega arith) (loads_same es seen_a f (run.each f left) loads);
-    before = λ t f le left. ⊎_elim (λ was. inl was) (λ p. inr (loads_all (length es) es f (omega arith) (loads_same es seen_a f p loads))) (run.before t f le left);
+    each = λ f left. from f (run.each f left);
+    before = λ t f le left. ⊎_elim (λ was. inl was) (λ p. inr (from f p)) (run.before t f le left);
   }
+
+  -- a line that is only staged
+  pub either_same : (a b : D) (seen_a : List ℕ) (es : List Entry) → LoadsTo es seen_a → LeavesOnly moment left_since a b (λ f. recovered f ≡ recovered seen_a) → LeavesOnly moment left_since a b (LoadsEither es es)
+  either_same a b seen_a es loads run = weaker a b (λ f. recovered f ≡ recovered seen_a) (LoadsEither es es) (λ f same. inl (loads_same es seen_a f same loads)) run
+
+  -- a line that is staged, and then the rest
+  pub either_on : (a b c : D) (seen_a : List ℕ) (es new : List Entry) → LoadsTo es seen_a → LeavesOnly moment left_since a b (λ f. recovered f ≡ recovered seen_a) → LeavesOnly moment left_since b c (LoadsEither es new) → LeavesOnly moment left_since a c (LoadsEither es new)
+  either_on a b c seen_a es new loads first second =
+      then_on moment left_since a b c (λ f. recovered f ≡ recovered seen_a) (LoadsEither es new) (LoadsEither es new) first second (λ f same. inl (loads_same es seen_a f same loads)) (λ f either. either)
+
+  -- a line that is committed, or not
+  pub either_more : (a b : D) (seen_a line : List ℕ) (es more : List Entry) → LoadsTo es seen_a → IsLineOf more line → IsSealedBehind (text_of (recovered seen_a)) line → LeavesOnly moment left_since a b (IsBeforeOrAfter (recovered seen_a) (recovered line))
+      → LeavesOnly moment left_since a b (LoadsEither es (es ++ more))
+  either_more a b seen_a line es more loads is sealed run = weaker a b (IsBeforeOrAfter (recovered seen_a) (recovered line)) (LoadsEither es (es ++ more)) (λ f p. loads_either es more seen_a line f loads is sealed p) run
+
+  -- of a call, what was there before is kept
+  pub either_all : (a b : D) (es new more : List Entry) → new ≡ es ++ more → LeavesOnly moment left_since a b (LoadsEither es new) → LeavesOnly moment left_since a b (LoadsFirst (length es) new)
+  either_all a b es new more grown run =
+      weaker a b (LoadsEither es new) (LoadsFirst (length es) new)
+      (λ f either. subst (λ (xs : List Entry). LoadsFirst (length es) xs f) (sym grown) (loads_front es more f (subst (λ (xs : List Entry). LoadsEither es xs f) grown either))) run

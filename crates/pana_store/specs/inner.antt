@@ -15,7 +15,7 @@ abbrev pub open_fault_of : SealFault → OpenFault
 open_fault_of (seals.Damaged number) = opens.Damaged number
 open_fault_of seals.OutOfMemory = opens.OutOfMemory
 
--- the answer to a report whose line the device doesn't take
+-- the answer to a call whose line the device doesn't take
 abbrev pub answer_to : DeviceFault → Answer
 answer_to devices.OutOfMemory = Given (Refused OutOfMemory)
 answer_to _ = NotKept

@@ -1,8 +1,8 @@
-//! A report whose entry is kept: it is prepared, its line is staged, it is made the next entry of the hall, and the line is
-//! committed.
+//! A call whose entries are kept: it is prepared, their line is staged, they are made the next entries of the hall, and the
+//! line is committed.
 ghost use Rattle.std.specs.Prelude.{◌≡◌, ◌+◌, ◌≤◌, List, ℕ, IsTrue, length, None, IfOk, OnErr};
-ghost use Rattle.pana_hall.specs.declared.call.Call.TheVariants as calls;
-ghost use Rattle.pana_hall.specs.Prepared.{Prepares};
+ghost use Rattle.pana_hall.specs.declared.call.Call.{Call};
+ghost use Rattle.pana_hall.specs.Prepared.{Prepares, entries_of};
 ghost use Rattle.pana_log.specs.Lines.{recovered, text_of, HasRoom};
 ghost use Rattle.pana_log.specs.Log.{IsStaged};
 ghost use Rattle.pana_seal.specs.Seal.{Covers};
@@ -12,44 +12,44 @@ ghost use Rattle.pana_store.specs.inner.{answer_to};
 
 use crate::entry_line::line_of;
 use pana_copies::DeviceName;
-use pana_hall::{Cause, Hall, Prepared, Reply, Unprepared};
-use pana_journal::Report;
+use pana_hall::{Call, Cause, Hall, Prepared, Reply, Unprepared};
 use pana_log::{Device, DeviceFault, Log, LogFault, LogState};
 use pana_seal::Sealer;
 use pana_wire::{Answer, NoAnswer};
 use std::alloc::Global;
 
-/// Makes a device's report, if nothing stands against it, and keeps its entry.
+/// Makes a device's call, if nothing stands against it, and keeps its entries. A call without an entry, as one that is
+/// refused, or a sighting of what is known, is answered, and the file stays as it is.
 pub(crate) fn record<D: Device>(
     alloc: Global,
     hall: &mut Hall,
     log: &mut Log<D>,
     sealer: &mut Sealer,
     by: &DeviceName,
-    report: Report,
+    call: Call,
 ) -> Result<Answer, NoAnswer>
     requires open { log.old.state ≡ LogState.Open }
     requires kept { IsTrue D.is_known → IsKept D.seen D.may_leave D.is_usable (record { entries = hall.old; log = log.old; sealer = sealer.old }) }
     ensures step { IfOk result (λ answer. Keeps D.is_known D.seen D.may_leave D.is_usable D.moment D.left_since D.has_failed
-        (record { entries = hall.old; log = log.old; sealer = sealer.old }) by.now (calls.Report report) answer (record { entries = hall.new; log = log.new; sealer = sealer.new })) }
-    ensures fails { OnErr result (Breaks D.is_known D.moment D.left_since D.has_failed (record { entries = hall.old; log = log.old; sealer = sealer.old }) by.now (calls.Report report) (record { entries = hall.new; log = log.new; sealer = sealer.new })) }
+        (record { entries = hall.old; log = log.old; sealer = sealer.old }) by.now call answer (record { entries = hall.new; log = log.new; sealer = sealer.new })) }
+    ensures fails { OnErr result (Breaks D.is_known D.moment D.left_since D.has_failed (record { entries = hall.old; log = log.old; sealer = sealer.old }) by.now call (record { entries = hall.new; log = log.new; sealer = sealer.new })) }
 {
-    match hall.take_all().prepare(by, report) {
-        Ok(prepared) => match line_of(alloc, sealer, prepared.entry()) {
+    match hall.take_all().prepare(by, call) {
+        Ok(prepared) => match line_of(alloc, sealer, prepared.entry(), prepared.second()) {
             Ok(line) => keep(hall, log, sealer, prepared, &line),
             Err(_) => {
                 *hall = prepared.cancel();
                 Ok(Answer::Given(Reply::Refused(Cause::OutOfMemory)))
             }
         },
-        Err(Unprepared { hall: same, cause }) => {
+        Err(Unprepared { hall: same, reply }) => {
             *hall = same;
-            Ok(Answer::Given(Reply::Refused(cause)))
+            Ok(Answer::Given(reply))
         }
     }
 }
 
-/// Makes a report that is prepared, whose entry has this line. The hall comes back from it.
+/// Makes a call that is prepared, whose entries have this line. The hall comes back from it.
 fn keep<D: Device>(
     hall: &mut Hall,
     log: &mut Log<D>,
@@ -59,12 +59,12 @@ fn keep<D: Device>(
 ) -> Result<Answer, NoAnswer>
     requires open { log.old.state ≡ LogState.Open }
     requires kept { IsTrue D.is_known → IsKept D.seen D.may_leave D.is_usable (record { entries = prepared.journal; log = log.old; sealer = sealer.old }) }
-    requires prepared { Prepares prepared.journal prepared.entry.by prepared.entry.report prepared }
-    requires line { IsLineOf prepared.entry line.now }
+    requires line { IsLineOf (entries_of prepared) line.now }
     requires sealed { (before : List ℕ) → Covers sealer.old before → IsSealedBehind before line.now }
-    ensures step { IfOk result (λ answer. Keeps D.is_known D.seen D.may_leave D.is_usable D.moment D.left_since D.has_failed
-        (record { entries = prepared.journal; log = log.old; sealer = sealer.old }) prepared.entry.by (calls.Report prepared.entry.report) answer (record { entries = hall.new; log = log.new; sealer = sealer.new })) }
-    ensures fails { OnErr result (Breaks D.is_known D.moment D.left_since D.has_failed (record { entries = prepared.journal; log = log.old; sealer = sealer.old }) prepared.entry.by (calls.Report prepared.entry.report) (record { entries = hall.new; log = log.new; sealer = sealer.new })) }
+    ensures step { (by : List ℕ) (call : Call) → Prepares prepared.journal by call prepared → IfOk result (λ answer. Keeps D.is_known D.seen D.may_leave D.is_usable D.moment D.left_since D.has_failed
+        (record { entries = prepared.journal; log = log.old; sealer = sealer.old }) by call answer (record { entries = hall.new; log = log.new; sealer = sealer.new })) }
+    ensures fails { (by : List ℕ) (call : Call) → Prepares prepared.journal by call prepared → OnErr result (Breaks D.is_known D.moment D.left_since D.has_failed
+        (record { entries = prepared.journal; log = log.old; sealer = sealer.old }) by call (record { entries = hall.new; log = log.new; sealer = sealer.new })) }
 {
     match log.stage(line) {
         Ok(()) => finish(hall, log, sealer, prepared, line),
@@ -79,7 +79,7 @@ fn keep<D: Device>(
     }
 }
 
-/// Makes a report whose line is staged, and commits the line.
+/// Makes a call whose line is staged, and commits the line.
 fn finish<D: Device>(
     hall: &mut Hall,
     log: &mut Log<D>,
@@ -92,16 +92,15 @@ fn finish<D: Device>(
     requires loads { IsTrue D.is_known → LoadsTo prepared.journal (D.seen log.old.device) }
     requires covers { IsTrue D.is_known → Covers sealer.old (text_of (recovered (D.seen log.old.device))) }
     requires room { HasRoom log.old.end line.now }
-    requires prepared { Prepares prepared.journal prepared.entry.by prepared.entry.report prepared }
-    requires line { IsLineOf prepared.entry line.now }
+    requires line { IsLineOf (entries_of prepared) line.now }
     requires sealed { (before : List ℕ) → Covers sealer.old before → IsSealedBehind before line.now }
-    ensures step { IfOk result (λ answer. Keeps D.is_known D.seen D.may_leave D.is_usable D.moment D.left_since D.has_failed
-        (record { entries = prepared.journal; log = log.old; sealer = sealer.old }) prepared.entry.by (calls.Report prepared.entry.report) answer (record { entries = hall.new; log = log.new; sealer = sealer.new })) }
-    ensures fails { OnErr result (Breaks D.is_known D.moment D.left_since D.has_failed (record { entries = prepared.journal; log = log.old; sealer = sealer.old }) prepared.entry.by (calls.Report prepared.entry.report) (record { entries = hall.new; log = log.new; sealer = sealer.new })) }
+    ensures step { (by : List ℕ) (call : Call) → Prepares prepared.journal by call prepared → IfOk result (λ answer. Keeps D.is_known D.seen D.may_leave D.is_usable D.moment D.left_since D.has_failed
+        (record { entries = prepared.journal; log = log.old; sealer = sealer.old }) by call answer (record { entries = hall.new; log = log.new; sealer = sealer.new })) }
+    ensures fails { (by : List ℕ) (call : Call) → Prepares prepared.journal by call prepared → OnErr result (Breaks D.is_known D.moment D.left_since D.has_failed
+        (record { entries = prepared.journal; log = log.old; sealer = sealer.old }) by call (record { entries = hall.new; log = log.new; sealer = sealer.new })) }
 {
-    let entry = prepared.entry().number;
-    *hall = prepared.commit();
-    let reply = Reply::Done { entry };
+    let (made, reply) = prepared.commit();
+    *hall = made;
     match log.commit(line) {
         Ok(()) => {
             sealer.push(line);
@@ -111,7 +110,7 @@ fn finish<D: Device>(
     }
 }
 
-/// The answer to a report whose line the device doesn't take.
+/// The answer to a call whose line the device doesn't take.
 fn answer_to(fault: DeviceFault) -> Answer
     ensures { result ≡ answer_to fault }
 {

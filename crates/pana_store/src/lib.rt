@@ -1,4 +1,4 @@
-//! A hall whose journal is kept in a file: each entry is on the device before its `Done` is returned.
+//! A hall whose journal is kept in a file: each entry is on the device before its `Done` or `Did` is returned.
 #![tactic(auto)]
 
 mod ending;

@@ -15,7 +15,8 @@ use std::io::{Read, Write};
 ///
 /// # Errors
 ///
-/// Those of `serve`. `NoAnswer` says that the log is broken: the line's report may be kept or not.
+/// Those of `serve`. `NoAnswer` says that the log is broken: the entries of the line's report or sighting
+/// may be kept or not.
 pub fn serve_kept<R: Read, W: Write, D: Device>(
     alloc: Global,
     reader: &mut Tap<R>,

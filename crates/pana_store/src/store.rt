@@ -1,18 +1,16 @@
 ghost use Rattle.std.specs.Prelude.{◌≡◌, ◌↔◌, IsTrue, IfOk, OnErr, length};
-ghost use Rattle.pana_hall.specs.declared.call.Call.TheVariants as calls;
-ghost use Rattle.pana_store.specs.Store.{IsKept, Keeps, Breaks};
+ghost use Rattle.pana_store.specs.Store.{IsKept, Keeps, Breaks, MakesEntries};
 
 use crate::keeping::record;
 use pana_copies::DeviceName;
 use pana_hall::{Call, Hall};
-use pana_journal::Report;
 use pana_log::{Device, Log, LogState};
 use pana_seal::Sealer;
 use pana_wire::{Answer, NoAnswer, Session};
 use std::alloc::Global;
 use std::marker::Model;
 
-/// A hall, and a log that has each entry of its journal before the entry's `Done` is returned. To contracts it is the
+/// A hall, and a log that has each entry of its journal before the entry's `Done` or `Did` is returned. To contracts it is the
 /// entries, the log, and what the log's next line is sealed behind.
 #[derive(Drop)]
 pub struct Store<D: Device> {
@@ -70,9 +68,11 @@ impl<D: Device> Store<D> {
         self.hall.length()
     }
 
-    fn report(&mut self, by: &DeviceName, report: Report) -> Result<Answer, NoAnswer>
-        ensures step { IfOk result (λ answer. Keeps D.is_known D.seen D.may_leave D.is_usable D.moment D.left_since D.has_failed self.old by.now (calls.Report report) answer self.new) }
-        ensures fails { OnErr result (Breaks D.is_known D.moment D.left_since D.has_failed self.old by.now (calls.Report report) self.new) }
+    /// Makes a report or a sighting, while the log is open.
+    fn make(&mut self, by: &DeviceName, call: Call) -> Result<Answer, NoAnswer>
+        requires makes { MakesEntries call }
+        ensures step { IfOk result (λ answer. Keeps D.is_known D.seen D.may_leave D.is_usable D.moment D.left_since D.has_failed self.old by.now call answer self.new) }
+        ensures fails { OnErr result (Breaks D.is_known D.moment D.left_since D.has_failed self.old by.now call self.new) }
     {
         if self.log.state != LogState::Open {
             return Err(NoAnswer);
@@ -83,7 +83,7 @@ impl<D: Device> Store<D> {
             log,
             sealer,
         } = self;
-        record(*alloc, hall, log, sealer, by, report)
+        record(*alloc, hall, log, sealer, by, call)
     }
 }
 
@@ -97,19 +97,21 @@ impl<D: Device> Session for Store<D> {
 
     ghost fails = { λ old by call new. Breaks D.is_known D.moment D.left_since D.has_failed old by call new };
 
-    /// Makes one call of a device: a report that was done is in the file once the answer is returned.
+    /// Makes one call of a device: a report that was done, and what was done of a sighting, is in the file once the answer is
+    /// returned.
     ///
     /// # Errors
     ///
-    /// `NoAnswer` for a report, where the log is broken: it may be kept or not. A query is always answered.
+    /// `NoAnswer` for a report or a sighting, where the log is broken: its entries may be kept or not, but of two not one
+    /// alone. A query is always answered.
     fn call(&mut self, by: &DeviceName, call: Call) -> Result<Answer, NoAnswer> {
         match call {
             Call::Query(query) => Ok(Answer::Given(self.hall.apply(by, Call::Query(query)))),
-            Call::Report(report) => self.report(by, report),
+            call => self.make(by, call),
         }
     }
 
-    /// A report takes as long as the disk does.
+    /// A report or a sighting takes as long as the disk does.
     fn is_slow(&self) -> bool {
         true
     }
