@@ -4,7 +4,6 @@ use Rattle.std.proofs.lemmas.Fmt.{decimal_injective}
 use Rattle.std.proofs.lemmas.List.{append_cancel_left}
 use Rattle.pana_hall.specs.declared.call.Call.{Call}
 use Rattle.pana_wire.specs.declared.answer.Answer.{Answer}
-use Rattle.pana_wire.specs.declared.answer.Answer.TheVariants.{Given}
 use Rattle.pana_wire.specs.declared.tap.Tap.{Tap}
 use Rattle.pana_wire.specs.Lines.{unended}
 use Rattle.pana_wire.specs.Tap.{Note, noted, noted_at, bytes_in}

@@ -1,5 +1,5 @@
 -- A line that acknowledges an entry is the answer to a report or a sighting that was done.
-use Rattle.std.specs.Prelude.{◌≡◌, ◌≢◌, ◌⊎◌, ℕ, ◌+◌, ◌<◌, ◌^◌, ◌==◌, Bool, true, false, nat_le, List, [], ◌∷◌, ◌++◌, length, drop, get_or, Option, Some, None, if◌then◌else◌}
+use Rattle.std.specs.Prelude.{◌≡◌, ◌≢◌, ℕ, ◌+◌, ◌<◌, ◌^◌, ◌==◌, Bool, true, false, nat_le, List, [], ◌∷◌, ◌++◌, length, drop, get_or, Option, Some, None, if◌then◌else◌}
 use Rattle.std.specs.Bool.{then_some}
 use Rattle.std.specs.Fmt.{decimal}
 use Rattle.std.specs.Option.{option_or}
@@ -24,7 +24,7 @@ use Rattle.pana_hall.specs.declared.reply.Reply.{Reply}
 use Rattle.pana_hall.specs.declared.reply.Reply.TheVariants as replies
 use Rattle.pana_hall.specs.Cause.{code_of, cause_name, cause_copy}
 use Rattle.pana_hall.specs.Finding.{decision}
-use Rattle.pana_hall.specs.Living.{Copy, living}
+use Rattle.pana_hall.specs.Living.{living}
 use Rattle.pana_hall.specs.Permit.{Answers, Grants, PermitsBy, Permits, journal_after, reply_of, after_decision}
 use Rattle.pana_hall.specs.Refusal.{first, refusal, report_refusal, decision_refusal, with_report, against}
 use Rattle.pana_hall.specs.Step.{Steps}

@@ -1,12 +1,11 @@
 -- The line of entries is whole, sealed, and their only one.
-use Rattle.std.proofs.Common.{◌≡◌, inl, inr, ℕ, suc, ◌-◌, ◌<◌, ◌≤◌, ◌==◌, true, false, cond, List, [], ◌∷◌, ◌++◌, length, length-append, take, Some, refl, sym, ap, ◌∙◌, subst, arith}
+use Rattle.std.proofs.Common.{◌≡◌, inl, inr, ℕ, suc, ◌-◌, ◌<◌, ◌==◌, true, false, cond, List, [], ◌∷◌, ◌++◌, length, length-append, take, Some, refl, sym, ap, ◌∙◌, subst, arith}
 use Rattle.std.specs.Prelude.{slice_get}
 use Rattle.std.proofs.lemmas.List.{append-nil, take-append-le}
 use Rattle.pana_journal.specs.declared.entry.Entry.{Entry}
 use Rattle.pana_wire.specs.Dump.{entries_text}
 use Rattle.pana_wire.specs.Seal.{entries_body, sealed_text, IsSealedLine}
 use Rattle.pana_wire.specs.Lines.{ended, unended, last_line, lines_of}
-use Rattle.pana_wire.specs.Reply.{reply_data, reply_text}
 use Rattle.pana_log.specs.Lines.{opens, recovered, text_of, HasNoBreak, AreLines}
 use Rattle.pana_log.proofs.Recovered.{which, recovered_lines}
 use Rattle.pana_seal.specs.Seal.{digest_of}
