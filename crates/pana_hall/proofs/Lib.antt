@@ -13,6 +13,7 @@ pub mod Listed
 pub mod Twice
 pub mod Answered
 pub mod Sighted
+pub mod SightingLaws
 pub mod Shown
 pub mod Related
 pub mod Advised

@@ -1,0 +1,49 @@
+-- What a sighting changes among the living copies, and what is known after it.
+use Rattle.std.specs.Prelude.{◌≡◌, ◌≢◌, ◌≤◌, ℕ, Bool, false, ◌||◌, ◌==◌, List, Some}
+use Rattle.pana_copies.specs.declared.place.Place.{Place}
+use Rattle.pana_journal.specs.declared.entry.Entry.{Entry}
+use Rattle.pana_journal.specs.declared.report.Report.TheVariants.{Reconcile}
+use Rattle.pana_family.specs.Table.{In}
+use Rattle.pana_hall.specs.declared.call.Call.TheVariants as calls
+use Rattle.pana_hall.specs.declared.call.Sighting.{Sighting}
+use Rattle.pana_hall.specs.declared.decision.Decision.{Decision}
+use Rattle.pana_hall.specs.declared.decision.Decision.TheVariants.{Known, One, Both}
+use Rattle.pana_hall.specs.declared.reply.Reply.{Reply}
+use Rattle.pana_hall.specs.Living.{Copy, changes, copy_in, living, number_of, sum_of}
+use Rattle.pana_hall.specs.Permit.{journal_after}
+use Rattle.pana_hall.specs.laws.Advice.{KnowsAllOf}
+
+-- the copies that live after a device's sighting and the reply to it
+abbrev pub living_after : List Entry → List ℕ → Sighting → Reply → List Copy
+living_after journal by sighting reply = living (journal_after journal by (calls.Sighting sighting) reply)
+
+-- whether a report of the decision changes or removes the copy with this number
+abbrev pub is_changed : Decision → ℕ → Bool
+is_changed (Known copy) number = false
+is_changed (One report) number = changes report number
+is_changed (Both report second) number = changes report number || changes second number
+
+-- whether it may also change what the copy knows: not so the second of two that are reconciled, as it is the newer one
+abbrev pub relates_anew : Decision → ℕ → Bool
+relates_anew (One (Reconcile copy newer sum)) number = number == copy
+relates_anew decision number = is_changed decision number
+
+-- the copy with this number is at the place and holds the sum, and knows all that any copy of its family knows that holds the same
+pub record IsHeld (copies : List Copy) (place : Place) (sum : List ℕ) (number : ℕ) : Type 0 where
+  pub copy : Copy
+  pub lives : copy_in copies number ≡ Some copy
+  pub there : copy.place ≡ place
+  pub holds : sum_of copy ≡ Some sum
+  pub knows : (other : Copy) → In other copies → other.family ≡ copy.family → sum_of other ≡ Some sum → KnowsAllOf copy other
+
+-- the heir is another copy of the copy's family; if any other of them knows all that the copy knows, the heir does, and is the one
+-- with the lowest number
+pub record IsHeir (copies : List Copy) (number heir : ℕ) : Type 0 where
+  pub copy : Copy
+  pub other : Copy
+  pub lives : copy_in copies number ≡ Some copy
+  pub heir_lives : copy_in copies heir ≡ Some other
+  pub apart : heir ≢ number
+  pub family : other.family ≡ copy.family
+  pub knows : (third : Copy) → In third copies → third.family ≡ copy.family → number_of third ≢ number → KnowsAllOf third copy
+      → KnowsAllOf other copy × (heir ≤ number_of third)
