@@ -1,8 +1,8 @@
 -- What a sighting changes among the living copies, and what is known after it.
-use Rattle.std.specs.Prelude.{◌≡◌, ◌≢◌, ◌≤◌, ℕ, Bool, false, ◌||◌, ◌==◌, List, Some}
+use Rattle.std.specs.Prelude.{◌≡◌, ◌≢◌, ◌≤◌, ℕ, Bool, true, false, ◌||◌, ◌==◌, List, Some}
 use Rattle.pana_copies.specs.declared.place.Place.{Place}
 use Rattle.pana_journal.specs.declared.entry.Entry.{Entry}
-use Rattle.pana_journal.specs.declared.report.Report.TheVariants.{Reconcile}
+use Rattle.pana_journal.specs.declared.report.Report.TheVariants.{Merge, Reconcile}
 use Rattle.pana_family.specs.Table.{In}
 use Rattle.pana_hall.specs.declared.call.Call.TheVariants as calls
 use Rattle.pana_hall.specs.declared.call.Sighting.{Sighting}
@@ -27,6 +27,12 @@ is_changed (Both report second) number = changes report number || changes second
 abbrev pub relates_anew : Decision → ℕ → Bool
 relates_anew (One (Reconcile copy newer sum)) number = number == copy
 relates_anew decision number = is_changed decision number
+
+-- whether it merges two copies, or is of two reports
+abbrev pub is_for_two : Decision → Bool
+is_for_two (One (Merge a b sum)) = true
+is_for_two (Both report second) = true
+is_for_two decision = false
 
 -- the copy with this number is at the place and holds the sum, and knows all that any copy of its family knows that holds the same
 pub record IsHeld (copies : List Copy) (place : Place) (sum : List ℕ) (number : ℕ) : Type 0 where
