@@ -23,7 +23,7 @@ is_changed (Known copy) number = false
 is_changed (One report) number = changes report number
 is_changed (Both report second) number = changes report number || changes second number
 
--- whether it may also change what the copy knows: not so the second of two that are reconciled, as it is the newer one
+-- whether it may change how the copy relates to others: of two that are reconciled only the first, as the second knew all already
 abbrev pub relates_anew : Decision → ℕ → Bool
 relates_anew (One (Reconcile copy newer sum)) number = number == copy
 relates_anew decision number = is_changed decision number
@@ -34,7 +34,7 @@ is_for_two (One (Merge a b sum)) = true
 is_for_two (Both report second) = true
 is_for_two decision = false
 
--- the copy with this number is at the place and holds the sum, and knows all that any copy of its family knows that holds the same
+-- the copy is at the place and holds the sum, and knows all that any copy of its family knows that holds the same
 pub record IsHeld (copies : List Copy) (place : Place) (sum : List ℕ) (number : ℕ) : Type 0 where
   pub copy : Copy
   pub lives : copy_in copies number ≡ Some copy
@@ -42,8 +42,7 @@ pub record IsHeld (copies : List Copy) (place : Place) (sum : List ℕ) (number 
   pub holds : sum_of copy ≡ Some sum
   pub knows : (other : Copy) → In other copies → other.family ≡ copy.family → sum_of other ≡ Some sum → KnowsAllOf copy other
 
--- the heir is another copy of the copy's family; if any other of them knows all that the copy knows, the heir does, and is the one
--- with the lowest number
+-- the heir is another copy of the copy's family: the lowest-numbered of those that know all that it knows, if any does
 pub record IsHeir (copies : List Copy) (number heir : ℕ) : Type 0 where
   pub copy : Copy
   pub other : Copy

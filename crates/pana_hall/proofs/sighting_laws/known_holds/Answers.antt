@@ -1,4 +1,4 @@
-use Rattle.pana_hall.proofs.SightingLaws.{is_held}
+use Rattle.pana_hall.proofs.Heirs.{is_held}
 use Rattle.pana_hall.proofs.sighting_laws.known_holds.Goals as goal
 
 pub returns : goal.returns

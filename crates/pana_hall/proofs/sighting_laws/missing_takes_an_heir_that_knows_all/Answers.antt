@@ -1,4 +1,4 @@
-use Rattle.pana_hall.proofs.SightingLaws.{is_alone, is_heir}
+use Rattle.pana_hall.proofs.Heirs.{is_alone, is_heir}
 use Rattle.pana_hall.proofs.sighting_laws.missing_takes_an_heir_that_knows_all.Goals as goal
 
 pub returns-clause-heir : goal.returns-clause-heir
