@@ -37,7 +37,7 @@ is_rel_from r rels.Conflict e = rw e refl
 abbrev pub newer : Copy → Copy → Bool
 newer x y = is_rel (copy_relation y x) rels.Newer
 
-newer_sets : (x y : Copy) → newer x y ≡ true → KnowsAllOf y x × ¬ KnowsAllOf x y
+pub newer_sets : (x y : Copy) → newer x y ≡ true → KnowsAllOf y x × ¬ KnowsAllOf x y
 newer_sets x y e = let both = (by_sets y.known.set x.known.set).newer.0 (is_rel_true _ _ e) in (both.0, both.1)
 
 newer_from : (x y : Copy) → KnowsAllOf y x → ¬ KnowsAllOf x y → newer x y ≡ true
@@ -62,7 +62,7 @@ not_newer a b e subset = within_subset a b (by_test (is_within a b) (is_within b
     by_test false false f e = absurd (cc)
 
 -- and what is neither newer nor in conflict knows no more
-not_more : (a b : List ℕ) → is_rel (relation a b) rels.Newer ≡ false → is_rel (relation a b) rels.Conflict ≡ false → IsSubset a b
+pub not_more : (a b : List ℕ) → is_rel (relation a b) rels.Newer ≡ false → is_rel (relation a b) rels.Conflict ≡ false → IsSubset a b
 not_more a b e f = within_subset a b (by_test (is_within a b) (is_within b a) e f)
   where
     by_test : (p q : Bool) → is_rel (cond p (cond q rels.Equal rels.Older) (cond q rels.Newer rels.Conflict)) rels.Newer ≡ false
@@ -97,7 +97,7 @@ none_from : {X : Type 0} (p : X → Bool) (xs : List X) (x : X) → list_any p x
 none_from p xs x none i = elim (cases_Bool (p x)) [ inl e ↦ absurd (let odd = any_from p xs x i e in cc) | inr e ↦ e ]
 
 -- above each of some copies there is one of them to which none of them is newer
-top : (xs : List Copy) (x : Copy) → (r : Copy) × ((r ≡ x) ⊎ (In r xs × (newer x r ≡ true))) × ((y : Copy) → In y xs → newer r y ≡ false)
+pub top : (xs : List Copy) (x : Copy) → (r : Copy) × ((r ≡ x) ⊎ (In r xs × (newer x r ≡ true))) × ((y : Copy) → In y xs → newer r y ≡ false)
 top [] x = (x, inl refl, λ y i. absurd i)
 top (y ∷ xs) x = elim (cases_Bool (newer x y)) [
   | inl e ↦
@@ -116,7 +116,7 @@ top (y ∷ xs) x = elim (cases_Bool (newer x y)) [
       (t.0, elim t.1 [ inl is ↦ inl is | inr h ↦ inr (inr h.0, h.1) ], λ z i. elim i [ inl is ↦ ap (newer t.0) is ∙ below | inr j ↦ t.2 z j ])
 ]
 
-none_any : {X : Type 0} (p : X → Bool) (xs : List X) → ((x : X) → In x xs → p x ≡ false) → list_any p xs ≡ false
+pub none_any : {X : Type 0} (p : X → Bool) (xs : List X) → ((x : X) → In x xs → p x ≡ false) → list_any p xs ≡ false
 none_any p xs none = elim (cases_Bool (list_any p xs)) [ inl e ↦ absurd (let some = any_some p xs e in let odd = none some.0 some.1 in let is = some.2 in cc) | inr e ↦ e ]
 
 any_by : {X : Type 0} (p : X → Bool) (xs : List X) → list_any p xs ≡ nat_lt 0 (count_by p xs)
@@ -128,7 +128,7 @@ in_map f (y ∷ xs) x i = elim i [ inl is ↦ inl (ap f is) | inr j ↦ inr (in_
 
 -- Rising lists.
 
-rises_in : {X : Type 0} (key : X → ℕ) (low : ℕ) (xs : List X) (x : X) → AreRising key low xs → In x xs → low < key x
+pub rises_in : {X : Type 0} (key : X → ℕ) (low : ℕ) (xs : List X) (x : X) → AreRising key low xs → In x xs → low < key x
 rises_in key low [] x rises i = absurd i
 rises_in key low (y ∷ xs) x rises i = elim i [
   | inl is ↦ omega (arith, rises.0, ap key is)

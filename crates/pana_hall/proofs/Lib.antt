@@ -13,6 +13,8 @@ pub mod Listed
 pub mod Twice
 pub mod Answered
 pub mod Sighted
+pub mod SightingLaws
+pub mod Heirs
 pub mod Shown
 pub mod Related
 pub mod Advised

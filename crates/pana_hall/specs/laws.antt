@@ -3,3 +3,4 @@ pub mod Tables
 pub mod Sets
 pub mod Layers
 pub mod Advice
+pub mod Sightings

@@ -26,6 +26,7 @@ mod refusal;
 mod relating;
 mod reply;
 mod saying;
+pub mod sighting_laws;
 mod standing;
 mod state;
 mod status;
