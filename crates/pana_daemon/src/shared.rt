@@ -54,8 +54,8 @@ impl<S: Session + Drop> Machine for Shared<S> {
         self.session.is_slow()
     }
 
-    /// A report, as it may have to be kept.
+    /// All but a query, as it may have to be kept.
     fn takes_long(message: &Message) -> bool {
-        matches!(&message.call, Call::Report(_))
+        !matches!(&message.call, Call::Query(_))
     }
 }

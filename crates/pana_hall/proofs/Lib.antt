@@ -12,6 +12,7 @@ pub mod Ready
 pub mod Listed
 pub mod Twice
 pub mod Answered
+pub mod Sighted
 pub mod Shown
 pub mod Related
 pub mod Advised

@@ -57,8 +57,10 @@ abbrev pub IsShortage : List Entry → Call → Cause → Type 0
 IsShortage journal (calls.Query (queries.Pair a b)) cause = ⊥
 IsShortage journal call cause = cause ≡ causes.OutOfMemory
 
--- the reply to a call, given why it is refused: that cause and no other; else what is granted, or a shortage
+-- the reply to a call, given why it is refused: that cause and no other, but that memory may run out before it is found what a
+-- sighting comes to; else what is granted, or a shortage
 abbrev pub PermitsBy : Option Cause → List Entry → Call → Reply → Type 0
+PermitsBy (Some cause) journal (calls.Sighting sighting) reply = (reply ≡ replies.Refused cause) ⊎ (reply ≡ replies.Refused causes.OutOfMemory)
 PermitsBy (Some cause) journal call reply = reply ≡ replies.Refused cause
 PermitsBy None journal call reply = Grants journal call reply ⊎ ((cause : Cause) × IsShortage journal call cause × (reply ≡ replies.Refused cause))
 

@@ -10,3 +10,4 @@ pub mod State
 pub mod Rows
 pub mod Relatives
 pub mod Finding
+pub mod Plan

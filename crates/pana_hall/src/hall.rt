@@ -1,8 +1,9 @@
 ghost use Rattle.std.specs.Prelude.{◌≡◌, ◌≤◌, [], length, IfOk, OnErr};
 ghost use Rattle.pana_hall.specs.{Accepted.IsAccepted, Permit.Permits, Permit.journal_after, Refusal.refusal, Run.RunsTo};
 
-use crate::call::{Call, Query};
+use crate::call::{Call, Query, Sighting};
 use crate::cause::Cause;
+use crate::planning::Plan;
 use crate::reply::Reply;
 use crate::state::State;
 use pana_copies::DeviceName;
@@ -55,7 +56,7 @@ impl Hall {
     {
         match call {
             Call::Report(report) => self.report(by, report),
-            Call::Sighting(_) => Reply::Refused(Cause::OutOfMemory),
+            Call::Sighting(sighting) => self.sighting(by, sighting),
             Call::Query(query) => self.query(by, query),
         }
     }
@@ -104,6 +105,23 @@ impl Hall {
                 entry: self.state.commit(next),
             },
             Err(cause) => Reply::Refused(cause),
+        }
+    }
+
+    fn sighting(&mut self, by: &DeviceName, sighting: Sighting) -> Reply
+        ensures permitted { Permits self.old by.now (calls.Sighting sighting) result }
+        ensures journal { self.new ≡ journal_after self.old by.now (calls.Sighting sighting) result }
+    {
+        match self.state.plan(self.alloc, by, sighting) {
+            Ok(Plan {
+                next,
+                second,
+                reply,
+            }) => {
+                self.state.commit_all(next, second);
+                reply
+            }
+            Err(reply) => reply,
         }
     }
 

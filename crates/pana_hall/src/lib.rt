@@ -18,6 +18,7 @@ pub mod laws;
 mod listed_family;
 mod loading;
 mod next;
+mod planning;
 mod prepared;
 mod recording;
 mod recording_two;

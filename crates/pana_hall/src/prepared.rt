@@ -1,10 +1,10 @@
 //! A hall whose next entries are prepared.
 ghost use Rattle.std.specs.Prelude.{◌≡◌, [], ◌++◌, IfErr, IfOk, option_copied};
 
-use crate::call::Call;
-use crate::cause::Cause;
+use crate::call::{Call, Sighting};
 use crate::hall::Hall;
 use crate::next::Next;
+use crate::planning::Plan;
 use crate::reply::Reply;
 use crate::state::State;
 use pana_copies::DeviceName;
@@ -26,16 +26,16 @@ pub struct Prepared {
 }
 
 impl Model for Prepared {
-    ghost use Rattle.std.specs.Prelude.{◌≡◌, None, option_map};
+    ghost use Rattle.std.specs.Prelude.{option_map};
     ghost use Rattle.pana_hall.specs.Prepared.{PreparedView};
     ghost use Rattle.pana_hall.specs.inner.State.{IsHeld};
-    ghost use Rattle.pana_hall.specs.inner.Next.{IsNext};
+    ghost use Rattle.pana_hall.specs.inner.Next.{ArePlanned};
 
     ghost Value = { PreparedView };
 
     ghost view = { λ it. record { journal = it.state.journal.entries; entry = it.next.entry; second = option_map (λ next. next.entry) it.second; reply = it.reply } };
 
-    ghost invariant = { λ it. IsHeld it.state × IsNext it.state it.next × (it.second ≡ None) };
+    ghost invariant = { λ it. IsHeld it.state × ArePlanned it.state it.next it.second };
 }
 
 /// A hall, and the reply that a call gets without an entry: it is refused, or known, or a query that is answered.
@@ -73,10 +73,7 @@ impl Hall {
     {
         match call {
             Call::Report(report) => self.prepare_report(by, report),
-            Call::Sighting(_) => Err(Unprepared {
-                hall: self,
-                reply: Reply::Refused(Cause::OutOfMemory),
-            }),
+            Call::Sighting(sighting) => self.prepare_sighting(by, sighting),
             Call::Query(query) => {
                 let reply = self.query(by, query);
                 Err(Unprepared { hall: self, reply })
@@ -104,6 +101,31 @@ impl Hall {
                 hall: self,
                 reply: Reply::Refused(cause),
             }),
+        }
+    }
+
+    fn prepare_sighting(
+        mut self,
+        by: &DeviceName,
+        sighting: Sighting,
+    ) -> Result<Prepared, Unprepared>
+        ensures ok { IfOk result (Prepares self by.now (calls.Sighting sighting)) }
+        ensures hall { IfErr result (λ it. it.hall ≡ self) }
+        ensures reply { IfErr result (λ it. AnswersAt self by.now (calls.Sighting sighting) it.reply) }
+    {
+        match self.state.plan(self.alloc, by, sighting) {
+            Ok(Plan {
+                next,
+                second,
+                reply,
+            }) => Ok(Prepared {
+                alloc: self.alloc,
+                state: self.state,
+                next,
+                second,
+                reply,
+            }),
+            Err(reply) => Err(Unprepared { hall: self, reply }),
         }
     }
 }
@@ -137,10 +159,10 @@ impl Prepared {
             alloc,
             mut state,
             next,
+            second,
             reply,
-            ..
         } = self;
-        let _ = state.commit(next);
+        state.commit_all(next, second);
         (Hall { alloc, state }, reply)
     }
 

@@ -12,11 +12,11 @@ use Rattle.pana_journal.specs.declared.entry.Entry.{Entry}
 use Rattle.pana_journal.specs.declared.report.Report.{Report}
 use Rattle.pana_journal.specs.declared.report.Report.TheVariants as reports
 use Rattle.pana_hall.specs.declared.reply.Reply.{Reply}
-use Rattle.pana_hall.specs.declared.reply.Reply.TheVariants.{Done, Families, Board, Stamps, Pair, Holdings, At, Status, Journal, Refused}
+use Rattle.pana_hall.specs.declared.reply.Reply.TheVariants.{Done, Did, Known, Families, Board, Stamps, Pair, Holdings, At, Status, Journal, Refused}
 use Rattle.pana_wire.specs.declared.field.Field.TheVariants as fields
 use Rattle.pana_wire.specs.Field.{field_name}
 use Rattle.pana_wire.specs.Word.{word_of}
-use Rattle.pana_wire.specs.Line.{device_in, path_in, number_in, sum_in, number_or_none, sum_or_none, place_in, word_in, report_in, object_in, data_in}
+use Rattle.pana_wire.specs.Line.{device_in, path_in, number_in, sum_in, number_or_none, sum_or_none, place_in, word_in, numbered_in, report_in, object_in, data_in}
 use Rattle.pana_wire.specs.Dump.{are_objects, entry_in, entries_in, dump_says, IsReadBack}
 use Rattle.pana_wire.specs.Report.{number_data, put_report, entry_data}
 use Rattle.pana_wire.specs.Reply.{entries_data, reply_data, reply_text}
@@ -30,7 +30,7 @@ entry_object n by report = object (put_report by report (put (field_name fields.
 
 entry_back : (n : ℕ) (by : List ℕ) (report : Report) → is_device by ≡ true → HasNames report
     → entry_in (entry_object n by report) ≡ Ok (record { number = n; by = by; report = report })
-unfolding put_report entry_in report_in word_in place_in device_in path_in number_in sum_in number_or_none sum_or_none word_of
+unfolding put_report entry_in report_in numbered_in word_in place_in device_in path_in number_in sum_in number_or_none sum_or_none word_of
 entry_back n by (reports.Register place None) named names = rw (named, names.0.0, names.0.1) refl
 entry_back n by (reports.Register place (Some sum)) named names = rw (named, names.0.0, names.0.1, names.1) refl
 entry_back n by (reports.Duplicate copy place None) named names = rw (named, names.0.0, names.0.1) refl
@@ -83,6 +83,8 @@ few_or_short entries line names is (inr short) = short
 pub reply_back : (reply : Reply) (line : List ℕ) → HasReplyNames reply → line ≡ reply_text reply → is_utf8 line ≡ true → (depth (reply_data reply) ≤ max_depth → read line ≡ Some (reply_data reply))
     → IsReadBack reply line
 reply_back (Done entry) line names is utf8 reads = tt
+reply_back (Did kind entry) line names is utf8 reads = tt
+reply_back (Known copy) line names is utf8 reads = tt
 reply_back (Families rows) line names is utf8 reads = tt
 reply_back (Board board) line names is utf8 reads = tt
 reply_back (Stamps stamps) line names is utf8 reads = tt

@@ -9,7 +9,7 @@ use Rattle.pana_copies.specs.Names.{is_device}
 use Rattle.pana_journal.specs.declared.report.Report.{Report}
 use Rattle.pana_journal.specs.declared.report.Report.TheVariants.{Register, Duplicate, Edit, Reconcile, Merge, Relocate, Remove, Note, Confirm, Withdraw}
 use Rattle.pana_hall.specs.declared.call.Call.TheVariants as calls
-use Rattle.pana_wire.specs.Line.{device_in, path_in, number_in, sum_in, number_or_none, sum_or_none, place_in, word_in, report_in, call_in, message_in, object_in, text_in, data_in, line_says}
+use Rattle.pana_wire.specs.Line.{device_in, path_in, number_in, sum_in, number_or_none, sum_or_none, place_in, word_in, numbered_in, report_in, asked_in, call_in, message_in, object_in, text_in, data_in, line_says}
 use Rattle.pana_wire.specs.Word.{word_of}
 use Rattle.pana_wire.specs.Report.{put_report, report_data}
 use Rattle.pana_wire.specs.inner.Names.{HasNames}
@@ -21,7 +21,7 @@ object_back by report = refl
 
 message_back : (by : List ℕ) (report : Report) → is_device by ≡ true → HasNames report
     → message_in (report_data by report) ≡ Ok (record { by = by; call = calls.Report report })
-unfolding report_data put_report message_in call_in report_in word_in place_in device_in path_in number_in sum_in number_or_none sum_or_none word_of
+unfolding report_data put_report message_in call_in asked_in report_in numbered_in word_in place_in device_in path_in number_in sum_in number_or_none sum_or_none word_of
 message_back by (Register place None) named names = rw (named, names.0.0, names.0.1) refl
 message_back by (Register place (Some sum)) named names = rw (named, names.0.0, names.0.1, names.1) refl
 message_back by (Duplicate copy place None) named names = rw (named, names.0.0, names.0.1) refl

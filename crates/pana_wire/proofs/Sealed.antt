@@ -1,10 +1,10 @@
--- The line of an entry with a digest.
+-- The line of entries with a digest.
 use Rattle.std.proofs.Common.{◌≡◌, ◌≤◌, ◌<◌, ℕ, zero, suc, ◌-◌, ◌/◌, ◌%◌, ◌&&◌, Bool, true, false, cond, nat_lt, List, [], ◌∷◌, ◌++◌, length, take, map, slice_index, Some, Ok, inl, inr, refl, sym, ap, ◌∙◌, subst, arith, append_assoc}
 use Rattle.std.specs.Prelude.{codes, slice_get}
 use Rattle.std.specs.Str.{is_utf8}
 use Rattle.std.proofs.lemmas.Bool.{and_parts, cases_lt, le-ltb}
 use Rattle.std.proofs.lemmas.List.{take_at, length-append}
-use Rattle.std.proofs.lemmas.List.Elements.{All-cons, All-nil}
+use Rattle.std.specs.List.{All}
 use Rattle.hex.specs.Hex.{IsBytes, encode_with, encode_lower, lower_digits}
 use Rattle.json.specs.Print.{escape, escape_byte, escape_letter, quoted}
 use Rattle.serde_json.specs.Data.{depth}
@@ -13,10 +13,10 @@ use Rattle.serde_json.specs.Written.{compact_text, has_float}
 use Rattle.pana_journal.specs.declared.entry.Entry.{Entry}
 use Rattle.pana_wire.specs.Lines.{lines_of}
 use Rattle.pana_wire.specs.Line.{data_in, object_in}
-use Rattle.pana_wire.specs.Dump.{dump_says, entry_text}
+use Rattle.pana_wire.specs.Dump.{dump_says, entries_text}
 use Rattle.pana_wire.specs.Report.{entry_data}
 use Rattle.pana_wire.specs.Reply.{entries_data, reply_data, reply_text}
-use Rattle.pana_wire.specs.Seal.{mark, close, entry_body, sealed_text, IsSealedLine}
+use Rattle.pana_wire.specs.Seal.{mark, close, entries_body, sealed_text, IsSealedLine}
 use Rattle.pana_wire.specs.inner.Names.{HasEntryNames}
 use Rattle.pana_wire.specs.inner.SealedData.{sealed_data}
 use Rattle.pana_wire.proofs.DumpBack.{objects_found}
@@ -66,21 +66,21 @@ digits_plain (b ∷ bytes) are =
 
 -- ---- the text
 
-abbrev head_of : Entry → List ℕ
-head_of entry = 123 ∷ (quoted (codes "entries") ++ 58 ∷ compact_text (entries_data (entry ∷ [])))
+abbrev head_of : List Entry → List ℕ
+head_of entries = 123 ∷ (quoted (codes "entries") ++ 58 ∷ compact_text (entries_data entries))
 
-opened : (entry : Entry) (rest : List ℕ) → 123 ∷ (quoted (codes "entries") ++ 58 ∷ (compact_text (entries_data (entry ∷ [])) ++ rest)) ≡ head_of entry ++ rest
-opened entry rest = ap (λ (t : List ℕ). 123 ∷ t) (sym (append_assoc (quoted (codes "entries")) (58 ∷ compact_text (entries_data (entry ∷ []))) rest))
+opened : (entries : List Entry) (rest : List ℕ) → 123 ∷ (quoted (codes "entries") ++ 58 ∷ (compact_text (entries_data entries) ++ rest)) ≡ head_of entries ++ rest
+opened entries rest = ap (λ (t : List ℕ). 123 ∷ t) (sym (append_assoc (quoted (codes "entries")) (58 ∷ compact_text (entries_data entries)) rest))
 
-entry_text_is : (entry : Entry) → entry_text entry ≡ head_of entry ++ 125 ∷ []
+entries_text_is : (entries : List Entry) → entries_text entries ≡ head_of entries ++ 125 ∷ []
 unfolding reply_text reply_data
-entry_text_is entry = opened entry (125 ∷ [])
+entries_text_is entries = opened entries (125 ∷ [])
 
 but_last : (xs : List ℕ) (b : ℕ) → take (length (xs ++ b ∷ []) - 1) (xs ++ b ∷ []) ≡ xs
 but_last xs b = take_at xs (b ∷ []) (length (xs ++ b ∷ []) - 1) (omega (arith, length-append xs (b ∷ [])))
 
-body_is : (entry : Entry) → entry_body entry ≡ head_of entry
-body_is entry = ap (λ (t : List ℕ). take (length t - 1) t) (entry_text_is entry) ∙ but_last (head_of entry) 125
+body_is : (entries : List Entry) → entries_body entries ≡ head_of entries
+body_is entries = ap (λ (t : List ℕ). take (length t - 1) t) (entries_text_is entries) ∙ but_last (head_of entries) 125
 
 tail_is : (digest : List ℕ) → IsBytes digest → 44 ∷ (quoted (codes "sha256") ++ 58 ∷ (quoted (encode_lower digest) ++ 125 ∷ [])) ≡ mark ++ (encode_lower digest ++ close)
 unfolding escape_byte
@@ -88,45 +88,45 @@ tail_is digest are =
     ap (λ (t : List ℕ). 44 ∷ (quoted (codes "sha256") ++ 58 ∷ 34 ∷ t))
     (ap (λ (t : List ℕ). (t ++ 34 ∷ []) ++ 125 ∷ []) (digits_plain digest are) ∙ append_assoc (encode_lower digest) (34 ∷ []) (125 ∷ []))
 
-pub text_is : (entry : Entry) (digest : List ℕ) → IsBytes digest → compact_text (sealed_data entry digest) ≡ sealed_text entry digest
+pub text_is : (entries : List Entry) (digest : List ℕ) → IsBytes digest → compact_text (sealed_data entries digest) ≡ sealed_text entries digest
 unfolding sealed_data
-text_is entry digest are =
-    opened entry (44 ∷ (quoted (codes "sha256") ++ 58 ∷ (quoted (encode_lower digest) ++ 125 ∷ [])))
-    ∙ ap (λ (t : List ℕ). head_of entry ++ t) (tail_is digest are)
-    ∙ ap (λ (t : List ℕ). t ++ (mark ++ (encode_lower digest ++ close))) (sym (body_is entry))
+text_is entries digest are =
+    opened entries (44 ∷ (quoted (codes "sha256") ++ 58 ∷ (quoted (encode_lower digest) ++ 125 ∷ [])))
+    ∙ ap (λ (t : List ℕ). head_of entries ++ t) (tail_is digest are)
+    ∙ ap (λ (t : List ℕ). t ++ (mark ++ (encode_lower digest ++ close))) (sym (body_is entries))
 
 -- ---- what it says
 
-sealed_natural : (entry : Entry) (digest : List ℕ) → is_natural (sealed_data entry digest) ≡ true
+sealed_natural : (entries : List Entry) (digest : List ℕ) → is_natural (sealed_data entries digest) ≡ true
 unfolding sealed_data entries_data
-sealed_natural entry digest = rw (entries_natural (entry ∷ [])) refl
+sealed_natural entries digest = rw (entries_natural entries) refl
 
-pub sealed_whole : (entry : Entry) (digest : List ℕ) → has_float (sealed_data entry digest) ≡ false
-sealed_whole entry digest = natural_whole (sealed_data entry digest) (sealed_natural entry digest)
+pub sealed_whole : (entries : List Entry) (digest : List ℕ) → has_float (sealed_data entries digest) ≡ false
+sealed_whole entries digest = natural_whole (sealed_data entries digest) (sealed_natural entries digest)
 
-pub sealed_shallow : (entry : Entry) (digest : List ℕ) → depth (sealed_data entry digest) ≤ max_depth
+pub sealed_shallow : (entries : List Entry) (digest : List ℕ) → depth (sealed_data entries digest) ≤ max_depth
 unfolding sealed_data entries_data
-sealed_shallow entry digest = omega (arith, entries_shallow (entry ∷ []))
+sealed_shallow entries digest = omega (arith, entries_shallow entries)
 
-pub sealed_back : (entry : Entry) (digest line : List ℕ) → HasEntryNames entry → is_utf8 line ≡ true → read line ≡ Some (sealed_data entry digest) → length line ≤ 1048576 → dump_says line ≡ Ok (entry ∷ [])
+pub sealed_back : (entries : List Entry) (digest line : List ℕ) → All HasEntryNames entries → is_utf8 line ≡ true → read line ≡ Some (sealed_data entries digest) → length line ≤ 1048576 → dump_says line ≡ Ok entries
 unfolding dump_says data_in object_in sealed_data entries_data
-sealed_back entry digest line names utf8 is short =
+sealed_back entries digest line names utf8 is short =
     let within : nat_lt 1048576 (length line) ≡ false = le-ltb 1048576 (length line) short in
-    rw (within, utf8, is, objects_found (sealed_data entry digest) (map entry_data (entry ∷ [])) refl (all_objects (entry ∷ []))) (entries_back (entry ∷ []) (All-cons HasEntryNames entry [] names (All-nil HasEntryNames)))
+    rw (within, utf8, is, objects_found (sealed_data entries digest) (map entry_data entries) refl (all_objects entries)) (entries_back entries names)
 
 -- ---- the line
 
-text_one : (entry : Entry) (digest : List ℕ) → IsBytes digest → IsInLine (sealed_text entry digest)
-text_one entry digest are = subst IsInLine (text_is entry digest are) (text_in_line (sealed_data entry digest) (sealed_natural entry digest))
+text_one : (entries : List Entry) (digest : List ℕ) → IsBytes digest → IsInLine (sealed_text entries digest)
+text_one entries digest are = subst IsInLine (text_is entries digest are) (text_in_line (sealed_data entries digest) (sealed_natural entries digest))
 
-text_opens : (entry : Entry) (digest : List ℕ) → slice_get (sealed_text entry digest ++ 10 ∷ []) 0 ≡ Some 123
-text_opens entry digest = ap (λ (t : List ℕ). slice_get ((t ++ (mark ++ (encode_lower digest ++ close))) ++ 10 ∷ []) 0) (body_is entry)
+text_opens : (entries : List Entry) (digest : List ℕ) → slice_get (sealed_text entries digest ++ 10 ∷ []) 0 ≡ Some 123
+text_opens entries digest = ap (λ (t : List ℕ). slice_get ((t ++ (mark ++ (encode_lower digest ++ close))) ++ 10 ∷ []) 0) (body_is entries)
 
-pub sealed_line : (entry : Entry) (digest line : List ℕ) → IsBytes digest → length (sealed_text entry digest) ≤ 1048576 → dump_says (sealed_text entry digest) ≡ Ok (entry ∷ []) → line ≡ sealed_text entry digest ++ 10 ∷ [] → IsSealedLine entry digest line
-sealed_line entry digest line are short back is = record {
+pub sealed_line : (entries : List Entry) (digest line : List ℕ) → IsBytes digest → length (sealed_text entries digest) ≤ 1048576 → dump_says (sealed_text entries digest) ≡ Ok entries → line ≡ sealed_text entries digest ++ 10 ∷ [] → IsSealedLine entries digest line
+sealed_line entries digest line are short back is = record {
   text = is;
-  one = ap lines_of is ∙ lines_one (sealed_text entry digest) (text_one entry digest are);
-  opens = ap (λ (l : List ℕ). slice_get l 0) is ∙ text_opens entry digest;
+  one = ap lines_of is ∙ lines_one (sealed_text entries digest) (text_one entries digest are);
+  opens = ap (λ (l : List ℕ). slice_get l 0) is ∙ text_opens entries digest;
   back = back;
-  short = omega (arith, ap length is, length-append (sealed_text entry digest) (10 ∷ []), short);
+  short = omega (arith, ap length is, length-append (sealed_text entries digest) (10 ∷ []), short);
 }

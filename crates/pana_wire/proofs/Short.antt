@@ -2,13 +2,14 @@
 use Rattle.std.proofs.Common.{◌≡◌, ℕ, zero, suc, ◌+◌, ◌*◌, ◌≤◌, ◌==◌, ◌&&◌, ◌/◌, ◌%◌, Bool, true, false, cond, if◌then◌else◌, List, [], ◌∷◌, ◌++◌, length, map, nat_le, nat_lt, Option, Some, None, Result, Ok, Err, Ordering, Less, Equal, Greater, refl, arith}
 use Rattle.std.specs.Prelude.{OnOk}
 use Rattle.std.specs.Result.{IfOk}
+use Rattle.std.specs.Option.{option_to_list}
 use Rattle.std.specs.Char.{digit_char}
 use Rattle.std.specs.List.{All, list_all}
 use Rattle.std.specs.Ordering.{match_ordering}
 use Rattle.std.specs.Fmt.{decimal, digits, digits_onto, digit_glyph}
 use Rattle.std.proofs.lemmas.Bool.{leb-true, and_parts, eqb-true}
 use Rattle.std.proofs.lemmas.List.{length-append}
-use Rattle.std.proofs.lemmas.List.Elements.{All-cons, All-nil, All-head, All-tail}
+use Rattle.std.proofs.lemmas.List.Elements.{All-head, All-tail}
 use Rattle.hex.specs.Hex.{lower_digits}
 use Rattle.hex.proofs.HexLemmas.{length-encode_with}
 use Rattle.json.specs.Print.{escape, escape_byte, escape_letter, quoted}
@@ -200,7 +201,11 @@ pub page_short : (entries : List Entry) → All HasEntryNames entries → length
 unfolding reply_text reply_data entries_data
 page_short entries names few = omega (arith, fits (reply_data (replies.Journal entries)), entries_short entries names)
 
-pub sealed_short : (entry : Entry) (digest : List ℕ) → HasEntryNames entry → length digest ≡ 32 → length (compact_text (sealed_data entry digest)) ≤ 1048576
+pub sealed_short : (entries : List Entry) (digest : List ℕ) → All HasEntryNames entries → length entries ≤ 100 → length digest ≡ 32 → length (compact_text (sealed_data entries digest)) ≤ 1048576
 unfolding sealed_data entries_data
-sealed_short entry digest names long =
-    omega (arith, fits (sealed_data entry digest), entries_short (entry ∷ []) (All-cons HasEntryNames entry [] names (All-nil HasEntryNames)), length-encode_with lower_digits digest, long)
+sealed_short entries digest names few long = omega (arith, fits (sealed_data entries digest), entries_short entries names, length-encode_with lower_digits digest, long)
+
+-- an entry, and a second one where there is one, are few
+pub one_or_two : (entry : Entry) (second : Option Entry) → length (entry ∷ option_to_list second) ≤ 100
+one_or_two entry None = omega arith
+one_or_two entry (Some second) = omega arith

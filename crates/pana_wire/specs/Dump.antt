@@ -61,13 +61,13 @@ abbrev pub IsReadBack : Reply → List ℕ → Type 0
 IsReadBack (Journal entries) text = (length entries ≤ 100) ⊎ (length text ≤ 1048576) → dump_says text ≡ Ok entries
 IsReadBack _ text = Unit {0}
 
--- the text of an entry: that of a Journal reply which has it alone
-abbrev pub entry_text : Entry → List ℕ
-entry_text entry = reply_text (Journal (entry ∷ []))
+-- the text of entries: that of a Journal reply which has just these
+abbrev pub entries_text : List Entry → List ℕ
+entries_text entries = reply_text (Journal entries)
 
--- the text is one line of a dump, which begins with a brace and ends with its newline, and is read back as the entry
-pub record IsEntryLine (entry : Entry) (line : List ℕ) : Type 0 where
-  pub text : line ≡ entry_text entry ++ 10 ∷ []
-  pub one : lines_of line ≡ entry_text entry ∷ []
+-- the text is one line of a dump, which begins with a brace and ends with its newline, and is read back as the entries
+pub record IsEntryLine (entries : List Entry) (line : List ℕ) : Type 0 where
+  pub text : line ≡ entries_text entries ++ 10 ∷ []
+  pub one : lines_of line ≡ entries_text entries ∷ []
   pub opens : slice_get line 0 ≡ Some 123
-  pub back : dump_says (entry_text entry) ≡ Ok (entry ∷ [])
+  pub back : dump_says (entries_text entries) ≡ Ok entries

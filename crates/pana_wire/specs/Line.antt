@@ -11,6 +11,7 @@ use Rattle.pana_copies.specs.declared.place.Place.{Place}
 use Rattle.pana_journal.specs.declared.report.Report.{Report}
 use Rattle.pana_journal.specs.declared.report.Report.TheVariants as reports
 use Rattle.pana_hall.specs.declared.call.Query.TheVariants as queries
+use Rattle.pana_hall.specs.declared.call.Sighting.TheVariants as sightings
 use Rattle.pana_hall.specs.declared.call.Call.{Call}
 use Rattle.pana_hall.specs.declared.call.Call.TheVariants as calls
 use Rattle.pana_wire.specs.declared.field.Field.{Field}
@@ -92,7 +93,42 @@ place_in device path d = do
 unfoldable pub word_in : Data → Result Word WireFault
 word_in d = found fields.Do (option_and_then word_of (string_in fields.Do d))
 
--- the report of a word, from the fields that the word has; a word for a query has none
+-- the report of a word that has no place, from the fields that the word has; a word for a sighting or a query has none
+abbrev pub numbered_from : Word → List Field → Data → Result Report WireFault
+numbered_from words.Edit (copy ∷ sum ∷ []) d = do
+  copy ← number_in copy d
+  sum ← sum_or_none sum d
+  Ok (reports.Edit copy sum)
+numbered_from words.Reconcile (a ∷ b ∷ sum ∷ []) d = do
+  a ← number_in a d
+  b ← number_in b d
+  sum ← sum_or_none sum d
+  Ok (reports.Reconcile a b sum)
+numbered_from words.Merge (a ∷ b ∷ sum ∷ []) d = do
+  a ← number_in a d
+  b ← number_in b d
+  sum ← sum_or_none sum d
+  Ok (reports.Merge a b sum)
+numbered_from words.Remove (copy ∷ heir ∷ []) d = do
+  copy ← number_in copy d
+  heir ← number_or_none heir d
+  Ok (reports.Remove copy heir)
+numbered_from words.Note (copy ∷ sum ∷ []) d = do
+  copy ← number_in copy d
+  sum ← sum_in sum d
+  Ok (reports.Note copy sum)
+numbered_from words.Confirm (entry ∷ []) d = do
+  entry ← number_in entry d
+  Ok (reports.Confirm entry)
+numbered_from words.Withdraw (entry ∷ []) d = do
+  entry ← number_in entry d
+  Ok (reports.Withdraw entry)
+numbered_from word others d = Err (BadField fields.Do)
+
+unfoldable pub numbered_in : Word → Data → Result Report WireFault
+numbered_in word d = numbered_from word (fields_of word) d
+
+-- the report of a word
 abbrev pub report_from : Word → List Field → Data → Result Report WireFault
 report_from words.Register (device ∷ path ∷ sum ∷ []) d = do
   place ← place_in device path d
@@ -103,73 +139,59 @@ report_from words.Duplicate (copy ∷ device ∷ path ∷ sum ∷ []) d = do
   place ← place_in device path d
   sum ← sum_or_none sum d
   Ok (reports.Duplicate copy place sum)
-report_from words.Edit (copy ∷ sum ∷ []) d = do
-  copy ← number_in copy d
-  sum ← sum_or_none sum d
-  Ok (reports.Edit copy sum)
-report_from words.Reconcile (a ∷ b ∷ sum ∷ []) d = do
-  a ← number_in a d
-  b ← number_in b d
-  sum ← sum_or_none sum d
-  Ok (reports.Reconcile a b sum)
-report_from words.Merge (a ∷ b ∷ sum ∷ []) d = do
-  a ← number_in a d
-  b ← number_in b d
-  sum ← sum_or_none sum d
-  Ok (reports.Merge a b sum)
 report_from words.Relocate (copy ∷ device ∷ path ∷ []) d = do
   copy ← number_in copy d
   place ← place_in device path d
   Ok (reports.Relocate copy place)
-report_from words.Remove (copy ∷ heir ∷ []) d = do
-  copy ← number_in copy d
-  heir ← number_or_none heir d
-  Ok (reports.Remove copy heir)
-report_from words.Note (copy ∷ sum ∷ []) d = do
-  copy ← number_in copy d
-  sum ← sum_in sum d
-  Ok (reports.Note copy sum)
-report_from words.Confirm (entry ∷ []) d = do
-  entry ← number_in entry d
-  Ok (reports.Confirm entry)
-report_from words.Withdraw (entry ∷ []) d = do
-  entry ← number_in entry d
-  Ok (reports.Withdraw entry)
-report_from word others d = Err (BadField fields.Do)
+report_from word others d = numbered_in word d
 
 unfoldable pub report_in : Word → Data → Result Report WireFault
 report_in word d = report_from word (fields_of word) d
 
--- the call of a word, from the fields that the word has: a query, or else a report
-abbrev pub call_from : Word → List Field → Data → Result Call WireFault
-call_from words.Families [] d = Ok (calls.Query queries.Families)
-call_from words.Board (family ∷ []) d = do
+-- the query of a word, or else its report
+abbrev pub asked_from : Word → List Field → Data → Result Call WireFault
+asked_from words.Families [] d = Ok (calls.Query queries.Families)
+asked_from words.Board (family ∷ []) d = do
   family ← number_in family d
   Ok (calls.Query (queries.Board family))
-call_from words.Stamps (family ∷ []) d = do
+asked_from words.Stamps (family ∷ []) d = do
   family ← number_in family d
   Ok (calls.Query (queries.Stamps family))
-call_from words.Pair (a ∷ b ∷ []) d = do
+asked_from words.Pair (a ∷ b ∷ []) d = do
   a ← number_in a d
   b ← number_in b d
   Ok (calls.Query (queries.Pair a b))
-call_from words.Holdings (device ∷ from ∷ []) d = do
+asked_from words.Holdings (device ∷ from ∷ []) d = do
   device ← device_in device d
   from ← number_or_none from d
   Ok (calls.Query (queries.Holdings device from))
-call_from words.At (device ∷ path ∷ []) d = do
+asked_from words.At (device ∷ path ∷ []) d = do
   place ← place_in device path d
   Ok (calls.Query (queries.At place))
-call_from words.Status (device ∷ from ∷ []) d = do
+asked_from words.Status (device ∷ from ∷ []) d = do
   device ← device_or_none device d
   from ← number_in from d
   Ok (calls.Query (queries.Status device from))
-call_from words.Journal (entry ∷ []) d = do
+asked_from words.Journal (entry ∷ []) d = do
   entry ← number_in entry d
   Ok (calls.Query (queries.JournalFrom entry))
-call_from word others d = do
+asked_from word others d = do
   report ← report_in word d
   Ok (calls.Report report)
+
+unfoldable pub asked_in : Word → Data → Result Call WireFault
+asked_in word d = asked_from word (fields_of word) d
+
+-- the call of a word, from the fields that the word has: a sighting, or else a query, or else a report
+abbrev pub call_from : Word → List Field → Data → Result Call WireFault
+call_from words.Found (device ∷ path ∷ sum ∷ []) d = do
+  place ← place_in device path d
+  sum ← sum_in sum d
+  Ok (calls.Sighting (sightings.Found place sum))
+call_from words.Missing (device ∷ path ∷ []) d = do
+  place ← place_in device path d
+  Ok (calls.Sighting (sightings.Missing place))
+call_from word others d = asked_in word d
 
 unfoldable pub call_in : Word → Data → Result Call WireFault
 call_in word d = call_from word (fields_of word) d

@@ -12,13 +12,14 @@ use Rattle.pana_hall.specs.declared.board.BoardView.{BoardView}
 use Rattle.pana_hall.specs.declared.cause.Cause.{Cause}
 use Rattle.pana_family.specs.declared.stamps.CopyStamp.{CopyStamp}
 use Rattle.pana_hall.specs.declared.reply.Reply.{Reply}
-use Rattle.pana_hall.specs.declared.reply.Reply.TheVariants.{Done, Families, Board, Stamps, Pair, Holdings, At, Status, Journal, Refused}
+use Rattle.pana_hall.specs.declared.reply.Reply.TheVariants.{Done, Did, Known, Families, Board, Stamps, Pair, Holdings, At, Status, Journal, Refused}
 use Rattle.pana_hall.specs.declared.standing.CopyStanding.{CopyStanding}
 use Rattle.pana_hall.specs.declared.standing.PlacedCopy.{PlacedCopy}
 use Rattle.pana_hall.specs.declared.standing.StatusRow.{StatusRow}
 use Rattle.pana_hall.specs.Cause.{code_of, cause_name, cause_copy}
 use Rattle.pana_hall.specs.Standing.{state_name}
-use Rattle.pana_wire.specs.Report.{number_data, entry_data}
+use Rattle.pana_wire.specs.Word.{word_name}
+use Rattle.pana_wire.specs.Report.{number_data, kind_word, entry_data}
 
 -- a list of numbers
 unfoldable pub numbers_data : List ℕ → Data
@@ -146,9 +147,19 @@ refusal_data code (Some copy) name = object (
 unfoldable pub refused_data : Cause → Data
 refused_data cause = refusal_data (code_of cause) (cause_copy cause) (cause_name cause)
 
+-- a number, where there is one, and else `null`
+abbrev pub number_or_null : Option ℕ → Data
+number_or_null None = null
+number_or_null (Some n) = number_data n
+
 -- the object that a reply stands for
 unfoldable pub reply_data : Reply → Data
 reply_data (Done entry) = object (member (codes "done") (number_data entry) no_members)
+reply_data (Did kind entry) = object (
+    member (codes "did") (string (word_name (kind_word kind))) (
+    member (codes "done") (number_data entry)
+    no_members))
+reply_data (Known copy) = object (member (codes "known") (number_or_null copy) no_members)
 reply_data (Families rows) = object (member (codes "families") (families_data rows) no_members)
 reply_data (Board board) = object (member (codes "board") (board_data board) no_members)
 reply_data (Stamps stamps) = object (member (codes "stamps") (stamps_data stamps) no_members)

@@ -6,6 +6,9 @@ use Rattle.pana_copies.specs.declared.place.Place.{Place}
 use Rattle.pana_journal.specs.declared.entry.Entry.{Entry}
 use Rattle.pana_journal.specs.declared.report.Report.{Report}
 use Rattle.pana_journal.specs.declared.report.Report.TheVariants.{Register, Duplicate, Edit, Reconcile, Merge, Relocate, Remove, Note, Confirm, Withdraw}
+use Rattle.pana_journal.specs.declared.report_kind.ReportKind.{ReportKind}
+use Rattle.pana_journal.specs.declared.report_kind.ReportKind.TheVariants as kinds
+use Rattle.pana_journal.specs.Reports.{kind_of}
 use Rattle.pana_wire.specs.declared.field.Field.{Field}
 use Rattle.pana_wire.specs.declared.field.Field.TheVariants as fields
 use Rattle.pana_wire.specs.declared.word.Word.{Word}
@@ -13,18 +16,22 @@ use Rattle.pana_wire.specs.declared.word.Word.TheVariants as words
 use Rattle.pana_wire.specs.Field.{field_name}
 use Rattle.pana_wire.specs.Word.{word_name, fields_of}
 
+-- the word for reports of a kind
+abbrev pub kind_word : ReportKind → Word
+kind_word kinds.Register = words.Register
+kind_word kinds.Duplicate = words.Duplicate
+kind_word kinds.Edit = words.Edit
+kind_word kinds.Reconcile = words.Reconcile
+kind_word kinds.Merge = words.Merge
+kind_word kinds.Relocate = words.Relocate
+kind_word kinds.Remove = words.Remove
+kind_word kinds.Note = words.Note
+kind_word kinds.Confirm = words.Confirm
+kind_word kinds.Withdraw = words.Withdraw
+
 -- the word of a report
 abbrev pub report_word : Report → Word
-report_word (Register place sum) = words.Register
-report_word (Duplicate copy place sum) = words.Duplicate
-report_word (Edit copy sum) = words.Edit
-report_word (Reconcile a b sum) = words.Reconcile
-report_word (Merge a b sum) = words.Merge
-report_word (Relocate copy place) = words.Relocate
-report_word (Remove copy heir) = words.Remove
-report_word (Note copy sum) = words.Note
-report_word (Confirm entry) = words.Confirm
-report_word (Withdraw entry) = words.Withdraw
+report_word report = kind_word (kind_of report)
 
 -- a number in JSON
 abbrev pub number_data : ℕ → Data

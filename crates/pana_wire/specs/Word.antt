@@ -4,7 +4,7 @@ use Rattle.std.specs.Str.{bytes_eq}
 use Rattle.pana_wire.specs.declared.field.Field.{Field}
 use Rattle.pana_wire.specs.declared.field.Field.TheVariants as fields
 use Rattle.pana_wire.specs.declared.word.Word.{Word}
-use Rattle.pana_wire.specs.declared.word.Word.TheVariants.{Register, Duplicate, Edit, Reconcile, Merge, Relocate, Remove, Note, Confirm, Withdraw, Families, Board, Stamps, Pair, Holdings, At, Status, Journal}
+use Rattle.pana_wire.specs.declared.word.Word.TheVariants.{Register, Duplicate, Edit, Reconcile, Merge, Relocate, Remove, Note, Confirm, Withdraw, Found, Missing, Families, Board, Stamps, Pair, Holdings, At, Status, Journal}
 
 -- the word as it is spelled
 abbrev pub word_name : Word → List ℕ
@@ -18,6 +18,8 @@ word_name Remove = codes "remove"
 word_name Note = codes "note"
 word_name Confirm = codes "confirm"
 word_name Withdraw = codes "withdraw"
+word_name Found = codes "found"
+word_name Missing = codes "missing"
 word_name Families = codes "families"
 word_name Board = codes "board"
 word_name Stamps = codes "stamps"
@@ -39,6 +41,8 @@ fields_of Remove = fields.Copy ∷ fields.Heir ∷ []
 fields_of Note = fields.Copy ∷ fields.Sum ∷ []
 fields_of Confirm = fields.Entry ∷ []
 fields_of Withdraw = fields.Entry ∷ []
+fields_of Found = fields.Device ∷ fields.Path ∷ fields.Sum ∷ []
+fields_of Missing = fields.Device ∷ fields.Path ∷ []
 fields_of Families = []
 fields_of Board = fields.Family ∷ []
 fields_of Stamps = fields.Family ∷ []
@@ -50,7 +54,7 @@ fields_of Journal = fields.From ∷ []
 
 -- all words
 abbrev pub words : List Word
-words = Register ∷ Duplicate ∷ Edit ∷ Reconcile ∷ Merge ∷ Relocate ∷ Remove ∷ Note ∷ Confirm ∷ Withdraw ∷ Families ∷ Board ∷ Stamps ∷ Pair ∷ Holdings ∷ At ∷ Status ∷ Journal ∷ []
+words = Register ∷ Duplicate ∷ Edit ∷ Reconcile ∷ Merge ∷ Relocate ∷ Remove ∷ Note ∷ Confirm ∷ Withdraw ∷ Found ∷ Missing ∷ Families ∷ Board ∷ Stamps ∷ Pair ∷ Holdings ∷ At ∷ Status ∷ Journal ∷ []
 
 -- the word that a text is
 unfoldable pub word_of : List ℕ → Option Word

@@ -2,14 +2,14 @@ ghost use Rattle.std.specs.Prelude.{◌≡◌, ◌≢◌, IfErr, OnOk};
 ghost use Rattle.serde_json.specs.Find.{get};
 ghost use Rattle.serde_json.specs.View.{view};
 ghost use Rattle.pana_wire.specs.Field.{field_name};
-ghost use Rattle.pana_wire.specs.Line.{Gives, IsText, Shows, text_within, data_in, object_in, device_in, path_in, number_in, sum_in, is_given, number_or_none, device_or_none, sum_or_none, place_in, word_in, report_in, call_in, message_in, line_says};
+ghost use Rattle.pana_wire.specs.Line.{Gives, IsText, Shows, text_within, data_in, object_in, device_in, path_in, number_in, sum_in, is_given, number_or_none, device_or_none, sum_or_none, place_in, word_in, numbered_in, report_in, asked_in, call_in, message_in, line_says};
 
 use crate::fault::WireFault;
 use crate::field::Field;
 use crate::message::Message;
 use crate::word::{Word, word_of};
 use pana_copies::{CopyPath, DeviceName, NameFault, Place, Sum};
-use pana_hall::{Call, Query};
+use pana_hall::{Call, Query, Sighting};
 use pana_journal::Report;
 use serde_json::Value;
 use std::alloc::Global;
@@ -97,6 +97,24 @@ fn call_in(alloc: Global, word: Word, value: &Value) -> Result<Call, WireFault>
     ensures { Gives result (call_in word (view value.now)) }
 {
     let fields = word.fields();
+    match word {
+        Word::Found => Ok(Call::Sighting(Sighting::Found {
+            place: place_in(alloc, fields[0], fields[1], value)?,
+            sum: sum_in(alloc, fields[2], value)?,
+        })),
+        Word::Missing => Ok(Call::Sighting(Sighting::Missing {
+            place: place_in(alloc, fields[0], fields[1], value)?,
+        })),
+        _ => asked_in(alloc, word, value),
+    }
+}
+
+// A query, or else a report.
+#[tactic(auto, unfolding(crate::specs::Line::asked_in))]
+fn asked_in(alloc: Global, word: Word, value: &Value) -> Result<Call, WireFault>
+    ensures { Gives result (asked_in word (view value.now)) }
+{
+    let fields = word.fields();
     let query = match word {
         Word::Families => Query::Families,
         Word::Board => Query::Board {
@@ -143,6 +161,21 @@ pub fn report_in(alloc: Global, word: Word, value: &Value) -> Result<Report, Wir
             place: place_in(alloc, fields[1], fields[2], value)?,
             sum: sum_or_none(alloc, fields[3], value)?,
         }),
+        Word::Relocate => Ok(Report::Relocate {
+            copy: number_in(fields[0], value)?,
+            place: place_in(alloc, fields[1], fields[2], value)?,
+        }),
+        _ => numbered_in(alloc, word, value),
+    }
+}
+
+// A report that has no place.
+#[tactic(auto, unfolding(crate::specs::Line::numbered_in))]
+fn numbered_in(alloc: Global, word: Word, value: &Value) -> Result<Report, WireFault>
+    ensures { Gives result (numbered_in word (view value.now)) }
+{
+    let fields = word.fields();
+    match word {
         Word::Edit => Ok(Report::Edit {
             copy: number_in(fields[0], value)?,
             sum: sum_or_none(alloc, fields[1], value)?,
@@ -156,10 +189,6 @@ pub fn report_in(alloc: Global, word: Word, value: &Value) -> Result<Report, Wir
             a: number_in(fields[0], value)?,
             b: number_in(fields[1], value)?,
             sum: sum_or_none(alloc, fields[2], value)?,
-        }),
-        Word::Relocate => Ok(Report::Relocate {
-            copy: number_in(fields[0], value)?,
-            place: place_in(alloc, fields[1], fields[2], value)?,
         }),
         Word::Remove => Ok(Report::Remove {
             copy: number_in(fields[0], value)?,

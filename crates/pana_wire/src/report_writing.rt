@@ -1,5 +1,5 @@
 //! Reports and entries as objects.
-ghost use Rattle.std.specs.Prelude.{◌≡◌, [], ◌∷◌, true, IfOk, OnOk, string_bytes};
+ghost use Rattle.std.specs.Prelude.{◌≡◌, [], ◌∷◌, true, IfOk, OnOk, option_copied, option_to_list, string_bytes};
 ghost use Rattle.std.specs.List.{All};
 ghost use Rattle.serde_json.specs.Data.{string, put};
 ghost use Rattle.serde_json.specs.View.{view, members_view};
@@ -9,14 +9,14 @@ ghost use Rattle.pana_wire.specs.Line.{line_says};
 ghost use Rattle.pana_copies.specs.Sums.{is_sum};
 ghost use Rattle.pana_wire.specs.Word.{fields_of};
 ghost use Rattle.pana_wire.specs.inner.Names.{HasPlaceNames, IsSumOrNone, HasNames, HasEntryNames};
-ghost use Rattle.pana_wire.specs.Report.{number_data, heir_contents, sum_contents, report_word, contents_of, put_fields, put_report, report_data, report_text, entry_data};
+ghost use Rattle.pana_wire.specs.Report.{number_data, heir_contents, sum_contents, kind_word, report_word, contents_of, put_fields, put_report, report_data, report_text, entry_data};
 ghost use Rattle.pana_wire.specs.Reply.{entries_data};
 
 use crate::field::Field;
 use crate::word::Word;
 use pana_copies::{DeviceName, Place, Sum};
 use pana_hall::Call;
-use pana_journal::{Entry, Report};
+use pana_journal::{Entry, Report, ReportKind};
 use serde_json::{Map, Value};
 use std::alloc::{AllocError, Global};
 
@@ -55,8 +55,24 @@ pub fn entries_value(alloc: Global, entries: &[Entry]) -> Result<Value, AllocErr
     Ok(Value::Array(values))
 }
 
+// One entry, or two.
+#[tactic(auto, unfolding(crate::specs::Reply::entries_data))]
+pub fn line_value(alloc: Global, entry: &Entry, second: Option<&Entry>) -> Result<Value, AllocError>
+    ensures value { IfOk result (λ value. view value ≡ entries_data (entry.now ∷ option_to_list (option_copied second.entry))) }
+    ensures names { OnOk result (All HasEntryNames (entry.now ∷ option_to_list (option_copied second.entry))) }
+{
+    let first = entry_value(alloc, entry)?;
+    match second {
+        Some(second) => {
+            let second = entry_value(alloc, second)?;
+            Ok(Value::Array(vec![in alloc; first, second]?))
+        }
+        None => Ok(Value::Array(vec![in alloc; first]?)),
+    }
+}
+
 #[tactic(auto, unfolding(crate::specs::Report::entry_data))]
-pub fn entry_value(alloc: Global, entry: &Entry) -> Result<Value, AllocError>
+fn entry_value(alloc: Global, entry: &Entry) -> Result<Value, AllocError>
     ensures value { IfOk result (λ value. view value ≡ entry_data entry.now) }
     ensures names { OnOk result (HasEntryNames entry.now) }
 {
@@ -66,20 +82,20 @@ pub fn entry_value(alloc: Global, entry: &Entry) -> Result<Value, AllocError>
     Ok(Value::Object(members))
 }
 
-fn report_word(report: &Report) -> Word
-    ensures { result ≡ report_word report.now }
+pub fn kind_word(kind: ReportKind) -> Word
+    ensures { result ≡ kind_word kind }
 {
-    match report {
-        Report::Register { .. } => Word::Register,
-        Report::Duplicate { .. } => Word::Duplicate,
-        Report::Edit { .. } => Word::Edit,
-        Report::Reconcile { .. } => Word::Reconcile,
-        Report::Merge { .. } => Word::Merge,
-        Report::Relocate { .. } => Word::Relocate,
-        Report::Remove { .. } => Word::Remove,
-        Report::Note { .. } => Word::Note,
-        Report::Confirm { .. } => Word::Confirm,
-        Report::Withdraw { .. } => Word::Withdraw,
+    match kind {
+        ReportKind::Register => Word::Register,
+        ReportKind::Duplicate => Word::Duplicate,
+        ReportKind::Edit => Word::Edit,
+        ReportKind::Reconcile => Word::Reconcile,
+        ReportKind::Merge => Word::Merge,
+        ReportKind::Relocate => Word::Relocate,
+        ReportKind::Remove => Word::Remove,
+        ReportKind::Note => Word::Note,
+        ReportKind::Confirm => Word::Confirm,
+        ReportKind::Withdraw => Word::Withdraw,
     }
 }
 
@@ -95,7 +111,7 @@ fn put_report(
     ensures names { OnOk result (HasNames report.now) }
 {
     put_text(alloc, members, Field::By, by.as_str())?;
-    put_text(alloc, members, Field::Do, report_word(report).name())?;
+    put_text(alloc, members, Field::Do, kind_word(report.kind()).name())?;
     put_contents(alloc, members, report)
 }
 
@@ -107,7 +123,7 @@ fn put_contents(
     ensures value { OnOk result (members_view members.new.entries ≡ put_fields (fields_of (report_word report.now)) (contents_of report.now) (members_view members.old.entries)) }
     ensures names { OnOk result (HasNames report.now) }
 {
-    let fields = report_word(report).fields();
+    let fields = kind_word(report.kind()).fields();
     match report {
         Report::Register { place, sum } => {
             put_place(alloc, members, fields[0], fields[1], place)?;

@@ -16,6 +16,8 @@ pub enum Word {
     Note,
     Confirm,
     Withdraw,
+    Found,
+    Missing,
     Families,
     Board,
     Stamps,
@@ -27,7 +29,7 @@ pub enum Word {
 }
 
 /// All words.
-const WORDS: [Word; 18] = [
+const WORDS: [Word; 20] = [
     Word::Register,
     Word::Duplicate,
     Word::Edit,
@@ -38,6 +40,8 @@ const WORDS: [Word; 18] = [
     Word::Note,
     Word::Confirm,
     Word::Withdraw,
+    Word::Found,
+    Word::Missing,
     Word::Families,
     Word::Board,
     Word::Stamps,
@@ -64,6 +68,8 @@ impl Word {
             Word::Note => "note",
             Word::Confirm => "confirm",
             Word::Withdraw => "withdraw",
+            Word::Found => "found",
+            Word::Missing => "missing",
             Word::Families => "families",
             Word::Board => "board",
             Word::Stamps => "stamps",
@@ -90,6 +96,8 @@ impl Word {
             Word::Note => &[Field::Copy, Field::Sum],
             Word::Confirm => &[Field::Entry],
             Word::Withdraw => &[Field::Entry],
+            Word::Found => &[Field::Device, Field::Path, Field::Sum],
+            Word::Missing => &[Field::Device, Field::Path],
             Word::Families => &[],
             Word::Board => &[Field::Family],
             Word::Stamps => &[Field::Family],

@@ -1,14 +1,15 @@
-ghost use Rattle.std.specs.Prelude.{◌≡◌, [], ◌∷◌, IfOk, OnOk, string_bytes};
+ghost use Rattle.std.specs.Prelude.{◌≡◌, ◌∷◌, IfOk, OnOk, option_copied, option_to_list, string_bytes};
+ghost use Rattle.std.specs.List.{All};
 ghost use Rattle.serde_json.specs.View.{view};
 ghost use Rattle.pana_hall.specs.declared.reply.Reply.TheVariants.{Journal};
 ghost use Rattle.pana_wire.specs.inner.Names.{HasEntryNames, HasReplyNames};
-ghost use Rattle.pana_wire.specs.Dump.{IsReadBack, IsEntryLine, dump_says, entry_text};
+ghost use Rattle.pana_wire.specs.Dump.{IsReadBack, IsEntryLine, dump_says, entries_text};
 ghost use Rattle.pana_wire.specs.Answer.{answer_text};
-ghost use Rattle.pana_wire.specs.Reply.{row_data, rows_data, numbers_data, board_data, stamp_data, stamps_data, family_data, families_data, with_sum, holding_data, holdings_data, standing_data, at_data, placed_data, status_row_data, status_data, refused_data, reply_data, reply_text};
+ghost use Rattle.pana_wire.specs.Reply.{row_data, rows_data, numbers_data, board_data, stamp_data, stamps_data, family_data, families_data, with_sum, holding_data, holdings_data, standing_data, at_data, placed_data, status_row_data, status_data, refused_data, number_or_null, reply_data, reply_text};
 
 use crate::answer::Answer;
 use crate::field::Field;
-use crate::report_writing::{entries_value, entry_value, put_sum};
+use crate::report_writing::{entries_value, kind_word, line_value, put_sum};
 use pana_copies::Sum;
 use pana_hall::{
     BoardRow, BoardView, Cause, CopyStamp, CopyStanding, FamilyRow, Holding, PlacedCopy, Reply,
@@ -46,34 +47,38 @@ pub fn encode_answer(alloc: Global, answer: &Answer) -> Result<String, AllocErro
     }
 }
 
-/// The line of a dump that has this entry alone, with its newline: the answer to `journal` where it would have just the
-/// entry. It is one line, and `decode_dump` reads it, without the newline, back as the entry.
+/// The line of a dump that has this entry, and where a second one is given that one behind it, with its newline: the
+/// answer to `journal` where it would have just these. It is one line, and `decode_dump` reads it, without the newline,
+/// back as the entries.
 ///
 /// It takes memory for the object and for its text, and fails only where that runs out.
-pub fn encode_entry(alloc: Global, entry: &Entry) -> Result<String, AllocError>
-    ensures line { IfOk result (λ line. IsEntryLine entry.now (string_bytes line)) }
+pub fn encode_entry(
+    alloc: Global,
+    entry: &Entry,
+    second: Option<&Entry>,
+) -> Result<String, AllocError>
+    ensures line { IfOk result (λ line. IsEntryLine (entry.now ∷ option_to_list (option_copied second.entry)) (string_bytes line)) }
 {
-    let mut line = entry_text(alloc, entry)?;
+    let mut line = entries_text(alloc, entry, second)?;
     line.push('\n')?;
     Ok(line)
 }
 
-fn entry_text(alloc: Global, entry: &Entry) -> Result<String, AllocError>
-    ensures text { IfOk result (λ text. string_bytes text ≡ entry_text entry.now) }
-    ensures back { OnOk result (dump_says (entry_text entry.now) ≡ Ok (entry.now ∷ [])) }
+fn entries_text(alloc: Global, entry: &Entry, second: Option<&Entry>) -> Result<String, AllocError>
+    ensures text { IfOk result (λ text. string_bytes text ≡ entries_text (entry.now ∷ option_to_list (option_copied second.entry))) }
+    ensures back { OnOk result (dump_says (entries_text (entry.now ∷ option_to_list (option_copied second.entry))) ≡ Ok (entry.now ∷ option_to_list (option_copied second.entry))) }
 {
-    let value = one_entry_value(alloc, entry)?;
+    let value = entries_object(alloc, entry, second)?;
     value.to_string(alloc)
 }
 
-#[tactic(auto, unfolding(crate::specs::Reply::reply_data, crate::specs::Reply::entries_data))]
-fn one_entry_value(alloc: Global, entry: &Entry) -> Result<Value, AllocError>
-    ensures value { IfOk result (λ value. view value ≡ reply_data (Journal (entry.now ∷ []))) }
-    ensures names { OnOk result (HasEntryNames entry.now) }
+#[tactic(auto, unfolding(crate::specs::Reply::reply_data))]
+fn entries_object(alloc: Global, entry: &Entry, second: Option<&Entry>) -> Result<Value, AllocError>
+    ensures value { IfOk result (λ value. view value ≡ reply_data (Journal (entry.now ∷ option_to_list (option_copied second.entry)))) }
+    ensures names { OnOk result (All HasEntryNames (entry.now ∷ option_to_list (option_copied second.entry))) }
 {
-    let mut entries = Vec::new(alloc);
-    entries.push(entry_value(alloc, entry)?)?;
-    json!(in alloc; { "entries": Value::Array(entries) })
+    let entries = line_value(alloc, entry, second)?;
+    json!(in alloc; { "entries": entries })
 }
 
 #[tactic(auto, unfolding(crate::specs::Reply::reply_data))]
@@ -83,6 +88,10 @@ fn reply_value(alloc: Global, reply: &Reply) -> Result<Value, AllocError>
 {
     match reply {
         Reply::Done { entry } => json!(in alloc; { "done": *entry }),
+        Reply::Did { kind, entry } => {
+            json!(in alloc; { "did": kind_word(*kind).name(), "done": *entry })
+        }
+        Reply::Known { copy } => json!(in alloc; { "known": number_or_null(*copy) }),
         Reply::Families(rows) => {
             let families = families_value(alloc, rows.as_slice())?;
             json!(in alloc; { "families": families })
@@ -113,6 +122,15 @@ fn reply_value(alloc: Global, reply: &Reply) -> Result<Value, AllocError>
             json!(in alloc; { "entries": entries })
         }
         Reply::Refused(cause) => refused_value(alloc, cause),
+    }
+}
+
+fn number_or_null(number: Option<u64>) -> Value
+    ensures { view result ≡ number_or_null number }
+{
+    match number {
+        Some(number) => Value::from(number),
+        None => Value::Null,
     }
 }
 

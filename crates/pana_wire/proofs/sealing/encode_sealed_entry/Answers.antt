@@ -1,9 +1,10 @@
 use Rattle.std.specs.Prelude.{[], ◌∷◌, ◌++◌, string_bytes}
 use Rattle.std.proofs.Common.{ap, ◌∙◌}
+use Rattle.std.specs.Option.{option_copied, option_to_list}
 use Rattle.pana_wire.proofs.Sealed.{sealed_line}
 use Rattle.pana_wire.proofs.sealing.encode_sealed_entry.Goals as goal
 
 pub returns : goal.returns
 unfolding lib.Utf8.encode
 returns c =
-    record { line = sealed_line c.args.entry.now c.args.digest.now (string_bytes c.push.new.self) (λ i. c.fits-digest i) c.in_ok-line.ensures.short c.in_ok-line.ensures.back (c.in_ok-push.ensures.bytes ∙ ap (λ l. l ++ 10 ∷ []) c.in_ok-line.ensures.text) }
+    record { line = sealed_line (c.args.entry.now ∷ option_to_list (option_copied c.args.second)) c.args.digest.now (string_bytes c.push.new.self) (λ i. c.fits-digest i) c.in_ok-line.ensures.short c.in_ok-line.ensures.back (c.in_ok-push.ensures.bytes ∙ ap (λ l. l ++ 10 ∷ []) c.in_ok-line.ensures.text) }
