@@ -1,20 +1,21 @@
 -- What callers at a desk of a store have kept, over a device that is known.
 use Rattle.std.specs.Prelude.{◌≡◌, ℕ, List, [], ◌∷◌, ◌++◌, length, Ok}
 use Rattle.pana_hall.specs.declared.call.Call.{Call}
-use Rattle.pana_hall.specs.declared.reply.Reply.TheVariants.{Done}
+use Rattle.pana_hall.specs.declared.reply.Reply.{Reply}
 use Rattle.pana_turn.specs.History.{IsHistory, left_by}
 use Rattle.pana_wire.specs.declared.answer.Answer.{Answer}
 use Rattle.pana_wire.specs.declared.answer.Answer.TheVariants.{Given}
+use Rattle.pana_store.specs.Acknowledged.{IsDone}
 use Rattle.pana_store.specs.Entries.{LoadsFirst}
 use Rattle.pana_store.specs.Store.{StoreView, KeepsAll}
 use Rattle.pana_daemon.specs.Desk.{Finished, SharedSteps}
 
 module _ {V : Type 0} (moment : V → ℕ) (left_since : V → ℕ → List ℕ → Type 0) where
-  -- Each report that was answered as done is kept: a crash at any moment since its call was finished leaves a file that
-  -- loads to the first entries of now, its own among them.
+  -- Each report that was answered as done is kept, and so is what was done of a sighting: a crash at any moment since the call
+  -- was finished leaves a file that loads to the first entries of now, its own among them.
   abbrev pub KeepsDone : List (Finished (StoreView V)) → StoreView V → Type 0
-  KeepsDone history now = (before after : List (Finished (StoreView V))) (call : Finished (StoreView V)) (n : ℕ)
-      → history ≡ before ++ call ∷ after → call.reply ≡ Ok (Given (Done n))
+  KeepsDone history now = (before after : List (Finished (StoreView V))) (call : Finished (StoreView V)) (n : ℕ) (reply : Reply)
+      → history ≡ before ++ call ∷ after → call.reply ≡ Ok (Given reply) → IsDone n reply
       → (c : List ℕ) → left_since now.log.device (moment call.left.log.device) c → LoadsFirst n now.entries c
 
   -- The calls of all callers are one history, each a call of the store, which leaves it so: a crash at any moment since
