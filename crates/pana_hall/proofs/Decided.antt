@@ -247,7 +247,7 @@ module _ (journal : List Entry) (n : ℕ) (x : Copy) (accepted : IsAccepted 8 jo
           → again_by n sum r m (passes (holds sum) (living journal) n) last ≡ again_by x.known.copy sum (option_map (λ c. c.known.copy) newer) (option_map (λ c. c.known.copy) conflict) (holds sum x) last
       again_all newer conflict last a b = cc (passes_is (holds sum) (living journal) n x at, number)
 
--- The parts of a decision, as they are told by number.
+-- The parts of a decision, as they are found by number.
 
 -- where a living copy is kept
 place_is : (journal : List Entry) (table : Table) (n : ℕ) (x : Copy) → AreSpots journal table → copy_in (living journal) n ≡ Some x → place_at table n ≡ x.place

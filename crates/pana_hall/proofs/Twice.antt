@@ -67,12 +67,6 @@ module _ (journal : List Entry) (by : List ℕ) (first second : Report) (accepte
   same_family : families next two.b ≡ families journal two.a
   same_family = family_old journal (next_entry journal by first) two.b (omega (arith, second_within.1)) ∙ sym two.family
 
-  first_reported : family_report first ≡ Some (family.Edit two.a)
-  first_reported = ap family_report two.first_is
-
-  second_reported : family_report second ≡ Some (family.Edit two.b)
-  second_reported = ap family_report two.second_is
-
   -- the copies stay where they are
   same_spots : (copies : Table) (n : ℕ) (report : Report) (c : ℕ) (sum : Option (List ℕ)) → report ≡ Edit c sum → (number : ℕ) → kept copies number ≡ spot_after n report (kept copies) number
   same_spots copies n report c sum is number = ap (λ r. spot_after n r (kept copies) number) (sym is)
