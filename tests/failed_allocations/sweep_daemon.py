@@ -1,6 +1,6 @@
 #!/usr/bin/env python3
 """Runs `serve` with its Nth allocation failing, for N = 1, 2, .. until none fails: a root with a file is scanned, a client
-reports and asks, two more files are scanned, and the first is changed and scanned again.
+reports, says what it saw and asks, two more files are scanned, and the first is changed and scanned again.
 
 usage: sweep_daemon.py PROGRAM
 
@@ -13,6 +13,7 @@ The last line is 'N passed, M failed'.
 """
 from __future__ import annotations
 
+import json
 import socket
 import subprocess
 import sys
@@ -35,6 +36,7 @@ PATIENCE = 1
 LONGEST = 8
 OUT_OF_MEMORY = ({"code": 9, "refused": "OutOfMemory"}, {"fault": "OutOfMemory"})
 ENDS = (b"panad: out of memory\n", b"panad: cannot make threads\n")
+ONE, OTHER = "1" * 64, "2" * 64
 LINES = (
     line_of("desk", "duplicate", copy=1, device="desk", path="a"),
     line_of("desk", "edit", copy=2),
@@ -42,7 +44,24 @@ LINES = (
     line_of("desk", "pair", a=1, b=2),
     line_of("desk", "board", family=1),
     line_of("desk", "edit", copy=9),
+    # a note, and then it is known; a register, a duplicate and a remove; and, of two equal copies with unlike contents, two edits
+    line_of("desk", "found", device="desk", path="a", sum=ONE),
+    line_of("desk", "found", device="desk", path="a", sum=ONE),
+    line_of("desk", "found", device="desk", path="d", sum=ONE),
+    line_of("desk", "found", device="disk", path="d", sum=ONE),
+    line_of("desk", "missing", device="disk", path="d"),
+    line_of("desk", "missing", device="disk", path="d"),
+    line_of("desk", "register", device="desk", path="e"),
+    line_of("desk", "duplicate", copy=8, device="disk", path="e", sum=ONE),
+    line_of("desk", "found", device="desk", path="e", sum=OTHER),
 )
+# How many entries there are then.
+ENTRIES = 11
+
+
+def is_sighting(line):
+    """Whether the line says what was found or is missing."""
+    return json.loads(line)["do"] in ("found", "missing")
 
 
 class Deaf(Exception):
@@ -99,7 +118,7 @@ class Run:
         for _ in range(2):
             answer = self.ask(line)
             if answer is None and len(after := self.journal()) > len(before):
-                answer = {"done": len(after)}
+                answer = {**({"did": after[-1]["do"]} if is_sighting(line) else {}), "done": len(after)}
             if answer is not None and answer not in OUT_OF_MEMORY:
                 self.answers.append(answer)
                 return
@@ -125,7 +144,7 @@ def talked_through(run, room):
     for line in LINES:
         run.report_line(line)
     # Once the second of two more files is found, a whole scan has noted what the first file holds.
-    for length, (name, text) in enumerate((("b", "one"), ("c", "one"), ("a", "two")), 4):
+    for length, (name, text) in enumerate((("b", "one"), ("c", "one"), ("a", "two")), ENTRIES + 1):
         (room / name).write_text(text)
         run.daemon.stdin.write(b"\n")
         run.scan_until(length)
