@@ -15,7 +15,7 @@ use Rattle.pana_family.proofs.Relations.{subset_within, within_subset}
 use Rattle.pana_family.proofs.Members.{in_filter, to_filter}
 use Rattle.pana_hall.specs.Status.{copy_relation}
 use Rattle.pana_hall.specs.laws.Advice.{KnowsAllOf}
-use Rattle.pana_hall.specs.laws.Sightings.{IsHeir, IsHeld}
+use Rattle.pana_hall.specs.laws.Sightings.{IsHeir, IsKnown}
 use Rattle.pana_hall.proofs.Advised.{find_in, find_some, newer, none_any, not_more, rises_in, top}
 use Rattle.pana_hall.proofs.{Lists.rises_filter, Runs.rising}
 use Rattle.pana_hall.proofs.SightingLaws.{and_right, found_cases, found_living, holders, missing_cases, there_at}
@@ -64,7 +64,7 @@ to_others copies k other i of apart =
 
 held_known : (journal : List Entry) (place : Place) (sum : List ℕ) (k : Copy) → IsAccepted 8 journal → copy_at (living journal) place ≡ Some k
     → best (filter (relates_to rels.Newer k) (holders (living journal) sum k)) ≡ None → best (filter (relates_to rels.Conflict k) (holders (living journal) sum k)) ≡ None → holds sum k ≡ true
-    → IsHeld (living journal) place sum k.known.copy
+    → IsKnown (living journal) place sum k.known.copy
 held_known journal place sum k accepted at none free held =
     let copies = living journal in
     let there = there_at copies place k at in
@@ -87,11 +87,11 @@ held_known journal place sum k accepted at none free held =
       ];
     }
 
-pub is_held : (journal : List Entry) (place : Place) (sum : List ℕ) (number : ℕ) → IsAccepted 8 journal → decision (living journal) (Found place sum) ≡ Known (Some number) → IsHeld (living journal) place sum number
+pub is_held : (journal : List Entry) (place : Place) (sum : List ℕ) (number : ℕ) → IsAccepted 8 journal → decision (living journal) (Found place sum) ≡ Known (Some number) → IsKnown (living journal) place sum number
 is_held journal place sum number accepted =
-    found_cases (λ d. d ≡ Known (Some number) → IsHeld (living journal) place sum number) (living journal) place sum
+    found_cases (λ d. d ≡ Known (Some number) → IsKnown (living journal) place sum number) (living journal) place sum
     (λ c x at is e. absurd (cc)) (λ a b e. absurd (cc))
-    (λ c at none free held e. let same : c.known.copy ≡ number = cc in subst (IsHeld (living journal) place sum) same (held_known journal place sum c accepted at none free held))
+    (λ c at none free held e. let same : c.known.copy ≡ number = cc in subst (IsKnown (living journal) place sum) same (held_known journal place sum c accepted at none free held))
     (λ c at e. absurd (cc)) (λ x k e. absurd (cc)) (λ c at e. absurd (cc)) (λ c at e. absurd (cc)) (λ e. absurd (cc)) (λ k e. absurd (cc))
 
 -- The heir.

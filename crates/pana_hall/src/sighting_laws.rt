@@ -11,7 +11,7 @@ ghost use Rattle.pana_hall.specs.declared.reply.Reply.{Reply};
 ghost use Rattle.pana_hall.specs.declared.reply.Reply.TheVariants as replies;
 ghost use Rattle.pana_hall.specs.{Accepted.IsAccepted, Finding.copy_at, Finding.decision, Permit.Permits, Permit.journal_after, Queries.pair_of};
 ghost use Rattle.pana_hall.specs.Living.{Copy, copy_in, living, number_of};
-ghost use Rattle.pana_hall.specs.laws.Sightings.{IsHeir, IsHeld, is_changed, is_for_two, living_after, relates_anew};
+ghost use Rattle.pana_hall.specs.laws.Sightings.{IsHeir, IsKnown, is_changed, is_for_two, living_after, relates_anew};
 
 /// A sighting that is answered by `Known` leaves the journal as it was, and that answer comes only where nothing is to be done.
 pub fn known_changes_nothing()
@@ -56,7 +56,7 @@ pub fn found_changes_own_relations()
 /// is newer or in conflict with it: it knows all that such a copy knows.
 pub fn known_holds()
     ensures { (journal : List Entry) (place : Place) (sum : List ℕ) (number : ℕ) → IsAccepted 8 journal
-        → decision (living journal) (Found place sum) ≡ decisions.Known (Some number) → IsHeld (living journal) place sum number }
+        → decision (living journal) (Found place sum) ≡ decisions.Known (Some number) → IsKnown (living journal) place sum number }
 {}
 
 /// The heir that a `Missing` takes is another copy of the family, and knows all that the removed copy knew if any other of them does;

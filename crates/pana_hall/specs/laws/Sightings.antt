@@ -35,7 +35,7 @@ is_for_two (Both report second) = true
 is_for_two decision = false
 
 -- the copy is at the place and holds the sum, and knows all that any copy of its family knows that holds the same
-pub record IsHeld (copies : List Copy) (place : Place) (sum : List ℕ) (number : ℕ) : Type 0 where
+pub record IsKnown (copies : List Copy) (place : Place) (sum : List ℕ) (number : ℕ) : Type 0 where
   pub copy : Copy
   pub lives : copy_in copies number ≡ Some copy
   pub there : copy.place ≡ place
