@@ -1,6 +1,5 @@
 -- What a history of a store's calls has kept.
-use Rattle.std.proofs.Common.{◌≡◌, ◌≢◌, ◌⊎◌, ⊎_elim, inl, inr, ℕ, Bool, IsTrue, List, [], ◌∷◌, ◌++◌, length, Result, Ok, Err, refl, sym, ap, subst, ◌∙◌, append-nil}
-use Rattle.pana_journal.specs.declared.entry.Entry.{Entry}
+use Rattle.std.proofs.Common.{◌≡◌, ◌≢◌, ℕ, Bool, IsTrue, List, [], ◌∷◌, Result, Ok, Err, refl, sym, ap, subst, ◌∙◌}
 use Rattle.pana_hall.specs.declared.call.Call.{Call}
 use Rattle.pana_hall.specs.declared.call.Call.TheVariants.{Report, Sighting, Query}
 use Rattle.pana_hall.specs.declared.reply.Reply.{Reply}
@@ -14,7 +13,6 @@ use Rattle.pana_store.specs.Entries.{LoadsFirst}
 use Rattle.pana_store.specs.Store.{StoreView, IsKept, KeepsAll, Keeps, Breaks}
 use Rattle.pana_store.proofs.Done.{done_is_last, no_query_is_done}
 use Rattle.pana_store.proofs.Runs.{Ran, begun, failed, ran_step}
-use Rattle.pana_daemon.specs.declared.connection.Connection.{Connection}
 use Rattle.pana_daemon.specs.Desk.{Finished, SharedSteps}
 use Rattle.pana_laws.specs.KeptRun.{KeepsDone}
 
