@@ -1,7 +1,7 @@
 //! Lines made as calls on a new hall, and its tables in place of the answers.
 ghost use Rattle.std.specs.Prelude.{◌≡◌, ◌++◌, [], IfOk, OnOk, option_map, string_bytes};
 ghost use Rattle.pana_wire.specs.Lines.{texts};
-ghost use Rattle.pana_commands.specs.Show.{AnswersLines, status_of, TakesLine, TakesLines, report_of, shown_reason};
+ghost use Rattle.pana_commands.specs.Show.{AnswersLines, status_of, TakesLine, TakesLines, report_of, shown_reason, why_not};
 
 use crate::printout::Printout;
 use crate::tables::tables_of;
@@ -33,6 +33,16 @@ impl fmt::Display for Reason {
     }
 }
 
+/// Why a call with this reply wasn't done, where it was refused.
+fn why_not(reply: &Reply) -> Option<Reason>
+    ensures { option_map shown_reason result ≡ why_not reply.now }
+{
+    match reply {
+        Reply::Refused(cause) => Some(Reason::Refused(*cause)),
+        _ => None,
+    }
+}
+
 /// Makes a line's call on the hall, and returns why it wasn't done, where it wasn't.
 fn take_line(alloc: Global, hall: &mut Hall, line: &[u8]) -> Option<Reason>
     ensures { TakesLine hall.old line.now (option_map shown_reason result) hall.new }
@@ -41,10 +51,8 @@ fn take_line(alloc: Global, hall: &mut Hall, line: &[u8]) -> Option<Reason>
         Ok(message) => message,
         Err(fault) => return Some(Reason::Fault(fault)),
     };
-    match hall.apply(&by, call) {
-        Reply::Refused(cause) => Some(Reason::Refused(cause)),
-        _ => None,
-    }
+    let reply = hall.apply(&by, call);
+    why_not(&reply)
 }
 
 /// Appends the report about a line that wasn't done.
