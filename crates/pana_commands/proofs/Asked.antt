@@ -20,6 +20,8 @@ use Rattle.pana_hall.specs.Refusal.{refusal}
 pub asked : (journal : List Entry) (by : List ℕ) (query : Query) (reply : Reply) → journal_after journal by (calls.Query query) reply ≡ journal
 unfolding journal_after
 asked journal by query (replies.Done entry) = refl
+asked journal by query (replies.Did kind entry) = refl
+asked journal by query (replies.Known copy) = refl
 asked journal by query (replies.Families rows) = refl
 asked journal by query (replies.Board board) = refl
 asked journal by query (replies.Stamps stamps) = refl
