@@ -9,7 +9,7 @@ use Rattle.pana_scan.specs.declared.step.Step.{Step}
 use Rattle.pana_scan.specs.Listing.{Contents}
 use Rattle.pana_hall.specs.declared.call.Query.TheVariants as queries
 use Rattle.pana_hall.specs.declared.holding.Holding.{Holding}
-use Rattle.pana_hall.specs.declared.reply.Reply.TheVariants.{At, Status, Done, Families, Board, Stamps, Pair, Holdings, Journal, Refused}
+use Rattle.pana_hall.specs.declared.reply.Reply.TheVariants.{At, Status, Done, Did, Known, Families, Board, Stamps, Pair, Holdings, Journal, Refused}
 use Rattle.pana_scan.specs.declared.baseline.BaselineRow.{BaselineRow}
 use Rattle.pana_scan.specs.Plan.{plan_of}
 use Rattle.pana_scan.specs.declared.step.Plan.{Plan}
@@ -141,6 +141,8 @@ module _ {S : Type 0} (step : S → List ℕ → Call → Answer → S → Type 
 no_reports : (device : List ℕ) (listing : Contents) (old new : List BaselineRow) (answer : Answer) → new ≡ old → Follow device listing old answer [] 1 new
 no_reports device listing old new (Given (Holdings holdings)) same = inr (refl, refl, same)
 no_reports device listing old new (Given (Done entry)) same = (refl, refl, same)
+no_reports device listing old new (Given (Did kind entry)) same = (refl, refl, same)
+no_reports device listing old new (Given (Known copy)) same = (refl, refl, same)
 no_reports device listing old new (Given (Families rows)) same = (refl, refl, same)
 no_reports device listing old new (Given (Board board)) same = (refl, refl, same)
 no_reports device listing old new (Given (Stamps stamps)) same = (refl, refl, same)
