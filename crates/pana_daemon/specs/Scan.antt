@@ -2,7 +2,7 @@
 use Rattle.std.specs.Prelude.{◌≡◌, ◌≢◌, ◌⊎◌, ℕ, List, [], ◌∷◌, ◌++◌, length, min, ◌+◌, ◌^◌, ◌-◌, Option, Some, None, Result, Ok, Err}
 use Rattle.pana_hall.specs.declared.call.Call.{Call}
 use Rattle.pana_hall.specs.declared.call.Call.TheVariants as calls
-use Rattle.pana_hall.specs.declared.call.Call.TheVariants.{Report, Query}
+use Rattle.pana_hall.specs.declared.call.Call.TheVariants.{Report}
 use Rattle.pana_hall.specs.declared.call.Query.TheVariants as queries
 use Rattle.pana_hall.specs.declared.reply.Reply.TheVariants.{Done, Holdings}
 use Rattle.pana_wire.specs.declared.answer.Answer.{Answer}
@@ -38,13 +38,13 @@ done_as answer = 0
 
 -- 1 for a report that was done, and else 0
 abbrev pub done_by : Call → Answer → ℕ
-done_by (Query query) answer = 0
 done_by (Report report) answer = done_as answer
+done_by call answer = 0
 
 -- 1 for a report that wasn't done, and else 0
 abbrev pub refused_by : Call → Answer → ℕ
-refused_by (Query query) answer = 0
 refused_by (Report report) answer = 1 - done_as answer
+refused_by call answer = 0
 
 -- how many reports were done
 abbrev pub done_in : List Asked → ℕ
