@@ -199,7 +199,9 @@ no_query journal (queries.JournalFrom from) m reply done is = absurd (subst (IsD
 
 -- a call that was done was granted, and nothing stood against it
 granted_by : (cause : Option Cause) (journal : List Entry) (call : Call) (m : ℕ) (reply : Reply) → IsDone m reply → PermitsBy cause journal call reply → (cause ≡ None) × Grants journal call reply
-granted_by (Some cause) journal call m reply done permits = absurd (subst (IsDone m) permits done)
+granted_by (Some cause) journal (calls.Report report) m reply done permits = absurd (subst (IsDone m) permits done)
+granted_by (Some cause) journal (calls.Sighting sighting) m reply done permits = absurd (⊎_elim (λ refused. subst (IsDone m) refused done) (λ short. subst (IsDone m) short done) permits)
+granted_by (Some cause) journal (calls.Query query) m reply done permits = absurd (subst (IsDone m) permits done)
 granted_by None journal call m reply done permits = ⊎_elim (λ granted. (refl, granted)) (λ short. absurd (subst (IsDone m) short.2 done)) permits
 
 granted : (journal : List Entry) (by : List ℕ) (call : Call) (m : ℕ) (reply : Reply) → IsDone m reply → Permits journal by call reply → (refusal journal by call ≡ None) × Grants journal call reply

@@ -1,10 +1,33 @@
-use Rattle.std.proofs.Common.{◌≡◌, List, subst, sym, ◌∙◌}
+use Rattle.std.proofs.Common.{◌≡◌, IfOk, List, OnErr, subst, sym, ◌∙◌}
 use Rattle.pana_journal.specs.declared.entry.Entry.{Entry}
 use Rattle.pana_hall.specs.declared.cause.Cause.TheVariants as causes
 use Rattle.pana_hall.specs.declared.reply.Reply.TheVariants as replies
 use Rattle.pana_hall.specs.Prepared.{Prepares, AnswersAt, entries_of}
+use Rattle.pana_store.specs.Store.{Breaks, Keeps}
 use Rattle.pana_store.proofs.Calls.{IsReady, ready, after_refused, needs_open, answered, permits_short}
 use Rattle.pana_store.proofs.keeping.record.Goals as goal
+
+pub returns-in-Ok-line_of-clause-step : goal.returns-in-Ok-line_of-clause-step
+returns-in-Ok-line_of-clause-step g c =
+    let by = c.args.by.now in
+    let call = c.args.call in
+    let next = c.in-Ok.prepared in
+    let are : Prepares next.journal by call next = subst (λ (j : List Entry). Prepares j by call next) (sym c.in-Ok.ensures.ok.journal) c.in-Ok.ensures.ok in
+    subst
+    (λ (j : List Entry). IfOk c.keep.result (λ answer. Keeps g.D.Device.is_known g.D.Device.seen g.D.Device.may_leave g.D.Device.is_usable g.D.Device.moment g.D.Device.left_since g.D.Device.has_failed
+    (record { entries = j; log = c.args.log.now; sealer = c.args.sealer.now }) by call answer (record { entries = c.keep.new.hall; log = c.keep.new.log; sealer = c.keep.new.sealer })))
+    (c.in-Ok.ensures.ok.journal ∙ c.take_all.ensures.taken) (c.keep.ensures.step by call are)
+
+pub returns-in-Ok-line_of-clause-fails : goal.returns-in-Ok-line_of-clause-fails
+returns-in-Ok-line_of-clause-fails g c =
+    let by = c.args.by.now in
+    let call = c.args.call in
+    let next = c.in-Ok.prepared in
+    let are : Prepares next.journal by call next = subst (λ (j : List Entry). Prepares j by call next) (sym c.in-Ok.ensures.ok.journal) c.in-Ok.ensures.ok in
+    subst
+    (λ (j : List Entry). OnErr c.keep.result (Breaks g.D.Device.is_known g.D.Device.moment g.D.Device.left_since g.D.Device.has_failed
+    (record { entries = j; log = c.args.log.now; sealer = c.args.sealer.now }) by call (record { entries = c.keep.new.hall; log = c.keep.new.log; sealer = c.keep.new.sealer })))
+    (c.in-Ok.ensures.ok.journal ∙ c.take_all.ensures.taken) (c.keep.ensures.fails by call are)
 
 pub returns-in-Err-line_of-clause-step : goal.returns-in-Err-line_of-clause-step
 returns-in-Err-line_of-clause-step g c =
