@@ -1,16 +1,15 @@
 //! A session's bytes, an entry's line, and what lines say of sums and places.
 
 use crate::places::place;
-use pana_copies::{CopyPath, DeviceName, NameFault, Sum};
+use pana_copies::{CopyPath, DeviceName, Sum};
 use pana_hall::{
-    Call, CopyStanding, CopyState, Holding, HoldingList, PlacedCopy, Query, Reply, Sighting,
-    StatusRow,
+    Call, CopyStanding, CopyState, Holding, HoldingList, PlacedCopy, Query, Reply, StatusRow,
 };
-use pana_journal::{Entry, Report, ReportKind};
+use pana_journal::{Entry, Report};
 use pana_list::PlainList;
 use pana_wire::{
-    Answer, Field, NoAnswer, Served, Session, Tap, WireFault, decode, decode_dump, encode,
-    encode_call, encode_entry, encode_sealed_entry, serve,
+    Answer, Field, NoAnswer, Served, Session, Tap, WireFault, decode, encode, encode_call,
+    encode_entry, serve,
 };
 use std::alloc::{AllocError, Global};
 use std::io;
@@ -174,173 +173,6 @@ fn what_to_do_is_asked_and_written(rt: HostRuntime) -> Result<(), Fail> {
         text.as_str(),
         "{\"status\":[{\"copy\":2,\"device\":\"usb\",\"path\":\"plan.txt\",\"state\":\"obsolete\",\"with\":{\"copy\":1,\"device\":\"laptop\",\"path\":\"plan.txt\"}}]}"
     );
-    Ok(())
-}
-
-#[test]
-fn what_is_found_is_read(rt: HostRuntime) -> Result<(), Fail> {
-    let alloc = rt.alloc();
-    let line =
-        b"{\"by\":\"scan\",\"do\":\"found\",\"device\":\"usb\",\"path\":\"plan.txt\",\"sum\":\"e3b0c44298fc1c149afbf4c8996fb92427ae41e4649b934ca495991b7852b855\"}";
-    let message = decode(alloc, line)?;
-    assert_eq!(rt; message.by, DeviceName::new("scan")?);
-    let found = Sighting::Found {
-        place: place(alloc, "usb", "plan.txt")?,
-        sum: Sum::new(alloc, EMPTY)?,
-    };
-    assert_eq!(rt; message.call, Call::Sighting(found));
-    Ok(())
-}
-
-/// What may stand behind the path in a line that says `found`, and is no sum: nothing, a `null`, a number, a text with 63
-/// digits, one with 65, one with a capital, one that is empty, and one whose last letter is no digit.
-const NO_SUMS: [&str; 8] = [
-    "}",
-    ",\"sum\":null}",
-    ",\"sum\":7}",
-    ",\"sum\":\"3b0c44298fc1c149afbf4c8996fb92427ae41e4649b934ca495991b7852b855\"}",
-    ",\"sum\":\"0e3b0c44298fc1c149afbf4c8996fb92427ae41e4649b934ca495991b7852b855\"}",
-    ",\"sum\":\"E3b0c44298fc1c149afbf4c8996fb92427ae41e4649b934ca495991b7852b855\"}",
-    ",\"sum\":\"\"}",
-    ",\"sum\":\"e3b0c44298fc1c149afbf4c8996fb92427ae41e4649b934ca495991b7852b85g\"}",
-];
-
-#[test]
-fn what_is_found_has_a_sum(rt: HostRuntime) -> Result<(), Fail> {
-    let alloc = rt.alloc();
-    for rest in NO_SUMS {
-        let line = format!(in alloc;
-            "{{\"by\":\"scan\",\"do\":\"found\",\"device\":\"usb\",\"path\":\"plan.txt\"{rest}"
-        )?;
-        assert_eq!(rt;
-            decode(alloc, line.as_bytes()),
-            Err(WireFault::BadField(Field::Sum))
-        );
-        let line = format!(in alloc;
-            "{{\"by\":\"scan\",\"do\":\"found\",\"device\":\"usb\",\"path\":\"\"{rest}"
-        )?;
-        assert_eq!(rt;
-            decode(alloc, line.as_bytes()),
-            Err(WireFault::BadField(Field::Path))
-        );
-    }
-    assert_eq!(rt;
-        decode(
-            alloc,
-            b"{\"by\":\"scan\",\"do\":\"found\",\"path\":\"\",\"sum\":7}"
-        ),
-        Err(WireFault::BadField(Field::Device))
-    );
-    Ok(())
-}
-
-#[test]
-fn what_is_missing_is_read(rt: HostRuntime) -> Result<(), Fail> {
-    let alloc = rt.alloc();
-    for line in [
-        b"{\"by\":\"scan\",\"do\":\"missing\",\"device\":\"usb\",\"path\":\"plan.txt\"}".as_slice(),
-        b"{\"by\":\"scan\",\"do\":\"missing\",\"device\":\"usb\",\"path\":\"plan.txt\",\"sum\":7}".as_slice(),
-    ] {
-        let place = place(alloc, "usb", "plan.txt")?;
-        assert_eq!(rt;
-            decode(alloc, line)?.call,
-            Call::Sighting(Sighting::Missing { place })
-        );
-    }
-    assert_eq!(rt;
-        decode(
-            alloc,
-            b"{\"by\":\"scan\",\"do\":\"missing\",\"device\":\"usb\"}"
-        ),
-        Err(WireFault::BadField(Field::Path))
-    );
-    assert_eq!(rt;
-        decode(
-            alloc,
-            b"{\"by\":\"scan\",\"do\":\"missing\",\"path\":\"plan.txt\"}"
-        ),
-        Err(WireFault::BadField(Field::Device))
-    );
-    assert_eq!(rt;
-        decode(
-            alloc,
-            b"{\"by\":\"scan\",\"do\":\"Missing\",\"device\":\"usb\",\"path\":\"plan.txt\"}"
-        ),
-        Err(WireFault::BadField(Field::Do))
-    );
-    Ok(())
-}
-
-#[test]
-fn answers_to_sightings_are_written(rt: HostRuntime) -> Result<(), Fail> {
-    let alloc = rt.alloc();
-    let kind = ReportKind::Reconcile;
-    let did = encode(alloc, &Reply::Did { kind, entry: 7 })?;
-    assert_eq!(rt; did.as_str(), "{\"did\":\"reconcile\",\"done\":7}");
-    let known = encode(alloc, &Reply::Known { copy: Some(2) })?;
-    assert_eq!(rt; known.as_str(), "{\"known\":2}");
-    let known = encode(alloc, &Reply::Known { copy: None })?;
-    assert_eq!(rt; known.as_str(), "{\"known\":null}");
-    Ok(())
-}
-
-/// Two edits of one call, as entries 4 and 5, and their text but for its closing brace.
-const EDITS: &str =
-    "{\"entries\":[{\"by\":\"scan\",\"copy\":1,\"do\":\"edit\",\"number\":4},{\"by\":\"scan\",\"copy\":2,\"do\":\"edit\",\"number\":5,\"sum\":\"e3b0c44298fc1c149afbf4c8996fb92427ae41e4649b934ca495991b7852b855\"}]";
-
-fn edits(alloc: Global) -> Result<[Entry; 2], NameFault> {
-    let by = DeviceName::new("scan")?;
-    let report = Report::Edit { copy: 1, sum: None };
-    let first = Entry {
-        number: 4,
-        by,
-        report,
-    };
-    let by = DeviceName::new("scan")?;
-    let sum = Some(Sum::new(alloc, EMPTY)?);
-    let report = Report::Edit { copy: 2, sum };
-    let second = Entry {
-        number: 5,
-        by,
-        report,
-    };
-    Ok([first, second])
-}
-
-#[test]
-fn two_entries_are_one_line(rt: HostRuntime) -> Result<(), Fail> {
-    let alloc = rt.alloc();
-    let edits = edits(alloc)?;
-    let second = Some(&edits[1]);
-    let line = encode_entry(alloc, &edits[0], second)?;
-    let text = format!(in alloc; "{EDITS}}}")?;
-    assert_eq!(rt; line.as_str().strip_suffix('\n'), Some(text.as_str()));
-    let sealed = encode_sealed_entry(alloc, &edits[0], second, &[0xa5; 32])?;
-    let digits = "a5a5a5a5a5a5a5a5a5a5a5a5a5a5a5a5a5a5a5a5a5a5a5a5a5a5a5a5a5a5a5a5";
-    let sealed_text = format!(in alloc; "{EDITS},\"sha256\":\"{digits}\"}}")?;
-    assert_eq!(rt;
-        sealed.as_str().strip_suffix('\n'),
-        Some(sealed_text.as_str())
-    );
-    for text in [text.as_bytes(), sealed_text.as_bytes()] {
-        let read = decode_dump(alloc, text)?;
-        assert_eq!(rt; read.as_slice(), edits.as_slice());
-    }
-    Ok(())
-}
-
-#[test]
-fn no_entry_is_a_sighting(rt: HostRuntime) -> Result<(), Fail> {
-    let alloc = rt.alloc();
-    for dump in [
-        b"{\"entries\":[{\"by\":\"scan\",\"device\":\"usb\",\"do\":\"found\",\"number\":1,\"path\":\"plan.txt\",\"sum\":\"e3b0c44298fc1c149afbf4c8996fb92427ae41e4649b934ca495991b7852b855\"}]}".as_slice(),
-        b"{\"entries\":[{\"by\":\"scan\",\"device\":\"usb\",\"do\":\"missing\",\"number\":1,\"path\":\"plan.txt\"}]}".as_slice(),
-    ] {
-        assert_eq!(rt;
-            decode_dump(alloc, dump).err(),
-            Some(WireFault::BadField(Field::Do))
-        );
-    }
     Ok(())
 }
 
