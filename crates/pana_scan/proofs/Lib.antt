@@ -8,6 +8,7 @@ pub mod Walked
 pub mod Looked
 pub mod Recalled
 pub mod Sorted
+pub mod Pooled
 pub mod Planned
 pub mod Worked
 pub mod Pictured

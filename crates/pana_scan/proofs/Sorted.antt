@@ -81,7 +81,7 @@ abbrev first : {T : Type 0} → List T → Option T
 first [] = None
 first (x ∷ xs) = Some x
 
-abbrev there : {T : Type 0} → Option T → Bool
+abbrev pub there : {T : Type 0} → Option T → Bool
 there None = false
 there (Some x) = true
 
@@ -90,11 +90,11 @@ module _ {T : Type 0} (test : T → Bool) where
   find_first [] = refl
   find_first (x ∷ xs) = elim (test x) as (λ b. cond b (Some x) (find test xs) ≡ first (cond b (x ∷ filter test xs) (filter test xs))) [ true ↦ refl | false ↦ find_first xs ]
 
-  find_any : (xs : List T) → there (find test xs) ≡ list_any test xs
+  pub find_any : (xs : List T) → there (find test xs) ≡ list_any test xs
   find_any [] = refl
   find_any (x ∷ xs) = elim (test x) as (λ b. there (cond b (Some x) (find test xs)) ≡ (b || list_any test xs)) [ true ↦ refl | false ↦ find_any xs ]
 
-  found_passes : (xs : List T) (x : T) → find test xs ≡ Some x → test x ≡ true
+  pub found_passes : (xs : List T) (x : T) → find test xs ≡ Some x → test x ≡ true
   found_passes [] x = λ is. absurd (true≢false (sym (ap there is)))
   found_passes (y ∷ xs) x = elim (test y) as (λ b. test y ≡ b → cond b (Some y) (find test xs) ≡ Some x → test x ≡ true) [
     | true ↦ λ e is. subst (λ z. test z ≡ true) (ap (get y) is) e
@@ -105,16 +105,16 @@ module _ {T : Type 0} (test : T → Bool) where
       get d None = d
       get d (Some z) = z
 
-alike_filter : {T : Type 0} (test other : T → Bool) → ((x : T) → test x ≡ other x) → (xs : List T) → filter test xs ≡ filter other xs
+pub alike_filter : {T : Type 0} (test other : T → Bool) → ((x : T) → test x ≡ other x) → (xs : List T) → filter test xs ≡ filter other xs
 alike_filter test other alike [] = refl
 alike_filter test other alike (x ∷ xs) = λ i. cond (alike x i) (x ∷ alike_filter test other alike xs i) (alike_filter test other alike xs i)
 
-none_of : {T : Type 0} (o : Option T) → there o ≡ false → o ≡ None
+pub none_of : {T : Type 0} (o : Option T) → there o ≡ false → o ≡ None
 none_of None is = refl
 none_of (Some x) is = absurd (true≢false is)
 
 -- two holdings tie where their paths are the same
-ties_same : (p q : Path) → (not (is_lt (path_cmp p q)) && not (is_lt (path_cmp q p))) ≡ bytes_eq q p
+pub ties_same : (p q : Path) → (not (is_lt (path_cmp p q)) && not (is_lt (path_cmp q p))) ≡ bytes_eq q p
 ties_same p q = elim (path_cmp p q) as (λ o. path_cmp p q ≡ o → (not (is_lt o) && not (is_lt (path_cmp q p))) ≡ bytes_eq q p) [
   | Less ↦ λ e. sym (texts_ties q p ∙ ap is_eq (turned p q Less e))
   | Equal ↦ λ e. ap (λ o. not (is_lt o)) (turned p q Equal e) ∙ sym (texts_ties q p ∙ ap is_eq (turned p q Equal e))

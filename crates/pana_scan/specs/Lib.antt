@@ -2,6 +2,7 @@ pub mod Order
 pub mod Listing
 pub mod Baseline
 pub mod Plan
+pub mod Notice
 pub mod Disk
 pub mod Names
 pub mod Tree
