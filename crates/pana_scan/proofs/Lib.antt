@@ -9,6 +9,7 @@ pub mod Looked
 pub mod Recalled
 pub mod Sorted
 pub mod Pooled
+pub mod Taken
 pub mod Planned
 pub mod Worked
 pub mod Pictured

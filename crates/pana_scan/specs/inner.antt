@@ -4,4 +4,5 @@ pub mod Left
 pub mod Pool
 pub mod Position
 pub mod Seen
+pub mod Takers
 pub mod Walk

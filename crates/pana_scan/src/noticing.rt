@@ -1,8 +1,10 @@
 //! What a scan notices, over all paths.
-ghost use Rattle.std.specs.Prelude.{◌≡◌, ℕ, List, map, filter, IfOk};
-ghost use Rattle.pana_scan.specs.Notice.{found, holds, is_known, left, missing, notices_of, renamed};
-ghost use Rattle.pana_scan.specs.inner.Pool.{AreInOrder, waiting};
+ghost use Rattle.std.specs.Prelude.{◌≡◌, List, map, IfOk};
+ghost use Rattle.std.specs.List.{list_any};
+ghost use Rattle.pana_scan.specs.Notice.{File, found, left, missing, notices_of, renamed, without_first};
+ghost use Rattle.pana_scan.specs.inner.Pool.{AreInOrder};
 ghost use Rattle.pana_scan.specs.inner.Seen.{all_files, new_files};
+ghost use Rattle.pana_scan.specs.inner.Takers.{CopiesWait, FilesWait, fits};
 
 use crate::listing::Listing;
 use crate::merging::Sources;
@@ -77,16 +79,25 @@ fn missing(
     let mut takers = files_by_sum(alloc, files)?;
     let mut notices = Vec::new(alloc);
     for copy in absent {
-        let taker = match &copy.sum {
-            Some(sum) => takers.take(sum),
-            None => None,
-        };
-        if taker.is_none() {
+        if !takes(&mut takers, copy) {
             let path = copy.path.copy_of()?;
             notices.push(Notice::Missing { path })?;
         }
     }
     Ok(notices)
+}
+
+/// Whether there is a file that has the sum of the copy. The first of them is taken.
+fn takes(files: &mut Pool<()>, copy: &Holding) -> bool
+    requires { AreInOrder files.old.rows.items }
+    ensures order { AreInOrder files.new.rows.items }
+    ensures found { (left : List File) → FilesWait files.old.rows.items left → result ≡ list_any (fits copy.now.sum) left }
+    ensures rest { (left : List File) → FilesWait files.old.rows.items left → FilesWait files.new.rows.items (without_first (fits copy.now.sum) left) }
+{
+    match &copy.sum {
+        Some(sum) => files.take(sum).is_some(),
+        None => false,
+    }
 }
 
 /// All files.
@@ -108,7 +119,7 @@ fn copies_by_sum<'a>(
     copies: &[&'a Holding],
 ) -> Result<Pool<'a, u64>, AllocError>
     ensures order { IfOk result (λ pool. AreInOrder pool.rows.items) }
-    ensures waiting { IfOk result (λ pool. (sum : List ℕ) → waiting sum pool.rows.items ≡ map (λ copy. copy.copy) (filter (holds sum) (map (λ copy. copy.now) copies.now))) }
+    ensures waiting { IfOk result (λ pool. CopiesWait pool.rows.items (map (λ copy. copy.now) copies.now)) }
 {
     let mut rows = Vec::new(alloc);
     for copy in copies {
@@ -129,7 +140,7 @@ fn files_by_sum<'a>(
     files: &'a [SeenFile],
 ) -> Result<Pool<'a, ()>, AllocError>
     ensures order { IfOk result (λ pool. AreInOrder pool.rows.items) }
-    ensures waiting { IfOk result (λ pool. (sum : List ℕ) → waiting sum pool.rows.items ≡ map (λ _. tt) (filter (λ file. is_known sum (Some file.sum)) (new_files files.now))) }
+    ensures waiting { IfOk result (λ pool. FilesWait pool.rows.items (new_files files.now)) }
 {
     let mut rows = Vec::new(alloc);
     for file in files {

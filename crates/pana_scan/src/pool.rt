@@ -1,5 +1,6 @@
 //! What is taken by its sum, each once.
-ghost use Rattle.std.specs.Prelude.{◌≡◌, ℕ, List, false, cond, IfOk};
+ghost use Rattle.std.specs.Prelude.{◌≡◌, ◌≤◌, ℕ, List, true, false, cond, length, IfOk};
+ghost use Rattle.std.specs.List.Sorted.{IsPartitionPoint};
 ghost use Rattle.std.specs.List.{All};
 ghost use Rattle.std.specs.Str.{bytes_eq};
 ghost use Rattle.pana_scan.specs.inner.Pool.{AreInOrder, first, is_before, rest, waiting};
@@ -54,12 +55,23 @@ impl<'a, T: Copy> Pool<'a, T> {
         ensures first { result ≡ first (waiting sum.now self.old.rows.items) }
         ensures rest { (other : List ℕ) → waiting other self.new.rows.items ≡ cond (bytes_eq other sum.now) (rest (waiting other self.old.rows.items)) (waiting other self.old.rows.items) }
     {
-        let at = self.rows.as_slice().partition_point(|row| row.is_before(sum));
+        let at = self.position(sum);
         if at == self.rows.len() || self.rows[at].sum != sum {
             return None;
         }
         let row = &mut self.rows[at];
         row.is_taken = true;
         Some(row.item)
+    }
+
+    /// Where the first is that waits with this sum, if one does.
+    fn position(&self, sum: &Sum) -> usize
+        requires { AreInOrder self.now.rows.items }
+        ensures bound { result ≤ length self.now.rows.items }
+        ensures point { IsPartitionPoint (λ row. is_before sum.now row ≡ true) (λ row. is_before sum.now row ≡ false) self.now.rows.items result }
+    {
+        self.rows
+            .as_slice()
+            .partition_point(|row| row.is_before(sum))
     }
 }

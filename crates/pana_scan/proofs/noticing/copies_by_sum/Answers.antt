@@ -1,21 +1,24 @@
-use Rattle.std.proofs.Common.{rules, ◌≡◌, ℕ, List, map, filter, IfOk, ◌+◌, ◌-◌, ◌*◌, ◌<◌, ◌≤◌, length, ◌/◌, ◌%◌, Bool, true, false, nat_eq, nat_lt, [], ◌∷◌, ◌++◌, slice_index_or, slice_set, bit_and, bit_or, Fits, w8, w32, w64, Bor, MutBor}
-use Rattle.pana_scan.specs.Notice.{found, holds, is_known, left, missing, notices_of, renamed}
-use Rattle.pana_scan.specs.inner.Pool.{AreInOrder, waiting}
-use Rattle.pana_scan.specs.inner.Seen.{all_files, new_files}
+use Rattle.std.proofs.Common.{◌≡◌, refl, sym, ap, ◌∙◌, subst, false, [], arith}
+use Rattle.std.specs.List.{All}
+use Rattle.std.proofs.lemmas.List.{take_all}
+use Rattle.std.proofs.lemmas.List.Elements.{All-push}
+use Rattle.pana_scan.specs.inner.Takers.{CopiesWait}
+use Rattle.pana_scan.proofs.Merged.{lent}
+use Rattle.pana_scan.proofs.Taken.{copies_at, lent_more, waits_more, waits_same}
 use Rattle.pana_scan.proofs.noticing.copies_by_sum.Goals as goal
+use Rattle.pana_scan.proofs.noticing.copies_by_sum.Goals.{in-Some+in_ok-push, in_default}
 
--- src/noticing.rt:114:5
 pub loop-copy-init : goal.loop-copy-init
-loop-copy-init c = ?
+loop-copy-init c = (
+  copies_at c.new-rows.result.items [] [] [] c.new-rows.ensures.items refl (λ sum. refl),
+  subst (All (λ row. row.is_taken ≡ false)) (sym c.new-rows.ensures.items) (λ k d within. absurd (omega (arith, within))),
+)
 
--- src/noticing.rt:114:5
 pub loop-copy-preserved : goal.loop-copy-preserved
 loop-copy-preserved c = ?
 
--- src/noticing.rt:123:5
 pub new-requires : goal.new-requires
-new-requires c = ?
+new-requires c = c.loop-copy.invariant.1
 
--- src/noticing.rt:106:1
 pub returns-clause-waiting : goal.returns-clause-waiting
 returns-clause-waiting c = ?

@@ -1,8 +1,8 @@
-use Rattle.std.proofs.Common.{◌≡◌, ℕ, List, map, filter, IfOk, ◌+◌, ◌-◌, ◌*◌, ◌<◌, ◌≤◌, length}
-use Rattle.pana_scan.specs.Notice.{found, holds, is_known, left, missing, notices_of, renamed}
-use Rattle.pana_scan.specs.inner.Pool.{AreInOrder, waiting}
-use Rattle.pana_scan.specs.inner.Seen.{all_files, new_files}
+use Rattle.std.proofs.Common.{◌≡◌, false, take}
+use Rattle.std.specs.List.{All}
+use Rattle.pana_scan.specs.inner.Seen.{new_files}
+use Rattle.pana_scan.specs.inner.Takers.{FilesWait}
 use Rattle.pana_scan.proofs.noticing.files_by_sum.Given as goal
 
 abbrev pub invariant-loop-file : goal.invariant-loop-file
-invariant-loop-file l = ?
+invariant-loop-file l = FilesWait l.rows.items (new_files (take l.file-index l.files)) × All (λ row. row.is_taken ≡ false) l.rows.items
