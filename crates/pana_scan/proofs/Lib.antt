@@ -12,4 +12,5 @@ pub mod Pooled
 pub mod Taken
 pub mod Planned
 pub mod Worked
+pub mod WorkedNotices
 pub mod Pictured

@@ -150,9 +150,9 @@ module _ {T : Type 0} where
   none_there sum rows i row order within is other point =
       none_waits sum rows i point.0
       (λ k d low high.
-        let same : slice_index_or rows i d ≡ row = get_or_default rows i d row within ∙ sym is in
-        later_other sum rows i k d order low high
-        (above_at sum (slice_index_or rows i d) (subst (λ it. is_of sum it ≡ false) (sym same) other) (point.1 i d (omega arith) within)))
+      let same : slice_index_or rows i d ≡ row = get_or_default rows i d row within ∙ sym is in
+      later_other sum rows i k d order low high
+      (above_at sum (slice_index_or rows i d) (subst (λ it. is_of sum it ≡ false) (sym same) other) (point.1 i d (omega arith) within)))
 
   -- ---- the order stays
 
@@ -192,7 +192,7 @@ module _ {T : Type 0} where
     taken_order sum order same taken of before = record {
       lower = λ t. stays (is_lower t) (order.lower t)
           (λ k d low passes. order.lower t k i d (omega arith) within
-            (subst (λ it. is_lower t it ≡ true) (sym (was_old i d refl)) (subst (λ z. is_lt (path_cmp z t) ≡ true) same passes)))
+          (subst (λ it. is_lower t it ≡ true) (sym (was_old i d refl)) (subst (λ z. is_lt (path_cmp z t) ≡ true) same passes)))
           (λ passes. subst (λ z. is_lt (path_cmp z t) ≡ true) (sym same) passes);
       before = λ t. stays (is_before t) (order.before t) (front t) (still_before t old new same taken);
     }

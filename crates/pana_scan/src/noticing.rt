@@ -114,10 +114,7 @@ fn found(alloc: Global, files: Vec<SeenFile>) -> Result<Vec<Notice>, AllocError>
 }
 
 /// The numbers of the copies of which a sum is known, to be taken by it.
-fn copies_by_sum<'a>(
-    alloc: Global,
-    copies: &[&'a Holding],
-) -> Result<Pool<'a, u64>, AllocError>
+fn copies_by_sum<'a>(alloc: Global, copies: &[&'a Holding]) -> Result<Pool<'a, u64>, AllocError>
     ensures order { IfOk result (λ pool. AreInOrder pool.rows.items) }
     ensures waiting { IfOk result (λ pool. CopiesWait pool.rows.items (map (λ copy. copy.now) copies.now)) }
 {
@@ -135,10 +132,7 @@ fn copies_by_sum<'a>(
 }
 
 /// The new files, to be taken by their sums.
-fn files_by_sum<'a>(
-    alloc: Global,
-    files: &'a [SeenFile],
-) -> Result<Pool<'a, ()>, AllocError>
+fn files_by_sum<'a>(alloc: Global, files: &'a [SeenFile]) -> Result<Pool<'a, ()>, AllocError>
     ensures order { IfOk result (λ pool. AreInOrder pool.rows.items) }
     ensures waiting { IfOk result (λ pool. FilesWait pool.rows.items (new_files files.now)) }
 {

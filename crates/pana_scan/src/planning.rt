@@ -79,7 +79,10 @@ impl Draft {
 }
 
 /// The holdings in byte order of their paths.
-pub(crate) fn by_path<'a>(alloc: Global, holdings: &'a [Holding]) -> Result<Vec<&'a Holding>, AllocError>
+pub(crate) fn by_path<'a>(
+    alloc: Global,
+    holdings: &'a [Holding],
+) -> Result<Vec<&'a Holding>, AllocError>
     requires { HaveOwnPaths holdings.now }
     ensures rise { IfOk result (λ living. HoldingsRise (map (λ holding. holding.now) living.items)) }
     ensures same { IfOk result (λ living. HoldTheSame holdings.now (map (λ holding. holding.now) living.items)) }
