@@ -3,4 +3,5 @@ pub mod Kept
 pub mod Counts
 pub mod Paths
 pub mod DeviceText
+pub mod SumOrder
 pub mod Sums

@@ -1,16 +1,20 @@
 -- The bytes that the digits of a sum stand for.
-use Rattle.std.proofs.Common.{◌≡◌, ℕ, zero, suc, ◌+◌, ◌*◌, ◌/◌, ◌%◌, ◌<◌, ◌==◌, Bool, true, false, not, ◌&&◌, ◌||◌, List, [], ◌∷◌, length, slice_index, Option, Some, None, Ok, Err, inl, inr, Result, refl, sym, ap, ◌∙◌, arith}
+use Rattle.std.proofs.Common.{◌≡◌, ℕ, zero, suc, ◌+◌, ◌*◌, ◌/◌, ◌%◌, ◌<◌, ◌==◌, Bool, true, false, not, ◌&&◌, ◌||◌, List, [], ◌∷◌, length, slice_index, Option, Some, None, Ok, Err, inl, inr, Result, refl, sym, ap, ◌∙◌, subst, arith}
 use Rattle.std.specs.Prelude.{nat_lt, if◌then◌else◌}
 use Rattle.std.specs.List.{list_all}
 use Rattle.std.proofs.lemmas.Bool.{and_parts, cases_lt, eqb-true, ltb-true}
 use Rattle.std.proofs.lemmas.Bool.Decides.{nat_tests}
 use Rattle.std.specs.Str.{bytes_eq}
 use Rattle.std.proofs.lemmas.Slice.Eq.{bytes_eq-Decides}
-use Rattle.hex.specs.Hex.{decode_pairs, decode_sized, encode_with, encode_lower, hex_digit_value, lower_digits, pair_value, value_at, digit_or_error}
+use Rattle.hex.specs.Hex.{IsBytes, decode_pairs, decode_sized, encode_with, encode_lower, hex_digit_value, lower_digits, pair_value, value_at, digit_or_error}
 use Rattle.hex.specs.declared.error.FromHexError.{FromHexError}
 use Rattle.hex.specs.declared.error.FromHexError.TheVariants.{InvalidStringLength, OddLength}
+use Rattle.hex.proofs.HexLemmas.{decode_sized-encode_lower, length-encode_with}
 use Rattle.hex.proofs.Pairs.{cons_byte, decode_pairs-ok_pair}
 use Rattle.pana_copies.specs.inner.SumBytes.{AreSumBytes}
+use Rattle.pana_copies.proofs.SumOrder.{AreSmall, texts_compare}
+use Rattle.std.specs.Ordering.{nat_cmp}
+use Rattle.std.specs.Cmp.Lexicographic.{slice_cmp}
 use Rattle.pana_copies.specs.Sums.{is_sum, is_sum_digit}
 
 -- the value of a digit, and the digit of that value
@@ -57,10 +61,11 @@ pub record IsDecoded (i : ℕ) (text : List ℕ) : Type 0 where
   pub bytes : List ℕ
   pub decoded : decode_pairs i text ≡ Ok bytes
   pub back : encode_lower bytes ≡ text
+  pub small : AreSmall bytes
 
 decoded : (i : ℕ) (text : List ℕ) (n : ℕ) → length text ≡ n + n → list_all is_sum_digit text ≡ true → IsDecoded i text
 unfolding decode_pairs encode_with
-decoded i [] n even all = record { bytes = []; decoded = refl; back = refl }
+decoded i [] n even all = record { bytes = []; decoded = refl; back = refl; small = tt }
 decoded i (c ∷ []) n even all = absurd (omega arith)
 decoded i (c ∷ d ∷ rest) zero even all = absurd (omega arith)
 decoded i (c ∷ d ∷ rest) (suc n) even all =
@@ -84,6 +89,7 @@ decoded i (c ∷ d ∷ rest) (suc n) even all =
           ∙ ap (λ x. x ∷ slice_index lower_digits low.value ∷ encode_lower rest_is.bytes) high.back
           ∙ ap (λ x. c ∷ x ∷ encode_lower rest_is.bytes) low.back
           ∙ ap (λ l. c ∷ d ∷ l) rest_is.back;
+      small = (omega arith, rest_is.small);
     }
 
 sized : (text : List ℕ) (r : Result (List ℕ) FromHexError) → length text ≡ 64 → decode_pairs 0 text ≡ r → decode_sized text 32 ≡ r
@@ -97,9 +103,50 @@ sum_decoded text is =
     let it = decoded 0 text 32 long parts.1 in
     (it.bytes, sized text (Ok it.bytes) long it.decoded, it.back)
 
+-- the bytes of a sum are small
+are_small : (bytes : List ℕ) → AreSumBytes bytes → AreSmall bytes
+are_small bytes are =
+    let parts = and_parts (length (encode_lower bytes) == 64) (list_all is_sum_digit (encode_lower bytes)) are.sum in
+    let long : length (encode_lower bytes) ≡ 64 = eqb-true (length (encode_lower bytes)) 64 parts.0 in
+    let it = decoded 0 (encode_lower bytes) 32 long parts.1 in
+    let both : Ok it.bytes ≡ Ok bytes = sym (sized (encode_lower bytes) (Ok it.bytes) long it.decoded) ∙ are.back in
+    let same : it.bytes ≡ bytes = cc in
+    subst AreSmall same it.small
+
+-- sums compare as their bytes do
+pub sums_compare : (xs ys : List ℕ) → AreSumBytes xs → AreSumBytes ys → slice_cmp nat_cmp xs ys ≡ slice_cmp nat_cmp (encode_lower xs) (encode_lower ys)
+sums_compare xs ys first second = texts_compare xs ys (are_small xs first) (are_small ys second)
+
 -- the bytes are those of the text alone
 pub same_bytes : (xs ys : List ℕ) → AreSumBytes xs → AreSumBytes ys → bytes_eq xs ys ≡ bytes_eq (encode_lower xs) (encode_lower ys)
 same_bytes xs ys first second = grind (arith, nat_tests, bytes_eq-Decides, first.back, second.back)
 
 pub are_sum_bytes : (text bytes : List ℕ) → is_sum text ≡ true → decode_sized text 32 ≡ Ok bytes → encode_lower bytes ≡ text → AreSumBytes bytes
 are_sum_bytes text bytes is decoded written = record { sum = ap is_sum written ∙ is; back = ap (λ t. decode_sized t 32) written ∙ decoded }
+
+-- ---- the text of 32 bytes is a sum
+
+abbrev all_digits : ℕ → Bool
+all_digits zero = true
+all_digits (suc n) = is_sum_digit (slice_index lower_digits n) && all_digits n
+
+digit_written : (n v : ℕ) → all_digits n ≡ true → v < n → is_sum_digit (slice_index lower_digits v) ≡ true
+digit_written zero v h lt = absurd (omega arith)
+digit_written (suc n) v h lt =
+    let parts = and_parts (is_sum_digit (slice_index lower_digits n)) (all_digits n) h in
+    elim (cases_lt v n) [
+      | inl below ↦ digit_written n v parts.1 below
+      | inr top ↦ let e : v ≡ n = omega arith in rw e parts.0
+    ]
+
+digits_written : (bytes : List ℕ) → IsBytes bytes → list_all is_sum_digit (encode_lower bytes) ≡ true
+unfolding encode_with
+digits_written [] small = refl
+digits_written (byte ∷ bytes) small =
+    let fits : byte < 256 = small 0 in
+    (λ i. digit_written 16 (byte / 16) refl (omega arith) i && (digit_written 16 (byte % 16) refl (omega arith) i && digits_written bytes (λ k. small (suc k)) i))
+
+pub bytes_written : (bytes : List ℕ) → length bytes ≡ 32 → IsBytes bytes → AreSumBytes bytes
+bytes_written bytes long small =
+    let text_long : length (encode_lower bytes) ≡ 64 = omega (arith, length-encode_with lower_digits bytes, long) in
+    record { sum = λ i. text_long i == 64 && digits_written bytes small i; back = decode_sized-encode_lower bytes 32 long small }

@@ -1,10 +1,14 @@
 ghost use Rattle.std.specs.Prelude.{◌≡◌, ◌⊎◌, ◌↔◌, true, false, IfOk, IfErr, IsErrOf, string_bytes};
 ghost use Rattle.std.specs.List.{list_all};
+ghost use Rattle.std.specs.Ordering.{nat_cmp};
+ghost use Rattle.std.specs.Cmp.Lexicographic.{slice_cmp};
+ghost use Rattle.hex.specs.Hex.{encode_lower};
 ghost use Rattle.pana_copies.specs.Sums.{is_sum, is_sum_digit};
 
 use crate::name_fault::NameFault;
 use hex::{decode_to_slice, encode};
 use std::alloc::{AllocError, Global};
+use std::cmp::Ordering;
 use std::marker::Model;
 
 /// How many digits a sum has.
@@ -71,6 +75,22 @@ impl Sum {
             Ok(bytes) => Ok(Sum { bytes }),
             Err(_) => Err(NameFault::OutOfMemory),
         }
+    }
+
+    /// The sum with this SHA-256 of a file's bytes. Fails only where memory runs out.
+    pub fn of_digest(alloc: Global, digest: &[u8; BYTES]) -> Result<Sum, AllocError>
+        ensures { IfOk result (λ sum. sum ≡ encode_lower digest.now) }
+    {
+        Ok(Sum {
+            bytes: Box::new(alloc, *digest)?,
+        })
+    }
+
+    /// How two sums compare, byte by byte as their texts do. Takes no memory.
+    pub fn order(&self, other: &Sum) -> Ordering
+        ensures { result ≡ slice_cmp nat_cmp self.now other.now }
+    {
+        self.bytes.as_slice().cmp(other.bytes.as_slice())
     }
 
     /// The sum as text. Fails only where memory runs out.

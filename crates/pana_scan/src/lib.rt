@@ -19,7 +19,6 @@ mod pool;
 mod scan_fault;
 mod seen;
 mod step;
-mod summing;
 mod system_disk;
 mod watch;
 

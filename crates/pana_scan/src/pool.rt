@@ -5,7 +5,6 @@ ghost use Rattle.std.specs.List.{All};
 ghost use Rattle.std.specs.Str.{bytes_eq};
 ghost use Rattle.pana_scan.specs.inner.Pool.{AreInOrder, first, is_before, rest, waiting};
 
-use crate::summing::sum_order;
 use pana_copies::Sum;
 use std::alloc::AllocError;
 use std::cmp::Ordering;
@@ -23,7 +22,7 @@ impl<'a, T: Copy> Waiting<'a, T> {
     fn is_before(&self, sum: &Sum) -> bool
         ensures { result ≡ is_before sum.now self.now }
     {
-        match sum_order(self.sum, sum) {
+        match self.sum.order(sum) {
             Ordering::Less => true,
             Ordering::Equal => self.is_taken,
             Ordering::Greater => false,
@@ -44,7 +43,7 @@ impl<'a, T: Copy> Pool<'a, T> {
         ensures order { IfOk result (λ pool. AreInOrder pool.rows.items) }
         ensures same { IfOk result (λ pool. (sum : List ℕ) → waiting sum pool.rows.items ≡ waiting sum rows.entry.items) }
     {
-        rows.sort_by(|one, other| sum_order(one.sum, other.sum))?;
+        rows.sort_by(|one, other| one.sum.order(other.sum))?;
         Ok(Pool { rows })
     }
 

@@ -6,7 +6,6 @@ ghost use Rattle.pana_scan.specs.inner.Seen.{all_files, new_files};
 
 use crate::listing::Found;
 use crate::merging::Spot;
-use crate::summing::sum_of;
 use pana_copies::{CopyPath, Sum};
 use pana_hall::Holding;
 use std::alloc::{AllocError, Global};
@@ -46,7 +45,7 @@ impl<'a> Seen<'a> {
         match spot.found {
             Some(Found::Seen(digest)) => self.files.push(SeenFile {
                 path: spot.path,
-                sum: sum_of(alloc, &digest)?,
+                sum: Sum::of_digest(alloc, &digest)?,
                 is_new: spot.living.is_none(),
             })?,
             Some(Found::Unreadable) => {}
