@@ -47,7 +47,7 @@ CITES = re.compile(r"[^\s(){}\[\],;.`\"⟦⟧«»:]+")
 INNER = re.compile(r"(module _|mutual)\b")
 ITEM = re.compile(r"((?:(?:pub|abbrev|unfoldable|opaque|data|record|ruleset)\s+)*)([^\s:(){}\[\],=]+)")
 # Files of lemmas that stand for themselves: what definitions say of worked rows, and where a statement is false.
-FOR_THEMSELVES = {"Worked.antt", "WorkedContents.antt", "WorkedFinding.antt", "WorkedStatus.antt", "Pictured.antt", "Bounds.antt", "Lib.antt"}
+FOR_THEMSELVES = {"Worked.antt", "WorkedContents.antt", "WorkedFinding.antt", "WorkedNotices.antt", "WorkedStatus.antt", "Pictured.antt", "Bounds.antt", "Lib.antt"}
 QUOTED = re.compile(r"`([^`]+)`")
 NAME = re.compile(r"\w+(::\w+)*")
 WORD = re.compile(r"\w+")

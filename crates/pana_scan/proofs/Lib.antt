@@ -12,5 +12,6 @@ pub mod Pooled
 pub mod Taken
 pub mod Planned
 pub mod Worked
+pub mod Shared
 pub mod WorkedNotices
 pub mod Pictured

@@ -40,7 +40,7 @@ known_rows_rise device [] rise = tt
 known_rows_rise device (it ∷ known) rise =
     rise_row it.path (outcome_for device it).mark (rows_for device known) (rows_below device it.path known rise.0) (known_rows_rise device known rise.1)
 
-paths_known : (found : List FoundRow) (kept : List BaselineRow) (living : List Holding) (paths : List Path) → map (λ it. it.path) (map (known_of found kept living) paths) ≡ paths
+pub paths_known : (found : List FoundRow) (kept : List BaselineRow) (living : List Holding) (paths : List Path) → map (λ it. it.path) (map (known_of found kept living) paths) ≡ paths
 paths_known found kept living [] = refl
 paths_known found kept living (path ∷ paths) = ap (λ more. path ∷ more) (paths_known found kept living paths)
 

@@ -10,3 +10,4 @@ pub mod Scan
 pub mod Memory
 pub mod Fault
 pub mod inner
+pub mod laws

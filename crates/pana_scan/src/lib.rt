@@ -7,6 +7,7 @@ mod disk_fault;
 mod entry;
 mod fingerprinting;
 mod folder;
+pub mod laws;
 mod listing;
 mod memory_disk;
 mod merging;

@@ -4,4 +4,6 @@
 #[cfg(test)]
 mod disks;
 #[cfg(test)]
+mod notices;
+#[cfg(test)]
 mod scan;

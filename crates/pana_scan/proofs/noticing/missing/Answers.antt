@@ -1,10 +1,9 @@
-use Rattle.std.proofs.Common.{◌≡◌, refl, sym, ap, ◌∙◌, subst, arith, ◌∷◌, [], ◌++◌, cond, take, append-nil}
+use Rattle.std.proofs.Common.{refl, sym, ap, ◌∙◌, arith, ◌∷◌, [], ◌++◌, cond, take, append-nil}
 use Rattle.std.proofs.lemmas.List.{take_all}
 use Rattle.pana_scan.specs.declared.notices.Notice.TheVariants as notice
-use Rattle.pana_scan.specs.Notice.{missing, without_first}
-use Rattle.pana_scan.specs.inner.Pool.{AreInOrder}
+use Rattle.pana_scan.specs.Notice.{missing}
 use Rattle.pana_scan.specs.inner.Seen.{new_files}
-use Rattle.pana_scan.specs.inner.Takers.{FilesWait, files_left, fits, unpaired}
+use Rattle.pana_scan.specs.inner.Takers.{files_left, unpaired}
 use Rattle.pana_scan.proofs.Merged.{lent}
 use Rattle.pana_scan.proofs.Taken.{files_at, files_left_more, left_unpaired, lent_more, missing_more}
 use Rattle.pana_scan.proofs.noticing.missing.Goals as goal

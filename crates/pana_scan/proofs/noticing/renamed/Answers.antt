@@ -1,11 +1,10 @@
-use Rattle.std.proofs.Common.{◌≡◌, refl, sym, ap, ◌∙◌, subst, arith, ◌∷◌, [], ◌++◌, cond, take, append-nil, Some, None, option_map}
+use Rattle.std.proofs.Common.{sym, ap, ◌∙◌, subst, arith, ◌∷◌, [], ◌++◌, cond, take, append-nil, option_map}
 use Rattle.std.proofs.lemmas.List.{take_all}
 use Rattle.std.specs.Option.{option_to_list}
 use Rattle.pana_scan.specs.declared.notices.Notice.TheVariants as notice
 use Rattle.pana_scan.specs.Notice.{left, renamed}
 use Rattle.pana_scan.specs.inner.Pool.{AreInOrder}
 use Rattle.pana_scan.specs.inner.Seen.{file_of, new_files}
-use Rattle.pana_scan.specs.inner.Takers.{CopiesWait}
 use Rattle.pana_scan.proofs.Merged.{lent}
 use Rattle.pana_scan.proofs.Taken.{copies_at, left_more, new_more, renames, waits_on}
 use Rattle.pana_scan.proofs.noticing.renamed.Goals as goal

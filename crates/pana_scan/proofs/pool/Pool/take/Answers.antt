@@ -1,4 +1,4 @@
-use Rattle.std.proofs.Common.{◌≡◌, refl, sym, ap, ◌∙◌, arith, true}
+use Rattle.std.proofs.Common.{refl, sym, ap, ◌∙◌, arith, true}
 use Rattle.std.specs.Str.{bytes_eq}
 use Rattle.std.proofs.lemmas.List.{get_or_default}
 use Rattle.pana_scan.proofs.Pooled.{item_first, none_at_end, none_there, nothing_else, nothing_first, taken_order, taken_rest, turned_false, turned_true}

@@ -1,0 +1,2 @@
+-- Words of the laws of notices.
+pub mod Notices
