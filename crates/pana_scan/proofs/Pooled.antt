@@ -95,7 +95,7 @@ module _ {T : Type 0} where
   -- ---- the row that is found is taken
 
   pub taken_first : (sum : List ℕ) (rows : List (Waiting T)) (i : ℕ) (new d : Waiting T) → i < length rows
-      → AllWithin (λ row. is_before sum row ≡ true) rows 0 i → is_before sum (slice_index_or rows i d) ≡ false → is_of sum (slice_index_or rows i d) ≡ true
+      → AllWithin (λ row. is_before sum row ≡ true) rows zero i → is_before sum (slice_index_or rows i d) ≡ false → is_of sum (slice_index_or rows i d) ≡ true
       → new.is_taken ≡ true → waiting sum rows ≡ (slice_index_or rows i d).item ∷ waiting sum (slice_set rows i new)
   taken_first sum [] i new d within before off same taken = absurd (omega (arith, within))
   taken_first sum (row ∷ rows) zero new d within before off same taken =
@@ -115,7 +115,7 @@ module _ {T : Type 0} where
 
   -- ---- no row is found
 
-  none_waits : (sum : List ℕ) (rows : List (Waiting T)) (i : ℕ) → AllWithin (λ row. is_before sum row ≡ true) rows 0 i
+  none_waits : (sum : List ℕ) (rows : List (Waiting T)) (i : ℕ) → AllWithin (λ row. is_before sum row ≡ true) rows zero i
       → AllWithin (λ row. is_of sum row ≡ false) rows i (length rows) → waiting sum rows ≡ []
   none_waits sum [] i before other = refl
   none_waits sum (row ∷ rows) zero before other =
@@ -188,7 +188,7 @@ module _ {T : Type 0} where
         ]
 
     pub taken_order : (sum : List ℕ) → AreInOrder rows → new.sum.now ≡ old.sum.now → new.is_taken ≡ true → is_of sum old ≡ true
-        → AllWithin (λ it. is_before sum it ≡ true) rows 0 i → AreInOrder (slice_set rows i new)
+        → AllWithin (λ it. is_before sum it ≡ true) rows zero i → AreInOrder (slice_set rows i new)
     taken_order sum order same taken of before = record {
       lower = λ t. stays (is_lower t) (order.lower t)
           (λ k d low passes. order.lower t k i d (omega arith) within
