@@ -2,3 +2,4 @@ pub mod Numbers
 pub mod Pieces
 pub mod Same
 pub mod Worked
+pub mod WorkedStatus

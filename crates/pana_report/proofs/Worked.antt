@@ -5,7 +5,8 @@ use Rattle.std.specs.Fmt.{digits}
 use Rattle.unicode_width.proofs.Computing.{unicode_width}
 use Rattle.pana_hall.specs.declared.board.BoardRow.{BoardRow}
 use Rattle.pana_hall.specs.declared.board.BoardView.{BoardView}
-use Rattle.pana_report.specs.Table.{cell, columns, head_line, copy_line, family_line, table_text, newline}
+use Rattle.pana_report.specs.Columns.{cell, head_line, row_line, newline}
+use Rattle.pana_report.specs.Table.{columns, family_line, table_text}
 
 abbrev row_of : ℕ → List ℕ → List ℕ → (newer older equal conflict : ℕ) → BoardRow
 row_of copy device path newer older equal conflict =
@@ -15,7 +16,7 @@ row_of copy device path newer older equal conflict =
 empty_board : table_text (record { family = 7; rows = []; newest = []; split = false })
     ≡ codes "family 7: copies 0, newest 0, split no" ++ newline
     ++ (codes "COPY  PLACE  STATE     NEWER  OLDER  EQUAL  CONFLICT" ++ newline)
-unfolding unicode_width digits cell columns head_line copy_line family_line table_text
+unfolding unicode_width digits cell columns head_line row_line family_line table_text
 empty_board = refl
 
 -- a path with two wide characters, each of three bytes
@@ -32,7 +33,7 @@ wide_path : table_text wide
     ++ (codes "COPY  PLACE   STATE     NEWER  OLDER  EQUAL  CONFLICT" ++ newline)
     ++ (encode_utf8_all (codes "   1  a:日本  newest        0      0      1         0") ++ newline)
     ++ (codes "   2  b:x     newest        0      0      1         0" ++ newline)
-unfolding unicode_width digits cell columns head_line copy_line family_line table_text
+unfolding unicode_width digits cell columns head_line row_line family_line table_text
 wide_path = refl
 
 -- two copies in conflict
@@ -45,17 +46,17 @@ conflict : table_text (record {
     ++ (codes "COPY  PLACE            STATE     NEWER  OLDER  EQUAL  CONFLICT" ++ newline)
     ++ (codes "   1  laptop:plan.txt  conflict      0      0      0         1" ++ newline)
     ++ (codes "   2  usb:plan.txt     conflict      0      0      0         1" ++ newline)
-unfolding unicode_width digits cell columns head_line copy_line family_line table_text
+unfolding unicode_width digits cell columns head_line row_line family_line table_text
 conflict = refl
 
 -- a path that would turn the direction of writing shows its code, which counts in the column
-turned : copy_line (columns (row_of 1 (codes "a") (encode_utf8_all (120 ∷ 0x202E ∷ 121 ∷ [])) 0 0 0 0 ∷ [])) (row_of 1 (codes "a") (encode_utf8_all (120 ∷ 0x202E ∷ 121 ∷ [])) 0 0 0 0)
+turned : row_line (columns (row_of 1 (codes "a") (encode_utf8_all (120 ∷ 0x202E ∷ 121 ∷ [])) 0 0 0 0 ∷ [])) (row_of 1 (codes "a") (encode_utf8_all (120 ∷ 0x202E ∷ 121 ∷ [])) 0 0 0 0)
     ≡ codes "   1  a:x\\u{202e}y  newest        0      0      0         0" ++ newline
-unfolding unicode_width digits cell columns copy_line
+unfolding unicode_width digits cell columns row_line
 turned = refl
 
 -- a copy that is older than one and in conflict with another is obsolete; a number may be longer than its head
-obsolete : copy_line (columns (row_of 12345 (codes "usb") (codes "p") 1 2 3 4 ∷ [])) (row_of 12345 (codes "usb") (codes "p") 1 2 3 4)
+obsolete : row_line (columns (row_of 12345 (codes "usb") (codes "p") 1 2 3 4 ∷ [])) (row_of 12345 (codes "usb") (codes "p") 1 2 3 4)
     ≡ codes "12345  usb:p  obsolete      1      2      3         4" ++ newline
-unfolding unicode_width digits cell columns copy_line
+unfolding unicode_width digits cell columns row_line
 obsolete = refl

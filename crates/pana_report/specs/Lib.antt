@@ -1,3 +1,5 @@
+pub mod Columns
 pub mod Table
+pub mod Status
 pub mod laws
 pub mod inner

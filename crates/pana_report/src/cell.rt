@@ -1,6 +1,6 @@
 //! Cells: texts with blanks up to the width of their column.
 ghost use Rattle.std.specs.Prelude.{◌≡◌, ◌++◌, OnOk, string_bytes};
-ghost use Rattle.pana_report.specs.Table.{blanks, cell};
+ghost use Rattle.pana_report.specs.Columns.{blanks, cell};
 
 use std::alloc::AllocError;
 use unicode_width::UnicodeWidthStr;
@@ -23,7 +23,7 @@ fn write_blanks(text: &mut String, count: usize) -> Result<(), AllocError>
 }
 
 /// Appends the content on its side of a column, with blanks up to the column's width.
-#[tactic(auto, unfolding(crate::specs::Table::cell))]
+#[tactic(auto, unfolding(crate::specs::Columns::cell))]
 pub(crate) fn write_cell(
     text: &mut String,
     side: Alignment,
@@ -43,4 +43,17 @@ pub(crate) fn write_cell(
             text.push_str(content)
         }
     }
+}
+
+/// Appends two blanks, and the cell behind them.
+pub(crate) fn write_next(
+    text: &mut String,
+    side: Alignment,
+    column: usize,
+    content: &str,
+) -> Result<(), AllocError>
+    ensures { OnOk result (string_bytes text.new ≡ string_bytes text.old ++ (blanks 2 ++ cell side column content.now)) }
+{
+    text.push_str("  ")?;
+    write_cell(text, side, column, content)
 }

@@ -1,9 +1,8 @@
-//! A line of the table: seven cells, two blanks between each two, and a newline.
+//! A line of a board's table: seven cells, two blanks between each two, and a newline.
 ghost use Rattle.std.specs.Prelude.{◌≡◌, ◌++◌, OnOk, string_bytes};
-ghost use Rattle.pana_report.specs.Table.{blanks, cell};
 ghost use Rattle.pana_report.specs.inner.Lines.{line_of};
 
-use crate::cell::{Alignment, write_cell};
+use crate::cell::{Alignment, write_cell, write_next};
 use crate::widths::{CONFLICT, COUNT, STATE, Widths};
 use std::alloc::AllocError;
 
@@ -17,19 +16,6 @@ pub(crate) struct Texts<'a> {
     pub older: &'a str,
     pub equal: &'a str,
     pub conflict: &'a str,
-}
-
-/// Appends two blanks, and the cell behind them.
-fn write_next(
-    text: &mut String,
-    side: Alignment,
-    column: usize,
-    content: &str,
-) -> Result<(), AllocError>
-    ensures { OnOk result (string_bytes text.new ≡ string_bytes text.old ++ (blanks 2 ++ cell side column content.now)) }
-{
-    text.push_str("  ")?;
-    write_cell(text, side, column, content)
 }
 
 /// Appends a line with these texts in its columns.

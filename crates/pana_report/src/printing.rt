@@ -1,4 +1,4 @@
-//! The lines of the table, one after another.
+//! The lines of a board's table, one after another.
 ghost use Rattle.std.specs.Prelude.{◌≡◌, ◌++◌, IfOk, OnOk, string_bytes};
 ghost use Rattle.std.specs.List.{flat_map};
 ghost use Rattle.pana_report.specs.Table.{family_line, table_text, yes_or_no};
@@ -6,7 +6,7 @@ ghost use Rattle.pana_report.specs.inner.Lines.{heads_of, row_line_of};
 
 use crate::line::{Texts, write_line};
 use crate::place::place_text;
-use crate::state::State;
+use crate::state::state_of;
 use crate::widths::Widths;
 use pana_hall::{BoardRow, BoardView};
 use std::alloc::{AllocError, Global};
@@ -39,7 +39,7 @@ fn write_row(
     ensures { OnOk result (string_bytes text.new ≡ string_bytes text.old ++ row_line_of widths.now row.now) }
 {
     let copy = row.copy.to_string(alloc)?;
-    let place = place_text(alloc, row)?;
+    let place = place_text(alloc, &row.place)?;
     let newer = row.newer.to_string(alloc)?;
     let older = row.older.to_string(alloc)?;
     let equal = row.equal.to_string(alloc)?;
@@ -47,7 +47,7 @@ fn write_row(
     let texts = Texts {
         copy: copy.as_str(),
         place: place.as_str(),
-        state: State::of(row).name(),
+        state: state_of(row).name(),
         newer: newer.as_str(),
         older: older.as_str(),
         equal: equal.as_str(),
@@ -96,7 +96,7 @@ fn family_line(alloc: Global, board: &BoardView) -> Result<String, AllocError>
 /// # Errors
 ///
 /// `AllocError` where an allocation failed. Takes O(length of the table) time and memory.
-#[tactic(auto, using(crate::proofs::Same::same_heads, crate::proofs::Same::same_rows), unfolding(crate::specs::Table::table_text))]
+#[tactic(auto, using(crate::proofs::Same::same_lines), unfolding(crate::specs::Table::table_text))]
 pub fn print(alloc: Global, board: &BoardView) -> Result<String, AllocError>
     ensures { IfOk result (λ text. string_bytes text ≡ table_text board.now) }
 {

@@ -1,42 +1,18 @@
-//! The states of copies: what a person has to do about each.
+//! The state of a copy on a board: what a person has to do about it.
 ghost use Rattle.std.specs.Prelude.{◌≡◌};
-ghost use Rattle.pana_report.specs.Table.{state_of, state_name};
+ghost use Rattle.pana_report.specs.Table.{state_of};
 
-use pana_hall::BoardRow;
+use pana_hall::{BoardRow, CopyState};
 
-/// The state of a copy on a board.
-#[derive(Clone, Copy, Debug, PartialEq, Eq)]
-pub(crate) enum State {
-    /// No copy is newer, and none is in conflict with it.
-    Newest,
-    /// A copy is newer.
-    Obsolete,
-    /// No copy is newer, and one is in conflict with it.
-    Conflict,
-}
-
-impl State {
-    /// The state of the copy of this row.
-    pub(crate) fn of(row: &BoardRow) -> State
-        ensures { result ≡ state_of row.now }
-    {
-        if row.newer != 0 {
-            State::Obsolete
-        } else if row.conflict != 0 {
-            State::Conflict
-        } else {
-            State::Newest
-        }
-    }
-
-    /// The name, as the table shows it.
-    pub(crate) fn name(self) -> &'static str
-        ensures { result.now ≡ state_name self }
-    {
-        match self {
-            State::Newest => "newest",
-            State::Obsolete => "obsolete",
-            State::Conflict => "conflict",
-        }
+/// The state of the copy of this row.
+pub(crate) fn state_of(row: &BoardRow) -> CopyState
+    ensures { result ≡ state_of row.now }
+{
+    if row.newer != 0 {
+        CopyState::Obsolete
+    } else if row.conflict != 0 {
+        CopyState::Conflict
+    } else {
+        CopyState::Newest
     }
 }

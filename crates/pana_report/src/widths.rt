@@ -1,7 +1,7 @@
-//! The widths of columns.
+//! The widths of the columns of a board's table.
 ghost use Rattle.std.specs.Prelude.{◌≡◌, IfOk};
 
-use crate::place::place_text;
+use crate::place::place_width;
 use pana_hall::BoardRow;
 use std::alloc::{AllocError, Global};
 use unicode_width::UnicodeWidthStr;
@@ -40,9 +40,8 @@ impl Widths {
         let mut place = LEAST_PLACE;
         for row in rows {
             let number = row.copy.to_string(alloc)?;
-            let text = place_text(alloc, row)?;
             copy = copy.max(number.as_str().width());
-            place = place.max(text.as_str().width());
+            place = place.max(place_width(alloc, &row.place)?);
         }
         Ok(Widths { copy, place })
     }

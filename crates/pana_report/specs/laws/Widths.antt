@@ -1,6 +1,6 @@
 -- What the definition of the table implies.
 use Rattle.std.specs.Prelude.{◌≡◌, ℕ, ◌^◌, ◌<◌, length, decimal}
-use Rattle.pana_report.specs.Table.{width}
+use Rattle.pana_report.specs.Columns.{width}
 
 -- a number takes as many columns of a terminal as it has digits
 abbrev pub NumbersAreAsWideAsLong : Type 0
