@@ -3,3 +3,4 @@ pub mod AlwaysAnswered
 pub mod Asked
 pub mod Joined
 pub mod Reported
+pub mod Cut

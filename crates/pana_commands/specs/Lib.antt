@@ -5,3 +5,4 @@ pub mod Tables
 pub mod Load
 pub mod Show
 pub mod Scan
+pub mod Track

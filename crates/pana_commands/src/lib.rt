@@ -1,19 +1,25 @@
-//! What the program's commands answer to texts and lines: `compare`, `load`, `run`, `scan` and `show`, apart from the
-//! words and files that they are given by.
+//! What the program's commands answer to texts, lines and folders: `compare`, `load`, `run`, `scan`, `show` and `track`, apart
+//! from the words and files that they are given by.
 #![tactic(auto)]
 
 mod comparing;
+mod folder_end;
 mod loading;
 mod printout;
 mod running;
 mod scanning;
 mod showing;
 mod tables;
+mod tracking;
+mod untracked;
 
 pub use crate::comparing::compare_on;
+pub use crate::folder_end::{FolderEnd, FolderTally};
 pub use crate::loading::load_on;
 pub use crate::printout::Printout;
 pub use crate::running::run_on;
 pub use crate::scanning::scan_on;
 pub use crate::showing::show_on;
 pub use crate::tables::tables_of;
+pub use crate::tracking::{ReadFolder, StatusForm, track_on};
+pub use crate::untracked::Untracked;

@@ -20,7 +20,7 @@ advice Newest other = codes "keep"
 advice Obsolete other = codes "take " ++ place_text other
 advice Conflict other = codes "merge with " ++ place_text other
 
--- the columns, where that of places is so wide; nothing stands to the right of the last, so it needs no width
+-- the columns, where that of places is so wide; nothing stands right of the last, so it needs no width
 unfoldable pub columns : ℕ → List (Column StatusRow)
 columns places =
     column (codes "STATE") Left 8 (λ row. state_name row.state)

@@ -4,6 +4,7 @@ use crate::fault::ProgramFault;
 use crate::keeping::{run_kept, show_kept};
 use crate::printing::{complain, output, print_out, print_text};
 use crate::progress::Progress;
+use crate::track_command::{self, TRACK, track_command};
 use crate::version::VERSION;
 use clap::error::{Error, ErrorKind};
 use clap::{Arg, ArgAction, ArgMatches, Command, value_parser};
@@ -34,11 +35,12 @@ Each line of input to `panad run` is what a device reports, or asks:
     {\"by\":\"desk\",\"do\":\"board\",\"family\":1}
 
 Reports: register, duplicate, edit, reconcile, merge, relocate, remove, note,
-confirm, withdraw. Questions: families, board, stamps, pair, holdings, at, status,
-journal.
+confirm, withdraw. Sightings: found, missing. Questions: families, board, stamps,
+pair, holdings, at, status, journal.
 
 `panad show` takes such lines and prints tables in place of the answers, and
 `panad serve` answers them over TCP, to several devices at a time.
+`panad track` needs no lines: it looks at folders.
 `panad COMMAND --help` shows an example. README.md has all answers, what is
 proved of them, and what isn't.";
 
@@ -155,7 +157,7 @@ const FIRST: &str = "FIRST";
 
 const SECOND: &str = "SECOND";
 
-fn journal_option<'a>(alloc: Global) -> Arg<'a> {
+pub fn journal_option<'a>(alloc: Global) -> Arg<'a> {
     Arg::new(alloc, JOURNAL).long(JOURNAL).value_name(FILE)
 }
 
@@ -290,6 +292,7 @@ fn command_line<'a>(alloc: Global) -> Result<Command<'a>, AllocError> {
         .subcommand(load_command(alloc)?)?
         .subcommand(scan_command(alloc)?)?
         .subcommand(compare_command(alloc)?)?
+        .subcommand(track_command(alloc)?)?
         .subcommand(serve_command(alloc)?)
 }
 
@@ -425,7 +428,7 @@ fn explain(rt: &HostRuntime, error: &Error) -> Result<ExitCode, ProgramFault> {
 }
 
 /// Refuses the words for a reason that `clap` doesn't look at.
-fn refuse(rt: &HostRuntime, kind: ErrorKind, reason: &str) -> Result<ExitCode, ProgramFault> {
+pub fn refuse(rt: &HostRuntime, kind: ErrorKind, reason: &str) -> Result<ExitCode, ProgramFault> {
     let mut command = command_line(rt.alloc())?;
     let error = command.error(kind, reason)?;
     explain(rt, &error)
@@ -456,6 +459,7 @@ fn obey_words<T: Threads + Wait + Clock + Sync>(
         Some((LOAD, words)) => load(rt, words),
         Some((SCAN, words)) => scan(rt, words),
         Some((COMPARE, words)) => compare(rt, words),
+        Some((TRACK, words)) => Ok(track_command::run(rt, words)),
         Some((SERVE, words)) => serve(rt, threads, words),
         _ => refuse(rt, ErrorKind::MissingSubcommand, "a command is required"),
     }

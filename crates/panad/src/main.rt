@@ -9,6 +9,8 @@ mod journal_file;
 mod keeping;
 mod printing;
 mod progress;
+mod track;
+mod track_command;
 mod version;
 
 use std::process::ExitCode;

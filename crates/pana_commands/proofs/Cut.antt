@@ -1,0 +1,50 @@
+-- Where calls of folders that are tracked have no answer.
+use Rattle.std.specs.Prelude.{◌≡◌, ℕ, Bool, List, [], ◌∷◌, ◌++◌, Result, Ok, Err, IfErr, IsErrOf, OnErr}
+use Rattle.std.proofs.Common.{refl}
+use Rattle.pana_hall.specs.declared.call.Call.{Call}
+use Rattle.pana_hall.specs.declared.call.Call.TheVariants as questions
+use Rattle.pana_hall.specs.declared.call.Query.TheVariants as queries
+use Rattle.std.specs.Prelude.{None}
+use Rattle.pana_scan.specs.Listing.{Contents}
+use Rattle.pana_scan.specs.declared.scan_fault.ScanFault.{ScanFault}
+use Rattle.pana_track.specs.Calls.{Asked, Makes}
+use Rattle.pana_track.specs.inner.Pages.{Stops}
+use Rattle.pana_track.proofs.Reported.{makes_on}
+use Rattle.pana_wire.specs.declared.answer.Answer.{Answer}
+use Rattle.pana_commands.specs.declared.folder_end.FolderEnd.{FolderEnd}
+use Rattle.pana_commands.specs.declared.tracking.ReadFolder.{ReadFolder}
+use Rattle.pana_commands.specs.Track.{IsCut, TracksAll, TracksFolder}
+
+module _ {S : Type 0} (step : S → List ℕ → Call → Answer → S → Type 0) (fails : S → List ℕ → Call → S → Type 0) where
+  -- calls, and then such a call behind them
+  cut_on : (old mid new : S) (made : List Asked) → Makes step old made mid → IsCut step fails mid new → IsCut step fails old new
+  cut_on old mid new made makes cut = record {
+    made = made ++ cut.made;
+    mid = cut.mid;
+    by = cut.by;
+    call = cut.call;
+    calls = makes_on step old mid cut.mid made cut.made makes cut.calls;
+    failed = cut.failed;
+  }
+
+  module _ (may_be_empty : Bool) where
+    -- a folder's calls
+    calls_of : (given : Result Contents ScanFault) (old mid : S) (end : FolderEnd) → TracksFolder step may_be_empty given old mid end → (made : List Asked) × Makes step old made mid
+    calls_of (Err fault) old mid end is = ([], is.0)
+    calls_of (Ok listing) old mid end is = (is.2.made, is.2.calls)
+
+    -- those of all folders
+    all_calls : (folders : List ReadFolder) (old mid : S) (lines : List ℕ) (has_fault : Bool) → TracksAll step may_be_empty folders old mid lines has_fault → (made : List Asked) × Makes step old made mid
+    all_calls [] old mid lines has_fault is = ([], is.0)
+    all_calls (folder ∷ folders) old mid lines has_fault is =
+        let first = calls_of folder.given old is.0 is.1 is.4 in
+        let more = all_calls folders is.0 mid is.2 is.3 is.5 in
+        (first.0 ++ more.0, makes_on step old is.0 mid first.0 more.0 first.1 more.1)
+
+    pub cut_behind : (given : Result Contents ScanFault) (old mid new : S) (end : FolderEnd) → TracksFolder step may_be_empty given old mid end → IsCut step fails mid new → IsCut step fails old new
+    cut_behind given old mid new end is cut = let first = calls_of given old mid end is in cut_on old mid new first.0 first.1 cut
+
+    pub cut_after_all : (by : List ℕ) (folders : List ReadFolder) (old mid new : S) (lines : List ℕ) (has_fault : Bool) → TracksAll step may_be_empty folders old mid lines has_fault → Stops step fails by mid new → IsCut step fails old new
+    cut_after_all by folders old mid new lines has_fault is stops =
+        let all = all_calls folders old mid lines has_fault is in
+        cut_on old mid new all.0 all.1 (record { made = stops.made; mid = stops.mid; by = by; call = questions.Query (queries.Status None stops.from); calls = stops.calls; failed = stops.failed })

@@ -1,0 +1,168 @@
+//! Folders that are tracked: what was noticed in each is reported to a session, and then the copies that are obsolete or in conflict
+//! are shown.
+ghost use Rattle.std.specs.Prelude.{◌≡◌, IfOk, IsErrOf, OnErr, string_bytes};
+ghost use Rattle.pana_scan.specs.Scan.{unreadable_count};
+ghost use Rattle.pana_track.specs.Calls.{Makes};
+ghost use Rattle.pana_track.specs.Status.{HasAll};
+ghost use Rattle.pana_commands.specs.Track.{AnswersTrack, IsCut, TracksAll, TracksFolder, shown_rows, status_by};
+
+use crate::folder_end::{FolderEnd, FolderTally};
+use crate::printout::Printout;
+use crate::untracked::Untracked;
+use pana_copies::DeviceName;
+use pana_hall::{Reply, StatusRow};
+use pana_list::PlainList;
+use pana_report::print_status;
+use pana_scan::{Found, FoundRow, Listing, ScanFault};
+use pana_track::{TrackTally, status_of, track};
+use pana_wire::{NoAnswer, Session, encode};
+use std::alloc::{AllocError, Global};
+
+/// A folder that is to be tracked, and what reading it has given.
+#[derive(Debug, Drop)]
+pub struct ReadFolder {
+    pub device: DeviceName,
+    pub given: Result<Listing, ScanFault>,
+}
+
+/// How the copies that are obsolete or in conflict are shown.
+#[derive(Clone, Copy, Debug, PartialEq, Eq)]
+pub enum StatusForm {
+    /// As a table for people.
+    Table,
+    /// As the line that answers a question for them.
+    Json,
+    Nothing,
+}
+
+/// How many of the files couldn't be read.
+fn unreadable_count(rows: &[FoundRow]) -> u64
+    ensures { result ≡ unreadable_count rows.now }
+{
+    rows.iter()
+        .filter(|row| row.found == Found::Unreadable)
+        .count() as u64
+}
+
+/// Tracks a folder.
+fn track_folder<S: Session>(
+    alloc: Global,
+    session: &mut S,
+    given: &Result<Listing, ScanFault>,
+    may_be_empty: bool,
+) -> Result<FolderEnd, NoAnswer>
+    ensures ok { IfOk result (TracksFolder S.step may_be_empty given.now session.old session.new) }
+    ensures fails { OnErr result (IsCut S.step S.fails session.old session.new) }
+{
+    let listing = match given {
+        Ok(listing) => listing,
+        Err(fault) => return Ok(FolderEnd::Unread(*fault)),
+    };
+    let mut calls = TrackTally::new();
+    let stop = track(alloc, session, listing, may_be_empty, &mut calls)?;
+    Ok(FolderEnd::Tracked(FolderTally {
+        calls,
+        stop,
+        skipped: listing.skipped(),
+        unreadable: unreadable_count(listing.rows()),
+    }))
+}
+
+/// The lines about folders, and whether something wasn't reported of one.
+#[derive(Drop)]
+struct Notes {
+    lines: String,
+    has_fault: bool,
+}
+
+/// Tracks the folders, one after another.
+fn track_all<S: Session>(
+    alloc: Global,
+    session: &mut S,
+    folders: &[ReadFolder],
+    may_be_empty: bool,
+) -> Result<Notes, Untracked>
+    ensures ok { IfOk result (λ notes. TracksAll S.step may_be_empty folders.now session.old session.new (string_bytes notes.lines) notes.has_fault) }
+    ensures fails { IsErrOf result Untracked.NoAnswer → IsCut S.step S.fails session.old session.new }
+{
+    let Some((folder, others)) = folders.split_first() else {
+        return Ok(Notes {
+            lines: String::new(alloc),
+            has_fault: false,
+        });
+    };
+    let end = track_folder(alloc, session, &folder.given, may_be_empty)?;
+    let mut lines = end.lines(alloc, &folder.device)?;
+    let more = track_all(alloc, session, others, may_be_empty)?;
+    lines.push_str(more.lines.as_str())?;
+    Ok(Notes {
+        lines,
+        has_fault: end.is_fault() || more.has_fault,
+    })
+}
+
+/// The copies that are obsolete or in conflict, as they are to be shown.
+fn shown_rows(
+    alloc: Global,
+    form: StatusForm,
+    rows: PlainList<StatusRow>,
+) -> Result<String, AllocError>
+    ensures { IfOk result (λ text. string_bytes text ≡ shown_rows form rows) }
+{
+    match form {
+        StatusForm::Table if rows.as_slice().is_empty() => {
+            String::from_str(alloc, "nothing is obsolete or in conflict\n")
+        }
+        StatusForm::Table => print_status(alloc, rows.as_slice()),
+        StatusForm::Json => {
+            let mut text = encode(alloc, &Reply::Status(rows))?;
+            text.push_str("\n")?;
+            Ok(text)
+        }
+        StatusForm::Nothing => Ok(String::new(alloc)),
+    }
+}
+
+/// The exit status.
+fn status_by(has_fault: bool, rows: &[StatusRow]) -> u8
+    ensures { result ≡ status_by has_fault rows.now }
+{
+    match rows {
+        _ if has_fault => 3,
+        [] => 0,
+        _ => 1,
+    }
+}
+
+/// Tracks folders that were read, one after another, by a session: of each it reports what was noticed, and then it asks, as the
+/// device `by`, for all copies that are obsolete or in conflict, and shows them. For standard error there is a line about each
+/// folder that couldn't be read or whose reports were refused or broken off, and about what was passed over. The status is 3
+/// where something wasn't reported, else 1 where a copy is obsolete or in conflict, else 0.
+///
+/// # Errors
+///
+/// `NoAnswer` where a call has none; `OutOfMemory` where an allocation failed for what is printed. What was reported before
+/// stays.
+pub fn track_on<S: Session>(
+    alloc: Global,
+    session: &mut S,
+    by: &DeviceName,
+    folders: &[ReadFolder],
+    may_be_empty: bool,
+    form: StatusForm,
+) -> Result<Printout, Untracked>
+    ensures ok { IfOk result (AnswersTrack S.step may_be_empty form by.now folders.now session.old session.new) }
+    ensures fails { IsErrOf result Untracked.NoAnswer → IsCut S.step S.fails session.old session.new }
+{
+    let Notes { lines, has_fault } = track_all(alloc, session, folders, may_be_empty)?;
+    let Some(rows) = status_of(alloc, session, by)? else {
+        return Err(Untracked::OutOfMemory);
+    };
+    let status = status_by(has_fault, rows.as_slice());
+    let out = shown_rows(alloc, form, rows)?;
+    Ok(Printout {
+        out,
+        err: lines,
+        status,
+    })
+}

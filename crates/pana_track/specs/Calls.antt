@@ -1,0 +1,15 @@
+-- Calls that a session makes, one after another.
+use Rattle.std.specs.Prelude.{◌≡◌, ℕ, List, [], ◌∷◌}
+use Rattle.pana_hall.specs.declared.call.Call.{Call}
+use Rattle.pana_wire.specs.declared.answer.Answer.{Answer}
+
+-- a call that was answered: the device that makes it, the call, and its answer
+pub record Asked : Type 0 where
+  pub by : List ℕ
+  pub call : Call
+  pub answer : Answer
+
+-- the session makes these calls, one after another, and gets these answers
+abbrev pub Makes : {S : Type 0} → (S → List ℕ → Call → Answer → S → Type 0) → S → List Asked → S → Type 0
+Makes step old [] new = new ≡ old
+Makes {S = S} step old (made ∷ more) new = (mid : S) × step old made.by made.call made.answer mid × Makes step mid more new

@@ -1,0 +1,3 @@
+-- Words that only inner functions and proofs need: nobody has to believe them.
+pub mod Reporting
+pub mod Pages
