@@ -1,0 +1,6 @@
+//! Patterns of paths that are passed over, in gitignore's language.
+#![tactic(auto)]
+
+mod byte_class;
+mod name;
+mod piece;
