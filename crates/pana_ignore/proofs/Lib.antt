@@ -1,2 +1,4 @@
 pub mod Matches
 pub mod NameRuns
+pub mod PathRuns
+pub mod Splits

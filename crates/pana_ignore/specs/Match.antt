@@ -21,3 +21,13 @@ abbrev pub is_match : {A B : Type 0} → (A → Bool) → (A → B → Bool) →
 is_match wild fits [] items = is_nothing items
 is_match wild fits (unit ∷ units) items =
     if wild unit then some_rest (is_match wild fits units) items else first_and_rest (fits unit) (is_match wild fits units) items
+
+-- the item at the head of the first list
+abbrev pub onto_first : {A : Type 0} → A → List (List A) → List (List A)
+onto_first item [] = (item ∷ []) ∷ []
+onto_first item (first ∷ others) = (item ∷ first) ∷ others
+
+-- the items before the first that the test holds of, those between it and the next, and so on up to the last
+abbrev pub split : {A : Type 0} → (A → Bool) → List A → List (List A)
+split test [] = [] ∷ []
+split test (item ∷ items) = if test item then [] ∷ split test items else onto_first item (split test items)

@@ -3,4 +3,8 @@
 
 mod byte_class;
 mod name;
+mod part;
+mod path;
+mod pattern;
 mod piece;
+mod split;
