@@ -2,3 +2,4 @@ pub mod Matches
 pub mod NameRuns
 pub mod PathRuns
 pub mod Splits
+pub mod Verdicts

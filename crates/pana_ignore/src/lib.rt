@@ -6,5 +6,8 @@ mod name;
 mod part;
 mod path;
 mod pattern;
+mod patterns;
 mod piece;
 mod split;
+
+pub use crate::patterns::Patterns;
