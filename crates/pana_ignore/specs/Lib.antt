@@ -1,3 +1,4 @@
 pub mod Match
 pub mod Pattern
+pub mod Spelling
 pub mod inner
