@@ -3,3 +3,4 @@ pub mod NameRuns
 pub mod PathRuns
 pub mod Splits
 pub mod Verdicts
+pub mod Reading
