@@ -3,4 +3,5 @@ pub mod NameRuns
 pub mod PathRuns
 pub mod Splits
 pub mod Verdicts
-pub mod Reading
+pub mod Behind
+pub mod Parts

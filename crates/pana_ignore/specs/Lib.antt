@@ -1,4 +1,5 @@
 pub mod Match
 pub mod Pattern
 pub mod Spelling
+pub mod Reading
 pub mod inner

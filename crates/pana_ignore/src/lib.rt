@@ -8,6 +8,7 @@ mod path;
 mod pattern;
 mod patterns;
 mod piece;
+mod reading;
 mod set;
 mod set_item;
 mod split;

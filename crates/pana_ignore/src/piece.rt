@@ -1,6 +1,7 @@
 ghost use Rattle.std.specs.Prelude.{◌≡◌};
 ghost use Rattle.std.specs.List.{list_any};
 ghost use Rattle.pana_ignore.specs.Pattern.{item_has, is_star, fits_byte};
+ghost use Rattle.pana_ignore.specs.Reading.{is_slash};
 
 use crate::byte_class::ByteClass;
 use pana_list::PlainList;
@@ -53,6 +54,13 @@ impl Piece {
         ensures { result ≡ is_star self.now }
     {
         matches!(self, Piece::Star)
+    }
+
+    /// Whether the piece stands between names.
+    pub(crate) fn is_slash(&self) -> bool
+        ensures { result ≡ is_slash self.now }
+    {
+        matches!(self, Piece::Byte(b'/'))
     }
 
     /// Whether one byte of a name matches the piece.

@@ -1,5 +1,5 @@
 use Rattle.std.proofs.Common.{◌≡◌, ◌+◌, ◌-◌, ◌∷◌, [], ◌++◌, length, drop, refl, sym, ◌∙◌, arith}
-use Rattle.pana_ignore.proofs.Reading.{items_behind-item}
+use Rattle.pana_ignore.proofs.Behind.{items_behind-item}
 use Rattle.pana_ignore.proofs.set.read_items.Goals as goal
 
 pub loop-byte-preserved : goal.loop-byte-preserved

@@ -79,3 +79,18 @@ pub pieces_behind-none : (text : List ℕ) (b : ℕ) (rest : List ℕ) → text 
 pieces_behind-none text b rest e none =
     ap (pieces_behind 0) e
     ∙ ap (option_and_then (λ found. option_map (λ others. found.0 ∷ others) (pieces_behind (found.1 - 1) rest))) (sym (ap piece_at e) ∙ none)
+
+pub pieces_behind-some : (text : List ℕ) (piece : Piece) (bytes : ℕ) → piece_at text ≡ Some (piece, bytes) → 0 < bytes
+    → pieces_behind 0 text ≡ option_map (λ others. piece ∷ others) (pieces_behind 0 (drop bytes text))
+pieces_behind-some [] piece bytes found some = absurd (cc)
+pieces_behind-some (b ∷ rest) piece bytes found some = pieces_behind-piece (b ∷ rest) b rest piece bytes refl found some
+
+-- ---- what is made of an option's value
+
+pub option_map-same : {A B : Type 0} (f g : A → B) (o : Option A) → ((x : A) → f x ≡ g x) → option_map f o ≡ option_map g o
+option_map-same f g None same = refl
+option_map-same f g (Some x) same = ap (λ y. Some y) (same x)
+
+pub option_map-twice : {A B C : Type 0} (f : B → C) (g : A → B) (o : Option A) → option_map f (option_map g o) ≡ option_map (λ x. f (g x)) o
+option_map-twice f g None = refl
+option_map-twice f g (Some x) = refl
