@@ -1,6 +1,6 @@
 -- Reading goes on behind what was read.
-use Rattle.std.specs.Prelude.{ℕ, zero, suc, ◌+◌, ◌-◌, ◌<◌, Bool, true, false, List, [], ◌∷◌, ◌++◌, length, drop, Option, None, Some, option_map, option_and_then}
-use Rattle.std.proofs.Common.{◌≡◌, refl, sym, ◌∙◌, ap, arith, append_assoc, add_assoc}
+use Rattle.std.specs.Prelude.{ℕ, zero, suc, ◌+◌, ◌-◌, ◌<◌, true, false, List, [], ◌∷◌, ◌++◌, drop, Option, None, Some, option_map, option_and_then}
+use Rattle.std.proofs.Common.{◌≡◌, refl, sym, ◌∙◌, ap, arith, append_assoc}
 use Rattle.std.proofs.lemmas.Bool.{cond-true, cond-false}
 use Rattle.pana_ignore.specs.declared.piece.SetItem.{SetItem}
 use Rattle.pana_ignore.specs.declared.piece.Piece.{Piece}
@@ -38,9 +38,9 @@ items_behind-item before text b rest one items bytes e goes found some =
     let dropped : drop (one.length - 1) rest ≡ drop one.length text = ap (λ n. drop n (b ∷ rest)) left ∙ sym (ap (drop one.length) e) in
     ap (λ t. with_items items bytes (items_behind 0 before t)) e
     ∙ ap (with_items items bytes) (
-        cond-false (closes before b) (Some ([], 1)) (option_and_then (λ one. with_item one (items_behind (one.length - 1) one.next rest)) (item_at before (b ∷ rest))) goes
-        ∙ ap (option_and_then (λ one. with_item one (items_behind (one.length - 1) one.next rest))) found'
-        ∙ ap (with_item one) (items_behind-drop (one.length - 1) one.next rest ∙ ap (items_behind 0 one.next) dropped))
+    cond-false (closes before b) (Some ([], 1)) (option_and_then (λ one. with_item one (items_behind (one.length - 1) one.next rest)) (item_at before (b ∷ rest))) goes
+    ∙ ap (option_and_then (λ one. with_item one (items_behind (one.length - 1) one.next rest))) found'
+    ∙ ap (with_item one) (items_behind-drop (one.length - 1) one.next rest ∙ ap (items_behind 0 one.next) dropped))
     ∙ with_items-next items bytes one (items_behind 0 one.next (drop one.length text))
 
 -- the set is closed

@@ -5,3 +5,4 @@ pub mod Splits
 pub mod Verdicts
 pub mod Behind
 pub mod Parts
+pub mod Kept

@@ -1,8 +1,8 @@
 -- Matching from one wild unit to the next: the first place where the units between them match is as good as any later one.
-use Rattle.std.specs.Prelude.{length, ◌==◌, Bool, true, false, ◌||◌, ◌&&◌, List, [], ◌∷◌, if◌then◌else◌}
+use Rattle.std.specs.Prelude.{length, ◌==◌, Bool, true, false, ◌||◌, ◌&&◌, List, [], ◌∷◌}
 use Rattle.std.proofs.Common.{◌≡◌, refl, sym, ◌∙◌, ap, inl, inr, arith}
 use Rattle.std.proofs.lemmas.Bool.Decides.{nat_tests}
-use Rattle.std.proofs.lemmas.Bool.{or_cases, or_left, or_right, and_parts, cond-true, cond-false, cases_Bool, false_from_ne_true, both_ways}
+use Rattle.std.proofs.lemmas.Bool.{or_cases, or_left, or_right, and_parts, cond-true, cond-false, false_from_ne_true, both_ways}
 use Rattle.pana_ignore.specs.Match.{some_rest, is_match, first_and_rest, is_nothing}
 
 pub some_rest_here : {B : Type 0} (test : List B → Bool) (items : List B) → test items ≡ true → some_rest test items ≡ true
@@ -14,8 +14,8 @@ pub some_rest_twice : {B : Type 0} (test : List B → Bool) (items : List B) →
 some_rest_twice test [] h = h
 some_rest_twice test (item ∷ items) h =
     elim (or_cases (some_rest test (item ∷ items)) (some_rest (some_rest test) items) h) [
-      inl here ↦ here
-    | inr later ↦ or_right (test (item ∷ items)) (some_rest test items) (some_rest_twice test items later)
+      | inl here ↦ here
+      | inr later ↦ or_right (test (item ∷ items)) (some_rest test items) (some_rest_twice test items later)
     ]
 
 -- a unit that isn't wild matches one item
@@ -48,22 +48,22 @@ pub later_among : {A B : Type 0} (wild : A → Bool) (fits : A → B → Bool) (
 later_among wild fits unit units [] tame h = absurd (both_ways _ (match_none wild fits unit units tame) h)
 later_among wild fits unit units (item ∷ items) tame h =
     or_right (is_match wild fits units (item ∷ items)) (some_rest (is_match wild fits units) items)
-      (elim (or_cases (is_match wild fits (unit ∷ units) (item ∷ items)) (some_rest (is_match wild fits (unit ∷ units)) items) h) [
-        inl here ↦ some_rest_here (is_match wild fits units) items
+    (elim (or_cases (is_match wild fits (unit ∷ units) (item ∷ items)) (some_rest (is_match wild fits (unit ∷ units)) items) h) [
+      | inl here ↦ some_rest_here (is_match wild fits units) items
           (and_parts (fits unit item) (is_match wild fits units items)
-            (sym (cond-false (wild unit) (some_rest (is_match wild fits units) (item ∷ items)) (fits unit item && is_match wild fits units items) tame) ∙ here)).1
+          (sym (cond-false (wild unit) (some_rest (is_match wild fits units) (item ∷ items)) (fits unit item && is_match wild fits units items) tame) ∙ here)).1
       | inr later ↦ later_among wild fits unit units items tame later
-      ])
+    ])
 
 -- the same where the first item is left behind
 pub later_behind : {A B : Type 0} (wild : A → Bool) (fits : A → B → Bool) (unit : A) (units : List A) (item : B) (items : List B)
     → wild unit ≡ false → some_rest (is_match wild fits (unit ∷ units)) (item ∷ items) ≡ true → some_rest (is_match wild fits units) items ≡ true
 later_behind wild fits unit units item items tame h =
     elim (or_cases (is_match wild fits (unit ∷ units) (item ∷ items)) (some_rest (is_match wild fits (unit ∷ units)) items) h) [
-      inl here ↦ some_rest_here (is_match wild fits units) items
-        (and_parts (fits unit item) (is_match wild fits units items)
+      | inl here ↦ some_rest_here (is_match wild fits units) items
+          (and_parts (fits unit item) (is_match wild fits units items)
           (sym (cond-false (wild unit) (some_rest (is_match wild fits units) (item ∷ items)) (fits unit item && is_match wild fits units items) tame) ∙ here)).1
-    | inr later ↦ later_among wild fits unit units items tame later
+      | inr later ↦ later_among wild fits unit units items tame later
     ]
 
 -- the same at a wild unit, behind which nothing has to be left
@@ -72,9 +72,9 @@ pub later_at_wild : {A B : Type 0} (wild : A → Bool) (fits : A → B → Bool)
 later_at_wild wild fits unit units [] is_wild h = sym (match_wild wild fits unit units [] is_wild) ∙ h
 later_at_wild wild fits unit units (item ∷ items) is_wild h =
     elim (or_cases (is_match wild fits (unit ∷ units) (item ∷ items)) (some_rest (is_match wild fits (unit ∷ units)) items) h) [
-      inl here ↦ sym (match_wild wild fits unit units (item ∷ items) is_wild) ∙ here
-    | inr later ↦ or_right (is_match wild fits units (item ∷ items)) (some_rest (is_match wild fits units) items)
-        (later_at_wild wild fits unit units items is_wild later)
+      | inl here ↦ sym (match_wild wild fits unit units (item ∷ items) is_wild) ∙ here
+      | inr later ↦ or_right (is_match wild fits units (item ∷ items)) (some_rest (is_match wild fits units) items)
+          (later_at_wild wild fits unit units items is_wild later)
     ]
 
 -- where the test fails of all items, it is that of the rests behind the first

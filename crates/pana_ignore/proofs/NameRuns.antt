@@ -1,6 +1,6 @@
 -- What a run up to a star says of all rests of a name.
 use Rattle.std.specs.Prelude.{Bool, true, false, List, ℕ}
-use Rattle.std.proofs.Common.{◌≡◌, refl, sym, ◌∙◌}
+use Rattle.std.proofs.Common.{◌≡◌, refl, sym}
 use Rattle.std.proofs.lemmas.Bool.{both_ways}
 use Rattle.pana_ignore.specs.declared.name.NameRun.{NameRun}
 use Rattle.pana_ignore.specs.declared.name.NameRun.TheVariants.{Failed, Matched, AtStar}

@@ -1,10 +1,9 @@
 -- Parts that are read behind others.
-use Rattle.std.specs.Prelude.{Bool, true, false, cond, List, [], ◌∷◌, ◌++◌}
+use Rattle.std.specs.Prelude.{true, false, List, [], ◌∷◌, ◌++◌}
 use Rattle.std.proofs.Common.{◌≡◌, refl, sym, ◌∙◌, ap, append_assoc}
 use Rattle.std.proofs.lemmas.Bool.{cond-true, cond-false}
 use Rattle.std.proofs.lemmas.List.{append-nil}
 use Rattle.pana_ignore.specs.declared.piece.Piece.{Piece}
-use Rattle.pana_ignore.specs.declared.part.Part.{Part}
 use Rattle.pana_ignore.specs.Match.{split, onto_first, is_nothing}
 use Rattle.pana_ignore.specs.Reading.{is_slash, part_of, last_parts, named_parts}
 use Rattle.pana_ignore.specs.inner.Parts.{onto_name, parts_behind}

@@ -1,6 +1,6 @@
 -- What a run up to a star says of all rests of a path.
 use Rattle.std.specs.Prelude.{Bool, true, false, List, ℕ, option_copied}
-use Rattle.std.proofs.Common.{◌≡◌, refl, sym, ◌∙◌}
+use Rattle.std.proofs.Common.{◌≡◌, refl, sym}
 use Rattle.std.proofs.lemmas.Bool.{both_ways}
 use Rattle.pana_ignore.specs.declared.path.PathRun.{PathRun}
 use Rattle.pana_ignore.specs.declared.path.PathRun.TheVariants.{NoPath, WholePath, AtFolders}

@@ -12,9 +12,9 @@ pub verdict-filter : (test : Pattern → Bool) (before : Bool) (patterns : List 
 verdict-filter test before [] = refl
 verdict-filter test before (pattern ∷ patterns) =
     elim (test pattern) as (λ b. verdict test (cond b (not pattern.includes) before) patterns
-      ≡ cond (is_nothing (cond b (pattern ∷ filter test patterns) (filter test patterns))) before (decided (cond b (pattern ∷ filter test patterns) (filter test patterns)))) [
-      true ↦ verdict-filter test (not pattern.includes) patterns
-    | false ↦ verdict-filter test before patterns
+    ≡ cond (is_nothing (cond b (pattern ∷ filter test patterns) (filter test patterns))) before (decided (cond b (pattern ∷ filter test patterns) (filter test patterns)))) [
+      | true ↦ verdict-filter test (not pattern.includes) patterns
+      | false ↦ verdict-filter test before patterns
     ]
 
 decided-nothing : (patterns : List Pattern) → cond (is_nothing patterns) false (decided patterns) ≡ decided patterns

@@ -1,11 +1,13 @@
 -- What a text of patterns says, line by line.
-use Rattle.std.specs.Prelude.{ℕ, ◌+◌, ◌-◌, ◌==◌, nat_le, nat_lt, Bool, true, false, not, ◌&&◌, if◌then◌else◌, List, [], ◌∷◌, ◌++◌, length, take, drop, slice_index, flat_map, count_by, Option, None, Some, option_map, option_to_list}
+use Rattle.std.specs.Prelude.{ℕ, ◌-◌, ◌==◌, nat_le, nat_lt, Bool, false, not, ◌&&◌, if◌then◌else◌, List, [], ◌∷◌, ◌++◌, length, take, drop, slice_index, flat_map, count_by, Option, None, Some, option_map, option_to_list}
 use Rattle.std.specs.List.{list_any, list_all, position_from, starts_with}
 use Rattle.pana_ignore.specs.declared.piece.Piece.{Piece}
 use Rattle.pana_ignore.specs.declared.piece.Piece.TheVariants.{Star, Byte, Set}
 use Rattle.pana_ignore.specs.declared.part.Part.{Part}
 use Rattle.pana_ignore.specs.declared.part.Part.TheVariants.{Folders, Name}
 use Rattle.pana_ignore.specs.declared.pattern.Pattern.{Pattern}
+use Rattle.pana_ignore.specs.declared.patterns_fault.PatternsFault.{PatternsFault}
+use Rattle.pana_ignore.specs.declared.patterns_fault.PatternsFault.TheVariants.{TooManyLines, LongLine}
 use Rattle.pana_ignore.specs.Match.{split, is_nothing}
 use Rattle.pana_ignore.specs.Pattern.{is_star}
 use Rattle.pana_ignore.specs.Spelling.{pieces_of}
@@ -89,3 +91,13 @@ lines_of text = split (λ b. b == 10) (without_mark text)
 -- the patterns of a text, in their order
 abbrev pub patterns_of : List ℕ → List Pattern
 patterns_of text = flat_map (λ line. option_to_list (pattern_of_line line)) (lines_of text)
+
+-- ---- limits
+
+-- the number of the first line that is too long, from this number on
+abbrev pub long_line : ℕ → List (List ℕ) → Option ℕ
+long_line number lines = position_from (λ line. nat_lt 4096 (length line)) number lines
+
+-- what is wrong with a text: it has too many lines, or else one is too long
+abbrev pub fault_of : List ℕ → Option PatternsFault
+fault_of text = if nat_lt 10000 (count_by (λ b. b == 10) text) then Some TooManyLines else option_map LongLine (long_line 1 (lines_of text))

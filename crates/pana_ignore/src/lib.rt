@@ -2,11 +2,13 @@
 #![tactic(auto)]
 
 mod byte_class;
+mod lines;
 mod name;
 mod part;
 mod path;
 mod pattern;
 mod patterns;
+mod patterns_fault;
 mod piece;
 mod reading;
 mod set;
@@ -14,3 +16,4 @@ mod set_item;
 mod split;
 
 pub use crate::patterns::Patterns;
+pub use crate::patterns_fault::PatternsFault;

@@ -1,9 +1,15 @@
-ghost use Rattle.std.specs.Prelude.{◌≡◌, true, []};
+ghost use Rattle.std.specs.Prelude.{◌≡◌, ◌⊎◌, true, [], ◌++◌, Some, Err, IfOk, OnOk, IfErr, OnErr, flat_map, option_to_list};
+ghost use Rattle.std.specs.Option.{ForSome};
 ghost use Rattle.std.specs.List.{list_any};
 ghost use Rattle.pana_ignore.specs.Pattern.{ignores_here, is_ignored, folders_above};
+ghost use Rattle.pana_ignore.specs.Reading.{pattern_of, pattern_of_line, patterns_of, fault_of};
+ghost use Rattle.pana_ignore.specs.inner.Splits.{splits};
 
-use crate::pattern::Pattern;
-use std::alloc::Global;
+use crate::lines::{fault_of, trimmed, without_mark};
+use crate::pattern::{Pattern, begins, without_last};
+use crate::patterns_fault::PatternsFault;
+use crate::split::split_first;
+use std::alloc::{AllocError, Global};
 use std::marker::Model;
 
 /// Patterns of paths, of which the last that matches decides.
@@ -45,6 +51,71 @@ impl Patterns {
             alloc,
             patterns: Vec::new(alloc),
         }
+    }
+
+    /// The patterns of a text, a line each, as of a file `.gitignore` at the root. A line that spells no pattern has none.
+    ///
+    /// # Errors
+    ///
+    /// `TooManyLines` of more than 10,000 newlines, or else `LongLine` of the first line with more than 4,096 bytes;
+    /// `OutOfMemory`.
+    pub fn read(alloc: Global, text: &[u8]) -> Result<Patterns, PatternsFault>
+        ensures ok { IfOk result (λ patterns. patterns ≡ patterns_of text.now) }
+        ensures fault { ForSome (fault_of text.now) (λ fault. result ≡ Err fault) }
+        ensures others { IfErr result (λ fault. (fault_of text.now ≡ Some fault) ⊎ (fault ≡ PatternsFault.OutOfMemory)) }
+    {
+        match fault_of(text) {
+            Some(fault) => Err(fault),
+            None => Ok(Patterns::of_lines(alloc, without_mark(text))?),
+        }
+    }
+
+    /// The patterns of lines.
+    fn of_lines(alloc: Global, text: &[u8]) -> Result<Patterns, AllocError>
+        ensures { IfOk result (λ patterns. patterns ≡ flat_map (λ line. option_to_list (pattern_of_line line)) (splits 10 (Some text.now))) }
+    {
+        let mut patterns = Patterns::new(alloc);
+        let mut rest = Some(text);
+        while let Some(lines) = rest {
+            let (line, behind) = split_first(lines, b'\n');
+            patterns.push_line(line)?;
+            rest = behind;
+        }
+        Ok(patterns)
+    }
+
+    /// Takes the pattern of a line, if it has one.
+    fn push_line(&mut self, line: &[u8]) -> Result<(), AllocError>
+        ensures ok { OnOk result (self.new ≡ self.old ++ option_to_list (pattern_of_line line.now)) }
+    {
+        if begins(b'#', line) {
+            return Ok(());
+        }
+        self.push_text(trimmed(without_last(b'\r', line)))
+    }
+
+    /// Takes the pattern that a text spells, if it does.
+    fn push_text(&mut self, text: &[u8]) -> Result<(), AllocError>
+        ensures ok { OnOk result (self.new ≡ self.old ++ option_to_list (pattern_of text.now)) }
+        ensures err { OnErr result (self.new ≡ self.old) }
+    {
+        if let Some(pattern) = Pattern::read(self.alloc, text)? {
+            self.patterns.push(pattern)?;
+        }
+        Ok(())
+    }
+
+    /// Takes one pattern more, which decides before the others, as one on a command line: the whole text is the pattern,
+    /// with its spaces, and a `#` is a byte like others. Where it spells none, nothing changes.
+    ///
+    /// # Errors
+    ///
+    /// `AllocError` where an allocation failed; nothing has changed then.
+    pub fn push(&mut self, text: &str) -> Result<(), AllocError>
+        ensures ok { OnOk result (self.new ≡ self.old ++ option_to_list (pattern_of text.now)) }
+        ensures err { OnErr result (self.new ≡ self.old) }
+    {
+        self.push_text(text.as_bytes())
     }
 
     /// What the patterns say of this very path, where no folder above it is ignored. Takes no memory; O(n m) in the

@@ -61,11 +61,7 @@ fn part_of(name: PlainList<Piece>) -> Part
 }
 
 /// Appends the parts at the end.
-fn push_last(
-    alloc: Global,
-    parts: &mut Vec<Part>,
-    name: PlainList<Piece>,
-) -> Result<(), AllocError>
+fn push_last(alloc: Global, parts: &mut Vec<Part>, name: PlainList<Piece>) -> Result<(), AllocError>
     ensures { OnOk result (parts.new.items ≡ parts.old.items ++ last_parts name) }
 {
     if are_stars(name.as_slice()) {

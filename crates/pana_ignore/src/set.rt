@@ -9,10 +9,7 @@ use pana_list::PlainList;
 use std::alloc::{AllocError, Global};
 
 /// The items up to the `]`, and how many bytes they take with it. `None` where the set isn't closed.
-fn read_items(
-    alloc: Global,
-    text: &[u8],
-) -> Result<Option<(PlainList<SetItem>, usize)>, AllocError>
+fn read_items(alloc: Global, text: &[u8]) -> Result<Option<(PlainList<SetItem>, usize)>, AllocError>
     ensures items { IfOk result (λ found. found ≡ items_behind 0 Start text.now) }
     ensures within { IfOk result (λ found. IfSome found (λ set. set.1 ≤ length text.now)) }
 {

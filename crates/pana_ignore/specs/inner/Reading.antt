@@ -1,5 +1,5 @@
 -- Reading a text from left to right, with what was read before.
-use Rattle.std.specs.Prelude.{ℕ, ◌+◌, List, ◌++◌, Option, None, Some, option_map}
+use Rattle.std.specs.Prelude.{ℕ, ◌+◌, List, ◌++◌, Option, None, Some}
 use Rattle.pana_ignore.specs.declared.piece.SetItem.{SetItem}
 
 -- these items and bytes before those that are read

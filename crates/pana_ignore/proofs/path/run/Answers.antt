@@ -24,4 +24,4 @@ loop-part-preserved c =
 pub returns-in-Some-rest-2-clause-outcome : goal.returns-in-Some-rest-2-clause-outcome
 returns-in-Some-rest-2-clause-outcome c =
     sym (c.loop-part.invariant.same ∙ end_at is_folders fits_name _ _ (nil_from_length _ c.in_default.ensures.cases)
-      ∙ ap (λ rest. is_nothing (names_left (option_copied rest))) c.in-Some-rest-2.is ∙ is_nothing-split (λ b. b == 47) c.in-Some-rest-2.field-0.now)
+    ∙ ap (λ rest. is_nothing (names_left (option_copied rest))) c.in-Some-rest-2.is ∙ is_nothing-split (λ b. b == 47) c.in-Some-rest-2.field-0.now)

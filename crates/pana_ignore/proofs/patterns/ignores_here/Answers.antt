@@ -1,6 +1,5 @@
-use Rattle.std.proofs.Common.{◌≡◌, List, [], false, drop, length, sym, ◌∙◌, ap, arith}
+use Rattle.std.proofs.Common.{◌≡◌, [], drop, sym, ◌∙◌, ap, arith}
 use Rattle.std.proofs.Math.ListN.{drop_of_length-le}
-use Rattle.pana_ignore.specs.declared.pattern.Pattern.{Pattern}
 use Rattle.pana_ignore.specs.Pattern.{applies}
 use Rattle.pana_ignore.specs.inner.Verdicts.{verdict}
 use Rattle.pana_ignore.proofs.Verdicts.{decided-verdict}

@@ -1,4 +1,4 @@
-use Rattle.std.proofs.Common.{◌≡◌, ◌∷◌, [], ◌++◌, Some, ℕ, ◌<◌, Option, IfSome, subst, sym, ◌∙◌, ap, drop}
+use Rattle.std.proofs.Common.{◌≡◌, ◌∷◌, ◌++◌, Some, ℕ, ◌<◌, Option, IfSome, subst, sym, ◌∙◌, ap, drop}
 use Rattle.std.specs.Prelude.{option_map}
 use Rattle.pana_ignore.specs.declared.piece.Piece.{Piece}
 use Rattle.pana_ignore.specs.Spelling.{piece_at, pieces_of, pieces_behind}
@@ -12,9 +12,9 @@ use Rattle.pana_ignore.proofs.reading.read_parts.Goals as goal
 pub loop-rest-init : goal.loop-rest-init
 loop-rest-init c =
     option_map-same (parts_of c.args.is_anchored) (λ pieces. c.in_ok-parts.parts.items ++ parts_behind c.new-name.result.items pieces) (pieces_of c.args.text.now)
-      (λ pieces.
-        ap (λ p. p ++ named_parts (split is_slash pieces)) (sym c.in_ok-parts.ensures)
-        ∙ ap (λ p. c.in_ok-parts.parts.items ++ p) (sym (parts_behind-nil pieces) ∙ ap (λ n. parts_behind n pieces) (sym c.new-name.ensures.items)))
+    (λ pieces.
+    ap (λ p. p ++ named_parts (split is_slash pieces)) (sym c.in_ok-parts.ensures)
+    ∙ ap (λ p. c.in_ok-parts.parts.items ++ p) (sym (parts_behind-nil pieces) ∙ ap (λ n. parts_behind n pieces) (sym c.new-name.ensures.items)))
 
 pub loop-rest-preserved : goal.loop-rest-preserved
 loop-rest-preserved c =

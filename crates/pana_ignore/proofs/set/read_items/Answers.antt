@@ -12,8 +12,8 @@ loop-byte-preserved c =
     let bytes : length c.args.text.now - length behind ≡ length c.args.text.now - length rest + one.length = omega (arith, c.split_at.ensures.back_len, c.loop-byte.invariant.within) in
     record {
       read = c.loop-byte.invariant.read
-        ∙ items_behind-item c.loop-byte.before rest _ _ one c.loop-byte.items.items (length c.args.text.now - length rest) c.in-Some.ensures.cases.0
-            (sym c.closes.ensures ∙ c.if-closes.false) (sym c.item_at.ensures.item ∙ c.in-Some-item_at.is) c.in-Some-item_at.ensures.some
-        ∙ sym (rw (pushed, bytes, left) refl);
+          ∙ items_behind-item c.loop-byte.before rest _ _ one c.loop-byte.items.items (length c.args.text.now - length rest) c.in-Some.ensures.cases.0
+          (sym c.closes.ensures ∙ c.if-closes.false) (sym c.item_at.ensures.item ∙ c.in-Some-item_at.is) c.in-Some-item_at.ensures.some
+          ∙ sym (rw (pushed, bytes, left) refl);
       within = omega (arith, c.split_at.ensures.back_len, c.loop-byte.invariant.within);
     }
