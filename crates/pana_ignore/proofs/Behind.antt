@@ -1,7 +1,7 @@
 -- Reading goes on behind what was read.
-use Rattle.std.specs.Prelude.{ℕ, zero, suc, ◌+◌, ◌-◌, ◌<◌, true, false, List, [], ◌∷◌, ◌++◌, drop, Option, None, Some, option_map, option_and_then}
+use Rattle.std.specs.Prelude.{ℕ, zero, suc, ◌+◌, ◌-◌, ◌<◌, false, List, [], ◌∷◌, ◌++◌, drop, Option, None, Some, option_map, option_and_then}
 use Rattle.std.proofs.Common.{◌≡◌, refl, sym, ◌∙◌, ap, arith, append_assoc}
-use Rattle.std.proofs.lemmas.Bool.{cond-true, cond-false}
+use Rattle.std.proofs.lemmas.Bool.{cond-false}
 use Rattle.pana_ignore.specs.declared.piece.SetItem.{SetItem}
 use Rattle.pana_ignore.specs.declared.piece.Piece.{Piece}
 use Rattle.pana_ignore.specs.declared.set_item.Before.{Before}
@@ -16,10 +16,6 @@ pub items_behind-drop : (skip : ℕ) (before : Before) (text : List ℕ) → ite
 items_behind-drop zero before text = refl
 items_behind-drop (suc skip) before [] = refl
 items_behind-drop (suc skip) before (b ∷ rest) = items_behind-drop skip before rest
-
-pub with_items-first : (found : Option (List SetItem × ℕ)) → with_items [] 0 found ≡ found
-with_items-first None = refl
-with_items-first (Some (others, more)) = ap (λ n. Some (others, n)) (omega arith)
 
 with_items-next : (items : List SetItem) (bytes : ℕ) (one : Item) (found : Option (List SetItem × ℕ))
     → with_items items bytes (with_item one found) ≡ with_items (items ++ one.item ∷ []) (bytes + one.length) found
@@ -43,20 +39,6 @@ items_behind-item before text b rest one items bytes e goes found some =
     ∙ ap (with_item one) (items_behind-drop (one.length - 1) one.next rest ∙ ap (items_behind 0 one.next) dropped))
     ∙ with_items-next items bytes one (items_behind 0 one.next (drop one.length text))
 
--- the set is closed
-pub items_behind-closed : (before : Before) (text : List ℕ) (b : ℕ) (rest : List ℕ) → text ≡ b ∷ rest → closes before b ≡ true → items_behind 0 before text ≡ Some ([], 1)
-items_behind-closed before text b rest e closed =
-    ap (items_behind 0 before) e
-    ∙ cond-true (closes before b) (Some ([], 1)) (option_and_then (λ one. with_item one (items_behind (one.length - 1) one.next rest)) (item_at before (b ∷ rest))) closed
-
--- there is no item
-pub items_behind-none : (before : Before) (text : List ℕ) (b : ℕ) (rest : List ℕ) → text ≡ b ∷ rest → closes before b ≡ false → item_at before text ≡ None
-    → items_behind 0 before text ≡ None
-items_behind-none before text b rest e goes none =
-    ap (items_behind 0 before) e
-    ∙ cond-false (closes before b) (Some ([], 1)) (option_and_then (λ one. with_item one (items_behind (one.length - 1) one.next rest)) (item_at before (b ∷ rest))) goes
-    ∙ ap (option_and_then (λ one. with_item one (items_behind (one.length - 1) one.next rest))) (sym (ap (item_at before) e) ∙ none)
-
 -- ---- pieces
 
 pub pieces_behind-drop : (skip : ℕ) (text : List ℕ) → pieces_behind skip text ≡ pieces_behind 0 (drop skip text)
@@ -74,11 +56,6 @@ pieces_behind-piece text b rest piece bytes e found some =
     ap (pieces_behind 0) e
     ∙ ap (option_and_then (λ found. option_map (λ others. found.0 ∷ others) (pieces_behind (found.1 - 1) rest))) (sym (ap piece_at e) ∙ found)
     ∙ ap (option_map (λ others. piece ∷ others)) (pieces_behind-drop (bytes - 1) rest ∙ ap (pieces_behind 0) dropped)
-
-pub pieces_behind-none : (text : List ℕ) (b : ℕ) (rest : List ℕ) → text ≡ b ∷ rest → piece_at text ≡ None → pieces_behind 0 text ≡ None
-pieces_behind-none text b rest e none =
-    ap (pieces_behind 0) e
-    ∙ ap (option_and_then (λ found. option_map (λ others. found.0 ∷ others) (pieces_behind (found.1 - 1) rest))) (sym (ap piece_at e) ∙ none)
 
 pub pieces_behind-some : (text : List ℕ) (piece : Piece) (bytes : ℕ) → piece_at text ≡ Some (piece, bytes) → 0 < bytes
     → pieces_behind 0 text ≡ option_map (λ others. piece ∷ others) (pieces_behind 0 (drop bytes text))

@@ -6,3 +6,5 @@ pub mod Verdicts
 pub mod Behind
 pub mod Parts
 pub mod Kept
+pub mod InParts
+pub mod Below

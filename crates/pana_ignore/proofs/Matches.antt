@@ -1,5 +1,5 @@
 -- Matching from one wild unit to the next: the first place where the units between them match is as good as any later one.
-use Rattle.std.specs.Prelude.{length, ◌==◌, Bool, true, false, ◌||◌, ◌&&◌, List, [], ◌∷◌}
+use Rattle.std.specs.Prelude.{length, ◌==◌, Bool, true, false, ◌&&◌, List, [], ◌∷◌}
 use Rattle.std.proofs.Common.{◌≡◌, refl, sym, ◌∙◌, ap, inl, inr, arith}
 use Rattle.std.proofs.lemmas.Bool.Decides.{nat_tests}
 use Rattle.std.proofs.lemmas.Bool.{or_cases, or_left, or_right, and_parts, cond-true, cond-false, false_from_ne_true, both_ways}
@@ -8,15 +8,6 @@ use Rattle.pana_ignore.specs.Match.{some_rest, is_match, first_and_rest, is_noth
 pub some_rest_here : {B : Type 0} (test : List B → Bool) (items : List B) → test items ≡ true → some_rest test items ≡ true
 some_rest_here test [] h = h
 some_rest_here test (item ∷ items) h = or_left (test (item ∷ items)) (some_rest test items) h
-
--- a rest of a rest is a rest
-pub some_rest_twice : {B : Type 0} (test : List B → Bool) (items : List B) → some_rest (some_rest test) items ≡ true → some_rest test items ≡ true
-some_rest_twice test [] h = h
-some_rest_twice test (item ∷ items) h =
-    elim (or_cases (some_rest test (item ∷ items)) (some_rest (some_rest test) items) h) [
-      | inl here ↦ here
-      | inr later ↦ or_right (test (item ∷ items)) (some_rest test items) (some_rest_twice test items later)
-    ]
 
 -- a unit that isn't wild matches one item
 pub match_one : {A B : Type 0} (wild : A → Bool) (fits : A → B → Bool) (unit : A) (units : List A) (item : B) (items : List B)
@@ -77,11 +68,6 @@ later_at_wild wild fits unit units (item ∷ items) is_wild h =
           (later_at_wild wild fits unit units items is_wild later)
     ]
 
--- where the test fails of all items, it is that of the rests behind the first
-pub some_rest_behind : {B : Type 0} (test : List B → Bool) (item : B) (items : List B) → test (item ∷ items) ≡ false
-    → some_rest test (item ∷ items) ≡ some_rest test items
-some_rest_behind test item items h = ap (λ b. b || some_rest test items) h
-
 -- what the test says of all items, where a yes of some rest is a yes of these
 pub some_rest_first : {B : Type 0} (test : List B → Bool) (items : List B) (met : Bool) → met ≡ test items
     → (some_rest test items ≡ true → met ≡ true) → some_rest test items ≡ met
@@ -119,15 +105,6 @@ later_wild_at wild fits us xs unit units e is_wild = rw e (later_at_wild wild fi
 -- at the end of the units
 pub end_at : {A B : Type 0} (wild : A → Bool) (fits : A → B → Bool) (us : List A) (xs : List B) → us ≡ [] → is_match wild fits us xs ≡ is_nothing xs
 end_at wild fits us xs e = ap (λ units. is_match wild fits units xs) e
-
--- where the test fails of these items, and where it fails of none
-pub rest_behind_at : {B : Type 0} (test : List B → Bool) (xs : List B) (item : B) (items : List B)
-    → xs ≡ item ∷ items → test xs ≡ false → some_rest test xs ≡ some_rest test items
-rest_behind_at test xs item items f fails =
-    rw f (some_rest_behind test item items (sym (ap test f) ∙ fails))
-
-pub rest_none_at : {B : Type 0} (test : List B → Bool) (xs : List B) → xs ≡ [] → test xs ≡ false → some_rest test xs ≡ false
-rest_none_at test xs f fails = ap (some_rest test) f ∙ sym (ap test f) ∙ fails
 
 pub is_nothing-length : {B : Type 0} (xs : List B) → is_nothing xs ≡ (length xs == 0)
 is_nothing-length [] = refl

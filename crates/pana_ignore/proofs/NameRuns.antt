@@ -14,8 +14,3 @@ pub outcome-first : (test : List ℕ → Bool) (name : List ℕ) (run : NameRun)
 outcome-first test name Failed same later met = absurd (both_ways true met refl)
 outcome-first test name Matched same later met = sym (some_rest_here test name (sym same))
 outcome-first test name (AtStar pieces rest) same later met = sym (some_rest_first test name (some_rest (is_name_match pieces.now) rest.now) same later)
-
-pub outcome-failed : (run : NameRun) → has_failed run ≡ true → outcome run ≡ false
-outcome-failed Failed h = refl
-outcome-failed Matched h = absurd (both_ways false refl h)
-outcome-failed (AtStar pieces rest) h = absurd (both_ways false refl h)

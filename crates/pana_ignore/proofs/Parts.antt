@@ -1,6 +1,6 @@
 -- Parts that are read behind others.
 use Rattle.std.specs.Prelude.{true, false, List, [], ◌∷◌, ◌++◌}
-use Rattle.std.proofs.Common.{◌≡◌, refl, sym, ◌∙◌, ap, append_assoc}
+use Rattle.std.proofs.Common.{◌≡◌, refl, sym, ◌∙◌, ap}
 use Rattle.std.proofs.lemmas.Bool.{cond-true, cond-false}
 use Rattle.std.proofs.lemmas.List.{append-nil}
 use Rattle.pana_ignore.specs.declared.piece.Piece.{Piece}
@@ -25,19 +25,3 @@ parts_behind-slash name piece pieces h =
     ∙ cond-false (is_nothing (split is_slash pieces)) (last_parts (name ++ [])) (part_of (name ++ []) ∷ named_parts (split is_slash pieces)) (is_nothing-split is_slash pieces)
     ∙ ap (λ n. part_of n ∷ named_parts (split is_slash pieces)) (append-nil name)
     ∙ ap (λ parts. part_of name ∷ parts) (sym (parts_behind-nil pieces))
-
-onto_name-first : (name : List Piece) (piece : Piece) (names : List (List Piece)) → is_nothing names ≡ false
-    → onto_name name (onto_first piece names) ≡ onto_name (name ++ piece ∷ []) names
-onto_name-first name piece [] h = absurd (cc)
-onto_name-first name piece (first ∷ others) h = ap (λ n. n ∷ others) (sym (append_assoc name (piece ∷ []) first))
-
--- any other piece belongs to it
-pub parts_behind-piece : (name : List Piece) (piece : Piece) (pieces : List Piece) → is_slash piece ≡ false
-    → parts_behind name (piece ∷ pieces) ≡ parts_behind (name ++ piece ∷ []) pieces
-parts_behind-piece name piece pieces h =
-    ap (λ names. named_parts (onto_name name names)) (cond-false (is_slash piece) ([] ∷ split is_slash pieces) (onto_first piece (split is_slash pieces)) h)
-    ∙ ap named_parts (onto_name-first name piece (split is_slash pieces) (is_nothing-split is_slash pieces))
-
--- the last name
-pub parts_behind-end : (name : List Piece) → parts_behind name [] ≡ last_parts name
-parts_behind-end name = ap last_parts (append-nil name)

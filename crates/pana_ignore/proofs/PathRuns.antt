@@ -14,8 +14,3 @@ pub outcome-first : (test : List (List ℕ) → Bool) (name : List (List ℕ)) (
 outcome-first test name NoPath same later met = absurd (both_ways true met refl)
 outcome-first test name WholePath same later met = sym (some_rest_here test name (sym same))
 outcome-first test name (AtFolders parts rest) same later met = sym (some_rest_first test name (some_rest (is_path_match parts.now) (names_left (option_copied rest))) same later)
-
-pub outcome-failed : (run : PathRun) → has_no_path run ≡ true → path_outcome run ≡ false
-outcome-failed NoPath h = refl
-outcome-failed WholePath h = absurd (both_ways false refl h)
-outcome-failed (AtFolders parts rest) h = absurd (both_ways false refl h)

@@ -3,3 +3,4 @@ pub mod Pattern
 pub mod Spelling
 pub mod Reading
 pub mod inner
+pub mod laws

@@ -2,6 +2,7 @@
 #![tactic(auto)]
 
 mod byte_class;
+pub mod laws;
 mod lines;
 mod name;
 mod part;
