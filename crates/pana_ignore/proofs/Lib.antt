@@ -8,3 +8,4 @@ pub mod Parts
 pub mod Kept
 pub mod InParts
 pub mod Below
+pub mod Worked
