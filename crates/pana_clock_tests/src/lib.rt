@@ -1,4 +1,4 @@
-//! The tests of the clocks, families, names, places, patterns, kept lines and desks: what no clause says of their calls.
+//! The tests of the clocks, families, names, places, kept lines and desks: what no clause says of their calls.
 #![tactic(auto)]
 
 #[cfg(test)]
@@ -9,8 +9,6 @@ mod event;
 mod family;
 #[cfg(test)]
 mod id;
-#[cfg(test)]
-mod ignore;
 #[cfg(test)]
 mod log;
 #[cfg(test)]
