@@ -97,8 +97,18 @@ class Kit:
         file = self.repository / "tests" / "edits-tried"
         return file.read_text().splitlines() if file.exists() else []
 
+    def has_crates(self, listed):
+        """Gives the repository these crates as well, by their lines of crates.txt."""
+        (self.repository / "crates.txt").write_text(listed)
+        for line in listed.splitlines():
+            source = self.repository / "crates" / line.partition(":")[0] / "src"
+            source.mkdir(parents=True, exist_ok=True)
+            (source / "lib.rt").write_text("//! Nothing.\n")
+
     def calls(self):
-        return (self.kit / "calls").read_text().splitlines() if (self.kit / "calls").exists() else []
+        """How rt was called, without the number of jobs."""
+        lines = (self.kit / "calls").read_text().splitlines() if (self.kit / "calls").exists() else []
+        return [" ".join(it for it in line.split() if not it.startswith("--jobs=")) for line in lines]
 
     def start(self, *words, **how):
         path = f"{self.kit / 'bin'}:{os.environ.get('PATH', os.defpath)}"
@@ -152,7 +162,7 @@ def on_a_terminal(kit):
             shown += more
     os.close(ours)
     text = shown.decode().replace("\r\n", "\n")
-    if "\rpanad: crate 1 of 2, low, 2 of 5 functions, 0:00 min so far" not in text or text.count("\n") != 2:
+    if "\rpanad: 0:00 min, 0 of 2 crates, low 2 of 5 functions" not in text or text.count("\n") != 2:
         yield f"the terminal has {text!r}"
 
 
@@ -164,6 +174,24 @@ def failed_proof(kit):
         yield f"it ended with {status}, {output!r}, {error!r}"
     if (kit.repository / ".build" / "panad").exists() or kit.calls() != ["low lib"]:
         yield "it went on"
+
+
+def two_at_a_time(kit):
+    """Two crates that don't use each other are proved at the same time, and none before what it uses; where one fails, the other is stopped."""
+    kit.has_crates("panad: left right\nleft: low\nright: low\nlow:\n")
+    begun = 'touch "$kit/$(basename "$PWD")"'
+    waits = "for _ in $(seq 100); do [ -e $kit/left ] && [ -e $kit/right ] && break; sleep 0.05; done; [ -e $kit/left ] && [ -e $kit/right ]"
+    both = f'case $PWD in */left|*/right) {begun}; {waits} ;; esac'
+    kit.has_rt_do(f"{both} && {{ {WELL}; }}")
+    status, output, error = kit.run("./panad", "run")
+    calls = kit.calls()
+    if (status, output) != (0, "answers\n") or [calls[0], *sorted(calls[1:3]), calls[3]] != ["low lib", "left lib", "right lib", "panad run -- run"]:
+        yield f"it ended with {status}, {output!r}, {error!r}, and rt was called: {calls}"
+    (kit.repository / "crates" / "low" / "src" / "lib.rt").write_text("//! Something.\n")
+    kit.has_rt_do(f"{both}; case $PWD in */left) until [ -e $kit/waits ]; do sleep 0.05; done; exit 1 ;; */right) trap 'echo ended >>$kit/calls; exit 1' TERM; touch $kit/waits; sleep 60 & wait ;; esac; {WELL}")
+    status, output, error = kit.run("./panad", "run")
+    if status != 1 or output or kit.calls()[-1] != "ended" or kit.calls().count("panad run -- run") != 1:
+        yield f"where one fails it ended with {status}, {output!r}, {error!r}, and rt was called: {kit.calls()}"
 
 
 def wait_for_call(kit, call):
@@ -362,7 +390,7 @@ def passes(check):
     return not found
 
 
-CHECKS = (other_arguments, first_use, on_a_terminal, failed_proof, interrupted, ended_alone, gate_that_passes, quick)
+CHECKS = (other_arguments, first_use, on_a_terminal, failed_proof, two_at_a_time, interrupted, ended_alone, gate_that_passes, quick)
 CHECKS += (kept_for_the_next, text_first, how_long, untried_edits, stale_edits, wrong_record, edits_not_refused, edits_of_failed_crates, all_edits)
 
 

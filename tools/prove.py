@@ -2,26 +2,27 @@
 """Proves the libraries of the program and then the program, links it, and tries it on an empty session.
 
 usage: prove.py RT LOG
-RT is the kit's command rt; all that it prints goes to the file LOG. On standard error stands how far it is: on a
-terminal one line that changes, elsewhere a line for each crate. Each crate's proofs are kept in its folder out/, so
-a run that is interrupted is gone on with by the next. Once the program is built they are packed (kept_work.py).
+RT is the kit's command rt; all that it prints goes to the file LOG. Two crates are proved at a time where neither
+uses the other. On standard error stands how far it is: on a terminal one line that changes, elsewhere a line for each
+crate. Each crate's proofs are kept in its folder out/, so a run that is interrupted is gone on with by the next. Once
+the program is built they are packed (kept_work.py).
 """
 from __future__ import annotations
 
 import os
 import re
-import select
+import selectors
 import signal
 import subprocess
 import sys
 import time
-from dataclasses import dataclass
 from pathlib import Path
 
 import kept_work
 
 TOP = Path(__file__).resolve().parent.parent
 PROGRAM = "panad"
+AT_A_TIME = 2
 WIDEST = 79
 INTERRUPTED = 130
 COUNTED = re.compile(r"so far: (\d+) of (\d+) functions checked")
@@ -49,112 +50,168 @@ def with_those_below(names):
     return found
 
 
+def lines_of_code(name):
+    files = (it for part in ("src", "specs", "proofs") for it in (TOP / "crates" / name / part).rglob("*") if it.is_file())
+    return sum(it.read_bytes().count(b"\n") for it in files)
+
+
+class Waiting:
+    """The crates that aren't begun yet: those with the longest chain of others behind them come first."""
+
+    def __init__(self, names):
+        self.below, self.done = {it: {*uses()[it]} & {*names} for it in names}, set()
+        behind = dict.fromkeys(names, 0)
+        for name in reversed(names):
+            behind[name] += lines_of_code(name)
+            for it in self.below[name]:
+                behind[it] = max(behind[it], behind[name])
+        self.left = sorted(names, key=lambda it: -behind[it])
+
+    def ready(self):
+        """Those that use nothing that isn't done."""
+        return [it for it in self.left if self.below[it] <= self.done]
+
+    def begin(self, name):
+        self.left.remove(name)
+
+    def end(self, name):
+        self.done.add(name)
+
+
+class Build:
+    """A crate that rt proves and builds, in a process of its own. Only what is proved is built."""
+
+    def __init__(self, rt, name, jobs):
+        self.name, self.begun, self.functions, self.lines, self.held = name, time.monotonic(), "", [], b""
+        words = [f"--jobs={jobs}"] if jobs else []
+        words = ["run", *words, "--", "run"] if name == PROGRAM else ["lib", *words]
+        how = {"stdin": subprocess.DEVNULL, "stdout": subprocess.PIPE, "stderr": subprocess.STDOUT}
+        self.process = subprocess.Popen([rt, *words], cwd=TOP / "crates" / name, **how)
+
+    def fileno(self):
+        return self.process.stdout.fileno()
+
+    def read(self):
+        """Takes what rt has printed; false where it has ended."""
+        more = os.read(self.fileno(), 65536)
+        *whole, self.held = (self.held + more).split(b"\n")
+        for line in (it.decode(errors="replace") for it in (whole if more or not self.held else [self.held])):
+            self.lines.append(line)
+            found = COUNTED.match(line)
+            if found:
+                self.functions = f" {found[1]} of {found[2]} functions"
+        return bool(more)
+
+    def is_built(self):
+        self.process.stdout.close()
+        return self.process.wait() == 0
+
+    def stop(self):
+        self.process.terminate()
+        self.is_built()
+
+    def write_to(self, log):
+        print(f"== {self.name}", *self.lines, sep="\n", file=log, flush=True)
+
+
 def minutes(seconds):
     return f"{int(seconds) // 60}:{int(seconds) % 60:02}"
 
 
-@dataclass
 class Progress:
     """Shows on standard error how far the crates are."""
 
-    count: int
-    at: int = 0
-    name: str = ""
-    functions: str = ""
-
-    def __post_init__(self):
+    def __init__(self, count):
+        self.count, self.done, self.start = count, 0, time.monotonic()
         self.is_terminal = sys.stderr.isatty()
         columns = os.get_terminal_size(sys.stderr.fileno()).columns if self.is_terminal else 0
         self.width = min(columns or WIDEST, WIDEST) - 1
-        self.start = time.monotonic()
 
-    def begin(self, name):
-        self.at, self.name, self.functions = self.at + 1, name, ""
-        self.begun = time.monotonic()
-        self.show()
-
-    def read(self, line):
-        """Takes from a line of rt how many functions are checked, where it says so."""
-        found = COUNTED.match(line)
-        if found:
-            self.functions = f", {found[1]} of {found[2]} functions"
-
-    def show(self):
+    def show(self, builds):
         """Puts the changing line on a terminal."""
         if self.is_terminal:
-            so_far = minutes(time.monotonic() - self.start)
-            text = f"panad: crate {self.at} of {self.count}, {self.name}{self.functions}, {so_far} min so far"
+            at = ", ".join(f"{it.name}{it.functions}" for it in builds)
+            text = f"panad: {minutes(time.monotonic() - self.start)} min, {self.done} of {self.count} crates, {at}"
             print(f"\r{text[: self.width]:{self.width}}", end="", file=sys.stderr, flush=True)
 
-    def end(self, is_built):
-        """Says that the crate is done, and that it is at fault where it is."""
-        took = minutes(time.monotonic() - self.begun)
+    def end(self, build, is_built):
+        """Says that a crate is done, and that it is at fault where it is."""
+        self.done += 1
         if not self.is_terminal:
-            what = "is proved" if is_built else "failed"
-            print(f"panad: {self.name} {what}, crate {self.at} of {self.count} ({took} min)", file=sys.stderr, flush=True)
+            took, what = minutes(time.monotonic() - build.begun), "is proved" if is_built else "failed"
+            print(f"panad: {build.name} {what}, crate {self.done} of {self.count} ({took} min)", file=sys.stderr, flush=True)
 
     def clear(self):
         if self.is_terminal:
             print(f"\r{'':{self.width}}\r", end="", file=sys.stderr, flush=True)
 
 
-def lines_of(pipe, wait):
-    """The lines that come from the pipe; `wait` is called each second in which none comes."""
-    held = b""
-    while True:
-        if not select.select([pipe], [], [], 1)[0]:
-            wait()
-            continue
-        more = os.read(pipe.fileno(), 65536)
-        if not more:
-            break
-        *whole, held = (held + more).split(b"\n")
-        yield from (it.decode(errors="replace") for it in whole)
-    if held:
-        yield held.decode(errors="replace")
+class Builds:
+    """The crates that are being built."""
+
+    def __init__(self, rt, waiting):
+        self.rt, self.waiting, self.running = rt, waiting, selectors.DefaultSelector()
+
+    def all(self):
+        return [it.fileobj for it in self.running.get_map().values()]
+
+    def begin(self):
+        """Begins as many as may run; one that nothing can run beside gets all processors, the others a part."""
+        while len(self.all()) < AT_A_TIME and (ready := self.waiting.ready()):
+            count = os.cpu_count()
+            jobs = count if len(ready) == 1 and not self.all() else max(count // AT_A_TIME, 1)
+            self.waiting.begin(ready[0])
+            kept_work.mark(TOP / "crates" / ready[0] / "out")
+            self.running.register(Build(self.rt, ready[0], jobs), selectors.EVENT_READ)
+
+    def ended(self):
+        """Waits a second at most, and returns those that have ended."""
+        ended = [it.fileobj for it, _ in self.running.select(1) if not it.fileobj.read()]
+        for it in ended:
+            self.running.unregister(it)
+        return ended
+
+    def stop(self):
+        for it in self.all():
+            it.stop()
 
 
-def build(rt, name, log, progress):
-    """Whether rt proves and builds the crate. Only what is proved is built."""
-    words = ["run", "--", "run"] if name == PROGRAM else ["lib"]
-    how = {"stdin": subprocess.DEVNULL, "stdout": subprocess.PIPE, "stderr": subprocess.STDOUT}
-    print(f"== {name}", file=log, flush=True)
-    with subprocess.Popen([rt, *words], cwd=TOP / "crates" / name, **how) as ran:
-        try:
-            for line in lines_of(ran.stdout, progress.show):
-                print(line, file=log, flush=True)
-                progress.read(line)
-                progress.show()
-        except KeyboardInterrupt:
-            ran.terminate()
-            raise
-    return ran.returncode == 0
+def build(builds, log, progress):
+    """Builds all; whether each was built. Where one isn't, the others are stopped."""
+    builds.begin()
+    while builds.all():
+        for it in builds.ended():
+            is_built = it.is_built()
+            it.write_to(log)
+            progress.end(it, is_built)
+            if not is_built:
+                return False
+            builds.waiting.end(it.name)
+        builds.begin()
+        progress.show(builds.all())
+    return True
 
 
 def main(rt, log):
     for it in (signal.SIGTERM, signal.SIGHUP):
         signal.signal(it, signal.default_int_handler)
     names = with_those_below([PROGRAM])
-    outs = {it: TOP / "crates" / it / "out" for it in names}
-    progress = Progress(len(names))
+    outs = [TOP / "crates" / it / "out" for it in names]
+    progress, builds = Progress(len(names)), Builds(rt, Waiting(names))
     try:
-        kept_work.each(kept_work.unpack, outs.values())
+        kept_work.each(kept_work.unpack, outs)
         with open(log, "w", encoding="utf-8") as log:
-            for name in names:
-                progress.begin(name)
-                kept_work.mark(outs[name])
-                is_built = build(rt, name, log, progress)
-                progress.end(is_built)
-                if not is_built:
-                    return 1
-        kept_work.each(kept_work.pack, outs.values())
+            is_built = build(builds, log, progress)
+        if is_built:
+            kept_work.each(kept_work.pack, outs)
+        return 0 if is_built else 1
     except KeyboardInterrupt:
         progress.clear()
         print("panad: interrupted; what is proved is kept, and the next start goes on from there", file=sys.stderr)
         return INTERRUPTED
     finally:
+        builds.stop()
         progress.clear()
-    return 0
 
 
 if __name__ == "__main__":
