@@ -3,9 +3,9 @@
 
 usage: prove.py RT LOG
 RT is the kit's command rt; all that it prints goes to the file LOG. Two crates are proved at a time where neither
-uses the other. On standard error stands how far it is: on a terminal one line that changes, elsewhere a line for each
-crate. Each crate's proofs are kept in its folder out/, so a run that is interrupted is gone on with by the next. Once
-the program is built they are packed (kept_work.py).
+uses the other, each in a copy of the repository of its own (lanes.py). On standard error stands how far it is: on a
+terminal one line that changes, elsewhere a line for each crate. Each crate's proofs are kept in its folder out/, so a
+run that is interrupted is gone on with by the next. Once the program is built they are packed (kept_work.py).
 """
 from __future__ import annotations
 
@@ -19,10 +19,10 @@ import time
 from pathlib import Path
 
 import kept_work
+from lanes import Lanes
 
 TOP = Path(__file__).resolve().parent.parent
 PROGRAM = "panad"
-AT_A_TIME = 2
 WIDEST = 79
 INTERRUPTED = 130
 COUNTED = re.compile(r"so far: (\d+) of (\d+) functions checked")
@@ -81,12 +81,12 @@ class Waiting:
 class Build:
     """A crate that rt proves and builds, in a process of its own. Only what is proved is built."""
 
-    def __init__(self, rt, name, jobs):
-        self.name, self.begun, self.functions, self.lines, self.held = name, time.monotonic(), "", [], b""
-        words = [f"--jobs={jobs}"] if jobs else []
-        words = ["run", *words, "--", "run"] if name == PROGRAM else ["lib", *words]
+    def __init__(self, rt, name, jobs, top):
+        self.name, self.top, self.begun = name, top, time.monotonic()
+        self.functions, self.lines, self.held = "", [], b""
+        words = ["run", f"--jobs={jobs}", "--", "run"] if name == PROGRAM else ["lib", f"--jobs={jobs}"]
         how = {"stdin": subprocess.DEVNULL, "stdout": subprocess.PIPE, "stderr": subprocess.STDOUT}
-        self.process = subprocess.Popen([rt, *words], cwd=TOP / "crates" / name, **how)
+        self.process = subprocess.Popen([rt, *words], cwd=top / "crates" / name, **how)
 
     def fileno(self):
         return self.process.stdout.fileno()
@@ -147,28 +147,29 @@ class Progress:
 
 
 class Builds:
-    """The crates that are being built."""
+    """The crates that are being built, each in a lane of its own."""
 
-    def __init__(self, rt, waiting):
-        self.rt, self.waiting, self.running = rt, waiting, selectors.DefaultSelector()
+    def __init__(self, rt, waiting, lanes):
+        self.rt, self.waiting, self.lanes, self.running = rt, waiting, lanes, selectors.DefaultSelector()
 
     def all(self):
         return [it.fileobj for it in self.running.get_map().values()]
 
     def begin(self):
         """Begins as many as may run; one that nothing can run beside gets all processors, the others a part."""
-        while len(self.all()) < AT_A_TIME and (ready := self.waiting.ready()):
+        while (free := self.lanes.free()) and (ready := self.waiting.ready()):
             count = os.cpu_count()
-            jobs = count if len(ready) == 1 and not self.all() else max(count // AT_A_TIME, 1)
+            jobs = count if len(ready) == 1 and not self.all() else max(count // self.lanes.count(), 1)
             self.waiting.begin(ready[0])
-            kept_work.mark(TOP / "crates" / ready[0] / "out")
-            self.running.register(Build(self.rt, ready[0], jobs), selectors.EVENT_READ)
+            self.lanes.take(free[0], ready[0])
+            self.running.register(Build(self.rt, ready[0], jobs, free[0]), selectors.EVENT_READ)
 
     def ended(self):
         """Waits a second at most, and returns those that have ended."""
         ended = [it.fileobj for it, _ in self.running.select(1) if not it.fileobj.read()]
         for it in ended:
             self.running.unregister(it)
+            self.lanes.give_back(it.top, it.name)
         return ended
 
     def stop(self):
@@ -197,9 +198,11 @@ def main(rt, log):
         signal.signal(it, signal.default_int_handler)
     names = with_those_below([PROGRAM])
     outs = [TOP / "crates" / it / "out" for it in names]
-    progress, builds = Progress(len(names)), Builds(rt, Waiting(names))
+    lanes = Lanes(TOP, names)
+    progress, builds = Progress(len(names)), Builds(rt, Waiting(names), lanes)
     try:
         kept_work.each(kept_work.unpack, outs)
+        lanes.open()
         with open(log, "w", encoding="utf-8") as log:
             is_built = build(builds, log, progress)
         if is_built:
@@ -211,6 +214,7 @@ def main(rt, log):
         return INTERRUPTED
     finally:
         builds.stop()
+        lanes.close()
         progress.clear()
 
 

@@ -1,0 +1,71 @@
+"""Copies of the repository in which crates are proved at the same time: rt works in one crate of a copy at a time.
+
+The first lane is the repository itself. The other has the sources alone, and of each crate that is built in either the
+folder out/, by links to its files. Where there is no room for it, one lane has to do.
+"""
+from __future__ import annotations
+
+import os
+import shutil
+
+import kept_work
+
+PARTS = ("src", "specs", "proofs")
+FILES = ("crates.txt", "HANDLES")
+FOLDER = ".build/lane"
+
+
+class Lanes:
+    """Folders of the repository, each for one crate at a time."""
+
+    def __init__(self, top, names):
+        self.top, self.names, self.other, self.busy = top, names, top / FOLDER, set()
+        self.tops = [top]
+
+    def open(self):
+        """Makes the second lane."""
+        try:
+            shutil.rmtree(self.other, ignore_errors=True)
+            for name in self.names:
+                for part in PARTS:
+                    at = self.top / "crates" / name / part
+                    if at.is_dir():
+                        shutil.copytree(at, self.other / "crates" / name / part)
+                self.share(name, self.top, self.other)
+            for it in FILES:
+                if (self.top / it).is_file():
+                    shutil.copy2(self.top / it, self.other / it)
+        except OSError:
+            self.close()
+            return
+        self.tops.append(self.other)
+
+    def close(self):
+        self.tops = [self.top]
+        shutil.rmtree(self.other, ignore_errors=True)
+
+    def count(self):
+        return len(self.tops)
+
+    def free(self):
+        return [it for it in self.tops if it not in self.busy]
+
+    def take(self, top, name):
+        """Has a crate built in a lane."""
+        self.busy.add(top)
+        kept_work.mark(top / "crates" / name / "out")
+
+    def give_back(self, top, name):
+        """Gives the others what was built of the crate in a lane."""
+        self.busy.remove(top)
+        for it in self.tops:
+            if it != top:
+                self.share(name, top, it)
+
+    @staticmethod
+    def share(name, source, target):
+        """Gives one lane what another has built of a crate."""
+        built, out = source / "crates" / name / "out", target / "crates" / name / "out"
+        if built.is_dir():
+            shutil.rmtree(out, ignore_errors=True)
+            shutil.copytree(built, out, symlinks=True, copy_function=os.link)
