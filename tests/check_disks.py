@@ -16,7 +16,7 @@ import subprocess
 import sys
 from pathlib import Path
 
-from journals import BOARD, EDIT, SECONDS, Session, answers, differs, entries, line, made, pages, ran, reported, run_checks
+from journals import BOARD, EDIT, SECONDS, Session, answers, asked, differs, entries, line, made, pages, ran, reported, run_checks
 
 DISKS = 20
 HERE = Path(__file__).resolve().parent
@@ -55,15 +55,30 @@ def failed_syncs(program, room):
         file.unlink(missing_ok=True)
         made(program, file, 1)
         found = {**os.environ, "LD_PRELOAD": str(library), "FAILING_SYNC": str(number)}
-        status, out, err = ran(program, "run", "--journal", file, given=EDIT * 4, env=found)
+        answered, ended = asked(program, file, *[EDIT] * 4, env=found)
         done = max(0, (number - 3) // 2) if number < 11 else 4
         text = "journal failed" if number > 2 else f"journal {file}: the device failed"
-        wanted = (1, f"panad: {text}\n".encode()) if number < 11 else (0, b"")
-        answered = b"".join(b'{"done":%d}\n' % (at + 3) for at in range(done))
-        yield from differs((status, out, err), (wanted[0], answered, wanted[1]))
+        yield from differs(answered, [{"done": at + 3} for at in range(done)])
+        yield from differs(ended, reported(b"", text) if number < 11 else (0, b"", b""))
         there = entries(program, file, 9, None)
         if len(there) not in (2 + done, 3 + done):
             yield f"sync {number}: {done} were acknowledged behind the first 2, {len(there)} are there"
+
+
+def failed_syncs_of_groups(program, room):
+    """Lines that come together take two syncs, and where one of them fails none of these lines is answered."""
+    library, file = room / "failing.so", room / "journal"
+    subprocess.run(["cc", "-shared", "-fPIC", "-o", library, HERE / "failing_sync.c"], check=True, timeout=SECONDS)
+    answered = b"".join(b'{"done":%d}\n' % at for at in range(3, 11))
+    for number in (3, 4, 5):
+        file.unlink(missing_ok=True)
+        made(program, file, 1)
+        found = {**os.environ, "LD_PRELOAD": str(library), "FAILING_SYNC": str(number)}
+        ended = ran(program, "run", "--journal", file, given=EDIT * 8, env=found)
+        yield from differs(ended, reported(b"", "journal failed") if number < 5 else (0, answered, b""))
+        there = len(entries(program, file, 10, None))
+        if there not in ((2, 10) if number < 5 else (10,)):
+            yield f"sync {number}: {there} are there, of 2 and a group of 8"
 
 
 def forgetful_disk(program, room):
@@ -75,8 +90,8 @@ def forgetful_disk(program, room):
         made(program, file, 1)
         shutil.copyfile(file, disk_has)
         loaded = {**os.environ, "LD_PRELOAD": str(library), "FORGETFUL_DISK": str(disk_has)}
-        found = ran(program, "run", "--journal", file, given=EDIT * 4, env={**loaded, "FAILING_SYNC": str(number)})
-        first = [json.loads(text)["done"] for text in found[1].splitlines()]
+        found, _ = asked(program, file, *[EDIT] * 4, env={**loaded, "FAILING_SYNC": str(number)})
+        first = [it["done"] for it in found]
         status, out, err = ran(program, "run", "--journal", file, given=EDIT * 3, env=loaded)
         later = [json.loads(text)["done"] for text in out.splitlines()]
         if status or len(later) != 3:
@@ -161,7 +176,7 @@ def acknowledged_after_a_failed_disk(program, room, store, mounted):
     return json.loads(out.splitlines()[-1])["done"], len(entries(program, kept, 500, None))
 
 
-CHECKS = (full_disk, failed_syncs, forgetful_disk, failed_disk)
+CHECKS = (full_disk, failed_syncs, failed_syncs_of_groups, forgetful_disk, failed_disk)
 
 
 if __name__ == "__main__":

@@ -24,6 +24,8 @@ from journals import BOARD, EDIT, REGISTER, Session, answers, differs, each_comm
 
 NOBODY = 65534
 MOST_LINES = 3000
+# How many entries may be kept together, of which no answer was read.
+MOST_WAITING = 1000
 JOURNALS = 4
 
 
@@ -90,7 +92,7 @@ def killed_again_and_again(program, room, count):
             file.unlink()
             there = len(answers(program, file, REGISTER))
         least = load_until_killed(program, file, there + 1, random.uniform(0.005, 0.25))
-        status, out, err = ran(program, "run", "--journal", file, given=pages(least + 100))
+        status, out, err = ran(program, "run", "--journal", file, given=pages(least + MOST_WAITING + 100))
         found = [entry for page in out.splitlines() for entry in json.loads(page)["entries"]]
         torn += b"cut off" in err
         if status or len(found) < least or [entry["number"] for entry in found] != [*range(1, len(found) + 1)]:
@@ -193,6 +195,23 @@ def dumps(it, room):
         status, out, err = ran(it.program, "load", dump)
         if (status, out, err.count(b"\n")) != (1, b"", 1) and at not in named:
             yield f"bit {bit} of byte {at}: {status} {out!r:.80} {err!r:.80}"
+
+
+def groups(it, room):
+    """Lines that come together are one line of the file, cut to whose lengths a journal has all of them, or is reported."""
+    file, cut = room / "journal", room / "cut"
+    answers(it.program, file, REGISTER + EDIT * 2)
+    first = file.read_bytes().split(b"\0")[0]
+    answers(it.program, file, EDIT * 3)
+    whole = file.read_bytes().split(b"\0")[0]
+    yield from differs([len(json.loads(text)["entries"]) for text in whole.splitlines()], [0, 3, 3])
+    for length in it.lengths(whole):
+        cut.write_bytes(whole[:length])
+        if length >= len(first) and length in (len(first), len(whole)):
+            yield from differs(len(entries(it.program, cut, 6)), 6 if length == len(whole) else 3)
+        elif len(first) < length < len(whole) - 1:
+            # Without its newline alone the last line is whole, as that of a dump.
+            yield from differs(ran(it.program, "load", cut)[0], 1)
 
 
 def sealed_lines(it, room):
@@ -334,7 +353,7 @@ def same_answers(it, room):
     print(f"  {compared} sessions compared")
 
 
-CHECKS = (new_file, sealed_lines, other_files, permissions, second_process, starts_at_once)
+CHECKS = (new_file, groups, sealed_lines, other_files, permissions, second_process, starts_at_once)
 CHECKS += (names_that_lead_elsewhere, bytes_behind, cuts, flips, dumps, kills, tables, same_answers)
 
 

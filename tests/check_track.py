@@ -6,11 +6,18 @@ The last line is 'N passed, M failed'.
 """
 from __future__ import annotations
 
+import hashlib
 import json
+import os
+import resource
 import shutil
+import signal
+import stat
+import struct
 import subprocess
 import sys
 import tempfile
+import time
 from pathlib import Path
 
 SECONDS = 60
@@ -174,6 +181,171 @@ def journal_in_a_folder(room):
     yield from differs(tuple(it["path"] for it in room.asked(do="holdings", device="laptop")["holdings"]), "plan.txt")
 
 
+def ignored(room):
+    """What a folder's .panadignore or --ignore lists is passed over: it is never registered, and no folder of it is entered."""
+    (room.laptop / ".panadignore").write_text("# made anew\n*.tmp\n!keep.tmp\n/build/\n")
+    (room.laptop / "build").mkdir()
+    (room.laptop / "src" / "build").mkdir(parents=True)
+    for name in ("a.tmp", "build/a.txt", "keep.tmp", "plan.txt", "src/a.tmp", "src/build/b.txt", "src/old.bak"):
+        (room.laptop / name).write_text(name)
+    (room.usb / "plan.txt").write_text("plan.txt")
+    (room.usb / "a.tmp").write_text("a.tmp")
+    yield from differs(room.track("--ignore", "*.bak"), 0, ALL_WELL, "")
+    for device, wanted in (("laptop", [".panadignore", "keep.tmp", "plan.txt", "src/build/b.txt"]), ("usb", ["a.tmp", "plan.txt"])):
+        held = room.asked(do="holdings", device=device)["holdings"]
+        yield from differs((sorted(it["path"] for it in held),), wanted)
+
+
+def ignored_later(room):
+    """A copy whose path is ignored from now on stays as it is: changed, renamed or removed, nothing of it is reported or shown."""
+    for folder in (room.laptop, room.usb):
+        for name in ("a.log", "b.log", "c.log", "plan.txt"):
+            (folder / name).write_text(name)
+    room.track()
+    (room.laptop / "plan.txt").write_text("two")
+    (room.usb / "a.log").write_text("two")
+    room.track()
+    held = room.asked(do="holdings", device="usb")
+    for folder in (room.laptop, room.usb):
+        (folder / ".panadignore").write_text("*.log\n")
+    (room.usb / "a.log").write_text("three")
+    (room.usb / "b.log").unlink()
+    (room.usb / "c.log").rename(room.usb / "c.txt")
+    yield from differs(room.track(), 1, table(("obsolete", "usb:plan.txt", "take laptop:plan.txt")), "")
+    after = room.asked(do="holdings", device="usb")["holdings"]
+    yield from differs(([it for it in after if it in held["holdings"]],), held["holdings"])
+    yield from differs((sorted(it["path"] for it in after if it not in held["holdings"]),), [".panadignore", "c.txt"])
+    (room.usb / "plan.txt").write_text("two")
+    yield from differs(room.track(), 0, ALL_WELL, "")
+
+
+def last_pattern(room):
+    """Patterns of the command line decide before those of the file, the last of all first."""
+    (room.laptop / ".panadignore").write_text("*.txt\n")
+    for name in ("a.txt", "b.txt"):
+        (room.laptop / name).write_text(name)
+    room.track("--ignore", "!*.txt", "--ignore", "b.txt")
+    held = room.asked(do="holdings", device="laptop")["holdings"]
+    yield from differs((sorted(it["path"] for it in held),), [".panadignore", "a.txt"])
+
+
+def wrong_patterns(room):
+    """Of a folder whose .panadignore can't be taken nothing is reported; one that is a link or a folder is none."""
+    (room.laptop / "plan.txt").write_text("one")
+    (room.usb / "plan.txt").write_text("one")
+    rows = (
+        (b"\n" * 10_001, "panad: laptop: .panadignore has more than 10,000 lines, nothing reported\n"),
+        (b"a\n" + b"x" * 4_097, "panad: laptop: .panadignore, line 2 is longer than 4,096 bytes, nothing reported\n"),
+        (b"x" * 1_048_577, "panad: laptop: cannot read .panadignore, nothing reported\n"),
+    )
+    for text, message in rows:
+        (room.laptop / ".panadignore").write_bytes(text)
+        yield from differs(room.track(), 3, ALL_WELL, message)
+        yield from differs((room.asked(do="holdings", device="laptop"),), {"holdings": []})
+    (room.laptop / ".panadignore").unlink()
+    (room.laptop / "patterns").write_text("plan.txt\n")
+    (room.laptop / ".panadignore").symlink_to("patterns")
+    (room.usb / ".panadignore").mkdir()
+    yield from differs(room.track(), 0, ALL_WELL, "")
+    held = room.asked(do="holdings", device="laptop")["holdings"]
+    yield from differs((sorted(it["path"] for it in held),), ["patterns", "plan.txt"])
+
+
+HEAD = b"panad sums 1\n"
+RECORD = 80
+SETTLED = 2.1
+
+
+def records(room):
+    """The records of the sums beside the journal, by device and inode."""
+    bytes_of = Path(f"{room.journal}.sums").read_bytes()
+    body = bytes_of[len(HEAD) : -32]
+    if not bytes_of.startswith(HEAD) or hashlib.sha256(bytes_of[:-32]).digest() != bytes_of[-32:] or len(body) % RECORD:
+        raise ValueError("the sums aren't whole")
+    return {body[at : at + 16]: body[at : at + RECORD] for at in range(0, len(body), RECORD)}
+
+
+def write_records(room, found):
+    text = HEAD + b"".join(found)
+    Path(f"{room.journal}.sums").write_bytes(text + hashlib.sha256(text).digest())
+
+
+def record_of(file, content):
+    """The record that the file has to have, with the sum of this content."""
+    it = file.stat()
+    times = (divmod(ns, 10**9) for ns in (it.st_mtime_ns, it.st_ctime_ns))
+    return struct.pack(">QQQ", it.st_dev, it.st_ino, it.st_size) + b"".join(struct.pack(">qI", *time) for time in times) + hashlib.sha256(content).digest()
+
+
+def kept_sums(room):
+    """The sums of files that have stood for two seconds are kept, of each as it is; those of others aren't."""
+    (room.laptop / "plan.txt").write_text("one")
+    (room.usb / "plan.txt").write_text("one")
+    room.track()
+    yield from differs((records(room),), {})
+    time.sleep(SETTLED)
+    (room.usb / "new.txt").write_text("new")
+    room.track()
+    wanted = [record_of(folder / "plan.txt", b"one") for folder in (room.laptop, room.usb)]
+    yield from differs((sorted(records(room).values()),), sorted(wanted))
+    if stat.S_IMODE(Path(f"{room.journal}.sums").stat().st_mode) != 0o600:
+        yield "others may read the sums"
+
+
+def unread(room):
+    """A file whose signature has a sum isn't read, but with --read-all; sums that aren't whole are passed over."""
+    for folder in (room.laptop, room.usb):
+        (folder / "plan.txt").write_text("one")
+    time.sleep(SETTLED)
+    yield from differs(room.track(), 0, ALL_WELL, "")
+    obsolete = table(("obsolete", "usb:plan.txt", "take laptop:plan.txt"))
+    # Sums that no run has written show whether the file was read.
+    forged = [record_of(room.laptop / "plan.txt", b"two"), record_of(room.usb / "plan.txt", b"one")]
+    write_records(room, forged)
+    whole = Path(f"{room.journal}.sums").read_bytes()
+    for at in (0, len(HEAD), len(HEAD) + 20, len(HEAD) + 60, len(whole) - 1):
+        Path(f"{room.journal}.sums").write_bytes(whole[:at] + bytes([whole[at] ^ 1]) + whole[at + 1 :])
+        yield from differs(room.track(), 0, ALL_WELL, "")
+    for text in (b"", whole[:-1], whole + b"\0", whole[:-32]):
+        Path(f"{room.journal}.sums").write_bytes(text)
+        yield from differs(room.track(), 0, ALL_WELL, "")
+    Path(f"{room.journal}.sums").unlink()
+    yield from differs(room.track(), 0, ALL_WELL, "")
+    write_records(room, forged)
+    yield from differs(room.track("--read-all"), 0, ALL_WELL, "")
+    write_records(room, forged)
+    yield from differs(room.track(), 1, obsolete, "")
+
+
+def changed_unseen(room):
+    """A file that was changed, with its size and the time of its change put back, is read; so is one that another has replaced."""
+    for folder in (room.laptop, room.usb):
+        (folder / "plan.txt").write_text("one")
+    time.sleep(SETTLED)
+    room.track()
+    obsolete = table(("obsolete", "usb:plan.txt", "take laptop:plan.txt"))
+    before = (room.laptop / "plan.txt").stat()
+    (room.laptop / "plan.txt").write_text("two")
+    os.utime(room.laptop / "plan.txt", ns=(before.st_atime_ns, before.st_mtime_ns))
+    yield from differs(room.track(), 1, obsolete, "")
+    shutil.copy2(room.laptop / "plan.txt", room.usb / "other")
+    (room.usb / "other").rename(room.usb / "plan.txt")
+    yield from differs(room.track(), 0, ALL_WELL, "")
+
+
+def no_files(room):
+    """Links, pipes and sockets are passed over, and the sums beside a journal in a folder with it."""
+    (room.laptop / "plan.txt").write_text("one")
+    os.mkfifo(room.laptop / "pipe")
+    (room.laptop / "link").symlink_to("plan.txt")
+    (room.laptop / "nowhere").symlink_to("gone")
+    room.journal = room.laptop / "files.journal"
+    time.sleep(SETTLED)
+    for _ in range(2):
+        yield from differs(room.track(), 0, ALL_WELL, "panad: laptop: the journal is passed over\n")
+    yield from differs((sorted(it["path"] for it in room.asked(do="holdings", device="laptop")["holdings"]),), ["plan.txt"])
+
+
 def wrong_words(room):
     """Two roots of a device, a root within another, a file as a root, and a word that is none are refused before anything is made."""
     (room.laptop / "inner").mkdir()
@@ -190,6 +362,48 @@ def wrong_words(room):
         status, out, err = room.track(roots=roots)
         if (status, out) != (2, "") or not err.startswith("error: ") or room.journal.exists():
             yield f"{roots}: status {status}, {out!r}, {err!r}, journal {room.journal.exists()}"
+
+
+KILLS = 20
+
+
+def interrupted(room):
+    """A run that is killed at any moment leaves a journal that the next one goes on with, and in the end all is tracked once."""
+    for number in range(400):
+        for folder in (room.laptop, room.usb):
+            (folder / f"{number:03}").write_text(str(number))
+    roots = f"laptop={room.laptop}", f"usb={room.usb}"
+    words = [room.program, "track", "--quiet", "--journal", str(room.journal), *roots]
+    for number in range(KILLS):
+        started = subprocess.Popen(words, stdin=subprocess.DEVNULL, stdout=subprocess.DEVNULL, stderr=subprocess.PIPE)
+        time.sleep(0.004 * number)
+        started.send_signal((signal.SIGKILL, signal.SIGTERM, signal.SIGINT)[number % 3])
+        _, error = started.communicate(timeout=SECONDS)
+        if started.returncode not in (0, -signal.SIGKILL, -signal.SIGTERM, -signal.SIGINT) or (error and b"behind the last entry were cut off" not in error):
+            yield f"after {number} times 4 ms it ended with {started.returncode} and {error!r}"
+    if room.track("--quiet")[0] != 0:
+        yield "the last run finds something obsolete or in conflict"
+    families = room.asked(do="families")["families"]
+    yield from differs((len(families), {it["copies"] for it in families}), 400, {2})
+
+
+def full_disk(room):
+    """Where the journal's disk is full a report isn't kept, and the status is 3; with room again nothing is lost."""
+    for number in range(100):
+        (room.laptop / f"{number:03}").write_text(str(number))
+    room.track("--quiet")
+    size = room.journal.stat().st_size
+    for number in range(100):
+        (room.usb / f"{number:03}").write_text(str(number))
+    limited = lambda: (signal.signal(signal.SIGXFSZ, signal.SIG_IGN), resource.setrlimit(resource.RLIMIT_FSIZE, (size + 4000, resource.RLIM_INFINITY)))
+    roots = f"laptop={room.laptop}", f"usb={room.usb}"
+    words = [room.program, "track", "--quiet", "--journal", str(room.journal), *roots]
+    done = subprocess.run(words, stdin=subprocess.DEVNULL, capture_output=True, timeout=SECONDS, preexec_fn=limited, restore_signals=False)
+    yield from differs((done.returncode, done.stderr), 3, b"panad: usb: report not kept, nothing more reported\n")
+    held = room.asked(do="holdings", device="laptop")["holdings"]
+    yield from differs((len(held),), 100)
+    yield from differs(room.track("--quiet"), 0, "", "")
+    yield from differs((len(room.asked(do="holdings", device="usb")["holdings"]),), 100)
 
 
 def many_copies(room):
@@ -215,7 +429,17 @@ CHECKS = (
     removed,
     forms,
     journal_in_a_folder,
+    ignored,
+    ignored_later,
+    last_pattern,
+    wrong_patterns,
+    kept_sums,
+    unread,
+    changed_unseen,
+    no_files,
     wrong_words,
+    interrupted,
+    full_disk,
     many_copies,
 )
 

@@ -1,6 +1,7 @@
 """A program that keeps a journal, run for a test, and what it answers."""
 from __future__ import annotations
 
+import contextlib
 import json
 import shutil
 import subprocess
@@ -57,9 +58,20 @@ def reported(out, text):
 
 
 def made(program, file, edits):
-    """Makes a journal with a copy and its edits, and returns its entries."""
-    answers(program, file, REGISTER + EDIT * edits)
+    """Makes a journal with a copy and its edits, a line for each, and returns its entries."""
+    asked(program, file, REGISTER, *[EDIT] * edits)
     return entries(program, file, edits + 1)
+
+
+def asked(program, file, *lines, **how):
+    """What a run answers that is asked line by line, up to the first that has no answer, and how it ended."""
+    session, found = Session(program, file, **how), []
+    with contextlib.suppress(BrokenPipeError):
+        for it in lines:
+            found.append(session.ask(it))
+            if found[-1] == "nothing":
+                break
+    return [it for it in found if it != "nothing"], session.end()
 
 
 def each_command(program, name):

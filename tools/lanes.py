@@ -11,7 +11,7 @@ import shutil
 import kept_work
 
 PARTS = ("src", "specs", "proofs")
-FILES = ("crates.txt", "HANDLES")
+LISTED, HANDLES = "crates.txt", "HANDLES"
 FOLDER = ".build/lane"
 
 
@@ -32,9 +32,12 @@ class Lanes:
                     if at.is_dir():
                         shutil.copytree(at, self.other / "crates" / name / part)
                 self.share(name, self.top, self.other)
-            for it in FILES:
-                if (self.top / it).is_file():
-                    shutil.copy2(self.top / it, self.other / it)
+            # rt wants a folder of each crate that is listed.
+            lines = (self.top / LISTED).read_text(encoding="utf-8").splitlines(keepends=True)
+            listed = "".join(it for it in lines if it.partition(":")[0].strip() in self.names)
+            (self.other / LISTED).write_text(listed, encoding="utf-8")
+            if (self.top / HANDLES).is_file():
+                shutil.copy2(self.top / HANDLES, self.other / HANDLES)
         except OSError:
             self.close()
             return

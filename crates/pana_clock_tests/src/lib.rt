@@ -1,4 +1,5 @@
-//! The tests of the clocks, families, names, places, kept lines and desks: what no clause says of their calls.
+//! The tests of the clocks, families, names, places, patterns, sums, kept lines and desks: what no clause says of their
+//! calls.
 #![tactic(auto)]
 
 #[cfg(test)]
@@ -10,6 +11,8 @@ mod family;
 #[cfg(test)]
 mod id;
 #[cfg(test)]
+mod ignore;
+#[cfg(test)]
 mod log;
 #[cfg(test)]
 mod notation;
@@ -17,6 +20,8 @@ mod notation;
 mod rel;
 #[cfg(test)]
 mod stamp;
+#[cfg(test)]
+mod sums;
 #[cfg(test)]
 mod text;
 #[cfg(test)]

@@ -5,19 +5,15 @@ use Rattle.pana_hall.specs.declared.call.Call.{Call}
 use Rattle.pana_wire.specs.declared.answer.Answer.{Answer}
 use Rattle.pana_wire.specs.declared.serving.ServeFault.{ServeFault}
 use Rattle.pana_wire.specs.declared.serving.ServeFault.TheVariants.{NoAnswer}
-use Rattle.pana_wire.specs.Session.{BreaksIn, EndsBy, lines_come}
+use Rattle.pana_wire.specs.Session.{FailsNext, EndsBy}
 use Rattle.pana_commands.specs.Never.{IsNever}
 
-never_breaks : {S : Type 0} (step : S → List ℕ → Call → Answer → S → Type 0) (old : S) (lines : List (List ℕ)) (output : List ℕ) (new : S)
-    → BreaksIn step IsNever NoAnswer old lines output new → ⊥
-never_breaks step old [] output new breaks = breaks
-never_breaks step old (line ∷ lines) output new breaks =
-    elim breaks [
-      | inl here ↦ here.2
-      | inr later ↦ let (mid, text, rest, steps, answered, breaks_in, whole) = later in never_breaks step mid lines rest new breaks_in
-    ]
+never_fails : {S : Type 0} (old : S) (lines : List (List ℕ)) (new : S) → FailsNext IsNever old lines new → ⊥
+never_fails old [] new fails = fails
+never_fails old (line ∷ lines) new (m, says, never) = never
 
 pub always_answered : {S : Type 0} (step : S → List ℕ → Call → Answer → S → Type 0) (fault : ServeFault) (met : Bool) (old : S) (input output : List ℕ) (new : S)
     → EndsBy step IsNever fault met old input output new → fault ≢ NoAnswer
 always_answered step fault met old input output new ends spent =
-    never_breaks step old (lines_come met input) output new (subst (λ f. EndsBy step IsNever f met old input output new) spent ends)
+    let (made, failed, written) = subst (λ f. EndsBy step IsNever f met old input output new) spent ends in
+    never_fails made.last made.others new failed

@@ -4,15 +4,16 @@ use Rattle.pana_hall.specs.declared.call.Call.{Call}
 use Rattle.pana_hall.specs.declared.call.Call.TheVariants as questions
 use Rattle.pana_hall.specs.declared.call.Query.TheVariants as queries
 use Rattle.std.specs.Prelude.{None}
-use Rattle.pana_scan.specs.Listing.{Contents}
-use Rattle.pana_scan.specs.declared.scan_fault.ScanFault.{ScanFault}
+use Rattle.std.proofs.Common.{inl, inr}
 use Rattle.pana_track.specs.Calls.{Asked, Makes}
+use Rattle.pana_track.specs.declared.read_fault.ReadFault.{ReadFault}
+use Rattle.pana_track.specs.declared.reading.TrackedListing.{TrackedListing}
 use Rattle.pana_track.specs.inner.Pages.{Stops}
 use Rattle.pana_track.proofs.Reported.{makes_on}
 use Rattle.pana_wire.specs.declared.answer.Answer.{Answer}
 use Rattle.pana_commands.specs.declared.folder_end.FolderEnd.{FolderEnd}
 use Rattle.pana_commands.specs.declared.tracking.ReadFolder.{ReadFolder}
-use Rattle.pana_commands.specs.Track.{IsCut, TracksAll, TracksFolder}
+use Rattle.pana_commands.specs.Track.{HasNoAnswer, IsCut, TracksAll, TracksFolder}
 
 module _ {S : Type 0} (step : S → List ℕ → Call → Answer → S → Type 0) (fails : S → List ℕ → Call → S → Type 0) where
   -- calls, and then such a call behind them
@@ -28,9 +29,9 @@ module _ {S : Type 0} (step : S → List ℕ → Call → Answer → S → Type 
 
   module _ (may_be_empty : Bool) where
     -- a folder's calls
-    calls_of : (given : Result Contents ScanFault) (old mid : S) (end : FolderEnd) → TracksFolder step may_be_empty given old mid end → (made : List Asked) × Makes step old made mid
+    calls_of : (given : Result TrackedListing ReadFault) (old mid : S) (end : FolderEnd) → TracksFolder step may_be_empty given old mid end → (made : List Asked) × Makes step old made mid
     calls_of (Err fault) old mid end is = ([], is.0)
-    calls_of (Ok listing) old mid end is = (is.2.made, is.2.calls)
+    calls_of (Ok found) old mid end is = (is.2.made, is.2.calls)
 
     -- those of all folders
     all_calls : (folders : List ReadFolder) (old mid : S) (lines : List ℕ) (has_fault : Bool) → TracksAll step may_be_empty folders old mid lines has_fault → (made : List Asked) × Makes step old made mid
@@ -40,10 +41,24 @@ module _ {S : Type 0} (step : S → List ℕ → Call → Answer → S → Type 
         let more = all_calls folders is.0 mid is.2 is.3 is.5 in
         (first.0 ++ more.0, makes_on step old is.0 mid first.0 more.0 first.1 more.1)
 
-    pub cut_behind : (given : Result Contents ScanFault) (old mid new : S) (end : FolderEnd) → TracksFolder step may_be_empty given old mid end → IsCut step fails mid new → IsCut step fails old new
+    pub cut_behind : (given : Result TrackedListing ReadFault) (old mid new : S) (end : FolderEnd) → TracksFolder step may_be_empty given old mid end → IsCut step fails mid new → IsCut step fails old new
     cut_behind given old mid new end is cut = let first = calls_of given old mid end is in cut_on old mid new first.0 first.1 cut
 
-    pub cut_after_all : (by : List ℕ) (folders : List ReadFolder) (old mid new : S) (lines : List ℕ) (has_fault : Bool) → TracksAll step may_be_empty folders old mid lines has_fault → Stops step fails by mid new → IsCut step fails old new
-    cut_after_all by folders old mid new lines has_fault is stops =
+    pub cut_after_all : (settles : S → S → Type 0) (breaks_off : S → S → Type 0) (by : List ℕ) (folders : List ReadFolder) (old mid kept new : S) (lines : List ℕ) (has_fault : Bool)
+        → TracksAll step may_be_empty folders old mid lines has_fault → settles mid kept → Stops step fails by kept new → HasNoAnswer step fails settles breaks_off old new
+    cut_after_all settles breaks_off by folders old mid kept new lines has_fault is settled stops =
         let all = all_calls folders old mid lines has_fault is in
-        cut_on old mid new all.0 all.1 (record { made = stops.made; mid = stops.mid; by = by; call = questions.Query (queries.Status None stops.from); calls = stops.calls; failed = stops.failed })
+        inr (inr (record {
+          made = all.0;
+          mid = mid;
+          kept = kept;
+          calls = all.1;
+          keeps = settled;
+          cut = record { made = stops.made; mid = stops.mid; by = by; call = questions.Query (queries.Status None stops.from); calls = stops.calls; failed = stops.failed };
+        }))
+
+    pub unkept_after_all : (settles : S → S → Type 0) (breaks_off : S → S → Type 0) (folders : List ReadFolder) (old mid new : S) (lines : List ℕ) (has_fault : Bool)
+        → TracksAll step may_be_empty folders old mid lines has_fault → breaks_off mid new → HasNoAnswer step fails settles breaks_off old new
+    unkept_after_all settles breaks_off folders old mid new lines has_fault is broken =
+        let all = all_calls folders old mid lines has_fault is in
+        inr (inl (record { made = all.0; mid = mid; calls = all.1; broken = broken }))

@@ -8,7 +8,7 @@ use Rattle.std.proofs.lemmas.Bool.{ne_eqb}
 use Rattle.pana_journal.specs.declared.entry.Entry.{Entry}
 use Rattle.pana_wire.specs.Lines.{lines_of, texts}
 use Rattle.pana_hall.specs.Load.{IsLoadFault, shown_load_fault}
-use Rattle.pana_hall.specs.declared.loading.LoadFault.{LoadFault}
+use Rattle.pana_hall.specs.declared.load_fault.LoadFault.{LoadFault}
 use Rattle.pana_commands.specs.declared.printout.Printout.{Printout}
 use Rattle.pana_wire.specs.declared.line_fault.LineFault.{LineFault}
 use Rattle.pana_wire.specs.DumpLines.{HasFault}

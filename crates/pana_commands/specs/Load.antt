@@ -3,7 +3,7 @@ use Rattle.std.specs.Prelude.{◌⊎◌, ℕ, List}
 use Rattle.pana_journal.specs.declared.entry.Entry.{Entry}
 use Rattle.pana_hall.specs.Accepted.{IsAccepted}
 use Rattle.pana_hall.specs.Load.{StopsAt, shown_load_fault}
-use Rattle.pana_hall.specs.declared.loading.LoadFault.{LoadFault}
+use Rattle.pana_hall.specs.declared.load_fault.LoadFault.{LoadFault}
 use Rattle.pana_wire.specs.declared.line_fault.LineFault.{LineFault}
 use Rattle.pana_wire.specs.DumpLines.{Say, HasFault}
 use Rattle.pana_wire.specs.Lines.{lines_of}

@@ -1,21 +1,24 @@
 -- What `track` answers, once folders are read.
-use Rattle.std.specs.Prelude.{◌≡◌, ℕ, ◌==◌, not, ◌||◌, Bool, true, false, List, [], ◌∷◌, ◌++◌, codes, decimal, if◌then◌else◌, string_bytes, Option, Some, None, is_some, Result, Ok, Err}
+use Rattle.std.specs.Prelude.{◌≡◌, ◌⊎◌, ℕ, ◌==◌, not, ◌&&◌, ◌||◌, Bool, true, false, List, [], ◌∷◌, ◌++◌, codes, decimal, if◌then◌else◌, string_bytes, Option, Some, None, is_some, filter, Result, Ok, Err}
+use Rattle.std.specs.List.{list_all}
+use Rattle.std.specs.Str.{bytes_eq}
 use Rattle.pana_hall.specs.Cause.{shown_cause}
 use Rattle.pana_hall.specs.declared.call.Call.{Call}
 use Rattle.pana_hall.specs.declared.cause.Cause.{Cause}
 use Rattle.pana_hall.specs.declared.reply.Reply.TheVariants.{Status}
 use Rattle.pana_hall.specs.declared.standing.StatusRow.{StatusRow}
 use Rattle.pana_report.specs.Status.{status_text}
-use Rattle.pana_scan.specs.Fault.{shown_scan_fault}
-use Rattle.pana_scan.specs.Listing.{Contents}
+use Rattle.pana_ignore.specs.Pattern.{is_ignored}
 use Rattle.pana_scan.specs.Scan.{unreadable_count}
-use Rattle.pana_scan.specs.declared.scan_fault.ScanFault.{ScanFault}
 use Rattle.pana_track.specs.Calls.{Asked, Makes}
+use Rattle.pana_track.specs.Fault.{shown_read_fault}
 use Rattle.pana_track.specs.Status.{HasAll}
 use Rattle.pana_track.specs.Tally.{nothing}
 use Rattle.pana_track.specs.Track.{Tracks}
 use Rattle.pana_track.specs.declared.fault.TrackFault.{TrackFault}
 use Rattle.pana_track.specs.declared.fault.TrackFault.TheVariants.{Empty, NotKept, OutOfMemory}
+use Rattle.pana_track.specs.declared.read_fault.ReadFault.{ReadFault}
+use Rattle.pana_track.specs.declared.reading.TrackedListing.{TrackedListing}
 use Rattle.pana_track.specs.declared.tally.TrackTally.{TrackTally}
 use Rattle.pana_wire.specs.Reply.{reply_text}
 use Rattle.pana_wire.specs.declared.answer.Answer.{Answer}
@@ -59,7 +62,7 @@ tracked_lines device tally =
 
 -- the lines about a folder
 abbrev pub end_lines : List ℕ → FolderEnd → List ℕ
-end_lines device (Unread fault) = codes "panad: " ++ (device ++ (codes ": " ++ (shown_scan_fault fault ++ (codes ", nothing reported\n"))))
+end_lines device (Unread fault) = codes "panad: " ++ (device ++ (codes ": " ++ (shown_read_fault fault ++ (codes ", nothing reported\n"))))
 end_lines device (Tracked tally) = tracked_lines device tally
 
 -- whether something wasn't reported that should have been
@@ -71,10 +74,10 @@ is_fault (Tracked tally) = is_some tally.stop || not (tally.calls.refused == 0)
 
 module _ {S : Type 0} (step : S → List ℕ → Call → Answer → S → Type 0) (may_be_empty : Bool) where
   -- what becomes of what reading a folder gave: of a fault nothing is reported, and a listing is tracked
-  abbrev pub TracksFolder : Result Contents ScanFault → S → S → FolderEnd → Type 0
+  abbrev pub TracksFolder : Result TrackedListing ReadFault → S → S → FolderEnd → Type 0
   TracksFolder (Err fault) old new end = (new ≡ old) × (end ≡ Unread fault)
-  TracksFolder (Ok listing) old new end = (calls : TrackTally) × (stop : Option TrackFault) × Tracks step may_be_empty listing old new nothing calls stop
-      × (end ≡ Tracked (record { calls = calls; stop = stop; skipped = listing.skipped; unreadable = unreadable_count listing.rows }))
+  TracksFolder (Ok found) old new end = (calls : TrackTally) × (stop : Option TrackFault) × Tracks step may_be_empty found old new nothing calls stop
+      × (end ≡ Tracked (record { calls = calls; stop = stop; skipped = found.listing.skipped; unreadable = unreadable_count found.listing.rows }))
 
   -- the folders are tracked, one after another: the lines about them, and whether something wasn't reported of one
   abbrev pub TracksAll : List ReadFolder → S → S → List ℕ → Bool → Type 0
@@ -84,6 +87,18 @@ module _ {S : Type 0} (step : S → List ℕ → Call → Answer → S → Type 
       × (lines ≡ end_lines folder.device end ++ more) × (has_fault ≡ is_fault end || is_more)
 
 -- ---- what is printed
+
+-- whether a row is shown, by what was read of a device's folder: not where the copy is on that device and its path is ignored
+abbrev pub shows_by : StatusRow → List ℕ → Result TrackedListing ReadFault → Bool
+shows_by row device (Err fault) = true
+shows_by row device (Ok found) = not (bytes_eq device row.place.device && is_ignored found.patterns row.place.path false)
+
+abbrev pub shows : StatusRow → ReadFolder → Bool
+shows row folder = shows_by row folder.device folder.given
+
+-- the rows that all folders show
+abbrev pub shown_of : List ReadFolder → List StatusRow → List StatusRow
+shown_of folders rows = filter (λ row. list_all (shows row) folders) rows
 
 -- the copies that are obsolete or in conflict: as a table, or as the line that answers a question for them, or not at all
 abbrev pub shown_rows : StatusForm → List StatusRow → List ℕ
@@ -98,15 +113,18 @@ status_by true rows = 3
 status_by false [] = 0
 status_by false (row ∷ rows) = 1
 
--- what is answered: the folders are tracked, and then all copies that are obsolete or in conflict are asked for and shown
-pub record AnswersTrack {S : Type 0} (step : S → List ℕ → Call → Answer → S → Type 0) (may_be_empty : Bool) (form : StatusForm) (by : List ℕ) (folders : List ReadFolder) (old new : S) (answer : Printout) : Type 0 where
+-- what is answered: the folders are tracked, what was reported is kept, and then all copies that are obsolete or in conflict are asked
+-- for, and those whose paths aren't ignored are shown
+pub record AnswersTrack {S : Type 0} (step : S → List ℕ → Call → Answer → S → Type 0) (settles : S → S → Type 0) (may_be_empty : Bool) (form : StatusForm) (by : List ℕ) (folders : List ReadFolder) (old new : S) (answer : Printout) : Type 0 where
   pub mid : S
+  pub kept : S
   pub rows : List StatusRow
   pub has_fault : Bool
   pub tracks : TracksAll step may_be_empty folders old mid (string_bytes answer.err) has_fault
-  pub has : HasAll step by mid new rows
-  pub out : string_bytes answer.out ≡ shown_rows form rows
-  pub status : answer.status ≡ status_by has_fault rows
+  pub keeps : settles mid kept
+  pub has : HasAll step by kept new rows
+  pub out : string_bytes answer.out ≡ shown_rows form (shown_of folders rows)
+  pub status : answer.status ≡ status_by has_fault (shown_of folders rows)
 
 -- some calls were made, and the next has no answer
 pub record IsCut {S : Type 0} (step : S → List ℕ → Call → Answer → S → Type 0) (fails : S → List ℕ → Call → S → Type 0) (old new : S) : Type 0 where
@@ -116,6 +134,26 @@ pub record IsCut {S : Type 0} (step : S → List ℕ → Call → Answer → S �
   pub call : Call
   pub calls : Makes step old made mid
   pub failed : fails mid by call new
+
+-- some calls were made, and what they have made can't be kept
+pub record IsUnkept {S : Type 0} (step : S → List ℕ → Call → Answer → S → Type 0) (breaks_off : S → S → Type 0) (old new : S) : Type 0 where
+  pub made : List Asked
+  pub mid : S
+  pub calls : Makes step old made mid
+  pub broken : breaks_off mid new
+
+-- some calls were made, what they have made is kept, and a call after that has no answer
+pub record IsCutLate {S : Type 0} (step : S → List ℕ → Call → Answer → S → Type 0) (fails : S → List ℕ → Call → S → Type 0) (settles : S → S → Type 0) (old new : S) : Type 0 where
+  pub made : List Asked
+  pub mid : S
+  pub kept : S
+  pub calls : Makes step old made mid
+  pub keeps : settles mid kept
+  pub cut : IsCut step fails kept new
+
+-- why there is no answer
+abbrev pub HasNoAnswer : {S : Type 0} → (S → List ℕ → Call → Answer → S → Type 0) → (S → List ℕ → Call → S → Type 0) → (S → S → Type 0) → (S → S → Type 0) → S → S → Type 0
+HasNoAnswer step fails settles breaks_off old new = IsCut step fails old new ⊎ IsUnkept step breaks_off old new ⊎ IsCutLate step fails settles old new
 
 abbrev pub shown_untracked : Untracked → List ℕ
 shown_untracked untracked.NoAnswer = codes "journal failed"

@@ -3,15 +3,14 @@ ghost use Rattle.std.specs.Prelude.{◌≡◌, ◌++◌, [], codes, IfOk, string
 ghost use Rattle.pana_commands.specs.Track.{counted_line, end_lines, is_fault, refused_line, stop_line, tracked_lines};
 
 use pana_copies::DeviceName;
-use pana_scan::ScanFault;
-use pana_track::{TrackFault, TrackTally};
+use pana_track::{ReadFault, TrackFault, TrackTally};
 use std::alloc::{AllocError, Global};
 
 /// What became of a folder that was to be tracked.
 #[derive(Clone, Copy, Debug, PartialEq, Eq)]
 pub enum FolderEnd {
     /// It couldn't be read, so nothing was reported.
-    Unread(ScanFault),
+    Unread(ReadFault),
     Tracked(FolderTally),
 }
 

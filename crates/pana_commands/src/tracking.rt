@@ -1,10 +1,11 @@
 //! Folders that are tracked: what was noticed in each is reported to a session, and then the copies that are obsolete or in conflict
 //! are shown.
 ghost use Rattle.std.specs.Prelude.{◌≡◌, IfOk, IsErrOf, OnErr, string_bytes};
+ghost use Rattle.std.specs.List.{list_all};
 ghost use Rattle.pana_scan.specs.Scan.{unreadable_count};
 ghost use Rattle.pana_track.specs.Calls.{Makes};
 ghost use Rattle.pana_track.specs.Status.{HasAll};
-ghost use Rattle.pana_commands.specs.Track.{AnswersTrack, IsCut, TracksAll, TracksFolder, shown_rows, status_by};
+ghost use Rattle.pana_commands.specs.Track.{AnswersTrack, HasNoAnswer, IsCut, TracksAll, TracksFolder, shown_of, shown_rows, shows, status_by};
 
 use crate::folder_end::{FolderEnd, FolderTally};
 use crate::printout::Printout;
@@ -13,8 +14,8 @@ use pana_copies::DeviceName;
 use pana_hall::{Reply, StatusRow};
 use pana_list::PlainList;
 use pana_report::print_status;
-use pana_scan::{Found, FoundRow, Listing, ScanFault};
-use pana_track::{TrackTally, status_of, track};
+use pana_scan::{Found, FoundRow};
+use pana_track::{ReadFault, TrackTally, TrackedListing, status_of, track};
 use pana_wire::{NoAnswer, Session, encode};
 use std::alloc::{AllocError, Global};
 
@@ -22,7 +23,7 @@ use std::alloc::{AllocError, Global};
 #[derive(Debug, Drop)]
 pub struct ReadFolder {
     pub device: DeviceName,
-    pub given: Result<Listing, ScanFault>,
+    pub given: Result<TrackedListing, ReadFault>,
 }
 
 /// How the copies that are obsolete or in conflict are shown.
@@ -48,23 +49,23 @@ fn unreadable_count(rows: &[FoundRow]) -> u64
 fn track_folder<S: Session>(
     alloc: Global,
     session: &mut S,
-    given: &Result<Listing, ScanFault>,
+    given: &Result<TrackedListing, ReadFault>,
     may_be_empty: bool,
 ) -> Result<FolderEnd, NoAnswer>
     ensures ok { IfOk result (TracksFolder S.step may_be_empty given.now session.old session.new) }
     ensures fails { OnErr result (IsCut S.step S.fails session.old session.new) }
 {
-    let listing = match given {
-        Ok(listing) => listing,
+    let found = match given {
+        Ok(found) => found,
         Err(fault) => return Ok(FolderEnd::Unread(*fault)),
     };
     let mut calls = TrackTally::new();
-    let stop = track(alloc, session, listing, may_be_empty, &mut calls)?;
+    let stop = track(alloc, session, found, may_be_empty, &mut calls)?;
     Ok(FolderEnd::Tracked(FolderTally {
         calls,
         stop,
-        skipped: listing.skipped(),
-        unreadable: unreadable_count(listing.rows()),
+        skipped: found.listing.skipped(),
+        unreadable: unreadable_count(found.listing.rows()),
     }))
 }
 
@@ -101,6 +102,44 @@ fn track_all<S: Session>(
     })
 }
 
+/// Whether the row is shown, by what was read of a folder: not where its copy is on the folder's device and its path is
+/// ignored.
+fn shows(folder: &ReadFolder, row: &StatusRow) -> bool
+    ensures { result ≡ shows row.now folder.now }
+{
+    match &folder.given {
+        Ok(found) => {
+            folder.device != row.place.device
+                || !found.patterns.is_ignored(row.place.path.as_str(), false)
+        }
+        Err(_) => true,
+    }
+}
+
+/// Whether all folders show the row.
+fn is_shown(folders: &[ReadFolder], row: &StatusRow) -> bool
+    ensures { result ≡ list_all (shows row.now) folders.now }
+{
+    folders.iter().all(|folder| shows(folder, row))
+}
+
+/// The rows that all folders show.
+fn shown_of(
+    alloc: Global,
+    folders: &[ReadFolder],
+    rows: PlainList<StatusRow>,
+) -> Result<PlainList<StatusRow>, AllocError>
+    ensures { IfOk result (λ shown. shown ≡ shown_of folders.now rows) }
+{
+    let mut shown = Vec::new(alloc);
+    for row in rows.into_vec() {
+        if is_shown(folders, &row) {
+            shown.push(row)?;
+        }
+    }
+    Ok(PlainList::from_vec(shown))
+}
+
 /// The copies that are obsolete or in conflict, as they are to be shown.
 fn shown_rows(
     alloc: Global,
@@ -134,15 +173,16 @@ fn status_by(has_fault: bool, rows: &[StatusRow]) -> u8
     }
 }
 
-/// Tracks folders that were read, one after another, by a session: of each it reports what was noticed, and then it asks, as the
+/// Tracks folders that were read, one after another, by a session: of each it reports what was noticed, and the session keeps
+/// that; then it asks, as the
 /// device `by`, for all copies that are obsolete or in conflict, and shows them. For standard error there is a line about each
 /// folder that couldn't be read or whose reports were refused or broken off, and about what was passed over. The status is 3
 /// where something wasn't reported, else 1 where a copy is obsolete or in conflict, else 0.
 ///
 /// # Errors
 ///
-/// `NoAnswer` where a call has none; `OutOfMemory` where an allocation failed for what is printed. What was reported before
-/// stays.
+/// `NoAnswer` where a call has none, or what was reported can't be kept; `OutOfMemory` where an allocation failed for what is
+/// printed. What was kept before stays.
 pub fn track_on<S: Session>(
     alloc: Global,
     session: &mut S,
@@ -151,15 +191,17 @@ pub fn track_on<S: Session>(
     may_be_empty: bool,
     form: StatusForm,
 ) -> Result<Printout, Untracked>
-    ensures ok { IfOk result (AnswersTrack S.step may_be_empty form by.now folders.now session.old session.new) }
-    ensures fails { IsErrOf result Untracked.NoAnswer → IsCut S.step S.fails session.old session.new }
+    ensures ok { IfOk result (AnswersTrack S.step S.settles may_be_empty form by.now folders.now session.old session.new) }
+    ensures fails { IsErrOf result Untracked.NoAnswer → HasNoAnswer S.step S.fails S.settles S.breaks_off session.old session.new }
 {
     let Notes { lines, has_fault } = track_all(alloc, session, folders, may_be_empty)?;
+    session.settle()?;
     let Some(rows) = status_of(alloc, session, by)? else {
         return Err(Untracked::OutOfMemory);
     };
-    let status = status_by(has_fault, rows.as_slice());
-    let out = shown_rows(alloc, form, rows)?;
+    let shown = shown_of(alloc, folders, rows)?;
+    let status = status_by(has_fault, shown.as_slice());
+    let out = shown_rows(alloc, form, shown)?;
     Ok(Printout {
         out,
         err: lines,

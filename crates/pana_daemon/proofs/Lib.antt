@@ -11,5 +11,7 @@ pub mod Posts
 pub mod Attended
 pub mod Tasks
 pub mod Doors
+pub mod Folders
+pub mod Counted
 pub mod Named
 pub mod Commanded

@@ -1,11 +1,11 @@
 -- The folders of roots that words name.
-use Rattle.std.proofs.Common.{◌≡◌, ℕ, List, [], ◌∷◌, map, refl, ap, sym, ◌∙◌}
+use Rattle.std.proofs.Common.{◌≡◌, ℕ, List, [], ◌∷◌, map, refl, ap, ◌∙◌}
 use Rattle.pana_daemon.specs.declared.root.Root.{Root}
-use Rattle.pana_daemon.specs.Root.{FolderView, device_of, folder_at, folder_of, folders_named, folders_of}
+use Rattle.pana_daemon.specs.Root.{RootView, device_of, folder_of, folders_named, folders_of}
 
 module _ {K : Type 0} (disks : K) where
-  abbrev with_names : List ℕ → List ℕ → List ℕ × FolderView K
-  with_names device folder = (device, record { device = device; name = folder; disks = disks })
+  abbrev with_names : List ℕ → List ℕ → RootView K
+  with_names device folder = record { device = device; name = folder; disks = disks }
 
   -- the roots are those of the words where their devices and their folders are
   pub named_so : (roots : List Root) (words : List (List ℕ)) → map (λ root. root.device) roots ≡ map device_of words → map (λ root. root.folder.now) roots ≡ map folder_of words
@@ -19,4 +19,4 @@ module _ {K : Type 0} (disks : K) where
       let more_devices : map (λ r. r.device) roots ≡ map device_of words = cc (devices) in
       let more_folders : map (λ r. r.folder.now) roots ≡ map folder_of words = cc (folders) in
       ap (λ (d : List ℕ). with_names d root.folder.now ∷ folders_of disks roots) device ∙ ap (λ (f : List ℕ). with_names (device_of word) f ∷ folders_of disks roots) folder
-      ∙ ap (λ (rest : List (List ℕ × FolderView K)). with_names (device_of word) (folder_of word) ∷ rest) (named_so roots words more_devices more_folders)
+      ∙ ap (λ (rest : List (RootView K)). with_names (device_of word) (folder_of word) ∷ rest) (named_so roots words more_devices more_folders)

@@ -9,7 +9,7 @@ use Rattle.pana_wire.specs.declared.tap.Tap.{Tap}
 use Rattle.pana_wire.specs.declared.serving.Served.{Served}
 use Rattle.pana_wire.specs.declared.serving.ServeFault.{ServeFault}
 use Rattle.pana_wire.specs.declared.serving.ServeFault.TheVariants.{Read, Write, OutOfMemory, NoAnswer as Unanswered, Turns}
-use Rattle.pana_wire.specs.Session.{AnswersSaid, AnswersLine, AnswersLines, BreaksAt, BreaksIn, EndsBy, Serves, Stops, NeverBegins, lines_come}
+use Rattle.pana_wire.specs.Session.{AnswersSaid, AnswersLine, AnswersLines, LosesNext, FailsNext, MayCallNext, BreaksIn, EndsBy, Serves, Stops, NeverBegins, lines_come}
 use Rattle.pana_wire.specs.Lines.{lines_of}
 use Rattle.pana_wire.specs.Timely.{IsTimely}
 use Rattle.pana_turn.specs.Passes.{AddsCall, IsSamePass}
@@ -50,17 +50,25 @@ module _ {S : Type 0} (step : S → List ℕ → Call → Answer → S → Type 
   lines_grow old new [] output steps a = grows_same old new a.1
   lines_grow old new (line ∷ lines) output steps (mid, text, rest, first, others, one, more, is, sum) = grows_on old mid new (line_grows old mid line text first one) (lines_grow mid new lines rest others more)
 
-  break_grows : (fault : ServeFault) (old new : PassView S) (line output : List ℕ) → BreaksAt (MakesCall step fails) (GetsNone step fails) fault old line output new → GrowsTo old new
-  break_grows Read old new line output b = absurd b
-  break_grows Write old new line output (text, rest, steps, a, is) = line_grows old new line text steps a
-  break_grows OutOfMemory old new line output (m, answer, says, made, none) = call_grows old new m.by m.call (Ok answer) made
-  break_grows Unanswered old new line output (m, says, none, nothing) = none_grows old new m.by m.call none
-  break_grows Turns old new line output b = absurd b
+  loses_grows : (old new : PassView S) (lines : List (List ℕ)) → LosesNext (MakesCall step fails) old lines new → GrowsTo old new
+  loses_grows old new [] p = absurd p
+  loses_grows old new (line ∷ lines) (m, answer, says, made) = call_grows old new m.by m.call (Ok answer) made
+
+  fails_grows : (old new : PassView S) (lines : List (List ℕ)) → FailsNext (GetsNone step fails) old lines new → GrowsTo old new
+  fails_grows old new [] p = absurd p
+  fails_grows old new (line ∷ lines) (m, says, none) = none_grows old new m.by m.call none
+
+  may_grow : (old new : PassView S) (lines : List (List ℕ)) → MayCallNext (MakesCall step fails) (GetsNone step fails) old lines new → GrowsTo old new
+  may_grow old new lines (inl same) = grows_same old new same
+  may_grow old new lines (inr (inl lost)) = loses_grows old new lines lost
+  may_grow old new lines (inr (inr failed)) = fails_grows old new lines failed
 
   breaks_grow : (fault : ServeFault) (old new : PassView S) (lines : List (List ℕ)) (output : List ℕ) → BreaksIn (MakesCall step fails) (GetsNone step fails) fault old lines output new → GrowsTo old new
-  breaks_grow fault old new [] output b = absurd b
-  breaks_grow fault old new (line ∷ lines) output (inl b) = break_grows fault old new line output b
-  breaks_grow fault old new (line ∷ lines) output (inr (mid, text, rest, steps, one, more, is)) = grows_on old mid new (line_grows old mid line text steps one) (breaks_grow fault mid new lines rest more)
+  breaks_grow Read old new lines output b = absurd b
+  breaks_grow Write old new lines output (made, calls, written) = grows_on old made.last new (lines_grow old made.last made.first made.text made.steps made.answers) (may_grow made.last new made.others calls)
+  breaks_grow OutOfMemory old new lines output (made, lost, written) = grows_on old made.last new (lines_grow old made.last made.first made.text made.steps made.answers) (loses_grows made.last new made.others lost)
+  breaks_grow Unanswered old new lines output (made, failed, written) = grows_on old made.last new (lines_grow old made.last made.first made.text made.steps made.answers) (fails_grows made.last new made.others failed)
+  breaks_grow Turns old new lines output b = absurd b
 
   ends_grow : (fault : ServeFault) (met : Bool) (old new : PassView S) (input output : List ℕ) → EndsBy (MakesCall step fails) (GetsNone step fails) fault met old input output new → GrowsTo old new
   ends_grow Read met old new input output (steps, a) = lines_grow old new _ output steps a

@@ -7,6 +7,8 @@ pub mod Door
 pub mod Scan
 pub mod Post
 pub mod Pause
+pub mod Newlines
+pub mod Start
 pub mod Root
 pub mod Serve
 pub mod Program

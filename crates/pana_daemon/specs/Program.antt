@@ -25,16 +25,16 @@ loopback = 127 ∷ 0 ∷ 0 ∷ 1 ∷ []
 abbrev pub never : List Entry → List ℕ → Call → List Entry → Type 0
 never old by call new = ⊥
 
-module _ {D Y E R W K : Type 0} (step : D → List ℕ → Call → Answer → D → Type 0) (fails : D → List ℕ → Call → D → Type 0)
+module _ {D Y E R W I K : Type 0} (step : D → List ℕ → Call → Answer → D → Type 0) (fails : D → List ℕ → Call → D → Type 0)
     (binds : Y → List ℕ → ℕ → Bool → Y → Type 0) (opens : Y → List ℕ → Result D E → Y → Type 0)
-    (remaining : R → Option (List ℕ)) (contents : W → Option (List ℕ)) (finds : FolderView K → Option (Result Contents ScanFault) → FolderView K → Type 0) (disks : K) where
+    (remaining : R → Option (List ℕ)) (contents : W → Option (List ℕ)) (inputs : I → Option (List ℕ)) (finds : FolderView K → Option (Result Contents ScanFault) → FolderView K → Type 0) (disks : K) where
   -- the daemon has served a new hall, where no journal is named, or else the store of the journal with this name, and
   -- scanned the folders that the words name; this has gone wrong
   abbrev pub Serves : Option (Bor (List ℕ)) → List (List ℕ) → Option ℕ → Y → Option LateFault → Y → Type 0
   Serves None words wanted old fault new = (new ≡ old)
-      × ((left : List Entry) × (calls : ℕ) × EndsDaemon Replies never remaining contents finds [] wanted (folders_named disks words) left calls fault)
+      × ((left : List Entry) × (calls : ℕ) × EndsDaemon Replies never remaining contents inputs finds [] wanted (folders_named disks words) left calls fault)
   Serves (Some name) words wanted old fault new =
-      (begun : D) × (left : D) × (calls : ℕ) × opens old name.now (Ok begun) new × EndsDaemon step fails remaining contents finds begun wanted (folders_named disks words) left calls fault
+      (begun : D) × (left : D) × (calls : ℕ) × opens old name.now (Ok begun) new × EndsDaemon step fails remaining contents inputs finds begun wanted (folders_named disks words) left calls fault
 
   -- the journal that is named can't be used
   abbrev pub Refuses : Option (Bor (List ℕ)) → Y → E → Y → Type 0

@@ -1,12 +1,15 @@
 -- Roots: words that name a device and its folder, as DEVICE=DIR.
 use Rattle.std.specs.Borrow.{Bor}
-use Rattle.std.specs.Prelude.{◌≡◌, ℕ, Bool, not, leb, ◌==◌, ◌||◌, bytes_eq, map, List, [], ◌∷◌, ◌++◌, length, if◌then◌else◌, Option, Some, None, Result, Ok, Err}
+use Rattle.std.specs.Prelude.{◌≡◌, ℕ, Bool, not, leb, true, false, ◌<◌, ◌==◌, ◌||◌, bytes_eq, map, List, [], ◌∷◌, ◌++◌, length, if◌then◌else◌, Option, Some, None, Result, Ok, Err}
 use Rattle.std.specs.List.{before_first, after_first, list_any}
+use Rattle.atomic_table.specs.Seated.{TableId}
 use Rattle.pana_copies.specs.Names.{is_device}
 use Rattle.pana_scan.specs.Disk.{Tree}
 use Rattle.pana_scan.specs.Listing.{Contents}
 use Rattle.pana_scan.specs.Scan.{IsScanned}
 use Rattle.pana_scan.specs.declared.scan_fault.ScanFault.{ScanFault}
+use Rattle.pana_ticks.specs.declared.count.Count.{Count}
+use Rattle.pana_ticks.specs.Hands.{HasSeen, count, none_yet}
 use Rattle.pana_daemon.specs.declared.root.Root.{Root}
 
 -- the device: what stands before the first `=`
@@ -30,23 +33,60 @@ first_bad devices (word ∷ words) = if is_bad_root devices word then Some word 
 abbrev pub texts : List (Bor (List ℕ)) → List (List ℕ)
 texts words = map (λ word. word.now) words
 
--- a root's folder: its device, its name, and the disks on which it is read
-pub record FolderView (K : Type 0) : Type 0 where
+-- a root: its device, the name of its folder, and the disks on which that is read
+pub record RootView (K : Type 0) : Type 0 where
   pub device : List ℕ
   pub name : List ℕ
   pub disks : K
 
--- the folder of a root
-abbrev pub folder_at : {K : Type 0} → K → Root → FolderView K
+-- the root, on these disks
+abbrev pub folder_at : {K : Type 0} → K → Root → RootView K
 folder_at disks root = record { device = root.device; name = root.folder.now; disks = disks }
 
--- the folders of roots, each with its device, which are read on these disks
-abbrev pub folders_of : {K : Type 0} → K → List Root → List (List ℕ × FolderView K)
-folders_of disks roots = map (λ root. (root.device, folder_at disks root)) roots
+-- the roots, which are read on these disks
+abbrev pub folders_of : {K : Type 0} → K → List Root → List (RootView K)
+folders_of disks roots = map (λ root. folder_at disks root) roots
 
--- the folders that words name
-abbrev pub folders_named : {K : Type 0} → K → List (List ℕ) → List (List ℕ × FolderView K)
-folders_named disks words = map (λ word. (device_of word, record { device = device_of word; name = folder_of word; disks = disks })) words
+-- the roots that words name
+abbrev pub folders_named : {K : Type 0} → K → List (List ℕ) → List (RootView K)
+folders_named disks words = map (λ word. record { device = device_of word; name = folder_of word; disks = disks }) words
+
+-- a root's folder, as it is scanned at the start and after ticks: the ticks, and the start; whether that has come, which
+-- nobody knows before the folder has asked; and what it had seen of the ticks when its last scan began
+pub record FolderView (K : Type 0) : Type 0 where
+  pub root : RootView K
+  pub ticks : TableId
+  pub start : ℕ
+  pub begins : Option Bool
+  pub seen : Count
+
+-- the folder of a root before its first scan
+abbrev pub new_folder : {K : Type 0} → TableId → ℕ → RootView K → FolderView K
+new_folder ticks start root = record { root = root; ticks = ticks; start = start; begins = None; seen = none_yet }
+
+-- the folders of roots, each with its device
+abbrev pub new_folders : {K : Type 0} → TableId → ℕ → List (RootView K) → List (List ℕ × FolderView K)
+new_folders ticks start roots = map (λ root. (root.device, new_folder ticks start root)) roots
+
+-- the folder, which knows whether the start has come, and has seen so many ticks
+abbrev pub knowing : {K : Type 0} → FolderView K → Bool → Count → FolderView K
+knowing folder begins seen = record { root = folder.root; ticks = folder.ticks; start = folder.start; begins = Some begins; seen = seen }
+
+-- a scan begins at the start, and then only once there are more ticks than were seen
+abbrev pub IsMore : Option Bool → Count → Count → Type 0
+IsMore None old new = Unit {0}
+IsMore (Some begins) old new = (begins ≡ true) × (old.ticks < new.ticks) × (old.is_over ≡ false)
+
+-- there is no scan: the start hasn't come and doesn't; or no more ticks come, and all that had come were seen
+abbrev pub IsLast : {K : Type 0} → Option Bool → FolderView K → FolderView K → Type 0
+IsLast None old new = new ≡ knowing old false old.seen
+IsLast (Some true) old new = new ≡ knowing old true (count old.seen.ticks true)
+IsLast (Some false) old new = new ≡ old
+
+-- the folder waits until there is a scan, or there is none
+abbrev pub AwaitsScan : {K : Type 0} → FolderView K → Bool → FolderView K → Type 0
+AwaitsScan old true new = (seen : Count) × (new ≡ knowing old true seen) × IsMore old.begins old.seen seen
+AwaitsScan old false new = IsLast old.begins old new
 
 -- a listing is of this device
 abbrev pub IsListingOf : List ℕ → Result Contents ScanFault → Type 0
@@ -55,14 +95,24 @@ IsListingOf device (Err fault) = Unit {0}
 
 module _ {K D : Type 0} (has : K → D → Type 0) (is_known : Bool) (tree : D → Tree) (has_failed : D → Bool) (entries faults : D → ℕ) where
   -- what was found, or why nothing was: it comes of scanning this folder, by its device, on a disk that was given for this scan
-  pub record IsScanOf (folder : FolderView K) (given : Result Contents ScanFault) : Type 0 where
+  pub record IsScanOf (folder : RootView K) (given : Result Contents ScanFault) : Type 0 where
     pub disk : D
     pub disk_left : D
     pub on : has folder.disks disk
     pub scan : IsScanned is_known (tree disk) folder.name folder.device (has_failed disk_left) (entries disk_left) (faults disk_left) given
     pub device : IsListingOf folder.device given
 
-  -- each scan of a root is one of its folder, and the root stays as it is
+  -- each scan of a root is one of its folder, and none is given but at the start and after further ticks
   abbrev pub ScansRoot : FolderView K → Option (Result Contents ScanFault) → FolderView K → Type 0
-  ScansRoot old None new = new ≡ old
-  ScansRoot old (Some given) new = (new ≡ old) × IsScanOf old given
+  ScansRoot old None new = AwaitsScan old false new
+  ScansRoot old (Some given) new = AwaitsScan old true new × IsScanOf old.root given
+
+-- each folder has asked whether the start has come, and this was the answer; where so many ticks were counted it has seen no
+-- more, and just these where it has seen that no more come
+abbrev pub HaveSeen : {K : Type 0} → Bool → Count → List (List ℕ × FolderView K) → Type 0
+HaveSeen begins counted [] = Unit {0}
+HaveSeen begins counted (folder ∷ folders) = (folder.1.begins ≡ Some begins) × HasSeen counted folder.1.seen × HaveSeen begins counted folders
+
+abbrev pub has_folders : {K : Type 0} → List (List ℕ × FolderView K) → Bool
+has_folders [] = false
+has_folders (folder ∷ folders) = true

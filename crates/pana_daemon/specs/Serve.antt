@@ -1,5 +1,5 @@
 -- What callers leave of the session that all share.
-use Rattle.std.specs.Prelude.{◌≡◌, ℕ, Bool, true, false, List, length, replicate, Option, Some, None, Result}
+use Rattle.std.specs.Prelude.{◌≡◌, ◌&&◌, ℕ, Bool, true, false, List, length, replicate, Option, Some, None, Result}
 use Rattle.std.specs.List.{list_any}
 use Rattle.pana_hall.specs.declared.call.Call.{Call}
 use Rattle.pana_scan.specs.declared.scan_fault.ScanFault.{ScanFault}
@@ -15,8 +15,11 @@ use Rattle.pana_daemon.specs.declared.daemon_fault.LateFault.{LateFault}
 use Rattle.pana_daemon.specs.declared.daemon_fault.LateFault.TheVariants.{NoThreads, Unanswered}
 use Rattle.pana_daemon.specs.declared.post.Post.{Post}
 use Rattle.pana_daemon.specs.Door.{DoorView, GivesDrawn, drawn_by, is_one_closed, limit_of, new_door}
-use Rattle.pana_daemon.specs.Root.{FolderView}
+use Rattle.pana_daemon.specs.Newlines.{IsCounted}
+use Rattle.pana_daemon.specs.Root.{FolderView, HaveSeen, RootView, has_folders, new_folders}
 use Rattle.pana_tickets.specs.Hands.{TicketsView}
+use Rattle.pana_ticks.specs.declared.count.Count.{Count}
+use Rattle.atomic_table.specs.Seated.{TableId}
 
 -- All share one desk, which was opened with the session that they began with: each post was done by a caller with a new
 -- pass of its own, and the desk was closed with their passes. So there is one history of calls: it begins with what each
@@ -42,25 +45,34 @@ fault_of true is_closed = Some Unanswered
 fault_of false true = Some NoThreads
 fault_of false false = None
 
--- The callers have done so, with these posts, whose doors draw tickets. That a call has no answer is reported just where
--- one has none. Where none lacks one, and nothing else is reported, all tickets were drawn.
-pub record EndsDrawn {S R W K : Type 0} (step : S → List ℕ → Call → Answer → S → Type 0) (fails : S → List ℕ → Call → S → Type 0)
-    (remaining : R → Option (List ℕ)) (contents : W → Option (List ℕ)) (finds : FolderView K → Option (Result Contents ScanFault) → FolderView K → Type 0)
+-- The callers have done so, with these posts, whose doors draw tickets and whose folders watch ticks. That a call has no
+-- answer is reported just where one has none. Where none lacks one, and nothing else is reported, all tickets were drawn.
+-- Each tick is a newline of an input, which is counted where the start comes and there are folders. Each folder has seen
+-- whether it comes, and so was scanned where it does; it has seen no more ticks than were counted, and one that ended since
+-- no more come has seen all.
+pub record EndsDrawn {S R W I K : Type 0} (step : S → List ℕ → Call → Answer → S → Type 0) (fails : S → List ℕ → Call → S → Type 0)
+    (remaining : R → Option (List ℕ)) (contents : W → Option (List ℕ)) (inputs : I → Option (List ℕ)) (finds : FolderView K → Option (Result Contents ScanFault) → FolderView K → Type 0)
     (begun : S) (tickets : TicketsView) (posts : List (Post DoorView (FolderView K))) (left : S) (calls : ℕ) (fault : Option LateFault) : Type 0 where
   pub posts_left : List (Post DoorView (FolderView K))
   pub unanswered : Bool
   pub ends : Ends step fails GivesDrawn remaining contents finds begun posts left posts_left calls unanswered
   pub drawn : is_one_closed (doors_in posts_left) ≡ false → drawn_by (doors_in posts_left) ≡ tickets.most
+  pub begins : Bool
+  pub counted : Count
+  pub counts : IsCounted inputs (has_folders (folders_in posts) && begins) counted
+  pub seen : HaveSeen begins counted (folders_in posts_left)
   pub fault_is : fault ≡ fault_of unanswered (is_one_closed (doors_in posts_left))
 
 -- The daemon's callers have done so: 16 that serve connections, each of which draws a ticket, of as many as connections are
--- wanted, and one for each root that scans its folder, by its device.
-pub record EndsDaemon {S R W K : Type 0} (step : S → List ℕ → Call → Answer → S → Type 0) (fails : S → List ℕ → Call → S → Type 0)
-    (remaining : R → Option (List ℕ)) (contents : W → Option (List ℕ)) (finds : FolderView K → Option (Result Contents ScanFault) → FolderView K → Type 0)
-    (begun : S) (wanted : Option ℕ) (folders : List (List ℕ × FolderView K)) (left : S) (calls : ℕ) (fault : Option LateFault) : Type 0 where
+-- wanted, and one for each root that scans its folder, by its device, at the start and after ticks.
+pub record EndsDaemon {S R W I K : Type 0} (step : S → List ℕ → Call → Answer → S → Type 0) (fails : S → List ℕ → Call → S → Type 0)
+    (remaining : R → Option (List ℕ)) (contents : W → Option (List ℕ)) (inputs : I → Option (List ℕ)) (finds : FolderView K → Option (Result Contents ScanFault) → FolderView K → Type 0)
+    (begun : S) (wanted : Option ℕ) (roots : List (RootView K)) (left : S) (calls : ℕ) (fault : Option LateFault) : Type 0 where
   pub tickets : TicketsView
   pub posts : List (Post DoorView (FolderView K))
   pub most : tickets.most ≡ limit_of wanted
   pub workers : doors_in posts ≡ replicate 16 (new_door tickets)
-  pub scanners : folders_in posts ≡ folders
-  pub ends : EndsDrawn step fails remaining contents finds begun tickets posts left calls fault
+  pub ticks : TableId
+  pub start : ℕ
+  pub scanners : folders_in posts ≡ new_folders ticks start roots
+  pub ends : EndsDrawn step fails remaining contents inputs finds begun tickets posts left calls fault

@@ -1,3 +1,5 @@
 pub mod Passes
 pub mod Scan
 pub mod Doors
+pub mod Newlines
+pub mod Folders

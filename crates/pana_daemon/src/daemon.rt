@@ -1,17 +1,22 @@
 //! Sessions and scanners, until both have ended.
 ghost use Rattle.std.specs.Prelude.{◌≡◌, ◌+◌, ◌<◌, ◌≤◌, IfOk, OnOk, length, replicate};
 ghost use Rattle.pana_tickets.specs.Hands.{hand};
+ghost use Rattle.pana_ticks.specs.Hands.{none_yet};
 ghost use Rattle.pana_daemon.specs.Door.{GivesDrawn, new_door};
 ghost use Rattle.pana_daemon.specs.Post.{doors_in, folders_in};
-ghost use Rattle.pana_daemon.specs.Root.{folders_of};
+ghost use Rattle.pana_daemon.specs.inner.Folders.{AreOf};
+ghost use Rattle.pana_daemon.specs.inner.Newlines.{EndsInput};
+ghost use Rattle.pana_daemon.specs.Root.{folders_of, has_folders, new_folders};
 ghost use Rattle.pana_daemon.specs.Serve.{Ends, EndsDaemon, EndsDrawn};
 
 use crate::alarm::Alarm;
 use crate::attending::{Ended, attend};
 use crate::daemon_fault::{DaemonFault, LateFault};
 use crate::disks::Disks;
+use crate::door::Door;
 use crate::folder::Folder;
 use crate::listener::{CountedListener, Listener};
+use crate::newlines::count_newlines;
 use crate::patience::{Patience, PatientReader, PatientWriter};
 use crate::post::Post;
 use crate::root::Root;
@@ -21,8 +26,10 @@ use crate::settling::{late_fault, limit_of, settle};
 use crate::signals::Signals;
 use crate::socket_door::SocketDoor;
 use crate::standard_input::StandardInput;
+use crate::start::Verdict;
 use pana_tickets::{Share, Tickets};
-use pana_wire::Session;
+use pana_ticks::Counter;
+use pana_wire::{Session, Tap};
 use std::alloc::{AllocError, Global};
 use std::io::{BufWriter, Read, Write};
 use std::marker::{Send, Sync};
@@ -39,15 +46,7 @@ const SESSIONS: usize = 16;
 const OTHERS: u32 = 2;
 
 /// The connections of sockets, or the folder of a root.
-type DaemonPost<'a, 'b, T, K> = Post<'a, SocketDoor<'a, T, Alarm<'b>>, RootFolder<'a, T, K>>;
-
-/// What such posts leave.
-type DaemonEnded<'a, 'b, S, T, K> = Ended<
-    'a,
-    S,
-    SocketDoor<'a, T, Alarm<'b>>,
-    RootFolder<'a, T, K>,
->;
+type DaemonPost<'a, T, K> = Post<'a, SocketDoor<'a, T, Alarm<'a>>, RootFolder<'a, T, K>>;
 
 /// How the daemon has ended: the session that all shared, how many calls were made in it, and what has gone wrong.
 #[derive(Drop)]
@@ -69,24 +68,28 @@ fn alarm_of<'a>(
     Alarm::new(rt, &signals.start, closed).map_err(|_| DaemonFault::NoDescriptor)
 }
 
-/// The posts of 16 workers, each with a part of the whole of the tickets, and then those of the roots, in order.
-fn posts_of<'a, 'b, T: Wait + Clock, K: Disks>(
+/// The posts of 16 workers, each with a part of the whole of the tickets, and then those of the roots, in order, each of
+/// which watches the ticks.
+fn posts_of<'a, T: Wait + Clock, K: Disks>(
     alloc: Global,
     threads: &'a T,
     disks: &'a K,
-    alarm: &'a Alarm<'b>,
+    alarm: &'a Alarm<'a>,
     listener: &'a Mutex<CountedListener>,
     patience: Patience,
     signals: &'a Signals,
     tickets: &'a Tickets,
     whole: &mut Share,
+    counter: &mut Counter,
     roots: &'a [Root<'a>],
-) -> Result<Vec<DaemonPost<'a, 'b, T, K>>, AllocError>
+) -> Result<Vec<DaemonPost<'a, T, K>>, AllocError>
     requires few { length roots.now ≤ 8 }
     requires whole { whole.old ≡ record { id = tickets.now.id; hand = hand tickets.now.most 64 0 0 } }
+    requires counter { counter.old.id ≡ signals.now.ticks }
     ensures count { IfOk result (λ posts. length posts.items ≡ 16 + length roots.now) }
     ensures workers { IfOk result (λ posts. doors_in posts.items ≡ replicate 16 (new_door tickets.now)) }
-    ensures scanners { IfOk result (λ posts. folders_in posts.items ≡ folders_of disks.now roots.now) }
+    ensures scanners { IfOk result (λ posts. folders_in posts.items ≡ new_folders signals.now.ticks signals.now.start.all.id (folders_of disks.now roots.now)) }
+    ensures counter { counter.new ≡ counter.old }
     ensures whole { OnOk result (whole.new ≡ record { id = tickets.now.id; hand = hand tickets.now.most 48 0 0 }) }
 {
     let mut posts = Vec::with_capacity(alloc, SESSIONS + roots.len())?;
@@ -100,7 +103,14 @@ fn posts_of<'a, 'b, T: Wait + Clock, K: Disks>(
     for root in roots {
         posts.push_reserved(Post::Folder(
             &root.device,
-            RootFolder::new(alloc, threads, disks, root, signals),
+            RootFolder::new(
+                alloc,
+                threads,
+                disks,
+                root,
+                signals,
+                signals.ticks.watcher(counter),
+            ),
         ));
     }
     Ok(posts)
@@ -119,40 +129,49 @@ fn announce<T: Threads + Wait + Sync>(
     println!(rt; "listening {address}").map_err(|_| DaemonFault::Write)
 }
 
-/// Counts the newlines of standard input until it ends, once all has begun that is to run at once; where there is no root
-/// it doesn't read standard input.
-fn count_newlines<T: Wait>(
-    rt: &HostRuntime,
+/// Counts the newlines of an input until it ends, once all has begun that is to run at once, and returns whether it has;
+/// where there is no root it doesn't read the input.
+fn count_input<'a, I: Read + Drop, T: Wait>(
     threads: &T,
-    signals: &Signals,
-    alarm: &Alarm<'_>,
-    roots: &[Root<'_>],
-) {
-    if !roots.is_empty() && signals.start.wait(threads) {
-        let mut input = StandardInput { rt, threads, alarm };
-        signals.ticks.count(threads, &mut input);
+    signals: &'a Signals,
+    input: I,
+    has_roots: bool,
+    mut counter: Counter,
+) -> (Counter, Option<Verdict<'a>>)
+    requires { counter ≡ record { id = signals.now.ticks; count = none_yet } }
+    ensures { EndsInput I.remaining signals.now.ticks signals.now.start.all.id has_roots result.0 result.1 }
+{
+    if !has_roots {
+        return (counter, None);
     }
+    let verdict = signals.start.ask(threads);
+    if !verdict.begins() {
+        return (counter, Some(verdict));
+    }
+    let mut input = Tap::new(input);
+    count_newlines(threads, &mut input, &signals.ticks, &mut counter);
+    (counter, Some(verdict))
 }
 
 /// Has the posts done, with a session that all share. Where nothing is begun, nothing else is to wait for it.
 fn attend_posts<
     'a,
-    'b,
     S: Session + Send + Drop,
     T: Threads + Wait + Clock + Sync,
-    K: Disks + Sync,
+    D: Door + Send + Drop,
+    F: Folder + Send + Drop,
 >(
     rt: &HostRuntime,
     threads: &T,
     address: &SocketAddr,
     signals: &Signals,
-    alarm: &Alarm<'b>,
-    posts: Vec<DaemonPost<'a, 'b, T, K>>,
+    alarm: &Alarm<'_>,
+    posts: Vec<Post<'a, D, F>>,
     session: S,
-) -> Result<DaemonEnded<'a, 'b, S, T, K>, DaemonFault>
+) -> Result<Ended<'a, S, D, F>, DaemonFault>
     requires some { 0 < length posts.items }
     requires few { length posts.items ≤ 24 }
-    ensures { IfOk result (λ ended. Ends S.step S.fails GivesDrawn ⟦<PatientReader<'a, T, Alarm<'b>> as Read>⟧.remaining ⟦<BufWriter<PatientWriter<'a, T, Alarm<'b>>, Global> as Write>⟧.contents ⟦<RootFolder<'a, T, K> as Folder>⟧.gives session posts.entry.items ended.session ended.posts.items ended.calls ended.unanswered) }
+    ensures { IfOk result (λ ended. Ends S.step S.fails D.gives D.Reader.remaining D.Writer.contents F.gives session posts.entry.items ended.session ended.posts.items ended.calls ended.unanswered) }
 {
     let count = posts.len() as u32 + OTHERS;
     let begin = || announce(rt, threads, address, count);
@@ -163,32 +182,89 @@ fn attend_posts<
     ended
 }
 
-/// Has the posts done, with a session that all share, and says how that has ended.
-fn serve_posts<'a, 'b, S: Session + Send + Drop, T: Threads + Wait + Clock + Sync, K: Disks + Sync>(
-    rt: &HostRuntime,
-    threads: &T,
-    address: &SocketAddr,
-    signals: &Signals,
-    alarm: &Alarm<'b>,
-    tickets: &Tickets,
+/// Has the posts done, with a session that all share, while it counts the newlines of an input.
+fn attend_and_count<
+    'a,
+    I: Read + Send + Drop,
+    S: Session + Send + Drop,
+    T: Threads + Wait + Clock + Sync,
+    D: Door + Send + Drop,
+    F: Folder + Send + Drop,
+>(
+    rt: &'a HostRuntime,
+    threads: &'a T,
+    address: &'a SocketAddr,
+    signals: &'a Signals,
+    alarm: &'a Alarm<'a>,
+    input: I,
+    has_roots: bool,
+    counter: Counter,
+    posts: Vec<Post<'a, D, F>>,
+    session: S,
+) -> Result<(Ended<'a, S, D, F>, Counter, Option<Verdict<'a>>), DaemonFault>
+    requires some { 0 < length posts.items }
+    requires few { length posts.items ≤ 24 }
+    requires counter { counter ≡ record { id = signals.now.ticks; count = none_yet } }
+    ensures ends { IfOk result (λ all. Ends S.step S.fails D.gives D.Reader.remaining D.Writer.contents F.gives session posts.entry.items all.0.session all.0.posts.items all.0.calls all.0.unanswered) }
+    ensures counts { IfOk result (λ all. EndsInput I.remaining signals.now.ticks signals.now.start.all.id has_roots all.1 all.2) }
+{
+    let (ended, (counter, asked)) = thread::join(
+        threads,
+        move ||
+            requires { (length posts.items ≤ 24) × (0 < length posts.items) }
+        { attend_posts(rt, threads, address, signals, alarm, posts, session) },
+        move || -> (Counter, Option<Verdict<'_>>)
+            requires { counter ≡ record { id = signals.now.ticks; count = none_yet } }
+            ensures { EndsInput I.remaining signals.entry.now.ticks signals.entry.now.start.all.id has_roots result.0 result.1 }
+        { count_input(threads, signals, input, has_roots, counter) },
+    );
+    Ok((ended?, counter, asked))
+}
+
+/// Has the posts done, with a session that all share, while it counts the newlines of standard input, and says how that
+/// has ended.
+fn serve_posts<'a, S: Session + Send + Drop, T: Threads + Wait + Clock + Sync, K: Disks + Sync>(
+    rt: &'a HostRuntime,
+    threads: &'a T,
+    address: &'a SocketAddr,
+    signals: &'a Signals,
+    alarm: &'a Alarm<'a>,
+    tickets: &'a Tickets,
     mut whole: Share,
-    posts: Vec<DaemonPost<'a, 'b, T, K>>,
+    counter: Counter,
+    has_roots: bool,
+    posts: Vec<DaemonPost<'a, T, K>>,
     session: S,
 ) -> Result<DaemonEnd<S>, DaemonFault>
     requires few { length posts.items ≤ 24 }
     requires workers { doors_in posts.items ≡ replicate 16 (new_door tickets.now) }
     requires whole { whole ≡ record { id = tickets.now.id; hand = hand tickets.now.most 48 0 0 } }
     requires some { 0 < length posts.items }
-    ensures { IfOk result (λ ended. EndsDrawn S.step S.fails ⟦<PatientReader<'a, T, Alarm<'b>> as Read>⟧.remaining ⟦<BufWriter<PatientWriter<'a, T, Alarm<'b>>, Global> as Write>⟧.contents ⟦<RootFolder<'a, T, K> as Folder>⟧.gives session tickets.now posts.entry.items ended.session ended.calls ended.fault) }
+    requires counter { counter ≡ record { id = signals.now.ticks; count = none_yet } }
+    requires scanners { AreOf signals.now.ticks signals.now.start.all.id (folders_in posts.items) }
+    requires roots { has_roots ≡ has_folders (folders_in posts.items) }
+    ensures { IfOk result (λ ended. EndsDrawn S.step S.fails ⟦<PatientReader<'a, T, Alarm<'a>> as Read>⟧.remaining ⟦<BufWriter<PatientWriter<'a, T, Alarm<'a>>, Global> as Write>⟧.contents ⟦<StandardInput<'a, 'a, T> as Read>⟧.remaining ⟦<RootFolder<'a, T, K> as Folder>⟧.gives session tickets.now posts.entry.items ended.session ended.calls ended.fault) }
 {
-    let ended = attend_posts(rt, threads, address, signals, alarm, posts, session)?;
+    let input = StandardInput { rt, threads, alarm };
+    let (ended, mut counter, asked) = attend_and_count(
+        rt, threads, address, signals, alarm, input, has_roots, counter, posts, session,
+    )?;
     let Ended {
         session,
         posts,
         calls,
         unanswered,
     } = ended;
-    let is_closed = settle(tickets, &mut whole, posts);
+    let verdict = signals.start.decide(threads);
+    verdict.is_that_of(&asked);
+    let is_closed = settle(
+        tickets,
+        &mut whole,
+        &signals.ticks,
+        &mut counter,
+        &verdict,
+        posts,
+    );
     Ok(DaemonEnd {
         session,
         calls,
@@ -218,9 +294,9 @@ pub fn serve<'a, S: Session + Send + Drop, T: Threads + Wait + Clock + Sync, K: 
     session: S,
 ) -> Result<DaemonEnd<S>, DaemonFault>
     requires few { length roots.now ≤ 8 }
-    ensures { IfOk result (λ ended. EndsDaemon S.step S.fails ⟦<PatientReader<'a, T, Alarm<'a>> as Read>⟧.remaining ⟦<BufWriter<PatientWriter<'a, T, Alarm<'a>>, Global> as Write>⟧.contents ⟦<RootFolder<'a, T, K> as Folder>⟧.gives session listener.wanted (folders_of disks.now roots.now) ended.session ended.calls ended.fault) }
+    ensures { IfOk result (λ ended. EndsDaemon S.step S.fails ⟦<PatientReader<'a, T, Alarm<'a>> as Read>⟧.remaining ⟦<BufWriter<PatientWriter<'a, T, Alarm<'a>>, Global> as Write>⟧.contents ⟦<StandardInput<'a, 'a, T> as Read>⟧.remaining ⟦<RootFolder<'a, T, K> as Folder>⟧.gives session listener.wanted (folders_of disks.now roots.now) ended.session ended.calls ended.fault) }
 {
-    let signals = Signals::new(roots.len());
+    let (signals, mut counter) = Signals::new(rt.alloc(), roots.len())?;
     let alarm = alarm_of(rt, &signals, &listener, stays)?;
     let Listener {
         listener,
@@ -239,27 +315,11 @@ pub fn serve<'a, S: Session + Send + Drop, T: Threads + Wait + Clock + Sync, K: 
         &signals,
         &tickets,
         &mut whole,
+        &mut counter,
         &*roots,
     )?;
-    let (signals_seen, alarm_seen, tickets_seen) = (&signals, &alarm, &tickets);
-    let (ended, ()) = thread::join(
-        threads,
-        move ||
-            requires { (length posts.items ≤ 24) × (doors_in posts.items ≡ replicate 16 (new_door tickets_seen.now)) × (whole ≡ record { id = tickets_seen.now.id; hand = hand tickets_seen.now.most 48 0 0 }) × (0 < length posts.items) }
-        {
-            serve_posts(
-                rt,
-                threads,
-                address,
-                signals_seen,
-                alarm_seen,
-                tickets_seen,
-                whole,
-                posts,
-                session,
-            )
-        },
-        move || count_newlines(rt, threads, signals_seen, alarm_seen, roots),
-    );
-    ended
+    let has_roots = !roots.is_empty();
+    serve_posts(
+        rt, threads, address, &signals, &alarm, &tickets, whole, counter, has_roots, posts, session,
+    )
 }

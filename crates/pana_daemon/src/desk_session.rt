@@ -117,4 +117,8 @@ impl<S: Session + Drop, T: Wait, G: Supervisor> Session for DeskSession<'_, S, T
         self.supervisor.after(self.caller, self.calls);
         Ok(answer)
     }
+    /// Does nothing: each call is kept once it is finished.
+    fn settle(&mut self) -> Result<(), NoAnswer> {
+        Ok(())
+    }
 }

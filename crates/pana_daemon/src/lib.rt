@@ -11,6 +11,7 @@ mod disks;
 mod door;
 mod folder;
 mod listener;
+mod newlines;
 mod objects;
 mod patience;
 mod post;
@@ -27,7 +28,6 @@ mod standard_input;
 mod start;
 mod supervisor;
 mod system;
-mod ticks;
 mod working;
 
 pub use crate::attending::{Ended, attend};

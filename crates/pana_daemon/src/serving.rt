@@ -13,6 +13,7 @@ use crate::listener::Listener;
 use crate::patience::{Patience, PatientReader, PatientWriter};
 use crate::root::{RootFault, roots_of};
 use crate::root_folder::RootFolder;
+use crate::standard_input::StandardInput;
 use crate::system::System;
 use pana_hall::Hall;
 use std::alloc::{AllocError, Global};
@@ -75,7 +76,7 @@ pub fn serve_on<'a, Y: System, T: Threads + Wait + Clock + Sync, K: Disks + Sync
     system: &mut Y,
     wishes: Wishes<'a>,
 ) -> Outcome<'a, Y::Refusal>
-    ensures { Comes Y.Store.step Y.Store.fails Y.binds Y.opens ⟦<PatientReader<'a, T, Alarm<'a>> as Read>⟧.remaining ⟦<BufWriter<PatientWriter<'a, T, Alarm<'a>>, Global> as Write>⟧.contents ⟦<RootFolder<'a, T, K> as Folder>⟧.gives disks.now wishes.entry system.old result system.new }
+    ensures { Comes Y.Store.step Y.Store.fails Y.binds Y.opens ⟦<PatientReader<'a, T, Alarm<'a>> as Read>⟧.remaining ⟦<BufWriter<PatientWriter<'a, T, Alarm<'a>>, Global> as Write>⟧.contents ⟦<StandardInput<'a, 'a, T> as Read>⟧.remaining ⟦<RootFolder<'a, T, K> as Folder>⟧.gives disks.now wishes.entry system.old result system.new }
 {
     let roots = match roots_of(rt.alloc(), wishes.roots) {
         Ok(roots) => roots,

@@ -1,7 +1,11 @@
 //! What threads of the daemon wait for.
 
+ghost use Rattle.std.specs.Prelude.{◌≡◌, IfOk};
+ghost use Rattle.pana_ticks.specs.Hands.{none_yet};
+
 use crate::start::Start;
-use crate::ticks::Ticks;
+use pana_ticks::{Counter, Ticks};
+use std::alloc::{AllocError, Global};
 
 /// The newlines of standard input, and the start of sessions, scanners and the count of newlines.
 #[derive(Drop)]
@@ -11,16 +15,17 @@ pub struct Signals {
 }
 
 impl Signals {
-    /// No newline so far, and nothing that has begun: sessions, and with so many roots, where there is one, a scanner for
-    /// each and the count of newlines.
-    pub fn new(roots: usize) -> Signals {
+    /// No newline so far, with what counts them, and nothing that has begun: sessions, and with so many roots, where there
+    /// is one, a scanner for each and the count of newlines. Fails only where memory runs out.
+    pub fn new(alloc: Global, roots: usize) -> Result<(Signals, Counter), AllocError>
+        ensures { IfOk result (λ made. made.1 ≡ record { id = made.0.ticks; count = none_yet }) }
+    {
         let wanted = match roots {
             0 => 1,
             _ => (roots as u64).saturating_add(2),
         };
-        Signals {
-            ticks: Ticks::new(),
-            start: Start::new(wanted),
-        }
+        let (ticks, counter) = Ticks::new(alloc)?;
+        let start = Start::new(wanted);
+        Ok((Signals { ticks, start }, counter))
     }
 }

@@ -1,7 +1,10 @@
 //! What is to run at once.
 
-use std::sync::Wait;
+ghost use Rattle.std.specs.Prelude.{◌≡◌, IfSome};
+
+use std::marker::Model;
 use std::sync::atomic::{AtomicU64, Ordering};
+use std::sync::{OnceLock, OnceToken, Wait};
 use std::time::Duration;
 
 /// For how many naps it is waited for what hasn't begun, and how many milliseconds each has at most.
@@ -18,6 +21,55 @@ const REFUSED: u64 = 1 << 32;
 pub struct Start {
     wanted: u64,
     begun: AtomicU64,
+    /// Whether all have begun, once that was asked.
+    all: OnceLock<bool>,
+}
+
+/// Whether all have begun that were to, as it was answered to one of them; all get the same answer. To contracts it is
+/// which start this is, and the answer.
+#[derive(Drop)]
+pub struct Verdict<'a> {
+    token: OnceToken<'a, bool>,
+    begins: bool,
+}
+
+impl<'a> Model for Verdict<'a> {
+    ghost use Rattle.std.specs.Prelude.{◌≡◌};
+    ghost use Rattle.pana_daemon.specs.Start.{VerdictView};
+
+    ghost Value = { VerdictView };
+
+    ghost view = { λ verdict. record { of = verdict.token.of; begins = verdict.begins } };
+
+    ghost invariant = { λ verdict. verdict.token.value ≡ verdict.begins };
+}
+
+impl<'a> Verdict<'a> {
+    /// Whether all have begun.
+    pub fn begins(&self) -> bool
+        ensures { result ≡ self.now.begins }
+    {
+        self.begins
+    }
+
+    /// Shows that another one has got the same answer. It does nothing.
+    fn agrees(&self, other: &Verdict<'a>)
+        requires { self.now.of ≡ other.now.of }
+        ensures { self.now.begins ≡ other.now.begins }
+    {
+        self.token.agrees(&other.token);
+    }
+
+    /// Shows that one that has asked has got the same answer. It does nothing.
+    pub(crate) fn is_that_of(&self, asked: &Option<Verdict<'a>>)
+        requires { IfSome asked.now (λ one. one.of ≡ self.now.of) }
+        ensures { IfSome asked.now (λ one. one.begins ≡ self.now.begins) }
+    {
+        match asked {
+            Some(one) => one.agrees(self),
+            None => {}
+        }
+    }
 }
 
 impl Start {
@@ -26,7 +78,36 @@ impl Start {
         Start {
             wanted,
             begun: AtomicU64::new(0),
+            all: OnceLock::new(),
         }
+    }
+
+    /// Waits so, and returns the answer that all get.
+    pub fn ask<T: Wait>(&self, threads: &T) -> Verdict<'_>
+        ensures { result.of ≡ self.now.all.id }
+    {
+        let begins = self.wait(threads);
+        self.answer(threads, begins)
+    }
+
+    /// The answer that all get. It waits for none that hasn't begun.
+    pub fn decide<T: Wait>(&self, threads: &T) -> Verdict<'_>
+        ensures { result.of ≡ self.now.all.id }
+    {
+        let begins = self.close(threads);
+        self.answer(threads, begins)
+    }
+
+    /// The answer that all get, which is this one where it is the first.
+    fn answer<T: Wait>(&self, threads: &T, begins: bool) -> Verdict<'_>
+        ensures { result.of ≡ self.now.all.id }
+    {
+        let token = match self.all.try_insert(threads, begins) {
+            Ok(token) => token,
+            Err((token, _)) => token,
+        };
+        let begins = *self.all.value(&token);
+        Verdict { token, begins }
     }
 
     /// Notes that one more has begun, and waits until all have. Returns whether they have within ten seconds or so; where

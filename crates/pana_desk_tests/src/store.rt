@@ -3,7 +3,7 @@
 ghost use Rattle.std.specs.Prelude.{true, false, []};
 
 use pana_log::{Crash, Device, DeviceFault, Log, LogState, MemoryDevice};
-use pana_store::{OpenFault, Opened, Store, before_end, open, read, serve_kept};
+use pana_store::{Group, OpenFault, Opened, Store, before_end, open, read, serve_kept};
 use pana_wire::{ServeFault, Tap, WireFault};
 use std::alloc::Global;
 use std::test::Fail;
@@ -63,17 +63,17 @@ impl Device for ShortDevice {
 }
 
 /// A session on a new journal, whose device fails once after so many calls.
-fn session_of(alloc: Global, calls: usize) -> Result<Store<MemoryDevice>, Fail> {
+fn session_of(alloc: Global, calls: usize) -> Result<Group<MemoryDevice>, Fail> {
     let device = MemoryDevice::failing_after(alloc, Vec::new(alloc), calls);
     let mut journal = Log::new(device);
     let Opened { hall, sealer, .. } = open(alloc, &mut journal)?;
-    Ok(Store::new(alloc, hall, journal, sealer))
+    Ok(Group::of(Store::new(alloc, hall, journal, sealer))?)
 }
 
 /// What a session answers to lines, and why it ended.
 fn answers<D: Device>(
     alloc: Global,
-    session: &mut Store<D>,
+    session: &mut Group<D>,
     lines: &[u8],
 ) -> Result<(Vec<u8>, Option<ServeFault>), Fail> {
     let mut reader = Tap::new(lines);
@@ -97,14 +97,21 @@ fn crash_after(calls: usize, written: usize, is_from_end: bool, other: Option<u8
     }
 }
 
-/// Whether each crash after so many calls leaves so many entries, or one more, whatever of the writes had reached the disk.
-fn leaves(alloc: Global, device: &MemoryDevice, calls: usize, least: u64) -> Result<bool, Fail> {
+/// Whether each crash after so many calls leaves so many entries, or as many more as are kept together, whatever of the writes had
+/// reached the disk.
+fn leaves(
+    alloc: Global,
+    device: &MemoryDevice,
+    calls: usize,
+    least: u64,
+    together: u64,
+) -> Result<bool, Fail> {
     for written in [0, 1, 2, 50, 200] {
         for other in [None, Some(b'{'), Some(0)] {
             for is_from_end in [false, true] {
                 let file = device.after_crash(crash_after(calls, written, is_from_end, other))?;
                 let count = entries_of(alloc, file)?;
-                if count < least || count - least > 1 {
+                if count != least && count != least + together {
                     return Ok(false);
                 }
             }
@@ -125,12 +132,33 @@ fn crashes_of_a_session(rt: HostRuntime) -> Result<(), Fail> {
     }
     assert_eq!(rt;
         done.as_slice(),
-        [first + 5, first + 10, first + 10, first + 15].as_slice()
+        [first + 6, first + 12, first + 12, first + 18].as_slice()
     );
-    for calls in first..first + 16 {
-        let least = ((calls - first) / 5) as u64;
+    for calls in first..first + 19 {
+        let least = ((calls - first) / 6) as u64;
         assert!(rt;
-            leaves(alloc, &session.log().device, calls, least)?,
+            leaves(alloc, &session.log().device, calls, least, 1)?,
+            "{calls}"
+        );
+    }
+    Ok(())
+}
+
+#[test]
+fn crashes_of_a_group(rt: HostRuntime) -> Result<(), Fail> {
+    let alloc = rt.alloc();
+    let mut session = session_of(alloc, usize::MAX)?;
+    let first = session.log().device.operations();
+    let (answer, _) = answers(alloc, &mut session, TWO_FILES)?;
+    assert_eq!(rt;
+        answer.as_slice(),
+        b"{\"done\":1}\n{\"done\":2}\n".as_slice()
+    );
+    assert_eq!(rt; session.log().device.operations(), first + 7);
+    for calls in first..first + 8 {
+        let least = if calls < first + 7 { 0 } else { 2 };
+        assert!(rt;
+            leaves(alloc, &session.log().device, calls, least, 2)?,
             "{calls}"
         );
     }
@@ -142,13 +170,16 @@ fn failing_calls(rt: HostRuntime) -> Result<(), Fail> {
     let alloc = rt.alloc();
     let taken_again = b"{\"code\":14,\"refused\":\"NotKept\"}\n{\"done\":1}\n".as_slice();
     let refused = b"{\"done\":1}\n{\"code\":14,\"refused\":\"NotKept\"}\n".as_slice();
-    let rows: [(usize, &[u8], Option<ServeFault>); 6] = [
+    let both = b"{\"done\":1}\n{\"done\":2}\n".as_slice();
+    let rows: [(usize, &[u8], Option<ServeFault>); 8] = [
         (9, taken_again, None),
-        (10, taken_again, None),
+        (10, refused, None),
         (11, b"", Some(ServeFault::NoAnswer)),
         (12, b"", Some(ServeFault::NoAnswer)),
         (13, b"", Some(ServeFault::NoAnswer)),
-        (14, refused, None),
+        (14, b"", Some(ServeFault::NoAnswer)),
+        (15, b"", Some(ServeFault::NoAnswer)),
+        (16, both, None),
     ];
     for (calls, want, fault) in rows {
         let mut session = session_of(alloc, calls)?;
@@ -170,7 +201,7 @@ fn writes_without_memory(rt: HostRuntime) -> Result<(), Fail> {
         end: 0,
         state: LogState::Open,
     };
-    let mut session = Store::new(alloc, hall, short, sealer);
+    let mut session = Group::of(Store::new(alloc, hall, short, sealer))?;
     let (answer, end) = answers(alloc, &mut session, REGISTER)?;
     let want = b"{\"code\":9,\"refused\":\"OutOfMemory\"}\n".as_slice();
     assert_eq!(rt; answer.as_slice(), want);

@@ -4,10 +4,10 @@ use Rattle.pana_hall.proofs.Words.{Cause, living, report_refusal, journal_from, 
 use Rattle.pana_hall.proofs.Words.{IsNumbered, IsOrderly, OutOfMemory}
 use Rattle.pana_hall.specs.declared.call.Call.TheVariants as calls
 use Rattle.pana_hall.specs.{declared.reply.Reply.Reply, Refusal.refusal, Permit.Permits, Permit.PermitsBy, Permit.journal_after, declared.reply.Reply.TheVariants.Done}
-use Rattle.pana_hall.specs.{declared.reply.Reply.TheVariants.Refused, declared.loading.LoadFault.LoadFault, Load.IsLoadFault}
+use Rattle.pana_hall.specs.{declared.reply.Reply.TheVariants.Refused, declared.load_fault.LoadFault.LoadFault, Load.IsLoadFault}
 use Rattle.pana_hall.specs.declared.reply.Reply.TheVariants as replies
 use Rattle.pana_hall.proofs.{Lists.each_weaker, Sound.accepted_is_sound, Tables.merged, Places.accepted_is_apart}
-use Rattle.pana_hall.specs.declared.loading.LoadCause.TheVariants.{Refused as LoadRefused}
+use Rattle.pana_hall.specs.declared.load_fault.LoadCause.TheVariants.{Refused as LoadRefused}
 
 -- Runs, and the journals that refuse none of their entries.
 

@@ -4,7 +4,7 @@ ghost use Rattle.std.specs.Prelude.{◌≡◌, ◌+◌, [], ◌∷◌, ◌++◌,
 use crate::call::Call;
 use crate::cause::Cause;
 use crate::hall::Hall;
-use crate::loading::{LoadCause, LoadFault};
+use crate::load_fault::{LoadCause, LoadFault};
 use crate::reply::Reply;
 use pana_journal::{Entry, EntryList};
 use std::alloc::Global;

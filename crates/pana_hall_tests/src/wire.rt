@@ -197,6 +197,10 @@ impl Session for Numbering {
         self.made += 1;
         Ok(Answer::Given(Reply::Done { entry: self.made }))
     }
+
+    fn settle(&mut self) -> Result<(), NoAnswer> {
+        Ok(())
+    }
 }
 
 /// A reader that gives one byte at a time.

@@ -118,12 +118,12 @@ impl Patterns {
         self.push_text(text.as_bytes())
     }
 
-    /// What the patterns say of this very path, where no folder above it is ignored. Takes no memory; O(n m) in the
-    /// lengths of the path and of the patterns.
-    pub fn ignores_here(&self, path: &str, is_folder: bool) -> bool
+    /// What the patterns say of this very path, by its bytes, where no folder above it is ignored. Takes no memory;
+    /// O(n m) in the lengths of the path and of the patterns.
+    pub fn ignores_here(&self, path: &[u8], is_folder: bool) -> bool
         ensures { result ≡ ignores_here self.now path.now is_folder }
     {
-        ignores_here(self.patterns.as_slice(), path.as_bytes(), is_folder)
+        ignores_here(self.patterns.as_slice(), path, is_folder)
     }
 
     /// Whether a path, relative to the root and with `/` between its names, is ignored: whether the patterns say so of it,
@@ -132,7 +132,7 @@ impl Patterns {
         ensures { result ≡ is_ignored self.now path.now is_folder }
     {
         is_below_ignored(self.patterns.as_slice(), path.as_bytes())
-            || self.ignores_here(path, is_folder)
+            || self.ignores_here(path.as_bytes(), is_folder)
     }
 }
 

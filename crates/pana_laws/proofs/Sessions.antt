@@ -15,7 +15,7 @@ use Rattle.pana_wire.specs.Fault.{fault_text}
 use Rattle.pana_wire.specs.Line.{line_says}
 use Rattle.pana_wire.specs.Lines.{ended, last_line, lines_of, unended}
 use Rattle.pana_wire.specs.Reply.{reply_text}
-use Rattle.pana_wire.specs.Session.{AnswersSaid, AnswersLine, AnswersLines, BreaksAt, BreaksIn, EndsBy, lines_come}
+use Rattle.pana_wire.specs.Session.{AnswersSaid, AnswersLine, AnswersLines, MayCallNext, BreaksIn, EndsBy, lines_come}
 use Rattle.pana_wire.specs.laws.Sessions.{IsExchangeOf, IsFaultOf, IsRunOf}
 use Rattle.pana_daemon.specs.Session.{GetsNone, MakesCall}
 use Rattle.pana_laws.specs.OneRun.{Answered, never}
@@ -56,6 +56,14 @@ all_lines (line ∷ lines) output old new steps (mid, text, rest, first, more, h
     let (others, are, on) = all_lines lines rest mid new more later in
     joined line text rest output lines old mid new others (one_line line text old mid first here) are on whole
 
+-- the run of lines, and of those behind them
+run_append : (ls ms : List (List ℕ)) (run more : List Exchange) (xs ys : List ℕ) → IsRunOf ls run xs → IsRunOf ms more ys → IsRunOf (ls ++ ms) (run ++ more) (xs ++ ys)
+run_append [] ms run more xs ys (none, empty) q = subst (λ r. IsRunOf ms (r ++ more) (xs ++ ys)) (sym none) (subst (λ o. IsRunOf ms more (o ++ ys)) (sym empty) q)
+run_append (line ∷ ls) ms run more xs ys (text, rest, whole, inl (x, others, is, one, later)) q =
+    (text, rest ++ ys, ap (λ o. o ++ ys) whole ∙ append_assoc text (10 ∷ rest) ys, inl (x, others ++ more, ap (λ r. r ++ more) is, one, run_append ls ms others more rest ys later q))
+run_append (line ∷ ls) ms run more xs ys (text, rest, whole, inr (fault, is, answer, later)) q =
+    (text, rest ++ ys, ap (λ o. o ++ ys) whole ∙ append_assoc text (10 ∷ rest) ys, inr (fault, is, answer, run_append ls ms run more rest ys later q))
+
 -- the first of the lines are answered by calls, and a prefix of the answers is written
 record Part (lines : List (List ℕ)) (output : List ℕ) (old new : Pass) : Type 0 where
   pub begun : List (List ℕ)
@@ -66,42 +74,50 @@ record Part (lines : List (List ℕ)) (output : List ℕ) (old new : Pass) : Typ
   pub written : IsPrefix output answers
   pub goes : Goes old run new
 
--- one line, of whose answer a prefix is written
-part_here : (line text output rest : List ℕ) (lines : List (List ℕ)) (old new : Pass) → One line text old new → text ++ 10 ∷ [] ≡ output ++ rest → Part (line ∷ lines) output old new
-part_here line text output rest lines old new one split =
-    let (run, are, goes) = joined line text [] (text ++ 10 ∷ []) [] old new new [] one (refl, refl) (stays new) refl in
-    record { begun = line ∷ []; run = run; answers = text ++ 10 ∷ []; first = (lines, refl); are = are; written = (rest, sym split); goes = goes }
-
-part_at : (fault : ServeFault) (line output : List ℕ) (lines : List (List ℕ)) (old new : Pass) → BreaksAt Step Fails fault old line output new → Part (line ∷ lines) output old new
-part_at Read line output lines old new breaks = absurd breaks
-part_at Write line output lines old new (text, rest, steps, a, split) = part_here line text output rest lines old new (one_line line text old new steps a) split
-part_at OutOfMemory line output lines old new (m, answer, says, step, none) =
-    let (reply, given, goes) = made_one old m.by m.call answer new step in
-    let text = reply_text reply in
-    part_here line text output (text ++ 10 ∷ []) lines old new (inl (record { by = m.by; call = m.call; reply = reply }, record { said = says; answered = refl }, goes)) (ap (λ w. w ++ (text ++ 10 ∷ [])) (sym none))
-part_at NoAnswer line output lines old new (m, says, fails, none) =
-    record { begun = []; run = []; answers = []; first = (line ∷ lines, refl); are = (refl, refl); written = ([], append-nil output ∙ none); goes = made_none old m.by m.call new fails }
-part_at Turns line output lines old new breaks = absurd breaks
-
--- an answered line before a part
-part_behind : (line text rest output : List ℕ) (lines : List (List ℕ)) (old mid new : Pass) → One line text old mid → Part lines rest mid new → output ≡ text ++ 10 ∷ rest → Part (line ∷ lines) output old new
-part_behind line text rest output lines old mid new one p whole =
-    let (run, are, goes) = joined line text p.answers (text ++ 10 ∷ p.answers) p.begun old mid new p.run one p.are p.goes refl in
+-- of the next line one call more is made, whose answer isn't written
+behind : (lines first others : List (List ℕ)) (text output : List ℕ) (old mid new : Pass) → lines ≡ first ++ others → IsPrefix output text
+    → (run : List Exchange) × IsRunOf first run text × Goes old run mid → MayCallNext Step Fails mid others new → Part lines output old new
+behind lines first others text output old mid new split written (run, are, goes) (inl same) =
+    record { begun = first; run = run; answers = text; first = (others, sym split); are = are; written = written; goes = subst (Goes old run) (sym same) goes }
+behind lines first [] text output old mid new split written (run, are, goes) (inr (inl lost)) = absurd lost
+behind lines first (line ∷ others) text output old mid new split written (run, are, goes) (inr (inl (m, answer, says, step))) =
+    let (reply, given, on) = made_one mid m.by m.call answer new step in
+    let x : Exchange = record { by = m.by; call = m.call; reply = reply } in
+    let last = reply_text reply in
     record {
-      begun = line ∷ p.begun;
+      begun = first ++ line ∷ [];
+      run = run ++ x ∷ [];
+      answers = text ++ (last ++ 10 ∷ []);
+      first = (others, append_assoc first (line ∷ []) others ∙ sym split);
+      are = run_append first (line ∷ []) run (x ∷ []) text (last ++ 10 ∷ []) are (last, [], refl, inl (x, [], refl, record { said = says; answered = refl }, (refl, refl)));
+      written = (written.0 ++ (last ++ 10 ∷ []), sym (append_assoc output written.0 (last ++ 10 ∷ [])) ∙ ap (λ w. w ++ (last ++ 10 ∷ [])) written.1);
+      goes = goes_on old mid new run (x ∷ []) goes on;
+    }
+behind lines first [] text output old mid new split written (run, are, goes) (inr (inr failed)) = absurd failed
+behind lines first (line ∷ others) text output old mid new split written (run, are, goes) (inr (inr (m, says, fails))) =
+    record {
+      begun = first;
       run = run;
-      answers = text ++ 10 ∷ p.answers;
-      first = (p.first.0, ap (λ ls. line ∷ ls) p.first.1);
+      answers = text;
+      first = (line ∷ others, sym split);
       are = are;
-      written = (p.written.0, ap (λ w. w ++ p.written.0) whole ∙ append_assoc text (10 ∷ rest) p.written.0 ∙ ap (λ w. text ++ 10 ∷ w) p.written.1);
-      goes = goes;
+      written = written;
+      goes = subst (λ r. Goes old r new) (append-nil run) (goes_on old mid new run [] goes (made_none mid m.by m.call new fails));
     }
 
+-- all of a text is a prefix of it
+all_of : (output text : List ℕ) → output ≡ text → IsPrefix output text
+all_of output text same = ([], append-nil output ∙ same)
+
 part_in : (fault : ServeFault) (lines : List (List ℕ)) (output : List ℕ) (old new : Pass) → BreaksIn Step Fails fault old lines output new → Part lines output old new
-part_in fault [] output old new breaks = absurd breaks
-part_in fault (line ∷ lines) output old new (inl here) = part_at fault line output lines old new here
-part_in fault (line ∷ lines) output old new (inr (mid, text, rest, steps, a, later, whole)) =
-    part_behind line text rest output lines old mid new (one_line line text old mid steps a) (part_in fault lines rest mid new later) whole
+part_in Read lines output old new breaks = absurd breaks
+part_in Write lines output old new (made, calls, written) =
+    behind lines made.first made.others made.text output old made.last new made.split written (all_lines made.first made.text old made.last made.steps made.answers) calls
+part_in OutOfMemory lines output old new (made, lost, written) =
+    behind lines made.first made.others made.text output old made.last new made.split (all_of output made.text written) (all_lines made.first made.text old made.last made.steps made.answers) (inr (inl lost))
+part_in NoAnswer lines output old new (made, failed, written) =
+    behind lines made.first made.others made.text output old made.last new made.split (all_of output made.text written) (all_lines made.first made.text old made.last made.steps made.answers) (inr (inr failed))
+part_in Turns lines output old new breaks = absurd breaks
 
 -- what a session's input and output are, and its calls
 abbrev pub Told : List ℕ → List ℕ → Pass → Pass → Type 0

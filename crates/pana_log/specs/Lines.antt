@@ -121,3 +121,7 @@ IsBeforeOrAfter lines more file = (recovered file ≡ lines) ⊎ (recovered file
 -- the lines aren't too long for more, and the text isn't longer than a line of a dump with its newline
 abbrev pub HasRoom : ℕ → List ℕ → Type 0
 HasRoom end text = (end ≤ 2 ^ 60) × (length text ≤ 1048577)
+
+-- the lines aren't too long for more, and there may be so many bytes behind their gate
+abbrev pub HasRoomBehind : ℕ → ℕ → Type 0
+HasRoomBehind end count = (end ≤ 2 ^ 60) × (count ≤ 1048577)

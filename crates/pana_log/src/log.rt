@@ -1,6 +1,6 @@
-ghost use Rattle.std.specs.Prelude.{◌≡◌, ◌⊎◌, ◌++◌, false, is_ok, if◌then◌else◌, List, ℕ, IsTrue, IfErr, OnOk, OnErr, IsErrOf};
+ghost use Rattle.std.specs.Prelude.{◌≡◌, ◌≤◌, ◌+◌, ◌⊎◌, ◌++◌, false, is_ok, if◌then◌else◌, List, ℕ, length, IsTrue, IfErr, OnOk, OnErr, IsErrOf};
 ghost use Rattle.pana_log.specs.Device.{LeavesOnly};
-ghost use Rattle.pana_log.specs.Lines.{recovered, IsWhole, IsBeforeOrAfter, HasRoom};
+ghost use Rattle.pana_log.specs.Lines.{recovered, IsWhole, IsBeforeOrAfter, HasRoom, HasRoomBehind};
 ghost use Rattle.pana_log.specs.Log.{IsSettled, IsStaged, IsWritten};
 
 use crate::device::Device;
@@ -65,6 +65,32 @@ impl<D: Device> Log<D> {
             return Err(LogFault::Broken);
         }
         Ok(())
+    }
+
+    /// Writes bytes this far behind the closed gate, so that there is room for lines. They don't count, and a crash may lose
+    /// them. `stage` writes over them.
+    pub fn reserve(&mut self, at: usize, bytes: &[u8]) -> Result<(), DeviceFault>
+        requires open { self.old.state ≡ LogState.Open }
+        requires settled { IsTrue D.is_known → IsSettled D.seen D.may_leave D.is_usable self.old }
+        requires within { IsTrue D.is_known → self.old.end + 1 + at ≤ length (D.seen self.old.device) }
+
+        ensures settled { IsTrue D.is_known → IsSettled D.seen D.may_leave D.is_usable self.new }
+        ensures same { IsTrue D.is_known → recovered (D.seen self.new.device) ≡ recovered (D.seen self.old.device) }
+        ensures end { self.new.end ≡ self.old.end }
+        ensures state { self.new.state ≡ self.old.state }
+        ensures room { OnOk result (HasRoomBehind self.old.end (at + length bytes.now)) }
+        ensures behind { OnOk result (IsTrue D.is_known → self.old.end + 1 + at + length bytes.now ≤ length (D.seen self.new.device)) }
+        ensures no_shorter { IsTrue D.is_known → length (D.seen self.old.device) ≤ length (D.seen self.new.device) }
+        ensures cause { OnErr result (IsTrue D.is_known → HasRoomBehind self.old.end (at + length bytes.now) → IsTrue (D.has_failed self.new.device)) }
+
+        // A crash at any moment of the call leaves the lines from before it.
+        ensures any_moment { IsTrue D.is_known → LeavesOnly D.moment D.left_since self.old.device self.new.device
+            (λ c. recovered c ≡ recovered (D.seen self.old.device)) }
+    {
+        if bytes.len() > LONGEST || at > LONGEST - bytes.len() || self.end > MOST_BYTES {
+            return Err(DeviceFault::StorageFull);
+        }
+        self.device.write_at(self.end + 1 + at, bytes)
     }
 
     /// Writes lines behind the closed gate. They don't count yet, and a crash may lose them.

@@ -13,7 +13,7 @@ use Rattle.pana_scan.specs.declared.listing.FoundRow.{FoundRow}
 use Rattle.pana_scan.specs.Order.{Path, path_cmp, in_order}
 use Rattle.pana_scan.specs.Listing.{RowsRise}
 use Rattle.pana_scan.specs.Baseline.{MarksRise}
-use Rattle.pana_scan.specs.Plan.{known_of, knowns, paths_of}
+use Rattle.pana_scan.specs.Plan.{at_path, at_paths, paths_of}
 use Rattle.pana_scan.specs.inner.Heads.{head_at, rest_at, first_path, lesser}
 use Rattle.pana_scan.specs.inner.Left.{HoldingsRise}
 use Rattle.pana_scan.proofs.Order.{IsBelow, Rise, has, same_path, eq_itself, turned, less_then, less_differs, greater_differs, eq_is_same, below_chain, below_append, in_order_rise, in_order_has, in_order_below, same_paths}
@@ -236,7 +236,7 @@ module _ (p : Path) (found : List FoundRow) (kept : List BaselineRow) (living : 
   paths_next = same_paths (in_order (three found kept living)) (p ∷ in_order (rest_of p found kept living)) (in_order_rise (three found kept living)) next_rises same_has
 
   known_later : (q : Path) → path_cmp p q ≡ Less
-      → known_of found kept living q ≡ known_of (rest_at found_path p found) (rest_at kept_path p kept) (rest_at living_path p living) q
+      → at_path found kept living q ≡ at_path (rest_at found_path p found) (rest_at kept_path p kept) (rest_at living_path p living) q
   known_later q less = λ i. record {
     path = q;
     found = option_map (λ row. row.found) (found_later found_path p q found less i);
@@ -244,7 +244,7 @@ module _ (p : Path) (found : List FoundRow) (kept : List BaselineRow) (living : 
     living = found_later living_path p q living less i;
   }
 
-  known_first : known_of found kept living p ≡ record {
+  known_first : at_path found kept living p ≡ record {
     path = p;
     found = option_map (λ row. row.found) (head_at found_path p found);
     mark = option_map (λ row. row.mark) (head_at kept_path p kept);
@@ -258,19 +258,19 @@ module _ (p : Path) (found : List FoundRow) (kept : List BaselineRow) (living : 
   }
 
   map_later : (paths : List Path) → IsBelow p paths
-      → map (known_of found kept living) paths ≡ map (known_of (rest_at found_path p found) (rest_at kept_path p kept) (rest_at living_path p living)) paths
+      → map (at_path found kept living) paths ≡ map (at_path (rest_at found_path p found) (rest_at kept_path p kept) (rest_at living_path p living)) paths
   map_later [] below = refl
   map_later (q ∷ paths) below = λ i. known_later q below.0 i ∷ map_later paths below.1 i
 
   -- the first of what is known stands at the heads of the lists, and all others are those of the rest
-  pub knowns_next : knowns found kept living ≡ record {
+  pub at_paths_next : at_paths found kept living ≡ record {
     path = p;
     found = option_map (λ row. row.found) (head_at found_path p found);
     mark = option_map (λ row. row.mark) (head_at kept_path p kept);
     living = head_at living_path p living;
-  } ∷ knowns (rest_at found_path p found) (rest_at kept_path p kept) (rest_at living_path p living)
-  knowns_next =
-      ap (map (known_of found kept living)) paths_next
+  } ∷ at_paths (rest_at found_path p found) (rest_at kept_path p kept) (rest_at living_path p living)
+  at_paths_next =
+      ap (map (at_path found kept living)) paths_next
       ∙ (λ i. known_first i ∷ map_later (in_order (rest_of p found kept living)) (in_order_below p (rest_of p found kept living) below_rest) i)
 
 -- ---- holdings behind references
@@ -304,21 +304,21 @@ least_lent found kept living = ap (λ it. lesser (first_path found_path found) (
 
 pub next_known : (found : List FoundRow) (kept : List BaselineRow) (living : List (Bor Holding)) (p : Path)
     → RowsRise found → MarksRise kept → HoldingsRise (lent living) → Some p ≡ least_path found kept living
-    → knowns found kept (lent living) ≡ record {
+    → at_paths found kept (lent living) ≡ record {
       path = p;
       found = option_map (λ row. row.found) (head_at found_path p found);
       mark = option_map (λ row. row.mark) (head_at kept_path p kept);
       living = option_copied (head_at lent_path p living);
-    } ∷ knowns (rest_at found_path p found) (rest_at kept_path p kept) (lent (rest_at lent_path p living))
+    } ∷ at_paths (rest_at found_path p found) (rest_at kept_path p kept) (lent (rest_at lent_path p living))
 next_known found kept living p rf rk rl is =
     let least = least_of p _ _ _ (sym (is ∙ least_lent found kept living)) in
-    knowns_next p found kept (lent living) rf rk rl least
+    at_paths_next p found kept (lent living) rf rk rl least
     ∙ (λ i. record {
       path = p;
       found = option_map (λ row. row.found) (head_at found_path p found);
       mark = option_map (λ row. row.mark) (head_at kept_path p kept);
       living = sym (head_lent p living) i;
-    } ∷ knowns (rest_at found_path p found) (rest_at kept_path p kept) (sym (rest_lent p living) i))
+    } ∷ at_paths (rest_at found_path p found) (rest_at kept_path p kept) (sym (rest_lent p living) i))
 
 pub rest_lent_rise : (p : Path) (living : List (Bor Holding)) → HoldingsRise (lent living) → HoldingsRise (lent (rest_at lent_path p living))
 rest_lent_rise p living rise = subst HoldingsRise (sym (rest_lent p living)) (rest_rise living_path p (lent living) rise)

@@ -11,7 +11,7 @@ use Rattle.pana_scan.specs.declared.listing.Found.TheVariants.{Seen, Unreadable}
 use Rattle.pana_scan.specs.declared.notices.Notice.TheVariants.{Renamed}
 use Rattle.pana_scan.specs.Order.{Path, path_cmp}
 use Rattle.pana_scan.specs.Listing.{Contents}
-use Rattle.pana_scan.specs.Plan.{Known, knowns, paths_of}
+use Rattle.pana_scan.specs.Plan.{AtPath, at_paths, paths_of}
 use Rattle.pana_scan.specs.Notice.{File, file_at, files_of, holds, left, renamed, without_first}
 use Rattle.pana_scan.specs.laws.Notices.{renamed_number, taken}
 use Rattle.pana_scan.proofs.Order.{IsBelow, Rise, in_order_rise}
@@ -29,7 +29,7 @@ below_file q path None files less below = below
 below_file q path (Some Unreadable) files less below = below
 below_file q path (Some (Seen digest)) files less below = (less, below)
 
-files_below : (q : Path) (known : List Known) → IsBelow q (map (λ it. it.path) known) → IsBelow q (map path_of (files_of known))
+files_below : (q : Path) (known : List AtPath) → IsBelow q (map (λ it. it.path) known) → IsBelow q (map path_of (files_of known))
 files_below q [] below = tt
 files_below q (it ∷ known) below = below_file q it.path it.found (files_of known) below.0 (files_below q known below.1)
 
@@ -40,14 +40,14 @@ rise_file path None files below rise = rise
 rise_file path (Some Unreadable) files below rise = rise
 rise_file path (Some (Seen digest)) files below rise = (below, rise)
 
-files_rise : (known : List Known) → Rise (map (λ it. it.path) known) → Rise (map path_of (files_of known))
+files_rise : (known : List AtPath) → Rise (map (λ it. it.path) known) → Rise (map path_of (files_of known))
 unfolding IsStrictlySortedBy
 files_rise [] rise = rise
 files_rise (it ∷ known) rise = rise_file it.path it.found (files_of known) (files_below it.path known rise.0) (files_rise known rise.1)
 
-pub found_once : (holdings : List Holding) (listing : Contents) → Rise (map path_of (files_of (knowns listing.rows [] holdings)))
+pub found_once : (holdings : List Holding) (listing : Contents) → Rise (map path_of (files_of (at_paths listing.rows [] holdings)))
 found_once holdings listing =
-    files_rise (knowns listing.rows [] holdings)
+    files_rise (at_paths listing.rows [] holdings)
     (subst Rise (sym (paths_known listing.rows [] holdings (paths_of listing.rows [] holdings))) (in_order_rise (three listing.rows [] holdings)))
 
 -- ---- the copies that are taken, and those that are left

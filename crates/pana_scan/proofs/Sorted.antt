@@ -16,7 +16,7 @@ use Rattle.pana_hall.specs.Holdings.{HaveOwnPaths}
 use Rattle.pana_scan.specs.declared.baseline.BaselineRow.{BaselineRow}
 use Rattle.pana_scan.specs.declared.listing.FoundRow.{FoundRow}
 use Rattle.pana_scan.specs.Order.{Path, path_cmp, in_order}
-use Rattle.pana_scan.specs.Plan.{knowns, known_of, paths_of}
+use Rattle.pana_scan.specs.Plan.{at_paths, at_path, paths_of}
 use Rattle.pana_scan.specs.inner.Left.{HoldingsRise, HoldTheSame}
 use Rattle.pana_scan.proofs.Order.{Rise, has, turned, below_chain, eq_is_same, in_order_rise, in_order_has, same_paths}
 use Rattle.pana_scan.proofs.Merged.{lent, three, three_has, found_path, kept_path, living_path}
@@ -159,17 +159,17 @@ has_found q (one ∷ holdings) =
       | false ↦ has_found q holdings
     ]
 
-pub knowns_same : (found : List FoundRow) (kept : List BaselineRow) (before after : List Holding) → HoldTheSame before after → knowns found kept after ≡ knowns found kept before
-knowns_same found kept before after alike =
+pub at_paths_same : (found : List FoundRow) (kept : List BaselineRow) (before after : List Holding) → HoldTheSame before after → at_paths found kept after ≡ at_paths found kept before
+at_paths_same found kept before after alike =
     let alike_has : (q : Path) → has (in_order (three found kept after)) q ≡ has (in_order (three found kept before)) q = λ q.
     in_order_has (three found kept after) q ∙ three_has found kept after q
     ∙ ap (λ b. (has (map found_path found) q || has (map kept_path kept) q) || b) (has_found q after ∙ ap there (alike q) ∙ sym (has_found q before))
     ∙ sym (three_has found kept before q) ∙ sym (in_order_has (three found kept before) q) in
     let paths : paths_of found kept after ≡ paths_of found kept before =
     same_paths (in_order (three found kept after)) (in_order (three found kept before)) (in_order_rise (three found kept after)) (in_order_rise (three found kept before)) alike_has in
-    ap (map (known_of found kept after)) paths ∙ map_alike (paths_of found kept before)
+    ap (map (at_path found kept after)) paths ∙ map_alike (paths_of found kept before)
   where
-    map_alike : (paths : List Path) → map (known_of found kept after) paths ≡ map (known_of found kept before) paths
+    map_alike : (paths : List Path) → map (at_path found kept after) paths ≡ map (at_path found kept before) paths
     map_alike [] = refl
     map_alike (q ∷ paths) = λ i. record {
       path = q;

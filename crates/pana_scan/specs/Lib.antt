@@ -7,6 +7,7 @@ pub mod Disk
 pub mod Names
 pub mod Tree
 pub mod Scan
+pub mod Quick
 pub mod Memory
 pub mod Fault
 pub mod inner

@@ -14,7 +14,7 @@ use Rattle.pana_scan.specs.declared.notices.Notice.{Notice}
 use Rattle.pana_scan.specs.declared.notices.Notice.TheVariants as notice
 use Rattle.pana_scan.specs.Order.{Path}
 use Rattle.pana_scan.specs.Listing.{Contents}
-use Rattle.pana_scan.specs.Plan.{Known, knowns}
+use Rattle.pana_scan.specs.Plan.{AtPath, at_paths}
 
 -- a file that is seen, and the sum of its bytes
 pub record File : Type 0 where
@@ -38,13 +38,13 @@ absent_at None living = living
 absent_at (Some found) living = None
 
 -- of the paths in byte order: the files that are seen, those of them that are new, and the copies that are absent
-abbrev pub files_of : List Known → List File
+abbrev pub files_of : List AtPath → List File
 files_of = filter_map (λ known. file_at known.path known.found)
 
-abbrev pub new_files_of : List Known → List File
+abbrev pub new_files_of : List AtPath → List File
 new_files_of = filter_map (λ known. new_file_at known.path known.found known.living)
 
-abbrev pub absent_of : List Known → List Holding
+abbrev pub absent_of : List AtPath → List Holding
 absent_of = filter_map (λ known. absent_at known.found known.living)
 
 -- whether a sum is known, and is this one
@@ -80,12 +80,12 @@ abbrev pub missing : List Holding → List Notice
 missing = map (λ copy. notice.Missing copy.path)
 
 -- what is noticed at these paths: the copies that new files take, then all files, then the absent copies that are left
-abbrev pub noticed : List Known → List Notice
+abbrev pub noticed : List AtPath → List Notice
 noticed known = renamed (new_files_of known) (absent_of known) ++ found (files_of known) ++ missing (left (new_files_of known) (absent_of known))
 
 -- what a scan notices on a device with these copies
 abbrev pub notices_of : List Holding → Contents → List Notice
-notices_of holdings listing = noticed (knowns listing.rows [] holdings)
+notices_of holdings listing = noticed (at_paths listing.rows [] holdings)
 
 -- the call that reports a notice of this device
 abbrev pub call_of : List ℕ → Notice → Call

@@ -15,7 +15,7 @@ use Rattle.pana_scan.specs.Order.{Path, in_order}
 use Rattle.pana_scan.specs.Listing.{Contents}
 
 -- what is known of a path: what the scan found, what the baseline has, and the living copy there
-pub record Known : Type 0 where
+pub record AtPath : Type 0 where
   pub path : Path
   pub found : Option Found
   pub mark : Option Mark
@@ -46,12 +46,12 @@ outcome_at device path None (Some mark) None = keep None
 outcome_at device path None None living = keep None
 
 -- what a path calls for, by what is known of it
-abbrev pub outcome_for : List ℕ → Known → Outcome
+abbrev pub outcome_for : List ℕ → AtPath → Outcome
 outcome_for device known = outcome_at device known.path known.found known.mark known.living
 
 -- what the three lists have of a path
-abbrev pub known_of : List FoundRow → List BaselineRow → List Holding → Path → Known
-known_of found baseline holdings path = record {
+abbrev pub at_path : List FoundRow → List BaselineRow → List Holding → Path → AtPath
+at_path found baseline holdings path = record {
   path = path;
   found = option_map (λ row. row.found) (find (λ row. bytes_eq row.path path) found);
   mark = option_map (λ row. row.mark) (find (λ row. bytes_eq row.path path) baseline);
@@ -64,23 +64,23 @@ paths_of found baseline holdings =
     in_order (map (λ row. row.path) found ++ map (λ row. row.path) baseline ++ map (λ holding. holding.path) holdings)
 
 -- what is known of each of these paths
-abbrev pub knowns : List FoundRow → List BaselineRow → List Holding → List Known
-knowns found baseline holdings = map (known_of found baseline holdings) (paths_of found baseline holdings)
+abbrev pub at_paths : List FoundRow → List BaselineRow → List Holding → List AtPath
+at_paths found baseline holdings = map (at_path found baseline holdings) (paths_of found baseline holdings)
 
 -- the steps that the paths call for
-abbrev pub steps_for : List ℕ → List Known → List Step
+abbrev pub steps_for : List ℕ → List AtPath → List Step
 steps_for device = filter_map (λ known. (outcome_for device known).step)
 
 -- the row that the baseline keeps of a path
-abbrev pub row_for : List ℕ → Known → Option BaselineRow
+abbrev pub row_for : List ℕ → AtPath → Option BaselineRow
 row_for device known = option_map (λ mark. record { path = known.path; mark = mark }) (outcome_for device known).mark
 
 -- the rows that the baseline keeps of the paths
-abbrev pub rows_for : List ℕ → List Known → List BaselineRow
+abbrev pub rows_for : List ℕ → List AtPath → List BaselineRow
 rows_for device = filter_map (row_for device)
 
 -- what a scan calls for: the steps of all paths in byte order, and the rows that the baseline keeps of them
 abbrev pub plan_of : List BaselineRow → List Holding → Contents → Plan
 plan_of baseline holdings listing =
-    let known = knowns listing.rows baseline holdings in
+    let known = at_paths listing.rows baseline holdings in
     record { steps = steps_for listing.device known; baseline = rows_for listing.device known }

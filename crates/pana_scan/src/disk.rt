@@ -1,6 +1,7 @@
 //! Disks, as a scan reads them.
-ghost use Rattle.std.specs.Prelude.{◌≡◌, ◌<◌, ◌≤◌, ◌||◌, Bool, IsTrue, ℕ, length, IfOk, is_err};
+ghost use Rattle.std.specs.Prelude.{◌≡◌, ◌<◌, ◌≤◌, ◌||◌, Bool, true, IsTrue, ℕ, Some, length, IfOk, IfSome, is_err};
 ghost use Rattle.pana_scan.specs.Disk.{Tree, Names, Content, is_failure, entries_after, faults_after, Begins, Gives, Opens, Reads};
+ghost use Rattle.pana_scan.specs.Scan.{found_of, seen};
 
 use crate::disk_fault::DiskFault;
 use crate::entry::Entry;
@@ -69,4 +70,28 @@ pub trait Disk {
         ensures faults { faults self.new ≡ faults_after (faults self.old) (is_err result) }
         ensures tree { IsTrue is_known → tree self.new ≡ tree self.old }
         ensures reads { IsTrue is_known → Reads (content self.old) result piece.new (content self.new) };
+
+    /// The SHA-256 of a file's bytes, where it is known that the file is as it was when it was read before. One that isn't
+    /// known has to be read.
+    fn recall(&mut self, _file: &str) -> Option<[u8; 32]>
+        ensures known { IfSome result (λ digest. IsTrue is_known → found_of ((tree self.old).content _file.now) ≡ seen (Some digest)) }
+        ensures failed { has_failed self.new ≡ has_failed self.old }
+        ensures entries { entries self.new ≡ entries self.old }
+        ensures faults { faults self.new ≡ faults self.old }
+        ensures tree { IsTrue is_known → tree self.new ≡ tree self.old }
+    {
+        None
+    }
+
+    /// Takes what was read of the file that is open, whose bytes have this SHA-256. Whether the file is still as it was
+    /// when it was opened; else something else may have been read than it ever held.
+    fn settle(&mut self, _file: &str, _digest: &[u8; 32]) -> bool
+        ensures known { IsTrue is_known → result ≡ true }
+        ensures failed { has_failed self.new ≡ has_failed self.old }
+        ensures entries { entries self.new ≡ entries self.old }
+        ensures faults { faults self.new ≡ faults self.old }
+        ensures tree { IsTrue is_known → tree self.new ≡ tree self.old }
+    {
+        true
+    }
 }

@@ -49,8 +49,8 @@ struct Gathered {
 
 /// Reads all files of a folder, and of the folders in it, into a listing of this device.
 ///
-/// Each regular file is `Seen` with its fingerprint, or `Unreadable` where it is gone, can't be opened or read, or
-/// doesn't come to its end in 16,777,216 reads. Symbolic links, and what is neither a file nor a folder, are passed
+/// Each regular file is `Seen` with its fingerprint, or `Unreadable` where it is gone, can't be opened or read, changes
+/// meanwhile, or doesn't come to its end in 16,777,216 reads. Symbolic links, and what is neither a file nor a folder, are passed
 /// over. A name that isn't UTF-8, and a file or folder whose path isn't a copy's path, is counted as skipped, and such a
 /// folder isn't entered. Paths are relative to the folder, with `/` between folders.
 ///
@@ -257,13 +257,16 @@ fn found<D: Disk, W: Watch>(disk: &mut D, file: &str, watch: &mut W) -> Result<F
     ensures faults { IfOk result (λ found. D.faults disk.new ≤ (if is_unreadable found then D.faults disk.old + 1 else D.faults disk.old)) }
 {
     watch.file_begun();
+    if let Some(digest) = disk.recall(file) {
+        return Ok(Found::Seen(digest));
+    }
     match disk.open(file) {
         Ok(()) => {}
         Err(DiskFault::OutOfMemory) => return Err(AllocError),
         Err(DiskFault::Failed) => return Ok(Found::Unreadable),
     }
     Ok(match fingerprint(disk, MOST_READS, watch) {
-        Some(digest) => Found::Seen(digest),
-        None => Found::Unreadable,
+        Some(digest) if disk.settle(file, &digest) => Found::Seen(digest),
+        _ => Found::Unreadable,
     })
 }

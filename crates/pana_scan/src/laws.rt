@@ -4,13 +4,13 @@ ghost use Rattle.std.specs.List.Sorted.{IsStrictlySortedBy};
 ghost use Rattle.pana_hall.specs.declared.holding.Holding.{Holding};
 ghost use Rattle.pana_scan.specs.Order.{path_cmp};
 ghost use Rattle.pana_scan.specs.Listing.{Contents};
-ghost use Rattle.pana_scan.specs.Plan.{knowns};
+ghost use Rattle.pana_scan.specs.Plan.{at_paths};
 ghost use Rattle.pana_scan.specs.Notice.{File, files_of, left, renamed};
 ghost use Rattle.pana_scan.specs.laws.Notices.{renamed_number, taken};
 
 /// The paths of the files that are found rise, so none is found twice.
 pub fn no_path_is_found_twice()
-    ensures { (holdings : List Holding) (listing : Contents) → IsStrictlySortedBy path_cmp (map (λ file. file.path) (files_of (knowns listing.rows [] holdings))) }
+    ensures { (holdings : List Holding) (listing : Contents) → IsStrictlySortedBy path_cmp (map (λ file. file.path) (files_of (at_paths listing.rows [] holdings))) }
 {}
 
 /// Each absent copy is renamed or missing, and none is both: of the copies that a test passes, so many are renamed, and

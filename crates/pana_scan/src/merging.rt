@@ -1,7 +1,7 @@
 //! A listing, a baseline and the holdings of a device, gone through once, path by path.
 ghost use Rattle.std.specs.Prelude.{◌≡◌, ◌∷◌, [], ℕ, List, option_copied, option_map, IfSome, IfNone};
 ghost use Rattle.pana_scan.specs.inner.Heads.{first_path, head_at, lesser, rest_at};
-ghost use Rattle.pana_scan.specs.inner.Left.{AllRise, known_at, left, living_left};
+ghost use Rattle.pana_scan.specs.inner.Left.{AllRise, at_spot, left, living_left};
 
 use crate::baseline::{BaselineRow, Mark};
 use crate::listing::{Found, FoundRow};
@@ -62,7 +62,7 @@ impl<'a> Sources<'a> {
     pub(crate) fn next(&mut self) -> Option<Spot<'a>>
         requires { AllRise self.old }
         ensures rise { AllRise self.new }
-        ensures some { IfSome result (λ spot. left self.old ≡ known_at spot ∷ left self.new) }
+        ensures some { IfSome result (λ spot. left self.old ≡ at_spot spot ∷ left self.new) }
         ensures none { IfNone result (left self.old ≡ []) }
     {
         let path = self.least()?;

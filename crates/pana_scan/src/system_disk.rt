@@ -1,5 +1,5 @@
 //! The system's files as a disk.
-ghost use Rattle.std.specs.Prelude.{◌≡◌, ◌≢◌, ◌||◌, IsOk, IsErr, IsSome, IfOk, IfErr, IfSome, IfNone, OnOk, OnErr, is_err};
+ghost use Rattle.std.specs.Prelude.{◌≡◌, ◌≢◌, ◌||◌, true, IsOk, IsErr, IsSome, IfOk, IfErr, IfSome, IfNone, OnOk, OnErr, is_err};
 ghost use Rattle.std.specs.Fs.{IsDir, IsFile};
 ghost use Rattle.std.specs.IoError.{error_kind};
 ghost use Rattle.pana_scan.specs.Disk.{entries_after, faults_after, is_failure};
@@ -9,7 +9,7 @@ use crate::disk::Disk;
 use crate::disk_fault::DiskFault;
 use crate::entry::{Entry, EntryName, Kind};
 use std::alloc::Global;
-use std::fs::{DirEntry, File, FileType, Files, ReadDir};
+use std::fs::{DirEntry, File, FileType, Files, Metadata, OpenFile, ReadDir};
 use std::io::{Error, ErrorKind, Read};
 use std::{fs, io};
 
@@ -89,6 +89,22 @@ fn entry_of<R: Files + Drop>(
 
 /// What takes the system's answers: a call that has failed is returned as failed, and counted.
 impl<'a, R: Files + AllocGlobal + Clone + Drop> SystemDisk<'a, R> {
+    /// Counts a file that has failed.
+    pub(crate) fn file_failed(&mut self) -> DiskFault
+        ensures fault { result ≡ DiskFault.Failed }
+        ensures failed { self.new.has_failed ≡ self.old.has_failed }
+        ensures entries { self.new.entries ≡ self.old.entries }
+        ensures faults { self.new.faults ≡ faults_after self.old.faults true }
+    {
+        self.faults = self.faults.saturating_add(1);
+        DiskFault::Failed
+    }
+
+    /// What the system says of the file that is open.
+    pub(crate) fn metadata(&self) -> Option<Metadata> {
+        self.file.as_ref()?.metadata().ok()
+    }
+
     fn list_failed<T: Drop>(&mut self, fault: DiskFault) -> Result<T, DiskFault>
         ensures result { result ≡ Err fault }
         ensures failed { self.new.has_failed ≡ (self.old.has_failed || is_failure result) }

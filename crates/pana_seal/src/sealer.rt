@@ -38,14 +38,30 @@ impl Sealer {
         self.hasher.update(bytes);
     }
 
+    /// One more that has taken up the same bytes. Fails only where memory runs out.
+    pub fn copy(&self) -> Result<Sealer, AllocError>
+        ensures { IfOk result (λ copy. (before : List ℕ) → Covers self.now before → Covers copy before) }
+    {
+        let hasher = self.hasher.clone()?;
+        Ok(Sealer { hasher })
+    }
+
+    /// The digest of a line that begins so behind the bytes. Takes no memory.
+    pub fn finish(self, body: &[u8]) -> [u8; 32]
+        ensures { (before : List ℕ) → Covers self before → result ≡ digest_of before body.now }
+    {
+        let Sealer { mut hasher } = self;
+        hasher.update(body);
+        hasher.update(MARK);
+        hasher.finalize()
+    }
+
     /// The digest of a line that begins so behind the bytes. Fails only where memory runs out.
     pub fn digest(&self, body: &[u8]) -> Result<[u8; 32], AllocError>
         ensures { IfOk result (λ digest. (before : List ℕ) → Covers self.now before → digest ≡ digest_of before body.now) }
     {
-        let mut hasher = self.hasher.clone()?;
-        hasher.update(body);
-        hasher.update(MARK);
-        Ok(hasher.finalize())
+        let copy = self.copy()?;
+        Ok(copy.finish(body))
     }
 
     /// Whether the line is sealed, behind the bytes. Fails only where memory runs out.

@@ -74,7 +74,7 @@ after_refused journal by (calls.Sighting sighting) cause = refl
 after_refused journal by (calls.Query query) cause = refl
 
 -- a call whose line the device doesn't take
-answers_fault : (journal : List Entry) (by : List ℕ) (call : Call) (fault : DeviceFault) → MakesEntries call → refusal journal by call ≡ None → Grows journal by call
+pub answers_fault : (journal : List Entry) (by : List ℕ) (call : Call) (fault : DeviceFault) → MakesEntries call → refusal journal by call ≡ None → Grows journal by call
     → Becomes journal by call (answer_to fault) journal
 answers_fault journal by call devices.OutOfMemory makes free grows = (permits_short journal by call makes free, after_refused journal by call causes.OutOfMemory)
 answers_fault journal by call devices.StorageFull makes free grows = (makes, free, grows, refl)
@@ -94,7 +94,7 @@ needs_open store (calls.Sighting sighting) opened = opened
 needs_open store (calls.Query query) opened = tt
 
 -- a call that makes entries is no query
-no_query : {A : Type 0} (call : Call) → MakesEntries call → IsQuery call → A
+pub no_query : {A : Type 0} (call : Call) → MakesEntries call → IsQuery call → A
 no_query (calls.Report report) makes query = absurd query
 no_query (calls.Sighting sighting) makes query = absurd query
 no_query (calls.Query query) makes is = absurd makes

@@ -1,6 +1,10 @@
 pub mod Begun
 pub mod Calls
 pub mod Lines
+pub mod Grouped
+pub mod Wrote
+pub mod Waiting
+pub mod Gathered
 pub mod Runs
 pub mod Noted
 pub mod Done

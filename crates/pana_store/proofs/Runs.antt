@@ -1,6 +1,6 @@
 -- Sessions: what is kept over a run of calls.
-use Rattle.std.proofs.Common.{◌≡◌, ◌⊎◌, inl, inr, ⊎_elim, ℕ, ◌+◌, length, Bool, IsTrue, List, [], ◌∷◌, ◌++◌, Result, Ok, Err, refl, sym, ◌∙◌, ap, subst, append_assoc}
-use Rattle.std.specs.Prelude.{IfOk, IfErr}
+use Rattle.std.proofs.Common.{◌≡◌, ◌⊎◌, inl, inr, ℕ, ◌+◌, length, Bool, IsTrue, List, [], ◌∷◌, ◌++◌, Result, Err, refl, sym, ◌∙◌, ap, subst, append_assoc}
+use Rattle.std.specs.Prelude.{IfErr}
 use Rattle.std.proofs.lemmas.List.{append-nil}
 use Rattle.pana_journal.specs.declared.entry.Entry.{Entry}
 use Rattle.pana_hall.specs.declared.call.Call.{Call}
@@ -13,13 +13,6 @@ use Rattle.pana_hall.specs.Finding.{decision}
 use Rattle.pana_hall.specs.Living.{living}
 use Rattle.pana_hall.specs.Permit.{journal_after, after_decision}
 use Rattle.pana_hall.specs.Refusal.{with_report}
-use Rattle.pana_wire.specs.declared.fault.WireFault.{WireFault}
-use Rattle.pana_wire.specs.declared.message.Message.{Message}
-use Rattle.pana_wire.specs.declared.serving.ServeFault.{ServeFault}
-use Rattle.pana_wire.specs.declared.serving.ServeFault.TheVariants.{Read, Write, OutOfMemory, NoAnswer, Turns}
-use Rattle.pana_wire.specs.Session.{AnswersSaid, AnswersLine, AnswersLines, BreaksAt, BreaksIn, EndsBy}
-use Rattle.pana_wire.specs.Line.{line_says}
-use Rattle.pana_wire.specs.Lines.{ended, lines_of}
 use Rattle.pana_log.specs.declared.log_state.LogState.TheVariants.{Open}
 use Rattle.pana_wire.specs.declared.answer.Answer.{Answer}
 use Rattle.pana_wire.specs.declared.answer.Answer.TheVariants.{Given, NotKept}
@@ -85,55 +78,11 @@ module _ {D : Type 0} (is_known : Bool) (seen : D → List ℕ) (may_leave : D �
             (either_all moment left_since mid.log.device new.log.device mid.entries new.entries some.0 some.1 (step.keeps_either known ran.works));
       }
 
-  ran_said : (old mid new : StoreView D) (said : Result Message WireFault) (text : List ℕ) (steps : ℕ) → Ran old mid → AnswersSaid Step mid said text new steps → Ran old new
-  ran_said old mid new (Err fault) text steps ran answers = subst (Ran old) (sym answers.1) ran
-  ran_said old mid new (Ok m) text steps ran answers = ran_step old mid new m.by m.call answers.0 ran answers.1
-
-  ran_line : (old mid new : StoreView D) (line text : List ℕ) (steps : ℕ) → Ran old mid → AnswersLine Step mid line text new steps → Ran old new
-  ran_line old mid new line text steps ran answers = ⊎_elim (ran_said old mid new (line_says line) text steps ran) (λ short. subst (Ran old) (sym short.1) ran) answers
-
-  ran_lines : (old mid new : StoreView D) (lines : List (List ℕ)) (output : List ℕ) (steps : ℕ) → Ran old mid → AnswersLines Step mid lines output new steps → Ran old new
-  ran_lines old mid new [] output steps ran answers = subst (Ran old) (sym answers.1) ran
-  ran_lines old mid new (line ∷ lines) output steps ran (next, text, rest, first, others, answer, more, whole, count) =
-      ran_lines old next new lines rest others (ran_line old mid next line text first ran answer) more
-
   pub failed : (old mid new : StoreView D) (by : List ℕ) (call : Call) → Ran old mid → Fails mid by call new → KeepsAll moment left_since old new
   failed old mid new by call ran breaks =
       let some = breaks_grows mid.entries by call new.entries breaks.entries in
       keeps_on moment left_since old.log.device mid.log.device new.log.device old.entries mid.entries new.entries ran.more some.0 ran.grown some.1 ran.keeps_all
       (either_all moment left_since mid.log.device new.log.device mid.entries new.entries some.0 some.1 (breaks.keeps_either known ran.works))
 
-  breaks_at : (fault : ServeFault) (old mid new : StoreView D) (line output : List ℕ) → Ran old mid → BreaksAt Step Fails fault mid line output new → KeepsAll moment left_since old new
-  breaks_at Read old mid new line output ran breaks = absurd breaks
-  breaks_at Write old mid new line output ran (text, rest, steps, answers, whole) = (ran_line old mid new line text steps ran answers).keeps_all
-  breaks_at OutOfMemory old mid new line output ran (m, answer, says, step, none) = (ran_step old mid new m.by m.call answer ran step).keeps_all
-  breaks_at NoAnswer old mid new line output ran (m, says, breaks, none) = failed old mid new m.by m.call ran breaks
-  breaks_at Turns old mid new line output ran breaks = absurd breaks
-
-  breaks_in : (fault : ServeFault) (old mid new : StoreView D) (lines : List (List ℕ)) (output : List ℕ) → Ran old mid → BreaksIn Step Fails fault mid lines output new → KeepsAll moment left_since old new
-  breaks_in fault old mid new [] output ran breaks = absurd breaks
-  breaks_in fault old mid new (line ∷ lines) output ran (inl here) = breaks_at fault old mid new line output ran here
-  breaks_in fault old mid new (line ∷ lines) output ran (inr (next, text, rest, steps, answers, more, whole)) = breaks_in fault old next new lines rest (ran_line old mid next line text steps ran answers) more
-
-  -- the call that broke the log found it open
-  pub broke : (old mid new : StoreView D) (lines : List (List ℕ)) (output : List ℕ) → Ran old mid → BreaksIn Step Fails NoAnswer mid lines output new → IsTrue (has_failed new.log.device)
-  broke old mid new [] output ran breaks = absurd breaks
-  broke old mid new (line ∷ lines) output ran (inl (m, says, breaks, none)) = breaks.cause known ran.works
-  broke old mid new (line ∷ lines) output ran (inr (next, text, rest, steps, answers, more, whole)) = broke old next new lines rest (ran_line old mid next line text steps ran answers) more
-
-  pub served : (old new : StoreView D) (input output : List ℕ) (steps : ℕ) → Ran old old → AnswersLines Step old (lines_of input) output new steps → KeepsAll moment left_since old new
-  served old new input output steps ran answers = (ran_lines old old new (lines_of input) output steps ran answers).keeps_all
-
-  pub stopped : (fault : ServeFault) (met : Bool) (old new : StoreView D) (input output : List ℕ) → Ran old old → EndsBy Step Fails fault met old input output new → KeepsAll moment left_since old new
-  stopped Read met old new input output ran (steps, answers) = (ran_lines old old new (ended [] input) output steps ran answers).keeps_all
-  stopped Write met old new input output ran ends = breaks_in Write old old new _ output ran ends
-  stopped OutOfMemory met old new input output ran ends = breaks_in OutOfMemory old old new _ output ran ends
-  stopped NoAnswer met old new input output ran ends = breaks_in NoAnswer old old new _ output ran ends
-  stopped Turns met old new input output ran (steps, answers) = (ran_lines old old new (ended [] input) output steps ran answers).keeps_all
-
 pub at_err : {X E : Type 0} (r : Result X E) (e : E) (Q : E → Type 0) → r ≡ Err e → IfErr r Q → Q e
 at_err {X = X} {E = E} r e Q is holds = subst (λ (x : Result X E). IfErr x Q) is holds
-
-pub either_way : {X E : Type 0} (r : Result X E) (P : X → Type 0) (Q : E → Type 0) (R : Type 0) → IfOk r P → IfErr r Q → ((x : X) → P x → R) → ((e : E) → Q e → R) → R
-either_way (Ok x) P Q R p q on_ok on_err = on_ok x p
-either_way (Err e) P Q R p q on_ok on_err = on_err e q

@@ -1,6 +1,6 @@
 -- What lines say, and prefixes of it.
-use Rattle.std.proofs.Common.{◌≡◌, inl, inr, ⊎_elim, ℕ, ◌≤◌, Bool, List, [], ◌∷◌, ◌++◌, length, refl, sym, ◌∙◌, ap, subst, arith, append_assoc, append-nil, length-append}
-use Rattle.std.proofs.lemmas.List.{take_at, take_all, take-append-le}
+use Rattle.std.proofs.Common.{◌≡◌, inl, inr, ⊎_elim, ℕ, ◌≤◌, Bool, List, [], ◌∷◌, ◌++◌, length, take, refl, sym, ◌∙◌, ap, subst, arith, append_assoc, append-nil, length-append}
+use Rattle.std.proofs.lemmas.List.{take_at, take-append-le}
 use Rattle.pana_journal.specs.declared.entry.Entry.{Entry}
 use Rattle.pana_log.specs.declared.log.Log.{Log}
 use Rattle.pana_log.specs.Device.{LeavesOnly}
@@ -29,14 +29,20 @@ loads_more es more old text file loads line sealed after =
       subst IsIntact (sym (after ∙ ap (λ (ls : List (List ℕ)). recovered old ++ ls) sealed.1)) (intact_more (recovered old) sealed.0 loads.1 (λ due. sealed.2)),
     )
 
--- all of the entries are the first ones
-loads_all : (least : ℕ) (es : List Entry) (file : List ℕ) → least ≤ length es → LoadsTo es file → LoadsFirst least es file
-loads_all least es file within loads = (length es, within, omega arith, subst (λ (xs : List Entry). LoadsTo xs file) (sym (take_all (length es) es (omega arith))) loads)
+-- a file that loads to a prefix of the entries
+pub loads_prefix : (least : ℕ) (kept rest es : List Entry) (file : List ℕ) → es ≡ kept ++ rest → least ≤ length kept → LoadsTo kept file → LoadsFirst least es file
+loads_prefix least kept rest es file is within loads = (
+  length kept,
+  within,
+  omega (arith, ap length is, length-append kept rest),
+  subst (λ (xs : List Entry). LoadsTo xs file) (sym (ap (take (length kept)) is ∙ take_at kept rest (length kept) refl)) loads,
+)
 
--- and so are all of those from before
+loads_all : (least : ℕ) (es : List Entry) (file : List ℕ) → least ≤ length es → LoadsTo es file → LoadsFirst least es file
+loads_all least es file within loads = loads_prefix least es [] es file (sym (append-nil es)) within loads
+
 loads_before : (es more : List Entry) (file : List ℕ) → LoadsTo es file → LoadsFirst (length es) (es ++ more) file
-loads_before es more file loads =
-    (length es, omega arith, omega (arith, length-append es more), subst (λ (xs : List Entry). LoadsTo xs file) (sym (take_at es more (length es) refl)) loads)
+loads_before es more file loads = loads_prefix (length es) es more (es ++ more) file refl (omega arith) loads
 
 -- all of before or all of now
 loads_front : (es more : List Entry) (file : List ℕ) → LoadsEither es (es ++ more) file → LoadsFirst (length es) (es ++ more) file
@@ -48,7 +54,7 @@ loads_either : (es more : List Entry) (old text file : List ℕ) → LoadsTo es 
 loads_either es more old text file loads line sealed (inl before) = inl (loads_same es old file before loads)
 loads_either es more old text file loads line sealed (inr after) = inr (loads_more es more old text file loads line sealed after)
 
-loads_grown : (least : ℕ) (es more : List Entry) (file : List ℕ) → LoadsFirst least es file → LoadsFirst least (es ++ more) file
+pub loads_grown : (least : ℕ) (es more : List Entry) (file : List ℕ) → LoadsFirst least es file → LoadsFirst least (es ++ more) file
 loads_grown least es more file loads =
     (loads.0, loads.1, omega (arith, loads.2, length-append es more), subst (λ (xs : List Entry). LoadsTo xs file) (sym (take-append-le loads.0 es more loads.2)) loads.3)
 

@@ -3,4 +3,5 @@ pub mod Ending
 pub mod Entries
 pub mod Opening
 pub mod Store
+pub mod Group
 pub mod inner

@@ -111,7 +111,7 @@ fn finish<D: Device>(
 }
 
 /// The answer to a call whose line the device doesn't take.
-fn answer_to(fault: DeviceFault) -> Answer
+pub(crate) fn answer_to(fault: DeviceFault) -> Answer
     ensures { result ≡ answer_to fault }
 {
     match fault {

@@ -3,13 +3,16 @@
 
 mod ending;
 mod entry_line;
+mod group;
 mod keeping;
 mod open_fault;
 mod opening;
+mod pending;
 mod serving;
 mod store;
 
 pub use crate::ending::before_end;
+pub use crate::group::Group;
 pub use crate::open_fault::OpenFault;
 pub use crate::opening::{Opened, open, read};
 pub use crate::serving::serve_kept;

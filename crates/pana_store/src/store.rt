@@ -46,6 +46,22 @@ impl<D: Device> Store<D> {
         }
     }
 
+    /// What the store is made of. Takes no memory.
+    pub(crate) fn into_parts(self) -> (Global, Hall, Log<D>, Sealer)
+        ensures entries { result.1 ≡ self.entries }
+        ensures log { result.2 ≡ self.log }
+        ensures sealer { result.3 ≡ self.sealer }
+        ensures kept { IsTrue D.is_known → IsKept D.seen D.may_leave D.is_usable self }
+    {
+        let Store {
+            alloc,
+            hall,
+            log,
+            sealer,
+        } = self;
+        (alloc, hall, log, sealer)
+    }
+
     /// Whether the log takes entries: no call that may have changed its file has failed. Takes no memory.
     pub fn is_open(&self) -> bool
         ensures open { IsTrue result ↔ (self.now.log.state ≡ LogState.Open) }
@@ -109,6 +125,11 @@ impl<D: Device> Session for Store<D> {
             Call::Query(query) => Ok(Answer::Given(self.hall.apply(by, Call::Query(query)))),
             call => self.make(by, call),
         }
+    }
+
+    /// Does nothing: each call is kept once it is answered.
+    fn settle(&mut self) -> Result<(), NoAnswer> {
+        Ok(())
     }
 
     /// A report or a sighting takes as long as the disk does.

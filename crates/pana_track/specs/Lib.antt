@@ -1,4 +1,7 @@
 pub mod Fault
+pub mod Ignored
+pub mod IgnoreFile
+pub mod Reading
 pub mod Calls
 pub mod Tally
 pub mod Track

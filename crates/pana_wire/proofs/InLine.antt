@@ -1,18 +1,20 @@
 -- The text of an answer has no newline.
-use Rattle.std.specs.Prelude.{◌≡◌, ℕ, ◌==◌, ◌&&◌, not, Bool, true, false, List, [], ◌∷◌}
+use Rattle.std.specs.Prelude.{◌≡◌, ℕ, ◌==◌, ◌&&◌, not, Bool, true, false, List, [], ◌∷◌, Result, Ok, Err}
 use Rattle.std.specs.List.{list_all}
-use Rattle.std.proofs.Common.{refl, sym, subst, ⊎_elim}
+use Rattle.std.proofs.Common.{refl, sym, subst, inl, inr}
 use Rattle.pana_hall.specs.declared.call.Call.{Call}
 use Rattle.pana_hall.specs.declared.reply.Reply.{Reply}
 use Rattle.pana_wire.specs.declared.field.Field.TheVariants.{By, Do, Device, Path, Copy, Family, A, B, Heir, Sum, Entry, From, Number, Entries}
 use Rattle.pana_wire.specs.declared.fault.WireFault.{WireFault}
 use Rattle.pana_wire.specs.declared.fault.WireFault.TheVariants.{TooLong, NotUtf8, NotJson, NotObject, BadField, OutOfMemory}
+use Rattle.pana_wire.specs.declared.message.Message.{Message}
 use Rattle.pana_wire.specs.Fault.{fault_text}
 use Rattle.pana_wire.specs.declared.answer.Answer.{Answer}
 use Rattle.pana_wire.specs.declared.answer.Answer.TheVariants.{Given, NotKept}
 use Rattle.pana_wire.specs.Answer.{answer_text, not_kept_text}
 use Rattle.pana_wire.specs.Reply.{reply_data, reply_text}
-use Rattle.pana_wire.specs.Timely.{IsAnswer}
+use Rattle.pana_wire.specs.Line.{line_says}
+use Rattle.pana_wire.specs.Session.{AnswersSaid, AnswersLine}
 use Rattle.pana_wire.proofs.OneLine.{IsInLine, text_in_line}
 use Rattle.pana_wire.proofs.Whole.{reply_natural}
 
@@ -53,6 +55,10 @@ said_in_line : (answer : Answer) → IsInLine (answer_text answer)
 said_in_line (Given reply) = reply_in_line reply
 said_in_line NotKept = all_in_line not_kept_text refl
 
-pub answer_in_line : {S : Type 0} (step : S → List ℕ → Call → Answer → S → Type 0) (old : S) (text : List ℕ) (new : S) → IsAnswer step old text new → IsInLine text
-answer_in_line step old text new answer =
-    ⊎_elim (λ a. subst IsInLine (sym a.1) (fault_in_line a.0)) (λ a. subst IsInLine (sym a.4) (said_in_line a.2)) answer
+said_so : {S : Type 0} (step : S → List ℕ → Call → Answer → S → Type 0) (old : S) (said : Result Message WireFault) (text : List ℕ) (new : S) (n : ℕ) → AnswersSaid step old said text new n → IsInLine text
+said_so step old (Err fault) text new n a = subst IsInLine (sym a.0) (fault_in_line fault)
+said_so step old (Ok m) text new n (answer, done, is, one) = subst IsInLine (sym is) (said_in_line answer)
+
+pub answer_in_line : {S : Type 0} (step : S → List ℕ → Call → Answer → S → Type 0) (old : S) (line text : List ℕ) (new : S) (n : ℕ) → AnswersLine step old line text new n → IsInLine text
+answer_in_line step old line text new n (inl said) = said_so step old (line_says line) text new n said
+answer_in_line step old line text new n (inr memory) = subst IsInLine (sym memory.0) (fault_in_line OutOfMemory)

@@ -4,7 +4,8 @@ pub mod Cut
 pub mod Steps
 pub mod Ends
 pub mod Notes
-pub mod Timely
+pub mod Groups
+pub mod Plain
 pub mod Prefixes
 pub mod ReadBack
 pub mod Short
@@ -13,6 +14,6 @@ pub mod EntriesBack
 pub mod OneLine
 pub mod InLine
 pub mod Sealed
+pub mod LongLine
 pub mod SessionRun
 pub mod Said
-pub mod FaultLine

@@ -24,11 +24,11 @@ pub texts_then : (moment : ℕ) (a b c : List Note) (text more : List ℕ) → b
 texts_then moment a b c text more p q =
     notes_then a b c (noted_at moment text) (noted_at moment more) p q ∙ ap (λ (notes : List Note). a ++ notes) (sym (noted_both moment text more))
 
-noted_bytes : (moment : ℕ) (text : List ℕ) → bytes_in (noted_at moment text) ≡ text
+pub noted_bytes : (moment : ℕ) (text : List ℕ) → bytes_in (noted_at moment text) ≡ text
 noted_bytes moment [] = refl
 noted_bytes moment (byte ∷ text) = ap (λ (bytes : List ℕ). byte ∷ bytes) (noted_bytes moment text)
 
-bytes_both : (xs ys : List Note) → bytes_in (xs ++ ys) ≡ bytes_in xs ++ bytes_in ys
+pub bytes_both : (xs ys : List Note) → bytes_in (xs ++ ys) ≡ bytes_in xs ++ bytes_in ys
 bytes_both [] ys = refl
 bytes_both (note ∷ xs) ys = ap (λ (bytes : List ℕ). note.byte ∷ bytes) (bytes_both xs ys)
 
@@ -47,9 +47,6 @@ module _ {W : Type 0} (contents : W → Option (List ℕ)) where
   )
 
 module _ {W : Type 0} (contents : W → Option (List ℕ)) (moment : ℕ) (a : Tap W) where
-  pub whole_noted : (b : Tap W) (text : List ℕ) → noted b ≡ noted a ++ noted_at moment text → Appends (contents (inside a)) (contents (inside b)) text → NotesPrefix contents moment a b text
-  whole_noted b text notes written = (text, [], notes, written, sym (append-nil text))
-
   -- a prefix of the first of two texts
   pub first_noted : (b : Tap W) (text more : List ℕ) → NotesPrefix contents moment a b text → NotesPrefix contents moment a b (text ++ more)
   first_noted b text more p =

@@ -1,20 +1,22 @@
--- Laws of writing a prefix of a text.
-use Rattle.std.proofs.Common.{◌≡◌, ℕ, List, [], ◌∷◌, ◌++◌, Option, false, refl, sym, ap, subst, ◌∙◌, append_assoc, append-nil, inl, Ok}
+-- Laws of writing a prefix of a text, and of the answer to a line.
+use Rattle.std.proofs.Common.{◌≡◌, ℕ, List, ◌++◌, Option, take, refl, sym, ap, subst, ◌∙◌, append_assoc, inl, inr, Ok}
 use Rattle.std.specs.Io.KnownBytes.{Appends}
-use Rattle.std.proofs.KnownBytes.{Appends-nil, Appends-trans}
+use Rattle.std.proofs.KnownBytes.{Appends-trans}
 use Rattle.pana_hall.specs.declared.call.Call.{Call}
 use Rattle.pana_wire.specs.declared.answer.Answer.{Answer}
+use Rattle.pana_wire.specs.declared.fault.WireFault.{WireFault}
+use Rattle.pana_wire.specs.declared.fault.WireFault.TheVariants as faults
 use Rattle.pana_wire.specs.declared.message.Message.{Message}
 use Rattle.pana_wire.specs.declared.tap.Tap.{Tap}
 use Rattle.pana_wire.specs.declared.serving.ServeFault.{ServeFault}
-use Rattle.pana_wire.specs.declared.serving.ServeFault.TheVariants.{OutOfMemory}
-use Rattle.pana_wire.specs.Line.{line_says}
+use Rattle.pana_wire.specs.Fault.{fault_text}
+use Rattle.pana_wire.specs.Line.{Fails, IsText, line_says}
 use Rattle.pana_wire.specs.Answer.{answer_text}
-use Rattle.pana_wire.specs.Tap.{has_failed, noted, AppendsPrefix}
+use Rattle.pana_wire.specs.Tap.{noted, AppendsPrefix}
 use Rattle.pana_wire.specs.Session.{AnswersLine}
 use Rattle.pana_wire.specs.inner.Writing.{Writes, WritesPrefix}
-use Rattle.pana_wire.specs.inner.Progress.{Breaks}
 use Rattle.pana_wire.proofs.Notes.{texts_then, first_noted, second_noted}
+use Rattle.pana_wire.proofs.Steps.{line_cut}
 
 -- a prefix of the first of two texts
 prefix_of_first : (a b : Option (List ℕ)) (text more : List ℕ) → AppendsPrefix a b text → AppendsPrefix a b (text ++ more)
@@ -28,9 +30,6 @@ prefix_of_second a b c text more p q =
     let (written, rest, appended, split) = q in
     (text ++ written, rest, Appends-trans a b c text written p appended, ap (λ l. text ++ l) split ∙ sym (append_assoc text written rest))
 
-pub whole_is_prefix : (a b : Option (List ℕ)) (text : List ℕ) → Appends a b text → AppendsPrefix a b text
-whole_is_prefix a b text p = (text, [], p, sym (append-nil text))
-
 module _ {W : Type 0} (contents : W → Option (List ℕ)) (moment : ℕ) where
   pub writes_both : (a b c : Tap W) (text more : List ℕ) → Writes contents moment a b text → Writes contents moment b c more → Writes contents moment a c (text ++ more)
   writes_both a b c text more p q = record { written = Appends-trans _ _ _ text more p.written q.written; works = q.works; notes = texts_then moment (noted a) (noted b) (noted c) text more p.notes q.notes }
@@ -42,37 +41,22 @@ module _ {W : Type 0} (contents : W → Option (List ℕ)) (moment : ℕ) where
       → WritesPrefix contents moment a c (text ++ more) fault
   breaks_second a b c text more fault p q = record { is_write = q.is_write; failed = q.failed; written = prefix_of_second _ _ _ text more p.written q.written; notes = second_noted contents moment a b c text more p.notes p.written q.notes }
 
-  -- what was written whole, and then a prefix of more, which isn't all
-  pub breaks_after_text : (a b c : Tap W) (done more rest whole : List ℕ) (fault : ServeFault) → whole ≡ done ++ (more ++ rest) → Writes contents moment a b done → WritesPrefix contents moment b c more fault
-      → WritesPrefix contents moment a c whole fault
-  breaks_after_text a b c done more rest whole fault e p q =
-      subst (λ l. WritesPrefix contents moment a c l fault) (sym e) (breaks_second a b c done (more ++ rest) fault p (breaks_first b c more rest fault q))
-
 module _ {S : Type 0} (step : S → List ℕ → Call → Answer → S → Type 0) where
-  -- a message, and the text of its answer
-  pub said_line : (old : S) (line : List ℕ) (m : Message) (answer : Answer) (text : List ℕ) (new : S) → line_says line ≡ Ok m
-      → step old m.by m.call answer new → text ≡ answer_text answer → AnswersLine step old line text new 1
-  said_line old line m answer text new says done e = inl (rw says (answer, done, e, refl))
+  -- a message, and the text of its answer, to a line of which this is held
+  pub said_line : (old : S) (held line : List ℕ) (m : Message) (text : List ℕ) (new : S) → held ≡ take 65537 line → line_says held ≡ Ok m
+      → (answer : Answer) × step old m.by m.call answer new × (text ≡ answer_text answer) → AnswersLine step old line text new 1
+  said_line old held line m text new is says (answer, done, e) =
+      line_cut step old line text new 1 (subst (λ (l : List ℕ). AnswersLine step old l text new 1) is (inl (rw says (answer, done, e, refl))))
 
-  -- memory ran out for the answer to a line
-  pub lost_answer : {W : Type 0} (contents : W → Option (List ℕ)) (fails : S → List ℕ → Call → S → Type 0) (old : S) (line : List ℕ) (m : Message) (answer : Answer) (new : S) (a : Tap W)
-      → line_says line ≡ Ok m → step old m.by m.call answer new → has_failed a ≡ false → Breaks contents step fails a a old (line ∷ []) new OutOfMemory
-  lost_answer contents fails old line m answer new a says done works = record {
-    output = [];
-    writes = Appends-nil _;
-    breaks = inl (m, answer, says, done, refl);
-    is_out = works;
-  }
-
-  -- a write failed in the answer to a line
-  pub broken_write : {W : Type 0} (contents : W → Option (List ℕ)) (moment : ℕ) (fails : S → List ℕ → Call → S → Type 0) (fault : ServeFault) (old : S) (line text : List ℕ) (new : S) (steps : ℕ) (a b : Tap W)
-      → AnswersLine step old line text new steps → WritesPrefix contents moment a b (text ++ 10 ∷ []) fault
-      → Breaks contents step fails a b old (line ∷ []) new fault
-  broken_write contents moment fails fault old line text new steps a b answers p =
-      let (written, rest, appended, split) = p.written in
-      subst (λ f. Breaks contents step fails a b old (line ∷ []) new f) (sym p.is_write) (record {
-        output = written;
-        writes = appended;
-        breaks = inl (text, rest, steps, answers, split);
-        is_out = p.failed;
-      })
+  -- a fault, which is the line's, or that memory ran out
+  pub faulty_line : (old : S) (held line text : List ℕ) (fault : WireFault) → held ≡ take 65537 line → Fails fault (line_says held) → (fault ≡ faults.OutOfMemory → IsText held) → text ≡ fault_text fault → AnswersLine step old line text old 0
+  faulty_line old held line text fault is says memory e =
+      line_cut step old line text old 0 (subst (λ (l : List ℕ). AnswersLine step old l text old 0) is (here fault says memory e))
+    where
+      here : (fault : WireFault) → Fails fault (line_says held) → (fault ≡ faults.OutOfMemory → IsText held) → text ≡ fault_text fault → AnswersLine step old held text old 0
+      here faults.OutOfMemory says memory e = inr (e, refl, refl, memory refl)
+      here faults.TooLong says memory e = inl (rw says (e, refl, refl))
+      here faults.NotUtf8 says memory e = inl (rw says (e, refl, refl))
+      here faults.NotJson says memory e = inl (rw says (e, refl, refl))
+      here faults.NotObject says memory e = inl (rw says (e, refl, refl))
+      here (faults.BadField field) says memory e = inl (rw says (e, refl, refl))

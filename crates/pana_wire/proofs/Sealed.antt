@@ -66,7 +66,7 @@ digits_plain (b ∷ bytes) are =
 
 -- ---- the text
 
-abbrev head_of : List Entry → List ℕ
+abbrev pub head_of : List Entry → List ℕ
 head_of entries = 123 ∷ (quoted (codes "entries") ++ 58 ∷ compact_text (entries_data entries))
 
 opened : (entries : List Entry) (rest : List ℕ) → 123 ∷ (quoted (codes "entries") ++ 58 ∷ (compact_text (entries_data entries) ++ rest)) ≡ head_of entries ++ rest
@@ -79,7 +79,7 @@ entries_text_is entries = opened entries (125 ∷ [])
 but_last : (xs : List ℕ) (b : ℕ) → take (length (xs ++ b ∷ []) - 1) (xs ++ b ∷ []) ≡ xs
 but_last xs b = take_at xs (b ∷ []) (length (xs ++ b ∷ []) - 1) (omega (arith, length-append xs (b ∷ [])))
 
-body_is : (entries : List Entry) → entries_body entries ≡ head_of entries
+pub body_is : (entries : List Entry) → entries_body entries ≡ head_of entries
 body_is entries = ap (λ (t : List ℕ). take (length t - 1) t) (entries_text_is entries) ∙ but_last (head_of entries) 125
 
 tail_is : (digest : List ℕ) → IsBytes digest → 44 ∷ (quoted (codes "sha256") ++ 58 ∷ (quoted (encode_lower digest) ++ 125 ∷ [])) ≡ mark ++ (encode_lower digest ++ close)

@@ -10,6 +10,7 @@ pub mod Answer
 pub mod Lines
 pub mod Tap
 pub mod Session
+pub mod Groups
 pub mod Timely
 pub mod Seal
 pub mod Shown

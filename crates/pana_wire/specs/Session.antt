@@ -1,5 +1,6 @@
 -- What a session writes for what it reads.
 use Rattle.std.specs.Prelude.{◌≡◌, ℕ, ◌+◌, List, [], ◌∷◌, ◌++◌, length, Option, Result, Ok, Err, ◌⊎◌, Bool, true, false}
+use mathlib.Core.List.{IsPrefix}
 use Rattle.std.specs.Io.KnownBytes.{Consumes, Appends, IsAtEnd}
 use Rattle.pana_hall.specs.declared.call.Call.{Call}
 use Rattle.pana_wire.specs.declared.answer.Answer.{Answer}
@@ -35,20 +36,39 @@ AnswersLines {S = S} step old (line ∷ lines) output new steps = (mid : S) × (
 abbrev pub SessionText : {S : Type 0} → (S → List ℕ → Call → Answer → S → Type 0) → S → List ℕ → List ℕ → S → ℕ → Type 0
 SessionText step old input output new steps = AnswersLines step old (lines_of input) output new steps
 
--- where serving breaks off at a line. A write failed: a prefix of the answer is written. Memory ran out: the call was
--- made, and nothing of its answer is written. The call has no answer: nothing is written.
-abbrev pub BreaksAt : {S : Type 0} → (S → List ℕ → Call → Answer → S → Type 0) → (S → List ℕ → Call → S → Type 0) → ServeFault → S → List ℕ → List ℕ → S → Type 0
-BreaksAt step fails Read old line output new = ⊥
-BreaksAt step fails Write old line output new = (text : List ℕ) × (rest : List ℕ) × (steps : ℕ) × AnswersLine step old line text new steps × (text ++ 10 ∷ [] ≡ output ++ rest)
-BreaksAt step fails OutOfMemory old line output new = (m : Message) × (answer : Answer) × (line_says line ≡ Ok m) × step old m.by m.call answer new × (output ≡ [])
-BreaksAt step fails NoAnswer old line output new = (m : Message) × (line_says line ≡ Ok m) × fails old m.by m.call new × (output ≡ [])
-BreaksAt step fails Turns old line output new = ⊥
+-- the calls of the first of the lines are made, and these are their answers
+pub record Made {S : Type 0} (step : S → List ℕ → Call → Answer → S → Type 0) (old : S) (lines : List (List ℕ)) : Type 0 where
+  pub first : List (List ℕ)
+  pub others : List (List ℕ)
+  pub text : List ℕ
+  pub last : S
+  pub steps : ℕ
+  pub split : lines ≡ first ++ others
+  pub answers : AnswersLines step old first text last steps
 
--- serving breaks off at one of the lines, and those before it are answered
+-- the next line's call is made, and its answer is lost, since memory ran out for it
+abbrev pub LosesNext : {S : Type 0} → (S → List ℕ → Call → Answer → S → Type 0) → S → List (List ℕ) → S → Type 0
+LosesNext step old [] new = ⊥
+LosesNext step old (line ∷ lines) new = (m : Message) × (answer : Answer) × (line_says line ≡ Ok m) × step old m.by m.call answer new
+
+-- the next line's call has no answer
+abbrev pub FailsNext : {S : Type 0} → (S → List ℕ → Call → S → Type 0) → S → List (List ℕ) → S → Type 0
+FailsNext fails old [] new = ⊥
+FailsNext fails old (line ∷ lines) new = (m : Message) × (line_says line ≡ Ok m) × fails old m.by m.call new
+
+-- no further call is made, or the next line's, and it has no answer that could be written
+abbrev pub MayCallNext : {S : Type 0} → (S → List ℕ → Call → Answer → S → Type 0) → (S → List ℕ → Call → S → Type 0) → S → List (List ℕ) → S → Type 0
+MayCallNext step fails old lines new = (new ≡ old) ⊎ (LosesNext step old lines new ⊎ FailsNext fails old lines new)
+
+-- Where serving breaks off among lines, the calls of the first of them are made. A write failed: a prefix of their answers is
+-- written, and one call more may have been made. Memory ran out for the answer of one call more, or one call more has no
+-- answer: all of theirs are written.
 abbrev pub BreaksIn : {S : Type 0} → (S → List ℕ → Call → Answer → S → Type 0) → (S → List ℕ → Call → S → Type 0) → ServeFault → S → List (List ℕ) → List ℕ → S → Type 0
-BreaksIn step fails fault old [] output new = ⊥
-BreaksIn {S = S} step fails fault old (line ∷ lines) output new = BreaksAt step fails fault old line output new
-    ⊎ ((mid : S) × (text : List ℕ) × (rest : List ℕ) × (steps : ℕ) × AnswersLine step old line text mid steps × BreaksIn step fails fault mid lines rest new × (output ≡ text ++ 10 ∷ rest))
+BreaksIn step fails Read old lines output new = ⊥
+BreaksIn step fails Write old lines output new = (made : Made step old lines) × MayCallNext step fails made.last made.others new × IsPrefix output made.text
+BreaksIn step fails OutOfMemory old lines output new = (made : Made step old lines) × LosesNext step made.last made.others new × (output ≡ made.text)
+BreaksIn step fails NoAnswer old lines output new = (made : Made step old lines) × FailsNext fails made.last made.others new × (output ≡ made.text)
+BreaksIn step fails Turns old lines output new = ⊥
 
 -- the lines that have come: those that have ended, and once the end of the input was met, also the last one
 abbrev pub lines_come : Bool → List ℕ → List (List ℕ)
@@ -56,7 +76,7 @@ lines_come true input = lines_of input
 lines_come false input = ended [] input
 
 -- what is written where serving stops, by whether the end of the input was met. No more could be read: the answers to
--- all lines that have ended. Else serving breaks off at a line that has come.
+-- all lines that have ended. Else serving breaks off among the lines that have come.
 abbrev pub EndsBy : {S : Type 0} → (S → List ℕ → Call → Answer → S → Type 0) → (S → List ℕ → Call → S → Type 0) → ServeFault → Bool → S → List ℕ → List ℕ → S → Type 0
 EndsBy step fails Read met old input output new = (steps : ℕ) × AnswersLines step old (ended [] input) output new steps
 EndsBy step fails Write met old input output new = BreaksIn step fails Write old (lines_come met input) output new

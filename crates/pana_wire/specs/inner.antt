@@ -1,6 +1,7 @@
 -- Words that only inner functions and proofs need.
 pub mod Kept
 pub mod Names
+pub mod LongLine
 pub mod Progress
 pub mod SealedData
 pub mod Writing

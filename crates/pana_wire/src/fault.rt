@@ -1,4 +1,5 @@
 ghost use Rattle.std.specs.Prelude.{◌≡◌};
+ghost use Rattle.pana_wire.specs.Fault.{fault_text};
 ghost use Rattle.pana_wire.specs.Shown.{fault_name};
 
 use crate::field::Field;
@@ -34,6 +35,33 @@ impl WireFault {
             WireFault::NotObject => "NotObject",
             WireFault::BadField(_) => "BadField",
             WireFault::OutOfMemory => "OutOfMemory",
+        }
+    }
+
+    /// The answer to a line with this fault. Takes no memory.
+    pub fn answer(self) -> &'static str
+        ensures { result.now ≡ fault_text self }
+    {
+        match self {
+            WireFault::TooLong => "{\"fault\":\"TooLong\"}",
+            WireFault::NotUtf8 => "{\"fault\":\"NotUtf8\"}",
+            WireFault::NotJson => "{\"fault\":\"NotJson\"}",
+            WireFault::NotObject => "{\"fault\":\"NotObject\"}",
+            WireFault::BadField(Field::By) => "{\"fault\":\"BadField\",\"field\":\"by\"}",
+            WireFault::BadField(Field::Do) => "{\"fault\":\"BadField\",\"field\":\"do\"}",
+            WireFault::BadField(Field::Device) => "{\"fault\":\"BadField\",\"field\":\"device\"}",
+            WireFault::BadField(Field::Path) => "{\"fault\":\"BadField\",\"field\":\"path\"}",
+            WireFault::BadField(Field::Copy) => "{\"fault\":\"BadField\",\"field\":\"copy\"}",
+            WireFault::BadField(Field::Family) => "{\"fault\":\"BadField\",\"field\":\"family\"}",
+            WireFault::BadField(Field::A) => "{\"fault\":\"BadField\",\"field\":\"a\"}",
+            WireFault::BadField(Field::B) => "{\"fault\":\"BadField\",\"field\":\"b\"}",
+            WireFault::BadField(Field::Heir) => "{\"fault\":\"BadField\",\"field\":\"heir\"}",
+            WireFault::BadField(Field::Sum) => "{\"fault\":\"BadField\",\"field\":\"sum\"}",
+            WireFault::BadField(Field::Entry) => "{\"fault\":\"BadField\",\"field\":\"entry\"}",
+            WireFault::BadField(Field::From) => "{\"fault\":\"BadField\",\"field\":\"from\"}",
+            WireFault::BadField(Field::Number) => "{\"fault\":\"BadField\",\"field\":\"number\"}",
+            WireFault::BadField(Field::Entries) => "{\"fault\":\"BadField\",\"field\":\"entries\"}",
+            WireFault::OutOfMemory => "{\"fault\":\"OutOfMemory\"}",
         }
     }
 }

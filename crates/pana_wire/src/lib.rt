@@ -2,6 +2,7 @@
 #![tactic(auto)]
 
 mod answer;
+mod answer_buffer;
 mod cutting;
 mod dump;
 mod fault;
@@ -10,6 +11,7 @@ mod laws;
 mod line_buffer;
 mod line_fault;
 mod message;
+mod open_line;
 mod reading;
 mod report_writing;
 mod sealing;
@@ -27,10 +29,11 @@ pub use crate::field::Field;
 pub use crate::laws::every_session_is_a_run;
 pub use crate::line_fault::LineFault;
 pub use crate::message::Message;
+pub use crate::open_line::OpenLine;
 pub use crate::reading::decode;
 pub use crate::report_writing::encode_call;
 pub use crate::sealing::encode_sealed_entry;
-pub use crate::serving::{ServeFault, Served, serve};
+pub use crate::serving::{ServeFault, Served, serve, serve_groups};
 pub use crate::session::Session;
 pub use crate::tap::Tap;
 pub use crate::writing::{encode, encode_answer, encode_entry};

@@ -11,6 +11,7 @@ ghost use Rattle.pana_wire.specs.Word.{fields_of};
 ghost use Rattle.pana_wire.specs.inner.Names.{HasPlaceNames, IsSumOrNone, HasNames, HasEntryNames};
 ghost use Rattle.pana_wire.specs.Report.{number_data, heir_contents, sum_contents, kind_word, report_word, contents_of, put_fields, put_report, report_data, report_text, entry_data};
 ghost use Rattle.pana_wire.specs.Reply.{entries_data};
+ghost use Rattle.pana_wire.specs.inner.LongLine.{IsTextOf};
 
 use crate::field::Field;
 use crate::word::Word;
@@ -69,6 +70,14 @@ pub fn line_value(alloc: Global, entry: &Entry, second: Option<&Entry>) -> Resul
         }
         None => Ok(Value::Array(vec![in alloc; first]?)),
     }
+}
+
+/// The text of an entry, as it stands in a line that has it. Fails only where memory runs out.
+pub fn encode_one(alloc: Global, entry: &Entry) -> Result<String, AllocError>
+    ensures { IfOk result (λ text. IsTextOf entry.now (string_bytes text)) }
+{
+    let value = entry_value(alloc, entry)?;
+    value.to_string(alloc)
 }
 
 #[tactic(auto, unfolding(crate::specs::Report::entry_data))]

@@ -1,27 +1,30 @@
-ghost use Rattle.std.specs.Prelude.{◌≡◌, ◌+◌, ◌^◌, ◌<◌, ◌≤◌, ◌⊎◌, [], ◌∷◌, ◌++◌, false, IfOk, IfErr, OnOk, OnErr};
+ghost use Rattle.std.specs.Prelude.{◌≡◌, ◌+◌, ◌^◌, ◌<◌, ◌≤◌, ◌⊎◌, List, ℕ, [], ◌∷◌, ◌++◌, length, false, IfOk, IfErr, OnOk, string_bytes};
+ghost use Rattle.pana_wire.specs.declared.answer.Answer.{Answer};
+ghost use Rattle.pana_wire.specs.Answer.{answer_text};
 ghost use Rattle.pana_wire.specs.Tap.{has_failed, MadeAtMost};
-ghost use Rattle.pana_wire.specs.Fault.{fault_text};
-ghost use Rattle.pana_wire.specs.Lines.{last_line};
+ghost use Rattle.pana_wire.specs.Groups.{ServesGroups, StopsGroups};
+ghost use Rattle.pana_wire.specs.Lines.{ended, unended, last_line};
 ghost use Rattle.pana_wire.specs.Session.{Serves, Stops, NeverBegins};
-ghost use Rattle.pana_wire.specs.Timely.{IsTimely};
-ghost use Rattle.pana_wire.specs.inner.Kept.{ended_kept};
-ghost use Rattle.pana_wire.specs.inner.Progress.{Answers, Breaks, Takes, IsTimelySoFar, both};
+ghost use Rattle.pana_wire.specs.Timely.{IsSettledAlways, IsTimely};
+ghost use Rattle.pana_wire.specs.inner.Progress.{Advances, BreaksNext, Holds, IsHeldOf, IsLost, IsOutFault, Puts, Releases, both};
 ghost use Rattle.pana_wire.specs.inner.Writing.{Writes, WritesPrefix};
 
-use crate::fault::WireFault;
+use crate::answer_buffer::AnswerBuffer;
 use crate::line_buffer::LineBuffer;
 use crate::message::Message;
 use crate::reading::decode;
 use crate::session::Session;
 use crate::tap::Tap;
 use crate::writing::encode_answer;
-use std::alloc::Global;
+use pana_copies::DeviceName;
+use pana_hall::Call;
+use std::alloc::{AllocError, Global};
 use std::error::Error;
 use std::fmt;
 use std::io::{Read, Write};
 
 /// How many bytes are read at a time.
-const PIECE: usize = 4096;
+const PIECE: usize = 65536;
 
 /// How many lines were answered, and how many calls that took.
 #[derive(Clone, Copy, Debug, PartialEq, Eq)]
@@ -37,9 +40,9 @@ pub enum ServeFault {
     Read,
     /// A write failed, or took none of some bytes.
     Write,
-    /// An allocation failed: of the line buffer, or of the answer to a call that was made.
+    /// An allocation failed: of what serving takes at its start, or of the answer to a call that was made.
     OutOfMemory,
-    /// A call has no answer.
+    /// A call has no answer, or those that were made can't be kept.
     NoAnswer,
     /// All the reads that were allowed were made, and the input didn't end.
     Turns,
@@ -80,24 +83,67 @@ impl Served {
     }
 }
 
-/// Answers each line of the reader by a line to the writer, until the reader's end.
+/// Answers each line of the reader by a line to the writer, until the reader's end, on a session that settles.
 ///
 /// A line with a fault is answered with its fault, and makes no call. Every other line makes one call, and is
-/// answered with its answer's text; where memory runs out before the call, the line's fault is `OutOfMemory`. All lines
-/// that have come are answered before the next read, and each answer is flushed.
+/// answered with its answer's text; where memory runs out before the call, the line's fault is `OutOfMemory`. The lines that
+/// have come together are answered together: their calls are made, the session settles, and only then their answers are
+/// written and flushed, before the next read. Where the answers to more than 65,536 bytes have been made, they are settled and
+/// written at once.
 ///
 /// # Errors
 ///
-/// `OutOfMemory` where the line buffer can't be allocated, before the first read, or where the answer to a call that
+/// `OutOfMemory` where what serving takes can't be allocated, before the first read, or where the answer to a call that
 /// was made can't; `Read` where a read failed; `Write` where a write failed or took none of some bytes; `NoAnswer` where
-/// a call has none; `Turns` after this many reads without the end. What was written is then a prefix of the
-/// answers to the lines that came.
+/// a call has none, or where the session couldn't settle; `Turns` after this many reads without the end. What was written is
+/// then a prefix of the answers to the lines that came, and no byte of an answer whose call wasn't settled; further calls of
+/// these lines may have been made.
 ///
 /// A tap that had ended before may be lent too: it is read again, and of `Read` and `Turns` it isn't known then
 /// whether the end was met anew.
 ///
-/// It takes 65,537 bytes for a line at the start, and for each line no more than `decode`, the call and `encode` do,
+/// It takes 196,609 bytes at the start, and for each line no more than `decode`, the call and `encode` do,
 /// which is given back before the next line. O(n) in the bytes that are read, besides these.
+pub fn serve_groups<R: Read, W: Write, S: Session>(
+    alloc: Global,
+    reader: &mut Tap<R>,
+    writer: &mut Tap<W>,
+    session: &mut S,
+    reads: u64,
+) -> Result<Served, ServeFault>
+    requires reader { has_failed reader.old ≡ false }
+    requires writer { has_failed writer.old ≡ false }
+    requires reads { reads ≤ 2 ^ 40 }
+    ensures ok { IfOk result (ServesGroups R.remaining W.contents S.step S.settles S.moment
+        reader.old reader.new writer.old writer.new session.old session.new) }
+    ensures fault { IfErr result (λ fault.
+        NeverBegins reader.old reader.new writer.old writer.new session.old session.new fault
+        ⊎ StopsGroups R.remaining W.contents S.step S.fails S.settles S.breaks_off S.moment reads
+        reader.old reader.new writer.old writer.new session.old session.new fault) }
+    ensures reads { MadeAtMost reads reader.old reader.new }
+{
+    let Ok(buffers) = Buffers::new(alloc) else {
+        return Err(ServeFault::OutOfMemory);
+    };
+    let Buffers {
+        mut piece,
+        mut line,
+        mut answers,
+    } = buffers;
+    let piece = piece.as_mut_slice();
+    serve_lines(
+        alloc,
+        &mut answers,
+        reader,
+        writer,
+        session,
+        piece,
+        &mut line,
+        reads,
+    )
+}
+
+/// Serves as `serve_groups` does, on a session each of whose calls is settled once it is made, so that to settle does nothing.
 pub fn serve<R: Read, W: Write, S: Session>(
     alloc: Global,
     reader: &mut Tap<R>,
@@ -108,6 +154,7 @@ pub fn serve<R: Read, W: Write, S: Session>(
     requires reader { has_failed reader.old ≡ false }
     requires writer { has_failed writer.old ≡ false }
     requires reads { reads ≤ 2 ^ 40 }
+    requires settled { IsSettledAlways S.settles S.breaks_off }
     ensures ok { IfOk result (Serves R.remaining W.contents S.step
         reader.old reader.new writer.old writer.new session.old session.new) }
     ensures fault { IfErr result (λ fault.
@@ -117,42 +164,66 @@ pub fn serve<R: Read, W: Write, S: Session>(
     ensures reads { MadeAtMost reads reader.old reader.new }
     ensures timely { IsTimely W.contents S.step S.fails S.moment writer.old writer.new session.old session.new }
 {
-    match LineBuffer::new(alloc) {
-        Ok(mut held) => serve_lines(alloc, reader, writer, session, &mut held, reads),
-        Err(_) => Err(ServeFault::OutOfMemory),
+    serve_groups(alloc, reader, writer, session, reads)
+}
+
+/// What serving takes at its start.
+#[derive(Drop)]
+struct Buffers {
+    piece: Vec<u8>,
+    line: LineBuffer,
+    answers: AnswerBuffer,
+}
+
+impl Buffers {
+    fn new(alloc: Global) -> Result<Buffers, AllocError>
+        ensures piece { IfOk result (λ buffers. length buffers.piece.items ≡ 65536) }
+        ensures line { IfOk result (λ buffers. buffers.line ≡ []) }
+        ensures answers { IfOk result (λ buffers. buffers.answers ≡ []) }
+    {
+        let piece = vec![in alloc; 0; PIECE]?;
+        let line = LineBuffer::new(alloc)?;
+        let answers = AnswerBuffer::new(alloc)?;
+        Ok(Buffers {
+            piece,
+            line,
+            answers,
+        })
     }
 }
 
 fn serve_lines<R: Read, W: Write, S: Session>(
     alloc: Global,
+    answers: &mut AnswerBuffer,
     reader: &mut Tap<R>,
     writer: &mut Tap<W>,
     session: &mut S,
+    piece: &mut [u8],
     held: &mut LineBuffer,
     reads: u64,
 ) -> Result<Served, ServeFault>
     requires reader { has_failed reader.old ≡ false }
     requires writer { has_failed writer.old ≡ false }
+    requires piece { length piece.old ≡ 65536 }
     requires held { held.old ≡ [] }
+    requires answers { answers.old ≡ [] }
     requires reads { reads ≤ 2 ^ 40 }
-    ensures ok { IfOk result (Serves R.remaining W.contents S.step
+    ensures ok { IfOk result (ServesGroups R.remaining W.contents S.step S.settles S.moment
         reader.old reader.new writer.old writer.new session.old session.new) }
-    ensures fault { IfErr result (Stops R.remaining W.contents S.step S.fails reads
+    ensures fault { IfErr result (StopsGroups R.remaining W.contents S.step S.fails S.settles S.breaks_off S.moment reads
         reader.old reader.new writer.old writer.new session.old session.new) }
     ensures reads { MadeAtMost reads reader.old reader.new }
-    ensures timely { IsTimely W.contents S.step S.fails S.moment writer.old writer.new session.old session.new }
 {
-    let mut piece = [0u8; PIECE];
     let mut served = Served::NOTHING;
     for _ in 0..reads {
-        match reader.read(&mut piece) {
+        match reader.read(piece) {
             Err(_) => return Err(ServeFault::Read),
             Ok(0) => {
-                let last = finish(alloc, writer, session, held)?;
+                let last = finish(alloc, answers, writer, session, held)?;
                 return Ok(served.and(last));
             }
             Ok(length) => {
-                let more = take_piece(alloc, writer, session, held, &piece[..length])?;
+                let more = take_piece(alloc, answers, writer, session, held, &piece[..length])?;
                 served = served.and(more);
             }
         }
@@ -160,25 +231,56 @@ fn serve_lines<R: Read, W: Write, S: Session>(
     Err(ServeFault::Turns)
 }
 
+/// Answers the lines that end in the piece. All that was held is written then.
 fn take_piece<W: Write, S: Session>(
     alloc: Global,
+    answers: &mut AnswerBuffer,
     writer: &mut Tap<W>,
     session: &mut S,
     held: &mut LineBuffer,
     piece: &[u8],
 ) -> Result<Served, ServeFault>
     requires { has_failed writer.old ≡ false }
-    ensures ok { IfOk result (Takes W.contents S.step
-        writer.old writer.new session.old held.old piece.now session.new held.new) }
-    ensures fault { IfErr result (Breaks W.contents S.step S.fails
-        writer.old writer.new session.old (ended_kept held.old piece.now) session.new) }
-    ensures timely { OnOk result (IsTimelySoFar W.contents S.step S.moment writer.old writer.new session.old session.new) }
-    ensures broken { OnErr result (IsTimely W.contents S.step S.fails S.moment writer.old writer.new session.old session.new) }
+    ensures ok { IfOk result (λ served. (begun : List ℕ) → IsHeldOf held.old begun → Advances W.contents S.step S.fails S.settles S.breaks_off S.moment
+        writer.old writer.new session.old session.new answers.old [] (ended begun piece.now) served.calls) }
+    ensures fault { IfErr result (λ fault. (begun : List ℕ) → IsHeldOf held.old begun → BreaksNext W.contents S.step S.fails S.settles S.breaks_off S.moment
+        writer.old writer.new session.old session.new answers.old (ended begun piece.now) fault) }
+    ensures held { OnOk result ((begun : List ℕ) → IsHeldOf held.old begun → IsHeldOf held.new (unended begun piece.now)) }
+    ensures lines { IfOk result (λ served. (begun : List ℕ) → served.lines ≡ length (ended begun piece.now)) }
+    ensures few { IfOk result (λ served. (served.calls ≤ served.lines) × (served.lines ≤ length piece.now)) }
+    ensures works { OnOk result (has_failed writer.new ≡ false) }
+    ensures empty { OnOk result (answers.new ≡ []) }
+    ensures out { IfErr result (IsOutFault (has_failed writer.new)) }
+{
+    let served = take_lines(alloc, answers, writer, session, held, piece)?;
+    send(answers, writer, session)?;
+    Ok(served)
+}
+
+/// Makes the calls of the lines that end in the piece.
+fn take_lines<W: Write, S: Session>(
+    alloc: Global,
+    answers: &mut AnswerBuffer,
+    writer: &mut Tap<W>,
+    session: &mut S,
+    held: &mut LineBuffer,
+    piece: &[u8],
+) -> Result<Served, ServeFault>
+    requires { has_failed writer.old ≡ false }
+    ensures ok { IfOk result (λ served. (begun : List ℕ) → IsHeldOf held.old begun → Advances W.contents S.step S.fails S.settles S.breaks_off S.moment
+        writer.old writer.new session.old session.new answers.old answers.new (ended begun piece.now) served.calls) }
+    ensures fault { IfErr result (λ fault. (begun : List ℕ) → IsHeldOf held.old begun → BreaksNext W.contents S.step S.fails S.settles S.breaks_off S.moment
+        writer.old writer.new session.old session.new answers.old (ended begun piece.now) fault) }
+    ensures held { OnOk result ((begun : List ℕ) → IsHeldOf held.old begun → IsHeldOf held.new (unended begun piece.now)) }
+    ensures lines { IfOk result (λ served. (begun : List ℕ) → served.lines ≡ length (ended begun piece.now)) }
+    ensures few { IfOk result (λ served. (served.calls ≤ served.lines) × (served.lines ≤ length piece.now)) }
+    ensures works { OnOk result (has_failed writer.new ≡ false) }
+    ensures out { IfErr result (IsOutFault (has_failed writer.new)) }
 {
     let mut served = Served::NOTHING;
     for byte in piece {
         if *byte == b'\n' {
-            let answered = answer(alloc, writer, session, held.as_slice())?;
+            let answered = answer(alloc, answers, writer, session, held.as_slice())?;
             served = served.and(answered);
             held.clear();
         } else {
@@ -188,74 +290,149 @@ fn take_piece<W: Write, S: Session>(
     Ok(served)
 }
 
+/// Answers the last line, where there is one.
 fn finish<W: Write, S: Session>(
     alloc: Global,
+    answers: &mut AnswerBuffer,
     writer: &mut Tap<W>,
     session: &mut S,
     held: &LineBuffer,
 ) -> Result<Served, ServeFault>
-    requires { has_failed writer.old ≡ false }
-    ensures ok { IfOk result (Answers W.contents S.step
-        writer.old writer.new session.old (last_line held.now) session.new) }
-    ensures fault { IfErr result (Breaks W.contents S.step S.fails
-        writer.old writer.new session.old (last_line held.now) session.new) }
-    ensures timely { OnOk result (IsTimelySoFar W.contents S.step S.moment writer.old writer.new session.old session.new) }
-    ensures broken { OnErr result (IsTimely W.contents S.step S.fails S.moment writer.old writer.new session.old session.new) }
+    requires works { has_failed writer.old ≡ false }
+    requires empty { answers.old ≡ [] }
+    ensures ok { IfOk result (λ served. (line : List ℕ) → IsHeldOf held.now line → Advances W.contents S.step S.fails S.settles S.breaks_off S.moment
+        writer.old writer.new session.old session.new answers.old [] (last_line line) served.calls) }
+    ensures fault { IfErr result (λ fault. (line : List ℕ) → IsHeldOf held.now line → BreaksNext W.contents S.step S.fails S.settles S.breaks_off S.moment
+        writer.old writer.new session.old session.new answers.old (last_line line) fault) }
+    ensures lines { IfOk result (λ served. (line : List ℕ) → IsHeldOf held.now line → served.lines ≡ length (last_line line)) }
+    ensures few { IfOk result (λ served. (served.calls ≤ 1) × (served.lines ≤ 1)) }
+    ensures works { OnOk result (has_failed writer.new ≡ false) }
+    ensures out { IfErr result (IsOutFault (has_failed writer.new)) }
 {
     if held.is_empty() {
         return Ok(Served::NOTHING);
     }
-    answer(alloc, writer, session, held.as_slice())
+    let last = answer(alloc, answers, writer, session, held.as_slice())?;
+    send(answers, writer, session)?;
+    Ok(last)
 }
 
+/// Makes the call of a line, and holds its answer.
 fn answer<W: Write, S: Session>(
     alloc: Global,
+    answers: &mut AnswerBuffer,
     writer: &mut Tap<W>,
     session: &mut S,
-    line: &[u8],
+    held: &[u8],
 ) -> Result<Served, ServeFault>
     requires { has_failed writer.old ≡ false }
-    ensures ok { IfOk result (Answers W.contents S.step
-        writer.old writer.new session.old (line.now ∷ []) session.new) }
-    ensures fault { IfErr result (Breaks W.contents S.step S.fails
-        writer.old writer.new session.old (line.now ∷ []) session.new) }
-    ensures timely { OnOk result (IsTimelySoFar W.contents S.step S.moment writer.old writer.new session.old session.new) }
-    ensures broken { OnErr result (IsTimely W.contents S.step S.fails S.moment writer.old writer.new session.old session.new) }
+    ensures ok { IfOk result (λ served. (line : List ℕ) → IsHeldOf held.now line → Advances W.contents S.step S.fails S.settles S.breaks_off S.moment
+        writer.old writer.new session.old session.new answers.old answers.new (line ∷ []) served.calls) }
+    ensures fault { IfErr result (λ fault. (line : List ℕ) → IsHeldOf held.now line → BreaksNext W.contents S.step S.fails S.settles S.breaks_off S.moment
+        writer.old writer.new session.old session.new answers.old (line ∷ []) fault) }
+    ensures few { IfOk result (λ served. (served.calls ≤ 1) × (served.lines ≡ 1)) }
+    ensures works { OnOk result (has_failed writer.new ≡ false) }
+    ensures out { IfErr result (IsOutFault (has_failed writer.new)) }
 {
-    let Message { by, call } = match decode(alloc, line) {
+    let Message { by, call } = match decode(alloc, held) {
         Ok(message) => message,
         Err(fault) => {
-            write_fault(writer, &*session, fault)?;
+            put(answers, writer, session, fault.answer())?;
             return Ok(Served { lines: 1, calls: 0 });
         }
     };
-    let Ok(answer) = session.call(&by, call) else {
-        return Err(ServeFault::NoAnswer);
-    };
-    let Ok(text) = encode_answer(alloc, &answer) else {
-        return Err(ServeFault::OutOfMemory);
-    };
-    write_line(writer, &*session, text.as_str())?;
+    match make(alloc, session, &by, call) {
+        Ok(text) => put(answers, writer, session, text.as_str())?,
+        Err(fault) => {
+            release(answers, writer, session)?;
+            return Err(fault);
+        }
+    }
     Ok(Served { lines: 1, calls: 1 })
 }
 
-/// Writes the line that answers a line with this fault, and flushes it. Takes no memory.
-fn write_fault<W: Write, S: Session>(
+/// Makes a call; the text of its answer.
+fn make<S: Session>(
+    alloc: Global,
+    session: &mut S,
+    by: &DeviceName,
+    call: Call,
+) -> Result<String, ServeFault>
+    ensures answer { IfOk result (λ text. (answer : Answer) × S.step session.old by.now call answer session.new × (string_bytes text ≡ answer_text answer)) }
+    ensures fault { IfErr result (IsLost S.step S.fails session.old by.now call session.new) }
+{
+    let Ok(answer) = session.call(by, call) else {
+        return Err(ServeFault::NoAnswer);
+    };
+    match encode_answer(alloc, &answer) {
+        Ok(text) => Ok(text),
+        Err(_) => Err(ServeFault::OutOfMemory),
+    }
+}
+
+/// Holds the answer to a line, or, where there is no room for it, settles, and writes it behind what was held.
+fn put<W: Write, S: Session>(
+    answers: &mut AnswerBuffer,
     writer: &mut Tap<W>,
-    session: &S,
-    fault: WireFault,
+    session: &mut S,
+    text: &str,
 ) -> Result<(), ServeFault>
     requires { has_failed writer.old ≡ false }
-    ensures ok { OnOk result (Writes W.contents (S.moment session.now) writer.old writer.new (fault_text fault ++ 10 ∷ [])) }
-    ensures err { IfErr result (WritesPrefix W.contents (S.moment session.now) writer.old writer.new (fault_text fault ++ 10 ∷ [])) }
+    ensures ok { OnOk result (Puts W.contents S.step S.fails S.settles S.breaks_off S.moment writer.old writer.new session.old session.new answers.old answers.new (text.now ++ 10 ∷ [])) }
+    ensures err { IfErr result (Holds W.contents S.step S.fails S.settles S.breaks_off S.moment writer.old writer.new session.old session.new (answers.old ++ (text.now ++ 10 ∷ []))) }
+    ensures works { OnOk result (has_failed writer.new ≡ false) }
+    ensures out { IfErr result (IsOutFault (has_failed writer.new)) }
 {
-    write_whole(writer, session, b"{\"fault\":\"")?;
-    write_whole(writer, session, fault.name().as_bytes())?;
-    if let WireFault::BadField(field) = fault {
-        write_whole(writer, session, b"\",\"field\":\"")?;
-        write_whole(writer, session, field.name().as_bytes())?;
+    if answers.hold(text) {
+        return Ok(());
     }
-    write_line(writer, session, "\"}")
+    if session.settle().is_err() {
+        return Err(ServeFault::NoAnswer);
+    }
+    write_whole(writer, session, answers.as_slice())?;
+    write_line(writer, session, text)?;
+    answers.clear();
+    Ok(())
+}
+
+/// Writes what is held, if anything is.
+fn send<W: Write, S: Session>(
+    answers: &mut AnswerBuffer,
+    writer: &mut Tap<W>,
+    session: &mut S,
+) -> Result<(), ServeFault>
+    requires { has_failed writer.old ≡ false }
+    ensures ok { OnOk result (((writer.new ≡ writer.old) × (session.new ≡ session.old) × (answers.old ≡ [])) ⊎ Releases W.contents S.step S.fails S.settles S.breaks_off S.moment writer.old writer.new session.old session.new answers.old) }
+    ensures empty { OnOk result (answers.new ≡ []) }
+    ensures err { IfErr result (Holds W.contents S.step S.fails S.settles S.breaks_off S.moment writer.old writer.new session.old session.new answers.old) }
+    ensures works { OnOk result (has_failed writer.new ≡ false) }
+    ensures out { IfErr result (IsOutFault (has_failed writer.new)) }
+{
+    if answers.is_empty() {
+        return Ok(());
+    }
+    release(answers, writer, session)
+}
+
+/// Settles, and then writes what is held, and flushes it.
+fn release<W: Write, S: Session>(
+    answers: &mut AnswerBuffer,
+    writer: &mut Tap<W>,
+    session: &mut S,
+) -> Result<(), ServeFault>
+    requires { has_failed writer.old ≡ false }
+    ensures ok { OnOk result (Releases W.contents S.step S.fails S.settles S.breaks_off S.moment writer.old writer.new session.old session.new answers.old) }
+    ensures empty { OnOk result (answers.new ≡ []) }
+    ensures err { IfErr result (Holds W.contents S.step S.fails S.settles S.breaks_off S.moment writer.old writer.new session.old session.new answers.old) }
+    ensures works { OnOk result (has_failed writer.new ≡ false) }
+    ensures out { IfErr result (IsOutFault (has_failed writer.new)) }
+{
+    if session.settle().is_err() {
+        return Err(ServeFault::NoAnswer);
+    }
+    write_out(writer, session, answers.as_slice())?;
+    answers.clear();
+    Ok(())
 }
 
 /// Writes the text and a newline, and flushes them.
@@ -269,7 +446,20 @@ fn write_line<W: Write, S: Session>(
     ensures err { IfErr result (WritesPrefix W.contents (S.moment session.now) writer.old writer.new (text.now ++ 10 ∷ [])) }
 {
     write_whole(writer, session, text.as_bytes())?;
-    write_whole(writer, session, b"\n")?;
+    write_out(writer, session, b"\n")
+}
+
+/// Writes the bytes, and flushes them.
+fn write_out<W: Write, S: Session>(
+    writer: &mut Tap<W>,
+    session: &S,
+    bytes: &[u8],
+) -> Result<(), ServeFault>
+    requires { has_failed writer.old ≡ false }
+    ensures ok { OnOk result (Writes W.contents (S.moment session.now) writer.old writer.new bytes.now) }
+    ensures err { IfErr result (WritesPrefix W.contents (S.moment session.now) writer.old writer.new bytes.now) }
+{
+    write_whole(writer, session, bytes)?;
     match writer.flush() {
         Ok(()) => Ok(()),
         Err(_) => Err(ServeFault::Write),

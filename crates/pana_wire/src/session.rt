@@ -4,7 +4,7 @@ use pana_hall::{Call, Hall};
 
 /// What answers the calls of a session: a hall, or a share in one.
 pub trait Session {
-    ghost use Rattle.std.specs.Prelude.{List, ℕ, IfOk, OnErr};
+    ghost use Rattle.std.specs.Prelude.{◌≡◌, List, ℕ, IfOk, OnOk, OnErr};
     ghost use Rattle.pana_hall.specs.declared.call.Call.{Call};
     ghost use Rattle.pana_wire.specs.declared.answer.Answer.{Answer};
 
@@ -18,10 +18,25 @@ pub trait Session {
     // leave it open.
     ghost fails: { Self → List ℕ → Call → Self → Type 0 } = { λ old by call new. Unit {0} };
 
+    // What it is to settle: the state before and after. Nothing, where each call is kept once it is made.
+    ghost settles: { Self → Self → Type 0 } = { λ old new. new ≡ old };
+
+    // What is left where the calls can't be kept.
+    ghost breaks_off: { Self → Self → Type 0 } = { λ old new. ⊥ };
+
     /// Makes a call for the device.
     fn call(&mut self, by: &DeviceName, call: Call) -> Result<Answer, NoAnswer>
         ensures step { IfOk result (λ answer. step self.old by.now call answer self.new) }
         ensures fails { OnErr result (fails self.old by.now call self.new) };
+
+    /// Keeps what the calls so far have made. Until then their answers mustn't be given to anybody.
+    ///
+    /// # Errors
+    ///
+    /// `NoAnswer` where they can't be kept: none of those since the last time has an answer.
+    fn settle(&mut self) -> Result<(), NoAnswer>
+        ensures settles { OnOk result (settles self.old self.new) }
+        ensures breaks_off { OnErr result (breaks_off self.old self.new) };
 
     /// Whether a report takes as long as a disk does.
     fn is_slow(&self) -> bool {
@@ -40,5 +55,10 @@ impl Session for Hall {
     /// Makes the call on the hall: it always has an answer.
     fn call(&mut self, by: &DeviceName, call: Call) -> Result<Answer, NoAnswer> {
         Ok(Answer::Given(self.apply(by, call)))
+    }
+
+    /// Does nothing.
+    fn settle(&mut self) -> Result<(), NoAnswer> {
+        Ok(())
     }
 }

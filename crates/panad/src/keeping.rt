@@ -6,7 +6,7 @@ use crate::journal_file::{FileFault, open_locked, open_to_read};
 use crate::printing::{complain, output, print_out};
 use pana_commands::{Printout, tables_of};
 use pana_log::{FileDevice, Log};
-use pana_store::{OpenFault, Opened, Store, serve_kept};
+use pana_store::{Group, OpenFault, Opened, Store, serve_kept};
 use pana_wire::{ServeFault, Tap};
 use std::alloc::AllocError;
 use std::fmt;
@@ -78,11 +78,12 @@ fn report_torn(rt: &HostRuntime, name: &str, torn: usize) -> Result<(), ProgramF
     Ok(())
 }
 
-fn serve_input(rt: &HostRuntime, mut store: Store<FileDevice>) -> Result<ExitCode, ProgramFault> {
+fn serve_input(rt: &HostRuntime, store: Store<FileDevice>) -> Result<ExitCode, ProgramFault> {
     let alloc = rt.alloc();
+    let mut group = Group::of(store)?;
     let mut reader = Tap::new(rt.reader());
     let mut writer = Tap::new(output(rt)?);
-    match serve_kept(alloc, &mut reader, &mut writer, &mut store, READS) {
+    match serve_kept(alloc, &mut reader, &mut writer, &mut group, READS) {
         Ok(_) => Ok(ExitCode::SUCCESS),
         Err(ServeFault::NoAnswer) => {
             print_out(rt, &Printout::reported(alloc, &"journal failed")?)

@@ -9,6 +9,7 @@ mod journal_file;
 mod keeping;
 mod printing;
 mod progress;
+mod sums_file;
 mod track;
 mod track_command;
 mod version;

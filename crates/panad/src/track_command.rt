@@ -17,6 +17,8 @@ const EXAMPLE: &str = "\
 Give it the folders that are meant to hold the same files. It notices what was
 changed, copied, renamed or removed since the last time, by the contents of files,
 records that in the journal, and prints which copies are obsolete or in conflict.
+What a file .panadignore in a folder lists, in the language of .gitignore, is
+passed over.
 Example:
 
     $ panad track --journal files.journal laptop=papers usb=/media/usb
@@ -30,6 +32,10 @@ for a command line that is refused, and 3 where something couldn't be reported."
 const JOURNAL: &str = "journal";
 
 const EMPTY: &str = "empty";
+
+const IGNORE: &str = "ignore";
+
+const READ_ALL: &str = "read-all";
 
 const QUIET: &str = "quiet";
 
@@ -54,6 +60,16 @@ pub fn track_command<'a>(alloc: Global) -> Result<Command<'a>, AllocError> {
         EMPTY,
         "Take an empty folder as one whose files were removed, not as an unmounted disk",
     );
+    let ignore = Arg::new(alloc, IGNORE)
+        .long(IGNORE)
+        .value_name("PATTERN")
+        .action(ArgAction::Append)
+        .help("Pass over paths that match, as a line of .gitignore does; once for each pattern");
+    let read_all = flag(
+        alloc,
+        READ_ALL,
+        "Read all files, also those whose size, times and inode are as at the last run",
+    );
     let quiet = flag(alloc, QUIET, "Print no table");
     let json = flag(alloc, JSON, "Print a line of JSON in place of the table").conflicts_with(
         QUIET,
@@ -67,6 +83,8 @@ pub fn track_command<'a>(alloc: Global) -> Result<Command<'a>, AllocError> {
         .after_help(EXAMPLE)
         .arg(journal)?
         .arg(empty)?
+        .arg(ignore)?
+        .arg(read_all)?
         .arg(quiet)?
         .arg(json)?
         .arg(roots)
@@ -97,7 +115,9 @@ fn obey(rt: &HostRuntime, words: &ArgMatches) -> Result<ExitCode, ProgramFault> 
     let wishes = TrackWishes {
         // The journal is required, so it is there.
         journal: words.get_str(JOURNAL).unwrap_or(""),
+        ignored: words.get_strs(IGNORE).unwrap_or(&[]),
         may_be_empty: words.get_flag(EMPTY),
+        reads_all: words.get_flag(READ_ALL),
         form: form_of(words),
     };
     match fault_of_roots(rt, roots.as_slice())? {

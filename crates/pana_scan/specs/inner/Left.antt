@@ -8,15 +8,15 @@ use Rattle.pana_scan.specs.declared.merging.Spot.{Spot}
 use Rattle.pana_scan.specs.Order.{Path, path_cmp}
 use Rattle.pana_scan.specs.Listing.{RowsRise}
 use Rattle.pana_scan.specs.Baseline.{MarksRise}
-use Rattle.pana_scan.specs.Plan.{Known, knowns}
+use Rattle.pana_scan.specs.Plan.{AtPath, at_paths}
 
 -- the holdings that are left
 abbrev pub living_left : Sources → List Holding
 living_left sources = map (λ holding. holding.now) sources.living.now
 
 -- what is known of the paths that are left
-abbrev pub left : Sources → List Known
-left sources = knowns sources.found.now sources.kept.now (living_left sources)
+abbrev pub left : Sources → List AtPath
+left sources = at_paths sources.found.now sources.kept.now (living_left sources)
 
 -- each path of the holdings is below those after it
 abbrev pub HoldingsRise : List Holding → Type 0
@@ -27,8 +27,8 @@ abbrev pub AllRise : Sources → Type 0
 AllRise sources = RowsRise sources.found.now × MarksRise sources.kept.now × HoldingsRise (living_left sources)
 
 -- what is known at a spot
-abbrev pub known_at : Spot → Known
-known_at spot = record { path = spot.path.now; found = spot.found; mark = spot.mark; living = option_copied spot.living }
+abbrev pub at_spot : Spot → AtPath
+at_spot spot = record { path = spot.path.now; found = spot.found; mark = spot.mark; living = option_copied spot.living }
 
 -- the two lists have the same paths, and find the same holding at each
 abbrev pub HoldTheSame : List Holding → List Holding → Type 0

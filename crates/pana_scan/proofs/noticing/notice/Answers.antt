@@ -1,7 +1,7 @@
 use Rattle.std.proofs.Common.{◌≡◌, refl, sym, ap, ◌∙◌, subst, ◌++◌, []}
 use Rattle.pana_scan.specs.Listing.{RowsRise}
 use Rattle.pana_scan.specs.Notice.{absent_of, files_of, found, left, missing, new_files_of, renamed}
-use Rattle.pana_scan.specs.Plan.{knowns}
+use Rattle.pana_scan.specs.Plan.{at_paths}
 use Rattle.pana_scan.specs.inner.Left.{HoldingsRise}
 use Rattle.pana_scan.specs.inner.Seen.{all_files, new_files}
 use Rattle.pana_scan.proofs.Merged.{lent}
@@ -12,14 +12,14 @@ use Rattle.pana_scan.proofs.noticing.notice.Goals as goal
 pub loop-spot-init : goal.loop-spot-init
 loop-spot-init c = (
   (subst RowsRise (sym c.rows.ensures.rows) c.rows.ensures.rise, nothing_rises, subst (λ living. HoldingsRise (lent living)) (sym c.as_slice-2.ensures.value) c.in_ok-living.ensures.rise),
-  (λ i. all_files (c.new-seen.ensures.files i) ++ files_of (knowns c.rows.result.now [] (lent c.as_slice-2.result.now))),
-  (λ i. new_files (c.new-seen.ensures.files i) ++ new_files_of (knowns c.rows.result.now [] (lent c.as_slice-2.result.now))),
-  (λ i. lent (c.new-seen.ensures.absent i) ++ absent_of (knowns c.rows.result.now [] (lent c.as_slice-2.result.now))),
+  (λ i. all_files (c.new-seen.ensures.files i) ++ files_of (at_paths c.rows.result.now [] (lent c.as_slice-2.result.now))),
+  (λ i. new_files (c.new-seen.ensures.files i) ++ new_files_of (at_paths c.rows.result.now [] (lent c.as_slice-2.result.now))),
+  (λ i. lent (c.new-seen.ensures.absent i) ++ absent_of (at_paths c.rows.result.now [] (lent c.as_slice-2.result.now))),
 )
 
 pub returns : goal.returns
 returns c =
-    let known = knowns c.args.listing.now.rows [] c.args.holdings.now in
+    let known = at_paths c.args.listing.now.rows [] c.args.holdings.now in
     let all = whole _ c.args.listing.now.rows [] [] _ c.in_ok-living.living.items _ c.args.holdings.now
     c.rows.ensures.rows refl c.as_slice-2.ensures.value c.as_slice.ensures.holdings c.in_ok-living.ensures.same in
     let files : all_files c.loop-spot.seen.files.items ≡ files_of known = finished files_of _ _ _ _ refl c.in_default.ensures.none c.loop-spot.invariant.1 all in

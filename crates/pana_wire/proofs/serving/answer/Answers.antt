@@ -1,60 +1,59 @@
--- Where a write fails, what was written is a prefix of the answer; where memory runs out for it, nothing is.
-use Rattle.std.proofs.Common.{refl, ◌∙◌, inl, inr}
+-- A line is answered by its fault, or by the answer of its call; where that is lost, what was held before is written.
+use Rattle.std.proofs.Common.{sym, ap, ◌∙◌}
 use Rattle.std.proofs.lemmas.Result.{err_from_is_err_and}
-use Rattle.pana_wire.specs.Fault.{fault_text}
-use Rattle.pana_wire.specs.Answer.{answer_text}
+use Rattle.pana_wire.specs.Line.{line_says}
 use Rattle.pana_wire.specs.Session.{AnswersLine}
-use Rattle.pana_wire.proofs.Prefixes.{said_line, lost_answer, broken_write}
-use Rattle.pana_wire.proofs.Timely.{one_so_far, part_timely, lost_timely, none_answered}
+use Rattle.pana_wire.proofs.Groups.{line_put, put_breaks, lost_held, lost_breaks}
+use Rattle.pana_wire.proofs.Lines.{says_cut}
+use Rattle.pana_wire.proofs.Prefixes.{said_line, faulty_line}
 use Rattle.pana_wire.proofs.serving.answer.Goals as goal
 
-pub returns-in_err-write_line-clause-fault : goal.returns-in_err-write_line-clause-fault
-returns-in_err-write_line-clause-fault g c =
-    let step = g.S.Session.step in
+pub returns-in_err-put-in-Err-clause-fault : goal.returns-in_err-put-in-Err-clause-fault
+returns-in_err-put-in-Err-clause-fault g c =
     let old = c.args.session.now in
-    let line = c.args.line.now in
-    let text = c.as_str.result.now in
-    let new = c.call.new.self in
-    let says : AnswersLine step old line text new 1 =
-    said_line step old line c.in-Ok.message c.in-Ok-call.answer text new c.in-Ok.ensures.exact c.in-Ok-call.ensures.step (c.as_str.ensures.value ∙ c.in-Ok-encode_answer.ensures) in
-    let p = err_from_is_err_and c.from_residual-in_err-write_line.result c.from_residual-in_err-write_line.ensures.1 in
-    rw (p.1, p.2) (broken_write step g.W.Write.contents (g.S.Session.moment new) g.S.Session.fails c.in_err-write_line.field-0.0 old line text new 1 _ _ says c.in_err-write_line.ensures.err)
-
-pub returns-in_default-encode_answer-clause-fault : goal.returns-in_default-encode_answer-clause-fault
-returns-in_default-encode_answer-clause-fault g c =
-    lost_answer g.S.Session.step g.W.Write.contents g.S.Session.fails c.args.session.now c.args.line.now c.in-Ok.message c.in-Ok-call.answer c.call.new.self c.args.writer.now
-    c.in-Ok.ensures.exact c.in-Ok-call.ensures.step c.requires
-
-pub returns-in_err-write_fault-in-Err-clause-broken : goal.returns-in_err-write_fault-in-Err-clause-broken
-returns-in_err-write_fault-in-Err-clause-broken g c =
-    let old = c.args.session.now in
-    let fault = c.in-Err.fault in
     let p = err_from_is_err_and c.from_residual.result c.from_residual.ensures.1 in
-    rw p.1 (part_timely g.W.Write.contents g.S.Session.step g.S.Session.fails g.S.Session.moment c.args.writer.now c.write_fault.new.writer old (fault_text fault) old (inl (fault, refl, refl)) c.in_err-write_fault-in-Err.ensures.err.notes)
+    rw (p.1, p.2) (λ line is.
+    let answers : AnswersLine g.S.Session.step old line c.answer.result.now old 0 = faulty_line g.S.Session.step old c.args.held.now line c.answer.result.now c.in-Err.fault is c.in-Err.ensures.exact c.in-Err.ensures.memory c.answer.ensures in
+    put_breaks g.W.Write.contents g.S.Session.step g.S.Session.fails g.S.Session.settles g.S.Session.breaks_off g.S.Session.moment c.args.writer.now c.put.new.writer old old c.put.new.session c.args.answers.now line c.answer.result.now 0 c.in_err-put-in-Err.field-0.0 answers c.in_err-put-in-Err.ensures.err)
 
-pub returns-in-Err-clause-timely : goal.returns-in-Err-clause-timely
-returns-in-Err-clause-timely g c =
+pub returns-in-Err-clause-ok : goal.returns-in-Err-clause-ok
+returns-in-Err-clause-ok g c line is =
     let old = c.args.session.now in
-    let fault = c.in-Err.fault in
-    one_so_far g.W.Write.contents g.S.Session.step g.S.Session.moment c.args.writer.now c.write_fault.new.writer old (fault_text fault) old (inl (fault, refl, refl)) c.in_ok-write_fault-in-Err.ensures.ok.notes c.in_ok-write_fault-in-Err.ensures.ok.written
+    let answers : AnswersLine g.S.Session.step old line c.answer.result.now old 0 = faulty_line g.S.Session.step old c.args.held.now line c.answer.result.now c.in-Err.fault is c.in-Err.ensures.exact c.in-Err.ensures.memory c.answer.ensures in
+    line_put g.W.Write.contents g.S.Session.step g.S.Session.fails g.S.Session.settles g.S.Session.breaks_off g.S.Session.moment c.args.writer.now c.put.new.writer old old c.put.new.session c.args.answers.now c.put.new.answers line c.answer.result.now 0 answers c.in_ok-put-in-Err.ensures.ok
 
-pub returns-in_default-clause-broken : goal.returns-in_default-clause-broken
-returns-in_default-clause-broken g c =
-    none_answered g.W.Write.contents g.S.Session.step g.S.Session.fails g.S.Session.moment c.args.writer.now c.args.session.now c.in-Ok.message.by c.in-Ok.message.call c.call.new.self c.in_default.ensures.fails
+pub returns-clause-ok : goal.returns-clause-ok
+returns-clause-ok g c line is =
+    let old = c.args.session.now in
+    let mid = c.make.new.session in
+    let text = c.as_str.result.now in
+    let (answer, done, says) = c.in-Ok-make.ensures.answer in
+    let answers : AnswersLine g.S.Session.step old line text mid 1 = said_line g.S.Session.step old c.args.held.now line c.in-Ok.message text mid is c.in-Ok.ensures.exact (answer, done, c.as_str.ensures.value ∙ says) in
+    line_put g.W.Write.contents g.S.Session.step g.S.Session.fails g.S.Session.settles g.S.Session.breaks_off g.S.Session.moment c.args.writer.now c.put-in-Ok-make.new.writer old mid c.put-in-Ok-make.new.session c.args.answers.now c.put-in-Ok-make.new.answers line text 1 answers c.in_ok-put-in-Ok-make.ensures.ok
 
-pub returns-in_default-encode_answer-clause-broken : goal.returns-in_default-encode_answer-clause-broken
-returns-in_default-encode_answer-clause-broken g c =
-    let answer = c.in-Ok-call.answer in
-    lost_timely g.W.Write.contents g.S.Session.step g.S.Session.fails g.S.Session.moment c.args.writer.now c.args.session.now (answer_text answer) c.call.new.self
-    (inr (c.in-Ok.message.by, c.in-Ok.message.call, answer, c.in-Ok-call.ensures.step, refl))
+pub returns-in_err-put-in-Ok-make-clause-fault : goal.returns-in_err-put-in-Ok-make-clause-fault
+returns-in_err-put-in-Ok-make-clause-fault g c =
+    let old = c.args.session.now in
+    let mid = c.make.new.session in
+    let text = c.as_str.result.now in
+    let (answer, done, says) = c.in-Ok-make.ensures.answer in
+    let p = err_from_is_err_and c.from_residual-in_err-put-in-Ok-make.result c.from_residual-in_err-put-in-Ok-make.ensures.1 in
+    rw (p.1, p.2) (λ line is.
+    let answers : AnswersLine g.S.Session.step old line text mid 1 = said_line g.S.Session.step old c.args.held.now line c.in-Ok.message text mid is c.in-Ok.ensures.exact (answer, done, c.as_str.ensures.value ∙ says) in
+    put_breaks g.W.Write.contents g.S.Session.step g.S.Session.fails g.S.Session.settles g.S.Session.breaks_off g.S.Session.moment c.args.writer.now c.put-in-Ok-make.new.writer old mid c.put-in-Ok-make.new.session c.args.answers.now line text 1 c.in_err-put-in-Ok-make.field-0.0 answers c.in_err-put-in-Ok-make.ensures.err)
 
-pub returns-in_err-write_line-clause-broken : goal.returns-in_err-write_line-clause-broken
-returns-in_err-write_line-clause-broken g c =
-    let p = err_from_is_err_and c.from_residual-in_err-write_line.result c.from_residual-in_err-write_line.ensures.1 in
-    rw p.1 (part_timely g.W.Write.contents g.S.Session.step g.S.Session.fails g.S.Session.moment c.args.writer.now c.write_line.new.writer c.args.session.now c.as_str.result.now c.call.new.self
-    (inr (c.in-Ok.message.by, c.in-Ok.message.call, c.in-Ok-call.answer, c.in-Ok-call.ensures.step, c.as_str.ensures.value ∙ c.in-Ok-encode_answer.ensures)) c.in_err-write_line.ensures.err.notes)
+pub returns-in_err-release-in-Err-make-clause-fault : goal.returns-in_err-release-in-Err-make-clause-fault
+returns-in_err-release-in-Err-make-clause-fault g c =
+    let old = c.args.session.now in
+    let mid = c.make.new.session in
+    let p = err_from_is_err_and c.from_residual-in_err-release-in-Err-make.result c.from_residual-in_err-release-in-Err-make.ensures.1 in
+    rw (p.1, p.2) (λ line is.
+    lost_held g.W.Write.contents g.S.Session.step g.S.Session.fails g.S.Session.settles g.S.Session.breaks_off g.S.Session.moment c.args.writer.now c.release.new.writer old mid c.release.new.session c.args.answers.now line c.in-Ok.message c.in-Err-make.fault c.in_err-release-in-Err-make.field-0.0
+    (sym (says_cut line) ∙ ap line_says (sym is) ∙ c.in-Ok.ensures.exact) c.in-Err-make.ensures.fault c.in_err-release-in-Err-make.ensures.err)
 
-pub returns-clause-timely : goal.returns-clause-timely
-returns-clause-timely g c =
-    one_so_far g.W.Write.contents g.S.Session.step g.S.Session.moment c.args.writer.now c.write_line.new.writer c.args.session.now c.as_str.result.now c.call.new.self
-    (inr (c.in-Ok.message.by, c.in-Ok.message.call, c.in-Ok-call.answer, c.in-Ok-call.ensures.step, c.as_str.ensures.value ∙ c.in-Ok-encode_answer.ensures)) c.in_ok-write_line.ensures.ok.notes c.in_ok-write_line.ensures.ok.written
+pub returns-in-Err-make-clause-fault : goal.returns-in-Err-make-clause-fault
+returns-in-Err-make-clause-fault g c line is =
+    let old = c.args.session.now in
+    let mid = c.make.new.session in
+    lost_breaks g.W.Write.contents g.S.Session.step g.S.Session.fails g.S.Session.settles g.S.Session.breaks_off g.S.Session.moment c.args.writer.now c.release.new.writer old mid c.release.new.session c.args.answers.now line c.in-Ok.message c.in-Err-make.fault
+    (sym (says_cut line) ∙ ap line_says (sym is) ∙ c.in-Ok.ensures.exact) c.in-Err-make.ensures.fault c.in_ok-release-in-Err-make.ensures.ok

@@ -2,7 +2,7 @@ use Rattle.std.proofs.Common.{◌≡◌, ◌∷◌, sym, ap, ◌∙◌, subst, r
 use Rattle.pana_scan.specs.Listing.{RowsRise}
 use Rattle.pana_scan.specs.Baseline.{MarksRise}
 use Rattle.pana_scan.specs.inner.Left.{HoldingsRise}
-use Rattle.pana_scan.specs.Plan.{knowns}
+use Rattle.pana_scan.specs.Plan.{at_paths}
 use Rattle.pana_scan.proofs.Merged.{lent, next_known, rest_lent_rise, found_rest_rise, kept_rest_rise}
 use Rattle.pana_scan.proofs.merging.Sources.next.Goals as goal
 
@@ -25,4 +25,4 @@ returns-clause-some c =
       found = (found ∙ ap (option_map (λ row. row.found)) c.take-found.ensures.row) i;
       mark = (mark ∙ ap (option_map (λ row. row.mark)) c.take-kept.ensures.row) i;
       living = ap option_copied (c.copied.ensures ∙ c.take-living.ensures.row) i;
-    } ∷ knowns (c.take-found.ensures.rest i) (c.take-kept.ensures.rest i) (lent (c.take-living.ensures.rest i)))
+    } ∷ at_paths (c.take-found.ensures.rest i) (c.take-kept.ensures.rest i) (lent (c.take-living.ensures.rest i)))

@@ -1,0 +1,119 @@
+-- Folders, and the ticks and the start that they wait for.
+use Rattle.std.proofs.Common.{◌≡◌, ◌<◌, ⊎_elim, ℕ, Bool, true, false, not, ◌==◌, is_some, IsSome, MatchOption, arith, length, List, [], ◌∷◌, Option, Some, None, Result, refl, sym, ap, subst, ◌∙◌}
+use Rattle.std.proofs.lemmas.Bool.{ne_eqb}
+use Rattle.atomic_table.specs.Seated.{TableId}
+use Rattle.pana_hall.specs.declared.call.Call.{Call}
+use Rattle.pana_scan.specs.declared.scan_fault.ScanFault.{ScanFault}
+use Rattle.pana_scan.specs.Disk.{Tree}
+use Rattle.pana_scan.specs.Listing.{Contents}
+use Rattle.pana_ticks.specs.declared.count.Count.{Count}
+use Rattle.pana_ticks.specs.Hands.{count}
+use Rattle.pana_wire.specs.declared.answer.Answer.{Answer}
+use Rattle.pana_daemon.specs.declared.connection.Connection.{Connection}
+use Rattle.pana_daemon.specs.declared.post.Post.{Post}
+use Rattle.pana_daemon.specs.declared.post.Post.TheVariants.{Door, Folder}
+use Rattle.pana_daemon.specs.declared.root.Root.{Root}
+use Rattle.pana_daemon.specs.declared.scanning.ScanTally.{ScanTally}
+use Rattle.pana_daemon.specs.Desk.{PassView}
+use Rattle.pana_daemon.specs.Post.{HaveDone, folders_in, posts_of}
+use Rattle.pana_daemon.specs.Root.{AwaitsScan, FolderView, IsLast, RootView, ScansRoot, folders_of, has_folders, new_folders}
+use Rattle.pana_daemon.specs.Scan.{Gives, Scans}
+use Rattle.pana_daemon.specs.Serve.{Ends}
+use Rattle.pana_daemon.specs.Session.{GetsNone, MakesCall}
+use Rattle.pana_daemon.specs.inner.Folders.{AreOf, HaveAsked}
+
+module _ {K : Type 0} where
+  pub new_of : (ticks : TableId) (start : ℕ) (roots : List (RootView K)) → AreOf ticks start (new_folders ticks start roots)
+  new_of ticks start [] = tt
+  new_of ticks start (root ∷ roots) = (refl, refl, new_of ticks start roots)
+
+  pub new_some : (disks : K) (ticks : TableId) (start : ℕ) (roots : List Root) → not (length roots == 0) ≡ has_folders (new_folders ticks start (folders_of disks roots))
+  new_some disks ticks start [] = refl
+  new_some disks ticks start (root ∷ roots) = let some : length (root ∷ roots) ≡ 0 → ⊥ = λ none. absurd (omega arith) in ap not (ne_eqb (length (root ∷ roots)) 0 some)
+
+  -- the folder waits no more
+  pub awaits_none : (old : FolderView K) (begins : Bool) → Some begins ≡ old.begins → begins ≡ false → AwaitsScan old false old
+  awaits_none old true is unbegun = absurd (cc)
+  awaits_none old false is unbegun = subst (λ (asked : Option Bool). IsLast asked old old) is refl
+
+  module _ (root : RootView K) (ticks : TableId) (start : ℕ) where
+    abbrev so : Option Bool → Count → FolderView K
+    so asked seen = record { root = root; ticks = ticks; start = start; begins = asked; seen = seen }
+
+    -- the ticks that were waited for are news, or there are none
+    waited : (before after : Count) (given : Option ℕ) → MatchOption given (after ≡ count before.ticks true) (λ n. (n ≡ after.ticks) × (before.ticks < n) × (before.is_over ≡ false))
+        → AwaitsScan (so (Some true) before) (is_some given) (so (Some true) after)
+    waited before after None is = ap (λ (c : Count). so (Some true) c) is
+    waited before after (Some n) is = (after, refl, (refl, (let same = is.0 in let more = is.1 in omega (arith, same, more)), is.2))
+
+    pub awaits_next : (old : FolderView K) (asked : Option Bool) (before after : Count) (given : Option ℕ) (more begins : Bool)
+        → so asked before ≡ old → Some begins ≡ old.begins → begins ≡ true
+        → MatchOption given (after ≡ count before.ticks true) (λ n. (n ≡ after.ticks) × (before.ticks < n) × (before.is_over ≡ false)) → more ≡ is_some given
+        → AwaitsScan old more (so asked after)
+    awaits_next old asked before after given more begins view is begun waits given_so =
+        let known : Some true ≡ asked = ap (λ (b : Bool). Some b) (sym begun) ∙ is ∙ ap (λ (f : FolderView K). f.begins) (sym view) in
+        subst (λ (o : FolderView K). AwaitsScan o more (so asked after)) view
+        (subst (λ (a : Option Bool). AwaitsScan (so a before) more (so a after)) known
+        (subst (λ (b : Bool). AwaitsScan (so (Some true) before) b (so (Some true) after)) (sym given_so) (waited before after given waits)))
+
+    -- the first scan, if the start has come
+    pub awaits_first : (old : FolderView K) (asked : Option Bool) (before after : Count) (begins : Bool) → so asked before ≡ old → old.begins ≡ None → begins ≡ true
+        → AwaitsScan old true (so (Some begins) after)
+    awaits_first old asked before after begins view none begun =
+        let unasked : None ≡ asked = sym none ∙ ap (λ (f : FolderView K). f.begins) (sym view) in
+        subst (λ (o : FolderView K). AwaitsScan o true (so (Some begins) after)) view
+        (subst (λ (a : Option Bool). AwaitsScan (so a before) true (so (Some begins) after)) unasked
+        (after, ap (λ (b : Bool). so (Some b) after) begun, tt))
+
+    pub awaits_refused : (old : FolderView K) (asked : Option Bool) (before : Count) (begins : Bool) → so asked before ≡ old → old.begins ≡ None → begins ≡ false
+        → AwaitsScan old false (so (Some begins) before)
+    awaits_refused old asked before begins view none unbegun =
+        let unasked : None ≡ asked = sym none ∙ ap (λ (f : FolderView K). f.begins) (sym view) in
+        subst (λ (o : FolderView K). AwaitsScan o false (so (Some begins) before)) view
+        (subst (λ (a : Option Bool). AwaitsScan (so a before) false (so (Some begins) before)) unasked
+        (ap (λ (b : Bool). so (Some b) before) unbegun))
+
+  -- a folder that has ended waits for the same, and has asked
+  last_asked : (asked : Option Bool) (old new : FolderView K) → old.begins ≡ asked → IsLast asked old new → (new.ticks ≡ old.ticks) × (new.start ≡ old.start) × IsSome new.begins
+  last_asked None old new was is = (ap (λ (f : FolderView K). f.ticks) is, ap (λ (f : FolderView K). f.start) is, ap (λ (f : FolderView K). is_some f.begins) is)
+  last_asked (Some true) old new was is = (ap (λ (f : FolderView K). f.ticks) is, ap (λ (f : FolderView K). f.start) is, ap (λ (f : FolderView K). is_some f.begins) is)
+  last_asked (Some false) old new was is = (ap (λ (f : FolderView K). f.ticks) is, ap (λ (f : FolderView K). f.start) is, ap (λ (f : FolderView K). is_some f.begins) is ∙ ap is_some was)
+
+module _ {S D R W K : Type 0} (step : S → List ℕ → Call → Answer → S → Type 0) (fails : S → List ℕ → Call → S → Type 0)
+    (gives : D → Option (Connection R W) → D → Type 0) (remaining : R → Option (List ℕ)) (contents : W → Option (List ℕ))
+    {G : Type 0} (has : K → G → Type 0) (is_known : Bool) (tree : G → Tree) (has_failed : G → Bool) (entries faults : G → ℕ) where
+  abbrev Finds : FolderView K → Option (Result Contents ScanFault) → FolderView K → Type 0
+  Finds = ScansRoot has is_known tree has_failed entries faults
+
+  giving_same : (old new : FolderView K) (given : List (Result Contents ScanFault)) → Gives Finds old given new → (new.ticks ≡ old.ticks) × (new.start ≡ old.start)
+  giving_same old new [] is = (ap (λ (f : FolderView K). f.ticks) is, ap (λ (f : FolderView K). f.start) is)
+  giving_same old new (one ∷ more) (mid, gave, others) =
+      let rest = giving_same mid new more others in
+      (rest.0 ∙ ap (λ (f : FolderView K). f.ticks) gave.0.1, rest.1 ∙ ap (λ (f : FolderView K). f.start) gave.0.1)
+
+  -- a folder waits for the same after it was scanned, and has asked whether the start has come
+  scanning_same : (device : List ℕ) (folder_old folder_new : FolderView K) (old new : PassView S) (tally : ScanTally)
+      → Scans Finds (MakesCall step fails) (GetsNone step fails) device folder_old folder_new old new tally → (folder_new.ticks ≡ folder_old.ticks) × (folder_new.start ≡ folder_old.start) × IsSome folder_new.begins
+  scanning_same device folder_old folder_new old new tally s =
+      let first = giving_same folder_old s.folder_mid s.given s.folder in
+      ⊎_elim (λ t. let last = last_asked s.folder_mid.begins s.folder_mid folder_new refl t.0 in (last.0 ∙ first.0, last.1 ∙ first.1, last.2))
+      (λ t. let gave = t.1.gave.0.1 in (ap (λ (f : FolderView K). f.ticks) gave ∙ first.0, ap (λ (f : FolderView K). f.start) gave ∙ first.1, ap (λ (f : FolderView K). is_some f.begins) gave)) s.ends
+
+  done_same : (ticks : TableId) (start : ℕ) (olds news : List (Post D (FolderView K) × PassView S)) → HaveDone step fails gives remaining contents Finds olds news
+      → AreOf ticks start (folders_in (posts_of olds)) → HaveAsked ticks start (folders_in (posts_of news))
+  done_same ticks start [] [] done are = tt
+  done_same ticks start [] (new ∷ news) done are = absurd done
+  done_same ticks start (old ∷ olds) [] done are = absurd done
+  done_same ticks start ((Door door_old, old) ∷ olds) ((Door door_new, new) ∷ news) done are = done_same ticks start olds news done.1 are
+  done_same ticks start ((Folder device_old folder_old, old) ∷ olds) ((Folder device_new folder_new, new) ∷ news) done are =
+      let one = scanning_same device_old.now folder_old folder_new old new done.0.1.0 done.0.1.1 in
+      (one.0 ∙ are.0, one.1 ∙ are.1, one.2, done_same ticks start olds news done.1 are.2)
+  done_same ticks start ((Door door, old) ∷ olds) ((Folder device folder, new) ∷ news) done are = absurd done.0
+  done_same ticks start ((Folder device folder, old) ∷ olds) ((Door door, new) ∷ news) done are = absurd done.0
+
+  -- so have all
+  pub all_asked : (ticks : TableId) (start : ℕ) (begun : S) (posts : List (Post D (FolderView K))) (left : S) (posts_left : List (Post D (FolderView K))) (calls : ℕ) (unanswered : Bool)
+      → Ends step fails gives remaining contents Finds begun posts left posts_left calls unanswered → AreOf ticks start (folders_in posts) → HaveAsked ticks start (folders_in posts_left)
+  all_asked ticks start begun posts left posts_left calls unanswered e are =
+      subst (λ (ps : List (Post D (FolderView K))). HaveAsked ticks start (folders_in ps)) e.posts_left_are
+      (done_same ticks start e.olds e.news e.done (subst (λ (ps : List (Post D (FolderView K))). AreOf ticks start (folders_in ps)) (sym e.posts_are) are))

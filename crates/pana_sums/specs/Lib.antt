@@ -1,0 +1,4 @@
+pub mod inner
+pub mod File
+pub mod Table
+pub mod Times
