@@ -187,6 +187,8 @@ def two_at_a_time(kit):
     calls = kit.calls()
     if (status, output) != (0, "answers\n") or [calls[0], *sorted(calls[1:3]), calls[3]] != ["low lib", "left lib", "right lib", "panad run -- run"]:
         yield f"it ended with {status}, {output!r}, {error!r}, and rt was called: {calls}"
+    if (kit.repository / ".build" / "lane").exists():
+        yield "the second copy of the sources is left"
     (kit.repository / "crates" / "low" / "src" / "lib.rt").write_text("//! Something.\n")
     kit.has_rt_do(f"{both}; case $PWD in */left) until [ -e $kit/waits ]; do sleep 0.05; done; exit 1 ;; */right) trap 'echo ended >>$kit/calls; exit 1' TERM; touch $kit/waits; sleep 60 & wait ;; esac; {WELL}")
     status, output, error = kit.run("./panad", "run")
@@ -230,10 +232,13 @@ def ended_alone(kit):
 
 
 def gate_that_passes(kit):
-    """./test adds up its parts, and keeps the program that rt ci has built."""
+    """./test adds up its parts, keeps the program that rt ci has built, and clears what a killed build has left."""
+    (kit.repository / ".build" / "lane").mkdir(parents=True)
     status, output, _ = kit.run("./test")
     if status or not output.splitlines()[-1].endswith(" passed, 0 failed") or kit.calls() != ["repository ci"]:
         yield f"it ended with {status}, called {kit.calls()} and printed {output[-400:]!r}"
+    if (kit.repository / ".build" / "lane").exists():
+        yield "the second copy of the sources is left"
 
 
 def kept_for_the_next(kit):
