@@ -111,7 +111,7 @@ fn leaves(
             for is_from_end in [false, true] {
                 let file = device.after_crash(crash_after(calls, written, is_from_end, other))?;
                 let count = entries_of(alloc, file)?;
-                if count != least && count != least + together {
+                if count != least && count != least.saturating_add(together) {
                     return Ok(false);
                 }
             }
