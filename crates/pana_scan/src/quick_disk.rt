@@ -128,7 +128,8 @@ impl<'a, R: Files + AllocGlobal + Clone + Drop> QuickDisk<'a, R> {
     ) -> bool
         ensures disk { self.new.disk ≡ self.old.disk }
         ensures same { IfSome before (λ first. IfSome after (λ last. result ≡ same_signature first last)) }
-        ensures none { IfNone before (result ≡ false) }
+        ensures unopened { IfNone before (result ≡ false) }
+        ensures gone { IfNone after (result ≡ false) }
         ensures sums { (self.new.sums ≡ self.old.sums) ⊎ IfSome before (λ first. IsTrue result × IsKept self.old.begun first digest self.old.sums self.new.sums) }
     {
         match (before, after) {
