@@ -16,11 +16,9 @@ import sys
 import threading
 import time
 from concurrent.futures import ThreadPoolExecutor
-from pathlib import Path
 
-from daemon import SECONDS, Broken, Daemon, differs, line_of, pages, run_checks, times_of, until
+from daemon import HERE, SECONDS, Broken, Daemon, differs, failing, line_of, pages, run_checks, times_of, until
 
-HERE = Path(__file__).resolve().parent
 KILLS = 400
 DAEMONS = 4
 CLIENTS = 8
@@ -178,13 +176,6 @@ def failed_sync(program, room):
             yield from differs(daemon.ended(), (1, b"", b"panad: journal failed\n"))
         with kept(program, file) as daemon, daemon.client() as client:
             yield from differs(len(entries(client)) in (2, 3), True)
-
-
-def failing(room, number):
-    """The environment in which the sync with this number fails."""
-    library = room / "failing.so"
-    subprocess.run(["cc", "-shared", "-fPIC", "-o", library, HERE / "failing_sync.c"], check=True, timeout=SECONDS)
-    return {**os.environ, "LD_PRELOAD": str(library), "FAILING_SYNC": str(number)}
 
 
 def ends_for_itself(program, room):

@@ -25,7 +25,7 @@ SECONDS = 60
 LIBRARIES = ("/lib64/ld-linux-x86-64.so.2", "libc.so.6")
 WHERE = ("/lib/x86_64-linux-gnu", "/lib64", "/usr/lib64", "/usr/lib")
 NEWEST_C = 34
-WANTED = {"BUILT-FROM", "CHANGELOG.md", "README.md", "docs/CASES.md", "docs/DECISIONS.md", "docs/MAP.md", "docs/PROMISES.md", "panad", "panad.1"}
+WANTED = {"BUILT-FROM", "CHANGELOG.md", "README.md", "docs/CASES.md", "docs/CLOCKS.md", "docs/DECISIONS.md", "docs/MAP.md", "docs/PROMISES.md", "docs/PROTOCOL.md", "docs/USE.md", "panad", "panad.1"}
 VERSION = re.compile(r'VERSION: &str = "(\S+) \((.*)\)";')
 # A command in the help.
 COMMAND = re.compile(r"^  (\w+) ", re.MULTILINE)

@@ -5,6 +5,7 @@ import re
 import shutil
 import subprocess
 import sys
+import textwrap
 from pathlib import Path
 
 TOP = Path(__file__).resolve().parent.parent
@@ -18,8 +19,12 @@ CITED = re.compile(
 )
 # The version and the kit's line in the one constant that has them.
 VERSION = re.compile(r'VERSION: &str = "(\d+\.\d+\.\d+) \((.*)\)";')
-# A row of README's tables of causes and of faults.
+# A row of the protocol's tables of causes and of faults; and a block of commands of a page.
 NAMED = re.compile(r"\| (?:\d+ \| )?`([A-Z]\w+)` \|")
+COMMANDS = re.compile(r"^```(?:sh|console)$", re.MULTILINE)
+EXAMPLE = re.compile(r"```rust\n(.*?)```", re.DOTALL)
+# An option in the help.
+OPTION = re.compile(r"^ {2,6}(?:-\w, )?(--[a-z-]+)", re.MULTILINE)
 LINK = re.compile(r"\]\(([^)\s]+)\)")
 ELSEWHERE = ("http://", "https://", "mailto:", "#")
 # Words of our own dialect, and what plain English has for them.
@@ -204,12 +209,12 @@ def passes(check):
 
 
 def untried_names():
-    """Each cause and each fault in README's tables is in what a scenario, the sweep or the checks of journals and disks want."""
+    """Each cause and each fault in the protocol's tables is in what a scenario, the sweep or the checks of journals and disks want."""
     wanted = [it for it in TOP.glob("tests/scenarios/*/*") if it.name.startswith(("output", "runs"))]
     wanted = "".join("\n".join(lines_of(it)) for it in [*wanted, *(TOP / "tests" / it for it in ("failed_allocations/sweep.py", "check_journal.py", "check_disks.py"))])
-    names = [it[1] for it in map(NAMED.match, lines_of(TOP / "README.md")) if it]
+    names = [it[1] for it in map(NAMED.match, lines_of(TOP / "docs/PROTOCOL.md")) if it]
     if not names:
-        yield "README.md names no cause and no fault"
+        yield "docs/PROTOCOL.md names no cause and no fault"
     yield from (f"nothing looks at {it}" for it in names if f'"{it}"' not in wanted)
 
 
@@ -270,17 +275,35 @@ def named_in_pages():
                     yield f"{named(page)}:{number} names {name}, which is not there"
 
 
+def pages_that_are_run():
+    """Each page with commands is one that ./test runs."""
+    script = (TOP / "test").read_text(encoding="utf-8")
+    for page in sorted([*TOP.glob("*.md"), *TOP.glob("docs/*.md")]):
+        if COMMANDS.search(page.read_text(encoding="utf-8")) and f'"$top/{named(page)}"' not in script:
+            yield f"{named(page)} has commands, and ./test doesn't run them"
+
+
+def man_page():
+    """The man page has each option that the help prints."""
+    page = (TOP / "docs/panad.1").read_text(encoding="utf-8").replace("\\-", "-")
+    for text in sorted(TOP.glob("tests/scenarios/help*/output")):
+        yield from (f"docs/panad.1 lacks {it}, of {named(text)}" for it in OPTION.findall(text.read_text(encoding="utf-8")) if it not in page)
+
+
 def shown_and_run():
-    """The machine on the page of pana_turn is the one that its tests run."""
-    page, tests = TOP / "crates/pana_turn/README.md", TOP / "crates/pana_clock_tests/src/turn.rt"
-    shown = re.search(r"```rust\n(.*?)```", page.read_text(encoding="utf-8"), re.DOTALL)
-    if not shown:
-        yield f"{named(page)} has no example"
-    elif shown[1] not in tests.read_text(encoding="utf-8"):
-        yield f"the first example of {named(page)} doesn't stand in {named(tests)}"
+    """The machine on the page of pana_turn, and the examples on the page of the clocks, are ones that tests run."""
+    page, clocks = TOP / "crates/pana_turn/README.md", TOP / "docs/CLOCKS.md"
+    tests = "".join(it.read_text(encoding="utf-8") for it in sorted(TOP.glob("crates/pana_clock_tests/src/*.rt")))
+    first, shown = (EXAMPLE.findall(it.read_text(encoding="utf-8")) for it in (page, clocks))
+    if not first or not shown:
+        yield f"{named(page)} or {named(clocks)} has no example"
+    elif first[0] not in tests:
+        yield f"the first example of {named(page)} doesn't stand in the tests"
+    # on the page of the clocks a part of a function's body is shown, without its indent
+    yield from (f"{named(clocks)}: this example doesn't stand in the tests: {it.splitlines()[0]}" for it in shown if textwrap.indent(it, "    ") not in tests)
 
 
-CHECKS = (long_sources, crates_and_folders, crate_folders, dead_links, citations, dialect, edits, uncited_lemmas, untried_names, named_in_pages, shown_and_run, kit_line)
+CHECKS = (long_sources, crates_and_folders, crate_folders, dead_links, citations, dialect, edits, uncited_lemmas, untried_names, named_in_pages, pages_that_are_run, man_page, shown_and_run, kit_line)
 
 
 def main():

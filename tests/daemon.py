@@ -2,6 +2,7 @@
 from __future__ import annotations
 
 import json
+import os
 import re
 import shutil
 import socket
@@ -11,6 +12,7 @@ import tempfile
 import time
 from pathlib import Path
 
+HERE = Path(__file__).resolve().parent
 SECONDS = 30
 WAIT = 0.02
 LISTENING = re.compile(rb"listening 127\.0\.0\.1:(\d+)\n")
@@ -132,6 +134,13 @@ def until(wanted, look):
     while (got := look()) != wanted and time.monotonic() < end:
         time.sleep(WAIT)
     return got
+
+
+def failing(room, number):
+    """The environment in which the sync with this number fails."""
+    library = room / "failing.so"
+    subprocess.run(["cc", "-shared", "-fPIC", "-o", library, HERE / "failing_sync.c"], check=True, timeout=SECONDS)
+    return {**os.environ, "LD_PRELOAD": str(library), "FAILING_SYNC": str(number)}
 
 
 def times_of(process):

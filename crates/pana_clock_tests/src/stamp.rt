@@ -3,7 +3,7 @@ ghost use Rattle.pana_event.specs.Event.{fork, leaf};
 ghost use Rattle.pana_id.specs.Id.{one_id, pair, zero_id};
 
 use crate::notation::{event_text, id_text};
-use pana_event::{EventTree, Node};
+use pana_event::{EventTree, Node, Rel};
 use pana_id::{IdTree, Node as IdNode};
 use pana_stamp::{Cost, Stamp, grow};
 use std::alloc::{AllocError, Global};
@@ -29,6 +29,26 @@ fn forks_and_joins(rt: HostRuntime) -> Result<(), Fail> {
         event_text(alloc, joined.event_tree().node())?.as_str(),
         "0"
     );
+    Ok(())
+}
+
+#[test]
+fn compares_two_copies(rt: HostRuntime) -> Result<(), Fail> {
+    let alloc = rt.alloc();
+    let (mut laptop, mut usb) = Stamp::seed().fork(alloc)?;
+    assert!(rt; Stamp::compare(&usb, &laptop) == Rel::Equal);
+
+    let edited = laptop.event(alloc)?;
+    laptop.replace_event(edited);
+    assert!(rt; Stamp::compare(&usb, &laptop) == Rel::Older);
+
+    let edited = usb.event(alloc)?;
+    usb.replace_event(edited);
+    assert!(rt; Stamp::compare(&usb, &laptop) == Rel::Conflict);
+
+    let merged = EventTree::join(alloc, usb.event_tree(), laptop.event_tree())?;
+    usb.replace_event(merged);
+    assert!(rt; Stamp::compare(&usb, &laptop) == Rel::Newer);
     Ok(())
 }
 

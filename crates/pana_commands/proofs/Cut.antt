@@ -8,12 +8,13 @@ use Rattle.std.proofs.Common.{inl, inr}
 use Rattle.pana_track.specs.Calls.{Asked, Makes}
 use Rattle.pana_track.specs.declared.read_fault.ReadFault.{ReadFault}
 use Rattle.pana_track.specs.declared.reading.TrackedListing.{TrackedListing}
+use Rattle.pana_track.specs.Folder.{BreaksFolder, TracksFolder}
+use Rattle.pana_track.specs.declared.folder_end.FolderEnd.{FolderEnd}
 use Rattle.pana_track.specs.inner.Pages.{Stops}
 use Rattle.pana_track.proofs.Reported.{makes_on}
 use Rattle.pana_wire.specs.declared.answer.Answer.{Answer}
-use Rattle.pana_commands.specs.declared.folder_end.FolderEnd.{FolderEnd}
 use Rattle.pana_commands.specs.declared.tracking.ReadFolder.{ReadFolder}
-use Rattle.pana_commands.specs.Track.{HasNoAnswer, IsCut, TracksAll, TracksFolder}
+use Rattle.pana_commands.specs.Track.{HasNoAnswer, IsCut, TracksAll}
 
 module _ {S : Type 0} (step : S → List ℕ → Call → Answer → S → Type 0) (fails : S → List ℕ → Call → S → Type 0) where
   -- calls, and then such a call behind them
@@ -28,6 +29,11 @@ module _ {S : Type 0} (step : S → List ℕ → Call → Answer → S → Type 
   }
 
   module _ (may_be_empty : Bool) where
+    -- a folder's calls were broken off
+    pub cut_in : (given : Result TrackedListing ReadFault) (old new : S) → BreaksFolder step fails may_be_empty given old new → IsCut step fails old new
+    cut_in (Err fault) old new is = absurd is
+    cut_in (Ok found) old new is = record { made = is.1.made; mid = is.1.mid; by = found.listing.device; call = is.1.call; calls = is.1.calls; failed = is.1.failed }
+
     -- a folder's calls
     calls_of : (given : Result TrackedListing ReadFault) (old mid : S) (end : FolderEnd) → TracksFolder step may_be_empty given old mid end → (made : List Asked) × Makes step old made mid
     calls_of (Err fault) old mid end is = ([], is.0)

@@ -3,7 +3,6 @@
 #![tactic(auto)]
 
 mod comparing;
-mod folder_end;
 mod loading;
 mod printout;
 mod running;
@@ -14,7 +13,6 @@ mod tracking;
 mod untracked;
 
 pub use crate::comparing::compare_on;
-pub use crate::folder_end::{FolderEnd, FolderTally};
 pub use crate::loading::load_on;
 pub use crate::printout::Printout;
 pub use crate::running::run_on;

@@ -62,7 +62,7 @@ pub fn scan_on<D: Disk, W: Watch>(
     disk: &mut D,
     device: &str,
     folder: &str,
-    watch: &mut W,
+    watch: &W,
 ) -> Result<Printout, AllocError>
     requires { IsFresh (D.has_failed disk.old) (D.entries disk.old) (D.faults disk.old) }
     ensures { IfOk result (AnswersScan device.now (IsScanned D.is_known (D.tree disk.old) folder.now device.now (D.has_failed disk.new) (D.entries disk.new) (D.faults disk.new))) }

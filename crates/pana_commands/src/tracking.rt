@@ -1,21 +1,18 @@
 //! Folders that are tracked: what was noticed in each is reported to a session, and then the copies that are obsolete or in conflict
 //! are shown.
-ghost use Rattle.std.specs.Prelude.{◌≡◌, IfOk, IsErrOf, OnErr, string_bytes};
+ghost use Rattle.std.specs.Prelude.{◌≡◌, IfOk, IsErrOf, string_bytes};
 ghost use Rattle.std.specs.List.{list_all};
-ghost use Rattle.pana_scan.specs.Scan.{unreadable_count};
 ghost use Rattle.pana_track.specs.Calls.{Makes};
 ghost use Rattle.pana_track.specs.Status.{HasAll};
-ghost use Rattle.pana_commands.specs.Track.{AnswersTrack, HasNoAnswer, IsCut, TracksAll, TracksFolder, shown_of, shown_rows, shows, status_by};
+ghost use Rattle.pana_commands.specs.Track.{AnswersTrack, HasNoAnswer, IsCut, TracksAll, shown_of, shown_rows, shows, status_by};
 
-use crate::folder_end::{FolderEnd, FolderTally};
 use crate::printout::Printout;
 use crate::untracked::Untracked;
 use pana_copies::DeviceName;
 use pana_hall::{Reply, StatusRow};
 use pana_list::PlainList;
 use pana_report::print_status;
-use pana_scan::{Found, FoundRow};
-use pana_track::{ReadFault, TrackTally, TrackedListing, status_of, track};
+use pana_track::{ReadFault, TrackedListing, status_of, track_folder};
 use pana_wire::{NoAnswer, Session, encode};
 use std::alloc::{AllocError, Global};
 
@@ -34,39 +31,6 @@ pub enum StatusForm {
     /// As the line that answers a question for them.
     Json,
     Nothing,
-}
-
-/// How many of the files couldn't be read.
-fn unreadable_count(rows: &[FoundRow]) -> u64
-    ensures { result ≡ unreadable_count rows.now }
-{
-    rows.iter()
-        .filter(|row| row.found == Found::Unreadable)
-        .count() as u64
-}
-
-/// Tracks a folder.
-fn track_folder<S: Session>(
-    alloc: Global,
-    session: &mut S,
-    given: &Result<TrackedListing, ReadFault>,
-    may_be_empty: bool,
-) -> Result<FolderEnd, NoAnswer>
-    ensures ok { IfOk result (TracksFolder S.step may_be_empty given.now session.old session.new) }
-    ensures fails { OnErr result (IsCut S.step S.fails session.old session.new) }
-{
-    let found = match given {
-        Ok(found) => found,
-        Err(fault) => return Ok(FolderEnd::Unread(*fault)),
-    };
-    let mut calls = TrackTally::new();
-    let stop = track(alloc, session, found, may_be_empty, &mut calls)?;
-    Ok(FolderEnd::Tracked(FolderTally {
-        calls,
-        stop,
-        skipped: found.listing.skipped(),
-        unreadable: unreadable_count(found.listing.rows()),
-    }))
 }
 
 /// The lines about folders, and whether something wasn't reported of one.

@@ -2,11 +2,10 @@
 use Rattle.std.proofs.Common.{◌≡◌, ℕ, All, Bool, ◌||◌, List, [], ◌∷◌, length, Option, Result, map, refl, sym, ap, subst, ◌∙◌}
 use Rattle.std.specs.List.{list_any}
 use Rattle.pana_hall.specs.declared.call.Call.{Call}
-use Rattle.pana_scan.specs.declared.scan_fault.ScanFault.{ScanFault}
-use Rattle.pana_scan.specs.Listing.{Contents}
 use Rattle.pana_turn.specs.Closing.{Closes, LacksOne}
 use Rattle.pana_turn.specs.Passes.{DeskId, new_passes}
 use Rattle.pana_wire.specs.declared.answer.Answer.{Answer}
+use Rattle.pana_daemon.specs.declared.folder.Look.{Look}
 use Rattle.pana_daemon.specs.declared.connection.Connection.{Connection}
 use Rattle.pana_daemon.specs.declared.post.Caller.{Caller}
 use Rattle.pana_daemon.specs.declared.post.Post.{Post}
@@ -39,7 +38,7 @@ module _ {S T G D F : Type 0} where
   lack_posted (caller ∷ callers) = ap (λ (b : Bool). lacks_answer caller.session || b) (lack_posted callers)
 
 module _ {S T G D R W F : Type 0} (step : S → List ℕ → Call → Answer → S → Type 0) (fails : S → List ℕ → Call → S → Type 0)
-    (gives : D → Option (Connection R W) → D → Type 0) (remaining : R → Option (List ℕ)) (contents : W → Option (List ℕ)) (finds : F → Option (Result Contents ScanFault) → F → Type 0)
+    (gives : D → Option (Connection R W) → D → Type 0) (remaining : R → Option (List ℕ)) (contents : W → Option (List ℕ)) (finds : F → Option Look → F → Type 0)
     (desk : DeskId S) (seats : ℕ) (olds news : List (Caller S T G D F)) (back : List (PassView S))
     (fresh : sessions olds ≡ new_passes desk seats) (done : HaveDone step fails gives remaining contents finds (map posted olds) (map posted news)) (is_back : back ≡ sessions news) where
   grown : HaveGrown (new_passes desk seats) back

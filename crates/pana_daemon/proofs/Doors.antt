@@ -2,11 +2,10 @@
 use Rattle.std.proofs.Common.{◌≡◌, ◌<◌, ◌≤◌, ◌+◌, inl, inr, ◌||◌, ℕ, zero, suc, Bool, true, false, List, [], ◌∷◌, length, replicate, sum_by, Option, Result, arith, refl, sym, ap, subst, ◌∙◌}
 use Rattle.std.proofs.lemmas.List.Sums.{sum_by-cons}
 use Rattle.pana_hall.specs.declared.call.Call.{Call}
-use Rattle.pana_scan.specs.declared.scan_fault.ScanFault.{ScanFault}
-use Rattle.pana_scan.specs.Listing.{Contents}
 use Rattle.pana_tickets.specs.declared.hand.Hand.{Hand}
 use Rattle.pana_tickets.specs.Hands.{TicketsView, joined}
 use Rattle.pana_wire.specs.declared.answer.Answer.{Answer}
+use Rattle.pana_daemon.specs.declared.folder.Look.{Look}
 use Rattle.pana_daemon.specs.declared.connection.Connection.{Connection}
 use Rattle.pana_daemon.specs.declared.post.Post.{Post}
 use Rattle.pana_daemon.specs.declared.post.Post.TheVariants.{Door, Folder}
@@ -40,7 +39,7 @@ module _ {S R W : Type 0} (step : S → List ℕ → Call → Answer → S → T
       let last = w.ends.0 in
       ((first.0 + last.0, draws_on door_old w.door door_new first.0 last.0 first.1 last.1), w.ends.1)
 
-  module _ {F : Type 0} (finds : F → Option (Result Contents ScanFault) → F → Type 0) where
+  module _ {F : Type 0} (finds : F → Option Look → F → Type 0) where
     done_ends : (olds news : List (Post DoorView F × PassView S)) → HaveDone step fails GivesDrawn remaining contents finds olds news → AreEnded (doors_in (posts_of olds)) (doors_in (posts_of news))
     done_ends [] [] done = tt
     done_ends [] (new ∷ news) done = absurd done

@@ -1,60 +1,81 @@
 -- Folders, and the ticks and the start that they wait for.
-use Rattle.std.proofs.Common.{◌≡◌, ◌<◌, ⊎_elim, ℕ, Bool, true, false, not, ◌==◌, is_some, IsSome, MatchOption, arith, length, List, [], ◌∷◌, Option, Some, None, Result, refl, sym, ap, subst, ◌∙◌}
+use Rattle.std.proofs.Common.{◌≡◌, ◌<◌, ⊎_elim, ℕ, Bool, true, false, not, ◌==◌, is_some, IsSome, MatchOption, arith, length, List, [], ◌∷◌, Option, Some, None, Result, Ok, Err, IfOk, IsTrue, refl, sym, ap, subst, ◌∙◌}
 use Rattle.std.proofs.lemmas.Bool.{ne_eqb}
 use Rattle.atomic_table.specs.Seated.{TableId}
 use Rattle.pana_hall.specs.declared.call.Call.{Call}
-use Rattle.pana_scan.specs.declared.scan_fault.ScanFault.{ScanFault}
 use Rattle.pana_scan.specs.Disk.{Tree}
-use Rattle.pana_scan.specs.Listing.{Contents}
 use Rattle.pana_ticks.specs.declared.count.Count.{Count}
 use Rattle.pana_ticks.specs.Hands.{count}
 use Rattle.pana_wire.specs.declared.answer.Answer.{Answer}
+use Rattle.pana_track.specs.IgnoreFile.{IsBehind}
+use Rattle.pana_track.specs.Reading.{ReadsRoot}
+use Rattle.pana_track.specs.declared.read_fault.ReadFault.{ReadFault}
+use Rattle.pana_track.specs.declared.reading.TrackedListing.{TrackedListing}
+use Rattle.pana_daemon.specs.declared.folder.Look.{Look}
+use Rattle.pana_daemon.specs.declared.folder.Look.TheVariants.{Tracked}
 use Rattle.pana_daemon.specs.declared.connection.Connection.{Connection}
 use Rattle.pana_daemon.specs.declared.post.Post.{Post}
 use Rattle.pana_daemon.specs.declared.post.Post.TheVariants.{Door, Folder}
 use Rattle.pana_daemon.specs.declared.root.Root.{Root}
-use Rattle.pana_daemon.specs.declared.scanning.ScanTally.{ScanTally}
+use Rattle.pana_daemon.specs.declared.looks.Looks.{Looks}
 use Rattle.pana_daemon.specs.Desk.{PassView}
 use Rattle.pana_daemon.specs.Post.{HaveDone, folders_in, posts_of}
-use Rattle.pana_daemon.specs.Root.{AwaitsScan, FolderView, IsLast, RootView, ScansRoot, folders_of, has_folders, new_folders}
+use Rattle.pana_daemon.specs.Root.{AwaitsScan, FolderView, IsLast, IsLookOf, IsMore, IsReadOf, IsReadingOf, RootView, ScansRoot, knowing, folders_of, has_folders, new_folders}
 use Rattle.pana_daemon.specs.Scan.{Gives, Scans}
 use Rattle.pana_daemon.specs.Serve.{Ends}
 use Rattle.pana_daemon.specs.Session.{GetsNone, MakesCall}
-use Rattle.pana_daemon.specs.inner.Folders.{AreOf, HaveAsked}
+use Rattle.pana_daemon.specs.inner.Folders.{AreOf, HaveAsked, IsTimed}
 
 module _ {K : Type 0} where
-  pub new_of : (ticks : TableId) (start : ℕ) (roots : List (RootView K)) → AreOf ticks start (new_folders ticks start roots)
-  new_of ticks start [] = tt
-  new_of ticks start (root ∷ roots) = (refl, refl, new_of ticks start roots)
+  pub new_of : (looks : Looks) (ticks : TableId) (start : ℕ) (roots : List (RootView K)) → AreOf ticks start (new_folders looks ticks start roots)
+  new_of looks ticks start [] = tt
+  new_of looks ticks start (root ∷ roots) = (refl, refl, new_of looks ticks start roots)
 
-  pub new_some : (disks : K) (ticks : TableId) (start : ℕ) (roots : List Root) → not (length roots == 0) ≡ has_folders (new_folders ticks start (folders_of disks roots))
-  new_some disks ticks start [] = refl
-  new_some disks ticks start (root ∷ roots) = let some : length (root ∷ roots) ≡ 0 → ⊥ = λ none. absurd (omega arith) in ap not (ne_eqb (length (root ∷ roots)) 0 some)
+  pub new_some : (disks : K) (looks : Looks) (ticks : TableId) (start : ℕ) (roots : List Root) → not (length roots == 0) ≡ has_folders (new_folders looks ticks start (folders_of disks roots))
+  new_some disks looks ticks start [] = refl
+  new_some disks looks ticks start (root ∷ roots) = let some : length (root ∷ roots) ≡ 0 → ⊥ = λ none. absurd (omega arith) in ap not (ne_eqb (length (root ∷ roots)) 0 some)
 
   -- the folder waits no more
   pub awaits_none : (old : FolderView K) (begins : Bool) → Some begins ≡ old.begins → begins ≡ false → AwaitsScan old false old
   awaits_none old true is unbegun = absurd (cc)
   awaits_none old false is unbegun = subst (λ (asked : Option Bool). IsLast asked old old) is refl
 
-  module _ (root : RootView K) (ticks : TableId) (start : ℕ) where
+  module _ (root : RootView K) (looks : Looks) (ticks : TableId) (start : ℕ) where
     abbrev so : Option Bool → Count → FolderView K
-    so asked seen = record { root = root; ticks = ticks; start = start; begins = asked; seen = seen }
+    so asked seen = record { root = root; looks = looks; ticks = ticks; start = start; begins = asked; seen = seen }
 
     -- the ticks that were waited for are news, or there are none
-    waited : (before after : Count) (given : Option ℕ) → MatchOption given (after ≡ count before.ticks true) (λ n. (n ≡ after.ticks) × (before.ticks < n) × (before.is_over ≡ false))
+    waited : looks.every ≡ None → (before after : Count) (given : Option ℕ) → MatchOption given (after ≡ count before.ticks true) (λ n. (n ≡ after.ticks) × (before.ticks < n) × (before.is_over ≡ false))
         → AwaitsScan (so (Some true) before) (is_some given) (so (Some true) after)
-    waited before after None is = ap (λ (c : Count). so (Some true) c) is
-    waited before after (Some n) is = (after, refl, (refl, (let same = is.0 in let more = is.1 in omega (arith, same, more)), is.2))
+    waited untimed before after None is = ap (λ (c : Count). so (Some true) c) is
+    waited untimed before after (Some n) is = (after, refl, subst (λ (e : Option ℕ). IsMore e (Some true) before after) (sym untimed) (refl, (let same = is.0 in let more = is.1 in omega (arith, same, more)), is.2))
 
     pub awaits_next : (old : FolderView K) (asked : Option Bool) (before after : Count) (given : Option ℕ) (more begins : Bool)
-        → so asked before ≡ old → Some begins ≡ old.begins → begins ≡ true
+        → looks.every ≡ None → so asked before ≡ old → Some begins ≡ old.begins → begins ≡ true
         → MatchOption given (after ≡ count before.ticks true) (λ n. (n ≡ after.ticks) × (before.ticks < n) × (before.is_over ≡ false)) → more ≡ is_some given
         → AwaitsScan old more (so asked after)
-    awaits_next old asked before after given more begins view is begun waits given_so =
+    awaits_next old asked before after given more begins untimed view is begun waits given_so =
         let known : Some true ≡ asked = ap (λ (b : Bool). Some b) (sym begun) ∙ is ∙ ap (λ (f : FolderView K). f.begins) (sym view) in
         subst (λ (o : FolderView K). AwaitsScan o more (so asked after)) view
         (subst (λ (a : Option Bool). AwaitsScan (so a before) more (so a after)) known
-        (subst (λ (b : Bool). AwaitsScan (so (Some true) before) b (so (Some true) after)) (sym given_so) (waited before after given waits)))
+        (subst (λ (b : Bool). AwaitsScan (so (Some true) before) b (so (Some true) after)) (sym given_so) (waited untimed before after given waits)))
+
+    -- the time that was waited for has passed, or there are more ticks; or no more come
+    timed : (seconds : ℕ) → looks.every ≡ Some seconds → (before after : Count) (more : Bool) → IsTimed more before after → AwaitsScan (so (Some true) before) more (so (Some true) after)
+    timed seconds is_timed before after true is = (after, refl, subst (λ (e : Option ℕ). IsMore e (Some true) before after) (sym is_timed) (refl, is))
+    timed seconds is_timed before after false is = ap (λ (c : Count). so (Some true) c) is
+
+    pub awaits_timed : (seconds : ℕ) (old : FolderView K) (asked : Option Bool) (before after : Count) (more begins : Bool)
+        → looks.every ≡ Some seconds → so asked before ≡ old → Some begins ≡ old.begins → begins ≡ true → IsTimed more before after
+        → AwaitsScan old more (so asked after)
+    awaits_timed seconds old asked before after more begins is_timed view is begun waits =
+        let known : Some true ≡ asked = ap (λ (b : Bool). Some b) (sym begun) ∙ is ∙ ap (λ (f : FolderView K). f.begins) (sym view) in
+        subst (λ (o : FolderView K). AwaitsScan o more (so asked after)) view
+        (subst (λ (a : Option Bool). AwaitsScan (so a before) more (so a after)) known (timed seconds is_timed before after more waits))
+
+    first_of : (every : Option ℕ) (before after : Count) → IsMore every None before after
+    first_of None before after = tt
+    first_of (Some seconds) before after = tt
 
     -- the first scan, if the start has come
     pub awaits_first : (old : FolderView K) (asked : Option Bool) (before after : Count) (begins : Bool) → so asked before ≡ old → old.begins ≡ None → begins ≡ true
@@ -63,7 +84,7 @@ module _ {K : Type 0} where
         let unasked : None ≡ asked = sym none ∙ ap (λ (f : FolderView K). f.begins) (sym view) in
         subst (λ (o : FolderView K). AwaitsScan o true (so (Some begins) after)) view
         (subst (λ (a : Option Bool). AwaitsScan (so a before) true (so (Some begins) after)) unasked
-        (after, ap (λ (b : Bool). so (Some b) after) begun, tt))
+        (after, ap (λ (b : Bool). so (Some b) after) begun, first_of looks.every before after))
 
     pub awaits_refused : (old : FolderView K) (asked : Option Bool) (before : Count) (begins : Bool) → so asked before ≡ old → old.begins ≡ None → begins ≡ false
         → AwaitsScan old false (so (Some begins) before)
@@ -79,22 +100,53 @@ module _ {K : Type 0} where
   last_asked (Some true) old new was is = (ap (λ (f : FolderView K). f.ticks) is, ap (λ (f : FolderView K). f.start) is, ap (λ (f : FolderView K). is_some f.begins) is)
   last_asked (Some false) old new was is = (ap (λ (f : FolderView K). f.ticks) is, ap (λ (f : FolderView K). f.start) is, ap (λ (f : FolderView K). is_some f.begins) is ∙ ap is_some was)
 
+module _ {K D : Type 0} (has : K → D → Type 0) (passes : K → List ℕ → List (List ℕ)) (is_known : Bool) (tree : D → Tree) (has_failed : D → Bool) (entries faults : D → ℕ) where
+  reading_of : (device : List ℕ) (given : Result TrackedListing ReadFault) → IfOk given (λ found. found.listing.device ≡ device) → IsReadingOf device given
+  reading_of device (Ok found) is = is
+  reading_of device (Err fault) is = tt
+
+  -- a folder was read without what is passed over there
+  pub read_of : (folder : RootView K) (first disk : D) (patterns : List (List ℕ)) (given : Result TrackedListing ReadFault) → has folder.disks first → has folder.disks disk
+      → (IsTrue is_known → ReadsRoot (tree first) (tree disk) folder.name folder.device patterns given) → IfOk given (λ found. IsBehind patterns found.patterns) → IfOk given (λ found. found.listing.device ≡ folder.device)
+      → patterns ≡ passes folder.disks folder.name → IsReadOf has passes is_known tree has_failed entries faults folder given
+  read_of folder first disk patterns given has_first on reads behind device are = record {
+    first = first;
+    disk = disk;
+    has_first = has_first;
+    on = on;
+    reads = λ known. subst (λ (ps : List (List ℕ)). ReadsRoot (tree first) (tree disk) folder.name folder.device ps given) are (reads known);
+    behind = subst (λ (ps : List (List ℕ)). IfOk given (λ found. IsBehind ps found.patterns)) are behind;
+    device = reading_of folder.device given device;
+  }
+
+  -- a folder that is tracked was waited for, and read
+  pub looks_so : (old mid view : FolderView K) (more : Bool) (given : Result TrackedListing ReadFault) → AwaitsScan old more mid → more ≡ true → view ≡ mid → view.looks.is_tracked ≡ true
+      → IsReadOf has passes is_known tree has_failed entries faults view.root given → ScansRoot has passes is_known tree has_failed entries faults old (Some (Tracked given)) view
+  looks_so old mid view more given awaits waited is tracked reads =
+      let (seen, same, begins) = subst (λ (b : Bool). AwaitsScan old b mid) waited awaits in
+      let so : view ≡ knowing old true seen = is ∙ same in
+      let is_tracked : true ≡ old.looks.is_tracked = sym tracked ∙ ap (λ (f : FolderView K). f.looks.is_tracked) so in (
+        (seen, so, begins),
+        subst (λ (b : Bool). IsLookOf has passes is_known tree has_failed entries faults b old.root (Tracked given)) is_tracked
+            (subst (λ (r : RootView K). IsReadOf has passes is_known tree has_failed entries faults r given) (ap (λ (f : FolderView K). f.root) so) reads),
+      )
+
 module _ {S D R W K : Type 0} (step : S → List ℕ → Call → Answer → S → Type 0) (fails : S → List ℕ → Call → S → Type 0)
     (gives : D → Option (Connection R W) → D → Type 0) (remaining : R → Option (List ℕ)) (contents : W → Option (List ℕ))
-    {G : Type 0} (has : K → G → Type 0) (is_known : Bool) (tree : G → Tree) (has_failed : G → Bool) (entries faults : G → ℕ) where
-  abbrev Finds : FolderView K → Option (Result Contents ScanFault) → FolderView K → Type 0
-  Finds = ScansRoot has is_known tree has_failed entries faults
+    {G : Type 0} (has : K → G → Type 0) (passes : K → List ℕ → List (List ℕ)) (is_known : Bool) (tree : G → Tree) (has_failed : G → Bool) (entries faults : G → ℕ) where
+  abbrev Finds : FolderView K → Option Look → FolderView K → Type 0
+  Finds = ScansRoot has passes is_known tree has_failed entries faults
 
-  giving_same : (old new : FolderView K) (given : List (Result Contents ScanFault)) → Gives Finds old given new → (new.ticks ≡ old.ticks) × (new.start ≡ old.start)
+  giving_same : (old new : FolderView K) (given : List Look) → Gives Finds old given new → (new.ticks ≡ old.ticks) × (new.start ≡ old.start)
   giving_same old new [] is = (ap (λ (f : FolderView K). f.ticks) is, ap (λ (f : FolderView K). f.start) is)
   giving_same old new (one ∷ more) (mid, gave, others) =
       let rest = giving_same mid new more others in
       (rest.0 ∙ ap (λ (f : FolderView K). f.ticks) gave.0.1, rest.1 ∙ ap (λ (f : FolderView K). f.start) gave.0.1)
 
   -- a folder waits for the same after it was scanned, and has asked whether the start has come
-  scanning_same : (device : List ℕ) (folder_old folder_new : FolderView K) (old new : PassView S) (tally : ScanTally)
-      → Scans Finds (MakesCall step fails) (GetsNone step fails) device folder_old folder_new old new tally → (folder_new.ticks ≡ folder_old.ticks) × (folder_new.start ≡ folder_old.start) × IsSome folder_new.begins
-  scanning_same device folder_old folder_new old new tally s =
+  scanning_same : (device : List ℕ) (folder_old folder_new : FolderView K) (old new : PassView S)
+      → Scans Finds (MakesCall step fails) (GetsNone step fails) device folder_old folder_new old new → (folder_new.ticks ≡ folder_old.ticks) × (folder_new.start ≡ folder_old.start) × IsSome folder_new.begins
+  scanning_same device folder_old folder_new old new s =
       let first = giving_same folder_old s.folder_mid s.given s.folder in
       ⊎_elim (λ t. let last = last_asked s.folder_mid.begins s.folder_mid folder_new refl t.0 in (last.0 ∙ first.0, last.1 ∙ first.1, last.2))
       (λ t. let gave = t.1.gave.0.1 in (ap (λ (f : FolderView K). f.ticks) gave ∙ first.0, ap (λ (f : FolderView K). f.start) gave ∙ first.1, ap (λ (f : FolderView K). is_some f.begins) gave)) s.ends
@@ -106,7 +158,7 @@ module _ {S D R W K : Type 0} (step : S → List ℕ → Call → Answer → S �
   done_same ticks start (old ∷ olds) [] done are = absurd done
   done_same ticks start ((Door door_old, old) ∷ olds) ((Door door_new, new) ∷ news) done are = done_same ticks start olds news done.1 are
   done_same ticks start ((Folder device_old folder_old, old) ∷ olds) ((Folder device_new folder_new, new) ∷ news) done are =
-      let one = scanning_same device_old.now folder_old folder_new old new done.0.1.0 done.0.1.1 in
+      let one = scanning_same device_old.now folder_old folder_new old new done.0.1 in
       (one.0 ∙ are.0, one.1 ∙ are.1, one.2, done_same ticks start olds news done.1 are.2)
   done_same ticks start ((Door door, old) ∷ olds) ((Folder device folder, new) ∷ news) done are = absurd done.0
   done_same ticks start ((Folder device folder, old) ∷ olds) ((Door door, new) ∷ news) done are = absurd done.0

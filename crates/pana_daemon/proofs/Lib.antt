@@ -1,7 +1,6 @@
 pub mod Openings
 pub mod Sending
 pub mod Scanned
-pub mod Tallies
 pub mod Scans
 pub mod Sessions
 pub mod Connections

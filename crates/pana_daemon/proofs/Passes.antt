@@ -8,14 +8,13 @@ use Rattle.std.proofs.lemmas.Grind.{take_at_read}
 use Rattle.std.proofs.lemmas.Bool.Decides.{nat_tests}
 use Rattle.pana_hall.specs.declared.call.Call.{Call}
 use Rattle.pana_wire.specs.declared.answer.Answer.{Answer}
-use Rattle.pana_scan.specs.declared.scan_fault.ScanFault.{ScanFault}
-use Rattle.pana_scan.specs.Listing.{Contents}
 use Rattle.pana_turn.specs.Closing.{HasAll, LacksOne, has_pass}
 use Rattle.pana_turn.specs.Passes.{DeskId, new_pass, new_passes}
+use Rattle.pana_track.specs.Calls.{Asked, Makes}
+use Rattle.pana_daemon.specs.declared.folder.Look.{Look}
 use Rattle.pana_daemon.specs.Desk.{PassView}
-use Rattle.pana_daemon.specs.declared.scanning.ScanTally.{ScanTally}
 use Rattle.pana_daemon.specs.inner.Passes.{AreOf, AreOpen, HaveGrown}
-use Rattle.pana_daemon.specs.Scan.{Asked, Makes, Scans}
+use Rattle.pana_daemon.specs.Scan.{Scans}
 use Rattle.pana_daemon.specs.Session.{GetsNone, GrowsTo, MakesCall}
 use Rattle.pana_daemon.proofs.Sessions.{grows_on, grows_same, call_grows, none_grows}
 
@@ -98,9 +97,9 @@ module _ {S : Type 0} (step : S → List ℕ → Call → Answer → S → Type 
   made_grow old new [] so = grows_same old new so
   made_grow old new (one ∷ more) (mid, first, others) = grows_on old mid new (call_grows step fails old mid one.by one.call (Ok one.answer) first) (made_grow mid new more others)
 
-  pub scanning_grows : {F : Type 0} (gives : F → Option (Result Contents ScanFault) → F → Type 0) (device : List ℕ) (folder_old folder_new : F) (old new : PassView S) (tally : ScanTally)
-      → Scans gives (MakesCall step fails) (GetsNone step fails) device folder_old folder_new old new tally → GrowsTo old new
-  scanning_grows gives device folder_old folder_new old new tally s =
+  pub scanning_grows : {F : Type 0} (gives : F → Option Look → F → Type 0) (device : List ℕ) (folder_old folder_new : F) (old new : PassView S)
+      → Scans gives (MakesCall step fails) (GetsNone step fails) device folder_old folder_new old new → GrowsTo old new
+  scanning_grows gives device folder_old folder_new old new s =
       grows_on old s.mid new (made_grow old s.mid s.made s.calls)
       (from_either s.ends (λ e. grows_same s.mid new e.1) (λ e. grows_on s.mid e.1.mid new (made_grow s.mid e.1.mid e.0 e.1.calls) (none_grows step fails e.1.mid new device e.1.call e.1.failed)))
 

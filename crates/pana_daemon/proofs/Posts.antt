@@ -1,9 +1,8 @@
 -- Callers that have done their work, each by itself.
 use Rattle.std.proofs.Common.{◌≡◌, ◌<◌, ℕ, suc, arith, length, slice_index_or, List, [], ◌∷◌, Option, Result, map}
 use Rattle.pana_hall.specs.declared.call.Call.{Call}
-use Rattle.pana_scan.specs.declared.scan_fault.ScanFault.{ScanFault}
-use Rattle.pana_scan.specs.Listing.{Contents}
 use Rattle.pana_wire.specs.declared.answer.Answer.{Answer}
+use Rattle.pana_daemon.specs.declared.folder.Look.{Look}
 use Rattle.pana_daemon.specs.declared.connection.Connection.{Connection}
 use Rattle.pana_daemon.specs.declared.post.Caller.{Caller}
 use Rattle.pana_daemon.specs.declared.post.Post.{Post}
@@ -16,7 +15,7 @@ use Rattle.pana_daemon.proofs.Connections.{works_grow}
 use Rattle.pana_daemon.proofs.Passes.{scanning_grows}
 
 module _ {S D R W F : Type 0} (step : S → List ℕ → Call → Answer → S → Type 0) (fails : S → List ℕ → Call → S → Type 0)
-    (gives : D → Option (Connection R W) → D → Type 0) (remaining : R → Option (List ℕ)) (contents : W → Option (List ℕ)) (finds : F → Option (Result Contents ScanFault) → F → Type 0) where
+    (gives : D → Option (Connection R W) → D → Type 0) (remaining : R → Option (List ℕ)) (contents : W → Option (List ℕ)) (finds : F → Option Look → F → Type 0) where
   -- the caller has done its work
   abbrev pub Has : {T G : Type 0} → Caller S T G D F → Caller S T G D F → Type 0
   Has old new = HasDone step fails gives remaining contents finds old.post new.post old.session new.session
@@ -34,7 +33,7 @@ module _ {S D R W F : Type 0} (step : S → List ℕ → Call → Answer → S �
   -- a caller leaves the same pass, which has seen what it had seen
   done_grows : (post_old post_new : Post D F) (old new : PassView S) → HasDone step fails gives remaining contents finds post_old post_new old new → GrowsTo old new
   done_grows (Door door_old) (Door door_new) old new done = works_grow step fails gives remaining contents door_old door_new old new done
-  done_grows (Folder device_old folder_old) (Folder device_new folder_new) old new done = scanning_grows step fails finds device_old.now folder_old folder_new old new done.1.0 done.1.1
+  done_grows (Folder device_old folder_old) (Folder device_new folder_new) old new done = scanning_grows step fails finds device_old.now folder_old folder_new old new done.1
   done_grows (Door door) (Folder device folder) old new done = absurd done
   done_grows (Folder device folder) (Door door) old new done = absurd done
 

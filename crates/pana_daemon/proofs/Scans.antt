@@ -1,5 +1,5 @@
 -- Calls of a scanner, one after another.
-use Rattle.std.proofs.Common.{◌≡◌, ℕ, ◌+◌, ◌-◌, ◌^◌, min, ◌<◌, ◌≤◌, suc, take, drop, drop-cons, List, [], ◌∷◌, ◌++◌, length, None, Result, Ok, Err, ◌⊎◌, inl, inr, Bool, true, false, true≢false, refl, IfOk, IfErr, OnErr, is_err, sym, ap, subst, ◌∙◌, slice_index_or, append-nil, arith}
+use Rattle.std.proofs.Common.{◌≡◌, ◌≢◌, ℕ, ◌+◌, ◌<◌, ◌≤◌, suc, take, drop, drop-cons, List, [], ◌∷◌, ◌++◌, length, Option, None, Result, Ok, Err, ◌⊎◌, inl, inr, Bool, true, false, true≢false, refl, IfOk, IfErr, OnErr, OnOk, is_ok, sym, ap, subst, ◌∙◌, slice_index_or, append-nil, arith}
 use Rattle.pana_hall.specs.declared.call.Call.{Call}
 use Rattle.pana_hall.specs.declared.call.Call.TheVariants as calls
 use Rattle.pana_wire.specs.declared.answer.Answer.{Answer}
@@ -14,17 +14,21 @@ use Rattle.pana_scan.specs.declared.baseline.BaselineRow.{BaselineRow}
 use Rattle.pana_scan.specs.Plan.{plan_of}
 use Rattle.pana_scan.specs.declared.step.Plan.{Plan}
 use Rattle.std.proofs.lemmas.List.{take-append-drop, take_all, take_more}
-use Rattle.pana_daemon.specs.declared.scanning.ScanTally.{ScanTally}
-use Rattle.pana_daemon.specs.Scan.{Asked, Makes, Reports, Follow, done_as, settled_as}
-use Rattle.pana_daemon.specs.inner.Scan.{Asks, ReportsOne, ReportsSteps, ScansOnce, StopsReporting, StopsScan, Tallies, reporting}
-use Rattle.pana_daemon.proofs.Tallies.{tallies_none, tallies_then, tallies_after_query, tallies_done, tallies_fault}
+use Rattle.pana_scan.specs.declared.scan_fault.ScanFault.{ScanFault}
+use Rattle.pana_scan.specs.Baseline.{settled}
+use Rattle.pana_track.specs.Calls.{Asked, Makes}
+use Rattle.pana_track.specs.Folder.{BreaksFolder, TracksFolder}
+use Rattle.pana_track.specs.Track.{IsTrack}
+use Rattle.pana_track.specs.declared.fault.TrackFault.{TrackFault}
+use Rattle.pana_track.specs.declared.folder_end.FolderEnd.{FolderEnd}
+use Rattle.pana_track.specs.declared.read_fault.ReadFault.{ReadFault}
+use Rattle.pana_track.specs.declared.reading.TrackedListing.{TrackedListing}
+use Rattle.pana_track.proofs.Reported.{makes_on}
+use Rattle.pana_daemon.specs.declared.folder.Look.TheVariants.{Scanned, Tracked}
+use Rattle.pana_daemon.specs.Scan.{Reports, Follow, done_as, settled_as}
+use Rattle.pana_daemon.specs.inner.Scan.{Asks, IsOwn, ReportsOne, ReportsSteps, ScansOnce, StopsLook, StopsReporting, StopsScan, StopsTracking, TracksOnce, reporting}
 
 module _ {S : Type 0} (step : S → List ℕ → Call → Answer → S → Type 0) where
-  -- calls and more calls
-  pub makes_on : (old mid new : S) (made more : List Asked) → Makes step old made mid → Makes step mid more new → Makes step old (made ++ more) new
-  makes_on old mid new [] more is on = subst (λ (s : S). Makes step s more new) is on
-  makes_on old mid new (m ∷ made) more (next, one, is) on = (next, one, makes_on next mid new made more is on)
-
   -- one call
   pub makes_one : (old new : S) (by : List ℕ) (call : Call) (answer : Answer) → step old by call answer new → Makes step old (record { by = by; call = call; answer = answer } ∷ []) new
   makes_one old new by call answer is = (new, is, refl)
@@ -41,34 +45,35 @@ module _ (device : List ℕ) where
         goes (inl so) then = then so
         goes (inr odd) then = absurd (omega (arith, odd.2))
 
--- what holds of a result that is an error
-pub was_err : {T E : Type 0} → (r : Result T E) (P : Type 0) → OnErr r P → is_err r ≡ true → P
-was_err (Ok x) P on is = absurd (cc)
-was_err (Err e) P on is = on
+pub on_err : {T E : Type 0} → (r : Result T E) (P : Type 0) → P → OnErr r P
+on_err (Ok x) P p = tt
+on_err (Err e) P p = p
+
+pub on_err_then : {T E : Type 0} → (r : Result T E) (P Q : Type 0) → (P → Q) → OnErr r P → OnErr r Q
+on_err_then (Ok x) P Q f on = tt
+on_err_then (Err e) P Q f on = f on
 
 pub if_err : {T E : Type 0} → (r : Result T E) (P : Type 0) → P → IfErr r (λ _. P)
 if_err (Ok x) P p = tt
 if_err (Err e) P p = p
 
 -- the reports that were made so far, of the first so many steps
-pub record SoFar {S : Type 0} (step : S → List ℕ → Call → Answer → S → Type 0) (device : List ℕ) (steps : List Step) (index : ℕ) (old new : S) (marks_old marks_new : List BaselineRow) (tally_old tally_new : ScanTally) : Type 0 where
+pub record SoFar {S : Type 0} (step : S → List ℕ → Call → Answer → S → Type 0) (device : List ℕ) (steps : List Step) (index : ℕ) (old new : S) (marks_old marks_new : List BaselineRow) : Type 0 where
   pub made : List Asked
   pub calls : Makes step old made new
   pub are : Reports device marks_old (take index steps) made 0 marks_new
-  pub tally : Tallies tally_old tally_new made 0
 
 module _ {S : Type 0} (step : S → List ℕ → Call → Answer → S → Type 0) (device : List ℕ) (steps : List Step) where
   -- once all steps were gone over, all their reports were made
-  pub all_reported : (index : ℕ) (old new : S) (marks_old marks_new : List BaselineRow) (first last : ScanTally) → length steps ≤ index → SoFar step device steps index old new marks_old marks_new first last → ReportsSteps step device steps old new marks_old marks_new first last
-  all_reported index old new marks_old marks_new first last past far = record {
+  pub all_reported : (index : ℕ) (old new : S) (marks_old marks_new : List BaselineRow) → length steps ≤ index → SoFar step device steps index old new marks_old marks_new → ReportsSteps step device steps old new marks_old marks_new
+  all_reported index old new marks_old marks_new past far = record {
     made = far.made;
     faults = 0;
     calls = far.calls;
     are = subst (λ (ss : List Step). Reports device marks_old ss far.made 0 marks_new) (take_all index steps past) far.are;
-    tally = far.tally;
   }
 
-  module _ (index : ℕ) (old mid new : S) (s : Step) (marks_old marks_mid marks_new : List BaselineRow) (first before after : ScanTally) (far : SoFar step device steps index old mid marks_old marks_mid first before) (room : index < length steps) (is : s ≡ slice_index_or steps index s) where
+  module _ (index : ℕ) (old mid new : S) (s : Step) (marks_old marks_mid marks_new : List BaselineRow) (far : SoFar step device steps index old mid marks_old marks_mid) (room : index < length steps) (is : s ≡ slice_index_or steps index s) where
     -- the steps so far, this one, and the others
     parts : take index steps ++ (s ∷ drop (suc index) steps) ≡ steps
     parts = ap (λ (more : List Step). take index steps ++ more) (ap (λ (t : Step). t ∷ drop (suc index) steps) is ∙ sym (drop-cons steps index s room)) ∙ take-append-drop index steps
@@ -84,48 +89,44 @@ module _ {S : Type 0} (step : S → List ℕ → Call → Answer → S → Type 
     no_more faults fault same = subst (λ (made : List Asked). Reports device marks_old steps made faults marks_new) (append-nil far.made) (next_reports [] faults (fault, same))
 
     -- a step's report was made, or none, and then no more is to be
-    pub last_one : (more : Bool) → more ≡ false → ReportsOne step device s mid new more marks_mid marks_new before after → ReportsSteps step device steps old new marks_old marks_new first after
+    pub last_one : (more : Bool) → more ≡ false → ReportsOne step device s mid new more marks_mid marks_new → ReportsSteps step device steps old new marks_old marks_new
     last_one more off (inl one) = last_of one.ends where
-      last_of : ((more ≡ true) × (one.faults ≡ 0) × (marks_new ≡ settled_as marks_mid s one.answer)) ⊎ ((more ≡ false) × (one.faults ≡ 1) × (marks_new ≡ marks_mid) × (done_as one.answer ≡ 1)) → ReportsSteps step device steps old new marks_old marks_new first after
+      last_of : ((more ≡ true) × (one.faults ≡ 0) × (marks_new ≡ settled_as marks_mid s one.answer)) ⊎ ((more ≡ false) × (one.faults ≡ 1) × (marks_new ≡ marks_mid) × (done_as one.answer ≡ 1)) → ReportsSteps step device steps old new marks_old marks_new
       last_of (inl (on, none, settles)) = absurd (true≢false (sym on ∙ off))
       last_of (inr (ended, fault, same, was)) = record {
         made = far.made ++ reporting device s one.answer ∷ [];
         faults = one.faults;
         calls = next_calls one.answer one.call;
         are = next_reports (reporting device s one.answer ∷ []) one.faults (refl, refl, inr (was, refl, fault, same));
-        tally = tallies_then first before after far.made (reporting device s one.answer ∷ []) one.faults far.tally one.tally;
       }
-    last_one more off (inr (last, same, marks, tally)) = record {
+    last_one more off (inr (last, same, marks)) = record {
       made = far.made;
       faults = 1;
       calls = subst (λ (x : S). Makes step old far.made x) (sym same) far.calls;
       are = no_more 1 refl marks;
-      tally = subst (λ (made : List Asked). Tallies first after made 1) (append-nil far.made) (tallies_then first before after far.made [] 1 far.tally tally);
     }
 
     -- where more is to be made, a step's report was made, with no fault
-    pub just_one : (more : Bool) → more ≡ true → ReportsOne step device s mid new more marks_mid marks_new before after → SoFar step device steps (index + 1) old new marks_old marks_new first after
+    pub just_one : (more : Bool) → more ≡ true → ReportsOne step device s mid new more marks_mid marks_new → SoFar step device steps (index + 1) old new marks_old marks_new
     just_one more on (inl one) = just_of one.ends where
-      just_of : ((more ≡ true) × (one.faults ≡ 0) × (marks_new ≡ settled_as marks_mid s one.answer)) ⊎ ((more ≡ false) × (one.faults ≡ 1) × (marks_new ≡ marks_mid) × (done_as one.answer ≡ 1)) → SoFar step device steps (index + 1) old new marks_old marks_new first after
+      just_of : ((more ≡ true) × (one.faults ≡ 0) × (marks_new ≡ settled_as marks_mid s one.answer)) ⊎ ((more ≡ false) × (one.faults ≡ 1) × (marks_new ≡ marks_mid) × (done_as one.answer ≡ 1)) → SoFar step device steps (index + 1) old new marks_old marks_new
       just_of (inr (ended, fault, same, was)) = absurd (true≢false (sym on ∙ ended))
       just_of (inl (goes_on, none, settles)) = record {
         made = far.made ++ reporting device s one.answer ∷ [];
         calls = next_calls one.answer one.call;
         are = subst (λ (ss : List Step). Reports device marks_old ss (far.made ++ reporting device s one.answer ∷ []) 0 marks_new) (ap (λ (t : Step). take index steps ++ t ∷ []) is ∙ sym (take_more steps index s room))
             (reports_on device marks_old marks_mid marks_new (take index steps) (s ∷ []) far.made (reporting device s one.answer ∷ []) 0 far.are (refl, refl, inl (refl, settles)));
-        tally = subst (λ (faults : ℕ). Tallies first after (far.made ++ reporting device s one.answer ∷ []) faults) none (tallies_then first before after far.made (reporting device s one.answer ∷ []) one.faults far.tally one.tally);
       }
-    just_one more on (inr (last, same, marks, tally)) = absurd (true≢false (sym on ∙ last))
+    just_one more on (inr (last, same, marks)) = absurd (true≢false (sym on ∙ last))
 
     -- the next report has no answer
-    pub stops_at : (fails : S → List ℕ → Call → S → Type 0) → fails mid device (calls.Report s.report) new → after ≡ before → StopsReporting step fails device steps old new marks_old first after
-    stops_at fails failed same = record {
+    pub stops_at : (fails : S → List ℕ → Call → S → Type 0) → fails mid device (calls.Report s.report) new → StopsReporting step fails device steps old new marks_old
+    stops_at fails failed = record {
       mid = mid;
       made = far.made;
       calls = far.calls;
       call = calls.Report s.report;
       are = λ answer. next_of answer (reported answer (drop (suc index) steps));
-      tally = subst (λ (t : ScanTally). Tallies first t far.made 0) (sym same) far.tally;
       ends = failed;
     } where
       reported : (answer : Answer) (rest : List Step) → (faults : ℕ) × (left : List BaselineRow) × Reports device marks_mid (s ∷ rest) (reporting device s answer ∷ []) faults left
@@ -158,44 +159,41 @@ module _ {S : Type 0} (step : S → List ℕ → Call → Answer → S → Type 
   asking answer = record { by = device; call = calls.Query (queries.Holdings device None); answer = answer }
 
   -- the device asked, and reported nothing
-  pub asked : (listing : Contents) (answer : Answer) (old new : S) (marks_old marks_new : List BaselineRow) (first last : ScanTally) → listing.device ≡ device → step old device (calls.Query (queries.Holdings device None)) answer new → marks_new ≡ marks_old → Tallies first last [] 1 → ScansOnce step device (Ok listing) old new marks_old marks_new first last
-  asked listing answer old new marks_old marks_new first last own one marks tally = record {
+  pub asked : (listing : Contents) (answer : Answer) (old new : S) (marks_old marks_new : List BaselineRow) → listing.device ≡ device → step old device (calls.Query (queries.Holdings device None)) answer new → marks_new ≡ marks_old → ScansOnce step device (Ok listing) old new marks_old marks_new
+  asked listing answer old new marks_old marks_new own one marks = record {
     made = asking answer ∷ [];
     faults = 1;
     calls = (new, one, refl);
     is = (own, refl, refl, no_reports device listing marks_old marks_new answer marks);
-    tally = tallies_after_query first last device (queries.Holdings device None) answer [] 1 tally;
   }
 
   -- the device asked, and got no holdings
-  pub none_held : (listing : Contents) (old new : S) (marks_old marks_new : List BaselineRow) (first last : ScanTally) → listing.device ≡ device → marks_new ≡ marks_old → Tallies first last [] 1 → Asks step device old new None → ScansOnce step device (Ok listing) old new marks_old marks_new first last
-  none_held listing old new marks_old marks_new first last own marks tally (answer, one) = asked listing answer old new marks_old marks_new first last own one marks tally
+  pub none_held : (listing : Contents) (old new : S) (marks_old marks_new : List BaselineRow) → listing.device ≡ device → marks_new ≡ marks_old → Asks step device old new None → ScansOnce step device (Ok listing) old new marks_old marks_new
+  none_held listing old new marks_old marks_new own marks (answer, one) = asked listing answer old new marks_old marks_new own one marks
 
   -- the question for the holdings has no answer
-  pub none_asked : (fails : S → List ℕ → Call → S → Type 0) (listing : Contents) (old new : S) (marks : List BaselineRow) (tally : ScanTally) → listing.device ≡ device → fails old device (calls.Query (queries.Holdings device None)) new → StopsScan step fails device (Ok listing) old new marks tally tally
-  none_asked fails listing old new marks tally own failed = record {
+  pub none_asked : (fails : S → List ℕ → Call → S → Type 0) (listing : Contents) (old new : S) (marks : List BaselineRow) → listing.device ≡ device → fails old device (calls.Query (queries.Holdings device None)) new → StopsScan step fails device (Ok listing) old new marks
+  none_asked fails listing old new marks own failed = record {
     mid = old;
     made = [];
     calls = refl;
     call = calls.Query (queries.Holdings device None);
     is = λ answer. (1, marks, (own, refl, refl, no_reports device listing marks marks answer refl));
-    tally = tallies_none tally;
     ends = failed;
   }
 
-  module _ (listing : Contents) (holdings : List Holding) (marks_old : List BaselineRow) (old mid : S) (own : listing.device ≡ device) (one : step old device (calls.Query (queries.Holdings device None)) (Given (Holdings holdings)) mid) (first last : ScanTally)
+  module _ (listing : Contents) (holdings : List Holding) (marks_old : List BaselineRow) (old mid : S) (own : listing.device ≡ device) (one : step old device (calls.Query (queries.Holdings device None)) (Given (Holdings holdings)) mid)
       (plan : Plan) (is : plan ≡ plan_of marks_old holdings listing) where
     -- the device asked, got its holdings, and reported what was planned
-    planned : (new : S) (marks_new : List BaselineRow) (steps : List Step) → steps ≡ plan.steps → ReportsSteps step device steps mid new plan.baseline marks_new first last → ScansOnce step device (Ok listing) old new marks_old marks_new first last
+    planned : (new : S) (marks_new : List BaselineRow) (steps : List Step) → steps ≡ plan.steps → ReportsSteps step device steps mid new plan.baseline marks_new → ScansOnce step device (Ok listing) old new marks_old marks_new
     planned new marks_new steps are reports = record {
       made = asking (Given (Holdings holdings)) ∷ reports.made;
       faults = reports.faults;
       calls = (mid, one, reports.calls);
       is = (own, refl, refl, inl (subst (λ (p : Plan). Reports device p.baseline p.steps reports.made reports.faults marks_new) is (subst (λ (s : List Step). Reports device plan.baseline s reports.made reports.faults marks_new) are reports.are)));
-      tally = tallies_after_query first last device (queries.Holdings device None) (Given (Holdings holdings)) reports.made reports.faults reports.tally;
     }
 
-    stopped : (fails : S → List ℕ → Call → S → Type 0) (new : S) (steps : List Step) → steps ≡ plan.steps → StopsReporting step fails device steps mid new plan.baseline first last → StopsScan step fails device (Ok listing) old new marks_old first last
+    stopped : (fails : S → List ℕ → Call → S → Type 0) (new : S) (steps : List Step) → steps ≡ plan.steps → StopsReporting step fails device steps mid new plan.baseline → StopsScan step fails device (Ok listing) old new marks_old
     stopped fails new steps are stops = record {
       mid = stops.mid;
       made = asking (Given (Holdings holdings)) ∷ stops.made;
@@ -205,26 +203,58 @@ module _ {S : Type 0} (step : S → List ℕ → Call → Answer → S → Type 
           let so = stops.are answer in
           let more = stops.made ++ record { by = device; call = stops.call; answer = answer } ∷ [] in
           (so.0, so.1, (own, refl, refl, inl (subst (λ (p : Plan). Reports device p.baseline p.steps more so.0 so.1) is (subst (λ (s : List Step). Reports device plan.baseline s more so.0 so.1) are so.2))));
-      tally = tallies_after_query first last device (queries.Holdings device None) (Given (Holdings holdings)) stops.made 0 stops.tally;
       ends = stops.ends;
     }
 
-    pub planned_all : (result : Result (Unit {0}) NoAnswer) (new : S) (marks_new : List BaselineRow) (steps : List Step) → steps ≡ plan.steps → IfOk result (λ _. ReportsSteps step device steps mid new plan.baseline marks_new first last) → IfOk result (λ _. ScansOnce step device (Ok listing) old new marks_old marks_new first last)
+    pub planned_all : (result : Result (Unit {0}) NoAnswer) (new : S) (marks_new : List BaselineRow) (steps : List Step) → steps ≡ plan.steps → IfOk result (λ _. ReportsSteps step device steps mid new plan.baseline marks_new) → IfOk result (λ _. ScansOnce step device (Ok listing) old new marks_old marks_new)
     planned_all (Ok done) new marks_new steps are reports = planned new marks_new steps are reports
     planned_all (Err failed) new marks_new steps are reports = tt
 
-    pub planned_spent : (fails : S → List ℕ → Call → S → Type 0) (result : Result (Unit {0}) NoAnswer) (new : S) (steps : List Step) → steps ≡ plan.steps → IfErr result (λ _. StopsReporting step fails device steps mid new plan.baseline first last) → IfErr result (λ _. StopsScan step fails device (Ok listing) old new marks_old first last)
+    pub planned_spent : (fails : S → List ℕ → Call → S → Type 0) (result : Result (Unit {0}) NoAnswer) (new : S) (steps : List Step) → steps ≡ plan.steps → IfErr result (λ _. StopsReporting step fails device steps mid new plan.baseline) → IfErr result (λ _. StopsScan step fails device (Ok listing) old new marks_old)
     planned_spent fails (Ok done) new steps are stops = tt
     planned_spent fails (Err failed) new steps are stops = stopped fails new steps are stops
 
-module _ {S : Type 0} (step : S → List ℕ → Call → Answer → S → Type 0) (device : List ℕ) (s : Step) (old new : S) (marks_old marks_new : List BaselineRow) (tally : ScanTally) where
-  -- the report was done, and then came a fault
-  pub report_faulty : (reports faults entry : ℕ) → step old device (calls.Report s.report) (Given (Done entry)) new → reports ≡ min (tally.reports + 1) (2 ^ 64 - 1) → faults ≡ min (tally.faults + 1) (2 ^ 64 - 1) → marks_new ≡ marks_old
-      → ReportsOne step device s old new false marks_old marks_new tally (record { scans = tally.scans; reports = reports; refused = tally.refused; faults = faults })
-  report_faulty reports faults entry one is fault same = inl (record {
-    answer = Given (Done entry);
-    call = one;
-    faults = 1;
-    ends = inr (refl, refl, same, refl);
-    tally = tallies_fault (record { scans = tally.scans; reports = reports; refused = tally.refused; faults = tally.faults }) (reporting device s (Given (Done entry)) ∷ []) tally faults (tallies_done tally device s entry reports is) fault;
-  })
+module _ {S : Type 0} (step : S → List ℕ → Call → Answer → S → Type 0) (device : List ℕ) (s : Step) (old new : S) (marks_old marks_new : List BaselineRow) where
+  -- the report was done, and is settled, or memory ran out before that
+  pub report_done : {T E : Type 0} (settles : Result T E) (more : Bool) (entry : ℕ) → step old device (calls.Report s.report) (Given (Done entry)) new
+      → OnOk settles (marks_new ≡ settled marks_old s entry) → OnErr settles (marks_new ≡ marks_old) → more ≡ is_ok settles → ReportsOne step device s old new more marks_old marks_new
+  report_done (Ok x) more entry one ok err is = inl (record { answer = Given (Done entry); call = one; faults = 0; ends = inl (is, refl, ok) })
+  report_done (Err e) more entry one ok err is = inl (record { answer = Given (Done entry); call = one; faults = 1; ends = inr (is, refl, err, refl) })
+
+module _ {S : Type 0} (step : S → List ℕ → Call → Answer → S → Type 0) (fails : S → List ℕ → Call → S → Type 0) (device : List ℕ) where
+  -- tracking a folder was broken off
+  tracking_stops : (given : Result TrackedListing ReadFault) (old new : S) → IfOk given (λ found. found.listing.device ≡ device) → BreaksFolder step fails false given old new → StopsTracking step fails device given old new
+  tracking_stops (Err fault) old new own is = absurd is
+  tracking_stops (Ok found) old new own is = record {
+    mid = is.1.mid;
+    made = is.1.made;
+    calls = is.1.calls;
+    call = is.1.call;
+    is = λ answer. inr (own, subst (λ (by : List ℕ). (stop : Option TrackFault) × IsTrack false found (is.1.made ++ record { by = by; call = is.1.call; answer = answer } ∷ []) stop) own (is.1.next answer));
+    ends = subst (λ (by : List ℕ). fails is.1.mid by is.1.call new) own is.1.failed;
+  }
+
+  pub own_stops : (given : Result TrackedListing ReadFault) (old new : S) (is_own : Bool) → is_own ≡ true → IsOwn is_own device given → BreaksFolder step fails false given old new → StopsTracking step fails device given old new
+  own_stops given old new is_own owned own is = tracking_stops given old new (subst (λ (b : Bool). IsOwn b device given) owned own) is
+
+  -- of another device's there are none
+  pub tracks_none : (given : Result TrackedListing ReadFault) (old : S) (is_own : Bool) → is_own ≡ false → IsOwn is_own device given → TracksOnce step device given old old
+  tracks_none given old is_own foreign own = none_of given (subst (λ (b : Bool). IsOwn b device given) foreign own) where
+    none_of : (given : Result TrackedListing ReadFault) → IsOwn false device given → TracksOnce step device given old old
+    none_of (Ok found) other = record { made = []; calls = refl; is = inl (other, refl) }
+    none_of (Err fault) odd = absurd odd
+
+  -- a scan that was broken off is a look that was
+  pub scan_stops_look : (given : Result Contents ScanFault) (old new : S) (marks : List BaselineRow) → StopsScan step fails device given old new marks → StopsLook step fails device (Scanned given) old new marks
+  scan_stops_look given old new marks s = record {
+    mid = s.mid;
+    made = s.made;
+    calls = s.calls;
+    call = s.call;
+    is = λ answer. let so = s.is answer in (so.1, (so.0, so.2));
+    ends = s.ends;
+  }
+
+  -- and so is tracking
+  pub tracking_stops_look : (given : Result TrackedListing ReadFault) (old new : S) (marks : List BaselineRow) → StopsTracking step fails device given old new → StopsLook step fails device (Tracked given) old new marks
+  tracking_stops_look given old new marks s = record { mid = s.mid; made = s.made; calls = s.calls; call = s.call; is = λ answer. (marks, (s.is answer, refl)); ends = s.ends }

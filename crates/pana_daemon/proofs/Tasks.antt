@@ -4,6 +4,7 @@ use Rattle.std.proofs.lemmas.List.{map-append}
 use Rattle.std.proofs.lemmas.Grind.{take_at_read}
 use Rattle.std.specs.Borrow.{Bor}
 use Rattle.atomic_table.specs.Seated.{TableId}
+use Rattle.pana_daemon.specs.declared.looks.Looks.{Looks}
 use Rattle.pana_daemon.specs.declared.post.Post.{Post}
 use Rattle.pana_daemon.specs.declared.post.Post.TheVariants.{Door, Folder}
 use Rattle.pana_daemon.specs.declared.root.Root.{Root}
@@ -36,13 +37,13 @@ module _ {D F : Type 0} where
   )
 
 -- the roots so far, and one more
-pub folders_more : {K : Type 0} (disks : K) (ticks : TableId) (start : ℕ) (roots : List Root) (i : ℕ) (root : Root) → i < length roots → root ≡ get_or roots i root
-    → new_folders ticks start (folders_of disks (take (i + 1) roots)) ≡ new_folders ticks start (folders_of disks (take i roots)) ++ (root.device, new_folder ticks start (folder_at disks root)) ∷ []
-folders_more disks ticks start roots i root within here =
-    ap (λ (rs : List Root). new_folders ticks start (folders_of disks rs)) ((take_at_read roots i root within).1)
-    ∙ ap (new_folders ticks start) (map-append (λ r. folder_at disks r) (take i roots) (get_or roots i root ∷ []))
-    ∙ map-append (λ r. (r.device, new_folder ticks start r)) (folders_of disks (take i roots)) (folder_at disks (get_or roots i root) ∷ [])
-    ∙ ap (λ (r : Root). new_folders ticks start (folders_of disks (take i roots)) ++ (r.device, new_folder ticks start (folder_at disks r)) ∷ []) (sym here)
+pub folders_more : {K : Type 0} (disks : K) (looks : Looks) (ticks : TableId) (start : ℕ) (roots : List Root) (i : ℕ) (root : Root) → i < length roots → root ≡ get_or roots i root
+    → new_folders looks ticks start (folders_of disks (take (i + 1) roots)) ≡ new_folders looks ticks start (folders_of disks (take i roots)) ++ (root.device, new_folder looks ticks start (folder_at disks root)) ∷ []
+folders_more disks looks ticks start roots i root within here =
+    ap (λ (rs : List Root). new_folders looks ticks start (folders_of disks rs)) ((take_at_read roots i root within).1)
+    ∙ ap (new_folders looks ticks start) (map-append (λ r. folder_at disks r) (take i roots) (get_or roots i root ∷ []))
+    ∙ map-append (λ r. (r.device, new_folder looks ticks start r)) (folders_of disks (take i roots)) (folder_at disks (get_or roots i root) ∷ [])
+    ∙ ap (λ (r : Root). new_folders looks ticks start (folders_of disks (take i roots)) ++ (r.device, new_folder looks ticks start (folder_at disks r)) ∷ []) (sym here)
 
 -- one more of the same
 pub replicate_more : {X : Type 0} (n : ℕ) (x : X) → replicate n x ++ x ∷ [] ≡ replicate (suc n) x

@@ -3,10 +3,10 @@ use Rattle.std.specs.Prelude.{◌≡◌, ℕ, Bool, true, false, List, [], ◌�
 use Rattle.std.specs.Borrow.{Bor}
 use Rattle.pana_hall.specs.declared.call.Call.{Call}
 use Rattle.pana_journal.specs.declared.entry.Entry.{Entry}
-use Rattle.pana_scan.specs.declared.scan_fault.ScanFault.{ScanFault}
-use Rattle.pana_scan.specs.Listing.{Contents}
 use Rattle.pana_wire.specs.Answer.{Replies}
 use Rattle.pana_wire.specs.declared.answer.Answer.{Answer}
+use Rattle.pana_daemon.specs.declared.folder.Look.{Look}
+use Rattle.pana_daemon.specs.declared.looks.Looks.{Looks}
 use Rattle.pana_daemon.specs.declared.daemon_fault.DaemonFault.{DaemonFault}
 use Rattle.pana_daemon.specs.declared.daemon_fault.DaemonFault.TheVariants as faults
 use Rattle.pana_daemon.specs.declared.daemon_fault.LateFault.{LateFault}
@@ -27,14 +27,14 @@ never old by call new = ⊥
 
 module _ {D Y E R W I K : Type 0} (step : D → List ℕ → Call → Answer → D → Type 0) (fails : D → List ℕ → Call → D → Type 0)
     (binds : Y → List ℕ → ℕ → Bool → Y → Type 0) (opens : Y → List ℕ → Result D E → Y → Type 0)
-    (remaining : R → Option (List ℕ)) (contents : W → Option (List ℕ)) (inputs : I → Option (List ℕ)) (finds : FolderView K → Option (Result Contents ScanFault) → FolderView K → Type 0) (disks : K) where
+    (remaining : R → Option (List ℕ)) (contents : W → Option (List ℕ)) (inputs : I → Option (List ℕ)) (finds : FolderView K → Option Look → FolderView K → Type 0) (disks : K) where
   -- the daemon has served a new hall, where no journal is named, or else the store of the journal with this name, and
-  -- scanned the folders that the words name; this has gone wrong
-  abbrev pub Serves : Option (Bor (List ℕ)) → List (List ℕ) → Option ℕ → Y → Option LateFault → Y → Type 0
-  Serves None words wanted old fault new = (new ≡ old)
-      × ((left : List Entry) × (calls : ℕ) × EndsDaemon Replies never remaining contents inputs finds [] wanted (folders_named disks words) left calls fault)
-  Serves (Some name) words wanted old fault new =
-      (begun : D) × (left : D) × (calls : ℕ) × opens old name.now (Ok begun) new × EndsDaemon step fails remaining contents inputs finds begun wanted (folders_named disks words) left calls fault
+  -- looked so at the folders that the words name; this has gone wrong
+  abbrev pub Serves : Option (Bor (List ℕ)) → List (List ℕ) → Option ℕ → Looks → Y → Option LateFault → Y → Type 0
+  Serves None words wanted looks old fault new = (new ≡ old)
+      × ((left : List Entry) × (calls : ℕ) × EndsDaemon Replies never remaining contents inputs finds [] wanted looks (folders_named disks words) left calls fault)
+  Serves (Some name) words wanted looks old fault new =
+      (begun : D) × (left : D) × (calls : ℕ) × opens old name.now (Ok begun) new × EndsDaemon step fails remaining contents inputs finds begun wanted looks (folders_named disks words) left calls fault
 
   -- the journal that is named can't be used
   abbrev pub Refuses : Option (Bor (List ℕ)) → Y → E → Y → Type 0
@@ -50,7 +50,7 @@ module _ {D Y E R W I K : Type 0} (step : D → List ℕ → Call → Answer →
       (first_bad [] (texts wishes.roots.now) ≡ None) × ((mid : Y) × binds old loopback wishes.port true mid × Refuses wishes.journal mid refusal new)
   Comes wishes old (NotBegun fault) new = Unit {0}
   Comes wishes old (Ended fault) new =
-      (first_bad [] (texts wishes.roots.now) ≡ None) × ((mid : Y) × binds old loopback wishes.port true mid × Serves wishes.journal (texts wishes.roots.now) wishes.wanted mid fault new)
+      (first_bad [] (texts wishes.roots.now) ≡ None) × ((mid : Y) × binds old loopback wishes.port true mid × Serves wishes.journal (texts wishes.roots.now) wishes.wanted wishes.looks mid fault new)
 
 -- the exit status
 abbrev pub status_of : {E : Type 0} → Outcome E → ℕ

@@ -1,6 +1,6 @@
 -- Roots: words that name a device and its folder, as DEVICE=DIR.
 use Rattle.std.specs.Borrow.{Bor}
-use Rattle.std.specs.Prelude.{◌≡◌, ℕ, Bool, not, leb, true, false, ◌<◌, ◌==◌, ◌||◌, bytes_eq, map, List, [], ◌∷◌, ◌++◌, length, if◌then◌else◌, Option, Some, None, Result, Ok, Err}
+use Rattle.std.specs.Prelude.{◌≡◌, ◌≤◌, ℕ, IsTrue, IfOk, Bool, not, leb, true, false, ◌<◌, ◌==◌, ◌||◌, bytes_eq, map, List, [], ◌∷◌, ◌++◌, length, if◌then◌else◌, Option, Some, None, Result, Ok, Err}
 use Rattle.std.specs.List.{before_first, after_first, list_any}
 use Rattle.atomic_table.specs.Seated.{TableId}
 use Rattle.pana_copies.specs.Names.{is_device}
@@ -10,6 +10,14 @@ use Rattle.pana_scan.specs.Scan.{IsScanned}
 use Rattle.pana_scan.specs.declared.scan_fault.ScanFault.{ScanFault}
 use Rattle.pana_ticks.specs.declared.count.Count.{Count}
 use Rattle.pana_ticks.specs.Hands.{HasSeen, count, none_yet}
+use Rattle.pana_track.specs.IgnoreFile.{IsBehind}
+use Rattle.pana_track.specs.Reading.{ReadsRoot}
+use Rattle.pana_track.specs.declared.read_fault.ReadFault.{ReadFault}
+use Rattle.pana_track.specs.declared.reading.TrackedListing.{TrackedListing}
+use Rattle.pana_daemon.specs.declared.disks.PassedOver.{PassedOver}
+use Rattle.pana_daemon.specs.declared.folder.Look.{Look}
+use Rattle.pana_daemon.specs.declared.folder.Look.TheVariants.{Scanned, Tracked}
+use Rattle.pana_daemon.specs.declared.looks.Looks.{Looks}
 use Rattle.pana_daemon.specs.declared.root.Root.{Root}
 
 -- the device: what stands before the first `=`
@@ -51,31 +59,34 @@ folders_of disks roots = map (λ root. folder_at disks root) roots
 abbrev pub folders_named : {K : Type 0} → K → List (List ℕ) → List (RootView K)
 folders_named disks words = map (λ word. record { device = device_of word; name = folder_of word; disks = disks }) words
 
--- a root's folder, as it is scanned at the start and after ticks: the ticks, and the start; whether that has come, which
--- nobody knows before the folder has asked; and what it had seen of the ticks when its last scan began
+-- a root's folder, as it is looked at at the start and after ticks: how it is; the ticks, and the start; whether that has
+-- come, which nobody knows before the folder has asked; and what it had seen of the ticks when its last scan began
 pub record FolderView (K : Type 0) : Type 0 where
   pub root : RootView K
+  pub looks : Looks
   pub ticks : TableId
   pub start : ℕ
   pub begins : Option Bool
   pub seen : Count
 
 -- the folder of a root before its first scan
-abbrev pub new_folder : {K : Type 0} → TableId → ℕ → RootView K → FolderView K
-new_folder ticks start root = record { root = root; ticks = ticks; start = start; begins = None; seen = none_yet }
+abbrev pub new_folder : {K : Type 0} → Looks → TableId → ℕ → RootView K → FolderView K
+new_folder looks ticks start root = record { root = root; looks = looks; ticks = ticks; start = start; begins = None; seen = none_yet }
 
 -- the folders of roots, each with its device
-abbrev pub new_folders : {K : Type 0} → TableId → ℕ → List (RootView K) → List (List ℕ × FolderView K)
-new_folders ticks start roots = map (λ root. (root.device, new_folder ticks start root)) roots
+abbrev pub new_folders : {K : Type 0} → Looks → TableId → ℕ → List (RootView K) → List (List ℕ × FolderView K)
+new_folders looks ticks start roots = map (λ root. (root.device, new_folder looks ticks start root)) roots
 
 -- the folder, which knows whether the start has come, and has seen so many ticks
 abbrev pub knowing : {K : Type 0} → FolderView K → Bool → Count → FolderView K
-knowing folder begins seen = record { root = folder.root; ticks = folder.ticks; start = folder.start; begins = Some begins; seen = seen }
+knowing folder begins seen = record { root = folder.root; looks = folder.looks; ticks = folder.ticks; start = folder.start; begins = Some begins; seen = seen }
 
--- a scan begins at the start, and then only once there are more ticks than were seen
-abbrev pub IsMore : Option Bool → Count → Count → Type 0
-IsMore None old new = Unit {0}
-IsMore (Some begins) old new = (begins ≡ true) × (old.ticks < new.ticks) × (old.is_over ≡ false)
+-- a scan begins at the start, and then only once there are more ticks than were seen; where a folder is looked at each so
+-- many seconds too, it may begin with none
+abbrev pub IsMore : Option ℕ → Option Bool → Count → Count → Type 0
+IsMore every None old new = Unit {0}
+IsMore None (Some begins) old new = (begins ≡ true) × (old.ticks < new.ticks) × (old.is_over ≡ false)
+IsMore (Some seconds) (Some begins) old new = (begins ≡ true) × (old.ticks ≤ new.ticks)
 
 -- there is no scan: the start hasn't come and doesn't; or no more ticks come, and all that had come were seen
 abbrev pub IsLast : {K : Type 0} → Option Bool → FolderView K → FolderView K → Type 0
@@ -85,15 +96,25 @@ IsLast (Some false) old new = new ≡ old
 
 -- the folder waits until there is a scan, or there is none
 abbrev pub AwaitsScan : {K : Type 0} → FolderView K → Bool → FolderView K → Type 0
-AwaitsScan old true new = (seen : Count) × (new ≡ knowing old true seen) × IsMore old.begins old.seen seen
+AwaitsScan old true new = (seen : Count) × (new ≡ knowing old true seen) × IsMore old.looks.every old.begins old.seen seen
 AwaitsScan old false new = IsLast old.begins old new
+
+-- the patterns of what is passed over in a folder: the first that are given for it
+abbrev pub passed_in : List PassedOver → List ℕ → List (List ℕ)
+passed_in [] folder = []
+passed_in (passed ∷ others) folder = if bytes_eq passed.folder.now folder then map (λ text. text.now) passed.patterns.now else passed_in others folder
 
 -- a listing is of this device
 abbrev pub IsListingOf : List ℕ → Result Contents ScanFault → Type 0
 IsListingOf device (Ok listing) = listing.device ≡ device
 IsListingOf device (Err fault) = Unit {0}
 
-module _ {K D : Type 0} (has : K → D → Type 0) (is_known : Bool) (tree : D → Tree) (has_failed : D → Bool) (entries faults : D → ℕ) where
+-- and so is what was read of a folder that is tracked
+abbrev pub IsReadingOf : List ℕ → Result TrackedListing ReadFault → Type 0
+IsReadingOf device (Ok found) = found.listing.device ≡ device
+IsReadingOf device (Err fault) = Unit {0}
+
+module _ {K D : Type 0} (has : K → D → Type 0) (passes : K → List ℕ → List (List ℕ)) (is_known : Bool) (tree : D → Tree) (has_failed : D → Bool) (entries faults : D → ℕ) where
   -- what was found, or why nothing was: it comes of scanning this folder, by its device, on a disk that was given for this scan
   pub record IsScanOf (folder : RootView K) (given : Result Contents ScanFault) : Type 0 where
     pub disk : D
@@ -102,10 +123,28 @@ module _ {K D : Type 0} (has : K → D → Type 0) (is_known : Bool) (tree : D �
     pub scan : IsScanned is_known (tree disk) folder.name folder.device (has_failed disk_left) (entries disk_left) (faults disk_left) given
     pub device : IsListingOf folder.device given
 
-  -- each scan of a root is one of its folder, and none is given but at the start and after further ticks
-  abbrev pub ScansRoot : FolderView K → Option (Result Contents ScanFault) → FolderView K → Type 0
+  -- what was read of this folder, by its device, to be tracked: its patterns on one disk that was given for it, and then its
+  -- files on another, without what these patterns and those of what is passed over there ignore
+  pub record IsReadOf (folder : RootView K) (given : Result TrackedListing ReadFault) : Type 0 where
+    pub first : D
+    pub disk : D
+    pub has_first : has folder.disks first
+    pub on : has folder.disks disk
+    pub reads : IsTrue is_known → ReadsRoot (tree first) (tree disk) folder.name folder.device (passes folder.disks folder.name) given
+    pub behind : IfOk given (λ found. IsBehind (passes folder.disks folder.name) found.patterns)
+    pub device : IsReadingOf folder.device given
+
+  -- one look at a folder, by whether it is tracked
+  abbrev pub IsLookOf : Bool → RootView K → Look → Type 0
+  IsLookOf false folder (Scanned given) = IsScanOf folder given
+  IsLookOf false folder (Tracked given) = ⊥
+  IsLookOf true folder (Scanned given) = ⊥
+  IsLookOf true folder (Tracked given) = IsReadOf folder given
+
+  -- each look at a root is one of its folder, and none is given but at the start, after further ticks, and after a time
+  abbrev pub ScansRoot : FolderView K → Option Look → FolderView K → Type 0
   ScansRoot old None new = AwaitsScan old false new
-  ScansRoot old (Some given) new = AwaitsScan old true new × IsScanOf old.root given
+  ScansRoot old (Some look) new = AwaitsScan old true new × IsLookOf old.looks.is_tracked old.root look
 
 -- each folder has asked whether the start has come, and this was the answer; where so many ticks were counted it has seen no
 -- more, and just these where it has seen that no more come

@@ -1,8 +1,7 @@
 -- What a scanner asks and reports.
-use Rattle.std.specs.Prelude.{◌≡◌, ◌≢◌, ◌⊎◌, ℕ, List, [], ◌∷◌, ◌++◌, length, min, ◌+◌, ◌^◌, ◌-◌, Option, Some, None, Result, Ok, Err}
+use Rattle.std.specs.Prelude.{◌≡◌, ◌≢◌, ◌⊎◌, ℕ, false, List, [], ◌∷◌, ◌++◌, ◌+◌, Option, Some, None, Result, Ok, Err}
 use Rattle.pana_hall.specs.declared.call.Call.{Call}
 use Rattle.pana_hall.specs.declared.call.Call.TheVariants as calls
-use Rattle.pana_hall.specs.declared.call.Call.TheVariants.{Report}
 use Rattle.pana_hall.specs.declared.call.Query.TheVariants as queries
 use Rattle.pana_hall.specs.declared.reply.Reply.TheVariants.{Done, Holdings}
 use Rattle.pana_wire.specs.declared.answer.Answer.{Answer}
@@ -13,48 +12,25 @@ use Rattle.pana_scan.specs.declared.step.Step.{Step}
 use Rattle.pana_scan.specs.Listing.{Contents}
 use Rattle.pana_scan.specs.Baseline.{settled}
 use Rattle.pana_scan.specs.Plan.{plan_of}
-use Rattle.pana_daemon.specs.declared.scanning.ScanTally.{ScanTally}
+use Rattle.pana_track.specs.Calls.{Asked, Makes}
+use Rattle.pana_track.specs.Track.{IsTrack}
+use Rattle.pana_track.specs.declared.fault.TrackFault.{TrackFault}
+use Rattle.pana_track.specs.declared.read_fault.ReadFault.{ReadFault}
+use Rattle.pana_track.specs.declared.reading.TrackedListing.{TrackedListing}
+use Rattle.pana_daemon.specs.declared.folder.Look.{Look}
+use Rattle.pana_daemon.specs.declared.folder.Look.TheVariants.{Scanned, Tracked}
 
--- a call that was answered: the device that makes it, the call, and its answer
-pub record Asked : Type 0 where
-  pub by : List ℕ
-  pub call : Call
-  pub answer : Answer
-
--- the session makes these calls, one after another, and gets these answers
-abbrev pub Makes : {S : Type 0} → (S → List ℕ → Call → Answer → S → Type 0) → S → List Asked → S → Type 0
-Makes step old [] new = new ≡ old
-Makes {S = S} step old (made ∷ more) new = (mid : S) × step old made.by made.call made.answer mid × Makes step mid more new
-
--- the folder gives these listings and faults, one after another
-abbrev pub Gives : {F : Type 0} → (F → Option (Result Contents ScanFault) → F → Type 0) → F → List (Result Contents ScanFault) → F → Type 0
+-- the folder gives these looks, one after another
+abbrev pub Gives : {F : Type 0} → (F → Option Look → F → Type 0) → F → List Look → F → Type 0
 Gives gives old [] new = new ≡ old
-Gives {F = F} gives old (given ∷ more) new = (mid : F) × gives old (Some given) mid × Gives gives mid more new
+Gives {F = F} gives old (look ∷ more) new = (mid : F) × gives old (Some look) mid × Gives gives mid more new
+
+-- ---- a folder that is scanned
 
 -- 1 where a report was done, and else 0
 abbrev pub done_as : Answer → ℕ
 done_as (Given (Done entry)) = 1
 done_as answer = 0
-
--- 1 for a report that was done, and else 0
-abbrev pub done_by : Call → Answer → ℕ
-done_by (Report report) answer = done_as answer
-done_by call answer = 0
-
--- 1 for a report that wasn't done, and else 0
-abbrev pub refused_by : Call → Answer → ℕ
-refused_by (Report report) answer = 1 - done_as answer
-refused_by call answer = 0
-
--- how many reports were done
-abbrev pub done_in : List Asked → ℕ
-done_in [] = 0
-done_in (made ∷ more) = done_by made.call made.answer + done_in more
-
--- how many reports weren't done
-abbrev pub refused_in : List Asked → ℕ
-refused_in [] = 0
-refused_in (made ∷ more) = refused_by made.call made.answer + refused_in more
 
 -- what an answer to a step's report makes of the baseline: an entry is settled there
 abbrev pub settled_as : List BaselineRow → Step → Answer → List BaselineRow
@@ -94,32 +70,35 @@ IsScan device (Err fault) old (asked ∷ reports) faults new = ⊥
 IsScan device (Ok listing) old (asked ∷ reports) faults new =
     (listing.device ≡ device) × (asked.by ≡ device) × (asked.call ≡ calls.Query (queries.Holdings device None)) × Follow device listing old asked.answer reports faults new
 
--- the call, whatever its answer is, is the next of the scan's calls, after these
-abbrev pub IsNext : List ℕ → Result Contents ScanFault → List BaselineRow → List Asked → Call → Type 0
-IsNext device given old made call = (answer : Answer) → (faults : ℕ) × (new : List BaselineRow) × IsScan device given old (made ++ record { by = device; call = call; answer = answer } ∷ []) faults new
+-- ---- a folder that is tracked
 
--- the calls of scans, one after another, each of which begins with the baseline that the one before has left; and how many
--- of them came to a fault
-abbrev pub AreScans : List ℕ → List BaselineRow → List (Result Contents ScanFault) → List Asked → ℕ → List BaselineRow → Type 0
-AreScans device old [] made faults new = (made ≡ []) × (faults ≡ 0) × (new ≡ old)
-AreScans device old (given ∷ more) made faults new =
-    (first : List Asked) × (others : List Asked) × (fault : ℕ) × (rest : ℕ) × (mid : List BaselineRow) × IsScan device given old first fault mid × AreScans device mid more others rest new × (made ≡ first ++ others) × (faults ≡ fault + rest)
+-- the calls of tracking what was read, by its device, where an empty folder is a fault; none where it couldn't be read, or is
+-- another device's
+abbrev pub IsTracking : List ℕ → Result TrackedListing ReadFault → List Asked → Type 0
+IsTracking device (Err fault) made = made ≡ []
+IsTracking device (Ok found) made = ((found.listing.device ≢ device) × (made ≡ [])) ⊎ ((found.listing.device ≡ device) × ((stop : Option TrackFault) × IsTrack false found made stop))
 
--- a count that stays at the greatest `u64`
-abbrev pub counted : ℕ → ℕ
-counted n = min n (2 ^ 64 - 1)
+-- ---- both
 
--- the tally counts so many listings and faults, and of these calls the reports that were done, and those that weren't
-pub record Counts (tally : ScanTally) (listings : ℕ) (made : List Asked) (passed : ℕ) : Type 0 where
-  pub scans : tally.scans ≡ counted listings
-  pub reports : tally.reports ≡ counted (done_in made)
-  pub refused : tally.refused ≡ counted (refused_in made)
-  pub faults : tally.faults ≡ counted passed
+-- the calls of one look
+abbrev pub IsLook : List ℕ → Look → List BaselineRow → List Asked → List BaselineRow → Type 0
+IsLook device (Scanned given) old made new = (faults : ℕ) × IsScan device given old made faults new
+IsLook device (Tracked given) old made new = IsTracking device given made × (new ≡ old)
 
--- one more scan, of what the folder gives next, is cut short: its next call has no answer
-pub record CutsShort {F S : Type 0} (gives : F → Option (Result Contents ScanFault) → F → Type 0) (step : S → List ℕ → Call → Answer → S → Type 0) (fails : S → List ℕ → Call → S → Type 0)
+-- the call, whatever its answer is, is the next of the look's calls, after these
+abbrev pub IsNext : List ℕ → Look → List BaselineRow → List Asked → Call → Type 0
+IsNext device look old made call = (answer : Answer) → (new : List BaselineRow) × IsLook device look old (made ++ record { by = device; call = call; answer = answer } ∷ []) new
+
+-- the calls of looks, one after another, each of which begins with the baseline that the one before has left
+abbrev pub AreLooks : List ℕ → List BaselineRow → List Look → List Asked → List BaselineRow → Type 0
+AreLooks device old [] made new = (made ≡ []) × (new ≡ old)
+AreLooks device old (look ∷ more) made new =
+    (first : List Asked) × (others : List Asked) × (mid : List BaselineRow) × IsLook device look old first mid × AreLooks device mid more others new × (made ≡ first ++ others)
+
+-- one more look, of what the folder gives next, is cut short: its next call has no answer
+pub record CutsShort {F S : Type 0} (gives : F → Option Look → F → Type 0) (step : S → List ℕ → Call → Answer → S → Type 0) (fails : S → List ℕ → Call → S → Type 0)
     (device : List ℕ) (baseline : List BaselineRow) (folder_old folder_new : F) (old new : S) (part : List Asked) : Type 0 where
-  pub next : Result Contents ScanFault
+  pub next : Look
   pub mid : S
   pub call : Call
   pub gave : gives folder_old (Some next) folder_new
@@ -127,19 +106,16 @@ pub record CutsShort {F S : Type 0} (gives : F → Option (Result Contents ScanF
   pub is : IsNext device next baseline part call
   pub failed : fails mid device call new
 
--- a scanner's work: it takes what the folder gives until that gives no more, or a call has no answer,
--- and the calls that the session makes are the scans' of what was given, from an empty baseline on. Its tally counts what
--- was given, the scans' reports, and their faults; a scan in which a call has no answer is no fault.
-pub record Scans {F S : Type 0} (gives : F → Option (Result Contents ScanFault) → F → Type 0) (step : S → List ℕ → Call → Answer → S → Type 0) (fails : S → List ℕ → Call → S → Type 0)
-    (device : List ℕ) (folder_old folder_new : F) (old new : S) (tally : ScanTally) : Type 0 where
-  pub given : List (Result Contents ScanFault)
+-- a scanner's work: it takes what the folder gives until that gives no more, or a call has no answer, and the calls that the
+-- session makes are those of the looks that were given, from an empty baseline on
+pub record Scans {F S : Type 0} (gives : F → Option Look → F → Type 0) (step : S → List ℕ → Call → Answer → S → Type 0) (fails : S → List ℕ → Call → S → Type 0)
+    (device : List ℕ) (folder_old folder_new : F) (old new : S) : Type 0 where
+  pub given : List Look
   pub made : List Asked
-  pub faults : ℕ
   pub baseline : List BaselineRow
   pub folder_mid : F
   pub mid : S
   pub folder : Gives gives folder_old given folder_mid
   pub calls : Makes step old made mid
-  pub are : AreScans device [] given made faults baseline
-  pub ends : (gives folder_mid None folder_new × (new ≡ mid) × Counts tally (length given) made faults)
-      ⊎ ((part : List Asked) × CutsShort gives step fails device baseline folder_mid folder_new mid new part × Counts tally (length given + 1) (made ++ part) faults)
+  pub are : AreLooks device [] given made baseline
+  pub ends : (gives folder_mid None folder_new × (new ≡ mid)) ⊎ ((part : List Asked) × CutsShort gives step fails device baseline folder_mid folder_new mid new part)

@@ -2,11 +2,11 @@
 use Rattle.std.specs.Prelude.{◌≡◌, ◌&&◌, ℕ, Bool, true, false, List, length, replicate, Option, Some, None, Result}
 use Rattle.std.specs.List.{list_any}
 use Rattle.pana_hall.specs.declared.call.Call.{Call}
-use Rattle.pana_scan.specs.declared.scan_fault.ScanFault.{ScanFault}
-use Rattle.pana_scan.specs.Listing.{Contents}
 use Rattle.pana_turn.specs.Closing.{Closes}
 use Rattle.pana_turn.specs.Passes.{DeskId, new_passes}
 use Rattle.pana_wire.specs.declared.answer.Answer.{Answer}
+use Rattle.pana_daemon.specs.declared.folder.Look.{Look}
+use Rattle.pana_daemon.specs.declared.looks.Looks.{Looks}
 use Rattle.pana_daemon.specs.Desk.{PassView, SharedSteps}
 use Rattle.pana_daemon.specs.Post.{HaveDone, doors_in, folders_in, passes_of, posts_of}
 use Rattle.pana_daemon.specs.Session.{lacks_answer}
@@ -26,7 +26,7 @@ use Rattle.atomic_table.specs.Seated.{TableId}
 -- pass has seen, the calls in it with a pass's number are just those that this caller made, and it has no others; and
 -- the session and the number of calls are those that it leaves. A call is said to have no answer just where one has none.
 pub record Ends {S D R W F : Type 0} (step : S → List ℕ → Call → Answer → S → Type 0) (fails : S → List ℕ → Call → S → Type 0)
-    (gives : D → Option (Connection R W) → D → Type 0) (remaining : R → Option (List ℕ)) (contents : W → Option (List ℕ)) (finds : F → Option (Result Contents ScanFault) → F → Type 0)
+    (gives : D → Option (Connection R W) → D → Type 0) (remaining : R → Option (List ℕ)) (contents : W → Option (List ℕ)) (finds : F → Option Look → F → Type 0)
     (begun : S) (posts : List (Post D F)) (left : S) (posts_left : List (Post D F)) (calls : ℕ) (unanswered : Bool) : Type 0 where
   pub desk : DeskId S
   pub opened : desk.begun ≡ begun
@@ -51,7 +51,7 @@ fault_of false false = None
 -- whether it comes, and so was scanned where it does; it has seen no more ticks than were counted, and one that ended since
 -- no more come has seen all.
 pub record EndsDrawn {S R W I K : Type 0} (step : S → List ℕ → Call → Answer → S → Type 0) (fails : S → List ℕ → Call → S → Type 0)
-    (remaining : R → Option (List ℕ)) (contents : W → Option (List ℕ)) (inputs : I → Option (List ℕ)) (finds : FolderView K → Option (Result Contents ScanFault) → FolderView K → Type 0)
+    (remaining : R → Option (List ℕ)) (contents : W → Option (List ℕ)) (inputs : I → Option (List ℕ)) (finds : FolderView K → Option Look → FolderView K → Type 0)
     (begun : S) (tickets : TicketsView) (posts : List (Post DoorView (FolderView K))) (left : S) (calls : ℕ) (fault : Option LateFault) : Type 0 where
   pub posts_left : List (Post DoorView (FolderView K))
   pub unanswered : Bool
@@ -64,15 +64,15 @@ pub record EndsDrawn {S R W I K : Type 0} (step : S → List ℕ → Call → An
   pub fault_is : fault ≡ fault_of unanswered (is_one_closed (doors_in posts_left))
 
 -- The daemon's callers have done so: 16 that serve connections, each of which draws a ticket, of as many as connections are
--- wanted, and one for each root that scans its folder, by its device, at the start and after ticks.
+-- wanted, and one for each root that looks so at its folder, by its device, at the start and after ticks.
 pub record EndsDaemon {S R W I K : Type 0} (step : S → List ℕ → Call → Answer → S → Type 0) (fails : S → List ℕ → Call → S → Type 0)
-    (remaining : R → Option (List ℕ)) (contents : W → Option (List ℕ)) (inputs : I → Option (List ℕ)) (finds : FolderView K → Option (Result Contents ScanFault) → FolderView K → Type 0)
-    (begun : S) (wanted : Option ℕ) (roots : List (RootView K)) (left : S) (calls : ℕ) (fault : Option LateFault) : Type 0 where
+    (remaining : R → Option (List ℕ)) (contents : W → Option (List ℕ)) (inputs : I → Option (List ℕ)) (finds : FolderView K → Option Look → FolderView K → Type 0)
+    (begun : S) (wanted : Option ℕ) (looks : Looks) (roots : List (RootView K)) (left : S) (calls : ℕ) (fault : Option LateFault) : Type 0 where
   pub tickets : TicketsView
   pub posts : List (Post DoorView (FolderView K))
   pub most : tickets.most ≡ limit_of wanted
   pub workers : doors_in posts ≡ replicate 16 (new_door tickets)
   pub ticks : TableId
   pub start : ℕ
-  pub scanners : folders_in posts ≡ new_folders ticks start roots
+  pub scanners : folders_in posts ≡ new_folders looks ticks start roots
   pub ends : EndsDrawn step fails remaining contents inputs finds begun tickets posts left calls fault

@@ -64,6 +64,11 @@ impl<'a> Alarm<'a> {
         self.closer.is_some()
     }
 
+    /// Prints lines on standard error, where that can be written.
+    pub(crate) fn say(&self, lines: &str) {
+        let _ = eprint!(self.rt; "{lines}");
+    }
+
     /// Takes no further connection, and notes the time.
     fn close(&self) {
         if let Some(socket) = &self.closer {

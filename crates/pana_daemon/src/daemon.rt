@@ -16,6 +16,7 @@ use crate::disks::Disks;
 use crate::door::Door;
 use crate::folder::Folder;
 use crate::listener::{CountedListener, Listener};
+use crate::looks::Looks;
 use crate::newlines::count_newlines;
 use crate::patience::{Patience, PatientReader, PatientWriter};
 use crate::post::Post;
@@ -81,6 +82,7 @@ fn posts_of<'a, T: Wait + Clock, K: Disks>(
     tickets: &'a Tickets,
     whole: &mut Share,
     counter: &mut Counter,
+    looks: Looks,
     roots: &'a [Root<'a>],
 ) -> Result<Vec<DaemonPost<'a, T, K>>, AllocError>
     requires few { length roots.now ≤ 8 }
@@ -88,7 +90,7 @@ fn posts_of<'a, T: Wait + Clock, K: Disks>(
     requires counter { counter.old.id ≡ signals.now.ticks }
     ensures count { IfOk result (λ posts. length posts.items ≡ 16 + length roots.now) }
     ensures workers { IfOk result (λ posts. doors_in posts.items ≡ replicate 16 (new_door tickets.now)) }
-    ensures scanners { IfOk result (λ posts. folders_in posts.items ≡ new_folders signals.now.ticks signals.now.start.all.id (folders_of disks.now roots.now)) }
+    ensures scanners { IfOk result (λ posts. folders_in posts.items ≡ new_folders looks signals.now.ticks signals.now.start.all.id (folders_of disks.now roots.now)) }
     ensures counter { counter.new ≡ counter.old }
     ensures whole { OnOk result (whole.new ≡ record { id = tickets.now.id; hand = hand tickets.now.most 48 0 0 }) }
 {
@@ -107,7 +109,9 @@ fn posts_of<'a, T: Wait + Clock, K: Disks>(
                 alloc,
                 threads,
                 disks,
+                alarm,
                 root,
+                looks,
                 signals,
                 signals.ticks.watcher(counter),
             ),
@@ -273,9 +277,10 @@ fn serve_posts<'a, S: Session + Send + Drop, T: Threads + Wait + Clock + Sync, K
 }
 
 /// Prints where it listens, and then serves the listener's connections at a desk with this session, 16 at a time, and
-/// scans the roots: each by a thread of its own, at the start and after newlines on standard input. It ends once as many
-/// connections were taken as are wanted, these have ended and, where there is a root, standard input has ended too; where
-/// no number is given, only where a call has no answer and it isn't to stay: it takes no further connection then, closes
+/// looks at the roots: each by a thread of its own, at the start and after newlines on standard input, and each so many
+/// seconds too where that is wanted. It ends once as many connections were taken as are wanted, these have ended and, where
+/// there is a root, standard input has ended too; where no number is given, only where a call has no answer and it isn't to
+/// stay: it takes no further connection then, closes
 /// those that are open still after 5 to 10 seconds, and doesn't wait for standard input. Then it closes the desk, and
 /// returns the session, with the number of calls that were made, and what has gone wrong.
 ///
@@ -290,13 +295,15 @@ pub fn serve<'a, S: Session + Send + Drop, T: Threads + Wait + Clock + Sync, K: 
     address: &SocketAddr,
     listener: Listener,
     stays: bool,
+    looks: Looks,
     roots: &'a [Root<'a>],
     session: S,
 ) -> Result<DaemonEnd<S>, DaemonFault>
     requires few { length roots.now ≤ 8 }
-    ensures { IfOk result (λ ended. EndsDaemon S.step S.fails ⟦<PatientReader<'a, T, Alarm<'a>> as Read>⟧.remaining ⟦<BufWriter<PatientWriter<'a, T, Alarm<'a>>, Global> as Write>⟧.contents ⟦<StandardInput<'a, 'a, T> as Read>⟧.remaining ⟦<RootFolder<'a, T, K> as Folder>⟧.gives session listener.wanted (folders_of disks.now roots.now) ended.session ended.calls ended.fault) }
+    ensures { IfOk result (λ ended. EndsDaemon S.step S.fails ⟦<PatientReader<'a, T, Alarm<'a>> as Read>⟧.remaining ⟦<BufWriter<PatientWriter<'a, T, Alarm<'a>>, Global> as Write>⟧.contents ⟦<StandardInput<'a, 'a, T> as Read>⟧.remaining ⟦<RootFolder<'a, T, K> as Folder>⟧.gives session listener.wanted looks (folders_of disks.now roots.now) ended.session ended.calls ended.fault) }
 {
-    let (signals, mut counter) = Signals::new(rt.alloc(), roots.len())?;
+    let lasts = listener.wanted.is_none();
+    let (signals, mut counter) = Signals::new(rt.alloc(), roots.len(), lasts)?;
     let alarm = alarm_of(rt, &signals, &listener, stays)?;
     let Listener {
         listener,
@@ -316,6 +323,7 @@ pub fn serve<'a, S: Session + Send + Drop, T: Threads + Wait + Clock + Sync, K: 
         &tickets,
         &mut whole,
         &mut counter,
+        looks,
         &*roots,
     )?;
     let has_roots = !roots.is_empty();

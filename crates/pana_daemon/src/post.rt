@@ -37,7 +37,7 @@ impl<S: Session + Drop, T: Wait, G: Supervisor, D: Door, F: Folder> Caller<'_, '
         match post {
             Post::Door(door) => work(rt, alloc, session, door),
             Post::Folder(device, folder) => {
-                let _ = scanner(rt, alloc, session, device, folder);
+                scanner(rt, alloc, session, device, folder);
             }
         }
     }

@@ -1,35 +1,51 @@
 //! A root's folder, as a scanner looks at it.
 
-ghost use Rattle.std.specs.Prelude.{◌≡◌, None, IfSome};
+ghost use Rattle.std.specs.Prelude.{◌≡◌, None, Some, IfSome};
 ghost use Rattle.pana_ticks.specs.Hands.{none_yet};
 ghost use Rattle.pana_daemon.specs.Root.{AwaitsScan, folder_at, new_folder};
 
+use crate::alarm::Alarm;
 use crate::disks::Disks;
-use crate::folder::Folder;
+use crate::folder::{Folder, Look};
+use crate::looks::Looks;
 use crate::root::Root;
 use crate::signals::Signals;
 use crate::start::Verdict;
-use pana_scan::{Listing, ScanFault, Unwatched, read_root};
+use crate::supervisor::Supervisor;
+use crate::timing::wait_for;
+use pana_scan::{Sums, Unwatched, read_root};
 use pana_ticks::Watcher;
+use pana_track::{FolderEnd, read_tracked};
 use std::alloc::Global;
 use std::marker::Model;
+use std::mem;
 use std::sync::Wait;
+use std::time::Clock;
 
-/// A root's folder, which is scanned at the start, and again once a newline of standard input has come since the last
-/// scan began; so newlines that come during a scan are one more. Where not all begins that is to run at once, it gives
-/// nothing. To contracts it is the root, its device and the folder's name, and the disks on which it is read; the newlines
-/// that it waits for; whether all begins, once it has asked; and how many newlines it has seen.
+/// A root's folder, which is looked at at the start, and again once a newline of standard input has come since the last
+/// look began; so newlines that come during a look are one more. Where it is looked at each so many seconds too, it goes on
+/// once no more newlines come, if it is to, until all is to end. Where not all begins that is to run at once, it gives
+/// nothing. What became of it is printed where that differs from the last time.
+///
+/// To contracts it is the root, its device and the folder's name, and the disks on which it is read; how it is looked at; the
+/// newlines that it waits for; whether all begins, once it has asked; and how many newlines it has seen.
 #[derive(Drop)]
 pub struct RootFolder<'a, T, K> {
     alloc: Global,
     threads: &'a T,
     disks: &'a K,
+    alarm: &'a Alarm<'a>,
     root: &'a Root<'a>,
+    looks: Looks,
     signals: &'a Signals,
-    /// It has seen the newlines that had come when the last scan began.
+    /// It has seen the newlines that had come when the last look began.
     watcher: Watcher,
     /// Whether all begins that is to run at once, once it has asked.
     verdict: Option<Verdict<'a>>,
+    /// The sums of files from the last look.
+    sums: Sums,
+    /// What was printed last about it.
+    said: String,
 }
 
 impl<'a, T, K> Model for RootFolder<'a, T, K> {
@@ -38,32 +54,38 @@ impl<'a, T, K> Model for RootFolder<'a, T, K> {
 
     ghost Value = { FolderView K };
 
-    ghost view = { λ folder. record { root = folder_at folder.disks.now folder.root.now; ticks = folder.signals.now.ticks; start = folder.signals.now.start.all.id; begins = option_map (λ verdict. verdict.begins) folder.verdict; seen = folder.watcher.count } };
+    ghost view = { λ folder. record { root = folder_at folder.disks.now folder.root.now; looks = folder.looks; ticks = folder.signals.now.ticks; start = folder.signals.now.start.all.id; begins = option_map (λ verdict. verdict.begins) folder.verdict; seen = folder.watcher.count } };
 
     ghost invariant = { λ folder. (folder.watcher.id ≡ folder.signals.now.ticks) × IfSome folder.verdict (λ verdict. verdict.of ≡ folder.signals.now.start.all.id) };
 }
 
 impl<'a, T, K> RootFolder<'a, T, K> {
-    /// The folder before its first scan. Takes no memory.
+    /// The folder before its first look. Takes no memory.
     pub fn new(
         alloc: Global,
         threads: &'a T,
         disks: &'a K,
+        alarm: &'a Alarm<'a>,
         root: &'a Root<'a>,
+        looks: Looks,
         signals: &'a Signals,
         watcher: Watcher,
     ) -> RootFolder<'a, T, K>
         requires { watcher ≡ record { id = signals.now.ticks; count = none_yet } }
-        ensures { result ≡ new_folder signals.now.ticks signals.now.start.all.id (folder_at disks.now root.now) }
+        ensures { result ≡ new_folder looks signals.now.ticks signals.now.start.all.id (folder_at disks.now root.now) }
     {
         RootFolder {
             alloc,
             threads,
             disks,
+            alarm,
             root,
+            looks,
             signals,
             watcher,
             verdict: None,
+            sums: Sums::none(alloc),
+            said: String::new(alloc),
         }
     }
 
@@ -90,8 +112,8 @@ impl<'a, T, K> RootFolder<'a, T, K> {
     }
 }
 
-impl<T: Wait, K> RootFolder<'_, T, K> {
-    /// Waits for the first scan or the next one, and says whether there is one.
+impl<T: Wait + Clock, K> RootFolder<'_, T, K> {
+    /// Waits for the first look or the next one, and says whether there is one.
     fn await_scan(&mut self) -> bool
         ensures { AwaitsScan self.old result self.new }
     {
@@ -102,10 +124,20 @@ impl<T: Wait, K> RootFolder<'_, T, K> {
             return false;
         }
         let (threads, signals) = (self.threads, self.signals);
-        signals
-            .ticks
-            .wait_past(threads, &mut self.watcher)
-            .is_some()
+        let Some(seconds) = self.looks.every else {
+            return signals
+                .ticks
+                .wait_past(threads, &mut self.watcher)
+                .is_some();
+        };
+        wait_for(
+            threads,
+            &signals.ticks,
+            &mut self.watcher,
+            seconds,
+            signals.lasts,
+            self.alarm,
+        )
     }
 
     /// Waits until all begins that is to run at once, and looks then how many newlines have come. Returns whether it does.
@@ -125,22 +157,45 @@ impl<T: Wait, K> RootFolder<'_, T, K> {
     }
 }
 
-impl<T: Wait, K: Disks> Folder for RootFolder<'_, T, K> {
+impl<T: Wait + Clock, K: Disks> Folder for RootFolder<'_, T, K> {
     ghost use Rattle.pana_daemon.specs.Root.{ScansRoot};
 
-    ghost gives = { ScansRoot K.gives K.Given.is_known K.Given.tree K.Given.has_failed K.Given.entries K.Given.faults };
+    ghost gives = { ScansRoot K.gives K.passes K.Given.is_known K.Given.tree K.Given.has_failed K.Given.entries K.Given.faults };
 
-    fn next(&mut self) -> Option<Result<Listing, ScanFault>> {
+    fn next(&mut self) -> Option<Look> {
         if !self.await_scan() {
             return None;
         }
-        let mut disk = self.disks.disk();
-        Some(read_root(
-            self.alloc,
+        let (alloc, disks, root) = (self.alloc, self.disks, self.root);
+        if !self.looks.is_tracked {
+            let mut disk = disks.disk(Sums::none(alloc));
+            let given = read_root(alloc, &mut disk, &root.device, root.folder, &Unwatched);
+            return Some(Look::Scanned(given));
+        }
+        // Files that haven't changed since the last look aren't read, where the disk says so.
+        let known = mem::replace(&mut self.sums, Sums::none(alloc));
+        let mut first = disks.disk(Sums::none(alloc));
+        let mut disk = disks.disk(known.next(alloc));
+        let given = read_tracked(
+            alloc,
+            &mut first,
             &mut disk,
-            &self.root.device,
-            self.root.folder,
-            &mut Unwatched,
-        ))
+            &root.device,
+            root.folder,
+            disks.passed_over(root.folder),
+            &Unwatched,
+        );
+        self.sums = disks.sums_of(disk);
+        Some(Look::Tracked(given))
+    }
+
+    fn note_end(&mut self, end: &FolderEnd) {
+        let Ok(lines) = end.lines(self.alloc, &self.root.device) else {
+            return;
+        };
+        if lines != self.said {
+            self.alarm.say(lines.as_str());
+            self.said = lines;
+        }
     }
 }

@@ -1,28 +1,17 @@
-//! Scans, one after another, by a session.
-ghost use Rattle.std.specs.Prelude.{◌≡◌, Ok, IfOk, IfErr, MatchOption};
+//! Looks at a folder, one after another, and what a session reports of them.
+ghost use Rattle.std.specs.Prelude.{◌≡◌, Ok, IfOk, IfErr, OnErr, MatchOption, false};
+ghost use Rattle.pana_track.specs.Folder.{BreaksFolder, TracksFolder};
 ghost use Rattle.pana_daemon.specs.Scan.{Scans, done_as};
-ghost use Rattle.pana_daemon.specs.inner.Scan.{Asks, ScansOnce, ReportsOne, ReportsSteps, StopsReporting, StopsScan};
+ghost use Rattle.pana_daemon.specs.inner.Scan.{Asks, IsOwn, LooksOnce, ReportsOne, ReportsSteps, ScansOnce, StopsLook, StopsReporting, StopsScan, TracksOnce, StopsTracking};
 
-use crate::folder::Folder;
+use crate::folder::{Folder, Look};
 use pana_copies::DeviceName;
 use pana_hall::{Call, HoldingList, Query, Reply};
 use pana_scan::{Baseline, Listing, Plan, ScanFault, Step, plan};
+use pana_track::{FolderEnd, ReadFault, TrackedListing, track_folder};
 use pana_wire::{Answer, NoAnswer, Session};
 use std::alloc::Global;
 use std::sync::Wait;
-
-/// What a scanner has done. Each count stays at the greatest `u64`.
-#[derive(Clone, Copy, Debug, PartialEq, Eq)]
-pub struct ScanTally {
-    /// How often the folder gave a listing, or a fault.
-    pub scans: u64,
-    /// How many reports were done.
-    pub reports: u64,
-    /// How many reports weren't done.
-    pub refused: u64,
-    /// How many scans were passed over from somewhere on for a fault.
-    pub faults: u64,
-}
 
 /// The entry of a report that was done; none where it wasn't.
 fn entry_of(answer: Answer) -> Option<u64>
@@ -41,26 +30,18 @@ fn report<S: Session>(
     device: &DeviceName,
     step: &Step,
     baseline: &mut Baseline,
-    tally: &mut ScanTally,
 ) -> Result<bool, NoAnswer>
-    ensures ok { IfOk result (λ more. ReportsOne S.step device.now step.now session.old session.new more baseline.old baseline.new tally.old tally.new) }
-    ensures fails { IfErr result (λ _. S.fails session.old device.now (Call.Report step.now.report) session.new × (tally.new ≡ tally.old)) }
+    ensures ok { IfOk result (λ more. ReportsOne S.step device.now step.now session.old session.new more baseline.old baseline.new) }
+    ensures fails { IfErr result (λ _. S.fails session.old device.now (Call.Report step.now.report) session.new) }
 {
     let Ok(report) = step.report.copy_of(alloc) else {
-        tally.faults = tally.faults.saturating_add(1);
         return Ok(false);
     };
     let answer = session.call(device, Call::Report(report))?;
     let Some(entry) = entry_of(answer) else {
-        tally.refused = tally.refused.saturating_add(1);
         return Ok(true);
     };
-    tally.reports = tally.reports.saturating_add(1);
-    if baseline.settle(step, entry).is_err() {
-        tally.faults = tally.faults.saturating_add(1);
-        return Ok(false);
-    }
-    Ok(true)
+    Ok(baseline.settle(step, entry).is_ok())
 }
 
 /// Makes the reports of the steps in order. The rest is passed over where memory runs out.
@@ -70,13 +51,12 @@ fn report_all<S: Session>(
     device: &DeviceName,
     steps: &[Step],
     baseline: &mut Baseline,
-    tally: &mut ScanTally,
 ) -> Result<(), NoAnswer>
-    ensures ok { IfOk result (λ _. ReportsSteps S.step device.now steps.now session.old session.new baseline.old baseline.new tally.old tally.new) }
-    ensures fails { IfErr result (λ _. StopsReporting S.step S.fails device.now steps.now session.old session.new baseline.old tally.old tally.new) }
+    ensures ok { IfOk result (λ _. ReportsSteps S.step device.now steps.now session.old session.new baseline.old baseline.new) }
+    ensures fails { IfErr result (λ _. StopsReporting S.step S.fails device.now steps.now session.old session.new baseline.old) }
 {
     for step in steps {
-        if !report(alloc, session, device, step, baseline, tally)? {
+        if !report(alloc, session, device, step, baseline)? {
             return Ok(());
         }
     }
@@ -108,14 +88,12 @@ fn scan<S: Session>(
     device: &DeviceName,
     listing: &Listing,
     baseline: &mut Baseline,
-    tally: &mut ScanTally,
 ) -> Result<(), NoAnswer>
     requires { listing.now.device ≡ device.now }
-    ensures ok { IfOk result (λ _. ScansOnce S.step device.now (Ok listing.now) session.old session.new baseline.old baseline.new tally.old tally.new) }
-    ensures fails { IfErr result (λ _. StopsScan S.step S.fails device.now (Ok listing.now) session.old session.new baseline.old tally.old tally.new) }
+    ensures ok { IfOk result (λ _. ScansOnce S.step device.now (Ok listing.now) session.old session.new baseline.old baseline.new) }
+    ensures fails { IfErr result (λ _. StopsScan S.step S.fails device.now (Ok listing.now) session.old session.new baseline.old) }
 {
     let Some(holdings) = holdings_of(session, device)? else {
-        tally.faults = tally.faults.saturating_add(1);
         return Ok(());
     };
     let Ok(
@@ -125,67 +103,101 @@ fn scan<S: Session>(
         },
     ) = plan(alloc, baseline, &holdings, listing)
     else {
-        tally.faults = tally.faults.saturating_add(1);
         return Ok(());
     };
     *baseline = planned;
-    report_all(alloc, session, device, steps.as_slice(), baseline, tally)
+    report_all(alloc, session, device, steps.as_slice(), baseline)
 }
 
-/// Makes the calls for what the folder gave.
-fn take<S: Session>(
+/// Makes the calls for a listing, where there is one of the device.
+fn take_scan<S: Session>(
     alloc: Global,
     session: &mut S,
     device: &DeviceName,
     given: Result<Listing, ScanFault>,
     baseline: &mut Baseline,
-    tally: &mut ScanTally,
 ) -> Result<(), NoAnswer>
-    ensures ok { IfOk result (λ _. ScansOnce S.step device.now given session.old session.new baseline.old baseline.new tally.old tally.new) }
-    ensures fails { IfErr result (λ _. StopsScan S.step S.fails device.now given session.old session.new baseline.old tally.old tally.new) }
+    ensures ok { IfOk result (λ _. ScansOnce S.step device.now given session.old session.new baseline.old baseline.new) }
+    ensures fails { IfErr result (λ _. StopsScan S.step S.fails device.now given session.old session.new baseline.old) }
 {
-    let listing = match given {
-        Ok(listing) => listing,
-        Err(_) => {
-            tally.faults = tally.faults.saturating_add(1);
-            return Ok(());
-        }
+    let Ok(listing) = given else {
+        return Ok(());
     };
     if listing.device() != device {
-        tally.faults = tally.faults.saturating_add(1);
         return Ok(());
     }
-    scan(alloc, session, device, &listing, baseline, tally)
+    scan(alloc, session, device, &listing, baseline)
 }
 
-/// Takes what the folder gives, one listing after another, asks for the device's holdings, plans, and makes the report
-/// of each step; a step that was done is settled in the baseline, and one that was refused isn't. A scan is passed over
-/// from where a fault comes: a listing that failed or is of another device, holdings that were refused, memory that ran
-/// out. It ends where the folder gives no more, or at the first call that has no answer.
+/// Whether what was read to be tracked is the device's, or nothing could be read.
+fn is_own(given: &Result<TrackedListing, ReadFault>, device: &DeviceName) -> bool
+    ensures { IsOwn result device.now given.now }
+{
+    match given {
+        Ok(found) => found.listing.device() == device,
+        Err(_) => true,
+    }
+}
+
+/// Makes the calls for a folder that is tracked, where it is one of the device, and says what became of it.
+fn take_root<S: Session>(
+    alloc: Global,
+    session: &mut S,
+    device: &DeviceName,
+    given: &Result<TrackedListing, ReadFault>,
+) -> Result<Option<FolderEnd>, NoAnswer>
+    ensures ok { IfOk result (λ _. TracksOnce S.step device.now given.now session.old session.new) }
+    ensures fails { OnErr result (StopsTracking S.step S.fails device.now given.now session.old session.new) }
+{
+    if !is_own(given, device) {
+        return Ok(None);
+    }
+    Ok(Some(track_folder(alloc, session, given, false)?))
+}
+
+/// Makes the calls for what the folder gave, and says what became of one that is tracked.
+fn take<S: Session>(
+    alloc: Global,
+    session: &mut S,
+    device: &DeviceName,
+    look: Look,
+    baseline: &mut Baseline,
+) -> Result<Option<FolderEnd>, NoAnswer>
+    ensures ok { IfOk result (λ _. LooksOnce S.step device.now look session.old session.new baseline.old baseline.new) }
+    ensures fails { OnErr result (StopsLook S.step S.fails device.now look session.old session.new baseline.old) }
+{
+    match look {
+        Look::Scanned(given) => {
+            take_scan(alloc, session, device, given, baseline)?;
+            Ok(None)
+        }
+        Look::Tracked(given) => take_root(alloc, session, device, &given),
+    }
+}
+
+/// Takes what the folder gives, one look after another. Of a folder that is scanned it asks for the device's holdings, plans,
+/// and makes the report of each step; a step that was done is settled in the baseline, and one that was refused isn't. Of one
+/// that is tracked it reports what was noticed, as `track_folder` of `pana_track` does, and the folder
+/// learns what became of it. A look is passed over from where a fault comes: a listing that failed or is of another device, holdings that were
+/// refused, memory that ran out. It ends where the folder gives no more, or at the first call that has no answer.
 pub fn scanner<T: Wait, S: Session, F: Folder>(
     rt: &T,
     alloc: Global,
     session: &mut S,
     device: &DeviceName,
     folder: &mut F,
-) -> ScanTally
-    ensures { Scans F.gives S.step S.fails device.now folder.old folder.new session.old session.new result }
+)
+    ensures { Scans F.gives S.step S.fails device.now folder.old folder.new session.old session.new }
 {
-    let mut tally = ScanTally {
-        scans: 0,
-        reports: 0,
-        refused: 0,
-        faults: 0,
-    };
     let mut baseline = Baseline::new(alloc);
     for _ in rt.forever() {
-        let Some(given) = folder.next() else {
-            return tally;
+        let Some(look) = folder.next() else {
+            return;
         };
-        tally.scans = tally.scans.saturating_add(1);
-        match take(alloc, session, device, given, &mut baseline, &mut tally) {
-            Ok(()) => {}
-            Err(NoAnswer) => return tally,
+        match take(alloc, session, device, look, &mut baseline) {
+            Ok(Some(end)) => folder.note_end(&end),
+            Ok(None) => {}
+            Err(NoAnswer) => return,
         }
     }
     unreachable!()

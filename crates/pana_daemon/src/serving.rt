@@ -10,6 +10,7 @@ use crate::daemon_fault::{DaemonFault, LateFault};
 use crate::disks::Disks;
 use crate::folder::Folder;
 use crate::listener::Listener;
+use crate::looks::Looks;
 use crate::patience::{Patience, PatientReader, PatientWriter};
 use crate::root::{RootFault, roots_of};
 use crate::root_folder::RootFolder;
@@ -34,6 +35,8 @@ pub struct Wishes<'a> {
     pub journal: Option<&'a str>,
     /// The words that name roots.
     pub roots: &'a [&'a str],
+    /// How their folders are looked at.
+    pub looks: Looks,
     /// How many connections are wanted; all where there is no number.
     pub wanted: Option<u64>,
     pub patience: Patience,
@@ -91,15 +94,19 @@ pub fn serve_on<'a, Y: System, T: Threads + Wait + Clock + Sync, K: Disks + Sync
         wanted: wishes.wanted,
         patience: wishes.patience,
     };
-    let (stays, roots) = (wishes.stays, roots.as_slice());
+    let (stays, looks, roots) = (wishes.stays, wishes.looks, roots.as_slice());
     let Some(name) = wishes.journal else {
         let Ok(hall) = Hall::new(rt.alloc()) else {
             return Outcome::NotBegun(DaemonFault::OutOfMemory);
         };
-        return outcome_of(serve(rt, threads, disks, &address, listener, stays, roots, hall));
+        return outcome_of(serve(
+            rt, threads, disks, &address, listener, stays, looks, roots, hall,
+        ));
     };
     match system.open(name) {
-        Ok(store) => outcome_of(serve(rt, threads, disks, &address, listener, stays, roots, store)),
+        Ok(store) => outcome_of(serve(
+            rt, threads, disks, &address, listener, stays, looks, roots, store,
+        )),
         Err(refusal) => Outcome::NoStore(refusal),
     }
 }

@@ -12,12 +12,14 @@ use std::alloc::{AllocError, Global};
 pub struct Signals {
     pub ticks: Ticks,
     pub start: Start,
+    /// Whether folders that are looked at each so many seconds go on once no more newlines come.
+    pub lasts: bool,
 }
 
 impl Signals {
     /// No newline so far, with what counts them, and nothing that has begun: sessions, and with so many roots, where there
     /// is one, a scanner for each and the count of newlines. Fails only where memory runs out.
-    pub fn new(alloc: Global, roots: usize) -> Result<(Signals, Counter), AllocError>
+    pub fn new(alloc: Global, roots: usize, lasts: bool) -> Result<(Signals, Counter), AllocError>
         ensures { IfOk result (λ made. made.1 ≡ record { id = made.0.ticks; count = none_yet }) }
     {
         let wanted = match roots {
@@ -26,6 +28,13 @@ impl Signals {
         };
         let (ticks, counter) = Ticks::new(alloc)?;
         let start = Start::new(wanted);
-        Ok((Signals { ticks, start }, counter))
+        Ok((
+            Signals {
+                ticks,
+                start,
+                lasts,
+            },
+            counter,
+        ))
     }
 }

@@ -7,8 +7,7 @@ use Rattle.std.specs.Io.KnownBytes.{Consumes, Appends}
 use Rattle.pana_journal.specs.declared.entry.Entry.{Entry}
 use Rattle.pana_hall.specs.declared.call.Call.{Call}
 use Rattle.pana_hall.specs.Run.{Exchange, IsRunFrom, journal_from}
-use Rattle.pana_scan.specs.declared.scan_fault.ScanFault.{ScanFault}
-use Rattle.pana_scan.specs.Listing.{Contents}
+use Rattle.pana_track.specs.Calls.{Asked, Makes}
 use Rattle.pana_turn.specs.History.{IsHistory, calls_of, left_by}
 use Rattle.pana_turn.specs.Passes.{DeskId, new_pass, new_passes, own_calls}
 use Rattle.pana_wire.specs.declared.answer.Answer.{Answer}
@@ -20,12 +19,13 @@ use Rattle.pana_wire.specs.declared.tap.Tap.{Tap}
 use Rattle.pana_wire.specs.Answer.{Replies}
 use Rattle.pana_wire.specs.Tap.{inside, has_ended}
 use Rattle.pana_daemon.specs.declared.connection.Connection.{Connection}
+use Rattle.pana_daemon.specs.declared.folder.Look.{Look}
 use Rattle.pana_daemon.specs.declared.post.Post.{Post}
 use Rattle.pana_daemon.specs.declared.post.Post.TheVariants.{Door, Folder}
 use Rattle.pana_daemon.specs.Connection.{ServesAll, ServesConnection, Works, given_by}
 use Rattle.pana_daemon.specs.Desk.{Finished, SharedSteps}
 use Rattle.pana_daemon.specs.Post.{HasDone, HaveDone, passes_of, posts_of}
-use Rattle.pana_daemon.specs.Scan.{AreScans, Asked, IsNext, Makes, Scans}
+use Rattle.pana_daemon.specs.Scan.{AreLooks, IsNext, Scans}
 use Rattle.pana_daemon.specs.Serve.{Ends}
 use Rattle.pana_daemon.specs.Served.{EndsWith}
 use Rattle.pana_daemon.specs.Session.{GetsNone, MakesCall}
@@ -120,7 +120,7 @@ module _ {R W : Type 0} (remaining : R → Option (List ℕ)) (contents : W → 
         b.told.2,
       )
 
-module _ {D R W F : Type 0} (gives : D → Option (Connection R W) → D → Type 0) (remaining : R → Option (List ℕ)) (contents : W → Option (List ℕ)) (finds : F → Option (Result Contents ScanFault) → F → Type 0) where
+module _ {D R W F : Type 0} (gives : D → Option (Connection R W) → D → Type 0) (remaining : R → Option (List ℕ)) (contents : W → Option (List ℕ)) (finds : F → Option Look → F → Type 0) where
   all_told : (door last : D) (connections : List (Connection R W)) (old new : Pass) → ServesAll Replies never gives remaining contents door connections last old new
       → (run : List Exchange) × AreTold gives remaining contents finds door connections last run × Goes old run new
   all_told door last [] old new s = ([], (s.0, refl), subst (Goes old []) (sym s.1) (stays old))
@@ -137,18 +137,18 @@ module _ {D R W F : Type 0} (gives : D → Option (Connection R W) → D → Typ
       (run, (w.connections, w.door, door_new, told, w.ends), goes)
   has_made (Door door) (Folder device folder) old new odd = absurd odd
   has_made (Folder device folder) (Door door) old new odd = absurd odd
-  has_made (Folder device folder) (Folder device_new folder_new) old new (same, (tally, s)) =
+  has_made (Folder device folder) (Folder device_new folder_new) old new (same, s) =
       let (whole, are, goes) = made_so s.made old s.mid s.calls in
-      let scans = subst (λ (made : List Asked). AreScans device.now [] s.given made s.faults s.baseline) are s.are in
+      let scans = subst (λ (made : List Asked). AreLooks device.now [] s.given made s.baseline) are s.are in
       elim s.ends [
         | inl ended ↦
-            (whole, (s.given, s.faults, s.baseline, s.folder_mid, whole, [], s.folder, scans, inl refl, sym (append-nil whole)), subst (Goes old whole) (sym ended.1) goes)
+            (whole, (s.given, s.baseline, s.folder_mid, whole, [], s.folder, scans, inl refl, sym (append-nil whole)), subst (Goes old whole) (sym ended.1) goes)
         | inr broke ↦
-            let (part, cut, counts) = broke in
+            let (part, cut) = broke in
             let (rest, its, on) = made_so part s.mid cut.mid cut.calls in
             let last = goes_on s.mid cut.mid new rest [] on (made_none cut.mid device.now cut.call new cut.failed) in (
               whole ++ rest,
-              (s.given, s.faults, s.baseline, s.folder_mid, whole, rest, s.folder, scans, inr (cut.next, folder_new, cut.call, cut.gave, subst (λ (part : List Asked). IsNext device.now cut.next s.baseline part cut.call) its cut.is), refl),
+              (s.given, s.baseline, s.folder_mid, whole, rest, s.folder, scans, inr (cut.next, folder_new, cut.call, cut.gave, subst (λ (part : List Asked). IsNext device.now cut.next s.baseline part cut.call) its cut.is), refl),
               goes_on old s.mid new whole rest goes (subst (λ (l : List Exchange). Goes s.mid l new) (append-nil rest) last),
             )
       ]
@@ -184,7 +184,7 @@ callers_within seats [] all k d h = absurd (omega (arith, h))
 callers_within seats (x ∷ history) all zero d h = all 0 x (omega arith)
 callers_within seats (x ∷ history) all (suc k) d h = callers_within seats history (λ i e g. all (suc i) e (omega (arith, g))) k d (omega (arith, h))
 
-pub one_run : {D R W F : Type 0} (gives : D → Option (Connection R W) → D → Type 0) (remaining : R → Option (List ℕ)) (contents : W → Option (List ℕ)) (finds : F → Option (Result Contents ScanFault) → F → Type 0)
+pub one_run : {D R W F : Type 0} (gives : D → Option (Connection R W) → D → Type 0) (remaining : R → Option (List ℕ)) (contents : W → Option (List ℕ)) (finds : F → Option Look → F → Type 0)
     (begun : List Entry) (posts posts_left : List (Post D F)) (left : List Entry) (calls : ℕ) (unanswered : Bool)
     → Ends Replies never gives remaining contents finds begun posts left posts_left calls unanswered → IsOneRun gives remaining contents finds begun posts left calls
 one_run {D = D} {F = F} gives remaining contents finds begun posts posts_left left calls unanswered e =

@@ -1,21 +1,21 @@
 -- The headline: what callers at a desk of a hall have made is one run of the hall, and each caller's calls are its own.
-use Rattle.std.specs.Prelude.{◌≡◌, ◌⊎◌, ◌<◌, ◌==◌, ◌+◌, ℕ, All, List, [], ◌∷◌, ◌++◌, length, map, filter, Option, Some, None, Result, option_map}
+use Rattle.std.specs.Prelude.{◌≡◌, ◌⊎◌, ◌<◌, ◌==◌, ◌+◌, ℕ, All, List, [], ◌∷◌, ◌++◌, length, map, filter, Option, Some, None, option_map}
 use Rattle.std.specs.Io.KnownBytes.{Consumes, Appends}
 use mathlib.Core.List.{IsPrefix}
 use Rattle.pana_journal.specs.declared.entry.Entry.{Entry}
 use Rattle.pana_hall.specs.declared.call.Call.{Call}
 use Rattle.pana_hall.specs.Run.{Exchange, IsRunFrom, journal_from}
 use Rattle.pana_scan.specs.declared.baseline.BaselineRow.{BaselineRow}
-use Rattle.pana_scan.specs.declared.scan_fault.ScanFault.{ScanFault}
-use Rattle.pana_scan.specs.Listing.{Contents}
+use Rattle.pana_track.specs.Calls.{Asked}
 use Rattle.pana_wire.specs.declared.answer.Answer.TheVariants.{Given}
 use Rattle.pana_wire.specs.Lines.{lines_of}
 use Rattle.pana_wire.specs.laws.Sessions.{IsRunOf}
 use Rattle.pana_daemon.specs.declared.connection.Connection.{Connection}
+use Rattle.pana_daemon.specs.declared.folder.Look.{Look}
 use Rattle.pana_daemon.specs.declared.post.Post.{Post}
 use Rattle.pana_daemon.specs.declared.post.Post.TheVariants.{Door, Folder}
 use Rattle.pana_daemon.specs.Objects.{given_of}
-use Rattle.pana_daemon.specs.Scan.{Asked, AreScans, Gives, IsNext}
+use Rattle.pana_daemon.specs.Scan.{AreLooks, Gives, IsNext}
 
 -- a hall has an answer to every call
 abbrev pub never : List Entry → List ℕ → Call → List Entry → Type 0
@@ -54,27 +54,27 @@ module _ {R W : Type 0} (remaining : R → Option (List ℕ)) (contents : W → 
     pub writes : Appends (contents connection.writer) written output
     pub answered : Answered input output made
 
--- an answered call, as a scan has it
+-- an answered call, as a look at a folder has it
 abbrev pub asked_of : Exchange → Asked
 asked_of x = record { by = x.by; call = x.call; answer = Given x.reply }
 
-module _ {D R W F : Type 0} (gives : D → Option (Connection R W) → D → Type 0) (remaining : R → Option (List ℕ)) (contents : W → Option (List ℕ)) (finds : F → Option (Result Contents ScanFault) → F → Type 0) where
+module _ {D R W F : Type 0} (gives : D → Option (Connection R W) → D → Type 0) (remaining : R → Option (List ℕ)) (contents : W → Option (List ℕ)) (finds : F → Option Look → F → Type 0) where
   -- the door gives these connections, and they were served one after another, each by calls of its own
   abbrev pub AreTold : D → List (Connection R W) → D → List Exchange → Type 0
   AreTold door [] last made = (last ≡ door) × (made ≡ [])
   AreTold door (connection ∷ connections) last made = (next : D) × (first : List Exchange) × (others : List Exchange)
       × gives door (Some connection) next × IsTold remaining contents connection first × AreTold next connections last others × (made ≡ first ++ others)
 
-  -- these are the first calls of one more scan, which was cut short, or there are none
+  -- these are the first calls of one more look, which was cut short, or there are none
   abbrev pub IsRest : List ℕ → List BaselineRow → F → List Exchange → Type 0
-  IsRest device baseline last rest = (rest ≡ []) ⊎ ((next : Result Contents ScanFault) × (after : F) × (call : Call) × finds last (Some next) after × IsNext device next baseline (map asked_of rest) call)
+  IsRest device baseline last rest = (rest ≡ []) ⊎ ((next : Look) × (after : F) × (call : Call) × finds last (Some next) after × IsNext device next baseline (map asked_of rest) call)
 
   -- what a caller was to do was done by these calls: the connections that its door gave were served, until it gave no
-  -- more; or its folder was scanned
+  -- more; or its folder was looked at
   abbrev pub HasMade : Post D F → List Exchange → Type 0
   HasMade (Door door) made = (connections : List (Connection R W)) × (last : D) × (after : D) × AreTold door connections last made × gives last None after
-  HasMade (Folder device folder) made = (given : List (Result Contents ScanFault)) × (faults : ℕ) × (baseline : List BaselineRow) × (last : F) × (whole : List Exchange) × (rest : List Exchange)
-      × Gives finds folder given last × AreScans device.now [] given (map asked_of whole) faults baseline × IsRest device.now baseline last rest × (made ≡ whole ++ rest)
+  HasMade (Folder device folder) made = (given : List Look) × (baseline : List BaselineRow) × (last : F) × (whole : List Exchange) × (rest : List Exchange)
+      × Gives finds folder given last × AreLooks device.now [] given (map asked_of whole) baseline × IsRest device.now baseline last rest × (made ≡ whole ++ rest)
 
   -- and so for each caller, numbered from this number on
   abbrev pub HaveMade : ℕ → List (Post D F) → List Turn → Type 0

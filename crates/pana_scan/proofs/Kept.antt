@@ -88,7 +88,7 @@ listing_more folder levels all left left' entries old before after mid new entry
 }
 
 -- one entry was given
-pub one_given : (before after : ℕ) (given : Option Entry) (entry : Entry) → after ≡ entries_after before (Ok given) → given ≡ Some entry → before ≤ 100000 → after ≡ before + 1
+pub one_given : (before after : ℕ) (given : Option Entry) (entry : Entry) → after ≡ entries_after before (Ok given) → given ≡ Some entry → before ≤ 1000000 → after ≡ before + 1
 one_given before after given entry after_is is within =
     let more : after ≡ counted before 1 = after_is ∙ ap (λ (o : Option Entry). entries_after before (Ok o)) is in
     omega (arith, more, within)

@@ -1,159 +1,187 @@
--- Files that are looked at in byte order, each path once.
-use Rattle.std.specs.Prelude.{◌≡◌, ◌⊎◌, ℕ, ◌+◌, ◌≤◌, if◌then◌else◌, cond, Bool, true, false, ◌||◌, List, [], ◌∷◌, ◌++◌, length, map, IsPermutation}
-use Rattle.std.specs.List.Sorted.{IsSortedBy}
+-- Files that are looked at, each once, and their rows in byte order.
+use Rattle.std.specs.Prelude.{◌≡◌, ℕ, suc, ◌+◌, ◌≤◌, cond, Bool, true, false, ◌||◌, IsTrue, List, All, [], ◌∷◌, ◌++◌, Option, length, map, sum_by, take, drop}
+use Rattle.std.specs.List.{AllByRecursion, IsDistinct, dedup, dedup_from}
+use Rattle.std.specs.List.Sorted.{IsPermutation, IsSorted, IsSortedBy, IsStrictlySortedBy}
 use Rattle.std.specs.declared.cmp.Ordering.TheVariants.{Less, Equal, Greater}
-use Rattle.std.specs.Ordering.{is_lt}
+use Rattle.std.specs.Ordering.{is_lt, is_eq}
+use Rattle.std.specs.Cmp.Lexicographic.{nat_list_cmp_total, nat_list_eq_equiv, texts_ties}
 use Rattle.std.specs.Str.{bytes_eq}
-use Rattle.std.proofs.Common.{refl, sym, ap, ◌∙◌, subst, inl, inr, arith, get_or, append_assoc, append-nil, length-append}
-use Rattle.std.proofs.Math.Seq.{get_or-append_seam}
+use Rattle.std.proofs.Common.{refl, sym, ap, ◌∙◌, subst, arith, append_assoc, length-append}
 use Rattle.std.proofs.lemmas.Bool.{true≢false}
-use Rattle.std.proofs.lemmas.List.{get_or-append-add, map-append}
-use Rattle.std.proofs.lemmas.List.Folds.{list_any-append}
+use Rattle.std.proofs.lemmas.List.{drop_at, map-append, take-append-drop}
+use Rattle.std.proofs.lemmas.List.Elements.{All-append, All-cons, All-drop, All-head, All-nil, All-tail, All-take}
+use Rattle.std.proofs.lemmas.List.Kept.{IsStrictlySortedBy-dedup}
 use Rattle.std.proofs.lemmas.List.Sums.{sum_by-append, sum_by-cons}
-use Rattle.std.proofs.lemmas.List.Sorted.{list_any-IsPermutation}
-use Rattle.pana_scan.specs.declared.listing.Found.{Found}
+use Rattle.std.proofs.lemmas.List.Sorted.{All-permutation, IsPermutation-append, IsPermutation-map, IsPermutation-middle, IsPermutation-push_more, IsPermutation-refl, IsPermutation-sym, IsPermutation-to_front, IsPermutation-trans, list_any-IsPermutation, sum_by-IsPermutation}
+use Rattle.std.proofs.lemmas.Map.Keys.{IsDistinct-IsPermutation}
+use native.Mathlib.Numerals.{unary_clauses}
 use Rattle.pana_scan.specs.declared.listing.FoundRow.{FoundRow}
-use Rattle.pana_scan.specs.Disk.{Tree}
-use Rattle.pana_scan.specs.Listing.{Contents, IsAbove, RowsRise}
+use Rattle.pana_scan.specs.Disk.{Content, Tree}
+use Rattle.pana_scan.specs.Listing.{Contents, RowsRise}
 use Rattle.pana_scan.specs.Order.{Path, in_order, path_cmp}
-use Rattle.pana_scan.specs.Scan.{is_unreadable, listing_of, row_at, unreadable_count}
+use Rattle.pana_scan.specs.Scan.{HaveFiles, is_unreadable, listing_of, row_at, unreadable_count}
 use Rattle.pana_scan.specs.Tree.{files_of, folders_of, skipped_of}
-use Rattle.pana_scan.specs.inner.Walk.{IsLookedAt}
-use Rattle.pana_scan.proofs.Listed.{above_last}
-use Rattle.pana_scan.proofs.Order.{has, same_paths, in_order_rise, in_order_has, same_path, eq_itself, eq_is_same, turned}
+use Rattle.pana_scan.specs.inner.Look.{AreLookedAt, AreRows, paths_of}
+use Rattle.pana_scan.proofs.Order.{IsBelow, Rise, below_chain, eq_is_same, has, in_order_has, in_order_rise, less_differs, same_paths, turned}
+
+-- ---- sorted paths, each once
+
+or_twice : (a r : Bool) → (a || r) ≡ (a || (a || r))
+or_twice true r = refl
+or_twice false r = refl
+
+has_dedup_from : (k : Path) (paths : List Path) (q : Path) → has (dedup_from bytes_eq k paths) q ≡ has (k ∷ paths) q
+has_dedup_from k [] q = refl
+has_dedup_from k (path ∷ paths) q =
+    elim (bytes_eq path k) as (λ b. bytes_eq path k ≡ b → has (cond b (dedup_from bytes_eq k paths) (k ∷ dedup_from bytes_eq path paths)) q ≡ (bytes_eq k q || (bytes_eq path q || has paths q))) [
+      | true ↦ λ e.
+          has_dedup_from k paths q ∙ or_twice (bytes_eq k q) (has paths q)
+          ∙ ap (λ p. bytes_eq k q || (bytes_eq p q || has paths q)) (sym (eq_is_same path k e))
+      | false ↦ λ e. ap (λ b. bytes_eq k q || b) (has_dedup_from path paths q)
+    ] refl
+
+has_dedup : (paths : List Path) (q : Path) → has (dedup bytes_eq paths) q ≡ has paths q
+has_dedup [] q = refl
+has_dedup (path ∷ paths) q = has_dedup_from path paths q
+
+pub once_rise : (sorted : List Path) → IsSorted path_cmp sorted → Rise (dedup bytes_eq sorted)
+once_rise sorted is = IsStrictlySortedBy-dedup nat_list_cmp_total texts_ties sorted is
+
+-- the paths that were met, sorted and each once
+pub once_in_order : (met sorted : List Path) → IsPermutation met sorted → IsSorted path_cmp sorted → dedup bytes_eq sorted ≡ in_order met
+once_in_order met sorted moved is =
+    same_paths (dedup bytes_eq sorted) (in_order met) (once_rise sorted is) (in_order_rise met)
+    (λ q. has_dedup sorted q ∙ sym (list_any-IsPermutation (λ other. bytes_eq other q) met sorted moved) ∙ sym (in_order_has met q))
+
+-- ---- rows of paths that rise, in any order, once they are sorted
 
 abbrev path_of : FoundRow → Path
 path_of row = row.path
 
-abbrev precedes : Path → Path → Bool
-precedes one other = is_lt (path_cmp one other)
+abbrev pub precedes : FoundRow → FoundRow → Bool
+precedes one other = is_lt (path_cmp one.path other.path)
 
--- the rows are those of the files so far, each path once; the last is that of the last file
-pub record IsLooking (tree : Tree) (root : Path) (files rest : List Path) (rows : List FoundRow) : Type 0 where
-  pub so_far : List Path
-  pub split : files ≡ so_far ++ rest
-  pub right : rows ≡ map (row_at tree root) (map path_of rows)
-  pub each : (q : Path) → has (map path_of rows) q ≡ has so_far q
-  pub last : (so_far ≡ [] × rows ≡ []) ⊎ ((before : List FoundRow) × (row : FoundRow) × (others : List Path) × (rows ≡ before ++ row ∷ []) × (so_far ≡ others ++ row.path ∷ []))
+below_differ : (path : Path) (paths : List Path) → IsBelow path paths → AllByRecursion (λ other. bytes_eq path other ≡ false) paths
+below_differ path [] below = tt
+below_differ path (other ∷ paths) below = (less_differs path other below.0, below_differ path paths below.1)
 
-has_one : (paths : List Path) (p q : Path) → has (paths ++ p ∷ []) q ≡ (has paths q || (bytes_eq p q || false))
-has_one paths p q = list_any-append (λ other. bytes_eq other q) paths (p ∷ [])
+rise_distinct : (paths : List Path) → Rise paths → IsDistinct bytes_eq paths
+unfolding IsDistinct IsStrictlySortedBy
+rise_distinct [] rise = tt
+rise_distinct (path ∷ paths) rise = (below_differ path paths rise.0, rise_distinct paths rise.1)
 
-split_on : (files so_far rest rest' : List Path) (p : Path) → files ≡ so_far ++ rest → rest ≡ p ∷ rest' → files ≡ (so_far ++ p ∷ []) ++ rest'
-split_on files so_far rest rest' p split next = split ∙ ap (λ l. so_far ++ l) next ∙ sym (append_assoc so_far (p ∷ []) rest')
-
--- a file above all others gets a row
-pub looking_more : (tree : Tree) (root : Path) (files rest rest' : List Path) (rows rows' : List FoundRow) (p : Path) (it : Found) → IsLooking tree root files rest rows → rest ≡ p ∷ rest'
-    → it ≡ (row_at tree root p).found → rows' ≡ rows ++ record { path = p; found = it } ∷ [] → IsLooking tree root files rest' rows'
-looking_more tree root files rest rest' rows rows' p it looking next found pushed =
-    let new : FoundRow = record { path = p; found = it } in
-    let same : new ≡ row_at tree root p = ap (λ (f : Found). record { path = p; found = f }) found in
-    let paths : map path_of rows' ≡ map path_of rows ++ p ∷ [] = ap (map path_of) pushed ∙ map-append path_of rows (new ∷ []) in
-    record {
-      so_far = looking.so_far ++ p ∷ [];
-      split = split_on files looking.so_far rest rest' p looking.split next;
-      right =
-          pushed ∙ ap (λ l. l ++ new ∷ []) looking.right
-          ∙ ap (λ row. map (row_at tree root) (map path_of rows) ++ row ∷ []) same
-          ∙ sym (map-append (row_at tree root) (map path_of rows) (p ∷ []))
-          ∙ ap (map (row_at tree root)) (sym paths);
-      each = λ q. ap (λ l. has l q) paths ∙ has_one (map path_of rows) p q ∙ ap (λ b. b || (bytes_eq p q || false)) (looking.each q) ∙ sym (has_one looking.so_far p q);
-      last = inr (rows, new, looking.so_far, pushed, refl);
-    }
-
-tied : (p q : Path) → is_lt (path_cmp p q) ≡ false → (path_cmp q p ≡ Less → ⊥) → q ≡ p
-tied p q above below = elim (path_cmp p q) as (λ o. path_cmp p q ≡ o → q ≡ p) [
-  | Less ↦ λ e. absurd (true≢false (sym (ap is_lt e) ∙ above))
-  | Equal ↦ λ e. sym (same_path p q e)
-  | Greater ↦ λ e. absurd (below (turned p q Greater e))
+strictly : (p q : Path) → is_lt (path_cmp q p) ≡ false → bytes_eq p q ≡ false → path_cmp p q ≡ Less
+strictly p q not_less differ = elim (path_cmp p q) as (λ o. path_cmp p q ≡ o → o ≡ Less) [
+  | Less ↦ λ e. refl
+  | Equal ↦ λ e. absurd (true≢false (sym (texts_ties p q ∙ ap is_eq e) ∙ differ))
+  | Greater ↦ λ e. absurd (true≢false (sym (ap is_lt (turned p q Greater e)) ∙ not_less))
 ] refl
 
-or_true : (a b : Bool) → b ≡ true → (a || b) ≡ true
-or_true true b is = refl
-or_true false b is = is
+distinct_rise : (rows : List FoundRow) → IsDistinct bytes_eq (map path_of rows) → IsSortedBy precedes rows → RowsRise rows
+unfolding IsDistinct IsStrictlySortedBy
+distinct_rise [] distinct sorted = tt
+distinct_rise (one ∷ []) distinct sorted = (tt, tt)
+distinct_rise (one ∷ other ∷ rows) distinct sorted =
+    let rest = distinct_rise (other ∷ rows) distinct.1 (λ k d low high. simp unary_clauses (simp unary_clauses at (sorted (suc k) d (omega arith) (omega (arith, high))))) in
+    let less = strictly one.path other.path (sorted 0 one (omega arith) (omega arith)) distinct.0.0 in
+    ((less, below_chain one.path other.path (map path_of rows) less rest.0), rest)
 
-has_last : (before : List Path) (p : Path) → has (before ++ p ∷ []) p ≡ true
-has_last [] p = ap (λ b. b || false) (eq_itself p)
-has_last (x ∷ before) p = or_true (bytes_eq x p) (has (before ++ p ∷ []) p) (has_last before p)
+pub sorted_rise : (paths : List Path) (rows sorted : List FoundRow) → Rise paths → IsPermutation paths (paths_of rows) → IsPermutation rows sorted → IsSortedBy precedes sorted → RowsRise sorted
+sorted_rise paths rows sorted rise each moved is =
+    let moves = IsPermutation-trans paths (paths_of rows) (paths_of sorted) each (IsPermutation-map path_of rows sorted moved) in
+    distinct_rise sorted (IsDistinct-IsPermutation bytes_eq nat_list_eq_equiv.symm paths (paths_of sorted) moves (rise_distinct paths rise)) is
 
-or_no_more : (a b : Bool) → (b ≡ true → a ≡ true) → (a || (b || false)) ≡ a
-or_no_more true b more = refl
-or_no_more false true more = absurd (true≢false (sym (more refl)))
-or_no_more false false more = refl
+sorted_paths : (paths : List Path) (rows sorted : List FoundRow) → Rise paths → IsPermutation paths (paths_of rows) → IsPermutation rows sorted → RowsRise sorted → paths_of sorted ≡ paths
+sorted_paths paths rows sorted rise each moved rising =
+    let moves = IsPermutation-trans paths (paths_of rows) (paths_of sorted) each (IsPermutation-map path_of rows sorted moved) in
+    same_paths (paths_of sorted) paths rising rise (λ q. sym (list_any-IsPermutation (λ other. bytes_eq other q) paths (paths_of sorted) moves))
 
--- a path that is there once more
-absorbed : (paths : List Path) (p q : Path) → has paths p ≡ true → (has paths q || (bytes_eq p q || false)) ≡ has paths q
-absorbed paths p q there = or_no_more (has paths q) (bytes_eq p q) (λ same. subst (λ x. has paths x ≡ true) (eq_is_same p q same) there)
+rows_are : (tree : Tree) (root : Path) (rows : List FoundRow) → AreRows tree root rows → rows ≡ map (row_at tree root) (paths_of rows)
+rows_are tree root [] are = refl
+rows_are tree root (row ∷ rows) are =
+    let first = All-head (λ it. it ≡ row_at tree root it.path) row rows are in
+    let rest = rows_are tree root rows (All-tail (λ it. it ≡ row_at tree root it.path) row rows are) in
+    λ i. first i ∷ rest i
 
--- two files that follow one another, in order
-in_turn : (files others rest : List Path) (q p : Path) → IsSortedBy precedes files → files ≡ (others ++ q ∷ []) ++ p ∷ rest → precedes p q ≡ false
-in_turn files others rest q p sorted split =
-    let here : files ≡ others ++ q ∷ p ∷ rest = split ∙ append_assoc others (q ∷ []) (p ∷ rest) in
-    let long : length files ≡ length others + (1 + (1 + length rest)) = ap length here ∙ length-append others (q ∷ p ∷ rest) ∙ omega arith in
-    let first : get_or files (length others) p ≡ q = ap (λ l. get_or l (length others) p) here ∙ get_or-append_seam others q (p ∷ rest) p in
-    let second : get_or files (length others + 1) p ≡ p = ap (λ l. get_or l (length others + 1) p) here ∙ get_or-append-add others (q ∷ p ∷ rest) 1 p in
-    ap (λ x. precedes x q) (sym second) ∙ ap (λ x. precedes (get_or files (length others + 1) p) x) (sym first)
-    ∙ sorted (length others) p (omega arith) (omega (arith, long))
+pub sorted_rows : (tree : Tree) (root : Path) (paths : List Path) (rows sorted : List FoundRow) → Rise paths → IsPermutation paths (paths_of rows) → IsPermutation rows sorted → RowsRise sorted
+    → AreRows tree root rows → sorted ≡ map (row_at tree root) paths
+sorted_rows tree root paths rows sorted rise each moved rising are =
+    rows_are tree root sorted (All-permutation (λ it. it ≡ row_at tree root it.path) rows sorted moved are)
+    ∙ ap (map (row_at tree root)) (sorted_paths paths rows sorted rise each moved rising)
 
--- a file that isn't above the last is the last once more
-pub looking_again : (tree : Tree) (root : Path) (files rest rest' : List Path) (rows : List FoundRow) (p : Path) → IsSortedBy precedes files
-    → IsLooking tree root files rest rows → rest ≡ p ∷ rest' → (IsAbove rows p → ⊥) → IsLooking tree root files rest' rows
-looking_again tree root files rest rest' rows p sorted looking next not_above = elim looking.last [
-  | inl none ↦ absurd (not_above (λ before last is. absurd (no_end before last (sym none.1 ∙ is))))
-  | inr ends ↦
-      let same : ends.1.path ≡ p = tied p ends.1.path
-      (in_turn files ends.2 rest' ends.1.path p sorted (looking.split ∙ ap (λ l. l ++ rest) ends.4 ∙ ap (λ l. (ends.2 ++ ends.1.path ∷ []) ++ l) next))
-      (λ less. not_above (above_last rows ends.0 ends.1 p ends.3 less)) in
-      let there : has looking.so_far p ≡ true =
-      ap (λ l. has l p) ends.4 ∙ ap (λ x. has (ends.2 ++ x ∷ []) p) same ∙ has_last ends.2 p in
-      record {
-        so_far = looking.so_far ++ p ∷ [];
-        split = split_on files looking.so_far rest rest' p looking.split next;
-        right = looking.right;
-        each = λ q. looking.each q ∙ sym (has_one looking.so_far p q ∙ absorbed looking.so_far p q there);
-        last = inr (ends.0, ends.1, looking.so_far, ends.3, ap (λ x. looking.so_far ++ x ∷ []) (sym same));
-      }
-]
-  where
-    no_end : (before : List FoundRow) (last : FoundRow) → [] ≡ before ++ last ∷ [] → ⊥
-    no_end before last is = omega (arith, ap length is, length-append before (last ∷ []))
+pub sorted_count : (rows sorted : List FoundRow) → IsPermutation rows sorted → unreadable_count sorted ≡ unreadable_count rows
+sorted_count rows sorted moved = sum_by-IsPermutation (λ row. cond (is_unreadable row.found) 1 0) rows sorted moved
 
--- all files were looked at
-pub looking_ends : (tree : Tree) (root : Path) (files rest : List Path) (rows : List FoundRow) → RowsRise rows → IsLooking tree root files rest rows → length rest ≡ 0 → IsLookedAt tree root files rows
-looking_ends tree root files [] rows rise looking none =
-    let all : looking.so_far ≡ files = sym (looking.split ∙ append-nil looking.so_far) in
-    let same : (q : Path) → has (map path_of rows) q ≡ has (in_order files) q = λ q. looking.each q ∙ ap (λ l. has l q) all ∙ sym (in_order_has files q) in
-    looking.right ∙ ap (map (row_at tree root)) (same_paths (map path_of rows) (in_order files) rise (in_order_rise files) same)
-looking_ends tree root files (p ∷ rest) rows rise looking none = absurd (omega (arith, none))
+-- ---- the listing of a root, from its parts
 
--- the order in which they were met doesn't matter
-pub looked_sorted : (tree : Tree) (root : Path) (met files : List Path) (rows : List FoundRow) → IsPermutation met files → IsLookedAt tree root files rows → IsLookedAt tree root met rows
-looked_sorted tree root met files rows moved looked =
-    let same : (q : Path) → has (in_order files) q ≡ has (in_order met) q = λ q.
-    in_order_has files q ∙ sym (list_any-IsPermutation (λ other. bytes_eq other q) met files moved) ∙ sym (in_order_has met q) in
-    looked ∙ ap (map (row_at tree root)) (same_paths (in_order files) (in_order met) (in_order_rise files) (in_order_rise met) same)
-
--- the listing of a root, from its parts
-pub all_looked : (tree : Tree) (root : Path) (device : List ℕ) (met sorted : List Path) (listing : Contents) → IsPermutation met sorted → IsLookedAt tree root sorted listing.rows
-    → met ≡ files_of tree root (folders_of tree root) → listing.device ≡ device → listing.skipped ≡ skipped_of tree root (folders_of tree root) → listing ≡ listing_of tree root device
-all_looked tree root device met sorted listing moved looked whole by skipped =
-    let rows = looked_sorted tree root met sorted listing.rows moved looked ∙ ap (λ l. map (row_at tree root) (in_order l)) whole in
+pub all_looked : (tree : Tree) (root : Path) (device : List ℕ) (paths : List Path) (listing : Contents) → paths ≡ in_order (files_of tree root (folders_of tree root))
+    → listing.rows ≡ map (row_at tree root) paths → listing.device ≡ device → listing.skipped ≡ skipped_of tree root (folders_of tree root) → listing ≡ listing_of tree root device
+all_looked tree root device paths listing whole looked by skipped =
+    let rows = looked ∙ ap (map (row_at tree root)) whole in
     λ i. record { device = by i; rows = rows i; skipped = skipped i }
 
--- the last that was looked at is not below the next
-pub not_above : (b : Bool) (rows : List FoundRow) (p : Path) → (IsAbove rows p → b ≡ true) → b ≡ false → IsAbove rows p → ⊥
-not_above b rows p answers is above = true≢false (sym (answers above) ∙ is)
+-- ---- by one disk, and by two halves of the disks
 
--- one file more that can't be read, or not
-pub faults_more : (before mid after : ℕ) (rows rows' : List FoundRow) (path : Path) (it : Found) → mid ≤ before + unreadable_count rows
-    → after ≤ (if is_unreadable it then mid + 1 else mid) → rows' ≡ rows ++ record { path = path; found = it } ∷ [] → after ≤ before + unreadable_count rows'
-faults_more before mid after rows rows' path it so_far one pushed =
-    let test : FoundRow → ℕ = λ row. cond (is_unreadable row.found) 1 0 in
-    let new : FoundRow = record { path = path; found = it } in
-    let count : unreadable_count rows' ≡ unreadable_count rows + cond (is_unreadable it) 1 0 =
-    ap unreadable_count pushed ∙ sum_by-append test rows (new ∷ []) ∙ ap (λ n. unreadable_count rows + n) (sum_by-cons test new [] ∙ omega arith) in
-    at_most (is_unreadable it) mid (unreadable_count rows) (unreadable_count rows') so_far one count
-  where
-    at_most : (b : Bool) (mid rows rows' : ℕ) → mid ≤ before + rows → after ≤ (if b then mid + 1 else mid) → rows' ≡ rows + cond b 1 0 → after ≤ before + rows'
-    at_most true mid rows rows' so_far one count = omega (arith, so_far, one, count)
-    at_most false mid rows rows' so_far one count = omega (arith, so_far, one, count)
+rows_at : (tree : Tree) (root : Path) (paths : List Path) → AreRows tree root (map (row_at tree root) paths)
+rows_at tree root [] = All-nil (λ it. it ≡ row_at tree root it.path)
+rows_at tree root (path ∷ paths) = All-cons (λ it. it ≡ row_at tree root it.path) (row_at tree root path) (map (row_at tree root) paths) refl (rows_at tree root paths)
+
+count_both : (first second : List FoundRow) → unreadable_count (first ++ second) ≡ unreadable_count first + unreadable_count second
+count_both first second = sum_by-append (λ row. cond (is_unreadable row.found) 1 0) first second
+
+same_tree : (tree other : Tree) (root : Path) (paths : List Path) → tree.content ≡ other.content → map (row_at tree root) paths ≡ map (row_at other root) paths
+same_tree tree other root paths same = ap (λ (content : Path → Option Content). map (row_at (record { names = tree.names; content = content }) root) paths) same
+
+module _ {D : Type 0} (is_known : Bool) (tree_of : D → Tree) (faults : D → ℕ) (root : Path) where
+  pub one_looks : (files : List Path) (disks front : List D) (disk after : D) (rows : List FoundRow) (left : List D) → disks ≡ front ++ disk ∷ [] → left ≡ front ++ after ∷ []
+      → paths_of rows ≡ files → (IsTrue is_known → rows ≡ map (row_at (tree_of disk) root) files) → faults after ≤ faults disk + unreadable_count rows
+      → AreLookedAt is_known tree_of faults root files disks rows left
+  one_looks files disks front disk after rows left split left_is paths found unread = record {
+    each = subst (λ l. IsPermutation files l) (sym paths) (IsPermutation-refl files);
+    found = λ known tree have.
+        let same : (tree_of disk).content ≡ tree.content = All-last (λ it. (tree_of it).content ≡ tree.content) front disk disks split have in
+        subst (AreRows tree root) (sym (found known ∙ same_tree (tree_of disk) tree root files same)) (rows_at tree root files);
+    kept = ap length left_is ∙ length-append front (after ∷ []) ∙ omega arith ∙ sym (length-append front (disk ∷ [])) ∙ ap length (sym split);
+    unread =
+        let before = ap (sum_by faults) split ∙ sum_by-append faults front (disk ∷ []) in
+        let after_all = ap (sum_by faults) left_is ∙ sum_by-append faults front (after ∷ []) in
+        omega (arith, unread, before, after_all, sum_by-cons faults disk [], sum_by-cons faults after []);
+  }
+    where
+      All-last : {X : Type 0} (P : X → Type 0) (xs : List X) (x : X) (ys : List X) → ys ≡ xs ++ x ∷ [] → All P ys → P x
+      All-last P xs x ys is all = All-head P x [] (subst (All P) (drop_at xs (x ∷ []) (length xs) refl) (All-drop P (length xs) (xs ++ x ∷ []) (subst (All P) is all)))
+
+  pub halves_look : (files mine theirs : List Path) (n : ℕ) (disks front back : List D) (rows first second : List FoundRow) (left one other : List D) → IsPermutation files (mine ++ theirs)
+      → front ≡ take n disks → back ≡ drop n disks → AreLookedAt is_known tree_of faults root mine front first one → AreLookedAt is_known tree_of faults root theirs back second other
+      → rows ≡ first ++ second → left ≡ one ++ other → AreLookedAt is_known tree_of faults root files disks rows left
+  halves_look files mine theirs n disks front back rows first second left one other dealt front_is back_is low high rows_is left_is =
+      let cut : disks ≡ front ++ back = sym (take-append-drop n disks) ∙ ap (λ l. l ++ drop n disks) (sym front_is) ∙ ap (λ l. front ++ l) (sym back_is) in
+      record {
+        each =
+            subst (λ l. IsPermutation files (paths_of l)) (sym rows_is)
+            (subst (λ l. IsPermutation files l) (sym (map-append path_of first second))
+            (IsPermutation-trans files (mine ++ theirs) (paths_of first ++ paths_of second) dealt
+            (IsPermutation-append mine (paths_of first) theirs (paths_of second) low.each high.each)));
+        found = λ known tree have.
+            subst (AreRows tree root) (sym rows_is)
+            (All-append (λ it. it ≡ row_at tree root it.path) first second
+            (low.found known tree (subst (HaveFiles tree_of tree) (sym front_is) (All-take (λ it. (tree_of it).content ≡ tree.content) n disks have)))
+            (high.found known tree (subst (HaveFiles tree_of tree) (sym back_is) (All-drop (λ it. (tree_of it).content ≡ tree.content) n disks have))));
+        kept = ap length left_is ∙ length-append one other ∙ omega (arith, low.kept, high.kept) ∙ sym (length-append front back) ∙ ap length (sym cut);
+        unread =
+            let before = ap (sum_by faults) cut ∙ sum_by-append faults front back in
+            let after_all = ap (sum_by faults) left_is ∙ sum_by-append faults one other in
+            let count = ap unreadable_count rows_is ∙ count_both first second in
+            omega (arith, low.unread, high.unread, before, after_all, count);
+      }
+
+-- ---- dealt out to two
+
+pub dealt_one : (files one other : List Path) (path : Path) → IsPermutation files (one ++ other) → IsPermutation (files ++ path ∷ []) ((one ++ path ∷ []) ++ other)
+dealt_one files one other path so_far =
+    IsPermutation-push_more files (one ++ other) ((one ++ path ∷ []) ++ other) path so_far
+    (subst (λ l. IsPermutation (path ∷ (one ++ other)) l) (sym (append_assoc one (path ∷ []) other)) (IsPermutation-sym _ _ (IsPermutation-middle one path other)))
+
+pub dealt_other : (files one other : List Path) (path : Path) → IsPermutation files (one ++ other) → IsPermutation (files ++ path ∷ []) (one ++ other ++ path ∷ [])
+dealt_other files one other path so_far =
+    IsPermutation-push_more files (one ++ other) (one ++ other ++ path ∷ []) path so_far (IsPermutation-sym _ _ (IsPermutation-to_front (one ++ other) path))

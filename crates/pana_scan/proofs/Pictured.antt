@@ -35,11 +35,11 @@ listed : (bytes : List ℕ) → listing_of (tree false bytes) (codes "r") (codes
 unfolding folders_from
 listed bytes = refl
 
-can_be_scanned : (bytes : List ℕ) → CanBeScanned (tree false bytes) (codes "r")
+can_be_scanned : (bytes : List ℕ) → CanBeScanned 100000 (tree false bytes) (codes "r")
 unfolding folders_from
 can_be_scanned bytes = record { listed = refl; within = omega arith; reached = refl }
 
-fails_inside : (bytes : List ℕ) → HasFault (tree true bytes) (codes "r") faults.Folder
+fails_inside : (bytes : List ℕ) → HasFault 100000 (tree true bytes) (codes "r") faults.Folder
 unfolding folders_from
 fails_inside bytes = refl
 

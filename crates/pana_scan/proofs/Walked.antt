@@ -96,20 +96,20 @@ any_there p (y ∷ done) tail x is = or_true (p y) (list_any p (done ++ x ∷ ta
     or_true false b is = is
 
 -- a fault at a folder is one of the root
-pub walk_fails : (tree : Tree) (root : Path) (todo rest : List FolderAt) (folder : FolderAt) (files : List Path) (skipped entries : ℕ) (old : Gathered) (fault : ScanFault) (after : ℕ) (new : Gathered)
+pub walk_fails : (most : ℕ) (tree : Tree) (root : Path) (todo rest : List FolderAt) (folder : FolderAt) (files : List Path) (skipped entries : ℕ) (old : Gathered) (fault : ScanFault) (after : ℕ) (new : Gathered)
     → IsWalked tree root todo files skipped entries → todo ≡ rest ++ folder ∷ []
-    → IsFolderRead {T = Unit {0}} tree root folder entries old (Err fault) after new → HasFault tree root fault
-walk_fails tree root todo rest folder files skipped entries old Folder after new walked popped is =
+    → IsFolderRead {T = Unit {0}} most tree root folder entries old (Err fault) after new → HasFault most tree root fault
+walk_fails most tree root todo rest folder files skipped entries old Folder after new walked popped is =
     let there = is_there tree root todo rest folder files skipped entries walked popped in
     ap (list_any (fails_at tree root)) there.1 ∙ any_there (fails_at tree root) walked.done there.0 folder is
-walk_fails tree root todo rest folder files skipped entries old TooNested after new walked popped is =
+walk_fails most tree root todo rest folder files skipped entries old TooNested after new walked popped is =
     let there = is_there tree root todo rest folder files skipped entries walked popped in
     ap (list_any is_too_deep) there.1 ∙ any_there is_too_deep walked.done there.0 folder is
-walk_fails tree root todo rest folder files skipped entries old TooMany after new walked popped is =
+walk_fails most tree root todo rest folder files skipped entries old TooMany after new walked popped is =
     let there = is_there tree root todo rest folder files skipped entries walked popped in
     let count : FolderAt → ℕ = λ f. length (entries_in tree root f.path) in
     omega (arith, is, walked.entries_are, ap (sum_by count) there.1, sum_by-append count walked.done (folder ∷ there.0), sum_by-cons count folder there.0)
-walk_fails tree root todo rest folder files skipped entries old OutOfMemory after new walked popped is = tt
+walk_fails most tree root todo rest folder files skipped entries old OutOfMemory after new walked popped is = tt
 
 or_none : (a b : Bool) → a ≡ false → b ≡ false → (a || (b || false)) ≡ false
 or_none a b first second = ap (λ x. x || (b || false)) first ∙ ap (λ x. x || false) second
@@ -117,7 +117,7 @@ or_none a b first second = ap (λ x. x || (b || false)) first ∙ ap (λ x. x ||
 -- a folder was listed
 pub walk_more : (tree : Tree) (root : Path) (todo rest : List FolderAt) (folder : FolderAt) (entries : ℕ) (old : Gathered) (after : ℕ) (new : Gathered)
     → IsWalked tree root todo old.files.items old.skipped entries → todo ≡ rest ++ folder ∷ [] → old.folders.items ≡ rest
-    → IsListedTo tree root folder entries old after new → after ≤ 100000
+    → IsListedTo tree root folder entries old after new → after ≤ 1000000
     → IsWalked tree root new.folders.items new.files.items new.skipped after
 walk_more tree root todo rest folder entries old after new walked popped others read within =
     let here = entries_in tree root folder.path in

@@ -1,5 +1,5 @@
 -- What a scan of a folder returns.
-use Rattle.std.specs.Prelude.{◌≡◌, ℕ, ◌<◌, ◌≤◌, not, ◌&&◌, nat_lt, Bool, true, false, IsTrue, List, Option, Some, None, Result, Ok, Err, map, count_by, cond}
+use Rattle.std.specs.Prelude.{◌≡◌, ℕ, ◌+◌, ◌<◌, ◌≤◌, not, ◌&&◌, nat_lt, Bool, true, false, IsTrue, List, Option, Some, None, Result, Ok, Err, All, map, count_by, cond}
 use Rattle.std.specs.List.{list_any}
 use Rattle.sha2.specs.Sha256.{sha256}
 use Rattle.pana_scan.specs.declared.listing.Found.{Found}
@@ -42,22 +42,30 @@ listing_of tree root device = record {
 }
 
 -- why a root can't be scanned; of memory nothing is known
-abbrev pub HasFault : Tree → Path → ScanFault → Type 0
-HasFault tree root Folder = list_any (fails_at tree root) (folders_of tree root) ≡ true
-HasFault tree root TooMany = 100000 < entries_of tree root (folders_of tree root)
-HasFault tree root TooNested = list_any is_too_deep (folders_of tree root) ≡ true
-HasFault tree root OutOfMemory = Unit {0}
+abbrev pub HasFault : ℕ → Tree → Path → ScanFault → Type 0
+HasFault most tree root Folder = list_any (fails_at tree root) (folders_of tree root) ≡ true
+HasFault most tree root TooMany = most < entries_of tree root (folders_of tree root)
+HasFault most tree root TooNested = list_any is_too_deep (folders_of tree root) ≡ true
+HasFault most tree root OutOfMemory = Unit {0}
 
--- no folder fails or is too deep, and there aren't too many entries
-pub record CanBeScanned (tree : Tree) (root : Path) : Type 0 where
+-- no folder fails or is too deep, and there are at most so many entries
+pub record CanBeScanned (most : ℕ) (tree : Tree) (root : Path) : Type 0 where
   pub listed : list_any (fails_at tree root) (folders_of tree root) ≡ false
-  pub within : entries_of tree root (folders_of tree root) ≤ 100000
+  pub within : entries_of tree root (folders_of tree root) ≤ most
   pub reached : list_any is_too_deep (folders_of tree root) ≡ false
 
--- a root that can be scanned is listed; or there is a reason
+-- a root that can be scanned is listed, with so many entries at most; or there is a reason
+abbrev pub IsScanWithin : ℕ → Tree → Path → List ℕ → Result Contents ScanFault → Type 0
+IsScanWithin most tree root device (Ok listing) = CanBeScanned most tree root × (listing ≡ listing_of tree root device)
+IsScanWithin most tree root device (Err fault) = HasFault most tree root fault
+
+-- with 100,000 entries at most
 abbrev pub IsScan : Tree → Path → List ℕ → Result Contents ScanFault → Type 0
-IsScan tree root device (Ok listing) = CanBeScanned tree root × (listing ≡ listing_of tree root device)
-IsScan tree root device (Err fault) = HasFault tree root fault
+IsScan tree root device result = IsScanWithin 100000 tree root device result
+
+-- the files on each of these disks are those of the tree
+abbrev pub HaveFiles : {D : Type 0} → (D → Tree) → Tree → List D → Type 0
+HaveFiles tree_of tree disks = All (λ disk. (tree_of disk).content ≡ tree.content) disks
 
 -- ---- over any disk, by whether a listing has failed, how many entries were given, and how often a file has failed
 
@@ -82,13 +90,13 @@ is_unreadable (Seen digest) = false
 abbrev pub unreadable_count : List FoundRow → ℕ
 unreadable_count rows = count_by (λ row. is_unreadable row.found) rows
 
--- how many entries were met: at most 100,000, and one more with `TooMany`
-abbrev pub HasMet : {T : Type 0} → ℕ → Result T ScanFault → Type 0
-HasMet entries (Ok x) = entries ≤ 100000
-HasMet entries (Err TooMany) = entries ≡ 100001
-HasMet entries (Err Folder) = entries ≤ 100000
-HasMet entries (Err TooNested) = entries ≤ 100000
-HasMet entries (Err OutOfMemory) = entries ≤ 100000
+-- how many entries were met: at most so many, and one more with `TooMany`
+abbrev pub HasMet : {T : Type 0} → ℕ → ℕ → Result T ScanFault → Type 0
+HasMet most entries (Ok x) = entries ≤ most
+HasMet most entries (Err TooMany) = entries ≡ most + 1
+HasMet most entries (Err Folder) = entries ≤ most
+HasMet most entries (Err TooNested) = entries ≤ most
+HasMet most entries (Err OutOfMemory) = entries ≤ most
 
 -- each time that a file has failed, it is listed as one that couldn't be read
 abbrev pub HasFaults : ℕ → Result Contents ScanFault → Type 0
@@ -100,5 +108,5 @@ HasFaults faults (Err fault) = Unit {0}
 pub record IsScanned (is_known : Bool) (tree : Tree) (root : Path) (device : List ℕ) (has_failed : Bool) (entries faults : ℕ) (result : Result Contents ScanFault) : Type 0 where
   pub known : IsTrue is_known → IsScan tree root device result
   pub failed : has_failed ≡ is_unlisted result
-  pub met : HasMet entries result
+  pub met : HasMet 100000 entries result
   pub unread : HasFaults faults result

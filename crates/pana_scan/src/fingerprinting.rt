@@ -11,7 +11,7 @@ const PIECE: usize = 16_384;
 
 /// The SHA-256 of all bytes of the file that was opened. None where a read fails, or where this many reads don't meet
 /// the end. Takes no memory. The watch learns how many bytes were read.
-pub fn fingerprint<D: Disk, W: Watch>(disk: &mut D, reads: u64, watch: &mut W) -> Option<[u8; 32]>
+pub fn fingerprint<D: Disk, W: Watch>(disk: &mut D, reads: u64, watch: &W) -> Option<[u8; 32]>
     ensures digest { IsTrue D.is_known → result ≡ digest_of reads (D.content disk.old) }
     ensures tree { IsTrue D.is_known → D.tree disk.new ≡ D.tree disk.old }
     ensures failed { D.has_failed disk.new ≡ D.has_failed disk.old }

@@ -1,34 +1,32 @@
 //! A folder read into a listing.
-ghost use Rattle.std.specs.Prelude.{◌≡◌, ◌+◌, ◌≤◌, ◌<◌, false, IsTrue, IsOk, [], ◌++◌, length, if◌then◌else◌, is_some, option_copied, string_bytes, IfOk, IfErr, OnOk};
+ghost use Rattle.std.specs.Prelude.{◌≡◌, ◌+◌, ◌≤◌, ◌<◌, false, IsTrue, [], ◌++◌, length, if◌then◌else◌, is_some, option_copied, string_bytes, sum_by, IfOk, OnOk};
 ghost use Rattle.std.specs.Option.{option_to_list};
-ghost use Rattle.std.specs.List.Sorted.{IsSortedBy};
-ghost use Rattle.std.specs.Ordering.{is_lt};
+ghost use Rattle.std.specs.List.Sorted.{IsStrictlySortedBy};
 ghost use Rattle.pana_scan.specs.Order.{path_cmp};
 ghost use Rattle.pana_scan.specs.Listing.{counted};
 ghost use Rattle.pana_scan.specs.Names.{file_in, is_skipped, path_in, whole_text};
 ghost use Rattle.pana_scan.specs.Tree.{inner_folder};
-ghost use Rattle.pana_scan.specs.Scan.{HasFaults, HasMet, IsFresh, IsScan, found_of, is_unreadable, is_unlisted, unreadable_count};
-ghost use Rattle.pana_scan.specs.inner.Walk.{IsFolderRead, IsGathered, IsLookedAt, kept_file, kept_folder};
+ghost use Rattle.pana_scan.specs.Scan.{HasFaults, HasMet, HaveFiles, IsFresh, IsScan, IsScanWithin, is_unlisted, unreadable_count};
+ghost use Rattle.pana_scan.specs.inner.Walk.{AreFiles, IsFolderRead, IsGathered, kept_file, kept_folder};
 
 use crate::disk::Disk;
-use crate::disk_fault::DiskFault;
 use crate::entry::{Entry, Kind};
-use crate::fingerprinting::fingerprint;
-use crate::listing::{Found, Listing};
+use crate::listing::Listing;
+use crate::looking::{Looked, look_at, look_in_threads};
 use crate::ordering::path_order;
 use crate::scan_fault::ScanFault;
 use crate::watch::Watch;
 use pana_copies::{CopyPath, DeviceName, NameFault};
 use std::alloc::{AllocError, Global};
+use std::marker::{Send, Sync};
+use std::mem;
+use std::thread::Threads;
 
-/// How many entries of folders a scan meets at most, of any kind.
+/// How many entries of folders a scan meets at most, of any kind, where no other number is given.
 const MOST_ENTRIES: u64 = 100_000;
 
 /// How many levels of folders a scan lists at most: the root's, and 64 below it.
 const MOST_LEVELS: u64 = 65;
-
-/// How often a file is read at most.
-const MOST_READS: u64 = 16_777_216;
 
 /// A folder to be listed, by its path relative to the root, or the root itself; and how many levels may be listed from
 /// it down, its own among them.
@@ -44,6 +42,14 @@ struct Gathered {
     /// Folders that aren't listed yet.
     folders: Vec<FolderAt>,
     files: Vec<CopyPath>,
+    skipped: u64,
+}
+
+/// The regular files of a root.
+#[derive(Drop)]
+struct Files {
+    /// Their paths relative to it, which rise in byte order.
+    paths: Vec<CopyPath>,
     skipped: u64,
 }
 
@@ -66,31 +72,123 @@ pub fn read_root<D: Disk, W: Watch>(
     disk: &mut D,
     device: &DeviceName,
     folder: &str,
-    watch: &mut W,
+    watch: &W,
 ) -> Result<Listing, ScanFault>
     requires { IsFresh (D.has_failed disk.old) (D.entries disk.old) (D.faults disk.old) }
     ensures known { IsTrue D.is_known → IsScan (D.tree disk.old) folder.now device.now result }
     ensures device { IfOk result (λ listing. listing.device ≡ device.now) }
     ensures failed { D.has_failed disk.new ≡ is_unlisted result }
-    ensures entries { HasMet (D.entries disk.new) result }
+    ensures entries { HasMet 100000 (D.entries disk.new) result }
     ensures faults { HasFaults (D.faults disk.new) result }
+{
+    read_root_within(alloc, disk, device, folder, MOST_ENTRIES, watch)
+}
+
+/// Reads all files of a folder as `read_root` does, with so many entries at most.
+///
+/// # Errors
+///
+/// As those of `read_root`, but `TooMany` past so many entries.
+pub fn read_root_within<D: Disk, W: Watch>(
+    alloc: Global,
+    disk: &mut D,
+    device: &DeviceName,
+    folder: &str,
+    most: u64,
+    watch: &W,
+) -> Result<Listing, ScanFault>
+    requires fresh { IsFresh (D.has_failed disk.old) (D.entries disk.old) (D.faults disk.old) }
+    requires few { most ≤ 1000000 }
+    ensures known { IsTrue D.is_known → IsScanWithin most (D.tree disk.old) folder.now device.now result }
+    ensures device { IfOk result (λ listing. listing.device ≡ device.now) }
+    ensures failed { D.has_failed disk.new ≡ is_unlisted result }
+    ensures entries { HasMet most (D.entries disk.new) result }
+    ensures faults { HasFaults (D.faults disk.new) result }
+{
+    let Files { paths, skipped } = list_files(alloc, disk, folder, most)?;
+    let rows = look_at(alloc, disk, folder, paths, watch)?;
+    Ok(Listing::of_rows(device.copy_of(), rows, skipped))
+}
+
+/// Reads all files of a folder as `read_root_within` does, and on all processors: one disk lists
+/// the folders, and each of the others looks at its part of the files, in a thread of its own where one can be made.
+///
+/// # Errors
+///
+/// As those of `read_root_within`. The other disks are lost then.
+pub fn read_root_in_threads<R: Threads + Sync, D: Disk, L: Disk + Send + Drop, W: Watch + Sync>(
+    threads: &R,
+    alloc: Global,
+    disk: &mut D,
+    others: &mut Vec<L>,
+    device: &DeviceName,
+    folder: &str,
+    most: u64,
+    watch: &W,
+) -> Result<Listing, ScanFault>
+    requires fresh { IsFresh (D.has_failed disk.old) (D.entries disk.old) (D.faults disk.old) }
+    requires few { most ≤ 1000000 }
+    requires some { 0 < length others.old.items }
+
+    // All disks have the same files.
+    requires known { IsTrue D.is_known → IsTrue L.is_known × HaveFiles L.tree (D.tree disk.old) others.old.items }
+    ensures known { IsTrue D.is_known → IsScanWithin most (D.tree disk.old) folder.now device.now result }
+    ensures device { IfOk result (λ listing. listing.device ≡ device.now) }
+    ensures failed { D.has_failed disk.new ≡ is_unlisted result }
+    ensures entries { HasMet most (D.entries disk.new) result }
+    ensures others { IfOk result (λ listing. length others.new.items ≡ length others.old.items) }
+    ensures faults { IfOk result (λ listing. D.faults disk.new + sum_by L.faults others.new.items ≤ sum_by L.faults others.old.items + unreadable_count listing.rows) }
+{
+    let Files { paths, skipped } = list_files(alloc, disk, folder, most)?;
+    let disks = mem::replace(others, Vec::new(alloc));
+    let Looked { disks, mut rows } = look_in_threads(threads, alloc, disks, folder, paths, watch)?;
+    *others = disks;
+    rows.sort_by(|one, other| path_order(&one.path, &other.path))?;
+    Ok(Listing::of_rows(device.copy_of(), rows, skipped))
+}
+
+/// Lists the root and all folders in it: all files, each once.
+fn list_files<D: Disk>(
+    alloc: Global,
+    disk: &mut D,
+    root: &str,
+    most: u64,
+) -> Result<Files, ScanFault>
+    requires fresh { IsFresh (D.has_failed disk.old) (D.entries disk.old) (D.faults disk.old) }
+    requires few { most ≤ 1000000 }
+    ensures known { IsTrue D.is_known → AreFiles most (D.tree disk.old) root.now result }
+    ensures rise { IfOk result (λ files. IsStrictlySortedBy path_cmp files.paths.items) }
+    ensures tree { IsTrue D.is_known → D.tree disk.new ≡ D.tree disk.old }
+    ensures failed { D.has_failed disk.new ≡ is_unlisted result }
+    ensures entries { HasMet most (D.entries disk.new) result }
+    ensures faults { D.faults disk.new ≡ 0 }
 {
     let Gathered {
         mut files,
         skipped,
         ..
-    } = gather(alloc, disk, folder)?;
+    } = gather(alloc, disk, root, most)?;
     files.sort_by(|one, other| path_order(one, other))?;
-    Ok(look_at(alloc, disk, device, folder, files, skipped, watch)?)
+    files.dedup();
+    Ok(Files {
+        paths: files,
+        skipped,
+    })
 }
 
 /// Lists the root and all folders in it.
-fn gather<D: Disk>(alloc: Global, disk: &mut D, root: &str) -> Result<Gathered, ScanFault>
-    requires { IsFresh (D.has_failed disk.old) (D.entries disk.old) (D.faults disk.old) }
-    ensures known { IsTrue D.is_known → IsGathered (D.tree disk.old) root.now result }
+fn gather<D: Disk>(
+    alloc: Global,
+    disk: &mut D,
+    root: &str,
+    most: u64,
+) -> Result<Gathered, ScanFault>
+    requires fresh { IsFresh (D.has_failed disk.old) (D.entries disk.old) (D.faults disk.old) }
+    requires few { most ≤ 1000000 }
+    ensures known { IsTrue D.is_known → IsGathered most (D.tree disk.old) root.now result }
     ensures tree { IsTrue D.is_known → D.tree disk.new ≡ D.tree disk.old }
     ensures failed { D.has_failed disk.new ≡ is_unlisted result }
-    ensures entries { HasMet (D.entries disk.new) result }
+    ensures entries { HasMet most (D.entries disk.new) result }
     ensures faults { D.faults disk.new ≡ 0 }
 {
     let mut gathered = Gathered {
@@ -103,7 +201,7 @@ fn gather<D: Disk>(alloc: Global, disk: &mut D, root: &str) -> Result<Gathered, 
         levels: MOST_LEVELS,
     })?;
     while let Some(folder) = gathered.folders.pop() {
-        read_folder(alloc, disk, root, &folder, &mut gathered)?;
+        read_folder(alloc, disk, root, &folder, most, &mut gathered)?;
     }
     Ok(gathered)
 }
@@ -114,14 +212,16 @@ fn read_folder<D: Disk>(
     disk: &mut D,
     root: &str,
     folder: &FolderAt,
+    most: u64,
     gathered: &mut Gathered,
 ) -> Result<(), ScanFault>
     requires failed { D.has_failed disk.old ≡ false }
-    requires entries { D.entries disk.old ≤ 100000 }
-    ensures known { IsTrue D.is_known → IsFolderRead (D.tree disk.old) root.now folder.now (D.entries disk.old) gathered.old result (D.entries disk.new) gathered.new }
+    requires few { most ≤ 1000000 }
+    requires entries { D.entries disk.old ≤ most }
+    ensures known { IsTrue D.is_known → IsFolderRead most (D.tree disk.old) root.now folder.now (D.entries disk.old) gathered.old result (D.entries disk.new) gathered.new }
     ensures tree { IsTrue D.is_known → D.tree disk.new ≡ D.tree disk.old }
     ensures failed { D.has_failed disk.new ≡ is_unlisted result }
-    ensures entries { HasMet (D.entries disk.new) result }
+    ensures entries { HasMet most (D.entries disk.new) result }
     ensures faults { D.faults disk.new ≡ D.faults disk.old }
     ensures grows { OnOk result (length gathered.new.folders.items + D.entries disk.old ≤ length gathered.old.folders.items + D.entries disk.new) }
 {
@@ -131,7 +231,7 @@ fn read_folder<D: Disk>(
     let whole = whole_path(alloc, root, folder.path.as_ref())?;
     disk.list(whole.as_str())?;
     while let Some(entry) = disk.next(alloc)? {
-        if disk.met() > MOST_ENTRIES {
+        if disk.met() > most {
             return Err(ScanFault::TooMany);
         }
         gathered.meet(alloc, folder.path.as_ref(), levels, &entry)?;
@@ -211,62 +311,15 @@ fn inner_path(
 }
 
 /// The path by which the disk knows what is inside the root, or the root itself.
-fn whole_path(alloc: Global, root: &str, inner: Option<&CopyPath>) -> Result<String, AllocError>
+pub(crate) fn whole_path(
+    alloc: Global,
+    root: &str,
+    inner: Option<&CopyPath>,
+) -> Result<String, AllocError>
     ensures { IfOk result (λ path. string_bytes path ≡ whole_text root.now (option_copied inner.entry)) }
 {
     match inner {
         Some(inner) => format!(in alloc; "{root}/{}", inner.as_str()),
         None => String::from_str(alloc, root),
     }
-}
-
-/// The listing of these files, which are sorted by their paths. A path that was met twice is listed once.
-fn look_at<D: Disk, W: Watch>(
-    alloc: Global,
-    disk: &mut D,
-    device: &DeviceName,
-    root: &str,
-    files: Vec<CopyPath>,
-    skipped: u64,
-    watch: &mut W,
-) -> Result<Listing, AllocError>
-    requires { IsSortedBy (λ one other. is_lt (path_cmp one other)) files.items }
-    ensures known { IfOk result (λ listing. IsTrue D.is_known → IsLookedAt (D.tree disk.old) root.now files.items listing.rows) }
-    ensures rest { IfOk result (λ listing. (listing.device ≡ device.now) × (listing.skipped ≡ skipped)) }
-    ensures failed { D.has_failed disk.new ≡ D.has_failed disk.old }
-    ensures entries { D.entries disk.new ≡ D.entries disk.old }
-    ensures faults { IfOk result (λ listing. D.faults disk.new ≤ D.faults disk.old + unreadable_count listing.rows) }
-{
-    let mut listing = Listing::new(alloc, device.copy_of());
-    listing.skip(skipped);
-    for path in files {
-        if listing.is_above(&path) {
-            let whole = whole_path(alloc, root, Some(&path))?;
-            listing.push(path, found(disk, whole.as_str(), watch)?)?;
-        }
-    }
-    Ok(listing)
-}
-
-/// What is found of a file.
-fn found<D: Disk, W: Watch>(disk: &mut D, file: &str, watch: &mut W) -> Result<Found, AllocError>
-    ensures known { IfOk result (λ found. IsTrue D.is_known → found ≡ found_of ((D.tree disk.old).content file.now)) }
-    ensures tree { IsTrue D.is_known → D.tree disk.new ≡ D.tree disk.old }
-    ensures failed { D.has_failed disk.new ≡ D.has_failed disk.old }
-    ensures entries { D.entries disk.new ≡ D.entries disk.old }
-    ensures faults { IfOk result (λ found. D.faults disk.new ≤ (if is_unreadable found then D.faults disk.old + 1 else D.faults disk.old)) }
-{
-    watch.file_begun();
-    if let Some(digest) = disk.recall(file) {
-        return Ok(Found::Seen(digest));
-    }
-    match disk.open(file) {
-        Ok(()) => {}
-        Err(DiskFault::OutOfMemory) => return Err(AllocError),
-        Err(DiskFault::Failed) => return Ok(Found::Unreadable),
-    }
-    Ok(match fingerprint(disk, MOST_READS, watch) {
-        Some(digest) if disk.settle(file, &digest) => Found::Seen(digest),
-        _ => Found::Unreadable,
-    })
 }

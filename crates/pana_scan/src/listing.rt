@@ -53,6 +53,18 @@ impl Listing {
         }
     }
 
+    /// The listing of this device with these rows, and so many names that were passed over. Takes no memory.
+    pub(crate) fn of_rows(device: DeviceName, rows: Vec<FoundRow>, skipped: u64) -> Listing
+        requires { RowsRise rows.items }
+        ensures { result ≡ record { device = device; rows = rows.items; skipped = skipped } }
+    {
+        Listing {
+            device,
+            rows,
+            skipped,
+        }
+    }
+
     /// The device. Takes no memory.
     pub fn device(&self) -> &DeviceName
         ensures { result.now ≡ self.now.device }

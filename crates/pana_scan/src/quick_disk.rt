@@ -8,8 +8,9 @@ ghost use Rattle.pana_scan.specs.Scan.{IsFresh};
 use crate::disk::Disk;
 use crate::disk_fault::DiskFault;
 use crate::entry::Entry;
+use crate::sums::Sums;
 use crate::system_disk::SystemDisk;
-use pana_sums::{FileTime, Signature, SumTable};
+use pana_sums::{FileTime, Signature};
 use std::alloc::{AllocError, Global};
 use std::fs;
 use std::fs::{Files, Metadata};
@@ -24,11 +25,10 @@ use std::os::unix::fs::MetadataExt;
 pub struct QuickDisk<'a, R: Files + AllocGlobal + Clone + Drop> {
     files: &'a R,
     disk: SystemDisk<'a, R>,
-    known: &'a SumTable,
+    sums: Sums,
     begun: FileTime,
     /// The signature of the file that is open.
     opened: Option<Signature>,
-    sums: SumTable,
 }
 
 fn time_of(seconds: i64, nanoseconds: i64) -> Option<FileTime> {
@@ -55,30 +55,23 @@ fn signature_of(found: &Metadata) -> Option<Signature>
 }
 
 impl<'a, R: Files + AllocGlobal + Clone + Drop> QuickDisk<'a, R> {
-    /// The system's files before a scan that begins at this time. What is kept of it goes to the sums. Takes no memory.
-    pub fn new(
-        files: &'a R,
-        known: &'a SumTable,
-        begun: FileTime,
-        sums: SumTable,
-    ) -> QuickDisk<'a, R>
+    /// The system's files before a scan that begins at this time, with these sums. Takes no memory.
+    pub fn new(files: &'a R, sums: Sums, begun: FileTime) -> QuickDisk<'a, R>
         ensures fresh { IsFresh result.disk.has_failed result.disk.entries result.disk.faults }
-        ensures known { result.known.now ≡ known.now }
         ensures sums { result.sums ≡ sums }
         ensures begun { result.begun ≡ begun }
     {
         QuickDisk {
             files,
             disk: SystemDisk::new(files),
-            known,
+            sums,
             begun,
             opened: None,
-            sums,
         }
     }
 
-    /// The sums that are kept for the next scan.
-    pub fn into_sums(self) -> SumTable
+    /// The sums that were known, and those that are kept for the next scan.
+    pub fn into_sums(self) -> Sums
         ensures { result ≡ self.entry.sums }
     {
         self.sums
@@ -97,23 +90,25 @@ impl<'a, R: Files + AllocGlobal + Clone + Drop> QuickDisk<'a, R> {
     /// Keeps the sum of a file with this signature, where that is settled. Fails only where memory runs out, and changes
     /// nothing then.
     fn keep(&mut self, signature: Signature, digest: [u8; 32]) -> Result<(), AllocError>
-        ensures ok { OnOk result (IsKept self.old.begun signature digest self.old.sums self.new.sums) }
-        ensures err { OnErr result (self.new.sums ≡ self.old.sums) }
+        ensures ok { OnOk result (IsKept self.old.begun signature digest self.old.sums.kept self.new.sums.kept) }
+        ensures err { OnErr result (self.new.sums.kept ≡ self.old.sums.kept) }
+        ensures known { self.new.sums.known ≡ self.old.sums.known }
         ensures rest { self.new ≡ record self.old { sums = self.new.sums } }
     {
         if signature.is_settled(self.begun) {
-            self.sums.insert(signature, digest)?;
+            self.sums.kept.insert(signature, digest)?;
         }
         Ok(())
     }
 
     /// The known sum of a file with this signature.
     fn recalled(&mut self, signature: Option<Signature>) -> Option<[u8; 32]>
-        ensures sum { IsRecalled self.old.known.now signature result }
+        ensures sum { IsRecalled self.old.sums.known signature result }
         ensures disk { self.new.disk ≡ self.old.disk }
+        ensures known { self.new.sums.known ≡ self.old.sums.known }
     {
         let signature = signature?;
-        let digest = self.known.get(&signature)?;
+        let digest = self.sums.known.get(&signature)?;
         // Where memory runs out the file is read again by the next scan.
         let _ = self.keep(signature, digest);
         Some(digest)
@@ -130,7 +125,8 @@ impl<'a, R: Files + AllocGlobal + Clone + Drop> QuickDisk<'a, R> {
         ensures same { IfSome before (λ first. IfSome after (λ last. result ≡ same_signature first last)) }
         ensures unopened { IfNone before (result ≡ false) }
         ensures gone { IfNone after (result ≡ false) }
-        ensures sums { (self.new.sums ≡ self.old.sums) ⊎ IfSome before (λ first. IsTrue result × IsKept self.old.begun first digest self.old.sums self.new.sums) }
+        ensures known { self.new.sums.known ≡ self.old.sums.known }
+        ensures kept { (self.new.sums.kept ≡ self.old.sums.kept) ⊎ IfSome before (λ first. IsTrue result × IsKept self.old.begun first digest self.old.sums.kept self.new.sums.kept) }
     {
         match (before, after) {
             (Some(before), Some(after)) if before == after => {

@@ -8,7 +8,7 @@ use std::fmt;
 pub enum ScanFault {
     /// A folder couldn't be listed.
     Folder,
-    /// More than 100,000 entries were met.
+    /// More entries were met than may be: 100,000, where no other number was given.
     TooMany,
     /// A folder is more than 64 folders below the root.
     TooNested,

@@ -1,12 +1,12 @@
 //! What follows a scan while it goes on.
 
-/// Follows a scan, as one does that shows how far it is.
+/// Follows a scan, as one does that shows how far it is. Several threads may follow one scan by it.
 pub trait Watch {
     /// Another file is looked at.
-    fn file_begun(&mut self);
+    fn file_begun(&self);
 
     /// So many more bytes of it were read.
-    fn bytes_read(&mut self, count: usize);
+    fn bytes_read(&self, count: usize);
 }
 
 /// Follows no scan.
@@ -14,7 +14,7 @@ pub trait Watch {
 pub struct Unwatched;
 
 impl Watch for Unwatched {
-    fn file_begun(&mut self) {}
+    fn file_begun(&self) {}
 
-    fn bytes_read(&mut self, _count: usize) {}
+    fn bytes_read(&self, _count: usize) {}
 }

@@ -6,11 +6,14 @@ use pana_hall::{Call, Hall, HoldingList, Query, Reply};
 use pana_journal::Report;
 use pana_scan::{
     Baseline, Disk, Found, Kind, Listing, Mark, MemoryDisk, Plan, ScanFault, Step, SystemDisk,
-    Unwatched, Watch, fingerprint, plan, read_root,
+    Unwatched, Watch, fingerprint, plan, read_root, read_root_in_threads,
 };
 use std::alloc::{AllocError, Global};
 use std::fs;
+use std::marker::Sync;
+use std::sync::atomic::{AtomicU64, Ordering};
 use std::test::Fail;
+use std::thread::Threads;
 
 /// SHA-256 of `abc`, from the standard.
 const ABC: [u8; 32] = [
@@ -175,7 +178,7 @@ fn fingerprint_of(
     let root = folder(alloc, "root", &[], false)?;
     let mut disk = disk(alloc, root, Some(file(alloc, "root/f", bytes, fails)?))?;
     disk.open("root/f")?;
-    Ok(fingerprint(&mut disk, reads, &mut Unwatched))
+    Ok(fingerprint(&mut disk, reads, &Unwatched))
 }
 
 #[test]
@@ -203,7 +206,7 @@ fn read(alloc: Global, disk: &mut MemoryDisk) -> Result<Listing, ScanFault>
     let Ok(device) = DeviceName::new("usb") else {
         return Err(ScanFault::OutOfMemory);
     };
-    read_root(alloc, disk, &device, "root", &mut Unwatched)
+    read_root(alloc, disk, &device, "root", &Unwatched)
 }
 
 #[test]
@@ -288,48 +291,96 @@ fn new_folder(rt: &HostRuntime, name: &str) -> Result<String, Fail> {
     Ok(folder)
 }
 
-/// Counts what it learns of a scan.
-#[derive(Clone, Copy, Debug, PartialEq, Eq, Drop)]
+/// Counts what it learns of a scan, in any thread.
+#[derive(Drop)]
 struct Tally {
-    files: u64,
-    bytes: usize,
+    files: AtomicU64,
+    bytes: AtomicU64,
+}
+
+impl Tally {
+    fn new() -> Tally {
+        Tally {
+            files: AtomicU64::new(0),
+            bytes: AtomicU64::new(0),
+        }
+    }
+
+    /// How many files and bytes it has counted.
+    fn counts(&self) -> (u64, u64) {
+        (
+            self.files.load(Ordering::SeqCst),
+            self.bytes.load(Ordering::SeqCst),
+        )
+    }
 }
 
 impl Watch for Tally {
-    fn file_begun(&mut self) {
-        self.files = self.files.saturating_add(1);
+    fn file_begun(&self) {
+        self.files.fetch_add(1, Ordering::SeqCst);
     }
 
-    fn bytes_read(&mut self, count: usize) {
-        self.bytes = self.bytes.saturating_add(count);
+    fn bytes_read(&self, count: usize) {
+        self.bytes.fetch_add(count as u64, Ordering::SeqCst);
     }
 }
 
-/// What a scan of the folder finds, and the folder is taken away.
-fn scan_and_remove(rt: &HostRuntime, root: &str, tally: &mut Tally) -> Result<Listing, Fail> {
-    let device = DeviceName::new("usb")?;
-    let read = read_root(rt.alloc(), &mut SystemDisk::new(rt), &device, root, tally);
-    fs::remove_dir_all(rt, root)?;
-    Ok(read?)
+/// What a scan of the folder finds by one disk.
+fn read_by_one(
+    rt: &HostRuntime,
+    device: &DeviceName,
+    root: &str,
+    tally: &Tally,
+) -> Result<Listing, ScanFault> {
+    read_root(rt.alloc(), &mut SystemDisk::new(rt), device, root, tally)
+}
+
+/// What a scan of the folder finds where one disk more than so many others look at its files.
+fn read_by_many<T: Threads + Sync>(
+    rt: &HostRuntime,
+    threads: &T,
+    device: &DeviceName,
+    root: &str,
+    others: usize,
+    tally: &Tally,
+) -> Result<Listing, ScanFault> {
+    let alloc = rt.alloc();
+    let mut disks = Vec::new(alloc);
+    for _ in 0..others {
+        disks.push(SystemDisk::new(rt))?;
+    }
+    disks.push(SystemDisk::new(rt))?;
+    read_root_in_threads(
+        threads,
+        alloc,
+        &mut SystemDisk::new(rt),
+        &mut disks,
+        device,
+        root,
+        100_000,
+        tally,
+    )
+}
+
+/// A folder of this test's own with these files, each with the text `abc`.
+fn folder_with(rt: &HostRuntime, name: &str, files: &[&str]) -> Result<String, Fail> {
+    let root = new_folder(rt, name)?;
+    fs::create_dir(rt, format!(in rt.alloc(); "{root}/a")?)?;
+    for name in files {
+        fs::write(rt, format!(in rt.alloc(); "{root}/{name}")?, "abc")?;
+    }
+    Ok(root)
 }
 
 #[test]
 fn folder_is_read_in_byte_order_of_whole_paths(rt: HostRuntime) -> Result<(), Fail> {
-    let alloc = rt.alloc();
-    let root = new_folder(&rt, "order")?;
-    fs::create_dir(&rt, format!(in alloc; "{root}/a")?)?;
-    for name in ["a/b", "a-b", "ab", ".a"] {
-        fs::write(&rt, format!(in alloc; "{root}/{name}")?, "abc")?;
-    }
-    let mut tally = Tally { files: 0, bytes: 0 };
-    let listing = scan_and_remove(&rt, root.as_str(), &mut tally)?;
-    assert_eq!(rt;
-        tally,
-        Tally {
-            files: 4,
-            bytes: 12
-        }
-    );
+    let root = folder_with(&rt, "order", &["a/b", "a-b", "ab", ".a"])?;
+    let device = DeviceName::new("usb")?;
+    let tally = Tally::new();
+    let read = read_by_one(&rt, &device, root.as_str(), &tally);
+    fs::remove_dir_all(&rt, root.as_str())?;
+    let listing = read?;
+    assert_eq!(rt; tally.counts(), (4, 12));
     assert_eq!(rt; listing.skipped(), 0);
     let seen = Found::Seen(ABC);
     assert!(rt;
@@ -338,5 +389,23 @@ fn folder_is_read_in_byte_order_of_whole_paths(rt: HostRuntime) -> Result<(), Fa
             &[(".a", seen), ("a-b", seen), ("a/b", seen), ("ab", seen)]
         )
     );
+    Ok(())
+}
+
+#[test]
+fn many_disks_find_what_one_finds(rt: HostRuntime) -> Result<(), Fail> {
+    let names = ["a/b", "a-b", "ab", ".a", "c", "a/d", "e"];
+    let root = folder_with(&rt, "many", &names)?;
+    let device = DeviceName::new("usb")?;
+    let tally = Tally::new();
+    let one = read_by_one(&rt, &device, root.as_str(), &Tally::new());
+    let many = read_by_many(&rt, &rt, &device, root.as_str(), 4, &tally);
+    let few = read_by_many(&rt, &rt, &device, root.as_str(), 0, &Tally::new());
+    fs::remove_dir_all(&rt, root.as_str())?;
+    let (one, many, few) = (one?, many?, few?);
+    assert_eq!(rt; tally.counts(), (7, 21));
+    assert_eq!(rt; many.rows().len(), 7);
+    assert!(rt; many.rows() == one.rows());
+    assert!(rt; few.rows() == one.rows());
     Ok(())
 }

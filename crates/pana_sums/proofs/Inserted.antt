@@ -1,10 +1,10 @@
 -- A table once a sum was kept.
-use Rattle.std.proofs.Common.{◌≡◌, ℕ, ◌+◌, ◌<◌, ◌≤◌, Bool, true, false, cond, ◌&&◌, ◌||◌, nat_lt, List, [], ◌∷◌, refl, sym, arith}
+use Rattle.std.proofs.Common.{◌≡◌, ℕ, ◌+◌, ◌<◌, ◌≤◌, Bool, true, false, cond, ◌&&◌, ◌||◌, nat_lt, List, [], ◌∷◌, ◌++◌, refl, sym, arith}
 use Rattle.std.proofs.lemmas.Bool.{ltb-true, lt-ltb}
 use Rattle.std.specs.List.{AllByRecursion}
 use Rattle.indexmap.specs.IndexMap.{insert_entry}
 use Rattle.pana_sums.specs.declared.signature.Signature.{Signature}
-use Rattle.pana_sums.specs.Table.{Row, same_signature, IsRow}
+use Rattle.pana_sums.specs.Table.{Row, all_inserted, inserted, same_signature, IsRow}
 
 -- all its rows are rows
 pub rows_inserted : (table : List Row) (signature : Signature) (sum : List ℕ) → IsRow (signature, sum) → AllByRecursion IsRow table → AllByRecursion IsRow (insert_entry same_signature table signature sum)
@@ -35,3 +35,8 @@ may_by_room false n room = lt-ltb n 4000000 room
 pub and_may : (b may : Bool) → may ≡ true → b ≡ (b && may)
 and_may true may h = sym h
 and_may false may h = refl
+
+-- one row more is put in last
+pub all_inserted_more : (table rows : List Row) (row : Row) → all_inserted table (rows ++ row ∷ []) ≡ inserted (all_inserted table rows) row.0 row.1
+all_inserted_more table [] row = refl
+all_inserted_more table (next ∷ rows) row = all_inserted_more (inserted table next.0 next.1) rows row

@@ -1,5 +1,5 @@
 -- Tables of sums.
-use Rattle.std.specs.Prelude.{◌≡◌, ℕ, ◌==◌, ◌<◌, ◌≤◌, ◌^◌, Bool, ◌&&◌, ◌||◌, nat_lt, List, Option, is_some, if◌then◌else◌, length, FitsSigned}
+use Rattle.std.specs.Prelude.{◌≡◌, ℕ, ◌==◌, ◌<◌, ◌≤◌, ◌^◌, Bool, ◌&&◌, ◌||◌, nat_lt, List, [], ◌∷◌, Option, is_some, if◌then◌else◌, length, FitsSigned}
 use Rattle.std.specs.Int.{w64}
 use Rattle.std.specs.Ordering.{int_eq}
 use Rattle.std.specs.List.{AllByRecursion, IsDistinct}
@@ -27,6 +27,11 @@ sum_of table signature = lookup (same_signature signature) table
 -- the table once a sum is kept: in the place of the one before, or else at the end, where fewer than 4,000,000 are kept
 abbrev pub inserted : List Row → Signature → List ℕ → List Row
 inserted table signature sum = if is_some (sum_of table signature) || nat_lt (length table) 4000000 then insert_entry same_signature table signature sum else table
+
+-- the table once the sums of these rows are kept, one after another
+abbrev pub all_inserted : List Row → List Row → List Row
+all_inserted table [] = table
+all_inserted table (row ∷ rows) = all_inserted (inserted table row.0 row.1) rows
 
 -- the time is in the range of its fields
 pub record IsTime (time : FileTime) : Type 0 where

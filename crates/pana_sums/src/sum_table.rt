@@ -1,6 +1,6 @@
 ghost use Rattle.std.specs.Prelude.{◌≡◌, ◌↔◌, [], List, ℕ, Some, IfOk, IfSome, IfNone, OnOk, OnErr, IsTrue, length, if◌then◌else◌, ◌||◌, is_some, nat_lt, ◌&&◌};
 ghost use Rattle.std.specs.List.{flat_map};
-ghost use Rattle.pana_sums.specs.Table.{Row, IsTable, inserted, same_signature, sum_of};
+ghost use Rattle.pana_sums.specs.Table.{Row, IsTable, all_inserted, inserted, same_signature, sum_of};
 ghost use Rattle.pana_sums.specs.File.{file_of, record_of, IsWhole};
 
 use crate::reading::{HEAD, records_of, row_in};
@@ -79,6 +79,20 @@ impl SumTable {
             return Ok(());
         }
         self.sums.insert(signature, digest)?;
+        Ok(())
+    }
+
+    /// Keeps all sums of another table, one after another.
+    ///
+    /// # Errors
+    ///
+    /// `AllocError` where an allocation failed. Some of the sums are kept then.
+    pub fn insert_all(&mut self, other: &SumTable) -> Result<(), AllocError>
+        ensures { OnOk result (self.new ≡ all_inserted self.old other.now) }
+    {
+        for (signature, digest) in other.sums.iter() {
+            self.insert(*signature, *digest)?;
+        }
         Ok(())
     }
 

@@ -1,5 +1,7 @@
 //! Shares in ticks.
 
+ghost use Rattle.std.specs.Prelude.{◌≡◌};
+
 use crate::hand::Hand;
 use atomic_table::Seat;
 use std::marker::Model;
@@ -39,4 +41,13 @@ impl Model for Watcher {
     ghost view = { λ watcher. record { id = watcher.seat.table_id; count = count_of watcher.seat.me.0 } };
 
     ghost invariant = { λ watcher. IsWatcher watcher.seat.me × ((count_of watcher.seat.me.0).ticks ≡ watcher.seen) };
+}
+
+impl Watcher {
+    /// How many ticks it has seen last. Takes no memory.
+    pub fn seen(&self) -> u64
+        ensures { result ≡ self.now.count.ticks }
+    {
+        self.seen
+    }
 }

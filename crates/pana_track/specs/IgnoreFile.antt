@@ -42,7 +42,7 @@ has_ignore_file tree root = list_any is_ignore_file (tree.names root).entries
 -- why a list wasn't searched: it fails, or is too long; of memory nothing is known
 abbrev pub IsUnlisted : Names → ScanFault → Type 0
 IsUnlisted names scan.Folder = names.fails ≡ true
-IsUnlisted names scan.TooMany = 100000 < length names.entries
+IsUnlisted names scan.TooMany = 1000000 < length names.entries
 IsUnlisted names scan.TooNested = ⊥
 IsUnlisted names scan.OutOfMemory = Unit {0}
 

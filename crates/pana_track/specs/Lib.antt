@@ -5,5 +5,6 @@ pub mod Reading
 pub mod Calls
 pub mod Tally
 pub mod Track
+pub mod Folder
 pub mod Status
 pub mod inner

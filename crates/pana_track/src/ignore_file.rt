@@ -13,7 +13,7 @@ use std::alloc::{AllocError, Global};
 const IGNORE_FILE: &str = ".panadignore";
 
 /// How many entries of a root are looked at.
-const MOST_ENTRIES: u64 = 100_000;
+const MOST_ENTRIES: u64 = 1_000_000;
 
 /// How many bytes the file may have.
 const MOST_BYTES: usize = 1_048_576;
@@ -114,7 +114,7 @@ fn push_all(patterns: &mut Patterns, more: &[&str]) -> Result<(), AllocError>
 ///
 /// # Errors
 ///
-/// `Scan` where the root can't be listed, or has more than 100,000 entries and the file isn't among the first;
+/// `Scan` where the root can't be listed, or has more than 1,000,000 entries and the file isn't among the first;
 /// `IgnoreFile` where the file can't be read, or has more than 1,048,576 bytes; `TooManyLines` and `LongLine` by its
 /// lines.
 pub(crate) fn patterns_of<D: Disk>(

@@ -4,6 +4,8 @@
 
 mod asking;
 mod fault;
+mod folder;
+mod folder_end;
 mod ignore_file;
 mod ignoring_disk;
 mod read_fault;
@@ -14,7 +16,9 @@ mod tracking;
 
 pub use crate::asking::status_of;
 pub use crate::fault::TrackFault;
+pub use crate::folder::track_folder;
+pub use crate::folder_end::{FolderEnd, FolderTally};
 pub use crate::read_fault::ReadFault;
-pub use crate::reading::{TrackedListing, read_tracked};
+pub use crate::reading::{TrackedListing, read_tracked, read_tracked_in_threads};
 pub use crate::tally::TrackTally;
 pub use crate::tracking::track;

@@ -1,15 +1,14 @@
-use crate::daemon;
 use crate::descriptors::take_standard_descriptors;
 use crate::fault::ProgramFault;
 use crate::keeping::{run_kept, show_kept};
 use crate::printing::{complain, output, print_out, print_text};
 use crate::progress::Progress;
+use crate::serve_command::{self, SERVE, serve_command};
 use crate::track_command::{self, TRACK, track_command};
 use crate::version::VERSION;
 use clap::error::{Error, ErrorKind};
-use clap::{Arg, ArgAction, ArgMatches, Command, value_parser};
+use clap::{Arg, ArgMatches, Command};
 use pana_commands::{Printout, compare_on, load_on, run_on, scan_on, show_on};
-use pana_daemon::{Patience, Wishes};
 use pana_log::ends_journal;
 use pana_scan::SystemDisk;
 use pana_store::before_end;
@@ -41,8 +40,8 @@ pair, holdings, at, status, journal.
 `panad show` takes such lines and prints tables in place of the answers, and
 `panad serve` answers them over TCP, to several devices at a time.
 `panad track` needs no lines: it looks at folders.
-`panad COMMAND --help` shows an example. README.md has all answers, what is
-proved of them, and what isn't.";
+`panad COMMAND --help` shows an example. docs/PROTOCOL.md has all answers, and
+docs/PROMISES.md what is proved of them, and what isn't.";
 
 const RUN_EXAMPLE: &str = "\
 Example: a file on a laptop, its copy on a stick, an edit, and which is newest?
@@ -90,19 +89,6 @@ DIR. Example:
 Symbolic links are passed over. Names that can't be reported are counted on
 standard error.";
 
-const SERVE_EXAMPLE: &str = "\
-It listens on 127.0.0.1 alone, and prints where. Each connection is a session as
-that of `panad run`, and all sessions share one journal. Without --journal nothing
-is kept after it ends. Example:
-
-    $ panad serve --port 7000 usb=/media/usb laptop=/home/me/papers
-    listening 127.0.0.1:7000
-
-At the start, and again after each newline on standard input, each folder is
-scanned, and what appeared, changed or went is reported by its device; without a
-folder standard input isn't read. Without --sessions it runs until it is killed,
-or until the journal's file fails.";
-
 const COMPARE_EXAMPLE: &str = "\
 A stamp is an id and an event of an Interval Tree Clock. Example:
 
@@ -120,32 +106,11 @@ const SCAN: &str = "scan";
 
 const COMPARE: &str = "compare";
 
-const SERVE: &str = "serve";
-
-/// The names of the daemon's port, number of sessions and folders on the command line.
-const PORT: &str = "port";
-
-const SESSIONS: &str = "sessions";
-
-/// The names of what a client may take its time for, and the seconds where they aren't given.
-const HURRY: &str = "hurry";
-
-const HURRY_SECONDS: u32 = 5;
-
-const IDLE: &str = "idle";
-
-const IDLE_SECONDS: u32 = 300;
-
-/// The name of the wish to go on without a journal.
-const STAY: &str = "stay";
-
-const ROOT: &str = "DEVICE=DIR";
-
 /// The name of the file on the command line.
 const FILE: &str = "FILE";
 
 /// The name of the journal's file on the command line.
-const JOURNAL: &str = "journal";
+pub const JOURNAL: &str = "journal";
 
 /// The names of the device and the folder on the command line.
 const DEVICE: &str = "DEVICE";
@@ -159,14 +124,6 @@ const SECOND: &str = "SECOND";
 
 pub fn journal_option<'a>(alloc: Global) -> Arg<'a> {
     Arg::new(alloc, JOURNAL).long(JOURNAL).value_name(FILE)
-}
-
-fn seconds_option<'a>(alloc: Global, name: &'a str, help: &'a str) -> Arg<'a> {
-    Arg::new(alloc, name)
-        .long(name)
-        .value_name("SECONDS")
-        .value_parser(value_parser!(u32))
-        .help(help)
 }
 
 fn run_command<'a>(alloc: Global) -> Result<Command<'a>, AllocError> {
@@ -231,54 +188,6 @@ fn compare_command<'a>(alloc: Global) -> Result<Command<'a>, AllocError> {
         .arg(second)
 }
 
-/// The command with the options that say how long a client may keep others waiting.
-fn with_patience<'a>(alloc: Global, command: Command<'a>) -> Result<Command<'a>, AllocError> {
-    let hurry = seconds_option(
-        alloc,
-        HURRY,
-        "Time to a first line, or to take an answer, while others wait; 5 by default",
-    );
-    let idle = seconds_option(
-        alloc,
-        IDLE,
-        "Time to a further line while others wait; 300 by default",
-    );
-    command.arg(hurry)?.arg(idle)
-}
-
-fn serve_command<'a>(alloc: Global) -> Result<Command<'a>, AllocError> {
-    let port = Arg::new(alloc, PORT)
-        .long(PORT)
-        .value_name("N")
-        .value_parser(value_parser!(u16))
-        .help("The port of 127.0.0.1 to listen on; 0 lets the system choose")
-        .required(true);
-    let sessions = Arg::new(alloc, SESSIONS)
-        .long(SESSIONS)
-        .value_name("S")
-        .value_parser(value_parser!(u64))
-        .help("End after S sessions, and with a folder the end of standard input");
-    let journal = journal_option(alloc).help(
-        "The file that keeps the reports; it is made if it isn't there",
-    );
-    let stay = Arg::new(alloc, STAY)
-        .long(STAY)
-        .action(ArgAction::SetTrue)
-        .help("Answer questions for ever once the journal's file has failed");
-    let roots = Arg::new(alloc, ROOT)
-        .action(ArgAction::Append)
-        .help("A device and the folder with its copies, up to 8 of them");
-    let command = Command::new(alloc, SERVE)
-        .about("Answers lines over TCP, up to 16 sessions at a time, and scans folders")
-        .after_help(SERVE_EXAMPLE)
-        .arg(port)?
-        .arg(sessions)?
-        .arg(journal)?
-        .arg(stay)?
-        .arg(roots)?;
-    with_patience(alloc, command)
-}
-
 /// What the words of the command line may be.
 fn command_line<'a>(alloc: Global) -> Result<Command<'a>, AllocError> {
     Command::new(alloc, "panad")
@@ -312,13 +221,13 @@ fn scan(rt: &HostRuntime, words: &ArgMatches) -> Result<ExitCode, ProgramFault> 
     // Both words are required, so they are there.
     let device = words.get_str(DEVICE).unwrap_or("");
     let folder = words.get_str(DIR).unwrap_or("");
-    let mut progress = Progress::new(rt);
+    let progress = Progress::new(rt);
     let printout = scan_on(
         rt.alloc(),
         &mut SystemDisk::new(rt),
         device,
         folder,
-        &mut progress,
+        &progress,
     );
     progress.end();
     print_out(rt, &printout?)
@@ -329,28 +238,6 @@ fn compare(rt: &HostRuntime, words: &ArgMatches) -> Result<ExitCode, ProgramFaul
     let first = words.get_str(FIRST).unwrap_or("");
     let second = words.get_str(SECOND).unwrap_or("");
     print_out(rt, &compare_on(rt.alloc(), first, second)?)
-}
-
-fn serve<T: Threads + Wait + Clock + Sync>(
-    rt: &HostRuntime,
-    threads: &T,
-    words: &ArgMatches,
-) -> Result<ExitCode, ProgramFault> {
-    // The port is required, so it is there.
-    let port = words.get_one(PORT).unwrap_or(0);
-    let patience = Patience {
-        hurry: words.get_one(HURRY).unwrap_or(HURRY_SECONDS),
-        idle: words.get_one(IDLE).unwrap_or(IDLE_SECONDS),
-    };
-    let wishes = Wishes {
-        port,
-        journal: words.get_str(JOURNAL),
-        roots: words.get_strs(ROOT).unwrap_or(&[]),
-        wanted: words.get_one(SESSIONS),
-        patience,
-        stays: words.get_flag(STAY),
-    };
-    daemon::serve(rt, threads, wishes)
 }
 
 /// The bytes of a file, or `None` where it can't be read.
@@ -459,8 +346,8 @@ fn obey_words<T: Threads + Wait + Clock + Sync>(
         Some((LOAD, words)) => load(rt, words),
         Some((SCAN, words)) => scan(rt, words),
         Some((COMPARE, words)) => compare(rt, words),
-        Some((TRACK, words)) => Ok(track_command::run(rt, words)),
-        Some((SERVE, words)) => serve(rt, threads, words),
+        Some((TRACK, words)) => Ok(track_command::run(rt, threads, words)),
+        Some((SERVE, words)) => serve_command::run(rt, threads, words),
         _ => refuse(rt, ErrorKind::MissingSubcommand, "a command is required"),
     }
 }

@@ -4,7 +4,7 @@ use crate::fault::ProgramFault;
 use crate::keeping::{NoStore, open_store};
 use crate::printing::print_out;
 use pana_commands::Printout;
-use pana_daemon::{System, SystemDisks, Wishes, serve_on};
+use pana_daemon::{PassedOver, System, SystemDisks, Wishes, serve_on};
 use pana_log::FileDevice;
 use pana_store::Store;
 use std::io;
@@ -41,10 +41,14 @@ impl System for Machine<'_> {
 pub fn serve<T: Threads + Wait + Clock + Sync>(
     rt: &HostRuntime,
     threads: &T,
+    passed_over: &[PassedOver<'_, '_>],
     wishes: Wishes<'_>,
 ) -> Result<ExitCode, ProgramFault> {
     let port = wishes.port;
-    let disks = SystemDisks { files: rt };
+    let disks = SystemDisks {
+        files: rt,
+        passed_over,
+    };
     let outcome = serve_on(rt, threads, &disks, &mut Machine { rt }, wishes);
     let printout = Printout {
         out: String::new(rt.alloc()),

@@ -2,7 +2,8 @@
 
 use pana_scan::Watch;
 use std::io::IsTerminal;
-use std::time::{Duration, Instant};
+use std::sync::atomic::{AtomicBool, AtomicU64, Ordering};
+use std::time::Instant;
 
 /// After how many milliseconds the line is shown first, and how long it then stands.
 const PATIENCE: u64 = 1_000;
@@ -10,71 +11,77 @@ const PATIENCE: u64 = 1_000;
 const PERIOD: u64 = 100;
 
 /// Where standard error is a terminal: one line there with the files and bytes of a scan so far, as soon as the scan has
-/// taken a second. Elsewhere nothing.
+/// taken a second. Elsewhere nothing. The threads of a scan share it.
 #[derive(Drop)]
 pub struct Progress<'a> {
     rt: &'a HostRuntime,
-    /// When the line is shown next; none where it never is.
-    due: Option<Instant>,
-    is_shown: bool,
-    files: u64,
-    bytes: u64,
+    /// When the scan began; none where the line is never shown.
+    began: Option<Instant>,
+    /// After how many milliseconds the line is shown next.
+    due: AtomicU64,
+    is_shown: AtomicBool,
+    files: AtomicU64,
+    bytes: AtomicU64,
 }
 
 impl<'a> Progress<'a> {
     /// No file and no byte so far. Takes no memory.
     pub fn new(rt: &'a HostRuntime) -> Progress<'a> {
-        let due = if rt.stderr().is_terminal() {
-            instant_after(rt, PATIENCE)
+        let began = if rt.stderr().is_terminal() {
+            Instant::now(rt).ok()
         } else {
             None
         };
         Progress {
             rt,
-            due,
-            is_shown: false,
-            files: 0,
-            bytes: 0,
+            began,
+            due: AtomicU64::new(PATIENCE),
+            is_shown: AtomicBool::new(false),
+            files: AtomicU64::new(0),
+            bytes: AtomicU64::new(0),
         }
     }
 
     /// Takes the line away.
-    pub fn end(&mut self) {
-        if self.is_shown {
+    pub fn end(self) {
+        if self.is_shown.load(Ordering::SeqCst) {
             let _ = eprint!(self.rt; "\r\x1b[K");
         }
-        self.due = None;
-        self.is_shown = false;
     }
 
-    fn show_if_due(&mut self) {
-        let Some(due) = self.due else { return };
-        let Ok(now) = Instant::now(self.rt) else {
+    /// Shows the line where that is due. Of several threads one does.
+    fn show_if_due(&self) {
+        let Some(began) = self.began else { return };
+        let Ok(passed) = began.elapsed(self.rt) else {
             return;
         };
-        if now < due {
+        let now = u64::try_from(passed.as_millis()).unwrap_or(u64::MAX);
+        let due = self.due.load(Ordering::SeqCst);
+        if now < due || !self.moves_on(due, now.saturating_add(PERIOD)) {
             return;
         }
-        let _ = eprint!(self.rt; "\r\x1b[Kpanad: {} files, {} bytes", self.files, self.bytes);
-        self.is_shown = true;
-        self.due = instant_after(self.rt, PERIOD);
+        let files = self.files.load(Ordering::SeqCst);
+        let bytes = self.bytes.load(Ordering::SeqCst);
+        let _ = eprint!(self.rt; "\r\x1b[Kpanad: {files} files, {bytes} bytes");
+        self.is_shown.store(true, Ordering::SeqCst);
     }
-}
 
-/// The instant in so many milliseconds, or `None` where the clock can't be read.
-fn instant_after(rt: &HostRuntime, milliseconds: u64) -> Option<Instant> {
-    let now = Instant::now(rt).ok()?;
-    now.checked_add(Duration::from_millis(milliseconds))
+    /// Whether this thread is the one that changes when the line is due.
+    fn moves_on(&self, due: u64, next: u64) -> bool {
+        self.due
+            .compare_exchange(due, next, Ordering::SeqCst, Ordering::SeqCst)
+            .is_ok()
+    }
 }
 
 impl Watch for Progress<'_> {
-    fn file_begun(&mut self) {
-        self.files = self.files.saturating_add(1);
+    fn file_begun(&self) {
+        self.files.fetch_add(1, Ordering::SeqCst);
         self.show_if_due();
     }
 
-    fn bytes_read(&mut self, count: usize) {
-        self.bytes = self.bytes.saturating_add(count as u64);
+    fn bytes_read(&self, count: usize) {
+        self.bytes.fetch_add(count as u64, Ordering::SeqCst);
         self.show_if_due();
     }
 }

@@ -10,8 +10,18 @@ use std::os::unix::fs::OpenOptionsExt;
 const MOST_BYTES: u64 = 320_000_045;
 
 /// The name of the file beside this journal.
-pub fn sums_name(rt: &HostRuntime, journal: &str) -> Result<String, AllocError> {
+fn sums_name(rt: &HostRuntime, journal: &str) -> Result<String, AllocError> {
     format!(in rt.alloc(); "{journal}.sums")
+}
+
+/// The name of the file that is to stand in its place.
+fn new_name(rt: &HostRuntime, journal: &str) -> Result<String, AllocError> {
+    format!(in rt.alloc(); "{journal}.sums.new")
+}
+
+/// The names of both.
+pub fn sums_names(rt: &HostRuntime, journal: &str) -> Result<[String; 2], AllocError> {
+    Ok([sums_name(rt, journal)?, new_name(rt, journal)?])
 }
 
 /// The bytes of the regular file with this name.
@@ -52,7 +62,7 @@ fn replace(rt: &HostRuntime, name: &str, new: &str, bytes: &[u8]) -> io::Result<
 /// Keeps the sums beside the journal. Where that fails, the next run reads more files.
 pub fn write_sums(rt: &HostRuntime, journal: &str, sums: &SumTable) -> Result<(), AllocError> {
     let name = sums_name(rt, journal)?;
-    let new = format!(in rt.alloc(); "{name}.new")?;
+    let new = new_name(rt, journal)?;
     let bytes = sums.to_bytes(rt.alloc())?;
     if replace(rt, name.as_str(), new.as_str(), bytes.as_slice()).is_err() {
         let _ = fs::remove_file(rt, new.as_str());

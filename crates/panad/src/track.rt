@@ -1,29 +1,34 @@
 //! `panad track`: folders are read, what was noticed is reported to the store of a journal, and what is obsolete or in conflict
 //! is printed.
+ghost use Rattle.std.specs.Prelude.{◌<◌, IfOk, length};
 
 use crate::fault::ProgramFault;
 use crate::keeping::{NoStore, open_store};
+use crate::passed_over::{is_within, passed_over, root_patterns, slices_of};
 use crate::printing::{complain, print_out};
 use crate::progress::Progress;
-use crate::sums_file::{read_sums, sums_name, write_sums};
+use crate::sums_file::{read_sums, write_sums};
 use pana_commands::{Printout, ReadFolder, StatusForm, Untracked, track_on};
 use pana_copies::DeviceName;
-use pana_daemon::Root;
-use pana_scan::{Listing, QuickDisk};
+use pana_daemon::{Disks, PassedOver, Root, SystemDisks};
+use pana_scan::{KnownSums, QuickDisk, Sums};
 use pana_store::Group;
-use pana_sums::{FileTime, SumTable};
-use pana_track::{TrackedListing, read_tracked};
+use pana_track::read_tracked_in_threads;
 use std::alloc::AllocError;
-use std::fs;
+use std::marker::Sync;
 use std::path::PathBuf;
 use std::process::ExitCode;
-use std::time::Clock;
+use std::thread::Threads;
+use std::{fs, thread};
 
 /// The device in whose name the program asks; a question has the same answer for each.
 const ASKER: &str = "panad";
 
 /// The status where something wasn't reported.
 pub const FAULT: u8 = 3;
+
+/// How many disks look at files at most.
+const MOST_DISKS: usize = 64;
 
 /// What is wanted beside the folders.
 #[derive(Clone, Copy)]
@@ -35,14 +40,6 @@ pub struct TrackWishes<'a> {
     /// Whether files are read also where they haven't changed.
     pub reads_all: bool,
     pub form: StatusForm,
-}
-
-/// Whether the first path is the second, or lies within it. Both are whole, as `canonicalize` returns them.
-fn is_within(path: &str, folder: &str) -> bool {
-    match path.strip_prefix(folder) {
-        Some(rest) => rest.is_empty() || rest.starts_with('/') || folder.ends_with('/'),
-        None => false,
-    }
 }
 
 /// What stands against the folders, if something does: one is no folder, or lies within another. A folder that isn't there is
@@ -72,153 +69,111 @@ pub fn fault_of_roots(rt: &HostRuntime, roots: &[Root<'_>]) -> Result<Option<Str
     Ok(None)
 }
 
-/// The path of the journal's file below a folder, where it lies there.
-fn journal_below(
-    rt: &HostRuntime,
-    journal: &str,
-    folder: &str,
-) -> Result<Option<String>, AllocError> {
-    let (Ok(journal), Ok(folder)) = (fs::canonicalize(rt, journal), fs::canonicalize(rt, folder))
-    else {
-        return Ok(None);
-    };
-    match journal.as_str().strip_prefix(folder.as_str()) {
-        Some(rest) if is_within(journal.as_str(), folder.as_str()) => Ok(Some(String::from_str(
-            rt.alloc(),
-            rest.trim_start_matches('/'),
-        )?)),
-        _ => Ok(None),
-    }
-}
-
-/// The listing without this path and the sums beside it, and whether the path was there.
-fn without(rt: &HostRuntime, listing: &Listing, path: &str) -> Result<(Listing, bool), AllocError> {
-    let mut rest = Listing::new(rt.alloc(), listing.device().copy_of());
-    let mut was_there = false;
-    let sums = sums_name(rt, path)?;
-    rest.skip(listing.skipped());
-    for row in listing.rows() {
-        let name = row.path.as_str();
-        if name == path {
-            was_there = true;
-        } else if name != sums.as_str() && rest.is_above(&row.path) {
-            rest.push(row.path.copy_of()?, row.found)?;
+/// The sums that the journal's neighbour has, or none where all files are to be read.
+fn known_sums(rt: &HostRuntime, wishes: TrackWishes<'_>) -> Result<Sums, AllocError> {
+    let alloc = rt.alloc();
+    match wishes.reads_all {
+        true => Ok(Sums::none(alloc)),
+        false => {
+            let known = KnownSums::of(alloc, read_sums(rt, wishes.journal)?)?;
+            Ok(Sums::of(alloc, known))
         }
     }
-    Ok((rest, was_there))
 }
 
-/// The listing without the journal's own file. That it is passed over is printed.
-fn without_journal(
+/// How many disks look at files: four for each processor, so that one whose files are small goes on with others.
+fn disk_count<T: Threads>(threads: &T) -> usize {
+    match thread::available_parallelism(threads) {
+        Ok(processors) => processors.get().saturating_mul(4).min(MOST_DISKS),
+        Err(_) => 4,
+    }
+}
+
+/// Disks by which files are looked at, each with these sums.
+fn many_disks<'a>(
     rt: &HostRuntime,
-    root: &Root<'_>,
-    journal: &str,
-    listing: Listing,
-) -> Result<Listing, AllocError> {
+    disks: &SystemDisks<'a, '_, '_, '_>,
+    sums: &Sums,
+    count: usize,
+) -> Result<Vec<QuickDisk<'a, HostRuntime>>, AllocError>
+    ensures { IfOk result (λ many. 0 < length many.items) }
+{
     let alloc = rt.alloc();
-    let Some(path) = journal_below(rt, journal, root.folder)? else {
-        return Ok(listing);
-    };
-    let (rest, was_there) = without(rt, &listing, path.as_str())?;
-    if was_there {
-        let device = root.device.as_str();
-        let text = format!(in alloc; "panad: {device}: the journal is passed over\n")?;
-        let _ = complain(rt, &text);
+    let mut many = Vec::new(alloc);
+    for _ in 1..count {
+        many.push(disks.disk(sums.share(alloc)?))?;
     }
-    Ok(rest)
+    many.push(disks.disk(sums.share(alloc)?))?;
+    Ok(many)
 }
 
-/// The sums of files: those that are known, and those that are kept for the next run.
-struct Sums {
-    known: SumTable,
-    begun: FileTime,
-    kept: SumTable,
-}
-
-/// The time now. Where the system has none, no file's times are before it.
-fn now(rt: &HostRuntime) -> FileTime {
-    match rt.since_1970() {
-        Ok(time) => FileTime {
-            seconds: i64::try_from(time.as_secs()).unwrap_or(i64::MIN),
-            nanoseconds: time.subsec_nanos(),
-        },
-        Err(_) => FileTime {
-            seconds: i64::MIN,
-            nanoseconds: 0,
-        },
-    }
-}
-
-impl Sums {
-    /// The sums that the journal's neighbour has, or none where all files are to be read.
-    fn read(rt: &HostRuntime, wishes: TrackWishes<'_>) -> Result<Sums, AllocError> {
-        let alloc = rt.alloc();
-        let known = match wishes.reads_all {
-            true => SumTable::new(alloc),
-            false => read_sums(rt, wishes.journal)?,
-        };
-        Ok(Sums {
-            known,
-            begun: now(rt),
-            kept: SumTable::new(alloc),
-        })
-    }
-}
-
-/// Reads a folder.
-fn read(
+/// Reads a folder on all processors, and keeps the sums of its files.
+fn read<T: Threads + Sync>(
     rt: &HostRuntime,
+    threads: &T,
+    disks: &SystemDisks<'_, '_, '_, '_>,
     root: &Root<'_>,
-    wishes: TrackWishes<'_>,
-    known: &SumTable,
-    begun: FileTime,
-    kept: SumTable,
-) -> Result<(ReadFolder, SumTable), ProgramFault> {
+    sums: &mut Sums,
+) -> Result<ReadFolder, AllocError> {
     let alloc = rt.alloc();
-    let device = root.device.copy_of();
-    let mut progress = Progress::new(rt);
-    let mut disk = QuickDisk::new(rt, known, begun, kept);
-    let given = read_tracked(
+    let progress = Progress::new(rt);
+    let mut others = many_disks(rt, disks, sums, disk_count(threads))?;
+    let given = read_tracked_in_threads(
+        threads,
         alloc,
-        &mut QuickDisk::new(rt, known, begun, SumTable::new(alloc)),
-        &mut disk,
-        &device,
+        &mut disks.disk(Sums::none(alloc)),
+        &mut disks.disk(Sums::none(alloc)),
+        &mut others,
+        &root.device,
         root.folder,
-        wishes.ignored,
-        &mut progress,
+        disks.passed_over(root.folder),
+        &progress,
     );
     progress.end();
-    let given = match given {
-        Ok(TrackedListing { listing, patterns }) => Ok(TrackedListing {
-            listing: without_journal(rt, root, wishes.journal, listing)?,
-            patterns,
-        }),
-        Err(fault) => Err(fault),
-    };
-    Ok((ReadFolder { device, given }, disk.into_sums()))
+    for disk in others {
+        sums.take_in(&disks.sums_of(disk))?;
+    }
+    let device = root.device.copy_of();
+    Ok(ReadFolder { device, given })
 }
 
-/// Reads the folders, one after another. Files that haven't changed since an earlier run aren't read.
-fn read_all(
+/// Reads the folders, one after another, without what is passed over there. Files that haven't changed since an earlier run
+/// aren't read.
+fn read_without<T: Threads + Sync>(
     rt: &HostRuntime,
+    threads: &T,
     roots: &[Root<'_>],
     wishes: TrackWishes<'_>,
+    passed_over: &[PassedOver<'_, '_>],
 ) -> Result<Vec<ReadFolder>, ProgramFault> {
+    let disks = SystemDisks {
+        files: rt,
+        passed_over,
+    };
     let mut folders = Vec::new(rt.alloc());
-    let Sums {
-        known,
-        begun,
-        mut kept,
-    } = Sums::read(rt, wishes)?;
+    let mut sums = known_sums(rt, wishes)?;
     for root in roots {
-        let (folder, more) = read(rt, root, wishes, &known, begun, kept)?;
-        kept = more;
+        let folder = read(rt, threads, &disks, root, &mut sums)?;
         if folders.push(folder).is_err() {
             return Err(ProgramFault::OutOfMemory);
         }
     }
-    write_sums(rt, wishes.journal, &kept)?;
+    write_sums(rt, wishes.journal, &sums.kept)?;
     Ok(folders)
+}
+
+/// Reads the folders.
+fn read_all<T: Threads + Sync>(
+    rt: &HostRuntime,
+    threads: &T,
+    roots: &[Root<'_>],
+    wishes: TrackWishes<'_>,
+) -> Result<Vec<ReadFolder>, ProgramFault> {
+    let patterns = root_patterns(rt, roots, Some(wishes.journal), wishes.ignored)?;
+    let all = patterns.as_slice();
+    let slices = slices_of(rt, all)?;
+    let passed = passed_over(rt, all, slices.as_slice())?;
+    read_without(rt, threads, roots, wishes, passed.as_slice())
 }
 
 /// Prints one line on standard error, and returns the status of a fault.
@@ -229,8 +184,9 @@ fn report(rt: &HostRuntime, text: &str) -> Result<ExitCode, ProgramFault> {
 }
 
 /// Reads the folders, reports what was noticed in them to the store of the journal, and prints what is obsolete or in conflict.
-pub fn track(
+pub fn track<T: Threads + Sync>(
     rt: &HostRuntime,
+    threads: &T,
     roots: &[Root<'_>],
     wishes: TrackWishes<'_>,
 ) -> Result<ExitCode, ProgramFault> {
@@ -241,7 +197,7 @@ pub fn track(
         Err(NoStore::Fault(fault)) => return Err(fault),
     };
     let mut group = Group::of(store)?;
-    let folders = read_all(rt, roots, wishes)?;
+    let folders = read_all(rt, threads, roots, wishes)?;
     let Ok(asker) = DeviceName::new(ASKER) else {
         return Err(ProgramFault::OutOfMemory);
     };

@@ -8,7 +8,9 @@ use clap::{Arg, ArgAction, ArgMatches, Command};
 use pana_commands::StatusForm;
 use pana_daemon::{RootFault, roots_of};
 use std::alloc::{AllocError, Global};
+use std::marker::Sync;
 use std::process::ExitCode;
+use std::thread::Threads;
 
 /// The name of the command.
 pub const TRACK: &str = "track";
@@ -102,7 +104,11 @@ fn form_of(words: &ArgMatches) -> StatusForm {
 }
 
 /// Tracks the folders that the words name, or refuses the words.
-fn obey(rt: &HostRuntime, words: &ArgMatches) -> Result<ExitCode, ProgramFault> {
+fn obey<T: Threads + Sync>(
+    rt: &HostRuntime,
+    threads: &T,
+    words: &ArgMatches,
+) -> Result<ExitCode, ProgramFault> {
     let alloc = rt.alloc();
     let roots = match roots_of(alloc, words.get_strs(ROOT).unwrap_or(&[])) {
         Ok(roots) => roots,
@@ -122,13 +128,13 @@ fn obey(rt: &HostRuntime, words: &ArgMatches) -> Result<ExitCode, ProgramFault> 
     };
     match fault_of_roots(rt, roots.as_slice())? {
         Some(reason) => refuse(rt, ErrorKind::InvalidValue, reason.as_str()),
-        None => track(rt, roots.as_slice(), wishes),
+        None => track(rt, threads, roots.as_slice(), wishes),
     }
 }
 
 /// Does what the words of `track` ask for. A fault is printed, and the status for it is 3.
-pub fn run(rt: &HostRuntime, words: &ArgMatches) -> ExitCode {
-    match obey(rt, words) {
+pub fn run<T: Threads + Sync>(rt: &HostRuntime, threads: &T, words: &ArgMatches) -> ExitCode {
+    match obey(rt, threads, words) {
         Ok(status) => status,
         Err(fault) => {
             let _ = eprintln!(rt; "panad: {fault}");

@@ -1,10 +1,9 @@
 //! What no clause says of connections: that each is taken, and answered where memory is there.
 
 use pana_daemon::{
-    CountedListener, DaemonFault, Folder, IdleSupervisor, Patience, Post, SocketDoor, attend,
+    CountedListener, DaemonFault, Folder, IdleSupervisor, Look, Patience, Post, SocketDoor, attend,
 };
 use pana_hall::Hall;
-use pana_scan::{Listing, ScanFault};
 use pana_tickets::Tickets;
 use std::alloc::{AllocError, Global};
 use std::io;
@@ -27,7 +26,7 @@ const REQUEST: &str = "POST / HTTP/1.1\r\n\r\n{\"by\":\"a\",\"do\":\"families\"}
 struct NoFolder;
 
 impl Folder for NoFolder {
-    fn next(&mut self) -> Option<Result<Listing, ScanFault>> {
+    fn next(&mut self) -> Option<Look> {
         None
     }
 }

@@ -1,7 +1,7 @@
-//! What no clause says of a scanner: that reports are made where memory is there, and what it counts.
+//! What no clause says of a scanner: that reports are made where memory is there.
 
 use pana_copies::{CopyPath, DeviceName};
-use pana_daemon::{DeskSession, Folder, IdleSupervisor, ScanTally, Shared, scanner};
+use pana_daemon::{DeskSession, Folder, IdleSupervisor, Look, Shared, scanner};
 use pana_hall::{Call, Hall, Query, Reply};
 use pana_journal::Report;
 use pana_scan::{Found, Listing, ScanFault};
@@ -40,19 +40,21 @@ fn listing(alloc: Global, has_file: bool) -> Result<Listing, AllocError> {
 }
 
 impl Folder for Fading {
-    fn next(&mut self) -> Option<Result<Listing, ScanFault>> {
+    fn next(&mut self) -> Option<Look> {
         self.scans = self.scans.saturating_add(1);
         match self.scans {
-            1 => Some(listing(self.alloc, true).map_err(|_| ScanFault::OutOfMemory)),
-            2 => Some(Err(ScanFault::Folder)),
-            3 => Some(listing(self.alloc, false).map_err(|_| ScanFault::OutOfMemory)),
+            1 => Some(Look::Scanned(listing(self.alloc, true).map_err(|_| ScanFault::OutOfMemory))),
+            2 => Some(Look::Scanned(Err(ScanFault::Folder))),
+            3 => Some(Look::Scanned(listing(self.alloc, false).map_err(
+                |_| ScanFault::OutOfMemory,
+            ))),
             _ => None,
         }
     }
 }
 
 #[test]
-fn scanner_tally(rt: HostRuntime) -> Result<(), Fail> {
+fn scanner_plans(rt: HostRuntime) -> Result<(), Fail> {
     let alloc = rt.alloc();
     let (desk, mut passes) = Desk::open(alloc, 1, Shared::new(Hall::new(alloc)?))?;
     let Some(pass) = passes.pop() else {
@@ -61,14 +63,7 @@ fn scanner_tally(rt: HostRuntime) -> Result<(), Fail> {
     let usb = DeviceName::new("usb")?;
     let mut folder = Fading { alloc, scans: 0 };
     let mut session = DeskSession::new(&rt, &desk, &IdleSupervisor, 0, pass);
-    let tally = scanner(&rt, alloc, &mut session, &usb, &mut folder);
-    let wanted = ScanTally {
-        scans: 3,
-        reports: 2,
-        refused: 0,
-        faults: 1,
-    };
-    assert_eq!(rt; tally, wanted);
+    scanner(&rt, alloc, &mut session, &usb, &mut folder);
     let answer = session.call(&usb, Call::Query(Query::JournalFrom { entry: 1 }))?;
     let Answer::Given(Reply::Journal(entries)) = answer else {
         assert!(rt; false);

@@ -1,8 +1,7 @@
 //! What no clause says: that sessions are served where memory is there, and at the same time.
 
-use pana_daemon::{Connection, DaemonFault, Door, Folder, Post, Supervisor, attend};
+use pana_daemon::{Connection, DaemonFault, Door, Folder, Look, Post, Supervisor, attend};
 use pana_hall::Hall;
-use pana_scan::{Listing, ScanFault};
 use std::alloc::{AllocError, Global};
 use std::marker::Sync;
 use std::sync::Wait;
@@ -110,7 +109,7 @@ impl<'a> Door for Prepared<'a> {
 struct NoFolder;
 
 impl Folder for NoFolder {
-    fn next(&mut self) -> Option<Result<Listing, ScanFault>> {
+    fn next(&mut self) -> Option<Look> {
         None
     }
 }

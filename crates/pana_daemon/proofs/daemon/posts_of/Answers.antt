@@ -34,8 +34,8 @@ loop-root-preserved g c =
       omega (arith, long, so.0),
       more.0 ∙ so.1,
       more.1 ∙ ap (λ (folder : FolderView g.row.K.Denot). folders_in c.loop-root.posts.items ++ (root.device, folder) ∷ []) c.new-in-loop-root.ensures
-          ∙ ap (λ (folders : List (List ℕ × FolderView g.row.K.Denot)). folders ++ (root.device, new_folder ticks start (folder_at c.args.disks.now root)) ∷ []) so.2
-          ∙ sym (folders_more c.args.disks.now ticks start c.args.roots.now c.loop-root.root-index root c.loop-root-test.true c.root-item.is),
+          ∙ ap (λ (folders : List (List ℕ × FolderView g.row.K.Denot)). folders ++ (root.device, new_folder c.args.looks ticks start (folder_at c.args.disks.now root)) ∷ []) so.2
+          ∙ sym (folders_more c.args.disks.now c.args.looks ticks start c.args.roots.now c.loop-root.root-index root c.loop-root-test.true c.root-item.is),
       omega (arith, c.push_reserved-in-loop-root.ensures.capacity, so.3),
       c.watcher.ensures.same ∙ so.4,
     )

@@ -20,6 +20,6 @@ abbrev pub invariant-loop-root : goal.invariant-loop-root
 invariant-loop-root g l =
     (length l.posts.items ≡ 16 + l.root-index)
     × (doors_in l.posts.items ≡ replicate 16 (new_door l.fn.tickets))
-    × (folders_in l.posts.items ≡ new_folders l.fn.signals.ticks l.fn.signals.start.all.id (folders_of l.fn.disks (take l.root-index l.fn.roots)))
+    × (folders_in l.posts.items ≡ new_folders l.fn.looks l.fn.signals.ticks l.fn.signals.start.all.id (folders_of l.fn.disks (take l.root-index l.fn.roots)))
     × (16 + length l.fn.roots ≤ vec_capacity l.posts)
     × (l.counter ≡ l.fn.counter)

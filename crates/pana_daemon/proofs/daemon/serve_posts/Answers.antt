@@ -22,7 +22,7 @@ settle-is_closed-requires-clause-count g c =
 pub settle-is_closed-requires-clause-folders : goal.settle-is_closed-requires-clause-folders
 settle-is_closed-requires-clause-folders g c =
     subst (λ (of : ℕ). HaveAsked c.args.signals.now.ticks of (folders_in c.in_ok-ended.ended.posts.items)) (sym c.decide-verdict.ensures)
-    (all_asked _ _ _ _ _ g.K.Disks.gives _ _ _ _ _ c.args.signals.now.ticks c.args.signals.now.start.all.id _ _ _ _ _ _ c.in_ok-ended.ensures.ends c.requires.scanners)
+    (all_asked _ _ _ _ _ g.K.Disks.gives g.K.Disks.passes _ _ _ _ _ c.args.signals.now.ticks c.args.signals.now.start.all.id _ _ _ _ _ _ c.in_ok-ended.ensures.ends c.requires.scanners)
 
 pub returns : goal.returns
 returns g c =

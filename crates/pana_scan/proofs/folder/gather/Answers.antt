@@ -1,4 +1,4 @@
-use Rattle.std.proofs.Common.{◌≡◌, Err, refl, sym, ◌∙◌, subst, rules}
+use Rattle.std.proofs.Common.{◌≡◌, Err, arith, refl, sym, ◌∙◌, subst, rules}
 use Rattle.std.specs.Prelude.{Result}
 use Rattle.pana_scan.specs.declared.folder.Gathered.{Gathered}
 use Rattle.pana_scan.specs.declared.scan_fault.ScanFault.{ScanFault}
@@ -12,10 +12,10 @@ returns-in_err-read_folder-clause-known g c known =
     let fault = c.in_err-read_folder.field-0.0 in
     let is : c.from_residual-in_err-read_folder.result ≡ Err fault = search rules in
     let old : Gathered = record { folders = c.pop.new.self; files = c.loop-folder.gathered.files; skipped = c.loop-folder.gathered.skipped } in
-    subst (λ (r : Result Gathered ScanFault). IsGathered (g.D.Disk.tree c.args.disk.now) c.args.root.now r) (sym is)
-    (walk_fails (g.D.Disk.tree c.args.disk.now) c.args.root.now c.loop-folder.gathered.folders.items c.pop.new.self.items c.in-Some.folder c.loop-folder.gathered.files.items c.loop-folder.gathered.skipped
+    subst (λ (r : Result Gathered ScanFault). IsGathered c.args.most (g.D.Disk.tree c.args.disk.now) c.args.root.now r) (sym is)
+    (walk_fails c.args.most (g.D.Disk.tree c.args.disk.now) c.args.root.now c.loop-folder.gathered.folders.items c.pop.new.self.items c.in-Some.folder c.loop-folder.gathered.files.items c.loop-folder.gathered.skipped
     (g.D.Disk.entries c.loop-folder.disk) old fault (g.D.Disk.entries c.read_folder.new.disk) c.read_folder.new.gathered (c.loop-folder.invariant.known known) c.in-Some.ensures.items
-    (subst (λ (t : Tree). IsFolderRead {T = Unit {0}} t c.args.root.now c.in-Some.folder (g.D.Disk.entries c.loop-folder.disk) old (Err fault) (g.D.Disk.entries c.read_folder.new.disk) c.read_folder.new.gathered)
+    (subst (λ (t : Tree). IsFolderRead {T = Unit {0}} c.args.most t c.args.root.now c.in-Some.folder (g.D.Disk.entries c.loop-folder.disk) old (Err fault) (g.D.Disk.entries c.read_folder.new.disk) c.read_folder.new.gathered)
     (c.loop-folder.invariant.tree known) (c.in_err-read_folder.ensures.known known)))
 
 pub loop-folder-preserved-in_ok-read_folder : goal.loop-folder-preserved-in_ok-read_folder
@@ -28,7 +28,7 @@ loop-folder-preserved-in_ok-read_folder g c = record {
       (λ (t : Tree). IsListedTo t c.args.root.now c.in-Some.folder (g.D.Disk.entries c.loop-folder.disk)
       (record { folders = c.pop.new.self; files = c.loop-folder.gathered.files; skipped = c.loop-folder.gathered.skipped }) (g.D.Disk.entries c.read_folder.new.disk) c.read_folder.new.gathered)
       (c.loop-folder.invariant.tree known) (c.in_ok-read_folder.ensures.known known))
-      c.in_ok-read_folder.ensures.entries;
+      (omega (arith, c.in_ok-read_folder.ensures.entries, c.requires.few));
   tree = λ known. c.in_ok-read_folder.ensures.tree known ∙ c.loop-folder.invariant.tree known;
   failed = c.in_ok-read_folder.ensures.failed;
   entries = c.in_ok-read_folder.ensures.entries;
@@ -45,7 +45,7 @@ loop-folder-preserved g c = record {
       (λ (t : Tree). IsListedTo t c.args.root.now c.in-Some.folder (g.D.Disk.entries c.loop-folder.disk)
       (record { folders = c.pop.new.self; files = c.loop-folder.gathered.files; skipped = c.loop-folder.gathered.skipped }) (g.D.Disk.entries c.read_folder.new.disk) c.read_folder.new.gathered)
       (c.loop-folder.invariant.tree known) (c.in_ok-read_folder.ensures.known known))
-      c.in_ok-read_folder.ensures.entries;
+      (omega (arith, c.in_ok-read_folder.ensures.entries, c.requires.few));
   tree = λ known. c.in_ok-read_folder.ensures.tree known ∙ c.loop-folder.invariant.tree known;
   failed = c.in_ok-read_folder.ensures.failed;
   entries = c.in_ok-read_folder.ensures.entries;

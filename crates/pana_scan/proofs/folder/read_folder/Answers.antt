@@ -31,7 +31,7 @@ loop-whole-preserved-in_ok-meet g c = record {
       let folder : option_copied c.as_ref-in-Some-2.result ≡ c.args.folder.now.path = c.as_ref-in-Some-2.ensures.value in
       let levels : c.in-Some.levels ≡ c.args.folder.now.levels - 1 = search rules in
       listing_more c.args.folder.now.path (c.args.folder.now.levels - 1) _ _ _ _ c.args.gathered.now _ _ c.loop-whole.gathered c.meet.new.self c.in-Some-2.entry (c.loop-whole.invariant.known known) gives
-      (one_given (g.D.Disk.entries c.loop-whole.disk) (g.D.Disk.entries c.next.new.self) c.in_ok-entry.field-0 c.in-Some-2.entry c.in_ok-entry.ensures.entries c.in-Some-2.is c.loop-whole.invariant.entries)
+      (one_given (g.D.Disk.entries c.loop-whole.disk) (g.D.Disk.entries c.next.new.self) c.in_ok-entry.field-0 c.in-Some-2.entry c.in_ok-entry.ensures.entries c.in-Some-2.is (omega (arith, c.loop-whole.invariant.entries, c.requires.few)))
       (λ seen keeps.
       keeps_more c.args.folder.now.path (c.args.folder.now.levels - 1) seen c.in-Some-2.entry c.args.gathered.now c.loop-whole.gathered c.meet.new.self keeps
       (c.in_ok-meet.ensures.folders
@@ -42,13 +42,13 @@ loop-whole-preserved-in_ok-meet g c = record {
       ∙ ap (λ (p : Option Path). if is_skipped p c.in-Some-2.entry then counted c.loop-whole.gathered.skipped 1 else c.loop-whole.gathered.skipped) folder));
   tree = λ known. c.in_ok-entry.ensures.tree known ∙ c.loop-whole.invariant.tree known;
   failed = c.in_ok-entry.ensures.failed ∙ ap (λ (b : Bool). b || false) c.loop-whole.invariant.failed;
-  entries = omega (arith, c.met.ensures, c.if-met-gt-MOST_ENTRIES.false);
+  entries = omega (arith, c.met.ensures, c.if-met-most.false);
   faults = c.in_ok-entry.ensures.faults ∙ c.loop-whole.invariant.faults;
   grows = omega (
     arith,
     c.loop-whole.invariant.grows,
     length_more c.loop-whole.gathered.folders.items c.meet.new.self.folders.items _ c.in_ok-meet.ensures.folders,
-    one_given (g.D.Disk.entries c.loop-whole.disk) (g.D.Disk.entries c.next.new.self) c.in_ok-entry.field-0 c.in-Some-2.entry c.in_ok-entry.ensures.entries c.in-Some-2.is c.loop-whole.invariant.entries,
+    one_given (g.D.Disk.entries c.loop-whole.disk) (g.D.Disk.entries c.next.new.self) c.in_ok-entry.field-0 c.in-Some-2.entry c.in_ok-entry.ensures.entries c.in-Some-2.is (omega (arith, c.loop-whole.invariant.entries, c.requires.few)),
   );
 }
 
@@ -59,7 +59,7 @@ loop-whole-preserved g c = record {
       let folder : option_copied c.as_ref-in-Some-2.result ≡ c.args.folder.now.path = c.as_ref-in-Some-2.ensures.value in
       let levels : c.in-Some.levels ≡ c.args.folder.now.levels - 1 = search rules in
       listing_more c.args.folder.now.path (c.args.folder.now.levels - 1) _ _ _ _ c.args.gathered.now _ _ c.loop-whole.gathered c.meet.new.self c.in-Some-2.entry (c.loop-whole.invariant.known known) gives
-      (one_given (g.D.Disk.entries c.loop-whole.disk) (g.D.Disk.entries c.next.new.self) c.in_ok-entry.field-0 c.in-Some-2.entry c.in_ok-entry.ensures.entries c.in-Some-2.is c.loop-whole.invariant.entries)
+      (one_given (g.D.Disk.entries c.loop-whole.disk) (g.D.Disk.entries c.next.new.self) c.in_ok-entry.field-0 c.in-Some-2.entry c.in_ok-entry.ensures.entries c.in-Some-2.is (omega (arith, c.loop-whole.invariant.entries, c.requires.few)))
       (λ seen keeps.
       keeps_more c.args.folder.now.path (c.args.folder.now.levels - 1) seen c.in-Some-2.entry c.args.gathered.now c.loop-whole.gathered c.meet.new.self keeps
       (c.in_ok-meet.ensures.folders
@@ -70,12 +70,12 @@ loop-whole-preserved g c = record {
       ∙ ap (λ (p : Option Path). if is_skipped p c.in-Some-2.entry then counted c.loop-whole.gathered.skipped 1 else c.loop-whole.gathered.skipped) folder));
   tree = λ known. c.in_ok-entry.ensures.tree known ∙ c.loop-whole.invariant.tree known;
   failed = c.in_ok-entry.ensures.failed ∙ ap (λ (b : Bool). b || false) c.loop-whole.invariant.failed;
-  entries = omega (arith, c.met.ensures, c.if-met-gt-MOST_ENTRIES.false);
+  entries = omega (arith, c.met.ensures, c.if-met-most.false);
   faults = c.in_ok-entry.ensures.faults ∙ c.loop-whole.invariant.faults;
   grows = omega (
     arith,
     c.loop-whole.invariant.grows,
     length_more c.loop-whole.gathered.folders.items c.meet.new.self.folders.items _ c.in_ok-meet.ensures.folders,
-    one_given (g.D.Disk.entries c.loop-whole.disk) (g.D.Disk.entries c.next.new.self) c.in_ok-entry.field-0 c.in-Some-2.entry c.in_ok-entry.ensures.entries c.in-Some-2.is c.loop-whole.invariant.entries,
+    one_given (g.D.Disk.entries c.loop-whole.disk) (g.D.Disk.entries c.next.new.self) c.in_ok-entry.field-0 c.in-Some-2.entry c.in_ok-entry.ensures.entries c.in-Some-2.is (omega (arith, c.loop-whole.invariant.entries, c.requires.few)),
   );
 }

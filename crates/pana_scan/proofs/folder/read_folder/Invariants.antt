@@ -11,10 +11,10 @@ invariant-loop-whole g l = record {
       (g.D.Disk.entries l.fn.disk) l.fn.gathered (g.D.Disk.entries l.disk) l.gathered;
   tree : IsTrue g.D.Disk.is_known → g.D.Disk.tree l.disk ≡ g.D.Disk.tree l.fn.disk;
   failed : g.D.Disk.has_failed l.disk ≡ false;
-  entries : g.D.Disk.entries l.disk ≤ 100000;
+  entries : g.D.Disk.entries l.disk ≤ l.fn.most;
   faults : g.D.Disk.faults l.disk ≡ g.D.Disk.faults l.fn.disk;
   grows : length l.gathered.folders.items + g.D.Disk.entries l.fn.disk ≤ length l.fn.gathered.folders.items + g.D.Disk.entries l.disk;
 }
 
 abbrev pub decreases-loop-whole : goal.decreases-loop-whole
-decreases-loop-whole g l = 100001 - g.D.Disk.entries l.disk
+decreases-loop-whole g l = (l.fn.most + 1) - g.D.Disk.entries l.disk

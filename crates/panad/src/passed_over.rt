@@ -1,0 +1,147 @@
+//! What is passed over in folders that are tracked, beside what their own files list.
+
+use crate::printing::complain;
+use crate::sums_file::sums_names;
+use pana_daemon::{PassedOver, Root};
+use std::alloc::AllocError;
+use std::fs;
+
+/// Whether the first path is the second, or lies within it. Both are whole, as `canonicalize` returns them.
+pub fn is_within(path: &str, folder: &str) -> bool {
+    match path.strip_prefix(folder) {
+        Some(rest) => rest.is_empty() || rest.starts_with('/') || folder.ends_with('/'),
+        None => false,
+    }
+}
+
+/// The whole path of a file, which needn't be there, where its folder is.
+fn whole_path(rt: &HostRuntime, file: &str) -> Result<Option<String>, AllocError> {
+    let alloc = rt.alloc();
+    if let Ok(whole) = fs::canonicalize(rt, file) {
+        return Ok(Some(String::from_str(alloc, whole.as_str())?));
+    }
+    let (folder, name) = match file.rsplit_once('/') {
+        Some(("", name)) => ("/", name),
+        Some(parts) => parts,
+        None => (".", file),
+    };
+    let Ok(folder) = fs::canonicalize(rt, folder) else {
+        return Ok(None);
+    };
+    Ok(Some(format!(in alloc; "{}/{name}", folder.as_str().trim_end_matches('/'))?))
+}
+
+/// The path of the journal's file below a folder, where it lies there.
+fn journal_below(
+    rt: &HostRuntime,
+    journal: &str,
+    folder: &str,
+) -> Result<Option<String>, AllocError> {
+    let (Some(journal), Ok(folder)) = (whole_path(rt, journal)?, fs::canonicalize(rt, folder))
+    else {
+        return Ok(None);
+    };
+    match journal.as_str().strip_prefix(folder.as_str()) {
+        Some(rest) if is_within(journal.as_str(), folder.as_str()) => Ok(Some(String::from_str(
+            rt.alloc(),
+            rest.trim_start_matches('/'),
+        )?)),
+        _ => Ok(None),
+    }
+}
+
+/// The pattern that this path below a folder alone matches.
+fn pattern_of(rt: &HostRuntime, path: &str) -> Result<String, AllocError> {
+    let mut pattern = String::from_str(rt.alloc(), "/")?;
+    for character in path.chars() {
+        if character != '/' {
+            pattern.push('\\')?;
+        }
+        pattern.push(character)?;
+    }
+    Ok(pattern)
+}
+
+/// The patterns of a root that the journal and the files beside it match, where they lie in its folder. That they are passed
+/// over is printed.
+fn journal_patterns(
+    rt: &HostRuntime,
+    root: &Root<'_>,
+    journal: &str,
+) -> Result<Vec<String>, AllocError> {
+    let alloc = rt.alloc();
+    let mut patterns = Vec::new(alloc);
+    let Some(path) = journal_below(rt, journal, root.folder)? else {
+        return Ok(patterns);
+    };
+    patterns.push(pattern_of(rt, path.as_str())?)?;
+    for name in sums_names(rt, path.as_str())? {
+        patterns.push(pattern_of(rt, name.as_str())?)?;
+    }
+    let device = root.device.as_str();
+    let text = format!(in alloc; "panad: {device}: the journal is passed over\n")?;
+    let _ = complain(rt, &text);
+    Ok(patterns)
+}
+
+/// A root's folder, and the patterns of what is passed over there.
+#[derive(Drop)]
+pub struct RootPatterns {
+    folder: String,
+    texts: Vec<String>,
+}
+
+/// For each root these patterns, and behind them those that the journal and the files beside it match.
+pub fn root_patterns(
+    rt: &HostRuntime,
+    roots: &[Root<'_>],
+    journal: Option<&str>,
+    ignored: &[&str],
+) -> Result<Vec<RootPatterns>, AllocError> {
+    let alloc = rt.alloc();
+    let mut all = Vec::new(alloc);
+    for root in roots {
+        let mut texts = Vec::new(alloc);
+        for text in ignored {
+            texts.push(String::from_str(alloc, text)?)?;
+        }
+        if let Some(journal) = journal {
+            texts.append(&mut journal_patterns(rt, root, journal)?)?;
+        }
+        let folder = String::from_str(alloc, root.folder)?;
+        all.push(RootPatterns { folder, texts })?;
+    }
+    Ok(all)
+}
+
+/// The patterns of each root, as slices.
+pub fn slices_of<'a>(
+    rt: &HostRuntime,
+    all: &'a [RootPatterns],
+) -> Result<Vec<Vec<&'a str>>, AllocError> {
+    let mut slices = Vec::new(rt.alloc());
+    for root in all {
+        let mut patterns = Vec::new(rt.alloc());
+        for text in &root.texts {
+            patterns.push(text.as_str())?;
+        }
+        slices.push(patterns)?;
+    }
+    Ok(slices)
+}
+
+/// What is passed over in the folder of each root.
+pub fn passed_over<'a, 'b>(
+    rt: &HostRuntime,
+    all: &'b [RootPatterns],
+    slices: &'a [Vec<&'b str>],
+) -> Result<Vec<PassedOver<'a, 'b>>, AllocError> {
+    let mut passed = Vec::new(rt.alloc());
+    for (root, patterns) in all.iter().zip(slices) {
+        passed.push(PassedOver {
+            folder: root.folder.as_str(),
+            patterns: patterns.as_slice(),
+        })?;
+    }
+    Ok(passed)
+}
