@@ -7,3 +7,5 @@ mod disks;
 mod notices;
 #[cfg(test)]
 mod scan;
+#[cfg(test)]
+mod threads;

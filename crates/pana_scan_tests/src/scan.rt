@@ -6,14 +6,12 @@ use pana_hall::{Call, Hall, HoldingList, Query, Reply};
 use pana_journal::Report;
 use pana_scan::{
     Baseline, Disk, Found, Kind, Listing, Mark, MemoryDisk, Plan, ScanFault, Step, SystemDisk,
-    Unwatched, Watch, fingerprint, plan, read_root, read_root_in_threads,
+    Unwatched, Watch, fingerprint, plan, read_root,
 };
 use std::alloc::{AllocError, Global};
 use std::fs;
-use std::marker::Sync;
 use std::sync::atomic::{AtomicU64, Ordering};
 use std::test::Fail;
-use std::thread::Threads;
 
 /// SHA-256 of `abc`, from the standard.
 const ABC: [u8; 32] = [
@@ -293,13 +291,13 @@ fn new_folder(rt: &HostRuntime, name: &str) -> Result<String, Fail> {
 
 /// Counts what it learns of a scan, in any thread.
 #[derive(Drop)]
-struct Tally {
+pub(crate) struct Tally {
     files: AtomicU64,
     bytes: AtomicU64,
 }
 
 impl Tally {
-    fn new() -> Tally {
+    pub(crate) fn new() -> Tally {
         Tally {
             files: AtomicU64::new(0),
             bytes: AtomicU64::new(0),
@@ -307,7 +305,7 @@ impl Tally {
     }
 
     /// How many files and bytes it has counted.
-    fn counts(&self) -> (u64, u64) {
+    pub(crate) fn counts(&self) -> (u64, u64) {
         (
             self.files.load(Ordering::SeqCst),
             self.bytes.load(Ordering::SeqCst),
@@ -326,7 +324,7 @@ impl Watch for Tally {
 }
 
 /// What a scan of the folder finds by one disk.
-fn read_by_one(
+pub(crate) fn read_by_one(
     rt: &HostRuntime,
     device: &DeviceName,
     root: &str,
@@ -335,35 +333,8 @@ fn read_by_one(
     read_root(rt.alloc(), &mut SystemDisk::new(rt), device, root, tally)
 }
 
-/// What a scan of the folder finds where one disk more than so many others look at its files.
-fn read_by_many<T: Threads + Sync>(
-    rt: &HostRuntime,
-    threads: &T,
-    device: &DeviceName,
-    root: &str,
-    others: usize,
-    tally: &Tally,
-) -> Result<Listing, ScanFault> {
-    let alloc = rt.alloc();
-    let mut disks = Vec::new(alloc);
-    for _ in 0..others {
-        disks.push(SystemDisk::new(rt))?;
-    }
-    disks.push(SystemDisk::new(rt))?;
-    read_root_in_threads(
-        threads,
-        alloc,
-        &mut SystemDisk::new(rt),
-        &mut disks,
-        device,
-        root,
-        100_000,
-        tally,
-    )
-}
-
 /// A folder of this test's own with these files, each with the text `abc`.
-fn folder_with(rt: &HostRuntime, name: &str, files: &[&str]) -> Result<String, Fail> {
+pub(crate) fn folder_with(rt: &HostRuntime, name: &str, files: &[&str]) -> Result<String, Fail> {
     let root = new_folder(rt, name)?;
     fs::create_dir(rt, format!(in rt.alloc(); "{root}/a")?)?;
     for name in files {
@@ -389,23 +360,5 @@ fn folder_is_read_in_byte_order_of_whole_paths(rt: HostRuntime) -> Result<(), Fa
             &[(".a", seen), ("a-b", seen), ("a/b", seen), ("ab", seen)]
         )
     );
-    Ok(())
-}
-
-#[test]
-fn many_disks_find_what_one_finds(rt: HostRuntime) -> Result<(), Fail> {
-    let names = ["a/b", "a-b", "ab", ".a", "c", "a/d", "e"];
-    let root = folder_with(&rt, "many", &names)?;
-    let device = DeviceName::new("usb")?;
-    let tally = Tally::new();
-    let one = read_by_one(&rt, &device, root.as_str(), &Tally::new());
-    let many = read_by_many(&rt, &rt, &device, root.as_str(), 4, &tally);
-    let few = read_by_many(&rt, &rt, &device, root.as_str(), 0, &Tally::new());
-    fs::remove_dir_all(&rt, root.as_str())?;
-    let (one, many, few) = (one?, many?, few?);
-    assert_eq!(rt; tally.counts(), (7, 21));
-    assert_eq!(rt; many.rows().len(), 7);
-    assert!(rt; many.rows() == one.rows());
-    assert!(rt; few.rows() == one.rows());
     Ok(())
 }
