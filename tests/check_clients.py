@@ -18,7 +18,8 @@ import tempfile
 import threading
 from pathlib import Path
 
-from daemon import SECONDS, Broken, Daemon, line_of, pages
+from daemon import SECONDS, Daemon, line_of, pages
+from harness import Broken
 
 CLIENTS = 16
 CALLS = 200

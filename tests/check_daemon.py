@@ -12,7 +12,8 @@ import subprocess
 import sys
 import time
 
-from daemon import SECONDS, WAIT, Daemon, differs, line_of, run_checks, times_of, until
+from daemon import SECONDS, WAIT, Daemon, line_of, times_of, until
+from harness import differs, run_checks
 
 SESSIONS = 16
 WINDOWS = 25

@@ -18,7 +18,8 @@ import sys
 import time
 from pathlib import Path
 
-from daemon import LISTENING, SECONDS, Broken, Client, Daemon, differs, line_of, run_checks, times_of, until
+from daemon import LISTENING, SECONDS, Client, Daemon, line_of, times_of, until
+from harness import differs, run_checks
 
 HERE = Path(__file__).resolve().parent
 SESSIONS = 16

@@ -16,7 +16,8 @@ import subprocess
 import sys
 from pathlib import Path
 
-from journals import BOARD, EDIT, SECONDS, Session, answers, asked, differs, entries, line, made, pages, ran, reported, run_checks
+from journals import BOARD, EDIT, SECONDS, Session, asked, entries, line, made, pages, ran, reported
+from harness import differs, run_checks
 
 DISKS = 20
 HERE = Path(__file__).resolve().parent
@@ -180,7 +181,4 @@ CHECKS = (full_disk, failed_syncs, failed_syncs_of_groups, forgetful_disk, faile
 
 
 if __name__ == "__main__":
-    if len(sys.argv) != 2:
-        print(__doc__, file=sys.stderr)
-        sys.exit(2)
-    sys.exit(run_checks(CHECKS, str(Path(sys.argv[1]).resolve())))
+    sys.exit(run_checks(__doc__, CHECKS, sys.argv[1:]))

@@ -20,12 +20,13 @@ from dataclasses import dataclass
 from pathlib import Path
 
 import scenario
-from journals import BOARD, EDIT, REGISTER, Session, answers, differs, each_command, entries, line, made, pages, ran, reported, run_checks
+from journals import BOARD, EDIT, REGISTER, Session, answers, each_command, entries, line, made, pages, ran, reported
+from harness import differs, run_with
 
 NOBODY = 65534
 MOST_LINES = 3000
-# How many entries may be kept together, of which no answer was read.
-MOST_WAITING = 1000
+# How many entries may be kept of which no answer was read: those of the lines that came by one read, of 65,536 bytes.
+MOST_WAITING = 2000
 JOURNALS = 4
 
 
@@ -76,9 +77,9 @@ def load_until_killed(program, file, first, seconds):
         with contextlib.suppress(BrokenPipeError):
             started.stdin.close()
         reader.join()
-    wanted = [b'{"done":%d}\n' % number for number in range(first, first + len(reader.read))]
-    if reader.read != wanted:
-        raise ValueError(f"answers in another order: {reader.read[:3]!r}")
+    for number, answer in enumerate(reader.read, first):
+        if answer != b'{"done":%d}\n' % number:
+            raise ValueError(f"entry {number} of {first} and more is answered {answer!r:.200}")
     return first + len(reader.read) - 1
 
 
@@ -362,7 +363,7 @@ def main(words):
         print(__doc__, file=sys.stderr)
         return 2
     program = str(Path(words[0]).resolve())
-    return run_checks(CHECKS, Setting(program, 20, 5, 17) if words[1:] else Setting(program, 400, 30, 1))
+    return run_with(Setting(program, 20, 5, 17) if words[1:] else Setting(program, 400, 30, 1), CHECKS)
 
 
 if __name__ == "__main__":

@@ -17,7 +17,8 @@ import threading
 import time
 from concurrent.futures import ThreadPoolExecutor
 
-from daemon import HERE, SECONDS, Broken, Daemon, differs, failing, line_of, pages, run_checks, times_of, until
+from daemon import HERE, SECONDS, Daemon, failing, line_of, pages, times_of, until
+from harness import Broken, differs, run_checks
 
 KILLS = 400
 DAEMONS = 4

@@ -13,7 +13,8 @@ import sys
 import threading
 from pathlib import Path
 
-from daemon import Broken, differs, line_of, run_checks
+from daemon import line_of
+from harness import Broken, differs, run_checks
 
 COPIES = 300_000
 MOST = 400

@@ -1,5 +1,5 @@
 #!/usr/bin/env python3
-"""Makes the package, unpacks it, and runs its program in a root that has the C library and nothing else.
+"""Makes the packages, unpacks one and installs the other, and runs its program in a root that has the C library and nothing else.
 
 usage: check_package.py
 It needs root, or a system that lets users make namespaces; where it has neither the runs fail, and are not skipped.
@@ -26,19 +26,31 @@ LIBRARIES = ("/lib64/ld-linux-x86-64.so.2", "libc.so.6")
 WHERE = ("/lib/x86_64-linux-gnu", "/lib64", "/usr/lib64", "/usr/lib")
 NEWEST_C = 34
 WANTED = {"BUILT-FROM", "CHANGELOG.md", "README.md", "docs/CASES.md", "docs/CLOCKS.md", "docs/DECISIONS.md", "docs/MAP.md", "docs/PROMISES.md", "docs/PROTOCOL.md", "docs/USE.md", "panad", "panad.1"}
+SHARED = {"completions/_panad", "completions/panad.bash", "completions/panad.fish", "panad.env", "panad.service", "panad-tunnel.service"}
+INSTALLED = {
+    "usr/bin/panad",
+    "usr/lib/systemd/user/panad.service",
+    "usr/lib/systemd/user/panad-tunnel.service",
+    "usr/share/bash-completion/completions/panad",
+    "usr/share/fish/vendor_completions.d/panad.fish",
+    "usr/share/man/man1/panad.1.gz",
+    "usr/share/zsh/vendor-completions/_panad",
+    *(f"usr/share/doc/panad/{it}" for it in WANTED - {"panad", "panad.1"}),
+    "usr/share/doc/panad/panad.env",
+}
 VERSION = re.compile(r'VERSION: &str = "(\S+) \((.*)\)";')
 # A command in the help.
 COMMAND = re.compile(r"^  (\w+) ", re.MULTILINE)
 
 
 def packed(room, name):
-    """Makes the package in a folder of the room, and returns its file."""
+    """Makes the packages in a folder of the room, and returns their files: the archive and that for Debian."""
     (room / name).mkdir()
     done = subprocess.run([TOP / "package", room / name], capture_output=True, text=True)
-    made = [*(room / name).iterdir()]
-    if done.returncode or len(made) != 1:
+    made = sorted((room / name).iterdir())
+    if done.returncode or [it.suffix for it in made] != [".gz", ".deb"]:
         raise ValueError(f"./package ended with {done.returncode}, made {made} and said: {done.stderr[-600:]}")
-    return made[0]
+    return made
 
 
 def library(name):
@@ -52,6 +64,7 @@ def library(name):
 def empty_root(room, program):
     """A folder with the program, the loader and the C library, and nothing else."""
     root = room / "root"
+    root.mkdir(parents=True)
     for it in map(library, LIBRARIES):
         to = root / it.relative_to("/")
         to.parent.mkdir(parents=True, exist_ok=True)
@@ -72,12 +85,12 @@ def in_root(root, *words, given=b""):
 def names_and_texts(unpacked, version, kit):
     """The archive has the program, its pages, and a file that says what it was built from."""
     found = {str(it.relative_to(unpacked)) for it in unpacked.glob("**/*") if it.is_file()}
-    if found != WANTED:
+    if found != WANTED | {f"share/{it}" for it in SHARED}:
         yield f"it has {sorted(found)}"
     manual = (unpacked / "panad.1").read_text()
     if f"panad {version}" not in manual or "@" in manual:
         yield "panad.1 doesn't name the version"
-    help_text = scenario.read(scenario.FOLDER / "help").runs[0].output.decode()
+    help_text = scenario.read(scenario.folder_of("help")).runs[0].output.decode()
     yield from (f"panad.1 lacks the command {it}" for it in COMMAND.findall(help_text) if it not in manual)
     said = dict(it.split(None, 1) for it in (unpacked / "BUILT-FROM").read_text().splitlines())
     sum, built_by = (TOP / ".build/stamp").read_text().splitlines()
@@ -91,9 +104,39 @@ def names_and_texts(unpacked, version, kit):
 
 
 def same_bytes(first, second):
-    """Packed a second time it is the same archive."""
-    if first.name != second.name or first.read_bytes() != second.read_bytes():
-        yield f"{first.name} and {second.name} differ"
+    """Packed a second time they are the same."""
+    for one, other in zip(first, second):
+        if one.name != other.name or one.read_bytes() != other.read_bytes():
+            yield f"{one.name} and {other.name} differ"
+
+
+def files_below(folder):
+    return {str(it.relative_to(folder)) for it in folder.glob("**/*") if it.is_file()}
+
+
+def installed(package, root):
+    """Debian's package is installed, runs, and leaves nothing where it is removed."""
+    (root / "var/lib/dpkg/updates").mkdir(parents=True)
+    for it in ("status", "available"):
+        (root / "var/lib/dpkg" / it).touch()
+    before = files_below(root)
+    # What it depends on isn't installed in this root, but there.
+    dpkg = [*([] if os.geteuid() == 0 else ["unshare", "-r"]), "dpkg", f"--root={root}", "--force-depends"]
+    run = lambda *words: subprocess.run([*dpkg, *words], capture_output=True, text=True, timeout=SECONDS)
+    done = run("--install", package)
+    found = {it for it in files_below(root) - before if not it.startswith("var/")}
+    if done.returncode or found != INSTALLED:
+        yield f"dpkg ended with {done.returncode}, said {done.stderr[-600:]!r} and left {sorted(found ^ INSTALLED)}"
+    program = root / "panad"
+    program.unlink()
+    program.hardlink_to(root / "usr/bin/panad")
+    shown = in_root(root, "--version")
+    if shown.returncode or not shown.stdout.startswith(b"panad "):
+        yield f"it ended with {shown.returncode} and {shown.stderr!r}"
+    done = run("--remove", "panad")
+    left = {it for it in files_below(root) - before if not it.startswith("var/")}
+    if done.returncode or left:
+        yield f"removed it left {sorted(left)}; dpkg ended with {done.returncode} and {done.stderr[-600:]!r}"
 
 
 def old_c_library(program):
@@ -105,8 +148,8 @@ def old_c_library(program):
 
 def runs_alone(root, version, kit):
     """In a root with the C library alone the program answers, compares, and prints its version and help."""
-    session = scenario.read(scenario.FOLDER / "three_devices").runs[0]
-    help_text = scenario.read(scenario.FOLDER / "help").runs[0].output
+    session = scenario.read(scenario.folder_of("three_devices")).runs[0]
+    help_text = scenario.read(scenario.folder_of("help")).runs[0].output
     tried = [
         (["run"], session.given, session.output),
         (["compare", "((1,0),(0,1,0))", "((0,1),0)"], b"", b"Newer\n"),
@@ -133,15 +176,17 @@ def passes(check, *given):
 def checked(room):
     """What came of each check of the package."""
     version, kit = VERSION.search((TOP / "crates/panad/src/version.rt").read_text()).groups()
-    archive = packed(room, "first")
+    first = packed(room, "first")
+    archive, debian = first
     with tarfile.open(archive) as it:
         it.extractall(room / "unpacked")
     unpacked = room / "unpacked" / f"panad-{version}-x86_64-linux"
     return [
         passes(names_and_texts, unpacked, version, kit),
-        passes(same_bytes, archive, packed(room, "second")),
+        passes(same_bytes, first, packed(room, "second")),
         passes(old_c_library, unpacked / "panad"),
-        passes(runs_alone, empty_root(room, unpacked / "panad"), version, kit),
+        passes(runs_alone, empty_root(room / "alone", unpacked / "panad"), version, kit),
+        passes(installed, debian, empty_root(room / "debian", unpacked / "panad")),
     ]
 
 

@@ -41,7 +41,7 @@ DIALECT = {
 SAID_OTHERWISE = [(re.compile(rf"\b({words})\b", re.IGNORECASE), plain) for words, plain in DIALECT.items()]
 # Where the words are looked for: texts whole, and of sources the comments.
 WORDED = ("*.md", "docs/**/*", "test", "panad", "package", ".ci/*", "tools/*", "tests/**/*.py", "tests/**/*.c")
-WORDED += ("tests/scenarios/*/about", "tests/scenarios/help*/output", "tests/scenarios/no_command/error")
+WORDED += ("tests/scenarios/*/*/about", "tests/scenarios/*/help*/output", "tests/scenarios/*/no_command/error")
 WORDED_SOURCES = ("crates/*/README.md", "crates/**/*.rt", "crates/**/*.antt", "crates/*/must-fail/*.edit")
 # How many must-fail edits a crate has at most.
 MOST_EDITS = 20
@@ -210,7 +210,7 @@ def passes(check):
 
 def untried_names():
     """Each cause and each fault in the protocol's tables is in what a scenario, the sweep or the checks of journals and disks want."""
-    wanted = [it for it in TOP.glob("tests/scenarios/*/*") if it.name.startswith(("output", "runs"))]
+    wanted = [it for it in TOP.glob("tests/scenarios/*/*/*") if it.name.startswith(("output", "runs"))]
     wanted = "".join("\n".join(lines_of(it)) for it in [*wanted, *(TOP / "tests" / it for it in ("failed_allocations/sweep.py", "check_journal.py", "check_disks.py"))])
     names = [it[1] for it in map(NAMED.match, lines_of(TOP / "docs/PROTOCOL.md")) if it]
     if not names:
@@ -264,7 +264,7 @@ def named_in_pages():
     sources = [it for kind in ("rt", "antt") for it in TOP.glob(f"crates/*/*/**/*.{kind}") if "out" not in it.parts]
     files = {end for it in sources for end in (it.name, f"{it.parent.name}/{it.name}")}
     words = {word for it in [*sources, TOP / "crates.txt"] for line in lines_of(it) for word in WORD.findall(line)}
-    words |= {it.name for it in TOP.glob("tests/scenarios/*")} | {it.name for it in TOP.glob("tests/scenarios/*/*")}
+    words |= {it.name for it in TOP.glob("tests/scenarios/*/*")} | {it.name for it in TOP.glob("tests/scenarios/*/*/*")}
     words |= {it.stem for it in sources}
     for page in sorted([*TOP.glob("*.md"), *TOP.glob("docs/*.md"), *TOP.glob("crates/*/README.md")]):
         for number, line in enumerate(lines_of(page), 1):
@@ -286,7 +286,7 @@ def pages_that_are_run():
 def man_page():
     """The man page has each option that the help prints."""
     page = (TOP / "docs/panad.1").read_text(encoding="utf-8").replace("\\-", "-")
-    for text in sorted(TOP.glob("tests/scenarios/help*/output")):
+    for text in sorted(TOP.glob("tests/scenarios/*/help*/output")):
         yield from (f"docs/panad.1 lacks {it}, of {named(text)}" for it in OPTION.findall(text.read_text(encoding="utf-8")) if it not in page)
 
 
@@ -303,7 +303,15 @@ def shown_and_run():
     yield from (f"{named(clocks)}: this example doesn't stand in the tests: {it.splitlines()[0]}" for it in shown if textwrap.indent(it, "    ") not in tests)
 
 
-CHECKS = (long_sources, crates_and_folders, crate_folders, dead_links, citations, dialect, edits, uncited_lemmas, untried_names, named_in_pages, pages_that_are_run, man_page, shown_and_run, kit_line)
+def recorded():
+    """The recording of the first five minutes is the one that tools/record.py makes of README."""
+    words = [sys.executable, "-B", str(TOP / "tools/record.py")]
+    done = subprocess.run(words, stdout=subprocess.PIPE, check=True, timeout=60)
+    if done.stdout != (TOP / "docs/five-minutes.svg").read_bytes():
+        yield "docs/five-minutes.svg is another: python3 -B tools/record.py > docs/five-minutes.svg"
+
+
+CHECKS = (long_sources, crates_and_folders, crate_folders, dead_links, citations, dialect, edits, uncited_lemmas, untried_names, named_in_pages, pages_that_are_run, man_page, shown_and_run, recorded, kit_line)
 
 
 def main():

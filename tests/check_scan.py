@@ -10,13 +10,15 @@ from __future__ import annotations
 import json
 import os
 import pty
+import re
 import shutil
 import subprocess
 import sys
-import tempfile
 import threading
 import time
 from pathlib import Path
+
+from harness import differs, run_checks
 
 SECONDS = 60
 LIMIT = 100_000
@@ -37,12 +39,6 @@ def lines_for(*paths):
     return "".join(json.dumps(it, ensure_ascii=False, separators=(",", ":")) + "\n" for it in said)
 
 
-def differs(got, *wanted):
-    """Says what a scan did that isn't wanted."""
-    if got != wanted:
-        yield f"wanted {wanted!r:.300}, got {got!r:.300}"
-
-
 def kinds(program, room):
     """A FIFO, a symbolic link to a folder above, to a file and to nothing are passed over: no loop, no report."""
     (room / "inner").mkdir()
@@ -50,7 +46,7 @@ def kinds(program, room):
     os.mkfifo(room / "fifo")
     for name, to in (("inner/up", ".."), ("file_link", "inner/a"), ("nowhere", "missing")):
         (room / name).symlink_to(to)
-    yield from differs(scanned(program, room), 0, lines_for("inner/a"), "")
+    yield from differs(scanned(program, room), (0, lines_for("inner/a"), ""))
 
 
 def names(program, room):
@@ -59,7 +55,7 @@ def names(program, room):
         file = os.path.join(os.fsencode(room), name)
         os.makedirs(os.path.dirname(file), exist_ok=True)
         Path(os.fsdecode(file)).write_text("abc")
-    yield from differs(scanned(program, room), 0, lines_for("käse", "work/plan"), "panad: 4 names skipped\n")
+    yield from differs(scanned(program, room), (0, lines_for("käse", "work/plan"), "panad: 4 names skipped\n"))
 
 
 def long_paths(program, room):
@@ -68,7 +64,7 @@ def long_paths(program, room):
     (room / folders).mkdir(parents=True)
     (room / folders / "abcd").write_text("abc")
     (room / folders / "abcde").write_text("abc")
-    yield from differs(scanned(program, room), 0, lines_for(f"{folders}/abcd"), "panad: 1 names skipped\n")
+    yield from differs(scanned(program, room), (0, lines_for(f"{folders}/abcd"), "panad: 1 names skipped\n"))
 
 
 def deep_folders(program, room):
@@ -76,9 +72,9 @@ def deep_folders(program, room):
     inner = "/".join(["d"] * NESTED)
     (room / inner).mkdir(parents=True)
     (room / inner / "a").write_text("abc")
-    yield from differs(scanned(program, room), 0, lines_for(f"{inner}/a"), "")
+    yield from differs(scanned(program, room), (0, lines_for(f"{inner}/a"), ""))
     (room / inner / "d").mkdir()
-    yield from differs(scanned(program, room), 1, "", "panad: folders too deep\n")
+    yield from differs(scanned(program, room), (1, "", "panad: folders too deep\n"))
 
 
 def many_entries(program, room):
@@ -88,9 +84,9 @@ def many_entries(program, room):
     (room / "a").write_text("abc")
     for number in range(LIMIT - 3):
         (room / f"d{number % 2 + 1}" / str(number)).symlink_to("/missing")
-    yield from differs(scanned(program, room), 0, lines_for("a"), "")
+    yield from differs(scanned(program, room), (0, lines_for("a"), ""))
     (room / "d2" / "more").symlink_to("/missing")
-    yield from differs(scanned(program, room), 1, "", "panad: too many entries\n")
+    yield from differs(scanned(program, room), (1, "", "panad: too many entries\n"))
 
 
 def permissions(program, room):
@@ -106,9 +102,9 @@ def permissions(program, room):
         it.chmod(0o755)
     copy.chmod(0o755)
     user = {"user": NOBODY, "group": NOBODY, "extra_groups": []} if os.geteuid() == 0 else {}
-    yield from differs(scanned(str(copy), folder, **user), 0, lines_for("open"), "")
+    yield from differs(scanned(str(copy), folder, **user), (0, lines_for("open"), ""))
     (folder / "closed").chmod(0)
-    yield from differs(scanned(str(copy), folder, **user), 1, "", "panad: cannot list folder\n")
+    yield from differs(scanned(str(copy), folder, **user), (1, "", "panad: cannot list folder\n"))
     (folder / "closed").chmod(0o700)
 
 
@@ -126,7 +122,7 @@ def growing_file(program, room):
     writer = threading.Thread(target=grow)
     writer.start()
     try:
-        yield from differs(scanned(program, room), 0, lines_for("log"), "")
+        yield from differs(scanned(program, room), (0, lines_for("log"), ""))
     finally:
         done.set()
         writer.join()
@@ -149,31 +145,14 @@ def terminal(program, room):
             shown += more
         lines = started.stdout.read().decode()
     os.close(ours)
-    yield from differs((started.returncode, lines), 0, lines_for("large"))
-    if not shown.startswith(b"\r\x1b[Kpanad: 1 files, ") or not shown.endswith(b" bytes\r\x1b[K") or b"\n" in shown:
+    yield from differs((started.returncode, lines), (0, lines_for("large")))
+    if not re.fullmatch(rb"(\r\x1b\[Kpanad: 1 of 1 files, [0-9]+ bytes, [0-9]+ MB/s)+\r\x1b\[K", shown):
         yield f"the terminal has {shown!r:.300}"
-    yield from differs(scanned(program, room), 0, lines_for("large"), "")
+    yield from differs(scanned(program, room), (0, lines_for("large"), ""))
 
 
-def main(words):
-    if len(words) != 1:
-        print(__doc__, file=sys.stderr)
-        return 2
-    program, passed, failed = str(Path(words[0]).resolve()), 0, 0
-    for check in (kinds, names, long_paths, deep_folders, many_entries, permissions, growing_file, terminal):
-        room = Path(tempfile.mkdtemp())
-        try:
-            faults = list(check(program, room))
-        except (OSError, subprocess.SubprocessError, ValueError) as error:
-            faults = [f"{type(error).__name__}: {error}"]
-        finally:
-            shutil.rmtree(room, ignore_errors=True)
-        passed, failed = passed + (not faults), failed + bool(faults)
-        if faults:
-            print(f"FAILED: {check.__doc__}", *faults, sep="\n  ")
-    print(f"{passed} passed, {failed} failed")
-    return int(failed != 0)
+CHECKS = (kinds, names, long_paths, deep_folders, many_entries, permissions, growing_file, terminal)
 
 
 if __name__ == "__main__":
-    sys.exit(main(sys.argv[1:]))
+    sys.exit(run_checks(__doc__, CHECKS, sys.argv[1:]))

@@ -85,7 +85,7 @@ def passes(folder, launcher, room):
 
 
 def main(launcher, *names):
-    folders = [scenario.FOLDER / it for it in names] or scenario.folders()
+    folders = [scenario.folder_of(it) for it in names] or scenario.folders()
     with tempfile.TemporaryDirectory(prefix="scenarios-") as room:
         link, inside = Path(room) / "link", Path(room) / "empty"
         os.symlink(os.path.realpath(launcher), link)

@@ -296,7 +296,7 @@ def untried_edits(kit):
 
 
 def stale_edits(kit):
-    """./test tries the edits again where their crate, one below it, the edit or the kit has changed, or a line's sum is wrong."""
+    """./test tries the edits again where their crate, one below it, the edit or the kit has changed, or a line's sum is wrong, but for a kit that it had before."""
     kit.has_edits(10, "refused")
     kit.run("./test")
     first = kit.record()
@@ -311,6 +311,7 @@ def stale_edits(kit):
         (lambda: (kit.kit / "KIT-ID").write_text("another\n"), low + high),
     )
     kit.tried()
+    before = (kit.kit / "KIT-ID").read_text()
     for number, (change, wanted) in enumerate(changes, 1):
         change()
         said = f"{len(wanted)} of 10 have no line in tests/edits-tried that holds"
@@ -322,6 +323,10 @@ def stale_edits(kit):
             yield f"after change {number} it ended with {status} and tried {tried} in place of {wanted}"
     if {*kit.record()} & {*first}:
         yield "a line is as it was, though the kit has changed"
+    (kit.kit / "KIT-ID").write_text(before)
+    said = "0 of 10 have no line in tests/edits-tried that holds"
+    if said not in kit.run("./test", "quick")[1]:
+        yield f"with the kit from before ./test quick doesn't say: {said}"
 
 
 def wrong_record(kit):

@@ -13,7 +13,7 @@ import subprocess
 import sys
 import tty
 
-from daemon import differs, run_checks
+from harness import differs, run_checks
 
 SECONDS = 60
 # A control sequence introducer, an override of the direction of writing, and a separator of lines.

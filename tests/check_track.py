@@ -16,9 +16,10 @@ import stat
 import struct
 import subprocess
 import sys
-import tempfile
 import time
 from pathlib import Path
+
+from harness import differs, run_checks
 
 SECONDS = 60
 ALL_WELL = "nothing is obsolete or in conflict\n"
@@ -34,10 +35,10 @@ class Room:
         self.laptop.mkdir()
         self.usb.mkdir()
 
-    def track(self, *options, roots=()):
-        """The status of a run, what it prints, and what it reports on standard error."""
+    def track(self, *options, roots=(), within=()):
+        """The status of a run, started by other words where they are given, what it prints, and what it reports on standard error."""
         roots = roots or (f"laptop={self.laptop}", f"usb={self.usb}")
-        words = [self.program, "track", "--journal", str(self.journal), *options, *roots]
+        words = [*within, self.program, "track", "--journal", str(self.journal), *options, *roots]
         done = subprocess.run(words, stdin=subprocess.DEVNULL, capture_output=True, timeout=SECONDS)
         return done.returncode, done.stdout.decode(), done.stderr.decode()
 
@@ -55,21 +56,15 @@ def table(*rows):
     return "".join(f"{state:8}  {copy:{width}}  {advice}\n" for state, copy, advice in [("STATE", "COPY", "WHAT TO DO"), *rows])
 
 
-def differs(got, *wanted):
-    """Says what isn't as it is wanted."""
-    if got != wanted:
-        yield f"wanted {wanted!r:.400}, got {got!r:.400}"
-
-
 def one_family(room):
     """Files that two folders hold alike are one family of two equal copies, and a further run changes nothing."""
     for folder in (room.laptop, room.usb):
         (folder / "plan.txt").write_text("one")
-    yield from differs(room.track(), 0, ALL_WELL, "")
+    yield from differs(room.track(), (0, ALL_WELL, ""))
     families = {"families": [{"copies": 2, "family": 1, "newest": 2, "split": False}]}
-    yield from differs((room.asked(do="families"),), families)
+    yield from differs(room.asked(do="families"), families)
     kept = room.journal.read_bytes()
-    yield from differs(room.track(), 0, ALL_WELL, "")
+    yield from differs(room.track(), (0, ALL_WELL, ""))
     if room.journal.read_bytes() != kept:
         yield "a run on folders that didn't change has changed the journal"
 
@@ -80,9 +75,9 @@ def edited_and_copied(room):
         (folder / "plan.txt").write_text("one")
     room.track()
     (room.laptop / "plan.txt").write_text("two")
-    yield from differs(room.track(), 1, table(("obsolete", "usb:plan.txt", "take laptop:plan.txt")), "")
+    yield from differs(room.track(), (1, table(("obsolete", "usb:plan.txt", "take laptop:plan.txt")), ""))
     shutil.copy2(room.laptop / "plan.txt", room.usb / "plan.txt")
-    yield from differs(room.track(), 0, ALL_WELL, "")
+    yield from differs(room.track(), (0, ALL_WELL, ""))
 
 
 def copied_unseen(room):
@@ -92,7 +87,7 @@ def copied_unseen(room):
     room.track()
     (room.laptop / "plan.txt").write_text("two")
     shutil.copy(room.laptop / "plan.txt", room.usb / "plan.txt")
-    yield from differs(room.track(), 0, ALL_WELL, "")
+    yield from differs(room.track(), (0, ALL_WELL, ""))
 
 
 def copied_then_edited(room):
@@ -105,7 +100,7 @@ def copied_then_edited(room):
     shutil.copy(room.laptop / "plan.txt", room.usb / "plan.txt")
     room.track()
     (room.usb / "plan.txt").write_text("three")
-    yield from differs(room.track(), 1, table(("obsolete", "laptop:plan.txt", "take usb:plan.txt")), "")
+    yield from differs(room.track(), (1, table(("obsolete", "laptop:plan.txt", "take usb:plan.txt")), ""))
 
 
 def edited_apart_and_merged(room):
@@ -116,10 +111,10 @@ def edited_apart_and_merged(room):
     (room.laptop / "plan.txt").write_text("two")
     (room.usb / "plan.txt").write_text("three")
     rows = ("conflict", "laptop:plan.txt", "merge with usb:plan.txt"), ("conflict", "usb:plan.txt", "merge with laptop:plan.txt")
-    yield from differs(room.track(), 1, table(*rows), "")
+    yield from differs(room.track(), (1, table(*rows), ""))
     for folder in (room.laptop, room.usb):
         (folder / "plan.txt").write_text("two and three")
-    yield from differs(room.track(), 0, ALL_WELL, "")
+    yield from differs(room.track(), (0, ALL_WELL, ""))
 
 
 def renamed(room):
@@ -128,11 +123,11 @@ def renamed(room):
         (folder / "plan.txt").write_text("one")
     room.track()
     (room.laptop / "plan.txt").rename(room.laptop / "new plan.txt")
-    yield from differs(room.track(), 0, ALL_WELL, "")
+    yield from differs(room.track(), (0, ALL_WELL, ""))
     (room.laptop / "new plan.txt").write_text("two")
-    yield from differs(room.track(), 1, table(("obsolete", "usb:plan.txt", "take laptop:new plan.txt")), "")
+    yield from differs(room.track(), (1, table(("obsolete", "usb:plan.txt", "take laptop:new plan.txt")), ""))
     held = room.asked(do="holdings", device="laptop")["holdings"]
-    yield from differs(tuple((it["copy"], it["path"]) for it in held), (1, "new plan.txt"))
+    yield from differs(tuple((it["copy"], it["path"]) for it in held), ((1, "new plan.txt"),))
 
 
 def unmounted(room):
@@ -141,13 +136,13 @@ def unmounted(room):
         (folder / "plan.txt").write_text("one")
     room.track()
     (room.usb / "plan.txt").unlink()
-    yield from differs(room.track(), 3, ALL_WELL, EMPTY)
+    yield from differs(room.track(), (3, ALL_WELL, EMPTY))
     room.usb.rmdir()
-    yield from differs(room.track(), 3, ALL_WELL, "panad: usb: cannot list folder, nothing reported\n")
-    yield from differs((len(room.asked(do="holdings", device="usb")["holdings"]),), 1)
+    yield from differs(room.track(), (3, ALL_WELL, "panad: usb: cannot list folder, nothing reported\n"))
+    yield from differs(len(room.asked(do="holdings", device="usb")["holdings"]), 1)
     room.usb.mkdir()
-    yield from differs(room.track("--empty"), 0, ALL_WELL, "")
-    yield from differs((room.asked(do="holdings", device="usb"),), {"holdings": []})
+    yield from differs(room.track("--empty"), (0, ALL_WELL, ""))
+    yield from differs(room.asked(do="holdings", device="usb"), {"holdings": []})
 
 
 def removed(room):
@@ -157,19 +152,19 @@ def removed(room):
             (folder / name).write_text(name)
     room.track()
     (room.usb / "plan.txt").unlink()
-    yield from differs(room.track(), 0, ALL_WELL, "")
-    yield from differs(tuple(it["path"] for it in room.asked(do="holdings", device="usb")["holdings"]), "notes.txt")
+    yield from differs(room.track(), (0, ALL_WELL, ""))
+    yield from differs(tuple(it["path"] for it in room.asked(do="holdings", device="usb")["holdings"]), ("notes.txt",))
 
 
 def forms(room):
     """With --json a line of JSON stands in place of the table, and with --quiet nothing does."""
     for folder in (room.laptop, room.usb):
         (folder / "plan.txt").write_text("one")
-    yield from differs(room.track("--json"), 0, '{"status":[]}\n', "")
+    yield from differs(room.track("--json"), (0, '{"status":[]}\n', ""))
     (room.usb / "plan.txt").write_text("two")
     row = '{"copy":1,"device":"laptop","path":"plan.txt","state":"obsolete","with":{"copy":2,"device":"usb","path":"plan.txt"}}'
-    yield from differs(room.track("--json"), 1, f'{{"status":[{row}]}}\n', "")
-    yield from differs(room.track("--quiet"), 1, "", "")
+    yield from differs(room.track("--json"), (1, f'{{"status":[{row}]}}\n', ""))
+    yield from differs(room.track("--quiet"), (1, "", ""))
 
 
 def journal_in_a_folder(room):
@@ -177,8 +172,8 @@ def journal_in_a_folder(room):
     room.journal = room.laptop / "files.journal"
     (room.laptop / "plan.txt").write_text("one")
     said = "panad: laptop: the journal is passed over\n"
-    yield from differs(room.track(roots=[f"laptop={room.laptop}"]), 0, ALL_WELL, said)
-    yield from differs(tuple(it["path"] for it in room.asked(do="holdings", device="laptop")["holdings"]), "plan.txt")
+    yield from differs(room.track(roots=[f"laptop={room.laptop}"]), (0, ALL_WELL, said))
+    yield from differs(tuple(it["path"] for it in room.asked(do="holdings", device="laptop")["holdings"]), ("plan.txt",))
 
 
 def ignored(room):
@@ -190,10 +185,10 @@ def ignored(room):
         (room.laptop / name).write_text(name)
     (room.usb / "plan.txt").write_text("plan.txt")
     (room.usb / "a.tmp").write_text("a.tmp")
-    yield from differs(room.track("--ignore", "*.bak"), 0, ALL_WELL, "")
+    yield from differs(room.track("--ignore", "*.bak"), (0, ALL_WELL, ""))
     for device, wanted in (("laptop", [".panadignore", "keep.tmp", "plan.txt", "src/build/b.txt"]), ("usb", ["a.tmp", "plan.txt"])):
         held = room.asked(do="holdings", device=device)["holdings"]
-        yield from differs((sorted(it["path"] for it in held),), wanted)
+        yield from differs(sorted(it["path"] for it in held), wanted)
 
 
 def ignored_later(room):
@@ -211,12 +206,12 @@ def ignored_later(room):
     (room.usb / "a.log").write_text("three")
     (room.usb / "b.log").unlink()
     (room.usb / "c.log").rename(room.usb / "c.txt")
-    yield from differs(room.track(), 1, table(("obsolete", "usb:plan.txt", "take laptop:plan.txt")), "")
+    yield from differs(room.track(), (1, table(("obsolete", "usb:plan.txt", "take laptop:plan.txt")), ""))
     after = room.asked(do="holdings", device="usb")["holdings"]
-    yield from differs(([it for it in after if it in held["holdings"]],), held["holdings"])
-    yield from differs((sorted(it["path"] for it in after if it not in held["holdings"]),), [".panadignore", "c.txt"])
+    yield from differs([it for it in after if it in held["holdings"]], held["holdings"])
+    yield from differs(sorted(it["path"] for it in after if it not in held["holdings"]), [".panadignore", "c.txt"])
     (room.usb / "plan.txt").write_text("two")
-    yield from differs(room.track(), 0, ALL_WELL, "")
+    yield from differs(room.track(), (0, ALL_WELL, ""))
 
 
 def last_pattern(room):
@@ -226,7 +221,7 @@ def last_pattern(room):
         (room.laptop / name).write_text(name)
     room.track("--ignore", "!*.txt", "--ignore", "b.txt")
     held = room.asked(do="holdings", device="laptop")["holdings"]
-    yield from differs((sorted(it["path"] for it in held),), [".panadignore", "a.txt"])
+    yield from differs(sorted(it["path"] for it in held), [".panadignore", "a.txt"])
 
 
 def wrong_patterns(room):
@@ -240,15 +235,15 @@ def wrong_patterns(room):
     )
     for text, message in rows:
         (room.laptop / ".panadignore").write_bytes(text)
-        yield from differs(room.track(), 3, ALL_WELL, message)
-        yield from differs((room.asked(do="holdings", device="laptop"),), {"holdings": []})
+        yield from differs(room.track(), (3, ALL_WELL, message))
+        yield from differs(room.asked(do="holdings", device="laptop"), {"holdings": []})
     (room.laptop / ".panadignore").unlink()
     (room.laptop / "patterns").write_text("plan.txt\n")
     (room.laptop / ".panadignore").symlink_to("patterns")
     (room.usb / ".panadignore").mkdir()
-    yield from differs(room.track(), 0, ALL_WELL, "")
+    yield from differs(room.track(), (0, ALL_WELL, ""))
     held = room.asked(do="holdings", device="laptop")["holdings"]
-    yield from differs((sorted(it["path"] for it in held),), ["patterns", "plan.txt"])
+    yield from differs(sorted(it["path"] for it in held), ["patterns", "plan.txt"])
 
 
 HEAD = b"panad sums 1\n"
@@ -282,12 +277,12 @@ def kept_sums(room):
     (room.laptop / "plan.txt").write_text("one")
     (room.usb / "plan.txt").write_text("one")
     room.track()
-    yield from differs((records(room),), {})
+    yield from differs(records(room), {})
     time.sleep(SETTLED)
     (room.usb / "new.txt").write_text("new")
     room.track()
     wanted = [record_of(folder / "plan.txt", b"one") for folder in (room.laptop, room.usb)]
-    yield from differs((sorted(records(room).values()),), sorted(wanted))
+    yield from differs(sorted(records(room).values()), sorted(wanted))
     if stat.S_IMODE(Path(f"{room.journal}.sums").stat().st_mode) != 0o600:
         yield "others may read the sums"
 
@@ -297,7 +292,7 @@ def unread(room):
     for folder in (room.laptop, room.usb):
         (folder / "plan.txt").write_text("one")
     time.sleep(SETTLED)
-    yield from differs(room.track(), 0, ALL_WELL, "")
+    yield from differs(room.track(), (0, ALL_WELL, ""))
     obsolete = table(("obsolete", "usb:plan.txt", "take laptop:plan.txt"))
     # Sums that no run has written show whether the file was read.
     forged = [record_of(room.laptop / "plan.txt", b"two"), record_of(room.usb / "plan.txt", b"one")]
@@ -305,16 +300,34 @@ def unread(room):
     whole = Path(f"{room.journal}.sums").read_bytes()
     for at in (0, len(HEAD), len(HEAD) + 20, len(HEAD) + 60, len(whole) - 1):
         Path(f"{room.journal}.sums").write_bytes(whole[:at] + bytes([whole[at] ^ 1]) + whole[at + 1 :])
-        yield from differs(room.track(), 0, ALL_WELL, "")
+        yield from differs(room.track(), (0, ALL_WELL, ""))
     for text in (b"", whole[:-1], whole + b"\0", whole[:-32]):
         Path(f"{room.journal}.sums").write_bytes(text)
-        yield from differs(room.track(), 0, ALL_WELL, "")
+        yield from differs(room.track(), (0, ALL_WELL, ""))
     Path(f"{room.journal}.sums").unlink()
-    yield from differs(room.track(), 0, ALL_WELL, "")
+    yield from differs(room.track(), (0, ALL_WELL, ""))
     write_records(room, forged)
-    yield from differs(room.track("--read-all"), 0, ALL_WELL, "")
+    yield from differs(room.track("--read-all"), (0, ALL_WELL, ""))
     write_records(room, forged)
-    yield from differs(room.track(), 1, obsolete, "")
+    yield from differs(room.track(), (1, obsolete, ""))
+
+
+def unmounted_sums(room):
+    """Of a folder that is empty for a while, or wasn't named, sums are kept: its files aren't read again."""
+    for folder in (room.laptop, room.usb):
+        (folder / "plan.txt").write_text("one")
+    time.sleep(SETTLED)
+    yield from differs(room.track(), (0, ALL_WELL, ""))
+    # A sum that no run has written shows that the file isn't read.
+    write_records(room, [record_of(room.laptop / "plan.txt", b"one"), record_of(room.usb / "plan.txt", b"two")])
+    away = room.usb.rename(room.at / "away")
+    room.usb.mkdir()
+    yield from differs(room.track(), (3, ALL_WELL, EMPTY))
+    room.usb.rmdir()
+    yield from differs(room.track(roots=[f"laptop={room.laptop}"]), (0, ALL_WELL, ""))
+    away.rename(room.usb)
+    yield from differs(room.track(), (1, table(("obsolete", "laptop:plan.txt", "take usb:plan.txt")), ""))
+    yield from differs(len(records(room)), 2)
 
 
 def changed_unseen(room):
@@ -327,10 +340,10 @@ def changed_unseen(room):
     before = (room.laptop / "plan.txt").stat()
     (room.laptop / "plan.txt").write_text("two")
     os.utime(room.laptop / "plan.txt", ns=(before.st_atime_ns, before.st_mtime_ns))
-    yield from differs(room.track(), 1, obsolete, "")
+    yield from differs(room.track(), (1, obsolete, ""))
     shutil.copy2(room.laptop / "plan.txt", room.usb / "other")
     (room.usb / "other").rename(room.usb / "plan.txt")
-    yield from differs(room.track(), 0, ALL_WELL, "")
+    yield from differs(room.track(), (0, ALL_WELL, ""))
 
 
 def no_files(room):
@@ -342,8 +355,35 @@ def no_files(room):
     room.journal = room.laptop / "files.journal"
     time.sleep(SETTLED)
     for _ in range(2):
-        yield from differs(room.track(), 0, ALL_WELL, "panad: laptop: the journal is passed over\n")
-    yield from differs((sorted(it["path"] for it in room.asked(do="holdings", device="laptop")["holdings"]),), ["plan.txt"])
+        yield from differs(room.track(), (0, ALL_WELL, "panad: laptop: the journal is passed over\n"))
+    yield from differs(sorted(it["path"] for it in room.asked(do="holdings", device="laptop")["holdings"]), ["plan.txt"])
+
+
+def hard_links(room):
+    """Two names of one file are two copies: what is written by one name is an edit of both."""
+    (room.laptop / "plan.txt").write_text("one")
+    os.link(room.laptop / "plan.txt", room.laptop / "same.txt")
+    paths = lambda: [it["path"] for it in room.asked(do="holdings", device="laptop")["holdings"]]
+    roots = [f"laptop={room.laptop}"]
+    yield from differs((*room.track(roots=roots), paths()), (0, ALL_WELL, "", ["plan.txt", "same.txt"]))
+    (room.laptop / "same.txt").write_text("two")
+    yield from differs((*room.track(roots=roots), paths()), (0, ALL_WELL, "", ["plan.txt", "same.txt"]))
+    edits = [it["copy"] for it in room.asked(do="journal", **{"from": 1})["entries"] if it["do"] == "edit"]
+    yield from differs(sorted(edits), [1, 2])
+
+
+def one_file_system(room):
+    """With --one-file-system a folder of another file system isn't entered, and without it it is."""
+    inner, roots = room.laptop / "inner", [f"laptop={room.laptop}"]
+    inner.mkdir()
+    (room.laptop / "plan.txt").write_text("one")
+    mounting = 'mount -t tmpfs none "$0" && echo two > "$0/other.txt" && exec "$@"'
+    mounted = ["unshare", "-m", "sh", "-c", mounting, str(inner)]
+    paths = lambda: [it["path"] for it in room.asked(do="holdings", device="laptop")["holdings"]]
+    yield from differs(room.track("--one-file-system", roots=roots, within=mounted), (0, ALL_WELL, ""))
+    yield from differs(paths(), ["plan.txt"])
+    yield from differs(room.track(roots=roots, within=mounted), (0, ALL_WELL, ""))
+    yield from differs(paths(), ["plan.txt", "inner/other.txt"])
 
 
 def wrong_words(room):
@@ -384,7 +424,7 @@ def interrupted(room):
     if room.track("--quiet")[0] != 0:
         yield "the last run finds something obsolete or in conflict"
     families = room.asked(do="families")["families"]
-    yield from differs((len(families), {it["copies"] for it in families}), 400, {2})
+    yield from differs((len(families), {it["copies"] for it in families}), (400, {2}))
 
 
 def full_disk(room):
@@ -399,11 +439,11 @@ def full_disk(room):
     roots = f"laptop={room.laptop}", f"usb={room.usb}"
     words = [room.program, "track", "--quiet", "--journal", str(room.journal), *roots]
     done = subprocess.run(words, stdin=subprocess.DEVNULL, capture_output=True, timeout=SECONDS, preexec_fn=limited, restore_signals=False)
-    yield from differs((done.returncode, done.stderr), 3, b"panad: usb: report not kept, nothing more reported\n")
+    yield from differs((done.returncode, done.stderr), (3, b"panad: usb: report not kept, nothing more reported\n"))
     held = room.asked(do="holdings", device="laptop")["holdings"]
-    yield from differs((len(held),), 100)
-    yield from differs(room.track("--quiet"), 0, "", "")
-    yield from differs((len(room.asked(do="holdings", device="usb")["holdings"]),), 100)
+    yield from differs(len(held), 100)
+    yield from differs(room.track("--quiet"), (0, "", ""))
+    yield from differs(len(room.asked(do="holdings", device="usb")["holdings"]), 100)
 
 
 def many_copies(room):
@@ -411,11 +451,11 @@ def many_copies(room):
     for number in range(250):
         for folder in (room.laptop, room.usb):
             (folder / f"{number:03}").write_text(str(number))
-    yield from differs(room.track(), 0, ALL_WELL, "")
+    yield from differs(room.track(), (0, ALL_WELL, ""))
     for number in range(250):
         (room.laptop / f"{number:03}").write_text(f"{number} anew")
     rows = [("obsolete", f"usb:{number:03}", f"take laptop:{number:03}") for number in range(250)]
-    yield from differs(room.track(), 1, table(*rows), "")
+    yield from differs(room.track(), (1, table(*rows), ""))
 
 
 CHECKS = (
@@ -435,8 +475,11 @@ CHECKS = (
     wrong_patterns,
     kept_sums,
     unread,
+    unmounted_sums,
     changed_unseen,
     no_files,
+    hard_links,
+    one_file_system,
     wrong_words,
     interrupted,
     full_disk,
@@ -444,25 +487,12 @@ CHECKS = (
 )
 
 
-def main(words):
-    if len(words) != 1:
-        print(__doc__, file=sys.stderr)
-        return 2
-    program, passed, failed = str(Path(words[0]).resolve()), 0, 0
-    for check in CHECKS:
-        at = Path(tempfile.mkdtemp())
-        try:
-            faults = list(check(Room(program, at)))
-        except (OSError, subprocess.SubprocessError, ValueError, KeyError) as error:
-            faults = [f"{type(error).__name__}: {error}"]
-        finally:
-            shutil.rmtree(at, ignore_errors=True)
-        passed, failed = passed + (not faults), failed + bool(faults)
-        if faults:
-            print(f"FAILED: {check.__doc__}", *faults, sep="\n  ")
-    print(f"{passed} passed, {failed} failed")
-    return int(failed != 0)
+def in_room(check):
+    """The check in a room of the program's."""
+    tried = lambda program, at: check(Room(program, at))
+    tried.__doc__, tried.__name__ = check.__doc__, check.__name__
+    return tried
 
 
 if __name__ == "__main__":
-    sys.exit(main(sys.argv[1:]))
+    sys.exit(run_checks(__doc__, [*map(in_room, CHECKS)], sys.argv[1:]))

@@ -13,7 +13,8 @@ import subprocess
 import sys
 import time
 
-from daemon import SECONDS, Daemon, differs, failing, run_checks, times_of, until
+from daemon import SECONDS, Daemon, failing, times_of, until
+from harness import differs, run_checks
 
 EMPTY = b"panad: usb: folder is empty, nothing reported; --empty if it is meant\n"
 

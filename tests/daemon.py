@@ -4,22 +4,17 @@ from __future__ import annotations
 import json
 import os
 import re
-import shutil
 import socket
 import subprocess
-import sys
-import tempfile
 import time
 from pathlib import Path
+
+from harness import Broken
 
 HERE = Path(__file__).resolve().parent
 SECONDS = 30
 WAIT = 0.02
 LISTENING = re.compile(rb"listening 127\.0\.0\.1:(\d+)\n")
-
-
-class Broken(Exception):
-    """The daemon isn't as it must be."""
 
 
 def line_of(by, do, **fields):
@@ -147,30 +142,3 @@ def times_of(process):
     """The ticks of processor time that a process has used."""
     fields = Path(f"/proc/{process}/stat").read_text().rpartition(")")[2].split()
     return int(fields[11]) + int(fields[12])
-
-
-def differs(got, wanted):
-    """Says what came that isn't wanted."""
-    if got != wanted:
-        yield f"wanted {wanted!r:.400}, got {got!r:.400}"
-
-
-def run_checks(usage, checks, words):
-    """Runs checks of the program that the words name, each in a folder of its own, and says which failed and why."""
-    if len(words) != 1:
-        print(usage, file=sys.stderr)
-        return 2
-    program, passed, failed = str(Path(words[0]).resolve()), 0, 0
-    for check in checks:
-        room = Path(tempfile.mkdtemp())
-        try:
-            faults = list(check(program, room))
-        except (OSError, subprocess.SubprocessError, ValueError, KeyError, Broken) as error:
-            faults = [f"{type(error).__name__}: {error}"]
-        finally:
-            shutil.rmtree(room, ignore_errors=True)
-        passed, failed = passed + (not faults), failed + bool(faults)
-        if faults:
-            print(f"FAILED: {check.__doc__}", *faults, sep="\n  ")
-    print(f"{passed} passed, {failed} failed")
-    return int(failed != 0)

@@ -2,6 +2,7 @@
 
 What becomes of an edit follows from its text, its crate, what lies below the crate, and the kit. So a line of the
 record has the edit's name and one sum of all these, and the edit need not be tried again while its sum is the same.
+Behind it stands the sum before, since machines may have two kits: each finds the sum of its own.
 A line is written where a run saw the edit refused. A tenth of those that need not be tried are tried all the same,
 another tenth each day, so that a line that is wrong comes out.
 """
@@ -20,6 +21,7 @@ import prove  # noqa: E402
 RECORD = TOP / "tests" / "edits-tried"
 PARTS = ("src", "specs", "proofs")
 TENTHS = 10
+SUMS_KEPT = 2
 SECONDS_A_DAY = 86_400
 
 
@@ -63,15 +65,15 @@ def sums(kit):
 
 
 def recorded():
-    """The lines of the record: the sum at which each edit was refused. A line that is none counts for nothing."""
+    """The lines of the record: the sums at which each edit was refused, the last first. A line that is none counts for nothing."""
     lines = RECORD.read_text(encoding="utf-8").splitlines() if RECORD.is_file() else []
-    return dict(words for words in map(str.split, lines) if len(words) == 2)
+    return {words[0]: words[1:] for words in map(str.split, lines) if 1 < len(words) <= 1 + SUMS_KEPT}
 
 
 def stale(kit):
-    """The edits that have no line in the record, or one with another sum."""
+    """The edits that have no line in the record, or one without their sum."""
     found = recorded()
-    return [name for name, sum in sums(kit).items() if found.get(name) != sum]
+    return [name for name, sum in sums(kit).items() if sum not in found.get(name, [])]
 
 
 def of_the_day(day=None):
@@ -83,8 +85,9 @@ def of_the_day(day=None):
 
 def write(refused, others):
     """Writes a line for each edit that was refused, with its sum; those of others that were tried go, and of edits that are gone."""
-    kept = {it: sum for it, sum in recorded().items() if it not in others and path_of(it).is_file()}
-    kept.update(refused)
+    kept = {it: found for it, found in recorded().items() if it not in others and path_of(it).is_file()}
+    for it, sum in refused.items():
+        kept[it] = [sum, *(other for other in kept.get(it, []) if other != sum)][:SUMS_KEPT]
     new = RECORD.with_name(f"{RECORD.name}.new")
-    new.write_text("".join(f"{it} {kept[it]}\n" for it in sorted(kept)), encoding="utf-8")
+    new.write_text("".join(f"{' '.join([it, *kept[it]])}\n" for it in sorted(kept)), encoding="utf-8")
     new.replace(RECORD)

@@ -3,12 +3,7 @@ from __future__ import annotations
 
 import contextlib
 import json
-import shutil
 import subprocess
-import sys
-import tempfile
-import time
-from pathlib import Path
 
 SECONDS = 60
 
@@ -44,12 +39,6 @@ def answers(program, file, given, error=b""):
 def entries(program, file, most, error=b""):
     """The entries that the program finds in a journal, asked for by pages."""
     return [it for page in answers(program, file, pages(most), error) for it in page["entries"]]
-
-
-def differs(got, wanted):
-    """Says what came that isn't wanted."""
-    if got != wanted:
-        yield f"wanted {wanted!r:.300}, got {got!r:.300}"
 
 
 def reported(out, text):
@@ -95,20 +84,3 @@ class Session:
     def end(self):
         out, err = self.started.communicate(timeout=SECONDS)
         return self.started.returncode, out, err
-
-
-def run_checks(checks, setting):
-    """Runs checks, each in a folder of its own, and says which passed, which failed and why."""
-    passed, failed = 0, 0
-    for check in checks:
-        room, since = Path(tempfile.mkdtemp()), time.monotonic()
-        try:
-            faults = list(check(setting, room))
-        except (OSError, subprocess.SubprocessError, ValueError, KeyError) as error:
-            faults = [f"{type(error).__name__}: {error}"]
-        finally:
-            shutil.rmtree(room, ignore_errors=True)
-        passed, failed = passed + (not faults), failed + bool(faults)
-        print(f"{'FAILED' if faults else 'passed'} {check.__name__}: {check.__doc__} ({time.monotonic() - since:.1f} s)", *faults[:9], sep="\n  ", flush=True)
-    print(f"{passed} passed, {failed} failed")
-    return int(failed != 0)

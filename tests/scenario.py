@@ -1,4 +1,4 @@
-"""Reads the scenario folders, tests/scenarios/NAME/: what the program is given and what it must do.
+"""Reads the scenario folders, tests/scenarios/GROUP/NAME/: what the program is given and what it must do.
 
 about    one sentence: what the scenario shows
 args     the arguments, one word a line (absent: run)
@@ -59,7 +59,15 @@ class Scenario:
 
 def folders():
     """The scenario folders by name."""
-    return sorted(it for it in FOLDER.iterdir() if not it.name.startswith(".") and it.name != LEFT)
+    return sorted((it for it in FOLDER.glob("*/*") if not it.name.startswith(".") and it.name != LEFT), key=lambda it: it.name)
+
+
+def folder_of(name):
+    """The folder of the scenario with this name."""
+    found = [it for it in folders() if it.name == name]
+    if len(found) != 1:
+        raise BadScenario(f"{len(found)} folders are called {name}")
+    return found[0]
 
 
 def text_of(folder, name, default=None):

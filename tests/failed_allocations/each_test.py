@@ -12,7 +12,6 @@ The last line is 'N passed, M failed', one for each module.
 """
 from __future__ import annotations
 
-import os
 import re
 import subprocess
 import sys

@@ -27,7 +27,8 @@ from pathlib import Path
 HERE = Path(__file__).resolve().parent
 sys.path.insert(0, str(HERE.parent))
 import failing  # noqa: E402
-from daemon import LISTENING, SECONDS, Broken, Client, line_of  # noqa: E402
+from daemon import LISTENING, SECONDS, Client, line_of  # noqa: E402
+from harness import Broken  # noqa: E402
 
 PROCESSES = 4
 SHOWN = 5
@@ -102,12 +103,12 @@ class Run:
             return None
 
     def ask_surely(self, line):
-        """The answer to a question: at most one allocation fails, so one of three tries is answered."""
+        """The answer to a question: at most one allocation fails, so one of three tries is answered, or the daemon ends."""
         for _ in range(3):
             answer = self.ask(line)
             if answer is not None and answer not in OUT_OF_MEMORY:
                 return answer
-        raise Broken(f"{line!r} is not answered")
+        raise (Deaf if self.has_failed() else Broken)(f"{line!r} is not answered")
 
     def journal(self):
         return self.ask_surely(line_of("x", "journal", **{"from": 1}))["entries"]

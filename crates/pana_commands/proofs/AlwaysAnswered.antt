@@ -1,8 +1,8 @@
 -- A session that answers every call never ends for want of an answer.
 use Rattle.std.specs.Prelude.{◌≢◌, ℕ, Bool, List, [], ◌∷◌}
 use Rattle.std.proofs.Common.{inl, inr, subst}
-use Rattle.pana_hall.specs.declared.call.Call.{Call}
-use Rattle.pana_wire.specs.declared.answer.Answer.{Answer}
+use Rattle.pana_calls.specs.declared.call.Call.{Call}
+use Rattle.pana_calls.specs.declared.answer.Answer.{Answer}
 use Rattle.pana_wire.specs.declared.serving.ServeFault.{ServeFault}
 use Rattle.pana_wire.specs.declared.serving.ServeFault.TheVariants.{NoAnswer}
 use Rattle.pana_wire.specs.Session.{FailsNext, EndsBy}

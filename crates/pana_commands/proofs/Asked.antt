@@ -2,14 +2,14 @@
 use Rattle.std.specs.Prelude.{◌≡◌, ℕ, List, Option, Some, None}
 use Rattle.std.proofs.Common.{refl, inl, inr}
 use Rattle.pana_journal.specs.declared.entry.Entry.{Entry}
-use Rattle.pana_hall.specs.declared.board.BoardView.{BoardView}
-use Rattle.pana_hall.specs.declared.call.Call.TheVariants as calls
-use Rattle.pana_hall.specs.declared.call.Query.{Query}
-use Rattle.pana_hall.specs.declared.call.Query.TheVariants as queries
-use Rattle.pana_hall.specs.declared.cause.Cause.{Cause}
-use Rattle.pana_hall.specs.declared.family_row.FamilyRow.{FamilyRow}
-use Rattle.pana_hall.specs.declared.reply.Reply.{Reply}
-use Rattle.pana_hall.specs.declared.reply.Reply.TheVariants as replies
+use Rattle.pana_calls.specs.declared.board.BoardView.{BoardView}
+use Rattle.pana_calls.specs.declared.call.Call.TheVariants as calls
+use Rattle.pana_calls.specs.declared.call.Query.{Query}
+use Rattle.pana_calls.specs.declared.call.Query.TheVariants as queries
+use Rattle.pana_calls.specs.declared.cause.Cause.{Cause}
+use Rattle.pana_calls.specs.declared.family_row.FamilyRow.{FamilyRow}
+use Rattle.pana_calls.specs.declared.reply.Reply.{Reply}
+use Rattle.pana_calls.specs.declared.reply.Reply.TheVariants as replies
 use Rattle.pana_hall.specs.Board.{board_of}
 use Rattle.pana_hall.specs.Living.{living}
 use Rattle.pana_hall.specs.Permit.{Permits, PermitsBy, journal_after}

@@ -1,8 +1,8 @@
 -- Where calls of folders that are tracked have no answer.
 use Rattle.std.specs.Prelude.{ℕ, Bool, List, [], ◌∷◌, ◌++◌, Result, Ok, Err}
-use Rattle.pana_hall.specs.declared.call.Call.{Call}
-use Rattle.pana_hall.specs.declared.call.Call.TheVariants as questions
-use Rattle.pana_hall.specs.declared.call.Query.TheVariants as queries
+use Rattle.pana_calls.specs.declared.call.Call.{Call}
+use Rattle.pana_calls.specs.declared.call.Call.TheVariants as questions
+use Rattle.pana_calls.specs.declared.call.Query.TheVariants as queries
 use Rattle.std.specs.Prelude.{None}
 use Rattle.std.proofs.Common.{inl, inr}
 use Rattle.pana_track.specs.Calls.{Asked, Makes}
@@ -12,7 +12,7 @@ use Rattle.pana_track.specs.Folder.{BreaksFolder, TracksFolder}
 use Rattle.pana_track.specs.declared.folder_end.FolderEnd.{FolderEnd}
 use Rattle.pana_track.specs.inner.Pages.{Stops}
 use Rattle.pana_track.proofs.Reported.{makes_on}
-use Rattle.pana_wire.specs.declared.answer.Answer.{Answer}
+use Rattle.pana_calls.specs.declared.answer.Answer.{Answer}
 use Rattle.pana_commands.specs.declared.tracking.ReadFolder.{ReadFolder}
 use Rattle.pana_commands.specs.Track.{HasNoAnswer, IsCut, TracksAll}
 
@@ -27,6 +27,10 @@ module _ {S : Type 0} (step : S → List ℕ → Call → Answer → S → Type 
     calls = makes_on step old mid cut.mid made cut.made makes cut.calls;
     failed = cut.failed;
   }
+
+  -- pages that were asked for, and one has no answer
+  pub cut_in_pages : (by : List ℕ) (old new : S) → Stops step fails by old new → IsCut step fails old new
+  cut_in_pages by old new stops = record { made = stops.made; mid = stops.mid; by = by; call = questions.Query (queries.Status None stops.from); calls = stops.calls; failed = stops.failed }
 
   module _ (may_be_empty : Bool) where
     -- a folder's calls were broken off
@@ -60,7 +64,7 @@ module _ {S : Type 0} (step : S → List ℕ → Call → Answer → S → Type 
           kept = kept;
           calls = all.1;
           keeps = settled;
-          cut = record { made = stops.made; mid = stops.mid; by = by; call = questions.Query (queries.Status None stops.from); calls = stops.calls; failed = stops.failed };
+          cut = cut_in_pages by kept new stops;
         }))
 
     pub unkept_after_all : (settles : S → S → Type 0) (breaks_off : S → S → Type 0) (folders : List ReadFolder) (old mid new : S) (lines : List ℕ) (has_fault : Bool)

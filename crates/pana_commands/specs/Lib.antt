@@ -6,3 +6,4 @@ pub mod Load
 pub mod Show
 pub mod Scan
 pub mod Track
+pub mod Status

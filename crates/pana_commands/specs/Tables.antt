@@ -5,7 +5,7 @@ use Rattle.pana_journal.specs.declared.entry.Entry.{Entry}
 use Rattle.pana_hall.specs.Living.{living}
 use Rattle.pana_hall.specs.Board.{board_of}
 use Rattle.pana_hall.specs.Queries.{family_rows}
-use Rattle.pana_hall.specs.declared.family_row.FamilyRow.{FamilyRow}
+use Rattle.pana_calls.specs.declared.family_row.FamilyRow.{FamilyRow}
 use Rattle.pana_report.specs.Table.{table_text}
 
 -- the table of a family

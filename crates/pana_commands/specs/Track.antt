@@ -2,9 +2,9 @@
 use Rattle.std.specs.Prelude.{◌≡◌, ◌⊎◌, ℕ, not, ◌&&◌, ◌||◌, Bool, true, false, List, [], ◌∷◌, ◌++◌, codes, string_bytes, filter, Result, Ok, Err}
 use Rattle.std.specs.List.{list_all}
 use Rattle.std.specs.Str.{bytes_eq}
-use Rattle.pana_hall.specs.declared.call.Call.{Call}
-use Rattle.pana_hall.specs.declared.reply.Reply.TheVariants.{Status}
-use Rattle.pana_hall.specs.declared.standing.StatusRow.{StatusRow}
+use Rattle.pana_calls.specs.declared.call.Call.{Call}
+use Rattle.pana_calls.specs.declared.reply.Reply.TheVariants.{Status}
+use Rattle.pana_calls.specs.declared.standing.StatusRow.{StatusRow}
 use Rattle.pana_report.specs.Status.{status_text}
 use Rattle.pana_ignore.specs.Pattern.{is_ignored}
 use Rattle.pana_track.specs.Calls.{Asked, Makes}
@@ -14,7 +14,7 @@ use Rattle.pana_track.specs.declared.folder_end.FolderEnd.{FolderEnd}
 use Rattle.pana_track.specs.declared.read_fault.ReadFault.{ReadFault}
 use Rattle.pana_track.specs.declared.reading.TrackedListing.{TrackedListing}
 use Rattle.pana_wire.specs.Reply.{reply_text}
-use Rattle.pana_wire.specs.declared.answer.Answer.{Answer}
+use Rattle.pana_calls.specs.declared.answer.Answer.{Answer}
 use Rattle.pana_commands.specs.declared.printout.Printout.{Printout}
 use Rattle.pana_commands.specs.declared.tracking.ReadFolder.{ReadFolder}
 use Rattle.pana_commands.specs.declared.tracking.StatusForm.{StatusForm}

@@ -1,4 +1,4 @@
-//! What the program's commands answer to texts, lines and folders: `compare`, `load`, `run`, `scan`, `show` and `track`, apart
+//! What the program's commands answer to texts, lines and folders: `compare`, `load`, `run`, `scan`, `show`, `status` and `track`, apart
 //! from the words and files that they are given by.
 #![tactic(auto)]
 
@@ -8,6 +8,7 @@ mod printout;
 mod running;
 mod scanning;
 mod showing;
+mod status;
 mod tables;
 mod tracking;
 mod untracked;
@@ -18,6 +19,7 @@ pub use crate::printout::Printout;
 pub use crate::running::run_on;
 pub use crate::scanning::scan_on;
 pub use crate::showing::show_on;
+pub use crate::status::status_on;
 pub use crate::tables::tables_of;
 pub use crate::tracking::{ReadFolder, StatusForm, track_on};
 pub use crate::untracked::Untracked;

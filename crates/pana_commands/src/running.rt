@@ -1,6 +1,6 @@
 ghost use Rattle.std.specs.Prelude.{◌≡◌, ◌≢◌, ◌≤◌, ◌^◌, ◌⊎◌, List, [], false, IfOk, IfErr};
 ghost use Rattle.pana_journal.specs.declared.entry.Entry.{Entry};
-ghost use Rattle.pana_wire.specs.Answer.{Replies};
+ghost use Rattle.pana_hall.specs.Step.{Replies};
 ghost use Rattle.pana_wire.specs.Tap.{has_failed, MadeAtMost};
 ghost use Rattle.pana_wire.specs.Session.{Serves, Stops, NeverBegins};
 ghost use Rattle.pana_commands.specs.Never.{IsNever};

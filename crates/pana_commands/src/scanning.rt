@@ -4,8 +4,8 @@ ghost use Rattle.pana_scan.specs.Scan.{IsFresh, IsScanned};
 ghost use Rattle.pana_commands.specs.Scan.{AnswersScan, PrintsFirstScan, lines_for, skipped_line};
 
 use crate::printout::Printout;
+use pana_calls::HoldingList;
 use pana_copies::DeviceName;
-use pana_hall::HoldingList;
 use pana_scan::{Baseline, Disk, Listing, ScanFault, Step, Watch, plan, read_root};
 use pana_wire::encode_call;
 use std::alloc::{AllocError, Global};

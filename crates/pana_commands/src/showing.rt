@@ -5,7 +5,8 @@ ghost use Rattle.pana_commands.specs.Show.{AnswersLines, status_of, TakesLine, T
 
 use crate::printout::Printout;
 use crate::tables::tables_of;
-use pana_hall::{Cause, Hall, Reply};
+use pana_calls::{Cause, Reply};
+use pana_hall::Hall;
 use pana_wire::{Message, WireFault, decode, split_lines};
 use std::alloc::{AllocError, Global};
 use std::fmt;

@@ -5,8 +5,9 @@ ghost use Rattle.pana_hall.specs.Living.{living};
 ghost use Rattle.pana_hall.specs.Queries.{family_rows};
 ghost use Rattle.pana_commands.specs.Tables.{table_of, tables_text};
 
+use pana_calls::{BoardView, Call, FamilyRow, Query, Reply};
 use pana_copies::DeviceName;
-use pana_hall::{BoardView, Call, FamilyRow, Hall, Query, Reply};
+use pana_hall::Hall;
 use pana_list::PlainList;
 use pana_report::print;
 use std::alloc::{AllocError, Global};

@@ -8,12 +8,12 @@ ghost use Rattle.pana_commands.specs.Track.{AnswersTrack, HasNoAnswer, IsCut, Tr
 
 use crate::printout::Printout;
 use crate::untracked::Untracked;
+use pana_calls::{NoAnswer, Reply, Session, StatusRow};
 use pana_copies::DeviceName;
-use pana_hall::{Reply, StatusRow};
 use pana_list::PlainList;
 use pana_report::print_status;
 use pana_track::{ReadFault, TrackedListing, status_of, track_folder};
-use pana_wire::{NoAnswer, Session, encode};
+use pana_wire::encode;
 use std::alloc::{AllocError, Global};
 
 /// A folder that is to be tracked, and what reading it has given.
@@ -105,7 +105,7 @@ fn shown_of(
 }
 
 /// The copies that are obsolete or in conflict, as they are to be shown.
-fn shown_rows(
+pub(crate) fn shown_rows(
     alloc: Global,
     form: StatusForm,
     rows: PlainList<StatusRow>,
@@ -127,7 +127,7 @@ fn shown_rows(
 }
 
 /// The exit status.
-fn status_by(has_fault: bool, rows: &[StatusRow]) -> u8
+pub(crate) fn status_by(has_fault: bool, rows: &[StatusRow]) -> u8
     ensures { result ≡ status_by has_fault rows.now }
 {
     match rows {

@@ -1,4 +1,4 @@
-use pana_wire::NoAnswer;
+use pana_calls::NoAnswer;
 use std::alloc::AllocError;
 use std::error::Error;
 use std::fmt;

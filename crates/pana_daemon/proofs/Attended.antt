@@ -1,10 +1,10 @@
 -- What is left of a desk whose callers have done their work.
 use Rattle.std.proofs.Common.{◌≡◌, ℕ, All, Bool, ◌||◌, List, [], ◌∷◌, length, Option, Result, map, refl, sym, ap, subst, ◌∙◌}
 use Rattle.std.specs.List.{list_any}
-use Rattle.pana_hall.specs.declared.call.Call.{Call}
+use Rattle.pana_calls.specs.declared.call.Call.{Call}
 use Rattle.pana_turn.specs.Closing.{Closes, LacksOne}
 use Rattle.pana_turn.specs.Passes.{DeskId, new_passes}
-use Rattle.pana_wire.specs.declared.answer.Answer.{Answer}
+use Rattle.pana_calls.specs.declared.answer.Answer.{Answer}
 use Rattle.pana_daemon.specs.declared.folder.Look.{Look}
 use Rattle.pana_daemon.specs.declared.connection.Connection.{Connection}
 use Rattle.pana_daemon.specs.declared.post.Caller.{Caller}

@@ -1,7 +1,7 @@
 -- What a worker leaves of its pass.
 use Rattle.std.proofs.Common.{ℕ, List, [], ◌∷◌, ◌++◌, Option, Some, refl, subst}
-use Rattle.pana_hall.specs.declared.call.Call.{Call}
-use Rattle.pana_wire.specs.declared.answer.Answer.{Answer}
+use Rattle.pana_calls.specs.declared.call.Call.{Call}
+use Rattle.pana_calls.specs.declared.answer.Answer.{Answer}
 use Rattle.pana_daemon.specs.declared.connection.Connection.{Connection}
 use Rattle.pana_daemon.specs.Desk.{PassView}
 use Rattle.pana_daemon.specs.Session.{GrowsTo}

@@ -1,10 +1,10 @@
 -- Doors that have ended, and what they have drawn together.
 use Rattle.std.proofs.Common.{◌≡◌, ◌<◌, ◌≤◌, ◌+◌, inl, inr, ◌||◌, ℕ, zero, suc, Bool, true, false, List, [], ◌∷◌, length, replicate, sum_by, Option, Result, arith, refl, sym, ap, subst, ◌∙◌}
 use Rattle.std.proofs.lemmas.List.Sums.{sum_by-cons}
-use Rattle.pana_hall.specs.declared.call.Call.{Call}
+use Rattle.pana_calls.specs.declared.call.Call.{Call}
 use Rattle.pana_tickets.specs.declared.hand.Hand.{Hand}
 use Rattle.pana_tickets.specs.Hands.{TicketsView, joined}
-use Rattle.pana_wire.specs.declared.answer.Answer.{Answer}
+use Rattle.pana_calls.specs.declared.answer.Answer.{Answer}
 use Rattle.pana_daemon.specs.declared.folder.Look.{Look}
 use Rattle.pana_daemon.specs.declared.connection.Connection.{Connection}
 use Rattle.pana_daemon.specs.declared.post.Post.{Post}

@@ -2,11 +2,11 @@
 use Rattle.std.proofs.Common.{◌≡◌, ◌<◌, ⊎_elim, ℕ, Bool, true, false, not, ◌==◌, is_some, IsSome, MatchOption, arith, length, List, [], ◌∷◌, Option, Some, None, Result, Ok, Err, IfOk, IsTrue, refl, sym, ap, subst, ◌∙◌}
 use Rattle.std.proofs.lemmas.Bool.{ne_eqb}
 use Rattle.atomic_table.specs.Seated.{TableId}
-use Rattle.pana_hall.specs.declared.call.Call.{Call}
+use Rattle.pana_calls.specs.declared.call.Call.{Call}
 use Rattle.pana_scan.specs.Disk.{Tree}
 use Rattle.pana_ticks.specs.declared.count.Count.{Count}
 use Rattle.pana_ticks.specs.Hands.{count}
-use Rattle.pana_wire.specs.declared.answer.Answer.{Answer}
+use Rattle.pana_calls.specs.declared.answer.Answer.{Answer}
 use Rattle.pana_track.specs.IgnoreFile.{IsBehind}
 use Rattle.pana_track.specs.Reading.{ReadsRoot}
 use Rattle.pana_track.specs.declared.read_fault.ReadFault.{ReadFault}

@@ -12,5 +12,3 @@ pub mod Tasks
 pub mod Doors
 pub mod Folders
 pub mod Counted
-pub mod Named
-pub mod Commanded

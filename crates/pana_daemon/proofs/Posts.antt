@@ -1,7 +1,7 @@
 -- Callers that have done their work, each by itself.
 use Rattle.std.proofs.Common.{◌≡◌, ◌<◌, ℕ, suc, arith, length, slice_index_or, List, [], ◌∷◌, Option, Result, map}
-use Rattle.pana_hall.specs.declared.call.Call.{Call}
-use Rattle.pana_wire.specs.declared.answer.Answer.{Answer}
+use Rattle.pana_calls.specs.declared.call.Call.{Call}
+use Rattle.pana_calls.specs.declared.answer.Answer.{Answer}
 use Rattle.pana_daemon.specs.declared.folder.Look.{Look}
 use Rattle.pana_daemon.specs.declared.connection.Connection.{Connection}
 use Rattle.pana_daemon.specs.declared.post.Caller.{Caller}

@@ -1,7 +1,7 @@
 -- Looks of a scanner, one after another.
 use Rattle.std.proofs.Common.{◌≡◌, ℕ, List, [], ◌∷◌, ◌++◌, Option, Some, inr, refl, sym, ap, subst, ◌∙◌, append_assoc, append-nil}
-use Rattle.pana_hall.specs.declared.call.Call.{Call}
-use Rattle.pana_wire.specs.declared.answer.Answer.{Answer}
+use Rattle.pana_calls.specs.declared.call.Call.{Call}
+use Rattle.pana_calls.specs.declared.answer.Answer.{Answer}
 use Rattle.pana_scan.specs.declared.baseline.BaselineRow.{BaselineRow}
 use Rattle.pana_track.specs.Calls.{Asked, Makes}
 use Rattle.pana_track.proofs.Reported.{makes_on}

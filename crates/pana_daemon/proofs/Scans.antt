@@ -1,15 +1,15 @@
 -- Calls of a scanner, one after another.
 use Rattle.std.proofs.Common.{◌≡◌, ◌≢◌, ℕ, ◌+◌, ◌<◌, ◌≤◌, suc, take, drop, drop-cons, List, [], ◌∷◌, ◌++◌, length, Option, None, Result, Ok, Err, ◌⊎◌, inl, inr, Bool, true, false, true≢false, refl, IfOk, IfErr, OnErr, OnOk, is_ok, sym, ap, subst, ◌∙◌, slice_index_or, append-nil, arith}
-use Rattle.pana_hall.specs.declared.call.Call.{Call}
-use Rattle.pana_hall.specs.declared.call.Call.TheVariants as calls
-use Rattle.pana_wire.specs.declared.answer.Answer.{Answer}
-use Rattle.pana_wire.specs.declared.answer.Answer.TheVariants.{Given, NotKept}
-use Rattle.pana_wire.specs.declared.answer.NoAnswer.{NoAnswer}
+use Rattle.pana_calls.specs.declared.call.Call.{Call}
+use Rattle.pana_calls.specs.declared.call.Call.TheVariants as calls
+use Rattle.pana_calls.specs.declared.answer.Answer.{Answer}
+use Rattle.pana_calls.specs.declared.answer.Answer.TheVariants.{Given, NotKept}
+use Rattle.pana_calls.specs.declared.answer.NoAnswer.{NoAnswer}
 use Rattle.pana_scan.specs.declared.step.Step.{Step}
 use Rattle.pana_scan.specs.Listing.{Contents}
-use Rattle.pana_hall.specs.declared.call.Query.TheVariants as queries
-use Rattle.pana_hall.specs.declared.holding.Holding.{Holding}
-use Rattle.pana_hall.specs.declared.reply.Reply.TheVariants.{At, Status, Done, Did, Known, Families, Board, Stamps, Pair, Holdings, Journal, Refused}
+use Rattle.pana_calls.specs.declared.call.Query.TheVariants as queries
+use Rattle.pana_calls.specs.declared.holding.Holding.{Holding}
+use Rattle.pana_calls.specs.declared.reply.Reply.TheVariants.{At, Status, Done, Did, Known, Families, Board, Stamps, Pair, Holdings, Journal, Refused}
 use Rattle.pana_scan.specs.declared.baseline.BaselineRow.{BaselineRow}
 use Rattle.pana_scan.specs.Plan.{plan_of}
 use Rattle.pana_scan.specs.declared.step.Plan.{Plan}

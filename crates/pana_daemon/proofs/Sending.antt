@@ -6,9 +6,9 @@ use denote.Param.SendFields.{as_row_send, declared_send}
 use denote.Param.Send.{IsSend, IsSync, sendable, view_send, shr_send}
 use Rattle.std.specs.contracts.result.Result as results_row
 use Rattle.pana_wire.specs.contracts.message.Message as message
-use Rattle.pana_wire.specs.contracts.answer.Answer as answer
-use Rattle.pana_wire.specs.contracts.answer.NoAnswer as no_answer
-use Rattle.pana_wire.specs.declared.session.Session.{Ghosts}
+use Rattle.pana_calls.specs.contracts.answer.Answer as answer
+use Rattle.pana_calls.specs.contracts.answer.NoAnswer as no_answer
+use Rattle.pana_calls.specs.declared.session.Session.{Ghosts}
 use Rattle.pana_turn.specs.contracts.desk.Desk as desk
 use Rattle.pana_turn.specs.contracts.pass.Pass as pass
 use Rattle.pana_turn.proofs.Sending as turns

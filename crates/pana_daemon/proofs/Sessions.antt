@@ -1,8 +1,8 @@
 -- What a session leaves of its pass.
 use Rattle.std.proofs.Common.{◌≡◌, ℕ, List, [], ◌∷◌, ◌++◌, ◌⊎◌, inl, inr, Bool, Option, Result, Ok, Err, refl, sym, ap, subst, ◌∙◌, append_assoc, append-nil, ◌^◌, IfOk, IfErr}
-use Rattle.pana_hall.specs.declared.call.Call.{Call}
-use Rattle.pana_wire.specs.declared.answer.Answer.{Answer}
-use Rattle.pana_wire.specs.declared.answer.NoAnswer.{NoAnswer}
+use Rattle.pana_calls.specs.declared.call.Call.{Call}
+use Rattle.pana_calls.specs.declared.answer.Answer.{Answer}
+use Rattle.pana_calls.specs.declared.answer.NoAnswer.{NoAnswer}
 use Rattle.pana_wire.specs.declared.fault.WireFault.{WireFault}
 use Rattle.pana_wire.specs.declared.message.Message.{Message}
 use Rattle.pana_wire.specs.declared.tap.Tap.{Tap}

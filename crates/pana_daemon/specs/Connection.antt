@@ -1,8 +1,8 @@
 -- Connections that a pass served, one after another.
 use Rattle.std.specs.Prelude.{◌≡◌, ℕ, List, [], ◌∷◌, Option, Some, None, Result}
-use Rattle.pana_hall.specs.declared.call.Call.{Call}
+use Rattle.pana_calls.specs.declared.call.Call.{Call}
 use Rattle.pana_wire.specs.Tap.{inside, IsUnused}
-use Rattle.pana_wire.specs.declared.answer.Answer.{Answer}
+use Rattle.pana_calls.specs.declared.answer.Answer.{Answer}
 use Rattle.pana_wire.specs.declared.serving.Served.{Served}
 use Rattle.pana_wire.specs.declared.serving.ServeFault.{ServeFault}
 use Rattle.pana_wire.specs.declared.tap.Tap.{Tap}

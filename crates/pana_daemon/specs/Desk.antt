@@ -1,8 +1,8 @@
 -- The desk of a session that all share: what a call does to the session, and what contracts see of a pass.
 use Rattle.std.specs.Prelude.{ℕ, List, Result, Ok, Err}
-use Rattle.pana_hall.specs.declared.call.Call.{Call}
-use Rattle.pana_wire.specs.declared.answer.Answer.{Answer}
-use Rattle.pana_wire.specs.declared.answer.NoAnswer.{NoAnswer}
+use Rattle.pana_calls.specs.declared.call.Call.{Call}
+use Rattle.pana_calls.specs.declared.answer.Answer.{Answer}
+use Rattle.pana_calls.specs.declared.answer.NoAnswer.{NoAnswer}
 use Rattle.pana_wire.specs.declared.message.Message.{Message}
 use Rattle.pana_turn.specs.declared.finished_call.FinishedCall.{FinishedCall}
 use Rattle.pana_turn.specs.Passes.{PassView as ViewOf}

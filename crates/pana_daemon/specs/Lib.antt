@@ -11,5 +11,4 @@ pub mod Newlines
 pub mod Start
 pub mod Root
 pub mod Serve
-pub mod Program
 pub mod inner

@@ -1,10 +1,10 @@
 -- What callers leave of the session that all share.
 use Rattle.std.specs.Prelude.{◌≡◌, ◌&&◌, ℕ, Bool, true, false, List, length, replicate, Option, Some, None, Result}
 use Rattle.std.specs.List.{list_any}
-use Rattle.pana_hall.specs.declared.call.Call.{Call}
+use Rattle.pana_calls.specs.declared.call.Call.{Call}
 use Rattle.pana_turn.specs.Closing.{Closes}
 use Rattle.pana_turn.specs.Passes.{DeskId, new_passes}
-use Rattle.pana_wire.specs.declared.answer.Answer.{Answer}
+use Rattle.pana_calls.specs.declared.answer.Answer.{Answer}
 use Rattle.pana_daemon.specs.declared.folder.Look.{Look}
 use Rattle.pana_daemon.specs.declared.looks.Looks.{Looks}
 use Rattle.pana_daemon.specs.Desk.{PassView, SharedSteps}

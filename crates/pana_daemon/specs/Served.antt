@@ -1,9 +1,9 @@
 -- Sessions that were served by a pass: what was written for what was read, and when.
 use Rattle.std.specs.Prelude.{◌^◌, ◌⊎◌, ℕ, List, Option, Result, Ok, Err}
-use Rattle.pana_hall.specs.declared.call.Call.{Call}
+use Rattle.pana_calls.specs.declared.call.Call.{Call}
 use Rattle.pana_wire.specs.Session.{Serves, Stops, NeverBegins}
 use Rattle.pana_wire.specs.Timely.{IsTimely}
-use Rattle.pana_wire.specs.declared.answer.Answer.{Answer}
+use Rattle.pana_calls.specs.declared.answer.Answer.{Answer}
 use Rattle.pana_wire.specs.declared.serving.Served.{Served}
 use Rattle.pana_wire.specs.declared.serving.ServeFault.{ServeFault}
 use Rattle.pana_wire.specs.declared.tap.Tap.{Tap}

@@ -2,9 +2,9 @@
 use Rattle.std.specs.Prelude.{◌≡◌, ◌⊎◌, ◌^◌, ◌≤◌, ℕ, Bool, List, length, Result, Ok, Err, is_err}
 use Rattle.std.specs.List.{list_any}
 use mathlib.Core.List.{IsPrefix}
-use Rattle.pana_hall.specs.declared.call.Call.{Call}
-use Rattle.pana_wire.specs.declared.answer.Answer.{Answer}
-use Rattle.pana_wire.specs.declared.answer.NoAnswer.{NoAnswer}
+use Rattle.pana_calls.specs.declared.call.Call.{Call}
+use Rattle.pana_calls.specs.declared.answer.Answer.{Answer}
+use Rattle.pana_calls.specs.declared.answer.NoAnswer.{NoAnswer}
 use Rattle.pana_turn.specs.History.{IsHistory}
 use Rattle.pana_turn.specs.Passes.{AddsCall, IsSamePass, own_calls}
 use Rattle.pana_daemon.specs.Desk.{PassView, SharedSteps}

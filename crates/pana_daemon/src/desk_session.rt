@@ -2,10 +2,10 @@
 
 use crate::shared::Shared;
 use crate::supervisor::Supervisor;
+use pana_calls::{Answer, Call, NoAnswer, Session};
 use pana_copies::DeviceName;
-use pana_hall::Call;
 use pana_turn::{Desk, Pass};
-use pana_wire::{Answer, Message, NoAnswer, Session};
+use pana_wire::Message;
 use std::marker::Model;
 use std::sync::Wait;
 

@@ -47,6 +47,8 @@ pub struct PassedOver<'a, 'b> {
 #[derive(Clone, Copy)]
 pub struct SystemDisks<'a, 'b, 'c, 'd> {
     pub files: &'a HostRuntime,
+    /// Whether folders of other file systems than a root's are passed over.
+    pub stays: bool,
     pub passed_over: &'b [PassedOver<'c, 'd>],
 }
 
@@ -84,7 +86,7 @@ impl<'a> Disks for SystemDisks<'a, '_, '_, '_> {
     ghost passes = { λ disks folder. passed_in disks.passed_over.now folder };
 
     fn disk(&self, sums: Sums) -> QuickDisk<'a, HostRuntime> {
-        QuickDisk::new(self.files, sums, now(self.files))
+        QuickDisk::new(self.files, self.stays, sums, now(self.files))
     }
 
     fn sums_of(&self, disk: QuickDisk<'a, HostRuntime>) -> Sums {

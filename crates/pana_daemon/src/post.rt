@@ -7,8 +7,8 @@ use crate::folder::Folder;
 use crate::scanning::scanner;
 use crate::supervisor::Supervisor;
 use crate::working::work;
+use pana_calls::Session;
 use pana_copies::DeviceName;
-use pana_wire::Session;
 use std::alloc::Global;
 use std::sync::Wait;
 

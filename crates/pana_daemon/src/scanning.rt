@@ -5,11 +5,10 @@ ghost use Rattle.pana_daemon.specs.Scan.{Scans, done_as};
 ghost use Rattle.pana_daemon.specs.inner.Scan.{Asks, IsOwn, LooksOnce, ReportsOne, ReportsSteps, ScansOnce, StopsLook, StopsReporting, StopsScan, TracksOnce, StopsTracking};
 
 use crate::folder::{Folder, Look};
+use pana_calls::{Answer, Call, HoldingList, NoAnswer, Query, Reply, Session};
 use pana_copies::DeviceName;
-use pana_hall::{Call, HoldingList, Query, Reply};
 use pana_scan::{Baseline, Listing, Plan, ScanFault, Step, plan};
 use pana_track::{FolderEnd, ReadFault, TrackedListing, track_folder};
-use pana_wire::{Answer, NoAnswer, Session};
 use std::alloc::Global;
 use std::sync::Wait;
 

@@ -1,8 +1,8 @@
 //! The session that all at a desk share.
 
-use pana_hall::Call;
+use pana_calls::{Answer, Call, NoAnswer, Session};
 use pana_turn::Machine;
-use pana_wire::{Answer, Message, NoAnswer, Session};
+use pana_wire::Message;
 use std::marker::Model;
 
 /// A session as the machine of a desk: its callers' calls are made in it, one at a time. To contracts it is the session.

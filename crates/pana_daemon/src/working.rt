@@ -4,7 +4,7 @@ ghost use Rattle.pana_daemon.specs.Connection.{Works};
 use crate::desk_session::DeskSession;
 use crate::door::Door;
 use crate::supervisor::Supervisor;
-use pana_wire::Session;
+use pana_calls::Session;
 use std::alloc::Global;
 use std::sync::Wait;
 

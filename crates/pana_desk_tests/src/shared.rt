@@ -1,12 +1,13 @@
 //! What no clause says of a hall at a desk: that calls succeed where memory is there, and that a board sees another pass's
 //! call. Where an allocation fails, the test ends with that error.
 
+use pana_calls::{Answer, Call, Cause, NoAnswer, Query, Reply};
 use pana_copies::{CopyPath, DeviceName, Place};
 use pana_daemon::Shared;
-use pana_hall::{Call, Cause, Hall, Query, Reply};
+use pana_hall::Hall;
 use pana_journal::Report;
 use pana_turn::{Desk, Spent};
-use pana_wire::{Answer, Message, NoAnswer};
+use pana_wire::Message;
 use std::alloc::{AllocError, Global};
 use std::test::Fail;
 

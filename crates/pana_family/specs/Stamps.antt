@@ -4,7 +4,7 @@ use Rattle.pana_id.specs.Id.{Id, is_zero, IsValid, SharesNoPoint}
 use Rattle.pana_event.specs.Event.{Event, IsSound}
 use Rattle.pana_event.specs.Relation.{IsRelation}
 use Rattle.pana_text.specs.Text.{stamp_text}
-use Rattle.pana_family.specs.declared.stamps.CopyStamp.{CopyStamp}
+use Rattle.pana_calls.specs.declared.copy_stamp.CopyStamp.{CopyStamp}
 use Rattle.pana_family.specs.Relation.{relation}
 use Rattle.pana_family.specs.declared.row.StampRow.{StampRow}
 use Rattle.pana_family.specs.Rows.{copy_rows}

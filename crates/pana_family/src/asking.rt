@@ -11,7 +11,8 @@ ghost use Rattle.pana_family.specs.Rows.{AreBefore, copy_rows, divides, held_row
 use crate::board::{FamilyBoard, board_of};
 use crate::family::Family;
 use crate::searching::{are_before, copy_numbers, count_copies, held_count, index_of, lives};
-use crate::stamps::{CopyStamp, all_valid, stamps_of};
+use crate::stamps::{all_valid, stamps_of};
+use pana_calls::CopyStamp;
 use pana_event::Rel;
 use pana_list::PlainList;
 use std::alloc::AllocError;

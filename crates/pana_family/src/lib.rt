@@ -31,4 +31,3 @@ pub use crate::family::Family;
 pub use crate::fault::FamilyFault;
 pub use crate::report::FamilyReport;
 pub use crate::row::StampRow;
-pub use crate::stamps::CopyStamp;

@@ -4,15 +4,9 @@ ghost use Rattle.pana_family.specs.{Stamps.text_of, Stamps.row_text, Rows.AreSou
 
 use crate::row::StampRow;
 use crate::searching::is_copy;
+use pana_calls::CopyStamp;
 use pana_text::write;
 use std::alloc::{AllocError, Global};
-
-/// A copy's number and the text of its stamp.
-#[derive(Debug, Drop)]
-pub struct CopyStamp {
-    pub copy: u64,
-    pub text: String,
-}
 
 /// The trees of rows are within the limits, which their types say.
 pub fn all_valid(rows: &[StampRow])

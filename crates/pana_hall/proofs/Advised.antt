@@ -11,8 +11,8 @@ use Rattle.pana_family.specs.Relation.{relation}
 use Rattle.pana_family.specs.Updates.{IsSubset, is_within}
 use Rattle.pana_family.proofs.Relations.{relates as by_sets, subset_within, within_subset}
 use Rattle.pana_family.proofs.Members.{any_from, any_some, in_append, in_filter, in_right, to_filter}
-use Rattle.pana_hall.specs.declared.standing.{CopyState.CopyState, StatusRow.StatusRow}
-use Rattle.pana_hall.specs.declared.standing.CopyState.TheVariants.{Newest, Obsolete, Conflict}
+use Rattle.pana_calls.specs.declared.standing.{CopyState.CopyState, StatusRow.StatusRow}
+use Rattle.pana_calls.specs.declared.standing.CopyState.TheVariants.{Newest, Obsolete, Conflict}
 use Rattle.pana_hall.specs.Status.{copy_relation, family_copies, is_asked, is_listed, is_newest, state_among, status_row, status_rows, with_of}
 use Rattle.pana_hall.specs.laws.Advice.{Advises, IsAdvised, IsInState, IsNewest, KnowsAllOf, KnowsMost, Reach}
 use Rattle.pana_hall.proofs.Lists.{each_left, each_map, rises_filter, rises_map}

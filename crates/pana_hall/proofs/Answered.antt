@@ -15,8 +15,10 @@ use Rattle.pana_hall.proofs.Stood.{count_rows, copies_sets, layers_stand, lives_
 use Rattle.pana_hall.proofs.Ready.{place_spots, at_spots, family_of as family_of_copy, given_back}
 use Rattle.pana_hall.proofs.{Listed.entry_within, Moves.found_number, Knowns.IsCopyIn, Knowns.found_there, Knowns.set_known}
 use Rattle.pana_family.specs.Table as table
-use Rattle.pana_family.specs.{declared.stamps.CopyStamp.CopyStamp, Stamps.AreStamps, Stamps.stamps_in, Stamps.text_of}
-use Rattle.pana_hall.specs.{declared.family_row.FamilyRow.FamilyRow, Stamps.AreStampsOf}
+use Rattle.pana_family.specs.{Stamps.AreStamps, Stamps.stamps_in, Stamps.text_of}
+use Rattle.pana_calls.specs.{declared.copy_stamp.CopyStamp.CopyStamp}
+use Rattle.pana_hall.specs.{Stamps.AreStampsOf}
+use Rattle.pana_calls.specs.{declared.family_row.FamilyRow.FamilyRow}
 use Rattle.pana_hall.specs.StampRows as rows
 use Rattle.pana_family.proofs.Changes.{touch_found}
 

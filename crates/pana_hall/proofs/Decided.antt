@@ -7,8 +7,8 @@ use Rattle.std.proofs.lemmas.Slice.Eq.{bytes_eq-Decides}
 use Rattle.pana_copies.specs.Spots as tables
 use Rattle.pana_family.proofs.Members.{any_some, from_both, to_filter}
 use Rattle.pana_hall.proofs.Words.{Edit, Reconcile, Merge, Remove, Note, IsSome, IsThere}
-use Rattle.pana_hall.specs.declared.call.Sighting.{Sighting}
-use Rattle.pana_hall.specs.declared.call.Sighting.TheVariants.{Found, Missing}
+use Rattle.pana_calls.specs.declared.call.Sighting.{Sighting}
+use Rattle.pana_calls.specs.declared.call.Sighting.TheVariants.{Found, Missing}
 use Rattle.std.specs.Option.{option_or}
 use Rattle.pana_event.specs.declared.rel.Rel.{Rel}
 use Rattle.pana_event.specs.declared.rel.Rel.TheVariants as rels

@@ -1,7 +1,7 @@
 -- What is known after a sighting, and which heir is taken.
 use Rattle.pana_hall.proofs.Words.{◌≡◌, ℕ, ◌==◌, ◌||◌, Bool, true, false, cond, ◌&&◌, List, [], ◌∷◌, Option, Some, None, option_map, unwrap_or, filter, find, refl, sym, ap, ap₂, ◌∙◌, subst, inl, inr, arith, nat_tests}
 use Rattle.pana_hall.proofs.Words.{Entry, Copy, copy_in, living, Place, IsAccepted, Remove, eqb-true, eq-eqb, has, is_of, list_any, not, same_place, In, cases_Bool, AreRising, ◌≤◌, ◌≢◌, ne_eqb, bytes_eq}
-use Rattle.pana_hall.specs.declared.call.Sighting.TheVariants.{Found, Missing}
+use Rattle.pana_calls.specs.declared.call.Sighting.TheVariants.{Found, Missing}
 use Rattle.pana_hall.specs.declared.decision.Decision.TheVariants.{Known, One}
 use Rattle.pana_event.specs.declared.rel.Rel.{Rel}
 use Rattle.pana_event.specs.declared.rel.Rel.TheVariants as rels

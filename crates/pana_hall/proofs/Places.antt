@@ -4,7 +4,8 @@ use Rattle.pana_hall.proofs.Words.{AllByRecursion, refl, sym, ap, ◌∙◌, inl
 use Rattle.pana_hall.proofs.Words.{entries_of, effective, left_out, is_of_copies, Copy, new_copy, made, comes, copy_in, living, after_report, after_entry, last, brought_back, displaced}
 use Rattle.pana_hall.proofs.Words.{taken_from, IsAccepted, Accepts, table, layer, option_to_list, eqb-true, cases_eq, Spot, placed, Report, spot_of, spot_in, mover, spot_to}
 use Rattle.pana_hall.proofs.Words.{put, spot_after, bytes_eq, nat_tests, Place, same_place, AreApart, AreRising, Holding, holding, holdings}
-use Rattle.pana_hall.specs.{Living.copies_of, Holdings.HaveOwnPaths, Queries.holdings_from}
+use Rattle.pana_hall.specs.{Living.copies_of, Queries.holdings_from}
+use Rattle.pana_calls.specs.{Holdings.HaveOwnPaths}
 use Rattle.pana_hall.proofs.Lists.{each_filter, filter_swap, last_push, each_weaker, each_two}
 use Rattle.pana_hall.proofs.Moves.{displaced_named, found_number, IsWell, found_fits, copies_fit, copies_of-family, copies_of-push, copy_in-family, AreBelow, made_same, new_number, each_after, none_below, found_push, found_after, Fits}
 use Rattle.pana_hall.proofs.Sound.{own, own_other, IsSound, accepted_is_sound, effective_well, effective-copies, living_fit, effective-confirm, free_place, in_accepted, OfCopies, Confirms, Withdraws, kind_of, effective-push}

@@ -13,13 +13,13 @@ use Rattle.pana_family.proofs.Members.{any_from, any_some, from_both, in_filter,
 use Rattle.pana_hall.proofs.Words.{In, Known, all_known, ap₂, eq-eqb, has, inl, inr, sets_of, ◌==◌}
 use Rattle.pana_family.proofs.BySets.{copy_numbers}
 use Rattle.pana_hall.specs.declared.relating.Relative.{Relative}
-use Rattle.pana_hall.specs.declared.standing.CopyState.{CopyState}
-use Rattle.pana_hall.specs.declared.standing.CopyState.TheVariants.{Newest, Obsolete, Conflict}
+use Rattle.pana_calls.specs.declared.standing.CopyState.{CopyState}
+use Rattle.pana_calls.specs.declared.standing.CopyState.TheVariants.{Newest, Obsolete, Conflict}
 use Rattle.std.proofs.lemmas.Bool.{le-leb}
 use Rattle.std.proofs.lemmas.List.{take-append-le}
 use Rattle.pana_rel.specs.declared.counts.Counts.{Counts}
 use Rattle.pana_hall.specs.{Living.sum_of, inner.Rows.sum_in}
-use Rattle.pana_hall.specs.declared.standing.{CopyStanding.CopyStanding, PlacedCopy.PlacedCopy, StatusRow.StatusRow}
+use Rattle.pana_calls.specs.declared.standing.{CopyStanding.CopyStanding, PlacedCopy.PlacedCopy, StatusRow.StatusRow}
 use Rattle.pana_hall.specs.Status.{is_asked, is_newest, standing_of, state_of, status_rows, copy_relation, counts_among, family_copies, is_listed, placed, state_among, status_row, with_of}
 use Rattle.pana_hall.specs.inner.Relatives.{counts_in, first_number, newest_with, numbers_with, placed_at, relates_so, relative, relatives_of, replaces, row_in, with_in}
 use Rattle.pana_hall.proofs.Lists.{each_filter, each_map, each_passes, each_two, each_weaker, each_of, filter_all, filter_twice, found_by}

@@ -2,10 +2,12 @@
 use Rattle.pana_hall.proofs.Words.{nat_tests, arith, ◌≡◌, ℕ, ◌+◌, List, [], ◌∷◌, ◌++◌, length, None, ◌≤◌, refl, sym, ap, ◌∙◌, subst, inl, append-nil, append_assoc, Entry, Call}
 use Rattle.pana_hall.proofs.Words.{Cause, living, report_refusal, journal_from, RunsTo, Accepts, AcceptsAll, IsAccepted, map-append, AllByRecursion, families, AreRising, Exchange, IsRun, IsRunFrom}
 use Rattle.pana_hall.proofs.Words.{IsNumbered, IsOrderly, OutOfMemory}
-use Rattle.pana_hall.specs.declared.call.Call.TheVariants as calls
-use Rattle.pana_hall.specs.{declared.reply.Reply.Reply, Refusal.refusal, Permit.Permits, Permit.PermitsBy, Permit.journal_after, declared.reply.Reply.TheVariants.Done}
-use Rattle.pana_hall.specs.{declared.reply.Reply.TheVariants.Refused, declared.load_fault.LoadFault.LoadFault, Load.IsLoadFault}
-use Rattle.pana_hall.specs.declared.reply.Reply.TheVariants as replies
+use Rattle.pana_calls.specs.declared.call.Call.TheVariants as calls
+use Rattle.pana_hall.specs.{Refusal.refusal, Permit.Permits, Permit.PermitsBy, Permit.journal_after}
+use Rattle.pana_calls.specs.{declared.reply.Reply.Reply, declared.reply.Reply.TheVariants.Done}
+use Rattle.pana_hall.specs.{declared.load_fault.LoadFault.LoadFault, Load.IsLoadFault}
+use Rattle.pana_calls.specs.{declared.reply.Reply.TheVariants.Refused}
+use Rattle.pana_calls.specs.declared.reply.Reply.TheVariants as replies
 use Rattle.pana_hall.proofs.{Lists.each_weaker, Sound.accepted_is_sound, Tables.merged, Places.accepted_is_apart}
 use Rattle.pana_hall.specs.declared.load_fault.LoadCause.TheVariants.{Refused as LoadRefused}
 

@@ -1,14 +1,14 @@
 -- What a sighting comes to, once it is decided.
 use Rattle.pana_hall.proofs.Words.{◌≡◌, ℕ, ◌==◌, ◌&&◌, Bool, true, false, not, List, [], ◌∷◌, find, filter, Option, Some, None, option_map, option_and_then, then_some, unwrap_or, is_none, AllByRecursion, IsSome}
 use Rattle.pana_hall.proofs.Words.{refl, sym, ap, ◌∙◌, subst, inl, inr, eq-eqb, eqb-true, cond, Entry, Report, Duplicate, Edit, Merge, Note, Reconcile, Register, Remove, Copy, copy_in, living, is_of, IsAccepted, Cause, OutOfMemory, same_place}
-use Rattle.pana_hall.specs.declared.call.Sighting.{Sighting}
-use Rattle.pana_hall.specs.declared.call.Sighting.TheVariants.{Found, Missing}
-use Rattle.pana_hall.specs.declared.call.Call.TheVariants as calls
+use Rattle.pana_calls.specs.declared.call.Sighting.{Sighting}
+use Rattle.pana_calls.specs.declared.call.Sighting.TheVariants.{Found, Missing}
+use Rattle.pana_calls.specs.declared.call.Call.TheVariants as calls
 use Rattle.pana_hall.specs.declared.decision.Decision.{Decision}
 use Rattle.pana_hall.specs.declared.decision.Decision.TheVariants.{Known, One, Both}
 use Rattle.pana_hall.specs.declared.planning.Plan.{Plan}
-use Rattle.pana_hall.specs.declared.reply.Reply.{Reply}
-use Rattle.pana_hall.specs.declared.reply.Reply.TheVariants as replies
+use Rattle.pana_calls.specs.declared.reply.Reply.{Reply}
+use Rattle.pana_calls.specs.declared.reply.Reply.TheVariants as replies
 use Rattle.pana_event.specs.declared.rel.Rel.TheVariants as rels
 use Rattle.pana_hall.specs.Living.{sum_of}
 use Rattle.pana_hall.specs.Finding.{best, decision, elsewhere, first_or, found, found_again, found_new, heir_of, holds, holds_other, missing, others, relates_to}

@@ -3,14 +3,14 @@ use Rattle.pana_hall.proofs.Words.{◌≡◌, ℕ, ◌+◌, ◌==◌, ◌||◌, 
 use Rattle.pana_hall.proofs.Words.{filter_map, find, refl, sym, ap, ap₂, ◌∙◌, subst, inl, inr, arith, nat_tests, Entry, Report, Copy, copy_in, known_to, living, made, after_report, is_of_copies, Place, IsAccepted}
 use Rattle.pana_hall.proofs.Words.{Remove, content_by, eqb-true, has, is_of, list_any, not, same_place, ◌⊎◌, In}
 use Rattle.pana_family.specs.Relation.{relation}
-use Rattle.pana_hall.specs.declared.call.Call.TheVariants as calls
-use Rattle.pana_hall.specs.declared.call.Sighting.{Sighting}
-use Rattle.pana_hall.specs.declared.call.Sighting.TheVariants.{Found, Missing}
-use Rattle.pana_hall.specs.declared.cause.Cause.{Cause}
+use Rattle.pana_calls.specs.declared.call.Call.TheVariants as calls
+use Rattle.pana_calls.specs.declared.call.Sighting.{Sighting}
+use Rattle.pana_calls.specs.declared.call.Sighting.TheVariants.{Found, Missing}
+use Rattle.pana_calls.specs.declared.cause.Cause.{Cause}
 use Rattle.pana_hall.specs.declared.decision.Decision.{Decision}
 use Rattle.pana_hall.specs.declared.decision.Decision.TheVariants.{Both, Known, One}
-use Rattle.pana_hall.specs.declared.reply.Reply.{Reply}
-use Rattle.pana_hall.specs.declared.reply.Reply.TheVariants as replies
+use Rattle.pana_calls.specs.declared.reply.Reply.{Reply}
+use Rattle.pana_calls.specs.declared.reply.Reply.TheVariants as replies
 use Rattle.pana_journal.specs.declared.report.Report.TheVariants.{Duplicate, Edit, Merge, Note, Reconcile, Register}
 use Rattle.pana_event.specs.declared.rel.Rel.TheVariants as rels
 use Rattle.pana_hall.specs.Living.{changed, changes, copies_of, sum_of, touched}

@@ -9,7 +9,7 @@ use Rattle.std.specs.Prelude.{vec_len}
 use Rattle.std.specs.Option.{option_or}
 use Rattle.pana_journal.specs.Reports.{given_sum}
 use Rattle.pana_hall.specs.declared.decision.Decision.TheVariants.{Both}
-use Rattle.pana_hall.specs.declared.cause.Cause.TheVariants.{JournalFull}
+use Rattle.pana_calls.specs.declared.cause.Cause.TheVariants.{JournalFull}
 use Rattle.pana_hall.specs.declared.next.Next.{Next}
 use Rattle.pana_hall.specs.declared.state.State.{State}
 use Rattle.pana_hall.specs.Refusal.{decision_refusal, with_report}

@@ -40,11 +40,11 @@ pub use Rattle.pana_hall.specs.Refusal.{against, against_two, brought_back, disp
 pub use Rattle.pana_hall.specs.Refusal.{taken_from, taken_since, too_deep, unknown, unknown_family}
 pub use Rattle.pana_hall.specs.Run.{Exchange, IsRun, IsRunFrom, RunsTo, journal_from}
 pub use Rattle.pana_hall.specs.StampRows.{rows_after, rows_by, rows_of, stamp_rows}
-pub use Rattle.pana_hall.specs.declared.board.BoardRow.{BoardRow}
-pub use Rattle.pana_hall.specs.declared.call.Call.{Call}
-pub use Rattle.pana_hall.specs.declared.cause.Cause.{Cause}
-pub use Rattle.pana_hall.specs.declared.cause.Cause.TheVariants.{FamilyFull, NotYours, OtherFamily, OutOfMemory, PlaceTaken, SameCopy, Settled, TooDeep, UnknownCopy, UnknownEntry, UnknownFamily}
-pub use Rattle.pana_hall.specs.declared.holding.Holding.{Holding}
+pub use Rattle.pana_calls.specs.declared.board.BoardRow.{BoardRow}
+pub use Rattle.pana_calls.specs.declared.call.Call.{Call}
+pub use Rattle.pana_calls.specs.declared.cause.Cause.{Cause}
+pub use Rattle.pana_calls.specs.declared.cause.Cause.TheVariants.{FamilyFull, NotYours, OtherFamily, OutOfMemory, PlaceTaken, SameCopy, Settled, TooDeep, UnknownCopy, UnknownEntry, UnknownFamily}
+pub use Rattle.pana_calls.specs.declared.holding.Holding.{Holding}
 pub use Rattle.pana_hall.specs.declared.listed_family.ListedFamily.{ListedFamily}
 pub use Rattle.pana_hall.specs.declared.undo.Undo.{Undo}
 pub use Rattle.pana_hall.specs.inner.Kept.{ArePlaced, AreSpots, IsReady, IsReadyAt, IsWithin, families_of, family_of, next_entry, of_each, of_pending, before_of, said_before, place_before, position_for, position_of_subject}

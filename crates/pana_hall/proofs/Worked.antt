@@ -3,10 +3,11 @@ use Rattle.pana_hall.proofs.Words.{◌≡◌, ℕ, zero, suc, ◌+◌, true, fal
 use Rattle.pana_hall.proofs.Words.{Relocate, Remove, Confirm, Withdraw, Entry, Cause, PlaceTaken, FamilyFull, Settled, BoardRow, families, living, known_to, pending, holdings, report_refusal, table}
 use Rattle.pana_hall.proofs.Words.{AreApart, codes, UnknownCopy, SameCopy, OtherFamily, UnknownEntry, NotYours, UnknownFamily, page, family_rows, pair_of}
 use Rattle.pana_event.specs.declared.rel.Rel.TheVariants.{Equal, Older, Conflict}
-use Rattle.pana_hall.specs.{declared.call.Query.Query, declared.call.Query.TheVariants.Board, declared.call.Query.TheVariants.Pair, Living.copies_of, StampRows.rows_of}
+use Rattle.pana_hall.specs.{Living.copies_of, StampRows.rows_of}
+use Rattle.pana_calls.specs.{declared.call.Query.Query, declared.call.Query.TheVariants.Board, declared.call.Query.TheVariants.Pair}
 use Rattle.pana_hall.specs.{Board.board_of, Board.row_of, Refusal.refusal}
 use Rattle.pana_journal.specs.declared.report.Report.TheVariants as reports
-use Rattle.pana_hall.specs.declared.call.Call.TheVariants as calls
+use Rattle.pana_calls.specs.declared.call.Call.TheVariants as calls
 use Rattle.pana_family.specs.Board.{board_newest, board_split}
 
 -- Worked examples, computed from the definitions.

@@ -1,8 +1,8 @@
 -- Worked examples of what copy is at a place, and of what is obsolete or in conflict, computed from the definitions.
 use Rattle.pana_hall.proofs.Words.{◌≡◌, ℕ, List, [], ◌∷◌, Some, None, refl, Place, Report, Register, Duplicate, Edit, Reconcile, Entry, IsAccepted, codes, living}
 use Rattle.pana_hall.specs.{Living.copies_of, StampRows.rows_of}
-use Rattle.pana_hall.specs.declared.standing.{CopyState.CopyState, CopyStanding.CopyStanding, PlacedCopy.PlacedCopy, StatusRow.StatusRow}
-use Rattle.pana_hall.specs.declared.standing.CopyState.TheVariants.{Newest, Obsolete, Conflict}
+use Rattle.pana_calls.specs.declared.standing.{CopyState.CopyState, CopyStanding.CopyStanding, PlacedCopy.PlacedCopy, StatusRow.StatusRow}
+use Rattle.pana_calls.specs.declared.standing.CopyState.TheVariants.{Newest, Obsolete, Conflict}
 use Rattle.pana_hall.specs.Status.{is_listed, standing_at, standing_of, status_row, status_rows}
 
 abbrev entry : ℕ → Report → Entry

@@ -3,8 +3,8 @@ use Rattle.std.specs.Prelude.{ℕ, Bool, ◌==◌, List, map, filter}
 use Rattle.pana_rel.specs.Board.{counts_of}
 use Rattle.pana_family.specs.Table.{Known}
 use Rattle.pana_family.specs.Board as board
-use Rattle.pana_hall.specs.declared.board.BoardRow.{BoardRow}
-use Rattle.pana_hall.specs.declared.board.BoardView.{BoardView}
+use Rattle.pana_calls.specs.declared.board.BoardRow.{BoardRow}
+use Rattle.pana_calls.specs.declared.board.BoardView.{BoardView}
 use Rattle.pana_hall.specs.Living.{Copy, number_of}
 
 -- whether the copy is of the family

@@ -11,8 +11,8 @@ use Rattle.pana_event.specs.declared.rel.Rel.TheVariants as rels
 use Rattle.pana_event.specs.declared.rel.Rel.{Rel}
 use Rattle.pana_rel.specs.Board.{is_rel}
 use Rattle.pana_journal.specs.declared.report.Report.TheVariants.{Register, Duplicate, Edit, Reconcile, Merge, Remove, Note}
-use Rattle.pana_hall.specs.declared.call.Sighting.{Sighting}
-use Rattle.pana_hall.specs.declared.call.Sighting.TheVariants.{Found, Missing}
+use Rattle.pana_calls.specs.declared.call.Sighting.{Sighting}
+use Rattle.pana_calls.specs.declared.call.Sighting.TheVariants.{Found, Missing}
 use Rattle.pana_hall.specs.declared.decision.Decision.{Decision}
 use Rattle.pana_hall.specs.declared.decision.Decision.TheVariants.{Known, One, Both}
 use Rattle.pana_hall.specs.Living.{Copy, number_of, sum_of}

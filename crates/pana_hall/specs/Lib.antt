@@ -1,4 +1,3 @@
-pub mod Cause
 pub mod Family
 pub mod Effective
 pub mod Living
@@ -6,8 +5,6 @@ pub mod Pending
 pub mod Board
 pub mod StampRows
 pub mod Stamps
-pub mod Holdings
-pub mod Standing
 pub mod Status
 pub mod Finding
 pub mod Queries

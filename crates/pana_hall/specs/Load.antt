@@ -1,13 +1,13 @@
 -- Why entries are not loaded.
 use Rattle.std.specs.Prelude.{◌≡◌, ◌≢◌, ℕ, ◌+◌, List, ◌∷◌, ◌++◌, length, codes, decimal, ◌⊎◌}
 use Rattle.pana_journal.specs.declared.entry.Entry.{Entry}
-use Rattle.pana_hall.specs.declared.call.Call.TheVariants as calls
-use Rattle.pana_hall.specs.declared.cause.Cause.TheVariants as causes
-use Rattle.pana_hall.specs.declared.reply.Reply.TheVariants as replies
+use Rattle.pana_calls.specs.declared.call.Call.TheVariants as calls
+use Rattle.pana_calls.specs.declared.cause.Cause.TheVariants as causes
+use Rattle.pana_calls.specs.declared.reply.Reply.TheVariants as replies
 use Rattle.pana_hall.specs.declared.load_fault.LoadFault.{LoadFault}
 use Rattle.pana_hall.specs.declared.load_fault.LoadCause.{LoadCause}
 use Rattle.pana_hall.specs.declared.load_fault.LoadCause.TheVariants.{OutOfOrder, Refused}
-use Rattle.pana_hall.specs.Cause.{shown_cause}
+use Rattle.pana_calls.specs.Cause.{shown_cause}
 use Rattle.pana_hall.specs.Accepted.{IsAccepted}
 use Rattle.pana_hall.specs.Permit.{Permits}
 

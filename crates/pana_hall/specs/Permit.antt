@@ -1,19 +1,19 @@
 -- The replies that are permitted, and the journal that each leaves.
 use Rattle.std.specs.Prelude.{◌≡◌, ℕ, ◌+◌, List, [], ◌∷◌, ◌++◌, length, Option, Some, None, ◌⊎◌}
 use Rattle.pana_journal.specs.declared.entry.Entry.{Entry}
-use Rattle.pana_hall.specs.declared.call.Query.{Query}
-use Rattle.pana_hall.specs.declared.call.Query.TheVariants as queries
-use Rattle.pana_hall.specs.declared.call.Call.{Call}
-use Rattle.pana_hall.specs.declared.call.Call.TheVariants as calls
+use Rattle.pana_calls.specs.declared.call.Query.{Query}
+use Rattle.pana_calls.specs.declared.call.Query.TheVariants as queries
+use Rattle.pana_calls.specs.declared.call.Call.{Call}
+use Rattle.pana_calls.specs.declared.call.Call.TheVariants as calls
 use Rattle.pana_hall.specs.declared.decision.Decision.{Decision}
 use Rattle.pana_hall.specs.declared.decision.Decision.TheVariants as decisions
-use Rattle.pana_hall.specs.declared.cause.Cause.{Cause}
-use Rattle.pana_hall.specs.declared.cause.Cause.TheVariants as causes
-use Rattle.pana_hall.specs.declared.reply.Reply.{Reply}
-use Rattle.pana_hall.specs.declared.reply.Reply.TheVariants as replies
+use Rattle.pana_calls.specs.declared.cause.Cause.{Cause}
+use Rattle.pana_calls.specs.declared.cause.Cause.TheVariants as causes
+use Rattle.pana_calls.specs.declared.reply.Reply.{Reply}
+use Rattle.pana_calls.specs.declared.reply.Reply.TheVariants as replies
 use Rattle.pana_hall.specs.Living.{living}
 use Rattle.pana_hall.specs.Board.{board_of}
-use Rattle.pana_family.specs.declared.stamps.CopyStamp.{CopyStamp}
+use Rattle.pana_calls.specs.declared.copy_stamp.CopyStamp.{CopyStamp}
 use Rattle.pana_hall.specs.Stamps.{AreStampsOf}
 use Rattle.pana_hall.specs.Queries.{family_rows, pair_of, holdings, holdings_from}
 use Rattle.pana_hall.specs.Status.{standing_at, status_rows}

@@ -2,8 +2,8 @@
 use Rattle.std.specs.Prelude.{◌≡◌, ℕ, List, ◌∷◌, ◌++◌, Option, None}
 use Rattle.std.specs.Option.{option_to_list}
 use Rattle.pana_journal.specs.declared.entry.Entry.{Entry}
-use Rattle.pana_hall.specs.declared.call.Call.{Call}
-use Rattle.pana_hall.specs.declared.reply.Reply.{Reply}
+use Rattle.pana_calls.specs.declared.call.Call.{Call}
+use Rattle.pana_calls.specs.declared.reply.Reply.{Reply}
 use Rattle.pana_hall.specs.Permit.{Permits, journal_after}
 use Rattle.pana_hall.specs.Refusal.{refusal}
 

@@ -4,8 +4,8 @@ use Rattle.std.specs.List.{list_any}
 use Rattle.std.specs.Str.{bytes_eq}
 use Rattle.pana_event.specs.declared.rel.Rel.{Rel}
 use Rattle.pana_journal.specs.declared.entry.Entry.{Entry}
-use Rattle.pana_hall.specs.declared.family_row.FamilyRow.{FamilyRow}
-use Rattle.pana_hall.specs.declared.holding.Holding.{Holding}
+use Rattle.pana_calls.specs.declared.family_row.FamilyRow.{FamilyRow}
+use Rattle.pana_calls.specs.declared.holding.Holding.{Holding}
 use Rattle.pana_family.specs.Relation.{relation}
 use Rattle.pana_family.specs.Table.{Known, copies_of}
 use Rattle.pana_family.specs.Board.{board_newest, board_split}

@@ -9,14 +9,14 @@ use Rattle.pana_journal.specs.declared.report.Report.{Report}
 use Rattle.pana_journal.specs.declared.report.Report.TheVariants.{Register, Duplicate, Edit, Reconcile, Merge, Relocate, Remove, Note, Confirm, Withdraw}
 use Rattle.pana_journal.specs.declared.entry.Entry.{Entry}
 use Rattle.pana_journal.specs.Entries.{entry_at}
-use Rattle.pana_hall.specs.declared.call.Query.{Query}
-use Rattle.pana_hall.specs.declared.call.Query.TheVariants as queries
-use Rattle.pana_hall.specs.declared.call.Call.{Call}
-use Rattle.pana_hall.specs.declared.call.Call.TheVariants as calls
+use Rattle.pana_calls.specs.declared.call.Query.{Query}
+use Rattle.pana_calls.specs.declared.call.Query.TheVariants as queries
+use Rattle.pana_calls.specs.declared.call.Call.{Call}
+use Rattle.pana_calls.specs.declared.call.Call.TheVariants as calls
 use Rattle.pana_hall.specs.declared.decision.Decision.{Decision}
 use Rattle.pana_hall.specs.declared.decision.Decision.TheVariants.{Known, One, Both}
-use Rattle.pana_hall.specs.declared.cause.Cause.{Cause}
-use Rattle.pana_hall.specs.declared.cause.Cause.TheVariants.{JournalFull, UnknownCopy, SameCopy, OtherFamily, PlaceTaken, FamilyFull, TooDeep, UnknownEntry, NotYours, Settled, UnknownFamily}
+use Rattle.pana_calls.specs.declared.cause.Cause.{Cause}
+use Rattle.pana_calls.specs.declared.cause.Cause.TheVariants.{JournalFull, UnknownCopy, SameCopy, OtherFamily, PlaceTaken, FamilyFull, TooDeep, UnknownEntry, NotYours, Settled, UnknownFamily}
 use Rattle.pana_family.specs.Updates.{has}
 use Rattle.pana_family.specs.Rows.{divides}
 use Rattle.pana_hall.specs.Family.{families, has_report, is_family}

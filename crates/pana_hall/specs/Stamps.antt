@@ -1,7 +1,7 @@
 -- The answer to a question for stamps.
 use Rattle.std.specs.Prelude.{◌≡◌, ℕ, List, map}
 use Rattle.pana_journal.specs.declared.entry.Entry.{Entry}
-use Rattle.pana_family.specs.declared.stamps.CopyStamp.{CopyStamp}
+use Rattle.pana_calls.specs.declared.copy_stamp.CopyStamp.{CopyStamp}
 use Rattle.pana_family.specs.Stamps.{AreStamps, stamps_in, text_of}
 use Rattle.pana_hall.specs.Living.{living}
 use Rattle.pana_hall.specs.StampRows.{stamp_rows}

@@ -8,11 +8,11 @@ use Rattle.pana_event.specs.declared.rel.Rel.TheVariants as rels
 use Rattle.pana_rel.specs.declared.counts.Counts.{Counts}
 use Rattle.pana_rel.specs.Board.{counts_of, newest_of, relates}
 use Rattle.pana_family.specs.Board.{known_relation}
-use Rattle.pana_hall.specs.declared.standing.CopyState.{CopyState}
-use Rattle.pana_hall.specs.declared.standing.CopyState.TheVariants.{Newest, Obsolete, Conflict}
-use Rattle.pana_hall.specs.declared.standing.CopyStanding.{CopyStanding}
-use Rattle.pana_hall.specs.declared.standing.PlacedCopy.{PlacedCopy}
-use Rattle.pana_hall.specs.declared.standing.StatusRow.{StatusRow}
+use Rattle.pana_calls.specs.declared.standing.CopyState.{CopyState}
+use Rattle.pana_calls.specs.declared.standing.CopyState.TheVariants.{Newest, Obsolete, Conflict}
+use Rattle.pana_calls.specs.declared.standing.CopyStanding.{CopyStanding}
+use Rattle.pana_calls.specs.declared.standing.PlacedCopy.{PlacedCopy}
+use Rattle.pana_calls.specs.declared.standing.StatusRow.{StatusRow}
 use Rattle.pana_hall.specs.Living.{Copy, number_of, sum_of}
 use Rattle.pana_hall.specs.Board.{is_of}
 

@@ -8,17 +8,14 @@ ghost use Rattle.pana_hall.specs.{Refusal.query_refusal, Permit.Answers, Permit.
 ghost use Rattle.pana_hall.specs.Queries.{family_rows, holdings, holdings_from, pair_of, row_of_sets};
 ghost use Rattle.pana_hall.specs.inner.Rows.{holding_from, sum_in};
 
-use crate::board::{BoardRow, BoardView};
-use crate::call::{Call, Query};
-use crate::cause::Cause;
-use crate::family_row::FamilyRow;
-use crate::holding::{Holding, HoldingList};
 use crate::listed_family::ListedFamily;
-use crate::reply::Reply;
 use crate::state::State;
+use pana_calls::{
+    BoardRow, BoardView, Call, Cause, CopyStamp, FamilyRow, Holding, HoldingList, Query, Reply,
+};
 use pana_copies::{CopyTable, DeviceName, Place, Sum};
 use pana_event::Rel;
-use pana_family::{CopyCounts, CopyStamp};
+use pana_family::CopyCounts;
 use pana_list::PlainList;
 use std::alloc::{AllocError, Global};
 

@@ -7,10 +7,10 @@ ghost use Rattle.pana_hall.specs.Finding.{decision, elsewhere, found_again, foun
 ghost use Rattle.pana_hall.specs.inner.Finding.{again_in, best_in, changed_in, heir_in, holders_in, holds_so, is_elsewhere, is_newer, is_other, is_unlike, knows_all, passes, source_of};
 ghost use Rattle.pana_hall.specs.inner.Relatives.{first_number};
 
-use crate::call::Sighting;
 use crate::decision::Decision;
 use crate::relating::{Relative, is_rel, relates};
 use crate::state::State;
+use pana_calls::Sighting;
 use pana_copies::{Place, Sum};
 use pana_event::Rel;
 use pana_journal::Report;

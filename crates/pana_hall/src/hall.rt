@@ -1,11 +1,9 @@
 ghost use Rattle.std.specs.Prelude.{◌≡◌, ◌≤◌, [], length, IfOk, OnErr};
 ghost use Rattle.pana_hall.specs.{Accepted.IsAccepted, Permit.Permits, Permit.journal_after, Refusal.refusal, Run.RunsTo};
 
-use crate::call::{Call, Query, Sighting};
-use crate::cause::Cause;
 use crate::planning::Plan;
-use crate::reply::Reply;
 use crate::state::State;
+use pana_calls::{Call, Cause, Query, Reply, Sighting};
 use pana_copies::DeviceName;
 use pana_journal::Report;
 use std::alloc::{AllocError, Global};
@@ -34,8 +32,8 @@ impl Model for Hall {
 }
 
 impl Hall {
-    ghost use Rattle.pana_hall.specs.declared.call.Call.TheVariants as calls;
-    ghost use Rattle.pana_hall.specs.declared.reply.Reply.TheVariants as replies;
+    ghost use Rattle.pana_calls.specs.declared.call.Call.TheVariants as calls;
+    ghost use Rattle.pana_calls.specs.declared.reply.Reply.TheVariants as replies;
 
     /// A hall with no copy and the empty journal. Fails only where memory runs out.
     pub fn new(alloc: Global) -> Result<Hall, AllocError>

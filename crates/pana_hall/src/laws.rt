@@ -12,7 +12,8 @@ ghost use Rattle.pana_family.specs.{Table.AreBelow, Table.IsAbove, Table.registe
 ghost use Rattle.pana_hall.specs.{laws.Sets.knowns_of, laws.Sets.sets_at, StampRows.stamp_rows, Effective.effective, Effective.is_of_copies};
 ghost use Rattle.pana_hall.specs.{Effective.left_out, Board.board_of, Board.is_of, Refusal.brought_back, Refusal.displaced, Refusal.too_deep};
 ghost use Rattle.pana_hall.specs.{Run.Exchange, Run.IsRun, Run.journal_from, laws.Tables.table, laws.Tables.tables, Accepted.Accepts};
-ghost use Rattle.pana_hall.specs.{Accepted.IsAccepted, declared.cause.Cause.TheVariants.OutOfMemory, declared.cause.Cause.TheVariants.TooDeep};
+ghost use Rattle.pana_hall.specs.{Accepted.IsAccepted};
+ghost use Rattle.pana_calls.specs.{declared.cause.Cause.TheVariants.OutOfMemory, declared.cause.Cause.TheVariants.TooDeep};
 ghost use Rattle.pana_hall.specs.{declared.load_fault.LoadFault.LoadFault, declared.load_fault.LoadCause.TheVariants.Refused, Load.IsLoadFault};
 ghost use Rattle.pana_hall.specs.Family.{entries_of, families, is_family, is_register, subject};
 ghost use Rattle.pana_hall.specs.Living.{Copy, copies_of, copy_in, known_to, living, number_of};

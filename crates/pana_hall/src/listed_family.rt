@@ -12,9 +12,10 @@ ghost use Rattle.pana_family.specs.declared.report.FamilyReport.{FamilyReport as
 
 use crate::kept_family::KeptFamily;
 use crate::undo::Before;
+use pana_calls::CopyStamp;
 use pana_copies::Place;
 use pana_event::Rel;
-use pana_family::{Change, CopyStamp, Family, FamilyBoard, FamilyReport};
+use pana_family::{Change, Family, FamilyBoard, FamilyReport};
 use pana_list::PlainList;
 use std::alloc::{AllocError, Global};
 

@@ -1,5 +1,5 @@
 //! Why entries are not loaded as a journal.
-use crate::cause::Cause;
+use pana_calls::Cause;
 use std::error::Error;
 use std::fmt;
 

@@ -1,18 +1,16 @@
 //! What a sighting's entries are to be: checked, with all memory that they take, before they are made.
 ghost use Rattle.std.specs.Prelude.{◌≡◌, ◌++◌, ◌∷◌, Option, None, IfOk, IfErr, option_map};
 ghost use Rattle.std.specs.Option.{option_to_list};
-ghost use Rattle.pana_hall.specs.declared.call.Call.TheVariants as calls;
+ghost use Rattle.pana_calls.specs.declared.call.Call.TheVariants as calls;
 ghost use Rattle.pana_hall.specs.declared.decision.Decision.TheVariants.{Both, One};
 ghost use Rattle.pana_hall.specs.{Prepared.AnswersAt, Prepared.Prepares, inner.State.IsHeld};
 ghost use Rattle.pana_hall.specs.inner.Next.{ArePlanned, AreTwo, IsNext, IsSecond};
 ghost use Rattle.pana_hall.specs.inner.Plan.{IsPlanOf, Refuses, plan_view};
 
-use crate::call::Sighting;
-use crate::cause::Cause;
 use crate::decision::Decision;
 use crate::next::Next;
-use crate::reply::Reply;
 use crate::state::State;
+use pana_calls::{Cause, Reply, Sighting};
 use pana_copies::DeviceName;
 use pana_journal::Report;
 use std::alloc::Global;

@@ -1,12 +1,11 @@
 //! A hall whose next entries are prepared.
 ghost use Rattle.std.specs.Prelude.{◌≡◌, [], ◌++◌, IfErr, IfOk, option_copied};
 
-use crate::call::{Call, Sighting};
 use crate::hall::Hall;
 use crate::next::Next;
 use crate::planning::Plan;
-use crate::reply::Reply;
 use crate::state::State;
+use pana_calls::{Call, Reply, Sighting};
 use pana_copies::DeviceName;
 use pana_journal::{Entry, Report};
 use std::alloc::Global;
@@ -46,7 +45,7 @@ pub struct Unprepared {
 }
 
 impl Hall {
-    ghost use Rattle.pana_hall.specs.declared.call.Call.TheVariants as calls;
+    ghost use Rattle.pana_calls.specs.declared.call.Call.TheVariants as calls;
     ghost use Rattle.pana_hall.specs.Prepared.{AnswersAt, Prepares};
 
     /// Takes the hall, and leaves a new one with the empty journal. Takes no memory.

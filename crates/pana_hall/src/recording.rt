@@ -9,12 +9,12 @@ ghost use Rattle.pana_hall.specs.inner.Kept.{next_entry, AreSpots, IsReady, IsRe
 ghost use Rattle.pana_hall.specs.inner.Contents.{AreContents};
 ghost use Rattle.pana_hall.specs.inner.Next.{IsNext, IsStep, IsStepOf, Takes};
 
-use crate::cause::Cause;
 use crate::changing::{apply_change, before, prepare_change, withdraw};
 use crate::contents::Contents;
 use crate::listed_family::ListedFamily;
 use crate::next::{Next, Step};
 use crate::state::State;
+use pana_calls::Cause;
 use pana_copies::{CopyTable, DeviceName, Place};
 use pana_journal::{Entry, Journal, Report};
 use std::alloc::{AllocError, Global};

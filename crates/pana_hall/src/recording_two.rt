@@ -3,14 +3,13 @@
 ghost use Rattle.std.specs.Prelude.{◌≡◌, ◌⊎◌, ◌≤◌, ℕ, Option, Some, None, IfOk, IfErr, OnOk, option_and_then, option_map};
 ghost use Rattle.pana_hall.specs.{Living.living, Refusal.decision_refusal, Refusal.report_refusal, Refusal.with_report};
 ghost use Rattle.pana_hall.specs.declared.decision.Decision.TheVariants.{Both};
-ghost use Rattle.pana_hall.specs.declared.cause.Cause.TheVariants as causes;
+ghost use Rattle.pana_calls.specs.declared.cause.Cause.TheVariants as causes;
 ghost use Rattle.pana_hall.specs.{inner.Listed.all_listed, inner.Listed.listed, inner.State.IsHeld, inner.State.Records};
 ghost use Rattle.pana_hall.specs.inner.Contents.{AreContents, all_written, content_at, first_said, said_by_sum, second_said};
 ghost use Rattle.pana_hall.specs.inner.Undo.{earlier, earlier_of};
 ghost use Rattle.pana_hall.specs.inner.Kept.{AreSpots, IsReady, IsReadyAt, families_of, family_of, next_entry};
 ghost use Rattle.pana_hall.specs.inner.Next.{AreTwo, IsNext, IsSecond, IsStepAfter, IsStepOf, Takes, TakesAfter};
 
-use crate::cause::Cause;
 use crate::changing::said_by;
 use crate::contents::{Contents, Sayings, first_said, sayings_of};
 use crate::families::family_report;
@@ -18,6 +17,7 @@ use crate::listed_family::ListedFamily;
 use crate::next::{Next, Step};
 use crate::state::State;
 use crate::undo::Before;
+use pana_calls::Cause;
 use pana_copies::{CopyTable, DeviceName};
 use pana_journal::{Entry, Journal, Report};
 use std::alloc::{AllocError, Global};

@@ -5,9 +5,8 @@ ghost use Rattle.pana_hall.specs.{Effective.is_of_copies, inner.Kept.AreSpots, i
 ghost use Rattle.pana_journal.specs.declared.report.Report.TheVariants as reports;
 ghost use Rattle.pana_hall.specs.Refusal.{first, full, unknown, same, other_family, against_two, taken, family_full, too_deep, unknown_entry, not_yours, pending_with, settled, settled_or_followed, displaced, taken_since, unknown_family, report_refusal, query_refusal};
 
-use crate::call::Query;
-use crate::cause::Cause;
 use crate::state::State;
+use pana_calls::{Cause, Query};
 use pana_copies::{DeviceName, Place};
 use pana_journal::Report;
 

@@ -7,7 +7,7 @@ ghost use Rattle.pana_hall.specs.{Status.state_of, inner.Listed.listed};
 ghost use Rattle.pana_hall.specs.inner.Relatives.{counts_in, first_number, relates_so, replaces};
 
 use crate::listed_family::ListedFamily;
-use crate::standing::CopyState;
+use pana_calls::CopyState;
 use pana_event::Rel;
 use pana_list::PlainList;
 use pana_rel::Counts;

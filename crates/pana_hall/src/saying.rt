@@ -3,7 +3,7 @@ ghost use Rattle.std.specs.Prelude.{◌≡◌, ◌+◌, None, length, option_and
 ghost use Rattle.pana_journal.specs.{Entries.entry_at, Reports.given_sum};
 ghost use Rattle.pana_hall.specs.{Refusal.query_refusal, Refusal.report_refusal, Queries.pair_of, Living.agreed, Living.content_by, Living.content_in};
 ghost use Rattle.pana_hall.specs.{Living.living, Living.shared, inner.State.IsHeld, inner.Contents.entry_of, inner.Kept.next_entry, inner.Next.AreSayings};
-ghost use Rattle.pana_hall.specs.declared.call.Query.TheVariants as queries;
+ghost use Rattle.pana_calls.specs.declared.call.Query.TheVariants as queries;
 
 use crate::contents::{Sayings, sayings_of};
 use crate::state::State;

@@ -4,11 +4,11 @@ ghost use Rattle.std.specs.Prelude.{◌≡◌, ℕ, List, Option, Some, None, tr
 ghost use Rattle.pana_copies.specs.declared.place.Place.{Place};
 ghost use Rattle.pana_journal.specs.{declared.entry.Entry.Entry, declared.report.Report.TheVariants.Remove};
 ghost use Rattle.pana_family.specs.Table.{In};
-ghost use Rattle.pana_hall.specs.declared.call.Call.TheVariants as calls;
-ghost use Rattle.pana_hall.specs.declared.call.{Sighting.Sighting, Sighting.TheVariants.Found, Sighting.TheVariants.Missing};
+ghost use Rattle.pana_calls.specs.declared.call.Call.TheVariants as calls;
+ghost use Rattle.pana_calls.specs.declared.call.{Sighting.Sighting, Sighting.TheVariants.Found, Sighting.TheVariants.Missing};
 ghost use Rattle.pana_hall.specs.declared.decision.Decision.TheVariants as decisions;
-ghost use Rattle.pana_hall.specs.declared.reply.Reply.{Reply};
-ghost use Rattle.pana_hall.specs.declared.reply.Reply.TheVariants as replies;
+ghost use Rattle.pana_calls.specs.declared.reply.Reply.{Reply};
+ghost use Rattle.pana_calls.specs.declared.reply.Reply.TheVariants as replies;
 ghost use Rattle.pana_hall.specs.{Accepted.IsAccepted, Finding.copy_at, Finding.decision, Permit.Permits, Permit.journal_after, Queries.pair_of};
 ghost use Rattle.pana_hall.specs.Living.{Copy, copy_in, living, number_of};
 ghost use Rattle.pana_hall.specs.laws.Sightings.{IsHeir, IsKnown, is_changed, is_for_two, living_after, relates_anew};

@@ -6,10 +6,9 @@ ghost use Rattle.pana_hall.specs.{Living.copy_in, Living.living, Refusal.query_r
 ghost use Rattle.pana_hall.specs.Status.{is_asked, is_newest, standing_at, standing_of, state_among, status_row, status_rows};
 ghost use Rattle.pana_hall.specs.inner.Relatives.{first_number, placed_at, relative, relatives_of, newest_with, replaces, row_in, with_in};
 
-use crate::call::Query;
 use crate::relating::{Relative, counts_of, first_in_conflict, first_newest, state_of};
-use crate::standing::{CopyStanding, CopyState, PlacedCopy, StatusRow};
 use crate::state::State;
+use pana_calls::{CopyStanding, CopyState, PlacedCopy, Query, StatusRow};
 use pana_copies::{DeviceName, Place};
 use pana_event::Rel;
 use std::alloc::{AllocError, Global};

@@ -1,11 +1,9 @@
 //! A journal's entries, taken one after another into a new hall.
 ghost use Rattle.std.specs.Prelude.{◌≡◌, ◌+◌, [], ◌∷◌, ◌++◌, length, IfOk, IfErr, OnOk};
 
-use crate::call::Call;
-use crate::cause::Cause;
 use crate::hall::Hall;
 use crate::load_fault::{LoadCause, LoadFault};
-use crate::reply::Reply;
+use pana_calls::{Call, Cause, Reply};
 use pana_journal::{Entry, EntryList};
 use std::alloc::Global;
 

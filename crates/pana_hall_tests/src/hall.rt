@@ -1,8 +1,9 @@
 //! The hall and the journals that it loads, with memory there.
 
 use crate::places::place;
+use pana_calls::{Call, Query, Reply};
 use pana_copies::DeviceName;
-use pana_hall::{Call, Hall, Query, Reply};
+use pana_hall::Hall;
 use pana_journal::Report;
 use pana_wire::{Message, decode, decode_dump, encode, encode_call};
 use std::alloc::Global;

@@ -2,6 +2,8 @@
 #![tactic(auto)]
 
 #[cfg(test)]
+mod client;
+#[cfg(test)]
 mod hall;
 #[cfg(test)]
 mod places;

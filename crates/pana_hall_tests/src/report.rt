@@ -1,6 +1,6 @@
 use crate::places::place;
+use pana_calls::{BoardRow, BoardView};
 use pana_copies::NameFault;
-use pana_hall::{BoardRow, BoardView};
 use pana_list::PlainList;
 use pana_report::print;
 use std::alloc::Global;

@@ -1,16 +1,14 @@
 //! A session's bytes, an entry's line, and what lines say of sums and places.
 
 use crate::places::place;
-use pana_copies::{CopyPath, DeviceName, Sum};
-use pana_hall::{
-    Call, CopyStanding, CopyState, Holding, HoldingList, PlacedCopy, Query, Reply, StatusRow,
+use pana_calls::{
+    Answer, Call, CopyStanding, CopyState, Holding, HoldingList, NoAnswer, PlacedCopy, Query,
+    Reply, Session, StatusRow,
 };
+use pana_copies::{CopyPath, DeviceName, Sum};
 use pana_journal::{Entry, Report};
 use pana_list::PlainList;
-use pana_wire::{
-    Answer, Field, NoAnswer, Served, Session, Tap, WireFault, decode, encode, encode_call,
-    encode_entry, serve,
-};
+use pana_wire::{Field, Served, Tap, WireFault, decode, encode, encode_call, encode_entry, serve};
 use std::alloc::{AllocError, Global};
 use std::io;
 use std::io::{Read, Write};

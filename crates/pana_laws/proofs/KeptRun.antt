@@ -1,13 +1,13 @@
 -- What a history of a store's calls has kept.
 use Rattle.std.proofs.Common.{◌≡◌, ◌≢◌, ℕ, Bool, IsTrue, List, [], ◌∷◌, Result, Ok, Err, refl, sym, ap, subst, ◌∙◌}
-use Rattle.pana_hall.specs.declared.call.Call.{Call}
-use Rattle.pana_hall.specs.declared.call.Call.TheVariants.{Report, Sighting, Query}
-use Rattle.pana_hall.specs.declared.reply.Reply.{Reply}
+use Rattle.pana_calls.specs.declared.call.Call.{Call}
+use Rattle.pana_calls.specs.declared.call.Call.TheVariants.{Report, Sighting, Query}
+use Rattle.pana_calls.specs.declared.reply.Reply.{Reply}
 use Rattle.pana_turn.specs.History.{IsHistory, left_by}
 use Rattle.pana_log.specs.declared.log_state.LogState.TheVariants.{Open}
-use Rattle.pana_wire.specs.declared.answer.Answer.{Answer}
-use Rattle.pana_wire.specs.declared.answer.Answer.TheVariants.{Given}
-use Rattle.pana_wire.specs.declared.answer.NoAnswer.{NoAnswer}
+use Rattle.pana_calls.specs.declared.answer.Answer.{Answer}
+use Rattle.pana_calls.specs.declared.answer.Answer.TheVariants.{Given}
+use Rattle.pana_calls.specs.declared.answer.NoAnswer.{NoAnswer}
 use Rattle.pana_store.specs.Acknowledged.{IsDone}
 use Rattle.pana_store.specs.Entries.{LoadsFirst}
 use Rattle.pana_store.specs.Store.{StoreView, IsKept, KeepsAll, Keeps, Breaks}

@@ -1,3 +1,4 @@
+pub mod SessionRun
 pub mod Passes
 pub mod Sessions
 pub mod OneRun

@@ -5,18 +5,18 @@ use Rattle.std.proofs.lemmas.List.{length-map, map-append}
 use Rattle.std.proofs.KnownBytes.{Appends-nil, Consumes-nil}
 use Rattle.std.specs.Io.KnownBytes.{Consumes, Appends}
 use Rattle.pana_journal.specs.declared.entry.Entry.{Entry}
-use Rattle.pana_hall.specs.declared.call.Call.{Call}
+use Rattle.pana_calls.specs.declared.call.Call.{Call}
 use Rattle.pana_hall.specs.Run.{Exchange, IsRunFrom, journal_from}
 use Rattle.pana_track.specs.Calls.{Asked, Makes}
 use Rattle.pana_turn.specs.History.{IsHistory, calls_of, left_by}
 use Rattle.pana_turn.specs.Passes.{DeskId, new_pass, new_passes, own_calls}
-use Rattle.pana_wire.specs.declared.answer.Answer.{Answer}
-use Rattle.pana_wire.specs.declared.answer.Answer.TheVariants.{Given, NotKept}
-use Rattle.pana_wire.specs.declared.answer.NoAnswer.{NoAnswer}
+use Rattle.pana_calls.specs.declared.answer.Answer.{Answer}
+use Rattle.pana_calls.specs.declared.answer.Answer.TheVariants.{Given, NotKept}
+use Rattle.pana_calls.specs.declared.answer.NoAnswer.{NoAnswer}
 use Rattle.pana_wire.specs.declared.serving.ServeFault.{ServeFault}
 use Rattle.pana_wire.specs.declared.serving.Served.{Served}
 use Rattle.pana_wire.specs.declared.tap.Tap.{Tap}
-use Rattle.pana_wire.specs.Answer.{Replies}
+use Rattle.pana_hall.specs.Step.{Replies}
 use Rattle.pana_wire.specs.Tap.{inside, has_ended}
 use Rattle.pana_daemon.specs.declared.connection.Connection.{Connection}
 use Rattle.pana_daemon.specs.declared.folder.Look.{Look}

@@ -4,19 +4,19 @@ use Rattle.std.proofs.lemmas.Bool.{eq-eqb}
 use Rattle.std.proofs.lemmas.List.{map-append}
 use Rattle.std.proofs.lemmas.List.Elements.{filter-append}
 use Rattle.pana_journal.specs.declared.entry.Entry.{Entry}
-use Rattle.pana_hall.specs.declared.call.Call.{Call}
-use Rattle.pana_hall.specs.declared.cause.Cause.TheVariants.{JournalFull}
-use Rattle.pana_hall.specs.declared.reply.Reply.{Reply}
-use Rattle.pana_hall.specs.declared.reply.Reply.TheVariants.{Refused}
+use Rattle.pana_calls.specs.declared.call.Call.{Call}
+use Rattle.pana_calls.specs.declared.cause.Cause.TheVariants.{JournalFull}
+use Rattle.pana_calls.specs.declared.reply.Reply.{Reply}
+use Rattle.pana_calls.specs.declared.reply.Reply.TheVariants.{Refused}
 use Rattle.pana_hall.specs.Run.{Exchange}
 use Rattle.pana_turn.specs.declared.finished_call.FinishedCall.{FinishedCall}
 use Rattle.pana_turn.specs.History.{IsHistory, calls_of, left_by}
 use Rattle.pana_turn.specs.Passes.{own_calls}
-use Rattle.pana_wire.specs.declared.answer.Answer.{Answer}
-use Rattle.pana_wire.specs.declared.answer.Answer.TheVariants.{Given, NotKept}
-use Rattle.pana_wire.specs.declared.answer.NoAnswer.{NoAnswer}
+use Rattle.pana_calls.specs.declared.answer.Answer.{Answer}
+use Rattle.pana_calls.specs.declared.answer.Answer.TheVariants.{Given, NotKept}
+use Rattle.pana_calls.specs.declared.answer.NoAnswer.{NoAnswer}
 use Rattle.pana_wire.specs.declared.message.Message.{Message}
-use Rattle.pana_wire.specs.Answer.{Replies}
+use Rattle.pana_hall.specs.Step.{Replies}
 use Rattle.pana_daemon.specs.Desk.{Finished, PassView, SharedSteps}
 use Rattle.pana_daemon.specs.Session.{Calls, GetsNone, MakesCall, MakesNone}
 use Rattle.pana_laws.specs.OneRun.{never}

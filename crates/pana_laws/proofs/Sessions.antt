@@ -2,21 +2,22 @@
 use Rattle.std.proofs.Common.{◌≡◌, ◌⊎◌, inl, inr, ℕ, Bool, true, false, List, [], ◌∷◌, ◌++◌, Result, Ok, Err, refl, sym, ap, subst, ◌∙◌, append-nil, append_assoc}
 use mathlib.Core.List.{IsPrefix}
 use Rattle.pana_journal.specs.declared.entry.Entry.{Entry}
-use Rattle.pana_hall.specs.declared.call.Call.{Call}
+use Rattle.pana_calls.specs.declared.call.Call.{Call}
 use Rattle.pana_hall.specs.Run.{Exchange}
-use Rattle.pana_wire.specs.declared.answer.Answer.{Answer}
+use Rattle.pana_calls.specs.declared.answer.Answer.{Answer}
 use Rattle.pana_wire.specs.declared.fault.WireFault.{WireFault}
 use Rattle.pana_wire.specs.declared.fault.WireFault.TheVariants as faults
 use Rattle.pana_wire.specs.declared.message.Message.{Message}
 use Rattle.pana_wire.specs.declared.serving.ServeFault.{ServeFault}
 use Rattle.pana_wire.specs.declared.serving.ServeFault.TheVariants.{Read, Write, OutOfMemory, NoAnswer, Turns}
-use Rattle.pana_wire.specs.Answer.{Replies, answer_text}
+use Rattle.pana_hall.specs.Step.{Replies}
+use Rattle.pana_wire.specs.Answer.{answer_text}
 use Rattle.pana_wire.specs.Fault.{fault_text}
 use Rattle.pana_wire.specs.Line.{line_says}
 use Rattle.pana_wire.specs.Lines.{ended, last_line, lines_of, unended}
 use Rattle.pana_wire.specs.Reply.{reply_text}
 use Rattle.pana_wire.specs.Session.{AnswersSaid, AnswersLine, AnswersLines, MayCallNext, BreaksIn, EndsBy, lines_come}
-use Rattle.pana_wire.specs.laws.Sessions.{IsExchangeOf, IsFaultOf, IsRunOf}
+use Rattle.pana_laws.specs.SessionRun.{IsExchangeOf, IsFaultOf, IsRunOf}
 use Rattle.pana_daemon.specs.Session.{GetsNone, MakesCall}
 use Rattle.pana_laws.specs.OneRun.{Answered, never}
 use Rattle.pana_laws.proofs.Passes.{Goes, Pass, goes_on, made_none, made_one, stays}

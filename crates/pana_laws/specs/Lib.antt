@@ -1,2 +1,3 @@
+pub mod SessionRun
 pub mod OneRun
 pub mod KeptRun

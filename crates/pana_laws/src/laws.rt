@@ -1,16 +1,24 @@
 //! The laws.
 
-ghost use Rattle.std.specs.Prelude.{◌≡◌, ℕ, Bool, IsTrue, List};
+ghost use Rattle.std.specs.Prelude.{◌≡◌, ℕ, Bool, IsTrue, List, []};
 ghost use Rattle.pana_journal.specs.declared.entry.Entry.{Entry};
-ghost use Rattle.pana_wire.specs.Answer.{Replies};
+ghost use Rattle.pana_hall.specs.Step.{Replies};
+ghost use Rattle.pana_wire.specs.Session.{SessionText};
 ghost use Rattle.pana_store.specs.Store.{StoreView, IsKept, Keeps, Breaks};
 ghost use Rattle.pana_daemon.specs.declared.post.Post.{Post};
 ghost use Rattle.pana_daemon.specs.Serve.{Ends};
 ghost use Rattle.pana_laws.specs.KeptRun.{IsKeptRun};
 ghost use Rattle.pana_laws.specs.OneRun.{IsOneRun, never};
+ghost use Rattle.pana_laws.specs.SessionRun.{IsServedByRun};
 
 use pana_daemon::{Door, Folder};
 use pana_log::{Device, LogState};
+
+/// The steps that a session takes on one new hall are a run: as many exchanges as steps, in the order of the lines,
+/// each the call that its line says with the reply that is written for it, and the journal is the run's.
+pub fn every_session_is_a_run()
+    ensures { (input output : List ℕ) (journal : List Entry) (steps : ℕ) → SessionText Replies [] input output journal steps → IsServedByRun input output journal steps }
+{}
 
 /// Where the callers at a desk of a hall have ended, all their calls are one run of the hall, from the journal that it
 /// began with: each reply is permitted on the journal that all calls before it leave. Each caller's calls in it are just

@@ -1,7 +1,7 @@
 -- Lines put together of their pieces.
 use Rattle.std.proofs.Common.{◌≡◌, ℕ, List, [], ◌∷◌, ◌++◌, append_assoc, length}
 use Rattle.std.specs.Prelude.{codes, decimal}
-use Rattle.pana_hall.specs.declared.board.BoardView.{BoardView}
+use Rattle.pana_calls.specs.declared.board.BoardView.{BoardView}
 use Rattle.pana_report.specs.declared.cell.Alignment.TheVariants.{Left, Right}
 use Rattle.pana_report.specs.declared.widths.Widths.{Widths}
 use Rattle.pana_report.specs.Columns.{blanks, cell, side_by_side, newline}

@@ -1,7 +1,7 @@
 -- The lines from the widths are those from the columns.
 use Rattle.std.proofs.Common.{◌≡◌, ℕ, List, ◌++◌, refl, sym, append_assoc}
 use Rattle.std.specs.List.{flat_map}
-use Rattle.pana_hall.specs.declared.board.BoardRow.{BoardRow}
+use Rattle.pana_calls.specs.declared.board.BoardRow.{BoardRow}
 use Rattle.pana_report.specs.Columns.{head_line, row_line, lines_of}
 use Rattle.pana_report.specs.Table.{columns}
 use Rattle.pana_report.specs.inner.Lines.{line_of, widths_of, heads_of, row_line_of}

@@ -3,8 +3,8 @@ use Rattle.std.specs.Prelude.{◌≡◌, ℕ, true, false, List, [], ◌∷◌, 
 use Rattle.std.proofs.Common.{refl}
 use Rattle.std.specs.Fmt.{digits}
 use Rattle.unicode_width.proofs.Computing.{unicode_width}
-use Rattle.pana_hall.specs.declared.board.BoardRow.{BoardRow}
-use Rattle.pana_hall.specs.declared.board.BoardView.{BoardView}
+use Rattle.pana_calls.specs.declared.board.BoardRow.{BoardRow}
+use Rattle.pana_calls.specs.declared.board.BoardView.{BoardView}
 use Rattle.pana_report.specs.Columns.{cell, head_line, row_line, newline}
 use Rattle.pana_report.specs.Table.{columns, family_line, table_text}
 

@@ -1,10 +1,10 @@
 -- The table of copies that are obsolete or in conflict: a line of heads, and a line for each copy with what to do about it.
 use Rattle.std.specs.Prelude.{ℕ, List, [], ◌∷◌, ◌++◌, codes}
 use Rattle.pana_copies.specs.declared.place.Place.{Place}
-use Rattle.pana_hall.specs.Standing.{state_name}
-use Rattle.pana_hall.specs.declared.standing.CopyState.{CopyState}
-use Rattle.pana_hall.specs.declared.standing.CopyState.TheVariants.{Newest, Obsolete, Conflict}
-use Rattle.pana_hall.specs.declared.standing.StatusRow.{StatusRow}
+use Rattle.pana_calls.specs.Standing.{state_name}
+use Rattle.pana_calls.specs.declared.standing.CopyState.{CopyState}
+use Rattle.pana_calls.specs.declared.standing.CopyState.TheVariants.{Newest, Obsolete, Conflict}
+use Rattle.pana_calls.specs.declared.standing.StatusRow.{StatusRow}
 use Rattle.pana_report.specs.declared.cell.Alignment.TheVariants.{Left}
 use Rattle.pana_report.specs.Columns.{Column, column, widest, place_text, lines_of}
 

@@ -1,10 +1,10 @@
 -- The table of a board: a line about the family, a line of heads, and a line for each copy.
 use Rattle.std.specs.Prelude.{ℕ, ◌==◌, Bool, not, if◌then◌else◌, List, [], ◌∷◌, ◌++◌, length, codes, decimal}
-use Rattle.pana_hall.specs.Standing.{state_name}
-use Rattle.pana_hall.specs.declared.board.BoardRow.{BoardRow}
-use Rattle.pana_hall.specs.declared.board.BoardView.{BoardView}
-use Rattle.pana_hall.specs.declared.standing.CopyState.{CopyState}
-use Rattle.pana_hall.specs.declared.standing.CopyState.TheVariants.{Newest, Obsolete, Conflict}
+use Rattle.pana_calls.specs.Standing.{state_name}
+use Rattle.pana_calls.specs.declared.board.BoardRow.{BoardRow}
+use Rattle.pana_calls.specs.declared.board.BoardView.{BoardView}
+use Rattle.pana_calls.specs.declared.standing.CopyState.{CopyState}
+use Rattle.pana_calls.specs.declared.standing.CopyState.TheVariants.{Newest, Obsolete, Conflict}
 use Rattle.pana_report.specs.declared.cell.Alignment.TheVariants.{Left, Right}
 use Rattle.pana_report.specs.Columns.{Column, column, widest, place_text, newline, lines_of}
 

@@ -8,7 +8,7 @@ use crate::line::{Texts, write_line};
 use crate::place::place_text;
 use crate::state::state_of;
 use crate::widths::Widths;
-use pana_hall::{BoardRow, BoardView};
+use pana_calls::{BoardRow, BoardView};
 use std::alloc::{AllocError, Global};
 
 /// Appends the line of heads.

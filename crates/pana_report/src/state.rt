@@ -2,9 +2,9 @@
 ghost use Rattle.std.specs.Prelude.{◌≡◌};
 ghost use Rattle.pana_report.specs.Table.{state_of};
 
-use pana_hall::{BoardRow, CopyState};
-
 /// The state of the copy of this row.
+use pana_calls::{BoardRow, CopyState};
+
 pub(crate) fn state_of(row: &BoardRow) -> CopyState
     ensures { result ≡ state_of row.now }
 {

@@ -7,8 +7,8 @@ ghost use Rattle.pana_report.specs.Status.{advice, columns, places_width, status
 use crate::cell::{Alignment, write_cell, write_next};
 use crate::place::{place_text, place_width};
 use crate::widths::STATE;
+use pana_calls::{CopyState, StatusRow};
 use pana_copies::Place;
-use pana_hall::{CopyState, StatusRow};
 use std::alloc::{AllocError, Global};
 
 /// The least width of the column of places, that of its head.

@@ -2,7 +2,7 @@
 ghost use Rattle.std.specs.Prelude.{◌≡◌, IfOk};
 
 use crate::place::place_width;
-use pana_hall::BoardRow;
+use pana_calls::BoardRow;
 use std::alloc::{AllocError, Global};
 use unicode_width::UnicodeWidthStr;
 

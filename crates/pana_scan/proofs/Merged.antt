@@ -7,7 +7,7 @@ use Rattle.std.specs.Ordering.{is_lt}
 use Rattle.std.specs.Str.{bytes_eq}
 use Rattle.std.proofs.Common.{refl, sym, ap, ◌∙◌, subst, inl, inr, Bor}
 use Rattle.std.proofs.lemmas.Bool.{true≢false}
-use Rattle.pana_hall.specs.declared.holding.Holding.{Holding}
+use Rattle.pana_calls.specs.declared.holding.Holding.{Holding}
 use Rattle.pana_scan.specs.declared.baseline.BaselineRow.{BaselineRow}
 use Rattle.pana_scan.specs.declared.listing.FoundRow.{FoundRow}
 use Rattle.pana_scan.specs.Order.{Path, path_cmp, in_order}

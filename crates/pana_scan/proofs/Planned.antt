@@ -3,7 +3,7 @@ use Rattle.std.specs.Prelude.{◌≡◌, ℕ, List, [], ◌∷◌, ◌++◌, map
 use Rattle.std.specs.List.{cons_option}
 use Rattle.std.specs.List.Sorted.{IsStrictlySortedBy}
 use Rattle.std.proofs.Common.{refl, sym, ap, ◌∙◌, subst, append-nil, Bor}
-use Rattle.pana_hall.specs.declared.holding.Holding.{Holding}
+use Rattle.pana_calls.specs.declared.holding.Holding.{Holding}
 use Rattle.pana_scan.specs.declared.baseline.BaselineRow.{BaselineRow}
 use Rattle.pana_scan.specs.declared.baseline.Mark.{Mark}
 use Rattle.pana_scan.specs.declared.listing.FoundRow.{FoundRow}

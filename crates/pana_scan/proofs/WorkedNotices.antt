@@ -2,7 +2,7 @@
 use Rattle.std.specs.Prelude.{◌≡◌, ℕ, List, [], ◌∷◌, Option, Some, None, codes}
 use Rattle.std.proofs.Common.{refl}
 use Rattle.hex.specs.Hex.{encode_with}
-use Rattle.pana_hall.specs.declared.holding.Holding.{Holding}
+use Rattle.pana_calls.specs.declared.holding.Holding.{Holding}
 use Rattle.pana_scan.specs.declared.listing.Found.{Found}
 use Rattle.pana_scan.specs.declared.listing.Found.TheVariants.{Seen, Unreadable}
 use Rattle.pana_scan.specs.declared.listing.FoundRow.{FoundRow}

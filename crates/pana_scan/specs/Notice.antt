@@ -4,10 +4,10 @@ use Rattle.std.specs.List.{cons_option}
 use Rattle.std.specs.Str.{bytes_eq}
 use Rattle.hex.specs.Hex.{encode_lower}
 use Rattle.pana_journal.specs.declared.report.Report.TheVariants.{Relocate}
-use Rattle.pana_hall.specs.declared.call.Call.{Call}
-use Rattle.pana_hall.specs.declared.call.Call.TheVariants.{Report, Sighting}
-use Rattle.pana_hall.specs.declared.call.Sighting.TheVariants as sighting
-use Rattle.pana_hall.specs.declared.holding.Holding.{Holding}
+use Rattle.pana_calls.specs.declared.call.Call.{Call}
+use Rattle.pana_calls.specs.declared.call.Call.TheVariants.{Report, Sighting}
+use Rattle.pana_calls.specs.declared.call.Sighting.TheVariants as sighting
+use Rattle.pana_calls.specs.declared.holding.Holding.{Holding}
 use Rattle.pana_scan.specs.declared.listing.Found.{Found}
 use Rattle.pana_scan.specs.declared.listing.Found.TheVariants.{Seen, Unreadable}
 use Rattle.pana_scan.specs.declared.notices.Notice.{Notice}

@@ -2,7 +2,7 @@
 use Rattle.std.specs.Prelude.{ℕ, not, ◌&&◌, ◌==◌, cond, List, ◌++◌, Option, Some, None, map, find, filter_map, option_map}
 use Rattle.std.specs.Str.{bytes_eq}
 use Rattle.pana_journal.specs.declared.report.Report.TheVariants.{Register, Edit, Remove}
-use Rattle.pana_hall.specs.declared.holding.Holding.{Holding}
+use Rattle.pana_calls.specs.declared.holding.Holding.{Holding}
 use Rattle.pana_scan.specs.declared.baseline.BaselineRow.{BaselineRow}
 use Rattle.pana_scan.specs.declared.baseline.Mark.{Mark}
 use Rattle.pana_scan.specs.declared.listing.Found.{Found}

@@ -66,7 +66,7 @@ struct Files {
 /// is more than 64 folders below the root; `OutOfMemory`. It takes memory for paths and fingerprints, and none for a
 /// file's bytes.
 ///
-/// The watch learns of each file, and of what was read of it.
+/// The watch learns how many files there are, of each file, and of what was read of it.
 pub fn read_root<D: Disk, W: Watch>(
     alloc: Global,
     disk: &mut D,
@@ -106,6 +106,7 @@ pub fn read_root_within<D: Disk, W: Watch>(
     ensures faults { HasFaults (D.faults disk.new) result }
 {
     let Files { paths, skipped } = list_files(alloc, disk, folder, most)?;
+    watch.files_listed(paths.len());
     let rows = look_at(alloc, disk, folder, paths, watch)?;
     Ok(Listing::of_rows(device.copy_of(), rows, skipped))
 }
@@ -140,6 +141,7 @@ pub fn read_root_in_threads<R: Threads + Sync, D: Disk, L: Disk + Send + Drop, W
     ensures faults { IfOk result (λ listing. D.faults disk.new + sum_by L.faults others.new.items ≤ sum_by L.faults others.old.items + unreadable_count listing.rows) }
 {
     let Files { paths, skipped } = list_files(alloc, disk, folder, most)?;
+    watch.files_listed(paths.len());
     let disks = mem::replace(others, Vec::new(alloc));
     let Looked { disks, mut rows } = look_in_threads(threads, alloc, disks, folder, paths, watch)?;
     *others = disks;

@@ -1,7 +1,7 @@
 //! What holds of all notices: functions that do nothing, whose contracts are the laws.
 ghost use Rattle.std.specs.Prelude.{◌≡◌, ℕ, ◌+◌, Bool, List, [], map, filter_map, count_by};
 ghost use Rattle.std.specs.List.Sorted.{IsStrictlySortedBy};
-ghost use Rattle.pana_hall.specs.declared.holding.Holding.{Holding};
+ghost use Rattle.pana_calls.specs.declared.holding.Holding.{Holding};
 ghost use Rattle.pana_scan.specs.Order.{path_cmp};
 ghost use Rattle.pana_scan.specs.Listing.{Contents};
 ghost use Rattle.pana_scan.specs.Plan.{at_paths};

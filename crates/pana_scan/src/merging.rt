@@ -5,8 +5,8 @@ ghost use Rattle.pana_scan.specs.inner.Left.{AllRise, at_spot, left, living_left
 
 use crate::baseline::{BaselineRow, Mark};
 use crate::listing::{Found, FoundRow};
+use pana_calls::Holding;
 use pana_copies::CopyPath;
-use pana_hall::Holding;
 
 /// What has a path.
 pub(crate) trait HasPath {

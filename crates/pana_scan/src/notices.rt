@@ -2,8 +2,8 @@
 ghost use Rattle.std.specs.Prelude.{◌≡◌, IfOk};
 ghost use Rattle.pana_scan.specs.Notice.{call_of};
 
+use pana_calls::{Call, Sighting};
 use pana_copies::{CopyPath, DeviceName, Place, Sum};
-use pana_hall::{Call, Sighting};
 use pana_journal::Report;
 use pana_list::PlainList;
 use std::alloc::{AllocError, Global};

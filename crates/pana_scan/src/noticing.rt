@@ -12,7 +12,7 @@ use crate::notices::{Notice, NoticeList};
 use crate::planning::by_path;
 use crate::pool::{Pool, Waiting};
 use crate::seen::{Seen, SeenFile};
-use pana_hall::{Holding, HoldingList};
+use pana_calls::{Holding, HoldingList};
 use std::alloc::{AllocError, Global};
 
 /// What a scan notices: which absent copies have their files at new paths, which files are there, and which absent

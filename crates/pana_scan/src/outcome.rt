@@ -9,8 +9,8 @@ use crate::baseline::Mark;
 use crate::listing::Found;
 use crate::merging::Spot;
 use crate::step::Step;
+use pana_calls::Holding;
 use pana_copies::{CopyPath, DeviceName, Place};
-use pana_hall::Holding;
 use pana_journal::Report;
 use std::alloc::AllocError;
 

@@ -1,7 +1,7 @@
 //! What a scan calls for, over all paths.
 ghost use Rattle.std.specs.Prelude.{◌≡◌, ◌++◌, [], map, option_map, IfOk, OnOk};
 ghost use Rattle.std.specs.Option.{option_to_list};
-ghost use Rattle.pana_hall.specs.Holdings.{HaveOwnPaths};
+ghost use Rattle.pana_calls.specs.Holdings.{HaveOwnPaths};
 ghost use Rattle.pana_scan.specs.inner.Left.{HoldingsRise, HoldTheSame};
 ghost use Rattle.pana_scan.specs.Plan.{plan_of};
 
@@ -11,8 +11,8 @@ use crate::merging::Sources;
 use crate::ordering::path_order;
 use crate::outcome::Outcome;
 use crate::step::{Plan, Step, StepList};
+use pana_calls::{Holding, HoldingList};
 use pana_copies::CopyPath;
-use pana_hall::{Holding, HoldingList};
 use std::alloc::{AllocError, Global};
 
 /// The steps that a listing calls for, in byte order of their paths, and the baseline before they are settled.

@@ -55,15 +55,16 @@ fn signature_of(found: &Metadata) -> Option<Signature>
 }
 
 impl<'a, R: Files + AllocGlobal + Clone + Drop> QuickDisk<'a, R> {
-    /// The system's files before a scan that begins at this time, with these sums. Takes no memory.
-    pub fn new(files: &'a R, sums: Sums, begun: FileTime) -> QuickDisk<'a, R>
+    /// The system's files before a scan that begins at this time, with these sums, and stays on the file system of the folder
+    /// that is listed first, or enters all. Takes no memory.
+    pub fn new(files: &'a R, stays: bool, sums: Sums, begun: FileTime) -> QuickDisk<'a, R>
         ensures fresh { IsFresh result.disk.has_failed result.disk.entries result.disk.faults }
         ensures sums { result.sums ≡ sums }
         ensures begun { result.begun ≡ begun }
     {
         QuickDisk {
             files,
-            disk: SystemDisk::new(files),
+            disk: SystemDisk::staying(files, stays),
             sums,
             begun,
             opened: None,

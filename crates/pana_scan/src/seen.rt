@@ -6,8 +6,8 @@ ghost use Rattle.pana_scan.specs.inner.Seen.{all_files, new_files};
 
 use crate::listing::Found;
 use crate::merging::Spot;
+use pana_calls::Holding;
 use pana_copies::{CopyPath, Sum};
-use pana_hall::Holding;
 use std::alloc::{AllocError, Global};
 
 /// A file that was seen; a new one where no copy is at its path.

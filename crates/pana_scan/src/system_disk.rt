@@ -1,5 +1,6 @@
 //! The system's files as a disk.
-ghost use Rattle.std.specs.Prelude.{◌≡◌, ◌≢◌, ◌||◌, true, IsOk, IsErr, IsSome, IfOk, IfErr, IfSome, IfNone, OnOk, OnErr, is_err};
+ghost use Rattle.std.specs.Prelude.{◌≡◌, ◌≢◌, ◌||◌, ◌==◌, not, false, true, option_map, unwrap_or, IsOk, IsErr, IsSome, IfOk, IfErr, IfSome, IfNone, OnOk, OnErr, is_err};
+ghost use Rattle.std.specs.Bool.{OnFalse, OnTrue};
 ghost use Rattle.std.specs.Fs.{IsDir, IsFile};
 ghost use Rattle.std.specs.IoError.{error_kind};
 ghost use Rattle.pana_scan.specs.Disk.{entries_after, faults_after, is_failure};
@@ -11,12 +12,17 @@ use crate::entry::{Entry, EntryName, Kind};
 use std::alloc::Global;
 use std::fs::{DirEntry, File, FileType, Files, Metadata, OpenFile, ReadDir};
 use std::io::{Error, ErrorKind, Read};
+use std::os::unix::fs::MetadataExt;
 use std::{fs, io};
 
 /// The files of the system. Nothing is known of what they hold, so nothing is proved of what its calls give.
 #[derive(Drop)]
 pub struct SystemDisk<'a, R: Files + AllocGlobal + Clone + Drop> {
     files: &'a R,
+    /// Whether folders of other file systems than the first folder's are passed over.
+    stays: bool,
+    /// The first folder's file system, where it stays there.
+    file_system: Option<u64>,
     names: Option<ReadDir<R>>,
     file: Option<R::File>,
     has_failed: bool,
@@ -29,8 +35,18 @@ impl<'a, R: Files + AllocGlobal + Clone + Drop> SystemDisk<'a, R> {
     pub fn new(files: &'a R) -> SystemDisk<'a, R>
         ensures { IsFresh result.has_failed result.entries result.faults }
     {
+        SystemDisk::staying(files, false)
+    }
+
+    /// The files of the system, before a scan that stays on the file system of the folder that is listed first, or enters
+    /// all. Takes no memory.
+    pub fn staying(files: &'a R, stays: bool) -> SystemDisk<'a, R>
+        ensures { IsFresh result.has_failed result.entries result.faults }
+    {
         SystemDisk {
             files,
+            stays,
+            file_system: None,
             names: None,
             file: None,
             has_failed: false,
@@ -69,9 +85,45 @@ fn kind_of(answer: io::Result<FileType>) -> Result<Kind, DiskFault>
     }
 }
 
+/// Whether what is on this file system is passed over, where the scan stays on one.
+fn is_elsewhere(stays_on: Option<u64>, file_system: u64) -> bool
+    ensures { result ≡ unwrap_or (option_map (λ own. not (own == file_system)) stays_on) false }
+{
+    match stays_on {
+        Some(own) => own != file_system,
+        None => false,
+    }
+}
+
+/// What an entry is to a scan: a folder elsewhere isn't entered.
+fn kind_within(kind: Kind, is_elsewhere: bool) -> Kind
+    ensures elsewhere { OnTrue is_elsewhere (kind ≡ Kind.Folder → result ≡ Kind.Other) }
+    ensures other { OnTrue is_elsewhere (kind ≢ Kind.Folder → result ≡ kind) }
+    ensures here { OnFalse is_elsewhere (result ≡ kind) }
+{
+    match kind {
+        Kind::Folder if is_elsewhere => Kind::Other,
+        kind => kind,
+    }
+}
+
+/// What a name stands for, by the system's answer, where the scan stays on a file system.
+fn kind_found(stays_on: Option<u64>, answer: io::Result<Metadata>) -> Result<Kind, DiskFault>
+    ensures err { IfErr answer (λ error. error_kind error ≢ ErrorKind.NotFound → IsErr result) }
+{
+    match answer {
+        Ok(found) => {
+            let is_elsewhere = is_elsewhere(stays_on, found.dev());
+            Ok(kind_within(kind_of(Ok(found.file_type()))?, is_elsewhere))
+        }
+        Err(error) => kind_of(Err(error)),
+    }
+}
+
 /// What is met, by the system's answer. A name that isn't UTF-8 comes as an error.
 fn entry_of<R: Files + Drop>(
     alloc: Global,
+    stays_on: Option<u64>,
     answer: io::Result<DirEntry<R>>,
 ) -> Result<Entry, DiskFault>
     ensures no_text { IfErr answer (λ error. error_kind error ≡ ErrorKind.InvalidFilename → result ≡ Ok Entry.NotText) }
@@ -80,7 +132,7 @@ fn entry_of<R: Files + Drop>(
     match answer {
         Ok(entry) => Ok(Entry::Named {
             name: EntryName::new(alloc, entry.file_name())?,
-            kind: kind_of(entry.file_type())?,
+            kind: kind_found(stays_on, entry.metadata())?,
         }),
         Err(error) if error.kind() == ErrorKind::InvalidFilename => Ok(Entry::NotText),
         Err(error) => Err(fault_of(&error)),
@@ -89,6 +141,11 @@ fn entry_of<R: Files + Drop>(
 
 /// What takes the system's answers: a call that has failed is returned as failed, and counted.
 impl<'a, R: Files + AllocGlobal + Clone + Drop> SystemDisk<'a, R> {
+    /// The file system of a folder.
+    fn file_system_of(&self, folder: &str) -> Option<u64> {
+        Some(fs::metadata(self.files, folder).ok()?.dev())
+    }
+
     /// Counts a file that has failed.
     pub(crate) fn file_failed(&mut self) -> DiskFault
         ensures fault { result ≡ DiskFault.Failed }
@@ -146,7 +203,7 @@ impl<'a, R: Files + AllocGlobal + Clone + Drop> SystemDisk<'a, R> {
         let Some(read) = answer else {
             return Ok(None);
         };
-        match entry_of(alloc, read) {
+        match entry_of(alloc, self.file_system, read) {
             Ok(entry) => {
                 self.entries = self.entries.saturating_add(1);
                 Ok(Some(entry))
@@ -216,6 +273,9 @@ impl<'a, R: Files + AllocGlobal + Clone + Drop> Disk for SystemDisk<'a, R> {
     }
 
     fn list(&mut self, folder: &str) -> Result<(), DiskFault> {
+        if self.stays && self.file_system.is_none() {
+            self.file_system = self.file_system_of(folder);
+        }
         let answer = fs::read_dir(self.files, folder);
         self.begin(answer)
     }

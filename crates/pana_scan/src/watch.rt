@@ -2,6 +2,9 @@
 
 /// Follows a scan, as one does that shows how far it is. Several threads may follow one scan by it.
 pub trait Watch {
+    /// The folders are listed, and so many files will be looked at.
+    fn files_listed(&self, count: usize);
+
     /// Another file is looked at.
     fn file_begun(&self);
 
@@ -14,6 +17,8 @@ pub trait Watch {
 pub struct Unwatched;
 
 impl Watch for Unwatched {
+    fn files_listed(&self, _count: usize) {}
+
     fn file_begun(&self) {}
 
     fn bytes_read(&self, _count: usize) {}

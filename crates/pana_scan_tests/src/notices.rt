@@ -1,5 +1,6 @@
+use pana_calls::{Call, HoldingList, Query, Reply, Sighting};
 use pana_copies::{CopyPath, DeviceName, Place, Sum};
-use pana_hall::{Call, Hall, HoldingList, Query, Reply, Sighting};
+use pana_hall::Hall;
 use pana_journal::Report;
 use pana_scan::{Found, Listing, notice};
 use std::alloc::{AllocError, Global};

@@ -1,8 +1,9 @@
 ghost use Rattle.pana_scan.specs.Scan.{IsFresh};
 
 use crate::disks::{disk, file, folder};
+use pana_calls::{Call, HoldingList, Query, Reply};
 use pana_copies::{CopyPath, DeviceName, NameFault, Place};
-use pana_hall::{Call, Hall, HoldingList, Query, Reply};
+use pana_hall::Hall;
 use pana_journal::Report;
 use pana_scan::{
     Baseline, Disk, Found, Kind, Listing, Mark, MemoryDisk, Plan, ScanFault, Step, SystemDisk,
@@ -314,6 +315,8 @@ impl Tally {
 }
 
 impl Watch for Tally {
+    fn files_listed(&self, _count: usize) {}
+
     fn file_begun(&self) {
         self.files.fetch_add(1, Ordering::SeqCst);
     }

@@ -4,11 +4,11 @@ use Rattle.std.proofs.Common.{◌≡◌, ℕ, ◌≤◌, ◌<◌, ◌^◌, Bool,
 use Rattle.std.specs.Prelude.{IfOk, IfErr}
 use Rattle.std.proofs.lemmas.List.{append_cancel_left}
 use Rattle.pana_journal.specs.declared.entry.Entry.{Entry}
-use Rattle.pana_hall.specs.declared.call.Call.{Call}
-use Rattle.pana_hall.specs.declared.call.Call.TheVariants.{Report, Sighting, Query}
-use Rattle.pana_hall.specs.declared.reply.Reply.{Reply}
-use Rattle.pana_wire.specs.declared.answer.Answer.{Answer}
-use Rattle.pana_wire.specs.declared.answer.Answer.TheVariants.{Given}
+use Rattle.pana_calls.specs.declared.call.Call.{Call}
+use Rattle.pana_calls.specs.declared.call.Call.TheVariants.{Report, Sighting, Query}
+use Rattle.pana_calls.specs.declared.reply.Reply.{Reply}
+use Rattle.pana_calls.specs.declared.answer.Answer.{Answer}
+use Rattle.pana_calls.specs.declared.answer.Answer.TheVariants.{Given}
 use Rattle.pana_wire.specs.declared.serving.Served.{Served}
 use Rattle.pana_wire.specs.declared.serving.ServeFault.{ServeFault}
 use Rattle.pana_wire.specs.declared.serving.ServeFault.TheVariants.{NoAnswer}

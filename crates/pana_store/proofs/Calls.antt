@@ -4,13 +4,13 @@ use Rattle.std.proofs.lemmas.List.{length-append}
 use Rattle.std.specs.Option.{option_to_list}
 use Rattle.std.proofs.lemmas.Bool.{ltb-true, ltb-false}
 use Rattle.pana_journal.specs.declared.entry.Entry.{Entry}
-use Rattle.pana_hall.specs.declared.call.Call.{Call}
-use Rattle.pana_hall.specs.declared.call.Call.TheVariants as calls
-use Rattle.pana_hall.specs.declared.call.Query.{Query}
-use Rattle.pana_hall.specs.declared.cause.Cause.{Cause}
-use Rattle.pana_hall.specs.declared.cause.Cause.TheVariants as causes
-use Rattle.pana_hall.specs.declared.reply.Reply.{Reply}
-use Rattle.pana_hall.specs.declared.reply.Reply.TheVariants as replies
+use Rattle.pana_calls.specs.declared.call.Call.{Call}
+use Rattle.pana_calls.specs.declared.call.Call.TheVariants as calls
+use Rattle.pana_calls.specs.declared.call.Query.{Query}
+use Rattle.pana_calls.specs.declared.cause.Cause.{Cause}
+use Rattle.pana_calls.specs.declared.cause.Cause.TheVariants as causes
+use Rattle.pana_calls.specs.declared.reply.Reply.{Reply}
+use Rattle.pana_calls.specs.declared.reply.Reply.TheVariants as replies
 use Rattle.pana_hall.specs.Permit.{Permits, PermitsBy, journal_after}
 use Rattle.pana_hall.specs.Prepared.{PreparedView, Prepares, entries_of}
 use Rattle.pana_hall.specs.Refusal.{refusal}
@@ -26,8 +26,8 @@ use Rattle.pana_log.proofs.Recovered.{which}
 use Rattle.pana_log.proofs.Settled.{text_of-append}
 use Rattle.pana_seal.specs.declared.sealer.Sealer.{Sealer}
 use Rattle.pana_seal.specs.Seal.{Covers}
-use Rattle.pana_wire.specs.declared.answer.Answer.{Answer}
-use Rattle.pana_wire.specs.declared.answer.Answer.TheVariants.{Given}
+use Rattle.pana_calls.specs.declared.answer.Answer.{Answer}
+use Rattle.pana_calls.specs.declared.answer.Answer.TheVariants.{Given}
 use Rattle.pana_store.specs.Entries.{LoadsTo, IsLineOf, IsSealedBehind}
 use Rattle.pana_store.specs.Store.{StoreView, IsKept, KeepsEither, MakesEntries, IsQuery, Grows, IsFull, Becomes, NeedsOpen, Keeps, Breaks}
 use Rattle.pana_store.specs.inner.{answer_to}

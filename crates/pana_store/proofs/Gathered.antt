@@ -1,10 +1,10 @@
 -- Calls whose entries wait: what each way that a report or a sighting takes leaves, and what it is to keep those that wait.
 use Rattle.std.proofs.Common.{◌≡◌, ◌≢◌, ◌⊎◌, inl, inr, ⊎_elim, ℕ, ◌+◌, ◌<◌, ◌≤◌, ◌^◌, Bool, IsTrue, List, [], ◌++◌, length, refl, sym, ap, subst, ◌∙◌, length-append, arith}
 use Rattle.pana_journal.specs.declared.entry.Entry.{Entry}
-use Rattle.pana_hall.specs.declared.call.Call.{Call}
-use Rattle.pana_hall.specs.declared.cause.Cause.TheVariants as causes
-use Rattle.pana_hall.specs.declared.reply.Reply.{Reply}
-use Rattle.pana_hall.specs.declared.reply.Reply.TheVariants as replies
+use Rattle.pana_calls.specs.declared.call.Call.{Call}
+use Rattle.pana_calls.specs.declared.cause.Cause.TheVariants as causes
+use Rattle.pana_calls.specs.declared.reply.Reply.{Reply}
+use Rattle.pana_calls.specs.declared.reply.Reply.TheVariants as replies
 use Rattle.pana_hall.specs.Step.{Steps}
 use Rattle.pana_log.specs.declared.device_fault.DeviceFault.{DeviceFault}
 use Rattle.pana_log.specs.declared.device_fault.DeviceFault.TheVariants as devices
@@ -16,8 +16,8 @@ use Rattle.pana_log.specs.Log.{IsSettled}
 use Rattle.pana_log.proofs.Moments.{then_on}
 use Rattle.pana_seal.specs.declared.sealer.Sealer.{Sealer}
 use Rattle.pana_seal.specs.Seal.{Covers}
-use Rattle.pana_wire.specs.declared.answer.Answer.{Answer}
-use Rattle.pana_wire.specs.declared.answer.Answer.TheVariants.{Given, NotKept}
+use Rattle.pana_calls.specs.declared.answer.Answer.{Answer}
+use Rattle.pana_calls.specs.declared.answer.Answer.TheVariants.{Given, NotKept}
 use Rattle.pana_store.specs.Entries.{LoadsTo, LoadsEither}
 use Rattle.pana_store.specs.Group.{GroupView, stored, Gathers, GathersOnly, Settles, BreaksOff}
 use Rattle.pana_store.specs.Store.{StoreView, IsKept, MakesEntries, IsFull, Becomes, NeedsOpen}

@@ -3,10 +3,10 @@
 use Rattle.std.proofs.Common.{◌≡◌, ℕ, ◌<◌, ◌≤◌, ◌^◌, List, [], ◌∷◌, ◌++◌, ◌⊎◌, inl, inr, ⊎_elim, length, Result, Ok, Err, refl, sym, ap, subst, ◌∙◌, append-nil, append_assoc, arith}
 use Rattle.std.proofs.lemmas.Fmt.{decimal_injective}
 use Rattle.pana_journal.specs.declared.entry.Entry.{Entry}
-use Rattle.pana_hall.specs.declared.call.Call.{Call}
-use Rattle.pana_hall.specs.declared.reply.Reply.{Reply}
-use Rattle.pana_wire.specs.declared.answer.Answer.{Answer}
-use Rattle.pana_wire.specs.declared.answer.Answer.TheVariants.{Given}
+use Rattle.pana_calls.specs.declared.call.Call.{Call}
+use Rattle.pana_calls.specs.declared.reply.Reply.{Reply}
+use Rattle.pana_calls.specs.declared.answer.Answer.{Answer}
+use Rattle.pana_calls.specs.declared.answer.Answer.TheVariants.{Given}
 use Rattle.pana_wire.specs.declared.fault.WireFault.{WireFault}
 use Rattle.pana_wire.specs.declared.fault.WireFault.TheVariants as faults
 use Rattle.pana_wire.specs.declared.message.Message.{Message}

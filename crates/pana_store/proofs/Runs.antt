@@ -3,10 +3,10 @@ use Rattle.std.proofs.Common.{◌≡◌, ◌⊎◌, inl, inr, ℕ, ◌+◌, leng
 use Rattle.std.specs.Prelude.{IfErr}
 use Rattle.std.proofs.lemmas.List.{append-nil}
 use Rattle.pana_journal.specs.declared.entry.Entry.{Entry}
-use Rattle.pana_hall.specs.declared.call.Call.{Call}
-use Rattle.pana_hall.specs.declared.call.Call.TheVariants as calls
-use Rattle.pana_hall.specs.declared.reply.Reply.{Reply}
-use Rattle.pana_hall.specs.declared.reply.Reply.TheVariants as replies
+use Rattle.pana_calls.specs.declared.call.Call.{Call}
+use Rattle.pana_calls.specs.declared.call.Call.TheVariants as calls
+use Rattle.pana_calls.specs.declared.reply.Reply.{Reply}
+use Rattle.pana_calls.specs.declared.reply.Reply.TheVariants as replies
 use Rattle.pana_hall.specs.declared.decision.Decision.{Decision}
 use Rattle.pana_hall.specs.declared.decision.Decision.TheVariants as decisions
 use Rattle.pana_hall.specs.Finding.{decision}
@@ -14,8 +14,8 @@ use Rattle.pana_hall.specs.Living.{living}
 use Rattle.pana_hall.specs.Permit.{journal_after, after_decision}
 use Rattle.pana_hall.specs.Refusal.{with_report}
 use Rattle.pana_log.specs.declared.log_state.LogState.TheVariants.{Open}
-use Rattle.pana_wire.specs.declared.answer.Answer.{Answer}
-use Rattle.pana_wire.specs.declared.answer.Answer.TheVariants.{Given, NotKept}
+use Rattle.pana_calls.specs.declared.answer.Answer.{Answer}
+use Rattle.pana_calls.specs.declared.answer.Answer.TheVariants.{Given, NotKept}
 use Rattle.pana_hall.specs.Step.{Steps}
 use Rattle.pana_store.specs.Store.{StoreView, IsKept, KeepsAll, Becomes, Keeps, Breaks}
 use Rattle.pana_store.proofs.Said.{keeps_on, keeps_start, either_all}

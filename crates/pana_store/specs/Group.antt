@@ -1,13 +1,13 @@
 -- What the calls of a group do to a store, and what it is to settle them: the entries of the calls since are kept by one line.
 use Rattle.std.specs.Prelude.{◌≡◌, ◌≢◌, ◌⊎◌, ◌<◌, ℕ, Bool, IsTrue, List, ◌++◌, length}
 use Rattle.pana_journal.specs.declared.entry.Entry.{Entry}
-use Rattle.pana_hall.specs.declared.call.Call.{Call}
+use Rattle.pana_calls.specs.declared.call.Call.{Call}
 use Rattle.pana_log.specs.declared.log.Log.{Log}
 use Rattle.pana_log.specs.declared.log_state.LogState.TheVariants.{Open}
 use Rattle.pana_log.specs.Device.{LeavesOnly}
 use Rattle.pana_seal.specs.declared.sealer.Sealer.{Sealer}
-use Rattle.pana_wire.specs.declared.answer.Answer.{Answer}
-use Rattle.pana_wire.specs.declared.answer.Answer.TheVariants.{NotKept}
+use Rattle.pana_calls.specs.declared.answer.Answer.{Answer}
+use Rattle.pana_calls.specs.declared.answer.Answer.TheVariants.{NotKept}
 use Rattle.pana_store.specs.Entries.{LoadsFirst, LoadsEither}
 use Rattle.pana_store.specs.Store.{StoreView, IsKept, MakesEntries, IsQuery, Becomes, IsFull, NeedsOpen}
 

@@ -1,9 +1,9 @@
 -- What a call does to a store: to its hall, and to the log that keeps the hall's journal.
 use Rattle.std.specs.Prelude.{◌≡◌, ◌≢◌, ◌⊎◌, ◌<◌, ◌^◌, ℕ, Bool, IsTrue, List, length, None}
 use Rattle.pana_journal.specs.declared.entry.Entry.{Entry}
-use Rattle.pana_hall.specs.declared.call.Call.{Call}
-use Rattle.pana_hall.specs.declared.call.Call.TheVariants.{Report, Sighting, Query}
-use Rattle.pana_hall.specs.declared.reply.Reply.{Reply}
+use Rattle.pana_calls.specs.declared.call.Call.{Call}
+use Rattle.pana_calls.specs.declared.call.Call.TheVariants.{Report, Sighting, Query}
+use Rattle.pana_calls.specs.declared.reply.Reply.{Reply}
 use Rattle.pana_hall.specs.Permit.{Permits, journal_after}
 use Rattle.pana_hall.specs.Refusal.{refusal}
 use Rattle.pana_hall.specs.Step.{Steps}
@@ -14,8 +14,8 @@ use Rattle.pana_log.specs.Lines.{recovered, text_of}
 use Rattle.pana_log.specs.Log.{IsSettled}
 use Rattle.pana_seal.specs.declared.sealer.Sealer.{Sealer}
 use Rattle.pana_seal.specs.Seal.{Covers}
-use Rattle.pana_wire.specs.declared.answer.Answer.{Answer}
-use Rattle.pana_wire.specs.declared.answer.Answer.TheVariants.{Given, NotKept}
+use Rattle.pana_calls.specs.declared.answer.Answer.{Answer}
+use Rattle.pana_calls.specs.declared.answer.Answer.TheVariants.{Given, NotKept}
 use Rattle.pana_store.specs.Entries.{LoadsTo, LoadsFirst, LoadsEither}
 
 -- what contracts see of a store: the entries of the hall's journal, the log in the file, and what its next line is sealed

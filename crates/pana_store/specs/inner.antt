@@ -13,10 +13,10 @@ use Rattle.pana_log.specs.declared.log_state.LogState.TheVariants.{Open}
 use Rattle.pana_store.specs.Entries.{LoadsTo, LoadsEither}
 use Rattle.pana_store.specs.Group.{GroupView}
 use Rattle.pana_store.specs.Store.{IsKept}
-use Rattle.pana_hall.specs.declared.cause.Cause.TheVariants.{OutOfMemory}
-use Rattle.pana_hall.specs.declared.reply.Reply.TheVariants.{Refused}
-use Rattle.pana_wire.specs.declared.answer.Answer.{Answer}
-use Rattle.pana_wire.specs.declared.answer.Answer.TheVariants.{Given, NotKept}
+use Rattle.pana_calls.specs.declared.cause.Cause.TheVariants.{OutOfMemory}
+use Rattle.pana_calls.specs.declared.reply.Reply.TheVariants.{Refused}
+use Rattle.pana_calls.specs.declared.answer.Answer.{Answer}
+use Rattle.pana_calls.specs.declared.answer.Answer.TheVariants.{Given, NotKept}
 use Rattle.pana_store.specs.declared.open_fault.OpenFault.{OpenFault}
 use Rattle.pana_store.specs.declared.open_fault.OpenFault.TheVariants as opens
 use Rattle.pana_seal.specs.declared.seal_fault.SealFault.{SealFault}

@@ -7,11 +7,11 @@ ghost use Rattle.pana_store.specs.inner.{answer_to, group_of, IsGroup};
 use crate::keeping::answer_to;
 use crate::pending::{Pending, add, settle};
 use crate::store::Store;
+use pana_calls::{Answer, Call, NoAnswer, Session};
 use pana_copies::DeviceName;
-use pana_hall::{Call, Hall, Unprepared};
+use pana_hall::{Hall, Unprepared};
 use pana_log::{Device, Log, LogState};
 use pana_seal::Sealer;
-use pana_wire::{Answer, NoAnswer, Session};
 use std::alloc::{AllocError, Global};
 use std::marker::Model;
 

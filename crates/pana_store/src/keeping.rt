@@ -1,7 +1,7 @@
 //! A call whose entries are kept: it is prepared, their line is staged, they are made the next entries of the hall, and the
 //! line is committed.
 ghost use Rattle.std.specs.Prelude.{◌≡◌, ◌+◌, ◌≤◌, List, ℕ, IsTrue, length, None, IfOk, OnErr};
-ghost use Rattle.pana_hall.specs.declared.call.Call.{Call};
+ghost use Rattle.pana_calls.specs.declared.call.Call.{Call};
 ghost use Rattle.pana_hall.specs.Prepared.{Prepares, entries_of};
 ghost use Rattle.pana_log.specs.Lines.{recovered, text_of, HasRoom};
 ghost use Rattle.pana_log.specs.Log.{IsStaged};
@@ -11,11 +11,11 @@ ghost use Rattle.pana_store.specs.Store.{IsKept, Keeps, Breaks};
 ghost use Rattle.pana_store.specs.inner.{answer_to};
 
 use crate::entry_line::line_of;
+use pana_calls::{Answer, Call, Cause, NoAnswer, Reply};
 use pana_copies::DeviceName;
-use pana_hall::{Call, Cause, Hall, Prepared, Reply, Unprepared};
+use pana_hall::{Hall, Prepared, Unprepared};
 use pana_log::{Device, DeviceFault, Log, LogFault, LogState};
 use pana_seal::Sealer;
-use pana_wire::{Answer, NoAnswer};
 use std::alloc::Global;
 
 /// Makes a device's call, if nothing stands against it, and keeps its entries. A call without an entry, as one that is

@@ -10,10 +10,11 @@ ghost use Rattle.pana_wire.specs.inner.LongLine.{IsOpenLine};
 ghost use Rattle.pana_store.specs.Entries.{IsLineOf, IsSealedBehind};
 ghost use Rattle.pana_store.specs.inner.{IsWaiting, HasRoomFor, SealsLike, IsSealer, CommitsLine, LosesLine};
 
+use pana_calls::NoAnswer;
 use pana_journal::Entry;
 use pana_log::{Device, DeviceFault, Log, LogState};
 use pana_seal::Sealer;
-use pana_wire::{NoAnswer, OpenLine};
+use pana_wire::OpenLine;
 use std::alloc::{AllocError, Global};
 
 /// How many entries a group has at most, but for one, and how long its line may get, for those of one more call.

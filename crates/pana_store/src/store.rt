@@ -2,11 +2,11 @@ ghost use Rattle.std.specs.Prelude.{◌≡◌, ◌↔◌, IsTrue, IfOk, OnErr, l
 ghost use Rattle.pana_store.specs.Store.{IsKept, Keeps, Breaks, MakesEntries};
 
 use crate::keeping::record;
+use pana_calls::{Answer, Call, NoAnswer, Session};
 use pana_copies::DeviceName;
-use pana_hall::{Call, Hall};
+use pana_hall::Hall;
 use pana_log::{Device, Log, LogState};
 use pana_seal::Sealer;
-use pana_wire::{Answer, NoAnswer, Session};
 use std::alloc::Global;
 use std::marker::Model;
 

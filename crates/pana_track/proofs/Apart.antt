@@ -1,8 +1,8 @@
 -- Copies that are tracked, among copies each of which has a path of its own.
 use Rattle.std.proofs.Common.{◌≢◌, Bool, true, false, ℕ, List, [], ◌∷◌, filter, cond}
 use Rattle.std.specs.List.{AllByRecursion}
-use Rattle.pana_hall.specs.declared.holding.Holding.{Holding}
-use Rattle.pana_hall.specs.Holdings.{HaveOwnPaths}
+use Rattle.pana_calls.specs.declared.holding.Holding.{Holding}
+use Rattle.pana_calls.specs.Holdings.{HaveOwnPaths}
 
 module _ (test : Holding → Bool) where
   first_too : (P : Holding → Type 0) (copy : Holding) (left : List Holding) (b : Bool) → P copy → AllByRecursion P left → AllByRecursion P (cond b (copy ∷ left) left)

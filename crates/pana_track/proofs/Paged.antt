@@ -2,13 +2,13 @@
 use Rattle.std.proofs.Common.{◌≡◌, ℕ, List, [], ◌∷◌, ◌++◌, Option, None, Some, refl, sym, ap, subst, ◌∙◌, append-nil, append_assoc}
 use Rattle.std.specs.List.{flat_map}
 use Rattle.std.proofs.lemmas.Grind.{flat_map-append}
-use Rattle.pana_hall.specs.declared.call.Call.{Call}
-use Rattle.pana_hall.specs.declared.call.Call.TheVariants as calls
-use Rattle.pana_hall.specs.declared.call.Query.TheVariants as queries
-use Rattle.pana_hall.specs.declared.reply.Reply.TheVariants.{At, Board, Did, Done, Families, Holdings, Journal, Known, Pair, Refused, Stamps, Status}
-use Rattle.pana_hall.specs.declared.standing.StatusRow.{StatusRow}
-use Rattle.pana_wire.specs.declared.answer.Answer.{Answer}
-use Rattle.pana_wire.specs.declared.answer.Answer.TheVariants.{Given, NotKept}
+use Rattle.pana_calls.specs.declared.call.Call.{Call}
+use Rattle.pana_calls.specs.declared.call.Call.TheVariants as calls
+use Rattle.pana_calls.specs.declared.call.Query.TheVariants as queries
+use Rattle.pana_calls.specs.declared.reply.Reply.TheVariants.{At, Board, Did, Done, Families, Holdings, Journal, Known, Pair, Refused, Stamps, Status}
+use Rattle.pana_calls.specs.declared.standing.StatusRow.{StatusRow}
+use Rattle.pana_calls.specs.declared.answer.Answer.{Answer}
+use Rattle.pana_calls.specs.declared.answer.Answer.TheVariants.{Given, NotKept}
 use Rattle.pana_track.specs.Calls.{Asked, Makes}
 use Rattle.pana_track.specs.Status.{HasAll, Pages, next_after}
 use Rattle.pana_track.specs.inner.Pages.{AsksPage, Stops, page_in}

@@ -1,11 +1,11 @@
 -- The calls of tracking a folder.
 use Rattle.std.proofs.Common.{Result, Ok, Err, IfOk, OnErr, ◌≡◌, ℕ, List, [], ◌∷◌, ◌++◌, Option, None, Some, ◌⊎◌, inl, inr, Bool, true, false, not, ◌&&◌, refl, sym, ap, subst, ◌∙◌}
-use Rattle.pana_hall.specs.declared.call.Call.{Call}
-use Rattle.pana_hall.specs.declared.call.Call.TheVariants as calls
-use Rattle.pana_hall.specs.declared.call.Query.TheVariants as queries
-use Rattle.pana_hall.specs.declared.holding.Holding.{Holding}
-use Rattle.pana_wire.specs.declared.answer.Answer.{Answer}
-use Rattle.pana_wire.specs.declared.answer.NoAnswer.{NoAnswer}
+use Rattle.pana_calls.specs.declared.call.Call.{Call}
+use Rattle.pana_calls.specs.declared.call.Call.TheVariants as calls
+use Rattle.pana_calls.specs.declared.call.Query.TheVariants as queries
+use Rattle.pana_calls.specs.declared.holding.Holding.{Holding}
+use Rattle.pana_calls.specs.declared.answer.Answer.{Answer}
+use Rattle.pana_calls.specs.declared.answer.NoAnswer.{NoAnswer}
 use Rattle.pana_scan.specs.declared.notices.Notice.{Notice}
 use Rattle.pana_track.specs.declared.fault.TrackFault.{TrackFault}
 use Rattle.pana_track.specs.declared.fault.TrackFault.TheVariants as faults

@@ -1,8 +1,8 @@
 -- What becomes of folders that are tracked, and the lines about them for standard error.
 use Rattle.std.specs.Prelude.{◌≡◌, ℕ, ◌==◌, not, ◌||◌, Bool, true, List, [], ◌++◌, codes, decimal, if◌then◌else◌, Option, Some, None, is_some, Result, Ok, Err}
-use Rattle.pana_hall.specs.Cause.{shown_cause}
-use Rattle.pana_hall.specs.declared.call.Call.{Call}
-use Rattle.pana_hall.specs.declared.cause.Cause.{Cause}
+use Rattle.pana_calls.specs.Cause.{shown_cause}
+use Rattle.pana_calls.specs.declared.call.Call.{Call}
+use Rattle.pana_calls.specs.declared.cause.Cause.{Cause}
 use Rattle.pana_scan.specs.Scan.{unreadable_count}
 use Rattle.pana_track.specs.Fault.{shown_read_fault}
 use Rattle.pana_track.specs.Tally.{nothing}
@@ -15,7 +15,7 @@ use Rattle.pana_track.specs.declared.folder_end.FolderTally.{FolderTally}
 use Rattle.pana_track.specs.declared.read_fault.ReadFault.{ReadFault}
 use Rattle.pana_track.specs.declared.reading.TrackedListing.{TrackedListing}
 use Rattle.pana_track.specs.declared.tally.TrackTally.{TrackTally}
-use Rattle.pana_wire.specs.declared.answer.Answer.{Answer}
+use Rattle.pana_calls.specs.declared.answer.Answer.{Answer}
 
 -- ---- lines for standard error
 

@@ -1,6 +1,6 @@
 -- A root without what its patterns ignore.
 use Rattle.std.specs.Prelude.{ℕ, ◌+◌, Bool, true, false, not, List, ◌∷◌, ◌++◌, map, filter, drop, length, if◌then◌else◌}
-use Rattle.pana_hall.specs.declared.holding.Holding.{Holding}
+use Rattle.pana_calls.specs.declared.holding.Holding.{Holding}
 use Rattle.pana_ignore.specs.declared.pattern.Pattern.{Pattern}
 use Rattle.pana_ignore.specs.Pattern.{ignores_here, is_ignored}
 use Rattle.pana_scan.specs.declared.entry.Entry.{Entry}

@@ -1,13 +1,13 @@
 -- The copies that are obsolete or in conflict, page by page.
 use Rattle.std.specs.Prelude.{◌≡◌, ℕ, ◌+◌, ◌-◌, ◌^◌, min, List, [], ◌∷◌, slice_get, Option, Some, None, option_map}
 use Rattle.std.specs.List.{flat_map}
-use Rattle.pana_hall.specs.declared.call.Call.{Call}
-use Rattle.pana_hall.specs.declared.call.Call.TheVariants as calls
-use Rattle.pana_hall.specs.declared.call.Query.TheVariants as queries
-use Rattle.pana_hall.specs.declared.reply.Reply.TheVariants.{Status}
-use Rattle.pana_hall.specs.declared.standing.StatusRow.{StatusRow}
-use Rattle.pana_wire.specs.declared.answer.Answer.{Answer}
-use Rattle.pana_wire.specs.declared.answer.Answer.TheVariants.{Given}
+use Rattle.pana_calls.specs.declared.call.Call.{Call}
+use Rattle.pana_calls.specs.declared.call.Call.TheVariants as calls
+use Rattle.pana_calls.specs.declared.call.Query.TheVariants as queries
+use Rattle.pana_calls.specs.declared.reply.Reply.TheVariants.{Status}
+use Rattle.pana_calls.specs.declared.standing.StatusRow.{StatusRow}
+use Rattle.pana_calls.specs.declared.answer.Answer.{Answer}
+use Rattle.pana_calls.specs.declared.answer.Answer.TheVariants.{Given}
 
 -- the number from which the next page is to be asked for: the one after that of the hundredth row; where there is none, all
 -- pages were asked for

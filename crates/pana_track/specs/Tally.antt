@@ -1,9 +1,9 @@
 -- What is counted of calls.
 use Rattle.std.specs.Prelude.{ℕ, ◌+◌, ◌-◌, ◌^◌, min, List, [], ◌∷◌, Option, Some, None}
-use Rattle.pana_hall.specs.declared.cause.Cause.{Cause}
-use Rattle.pana_hall.specs.declared.reply.Reply.TheVariants.{Done, Did, Refused}
-use Rattle.pana_wire.specs.declared.answer.Answer.{Answer}
-use Rattle.pana_wire.specs.declared.answer.Answer.TheVariants.{Given}
+use Rattle.pana_calls.specs.declared.cause.Cause.{Cause}
+use Rattle.pana_calls.specs.declared.reply.Reply.TheVariants.{Done, Did, Refused}
+use Rattle.pana_calls.specs.declared.answer.Answer.{Answer}
+use Rattle.pana_calls.specs.declared.answer.Answer.TheVariants.{Given}
 use Rattle.pana_track.specs.declared.tally.TrackTally.{TrackTally}
 use Rattle.pana_track.specs.Calls.{Asked}
 

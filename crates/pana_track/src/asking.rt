@@ -3,10 +3,9 @@ ghost use Rattle.std.specs.Prelude.{◌≡◌, None, IfOk, IfSome, OnErr};
 ghost use Rattle.pana_track.specs.Status.{HasAll, next_after};
 ghost use Rattle.pana_track.specs.inner.Pages.{AsksPage, Stops, page_in};
 
+use pana_calls::{Answer, Call, NoAnswer, Query, Reply, Session, StatusRow};
 use pana_copies::DeviceName;
-use pana_hall::{Call, Query, Reply, StatusRow};
 use pana_list::PlainList;
-use pana_wire::{Answer, NoAnswer, Session};
 use std::alloc::Global;
 
 /// How many pages are asked for at most.

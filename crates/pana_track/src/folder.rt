@@ -9,8 +9,8 @@ use crate::read_fault::ReadFault;
 use crate::reading::TrackedListing;
 use crate::tally::TrackTally;
 use crate::tracking::track;
+use pana_calls::{NoAnswer, Session};
 use pana_scan::{Found, FoundRow};
-use pana_wire::{NoAnswer, Session};
 use std::alloc::Global;
 
 /// How many of the files couldn't be read.

@@ -5,10 +5,9 @@ ghost use Rattle.pana_track.specs.inner.Reporting.{BreaksOff, BreaksOne, CallsOn
 
 use crate::fault::TrackFault;
 use crate::tally::TrackTally;
+use pana_calls::{Answer, NoAnswer, Reply, Session};
 use pana_copies::DeviceName;
-use pana_hall::Reply;
 use pana_scan::Notice;
-use pana_wire::{Answer, NoAnswer, Session};
 use std::alloc::Global;
 
 /// How often a file that was found is reported at most.

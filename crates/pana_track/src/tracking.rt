@@ -9,11 +9,10 @@ use crate::fault::TrackFault;
 use crate::reading::TrackedListing;
 use crate::reporting::report_all;
 use crate::tally::TrackTally;
+use pana_calls::{Answer, Call, Holding, HoldingList, NoAnswer, Query, Reply, Session};
 use pana_copies::DeviceName;
-use pana_hall::{Call, Holding, HoldingList, Query, Reply};
 use pana_ignore::Patterns;
 use pana_scan::{NoticeList, notice};
-use pana_wire::{Answer, NoAnswer, Session};
 use std::alloc::{AllocError, Global};
 
 /// The holdings that were asked for, where the answer has them.

@@ -2,15 +2,15 @@
 use Rattle.std.specs.Prelude.{◌≡◌, ℕ, ◌==◌, ◌&&◌, not, Bool, true, false, List, [], ◌∷◌, Result, Ok, Err}
 use Rattle.std.specs.List.{list_all}
 use Rattle.std.proofs.Common.{refl, sym, subst, inl, inr}
-use Rattle.pana_hall.specs.declared.call.Call.{Call}
-use Rattle.pana_hall.specs.declared.reply.Reply.{Reply}
+use Rattle.pana_calls.specs.declared.call.Call.{Call}
+use Rattle.pana_calls.specs.declared.reply.Reply.{Reply}
 use Rattle.pana_wire.specs.declared.field.Field.TheVariants.{By, Do, Device, Path, Copy, Family, A, B, Heir, Sum, Entry, From, Number, Entries}
 use Rattle.pana_wire.specs.declared.fault.WireFault.{WireFault}
 use Rattle.pana_wire.specs.declared.fault.WireFault.TheVariants.{TooLong, NotUtf8, NotJson, NotObject, BadField, OutOfMemory}
 use Rattle.pana_wire.specs.declared.message.Message.{Message}
 use Rattle.pana_wire.specs.Fault.{fault_text}
-use Rattle.pana_wire.specs.declared.answer.Answer.{Answer}
-use Rattle.pana_wire.specs.declared.answer.Answer.TheVariants.{Given, NotKept}
+use Rattle.pana_calls.specs.declared.answer.Answer.{Answer}
+use Rattle.pana_calls.specs.declared.answer.Answer.TheVariants.{Given, NotKept}
 use Rattle.pana_wire.specs.Answer.{answer_text, not_kept_text}
 use Rattle.pana_wire.specs.Reply.{reply_data, reply_text}
 use Rattle.pana_wire.specs.Line.{line_says}

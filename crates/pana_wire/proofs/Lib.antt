@@ -15,5 +15,4 @@ pub mod OneLine
 pub mod InLine
 pub mod Sealed
 pub mod LongLine
-pub mod SessionRun
 pub mod Said

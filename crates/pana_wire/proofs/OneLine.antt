@@ -9,7 +9,7 @@ use Rattle.json.specs.Print.{escape, escape_byte, escape_letter, quoted}
 use Rattle.serde_json.specs.Data.{unsigned, negative, float, Data, null, boolean, number, string, array, object, Items, no_items, item, Members, no_members, member}
 use Rattle.serde_json.specs.Written.{compact_text, items_text, members_text, comma_if}
 use Rattle.pana_journal.specs.declared.entry.Entry.{Entry}
-use Rattle.pana_hall.specs.declared.reply.Reply.TheVariants.{Journal}
+use Rattle.pana_calls.specs.declared.reply.Reply.TheVariants.{Journal}
 use Rattle.pana_wire.specs.Lines.{ended, unended, lines_of}
 use Rattle.pana_wire.specs.Reply.{reply_data, reply_text}
 use Rattle.pana_wire.specs.Dump.{dump_says, entries_text, IsEntryLine}

@@ -1,8 +1,8 @@
 -- Laws of sessions for which to settle does nothing.
 use Rattle.std.proofs.Common.{◌≡◌, ℕ, ◌+◌, Bool, List, [], ◌∷◌, ◌++◌, ◌⊎◌, Option, Result, Ok, Err, IfOk, IfErr, refl, sym, ap, subst, ◌∙◌, append_assoc, append-nil, inl, inr}
 use mathlib.Core.List.{IsPrefix}
-use Rattle.pana_hall.specs.declared.call.Call.{Call}
-use Rattle.pana_wire.specs.declared.answer.Answer.{Answer}
+use Rattle.pana_calls.specs.declared.call.Call.{Call}
+use Rattle.pana_calls.specs.declared.answer.Answer.{Answer}
 use Rattle.pana_wire.specs.declared.tap.Tap.{Tap}
 use Rattle.pana_wire.specs.declared.serving.Served.{Served}
 use Rattle.pana_wire.specs.declared.serving.ServeFault.{ServeFault}

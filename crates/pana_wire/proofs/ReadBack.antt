@@ -8,7 +8,7 @@ use Rattle.serde_json.specs.Read.{read, max_depth}
 use Rattle.pana_copies.specs.Names.{is_device}
 use Rattle.pana_journal.specs.declared.report.Report.{Report}
 use Rattle.pana_journal.specs.declared.report.Report.TheVariants.{Register, Duplicate, Edit, Reconcile, Merge, Relocate, Remove, Note, Confirm, Withdraw}
-use Rattle.pana_hall.specs.declared.call.Call.TheVariants as calls
+use Rattle.pana_calls.specs.declared.call.Call.TheVariants as calls
 use Rattle.pana_wire.specs.Line.{device_in, path_in, number_in, sum_in, number_or_none, sum_or_none, place_in, word_in, numbered_in, report_in, asked_in, call_in, message_in, object_in, text_in, data_in, line_says}
 use Rattle.pana_wire.specs.Word.{word_of}
 use Rattle.pana_wire.specs.Report.{put_report, report_data}

@@ -7,17 +7,17 @@ use Rattle.std.proofs.lemmas.Bool.{and_parts, eqb-true}
 use Rattle.serde_json.specs.Data.{unsigned, negative, float, Data, null, boolean, number, string, array, object, Items, no_items, item, Members, no_members, member, put, depth, members_depth}
 use Rattle.serde_json.specs.View.{items_of}
 use Rattle.serde_json.specs.Written.{has_float, items_have_float, members_have_float}
-use Rattle.pana_family.specs.declared.stamps.CopyStamp.{CopyStamp}
+use Rattle.pana_calls.specs.declared.copy_stamp.CopyStamp.{CopyStamp}
 use Rattle.pana_journal.specs.declared.entry.Entry.{Entry}
 use Rattle.pana_journal.specs.declared.report.Report.{Report}
 use Rattle.pana_journal.specs.declared.report.Report.TheVariants as reports
-use Rattle.pana_hall.specs.declared.family_row.FamilyRow.{FamilyRow}
-use Rattle.pana_hall.specs.declared.holding.Holding.{Holding}
-use Rattle.pana_hall.specs.declared.board.BoardRow.{BoardRow}
-use Rattle.pana_hall.specs.declared.standing.CopyStanding.{CopyStanding}
-use Rattle.pana_hall.specs.declared.standing.StatusRow.{StatusRow}
-use Rattle.pana_hall.specs.declared.reply.Reply.{Reply}
-use Rattle.pana_hall.specs.declared.reply.Reply.TheVariants.{Done, Did, Known, Families, Board, Stamps, Pair, Holdings, At, Status, Journal, Refused}
+use Rattle.pana_calls.specs.declared.family_row.FamilyRow.{FamilyRow}
+use Rattle.pana_calls.specs.declared.holding.Holding.{Holding}
+use Rattle.pana_calls.specs.declared.board.BoardRow.{BoardRow}
+use Rattle.pana_calls.specs.declared.standing.CopyStanding.{CopyStanding}
+use Rattle.pana_calls.specs.declared.standing.StatusRow.{StatusRow}
+use Rattle.pana_calls.specs.declared.reply.Reply.{Reply}
+use Rattle.pana_calls.specs.declared.reply.Reply.TheVariants.{Done, Did, Known, Families, Board, Stamps, Pair, Holdings, At, Status, Journal, Refused}
 use Rattle.pana_wire.specs.declared.field.Field.{Field}
 use Rattle.pana_wire.specs.declared.field.Field.TheVariants as fields
 use Rattle.pana_wire.specs.Field.{field_name}

@@ -4,8 +4,8 @@ use Rattle.std.specs.List.{list_all}
 use Rattle.serde_json.specs.Data.{Data, Items, no_items, item}
 use Rattle.serde_json.specs.Find.{get, as_array, as_object}
 use Rattle.pana_journal.specs.declared.entry.Entry.{Entry}
-use Rattle.pana_hall.specs.declared.reply.Reply.{Reply}
-use Rattle.pana_hall.specs.declared.reply.Reply.TheVariants.{Journal}
+use Rattle.pana_calls.specs.declared.reply.Reply.{Reply}
+use Rattle.pana_calls.specs.declared.reply.Reply.TheVariants.{Journal}
 use Rattle.pana_wire.specs.declared.field.Field.TheVariants as fields
 use Rattle.pana_wire.specs.declared.fault.WireFault.{WireFault}
 use Rattle.pana_wire.specs.Field.{field_name}

@@ -14,5 +14,4 @@ pub mod Groups
 pub mod Timely
 pub mod Seal
 pub mod Shown
-pub mod laws
 pub mod inner

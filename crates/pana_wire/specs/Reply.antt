@@ -5,19 +5,19 @@ use Rattle.serde_json.specs.View.{items_of}
 use Rattle.serde_json.specs.Written.{compact_text}
 use Rattle.pana_event.specs.Relation.{rel_name}
 use Rattle.pana_journal.specs.declared.entry.Entry.{Entry}
-use Rattle.pana_hall.specs.declared.family_row.FamilyRow.{FamilyRow}
-use Rattle.pana_hall.specs.declared.holding.Holding.{Holding}
-use Rattle.pana_hall.specs.declared.board.BoardRow.{BoardRow}
-use Rattle.pana_hall.specs.declared.board.BoardView.{BoardView}
-use Rattle.pana_hall.specs.declared.cause.Cause.{Cause}
-use Rattle.pana_family.specs.declared.stamps.CopyStamp.{CopyStamp}
-use Rattle.pana_hall.specs.declared.reply.Reply.{Reply}
-use Rattle.pana_hall.specs.declared.reply.Reply.TheVariants.{Done, Did, Known, Families, Board, Stamps, Pair, Holdings, At, Status, Journal, Refused}
-use Rattle.pana_hall.specs.declared.standing.CopyStanding.{CopyStanding}
-use Rattle.pana_hall.specs.declared.standing.PlacedCopy.{PlacedCopy}
-use Rattle.pana_hall.specs.declared.standing.StatusRow.{StatusRow}
-use Rattle.pana_hall.specs.Cause.{code_of, cause_name, cause_copy}
-use Rattle.pana_hall.specs.Standing.{state_name}
+use Rattle.pana_calls.specs.declared.family_row.FamilyRow.{FamilyRow}
+use Rattle.pana_calls.specs.declared.holding.Holding.{Holding}
+use Rattle.pana_calls.specs.declared.board.BoardRow.{BoardRow}
+use Rattle.pana_calls.specs.declared.board.BoardView.{BoardView}
+use Rattle.pana_calls.specs.declared.cause.Cause.{Cause}
+use Rattle.pana_calls.specs.declared.copy_stamp.CopyStamp.{CopyStamp}
+use Rattle.pana_calls.specs.declared.reply.Reply.{Reply}
+use Rattle.pana_calls.specs.declared.reply.Reply.TheVariants.{Done, Did, Known, Families, Board, Stamps, Pair, Holdings, At, Status, Journal, Refused}
+use Rattle.pana_calls.specs.declared.standing.CopyStanding.{CopyStanding}
+use Rattle.pana_calls.specs.declared.standing.PlacedCopy.{PlacedCopy}
+use Rattle.pana_calls.specs.declared.standing.StatusRow.{StatusRow}
+use Rattle.pana_calls.specs.Cause.{code_of, cause_name, cause_copy}
+use Rattle.pana_calls.specs.Standing.{state_name}
 use Rattle.pana_wire.specs.Word.{word_name}
 use Rattle.pana_wire.specs.Report.{number_data, kind_word, entry_data}
 

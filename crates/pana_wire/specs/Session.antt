@@ -2,8 +2,8 @@
 use Rattle.std.specs.Prelude.{◌≡◌, ℕ, ◌+◌, List, [], ◌∷◌, ◌++◌, length, Option, Result, Ok, Err, ◌⊎◌, Bool, true, false}
 use mathlib.Core.List.{IsPrefix}
 use Rattle.std.specs.Io.KnownBytes.{Consumes, Appends, IsAtEnd}
-use Rattle.pana_hall.specs.declared.call.Call.{Call}
-use Rattle.pana_wire.specs.declared.answer.Answer.{Answer}
+use Rattle.pana_calls.specs.declared.call.Call.{Call}
+use Rattle.pana_calls.specs.declared.answer.Answer.{Answer}
 use Rattle.pana_wire.specs.declared.fault.WireFault.{WireFault}
 use Rattle.pana_wire.specs.declared.fault.WireFault.TheVariants as faults
 use Rattle.pana_wire.specs.declared.message.Message.{Message}

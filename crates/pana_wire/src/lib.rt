@@ -1,13 +1,11 @@
 //! Lines: what a line of bytes asks, the text of each reply, and a session from bytes to bytes.
 #![tactic(auto)]
 
-mod answer;
 mod answer_buffer;
 mod cutting;
 mod dump;
 mod fault;
 mod field;
-mod laws;
 mod line_buffer;
 mod line_fault;
 mod message;
@@ -16,17 +14,14 @@ mod reading;
 mod report_writing;
 mod sealing;
 mod serving;
-mod session;
 mod tap;
 mod word;
 mod writing;
 
-pub use crate::answer::{Answer, NoAnswer};
 pub use crate::cutting::split_lines;
 pub use crate::dump::{decode_dump, decode_dump_lines};
 pub use crate::fault::WireFault;
 pub use crate::field::Field;
-pub use crate::laws::every_session_is_a_run;
 pub use crate::line_fault::LineFault;
 pub use crate::message::Message;
 pub use crate::open_line::OpenLine;
@@ -34,6 +29,5 @@ pub use crate::reading::decode;
 pub use crate::report_writing::encode_call;
 pub use crate::sealing::encode_sealed_entry;
 pub use crate::serving::{ServeFault, Served, serve, serve_groups};
-pub use crate::session::Session;
 pub use crate::tap::Tap;
 pub use crate::writing::{encode, encode_answer, encode_entry};

@@ -1,5 +1,5 @@
+use pana_calls::Call;
 use pana_copies::DeviceName;
-use pana_hall::Call;
 
 /// What a line says: the device that speaks, and its call.
 #[derive(Debug, PartialEq, Eq, Drop)]

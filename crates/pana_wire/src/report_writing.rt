@@ -15,8 +15,8 @@ ghost use Rattle.pana_wire.specs.inner.LongLine.{IsTextOf};
 
 use crate::field::Field;
 use crate::word::Word;
+use pana_calls::Call;
 use pana_copies::{DeviceName, Place, Sum};
-use pana_hall::Call;
 use pana_journal::{Entry, Report, ReportKind};
 use serde_json::{Map, Value};
 use std::alloc::{AllocError, Global};

@@ -2,8 +2,8 @@ ghost use Rattle.std.specs.Prelude.{◌≡◌, ◌++◌, ◌||◌, is_err};
 ghost use Rattle.std.specs.Io.{ReadsAtMost, WritesAtMost};
 ghost use Rattle.std.specs.Io.KnownBytes.{ReadConsumes, WriteAppends, Keeps};
 
-use crate::session::Session;
 use boxcar::tag::{Names, Tag};
+use pana_calls::Session;
 use std::io;
 use std::io::{Read, Write};
 

@@ -1,20 +1,19 @@
 ghost use Rattle.std.specs.Prelude.{◌≡◌, ◌∷◌, IfOk, OnOk, option_copied, option_to_list, string_bytes};
 ghost use Rattle.std.specs.List.{All};
 ghost use Rattle.serde_json.specs.View.{view};
-ghost use Rattle.pana_hall.specs.declared.reply.Reply.TheVariants.{Journal};
+ghost use Rattle.pana_calls.specs.declared.reply.Reply.TheVariants.{Journal};
 ghost use Rattle.pana_wire.specs.inner.Names.{HasEntryNames, HasReplyNames};
 ghost use Rattle.pana_wire.specs.Dump.{IsReadBack, IsEntryLine, dump_says, entries_text};
 ghost use Rattle.pana_wire.specs.Answer.{answer_text};
 ghost use Rattle.pana_wire.specs.Reply.{row_data, rows_data, numbers_data, board_data, stamp_data, stamps_data, family_data, families_data, with_sum, holding_data, holdings_data, standing_data, at_data, placed_data, status_row_data, status_data, refused_data, number_or_null, reply_data, reply_text};
 
-use crate::answer::Answer;
 use crate::field::Field;
 use crate::report_writing::{entries_value, kind_word, line_value, put_sum};
-use pana_copies::Sum;
-use pana_hall::{
-    BoardRow, BoardView, Cause, CopyStamp, CopyStanding, FamilyRow, Holding, PlacedCopy, Reply,
-    StatusRow,
+use pana_calls::{
+    Answer, BoardRow, BoardView, Cause, CopyStamp, CopyStanding, FamilyRow, Holding, PlacedCopy,
+    Reply, StatusRow,
 };
+use pana_copies::Sum;
 use pana_journal::Entry;
 use serde_json::{Value, json};
 use std::alloc::{AllocError, Global};

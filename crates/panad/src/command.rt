@@ -1,9 +1,11 @@
 use crate::descriptors::take_standard_descriptors;
 use crate::fault::ProgramFault;
 use crate::keeping::{run_kept, show_kept};
+use crate::options::{JOURNAL, journal_option};
 use crate::printing::{complain, output, print_out, print_text};
 use crate::progress::Progress;
 use crate::serve_command::{self, SERVE, serve_command};
+use crate::status_command::{self, STATUS, status_command};
 use crate::track_command::{self, TRACK, track_command};
 use crate::version::VERSION;
 use clap::error::{Error, ErrorKind};
@@ -39,7 +41,8 @@ pair, holdings, at, status, journal.
 
 `panad show` takes such lines and prints tables in place of the answers, and
 `panad serve` answers them over TCP, to several devices at a time.
-`panad track` needs no lines: it looks at folders.
+`panad track` needs no lines: it looks at folders, and `panad status` shows what is
+obsolete or in conflict.
 `panad COMMAND --help` shows an example. docs/PROTOCOL.md has all answers, and
 docs/PROMISES.md what is proved of them, and what isn't.";
 
@@ -109,9 +112,6 @@ const COMPARE: &str = "compare";
 /// The name of the file on the command line.
 const FILE: &str = "FILE";
 
-/// The name of the journal's file on the command line.
-pub const JOURNAL: &str = "journal";
-
 /// The names of the device and the folder on the command line.
 const DEVICE: &str = "DEVICE";
 
@@ -121,10 +121,6 @@ const DIR: &str = "DIR";
 const FIRST: &str = "FIRST";
 
 const SECOND: &str = "SECOND";
-
-pub fn journal_option<'a>(alloc: Global) -> Arg<'a> {
-    Arg::new(alloc, JOURNAL).long(JOURNAL).value_name(FILE)
-}
 
 fn run_command<'a>(alloc: Global) -> Result<Command<'a>, AllocError> {
     let journal = journal_option(alloc).help(
@@ -202,6 +198,7 @@ fn command_line<'a>(alloc: Global) -> Result<Command<'a>, AllocError> {
         .subcommand(scan_command(alloc)?)?
         .subcommand(compare_command(alloc)?)?
         .subcommand(track_command(alloc)?)?
+        .subcommand(status_command(alloc)?)?
         .subcommand(serve_command(alloc)?)
 }
 
@@ -347,6 +344,7 @@ fn obey_words<T: Threads + Wait + Clock + Sync>(
         Some((SCAN, words)) => scan(rt, words),
         Some((COMPARE, words)) => compare(rt, words),
         Some((TRACK, words)) => Ok(track_command::run(rt, threads, words)),
+        Some((STATUS, words)) => Ok(status_command::run(rt, words)),
         Some((SERVE, words)) => serve_command::run(rt, threads, words),
         _ => refuse(rt, ErrorKind::MissingSubcommand, "a command is required"),
     }

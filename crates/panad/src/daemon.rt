@@ -4,8 +4,9 @@ use crate::fault::ProgramFault;
 use crate::keeping::{NoStore, open_store};
 use crate::printing::print_out;
 use pana_commands::Printout;
-use pana_daemon::{PassedOver, System, SystemDisks, Wishes, serve_on};
+use pana_daemon::{PassedOver, SystemDisks};
 use pana_log::FileDevice;
+use pana_serve::{System, Wishes, serve_on};
 use pana_store::Store;
 use std::io;
 use std::marker::Sync;
@@ -37,16 +38,19 @@ impl System for Machine<'_> {
     }
 }
 
-/// Has the daemon do what the words ask for, prints what went wrong, where it hasn't been, and returns the status.
+/// Has the daemon do what the words ask for, on folders that are entered also where they are of another file system, or not,
+/// prints what went wrong, where it hasn't been, and returns the status.
 pub fn serve<T: Threads + Wait + Clock + Sync>(
     rt: &HostRuntime,
     threads: &T,
     passed_over: &[PassedOver<'_, '_>],
+    stays: bool,
     wishes: Wishes<'_>,
 ) -> Result<ExitCode, ProgramFault> {
     let port = wishes.port;
     let disks = SystemDisks {
         files: rt,
+        stays,
         passed_over,
     };
     let outcome = serve_on(rt, threads, &disks, &mut Machine { rt }, wishes);

@@ -5,6 +5,7 @@ use crate::fault::ProgramFault;
 use crate::journal_file::{FileFault, open_locked, open_to_read};
 use crate::printing::{complain, output, print_out};
 use pana_commands::{Printout, tables_of};
+use pana_hall::Hall;
 use pana_log::{FileDevice, Log};
 use pana_store::{Group, OpenFault, Opened, Store, serve_kept};
 use pana_wire::{ServeFault, Tap};
@@ -123,18 +124,26 @@ pub fn run_kept(rt: &HostRuntime, name: &str) -> Result<ExitCode, ProgramFault> 
     }
 }
 
-/// Prints the tables of a journal's file, which isn't changed.
-pub fn show_kept(rt: &HostRuntime, name: &str) -> Result<ExitCode, ProgramFault> {
+/// The hall of a journal's file, which isn't changed; or why there is none.
+pub fn open_hall(rt: &HostRuntime, name: &str) -> Result<Hall, NoStore> {
     let file = match open_to_read(rt, name) {
         Ok(file) => file,
-        Err(fault) => return report(rt, no_file(rt, name, fault)?),
+        Err(fault) => return Err(no_file(rt, name, fault)?),
     };
     let mut log = log_of(rt, name, file)?;
     match pana_store::read(rt.alloc(), &mut log) {
-        Ok(Opened { mut hall, .. }) => {
+        Ok(Opened { hall, .. }) => Ok(hall),
+        Err(fault) => Err(no_journal(rt, name, fault)?),
+    }
+}
+
+/// Prints the tables of a journal's file, which isn't changed.
+pub fn show_kept(rt: &HostRuntime, name: &str) -> Result<ExitCode, ProgramFault> {
+    match open_hall(rt, name) {
+        Ok(mut hall) => {
             let tables = tables_of(rt.alloc(), &mut hall)?;
             print_out(rt, &Printout::printed(rt.alloc(), tables))
         }
-        Err(fault) => report(rt, no_journal(rt, name, fault)?),
+        Err(refusal) => report(rt, refusal),
     }
 }

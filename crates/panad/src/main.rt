@@ -1,16 +1,19 @@
 //! `panad` answers which copies of a file are newest, which are obsolete, and which are in conflict.
 #![tactic(auto)]
 
+mod client;
 mod command;
 mod daemon;
 mod descriptors;
 mod fault;
 mod journal_file;
 mod keeping;
+mod options;
 mod passed_over;
 mod printing;
 mod progress;
 mod serve_command;
+mod status_command;
 mod sums_file;
 mod track;
 mod track_command;

@@ -1,7 +1,6 @@
 //! What is passed over in folders that are tracked, beside what their own files list.
 
 use crate::printing::complain;
-use crate::sums_file::sums_names;
 use pana_daemon::{PassedOver, Root};
 use std::alloc::AllocError;
 use std::fs;
@@ -31,18 +30,13 @@ fn whole_path(rt: &HostRuntime, file: &str) -> Result<Option<String>, AllocError
     Ok(Some(format!(in alloc; "{}/{name}", folder.as_str().trim_end_matches('/'))?))
 }
 
-/// The path of the journal's file below a folder, where it lies there.
-fn journal_below(
-    rt: &HostRuntime,
-    journal: &str,
-    folder: &str,
-) -> Result<Option<String>, AllocError> {
-    let (Some(journal), Ok(folder)) = (whole_path(rt, journal)?, fs::canonicalize(rt, folder))
-    else {
+/// The path of a file below a folder, where it lies there.
+fn path_below(rt: &HostRuntime, file: &str, folder: &str) -> Result<Option<String>, AllocError> {
+    let (Some(file), Ok(folder)) = (whole_path(rt, file)?, fs::canonicalize(rt, folder)) else {
         return Ok(None);
     };
-    match journal.as_str().strip_prefix(folder.as_str()) {
-        Some(rest) if is_within(journal.as_str(), folder.as_str()) => Ok(Some(String::from_str(
+    match file.as_str().strip_prefix(folder.as_str()) {
+        Some(rest) if is_within(file.as_str(), folder.as_str()) => Ok(Some(String::from_str(
             rt.alloc(),
             rest.trim_start_matches('/'),
         )?)),
@@ -62,24 +56,53 @@ fn pattern_of(rt: &HostRuntime, path: &str) -> Result<String, AllocError> {
     Ok(pattern)
 }
 
-/// The patterns of a root that the journal and the files beside it match, where they lie in its folder. That they are passed
-/// over is printed.
-fn journal_patterns(
+/// A file of the program's own, and the endings of its name and of those beside it.
+#[derive(Clone, Copy)]
+pub struct OwnFile<'a> {
+    pub name: &'a str,
+    pub endings: &'a [&'a str],
+    /// What it is called where it is passed over.
+    pub called: &'a str,
+}
+
+impl<'a> OwnFile<'a> {
+    /// The file of a journal, and the sums beside it.
+    pub fn journal(name: &'a str) -> OwnFile<'a> {
+        OwnFile {
+            name,
+            endings: &["", ".sums", ".sums.new"],
+            called: "journal",
+        }
+    }
+
+    /// A file with sums.
+    pub fn sums(name: &'a str) -> OwnFile<'a> {
+        OwnFile {
+            name,
+            endings: &["", ".new"],
+            called: "file of sums",
+        }
+    }
+}
+
+/// The patterns of a root that one of the program's own files and those beside it match, where they lie in its folder. That they
+/// are passed over is printed.
+fn own_patterns(
     rt: &HostRuntime,
     root: &Root<'_>,
-    journal: &str,
+    own: &OwnFile<'_>,
 ) -> Result<Vec<String>, AllocError> {
     let alloc = rt.alloc();
     let mut patterns = Vec::new(alloc);
-    let Some(path) = journal_below(rt, journal, root.folder)? else {
+    let Some(path) = path_below(rt, own.name, root.folder)? else {
         return Ok(patterns);
     };
-    patterns.push(pattern_of(rt, path.as_str())?)?;
-    for name in sums_names(rt, path.as_str())? {
+    for ending in own.endings {
+        let name = format!(in alloc; "{path}{ending}")?;
         patterns.push(pattern_of(rt, name.as_str())?)?;
     }
-    let device = root.device.as_str();
-    let text = format!(in alloc; "panad: {device}: the journal is passed over\n")?;
+    let (device, called) = (root.device.as_str(), own.called);
+    let text = format!(in alloc; "panad: {device}: the {called} is passed over\n")?;
     let _ = complain(rt, &text);
     Ok(patterns)
 }
@@ -91,11 +114,11 @@ pub struct RootPatterns {
     texts: Vec<String>,
 }
 
-/// For each root these patterns, and behind them those that the journal and the files beside it match.
+/// For each root these patterns, and behind them those that the program's own files and those beside them match.
 pub fn root_patterns(
     rt: &HostRuntime,
     roots: &[Root<'_>],
-    journal: Option<&str>,
+    own_files: &[OwnFile<'_>],
     ignored: &[&str],
 ) -> Result<Vec<RootPatterns>, AllocError> {
     let alloc = rt.alloc();
@@ -105,8 +128,8 @@ pub fn root_patterns(
         for text in ignored {
             texts.push(String::from_str(alloc, text)?)?;
         }
-        if let Some(journal) = journal {
-            texts.append(&mut journal_patterns(rt, root, journal)?)?;
+        for own in own_files {
+            texts.append(&mut own_patterns(rt, root, own)?)?;
         }
         let folder = String::from_str(alloc, root.folder)?;
         all.push(RootPatterns { folder, texts })?;

@@ -10,8 +10,9 @@ const PATIENCE: u64 = 1_000;
 
 const PERIOD: u64 = 100;
 
-/// Where standard error is a terminal: one line there with the files and bytes of a scan so far, as soon as the scan has
-/// taken a second. Elsewhere nothing. The threads of a scan share it.
+/// Where standard error is a terminal: one line there with the files and bytes of a scan so far, how fast these are read and
+/// how long the other files will take at this rate, as soon as the scan has taken a second. Elsewhere nothing. The threads of a
+/// scan share it.
 #[derive(Drop)]
 pub struct Progress<'a> {
     rt: &'a HostRuntime,
@@ -20,6 +21,8 @@ pub struct Progress<'a> {
     /// After how many milliseconds the line is shown next.
     due: AtomicU64,
     is_shown: AtomicBool,
+    /// How many files there are; 0 until they are listed.
+    listed: AtomicU64,
     files: AtomicU64,
     bytes: AtomicU64,
 }
@@ -37,6 +40,7 @@ impl<'a> Progress<'a> {
             began,
             due: AtomicU64::new(PATIENCE),
             is_shown: AtomicBool::new(false),
+            listed: AtomicU64::new(0),
             files: AtomicU64::new(0),
             bytes: AtomicU64::new(0),
         }
@@ -60,10 +64,22 @@ impl<'a> Progress<'a> {
         if now < due || !self.moves_on(due, now.saturating_add(PERIOD)) {
             return;
         }
-        let files = self.files.load(Ordering::SeqCst);
-        let bytes = self.bytes.load(Ordering::SeqCst);
-        let _ = eprint!(self.rt; "\r\x1b[Kpanad: {files} files, {bytes} bytes");
+        self.show(now);
         self.is_shown.store(true, Ordering::SeqCst);
+    }
+
+    /// Shows the line of a scan that has taken so many milliseconds.
+    fn show(&self, passed: u64) {
+        let listed = self.listed.load(Ordering::SeqCst);
+        let files = self.files.load(Ordering::SeqCst).min(listed);
+        let bytes = self.bytes.load(Ordering::SeqCst);
+        let rate = per_second(bytes, passed) / 1_000_000;
+        let _ = eprint!(self.rt;
+            "\r\x1b[Kpanad: {files} of {listed} files, {bytes} bytes, {rate} MB/s"
+        );
+        if let Some(left) = seconds_left(files, listed, passed) {
+            let _ = eprint!(self.rt; ", {left} s left");
+        }
     }
 
     /// Whether this thread is the one that changes when the line is due.
@@ -74,7 +90,26 @@ impl<'a> Progress<'a> {
     }
 }
 
+/// How much there is to a second, where there is so much to so many milliseconds.
+fn per_second(count: u64, milliseconds: u64) -> u64 {
+    count.saturating_mul(1_000) / milliseconds.max(1)
+}
+
+/// How many seconds are left, where so many files of those that are listed were begun in so many milliseconds: nobody knows
+/// before the second one.
+fn seconds_left(begun: u64, listed: u64, milliseconds: u64) -> Option<u64> {
+    let done = begun.saturating_sub(1);
+    let left = listed.saturating_sub(done);
+    milliseconds
+        .saturating_mul(left)
+        .checked_div(done.saturating_mul(1_000))
+}
+
 impl Watch for Progress<'_> {
+    fn files_listed(&self, count: usize) {
+        self.listed.store(count as u64, Ordering::SeqCst);
+    }
+
     fn file_begun(&self) {
         self.files.fetch_add(1, Ordering::SeqCst);
         self.show_if_due();

@@ -1,13 +1,17 @@
 //! The words of `panad serve`.
 
-use crate::command::{JOURNAL, journal_option, refuse};
+use crate::command::refuse;
 use crate::daemon;
 use crate::fault::ProgramFault;
-use crate::passed_over::{passed_over, root_patterns, slices_of};
+use crate::options::{
+    JOURNAL, ONE_FILE_SYSTEM, PORT, flag, journal_option, one_file_system_option, port_option,
+};
+use crate::passed_over::{OwnFile, passed_over, root_patterns, slices_of};
 use crate::track::fault_of_roots;
 use clap::error::ErrorKind;
 use clap::{Arg, ArgAction, ArgMatches, Command, value_parser};
-use pana_daemon::{Looks, Patience, Root, Wishes, roots_of};
+use pana_daemon::{Looks, Patience, Root, roots_of};
+use pana_serve::Wishes;
 use std::alloc::{AllocError, Global};
 use std::marker::Sync;
 use std::process::ExitCode;
@@ -32,9 +36,7 @@ contents, as `panad track` does, and else by paths alone. Without a folder stand
 input isn't read. Without --sessions it runs until it is killed, or until the
 journal's file fails.";
 
-/// The names of the daemon's port, number of sessions and folders on the command line.
-const PORT: &str = "port";
-
+/// The names of the number of sessions and the folders on the command line.
 const SESSIONS: &str = "sessions";
 
 /// The names of what a client may take its time for, and the seconds where they aren't given.
@@ -83,10 +85,11 @@ fn with_patience<'a>(alloc: Global, command: Command<'a>) -> Result<Command<'a>,
 
 /// The command with the options that say how folders are looked at.
 fn with_looks<'a>(alloc: Global, command: Command<'a>) -> Result<Command<'a>, AllocError> {
-    let track = Arg::new(alloc, TRACK)
-        .long(TRACK)
-        .action(ArgAction::SetTrue)
-        .help("Track the folders by contents, as `panad track` does");
+    let track = flag(
+        alloc,
+        TRACK,
+        "Track the folders by contents, as `panad track` does",
+    );
     let every = seconds_option(
         alloc,
         EVERY,
@@ -97,15 +100,16 @@ fn with_looks<'a>(alloc: Global, command: Command<'a>) -> Result<Command<'a>, Al
         .value_name("PATTERN")
         .action(ArgAction::Append)
         .help("With --track, pass over paths that match, as a line of .gitignore does");
-    command.arg(track)?.arg(every)?.arg(ignore)
+    command
+        .arg(track)?
+        .arg(every)?
+        .arg(ignore)?
+        .arg(one_file_system_option(alloc))
 }
 
 /// What the words of `serve` may be.
 pub fn serve_command<'a>(alloc: Global) -> Result<Command<'a>, AllocError> {
-    let port = Arg::new(alloc, PORT)
-        .long(PORT)
-        .value_name("N")
-        .value_parser(value_parser!(u16))
+    let port = port_option(alloc)
         .help("The port of 127.0.0.1 to listen on; 0 lets the system choose")
         .required(true);
     let sessions = Arg::new(alloc, SESSIONS)
@@ -116,10 +120,11 @@ pub fn serve_command<'a>(alloc: Global) -> Result<Command<'a>, AllocError> {
     let journal = journal_option(alloc).help(
         "The file that keeps the reports; it is made if it isn't there",
     );
-    let stay = Arg::new(alloc, STAY)
-        .long(STAY)
-        .action(ArgAction::SetTrue)
-        .help("Answer questions for ever once the journal's file has failed");
+    let stay = flag(
+        alloc,
+        STAY,
+        "Answer questions for ever once the journal's file has failed",
+    );
     let roots = Arg::new(alloc, ROOT)
         .action(ArgAction::Append)
         .help("A device and the folder with its copies, up to 8 of them");
@@ -148,16 +153,20 @@ fn obey<T: Threads + Wait + Clock + Sync>(
     threads: &T,
     wishes: Wishes<'_>,
     ignored: &[&str],
+    stays: bool,
 ) -> Result<ExitCode, ProgramFault> {
     let roots = tracked_roots(rt, &wishes)?;
     if let Some(reason) = fault_of_roots(rt, roots.as_slice())? {
         return refuse(rt, ErrorKind::InvalidValue, reason.as_str());
     }
-    let patterns = root_patterns(rt, roots.as_slice(), wishes.journal, ignored)?;
+    let patterns = match wishes.journal {
+        Some(name) => root_patterns(rt, roots.as_slice(), &[OwnFile::journal(name)], ignored)?,
+        None => root_patterns(rt, roots.as_slice(), &[], ignored)?,
+    };
     let all = patterns.as_slice();
     let slices = slices_of(rt, all)?;
     let passed = passed_over(rt, all, slices.as_slice())?;
-    daemon::serve(rt, threads, passed.as_slice(), wishes)
+    daemon::serve(rt, threads, passed.as_slice(), stays, wishes)
 }
 
 /// Serves as the words ask for.
@@ -182,5 +191,12 @@ pub fn run<T: Threads + Wait + Clock + Sync>(
         },
         stays: words.get_flag(STAY),
     };
-    obey(rt, threads, wishes, words.get_strs(IGNORE).unwrap_or(&[]))
+    let ignored = words.get_strs(IGNORE).unwrap_or(&[]);
+    obey(
+        rt,
+        threads,
+        wishes,
+        ignored,
+        words.get_flag(ONE_FILE_SYSTEM),
+    )
 }

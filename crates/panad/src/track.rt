@@ -2,13 +2,16 @@
 //! is printed.
 ghost use Rattle.std.specs.Prelude.{◌<◌, IfOk, length};
 
+use crate::client::connect;
 use crate::fault::ProgramFault;
 use crate::keeping::{NoStore, open_store};
-use crate::passed_over::{is_within, passed_over, root_patterns, slices_of};
+use crate::options::Keeper;
+use crate::passed_over::{OwnFile, is_within, passed_over, root_patterns, slices_of};
 use crate::printing::{complain, print_out};
 use crate::progress::Progress;
-use crate::sums_file::{read_sums, write_sums};
-use pana_commands::{Printout, ReadFolder, StatusForm, Untracked, track_on};
+use crate::sums_file::{keep_sums, may_keep_sums, read_sums, sums_name};
+use pana_calls::Session;
+use pana_commands::{ReadFolder, StatusForm, Untracked, track_on};
 use pana_copies::DeviceName;
 use pana_daemon::{Disks, PassedOver, Root, SystemDisks};
 use pana_scan::{KnownSums, QuickDisk, Sums};
@@ -22,7 +25,7 @@ use std::thread::Threads;
 use std::{fs, thread};
 
 /// The device in whose name the program asks; a question has the same answer for each.
-const ASKER: &str = "panad";
+pub const ASKER: &str = "panad";
 
 /// The status where something wasn't reported.
 pub const FAULT: u8 = 3;
@@ -33,12 +36,16 @@ const MOST_DISKS: usize = 64;
 /// What is wanted beside the folders.
 #[derive(Clone, Copy)]
 pub struct TrackWishes<'a> {
-    pub journal: &'a str,
+    pub keeper: Keeper<'a>,
+    /// The file that keeps sums; that beside the journal where there is no name.
+    pub sums: Option<&'a str>,
     /// Patterns of paths that are passed over.
     pub ignored: &'a [&'a str],
     pub may_be_empty: bool,
     /// Whether files are read also where they haven't changed.
     pub reads_all: bool,
+    /// Whether folders of other file systems than a root's are passed over.
+    pub stays: bool,
     pub form: StatusForm,
 }
 
@@ -69,15 +76,24 @@ pub fn fault_of_roots(rt: &HostRuntime, roots: &[Root<'_>]) -> Result<Option<Str
     Ok(None)
 }
 
-/// The sums that the journal's neighbour has, or none where all files are to be read.
-fn known_sums(rt: &HostRuntime, wishes: TrackWishes<'_>) -> Result<Sums, AllocError> {
+/// The name of the file that keeps sums, where one does.
+fn name_of_sums(rt: &HostRuntime, wishes: TrackWishes<'_>) -> Result<Option<String>, AllocError> {
+    Ok(match (wishes.sums, wishes.keeper) {
+        (Some(name), _) => Some(String::from_str(rt.alloc(), name)?),
+        (None, Keeper::Journal(journal)) => Some(sums_name(rt, journal)?),
+        (None, Keeper::Daemon(_)) => None,
+    })
+}
+
+/// The sums that the file with this name has, or none where there is no name, or all files are to be read.
+fn known_sums(rt: &HostRuntime, name: Option<&str>, reads_all: bool) -> Result<Sums, AllocError> {
     let alloc = rt.alloc();
-    match wishes.reads_all {
-        true => Ok(Sums::none(alloc)),
-        false => {
-            let known = KnownSums::of(alloc, read_sums(rt, wishes.journal)?)?;
+    match name {
+        Some(name) if !reads_all => {
+            let known = KnownSums::of(alloc, read_sums(rt, name)?)?;
             Ok(Sums::of(alloc, known))
         }
+        _ => Ok(Sums::none(alloc)),
     }
 }
 
@@ -148,18 +164,38 @@ fn read_without<T: Threads + Sync>(
 ) -> Result<Vec<ReadFolder>, ProgramFault> {
     let disks = SystemDisks {
         files: rt,
+        stays: wishes.stays,
         passed_over,
     };
     let mut folders = Vec::new(rt.alloc());
-    let mut sums = known_sums(rt, wishes)?;
+    let name = name_of_sums(rt, wishes)?;
+    let name = name.as_ref().map(|name| name.as_str());
+    let mut sums = known_sums(rt, name, wishes.reads_all)?;
     for root in roots {
         let folder = read(rt, threads, &disks, root, &mut sums)?;
         if folders.push(folder).is_err() {
             return Err(ProgramFault::OutOfMemory);
         }
     }
-    write_sums(rt, wishes.journal, &sums.kept)?;
+    if let Some(name) = name {
+        keep_sums(rt, name, &sums.kept)?;
+    }
     Ok(folders)
+}
+
+/// The program's own files.
+fn own_files<'a>(
+    rt: &HostRuntime,
+    wishes: TrackWishes<'a>,
+) -> Result<Vec<OwnFile<'a>>, AllocError> {
+    let mut own = Vec::new(rt.alloc());
+    if let Keeper::Journal(name) = wishes.keeper {
+        own.push(OwnFile::journal(name))?;
+    }
+    if let Some(name) = wishes.sums {
+        own.push(OwnFile::sums(name))?;
+    }
+    Ok(own)
 }
 
 /// Reads the folders.
@@ -169,7 +205,8 @@ fn read_all<T: Threads + Sync>(
     roots: &[Root<'_>],
     wishes: TrackWishes<'_>,
 ) -> Result<Vec<ReadFolder>, ProgramFault> {
-    let patterns = root_patterns(rt, roots, Some(wishes.journal), wishes.ignored)?;
+    let own = own_files(rt, wishes)?;
+    let patterns = root_patterns(rt, roots, own.as_slice(), wishes.ignored)?;
     let all = patterns.as_slice();
     let slices = slices_of(rt, all)?;
     let passed = passed_over(rt, all, slices.as_slice())?;
@@ -177,41 +214,95 @@ fn read_all<T: Threads + Sync>(
 }
 
 /// Prints one line on standard error, and returns the status of a fault.
-fn report(rt: &HostRuntime, text: &str) -> Result<ExitCode, ProgramFault> {
+pub fn report(rt: &HostRuntime, text: &str) -> Result<ExitCode, ProgramFault> {
     let line = format!(in rt.alloc(); "panad: {text}\n")?;
     let _ = complain(rt, &line);
     Ok(ExitCode::from(FAULT))
 }
 
-/// Reads the folders, reports what was noticed in them to the store of the journal, and prints what is obsolete or in conflict.
-pub fn track<T: Threads + Sync>(
+/// Reports what was noticed in folders that were read to a session, and prints what is obsolete or in conflict.
+fn track_by<S: Session>(
     rt: &HostRuntime,
-    threads: &T,
-    roots: &[Root<'_>],
+    session: &mut S,
+    folders: &[ReadFolder],
     wishes: TrackWishes<'_>,
 ) -> Result<ExitCode, ProgramFault> {
     let alloc = rt.alloc();
-    let store = match open_store(rt, wishes.journal) {
+    let Ok(asker) = DeviceName::new(ASKER) else {
+        return Err(ProgramFault::OutOfMemory);
+    };
+    match track_on(
+        alloc,
+        session,
+        &asker,
+        folders,
+        wishes.may_be_empty,
+        wishes.form,
+    ) {
+        Ok(printout) => print_out(rt, &printout),
+        Err(Untracked::NoAnswer) => report(rt, wishes.keeper.no_answer()),
+        Err(Untracked::OutOfMemory) => Err(ProgramFault::OutOfMemory),
+    }
+}
+
+/// Reads the folders, and reports to the store of the journal with this name.
+fn track_to_journal<T: Threads + Sync>(
+    rt: &HostRuntime,
+    threads: &T,
+    name: &str,
+    roots: &[Root<'_>],
+    wishes: TrackWishes<'_>,
+) -> Result<ExitCode, ProgramFault> {
+    let store = match open_store(rt, name) {
         Ok(store) => store,
         Err(NoStore::Because(text)) => return report(rt, text.as_str()),
         Err(NoStore::Fault(fault)) => return Err(fault),
     };
     let mut group = Group::of(store)?;
     let folders = read_all(rt, threads, roots, wishes)?;
-    let Ok(asker) = DeviceName::new(ASKER) else {
-        return Err(ProgramFault::OutOfMemory);
+    track_by(rt, &mut group, folders.as_slice(), wishes)
+}
+
+/// Reads the folders, and reports to the daemon on this port. The session begins before they are read, so a daemon that isn't
+/// there is reported at once.
+fn track_to_daemon<T: Threads + Sync>(
+    rt: &HostRuntime,
+    threads: &T,
+    port: u16,
+    roots: &[Root<'_>],
+    wishes: TrackWishes<'_>,
+) -> Result<ExitCode, ProgramFault> {
+    let Ok(mut client) = connect(rt, port) else {
+        let refusal = format!(in rt.alloc(); "cannot connect to port {port}")?;
+        return report(rt, refusal.as_str());
     };
-    let answered = track_on(
-        alloc,
-        &mut group,
-        &asker,
-        folders.as_slice(),
-        wishes.may_be_empty,
-        wishes.form,
-    );
-    match answered {
-        Ok(printout) => print_out(rt, &printout),
-        Err(fault @ Untracked::NoAnswer) => { report(rt, format!(in alloc; "{fault}")?.as_str()) }
-        Err(Untracked::OutOfMemory) => Err(ProgramFault::OutOfMemory),
+    let folders = read_all(rt, threads, roots, wishes)?;
+    track_by(rt, &mut client, folders.as_slice(), wishes)
+}
+
+/// What is printed where the file that was named for sums is another one, which would be lost. That beside the journal is the
+/// program's own by its name.
+fn fault_of_sums(rt: &HostRuntime, wishes: TrackWishes<'_>) -> Result<Option<String>, AllocError> {
+    match wishes.sums {
+        Some(name) if !may_keep_sums(rt, name) => {
+            Ok(Some(format!(in rt.alloc(); "{name} is no file of sums")?))
+        }
+        _ => Ok(None),
+    }
+}
+
+/// Reads the folders, reports what was noticed in them to whoever keeps the reports, and prints what is obsolete or in conflict.
+pub fn track<T: Threads + Sync>(
+    rt: &HostRuntime,
+    threads: &T,
+    roots: &[Root<'_>],
+    wishes: TrackWishes<'_>,
+) -> Result<ExitCode, ProgramFault> {
+    if let Some(text) = fault_of_sums(rt, wishes)? {
+        return report(rt, text.as_str());
+    }
+    match wishes.keeper {
+        Keeper::Journal(name) => track_to_journal(rt, threads, name, roots, wishes),
+        Keeper::Daemon(port) => track_to_daemon(rt, threads, port, roots, wishes),
     }
 }

@@ -1,11 +1,13 @@
 //! The words of `panad track`.
 
-use crate::command::{journal_option, refuse};
+use crate::command::refuse;
 use crate::fault::ProgramFault;
+use crate::options::{
+    ONE_FILE_SYSTEM, flag, form_of, keeper_of, one_file_system_option, with_forms, with_keeper,
+};
 use crate::track::{FAULT, TrackWishes, fault_of_roots, track};
 use clap::error::ErrorKind;
 use clap::{Arg, ArgAction, ArgMatches, Command};
-use pana_commands::StatusForm;
 use pana_daemon::{RootFault, roots_of};
 use std::alloc::{AllocError, Global};
 use std::marker::Sync;
@@ -31,7 +33,7 @@ The status is 0 where nothing is obsolete or in conflict, 1 where something is, 
 for a command line that is refused, and 3 where something couldn't be reported.";
 
 /// The names of the options and of the folders on the command line.
-const JOURNAL: &str = "journal";
+const SUMS: &str = "sums";
 
 const EMPTY: &str = "empty";
 
@@ -39,24 +41,24 @@ const IGNORE: &str = "ignore";
 
 const READ_ALL: &str = "read-all";
 
-const QUIET: &str = "quiet";
-
-const JSON: &str = "json";
-
 const ROOT: &str = "DEVICE=DIR";
 
-fn flag<'a>(alloc: Global, name: &'a str, help: &'a str) -> Arg<'a> {
-    Arg::new(alloc, name)
-        .long(name)
-        .action(ArgAction::SetTrue)
-        .help(help)
+/// The command with the options that say who keeps the reports, and where sums are kept.
+fn with_keepers<'a>(alloc: Global, command: Command<'a>) -> Result<Command<'a>, AllocError> {
+    let sums = Arg::new(alloc, SUMS).long(SUMS).value_name("FILE").help(
+        "The file that keeps sums of files between runs; by default that beside the journal",
+    );
+    let command = with_keeper(
+        alloc,
+        command,
+        "The file that keeps the reports; it is made if it isn't there",
+        "Report to the daemon on this port of 127.0.0.1, in place of a journal",
+    )?;
+    command.arg(sums)
 }
 
 /// What the words of `track` may be.
 pub fn track_command<'a>(alloc: Global) -> Result<Command<'a>, AllocError> {
-    let journal = journal_option(alloc)
-        .help("The file that keeps the reports; it is made if it isn't there")
-        .required(true);
     let empty = flag(
         alloc,
         EMPTY,
@@ -72,35 +74,19 @@ pub fn track_command<'a>(alloc: Global) -> Result<Command<'a>, AllocError> {
         READ_ALL,
         "Read all files, also those whose size, times and inode are as at the last run",
     );
-    let quiet = flag(alloc, QUIET, "Print no table");
-    let json = flag(alloc, JSON, "Print a line of JSON in place of the table").conflicts_with(
-        QUIET,
-    )?;
     let roots = Arg::new(alloc, ROOT)
         .action(ArgAction::Append)
         .help("A device and the folder with its copies, up to 8 of them")
         .required(true);
-    Command::new(alloc, TRACK)
+    let command = Command::new(alloc, TRACK)
         .about("Tracks folders by contents, and prints what is obsolete or in conflict")
-        .after_help(EXAMPLE)
-        .arg(journal)?
+        .after_help(EXAMPLE);
+    let command = with_keepers(alloc, command)?
         .arg(empty)?
         .arg(ignore)?
         .arg(read_all)?
-        .arg(quiet)?
-        .arg(json)?
-        .arg(roots)
-}
-
-/// How what is obsolete or in conflict is to be shown.
-fn form_of(words: &ArgMatches) -> StatusForm {
-    if words.get_flag(QUIET) {
-        StatusForm::Nothing
-    } else if words.get_flag(JSON) {
-        StatusForm::Json
-    } else {
-        StatusForm::Table
-    }
+        .arg(one_file_system_option(alloc))?;
+    with_forms(alloc, command)?.arg(roots)
 }
 
 /// Tracks the folders that the words name, or refuses the words.
@@ -119,11 +105,12 @@ fn obey<T: Threads + Sync>(
         Err(RootFault::OutOfMemory) => return Err(ProgramFault::OutOfMemory),
     };
     let wishes = TrackWishes {
-        // The journal is required, so it is there.
-        journal: words.get_str(JOURNAL).unwrap_or(""),
+        keeper: keeper_of(words),
+        sums: words.get_str(SUMS),
         ignored: words.get_strs(IGNORE).unwrap_or(&[]),
         may_be_empty: words.get_flag(EMPTY),
         reads_all: words.get_flag(READ_ALL),
+        stays: words.get_flag(ONE_FILE_SYSTEM),
         form: form_of(words),
     };
     match fault_of_roots(rt, roots.as_slice())? {

@@ -1,12 +1,12 @@
 //! What no clause says of a scanner: that reports are made where memory is there.
 
+use pana_calls::{Answer, Call, Query, Reply, Session};
 use pana_copies::{CopyPath, DeviceName};
 use pana_daemon::{DeskSession, Folder, IdleSupervisor, Look, Shared, scanner};
-use pana_hall::{Call, Hall, Query, Reply};
+use pana_hall::Hall;
 use pana_journal::Report;
 use pana_scan::{Found, Listing, ScanFault};
 use pana_turn::Desk;
-use pana_wire::{Answer, Session};
 use std::alloc::{AllocError, Global};
 use std::test::Fail;
 

@@ -1,12 +1,12 @@
 -- What is to be done of a sighting, before it is done.
 use Rattle.std.specs.Prelude.{◌≡◌, ◌⊎◌, ◌++◌, ℕ, List, Some, None, option_map}
 use Rattle.pana_journal.specs.declared.entry.Entry.{Entry}
-use Rattle.pana_hall.specs.declared.cause.Cause.{Cause}
-use Rattle.pana_hall.specs.declared.cause.Cause.TheVariants.{OutOfMemory}
+use Rattle.pana_calls.specs.declared.cause.Cause.{Cause}
+use Rattle.pana_calls.specs.declared.cause.Cause.TheVariants.{OutOfMemory}
 use Rattle.pana_hall.specs.declared.decision.Decision.{Decision}
 use Rattle.pana_hall.specs.declared.planning.Plan.{Plan}
-use Rattle.pana_hall.specs.declared.reply.Reply.{Reply}
-use Rattle.pana_hall.specs.declared.reply.Reply.TheVariants.{Refused}
+use Rattle.pana_calls.specs.declared.reply.Reply.{Reply}
+use Rattle.pana_calls.specs.declared.reply.Reply.TheVariants.{Refused}
 use Rattle.pana_hall.specs.Permit.{after_decision, reply_of}
 use Rattle.pana_hall.specs.Prepared.{PreparedView, entries_of}
 use Rattle.pana_hall.specs.Refusal.{decision_refusal}

@@ -8,10 +8,10 @@ use Rattle.pana_rel.specs.declared.counts.Counts.{Counts}
 use Rattle.pana_rel.specs.Board.{is_rel}
 use Rattle.pana_journal.specs.declared.entry.Entry.{Entry}
 use Rattle.pana_hall.specs.declared.relating.Relative.{Relative}
-use Rattle.pana_hall.specs.declared.standing.CopyState.{CopyState}
-use Rattle.pana_hall.specs.declared.standing.CopyState.TheVariants.{Newest, Obsolete, Conflict}
-use Rattle.pana_hall.specs.declared.standing.PlacedCopy.{PlacedCopy}
-use Rattle.pana_hall.specs.declared.standing.StatusRow.{StatusRow}
+use Rattle.pana_calls.specs.declared.standing.CopyState.{CopyState}
+use Rattle.pana_calls.specs.declared.standing.CopyState.TheVariants.{Newest, Obsolete, Conflict}
+use Rattle.pana_calls.specs.declared.standing.PlacedCopy.{PlacedCopy}
+use Rattle.pana_calls.specs.declared.standing.StatusRow.{StatusRow}
 use Rattle.pana_hall.specs.Family.{families}
 use Rattle.pana_hall.specs.Living.{Copy, copy_in, living, number_of}
 use Rattle.pana_hall.specs.Board.{is_of, sets_of}

@@ -4,10 +4,10 @@ use Rattle.std.specs.Str.{bytes_eq}
 use Rattle.pana_copies.specs.declared.place.Place.{Place}
 use Rattle.pana_copies.specs.Spots.{Table, place_of}
 use Rattle.pana_family.specs.declared.board.CopyCounts.{CopyCounts}
-use Rattle.pana_hall.specs.declared.board.BoardRow.{BoardRow}
+use Rattle.pana_calls.specs.declared.board.BoardRow.{BoardRow}
 use Rattle.pana_hall.specs.Living.{Copy, copy_in, sum_of}
 use Rattle.pana_hall.specs.Queries.{holding}
-use Rattle.pana_hall.specs.declared.holding.Holding.{Holding}
+use Rattle.pana_calls.specs.declared.holding.Holding.{Holding}
 
 -- where a copy is kept, and nowhere where it isn't
 abbrev pub place_at : Table → ℕ → Place

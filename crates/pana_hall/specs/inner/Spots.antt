@@ -4,8 +4,8 @@ use Rattle.pana_copies.specs.declared.place.Place.{Place}
 use Rattle.pana_copies.specs.Spots.{Spot, Table, kept, place_of, placed}
 use Rattle.pana_journal.specs.declared.report.Report.{Report}
 use Rattle.pana_journal.specs.declared.report.Report.TheVariants.{Register, Duplicate, Relocate, Remove}
-use Rattle.pana_hall.specs.declared.cause.Cause.{Cause}
-use Rattle.pana_hall.specs.declared.cause.Cause.TheVariants.{PlaceTaken}
+use Rattle.pana_calls.specs.declared.cause.Cause.{Cause}
+use Rattle.pana_calls.specs.declared.cause.Cause.TheVariants.{PlaceTaken}
 use Rattle.pana_hall.specs.Living.{Copy, copy_in}
 use Rattle.pana_hall.specs.Refusal.{displaced}
 

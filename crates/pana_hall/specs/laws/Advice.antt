@@ -3,9 +3,9 @@ use Rattle.std.specs.Prelude.{◌≡◌, ◌⊎◌, ℕ, ◌<◌, nat_le, true, 
 use Rattle.std.specs.List.{list_any}
 use Rattle.pana_family.specs.Updates.{IsSubset}
 use Rattle.pana_family.specs.Table.{In}
-use Rattle.pana_hall.specs.declared.standing.CopyState.{CopyState}
-use Rattle.pana_hall.specs.declared.standing.CopyState.TheVariants.{Newest, Obsolete, Conflict}
-use Rattle.pana_hall.specs.declared.standing.StatusRow.{StatusRow}
+use Rattle.pana_calls.specs.declared.standing.CopyState.{CopyState}
+use Rattle.pana_calls.specs.declared.standing.CopyState.TheVariants.{Newest, Obsolete, Conflict}
+use Rattle.pana_calls.specs.declared.standing.StatusRow.{StatusRow}
 use Rattle.pana_hall.specs.Living.{Copy, copy_in}
 
 -- the copy knows each update that the other knows

@@ -4,11 +4,11 @@ use Rattle.pana_copies.specs.declared.place.Place.{Place}
 use Rattle.pana_journal.specs.declared.entry.Entry.{Entry}
 use Rattle.pana_journal.specs.declared.report.Report.TheVariants.{Merge, Reconcile}
 use Rattle.pana_family.specs.Table.{In}
-use Rattle.pana_hall.specs.declared.call.Call.TheVariants as calls
-use Rattle.pana_hall.specs.declared.call.Sighting.{Sighting}
+use Rattle.pana_calls.specs.declared.call.Call.TheVariants as calls
+use Rattle.pana_calls.specs.declared.call.Sighting.{Sighting}
 use Rattle.pana_hall.specs.declared.decision.Decision.{Decision}
 use Rattle.pana_hall.specs.declared.decision.Decision.TheVariants.{Known, One, Both}
-use Rattle.pana_hall.specs.declared.reply.Reply.{Reply}
+use Rattle.pana_calls.specs.declared.reply.Reply.{Reply}
 use Rattle.pana_hall.specs.Living.{Copy, changes, copy_in, living, number_of, sum_of}
 use Rattle.pana_hall.specs.Permit.{journal_after}
 use Rattle.pana_hall.specs.laws.Advice.{KnowsAllOf}

@@ -1,7 +1,7 @@
 -- The lines of a board's table, from the widths and the texts in them.
 use Rattle.std.specs.Prelude.{ℕ, List, [], ◌∷◌, ◌++◌, decimal, codes}
-use Rattle.pana_hall.specs.Standing.{state_name}
-use Rattle.pana_hall.specs.declared.board.BoardRow.{BoardRow}
+use Rattle.pana_calls.specs.Standing.{state_name}
+use Rattle.pana_calls.specs.declared.board.BoardRow.{BoardRow}
 use Rattle.pana_report.specs.declared.cell.Alignment.TheVariants.{Left, Right}
 use Rattle.pana_report.specs.declared.widths.Widths.{Widths}
 use Rattle.pana_report.specs.Columns.{cell, side_by_side, newline, widest}

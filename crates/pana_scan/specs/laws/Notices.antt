@@ -1,7 +1,7 @@
 -- Which copies are renamed.
 use Rattle.std.specs.Prelude.{ℕ, List, [], ◌∷◌, Option, Some, None, find}
 use Rattle.std.specs.List.{cons_option}
-use Rattle.pana_hall.specs.declared.holding.Holding.{Holding}
+use Rattle.pana_calls.specs.declared.holding.Holding.{Holding}
 use Rattle.pana_scan.specs.declared.notices.Notice.{Notice}
 use Rattle.pana_scan.specs.declared.notices.Notice.TheVariants.{Renamed, Found, Missing}
 use Rattle.pana_scan.specs.Notice.{File, holds, without_first}

@@ -1,11 +1,11 @@
 -- Parts of what is reported.
 use Rattle.std.specs.Prelude.{◌≡◌, ℕ, List, [], ◌∷◌, ◌++◌, Option, Some, None, if◌then◌else◌}
-use Rattle.pana_hall.specs.declared.call.Call.{Call}
-use Rattle.pana_hall.specs.declared.call.Call.TheVariants as calls
-use Rattle.pana_hall.specs.declared.call.Query.TheVariants as queries
-use Rattle.pana_hall.specs.declared.holding.Holding.{Holding}
-use Rattle.pana_wire.specs.declared.answer.Answer.{Answer}
-use Rattle.pana_wire.specs.declared.answer.Answer.TheVariants as answers
+use Rattle.pana_calls.specs.declared.call.Call.{Call}
+use Rattle.pana_calls.specs.declared.call.Call.TheVariants as calls
+use Rattle.pana_calls.specs.declared.call.Query.TheVariants as queries
+use Rattle.pana_calls.specs.declared.holding.Holding.{Holding}
+use Rattle.pana_calls.specs.declared.answer.Answer.{Answer}
+use Rattle.pana_calls.specs.declared.answer.Answer.TheVariants as answers
 use Rattle.pana_scan.specs.declared.notices.Notice.{Notice}
 use Rattle.pana_scan.specs.Notice.{call_of}
 use Rattle.pana_track.specs.declared.fault.TrackFault.{TrackFault}

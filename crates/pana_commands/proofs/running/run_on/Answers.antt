@@ -1,7 +1,7 @@
 -- What is served begins with the new hall's journal, which is empty.
 use Rattle.std.proofs.Common.{inl, inr, subst}
 use Rattle.std.proofs.lemmas.Result.{IfOk-weaker, IfErr-weaker}
-use Rattle.pana_wire.specs.Answer.{Replies}
+use Rattle.pana_hall.specs.Step.{Replies}
 use Rattle.pana_wire.specs.Session.{Serves, Stops, NeverBegins}
 use Rattle.pana_commands.specs.Never.{IsNever}
 use Rattle.pana_commands.proofs.AlwaysAnswered.{always_answered}

@@ -1,5 +1,5 @@
 use Rattle.std.proofs.Common.{◌∙◌}
-use Rattle.pana_hall.specs.declared.call.Query.TheVariants as queries
+use Rattle.pana_calls.specs.declared.call.Query.TheVariants as queries
 use Rattle.pana_commands.proofs.Asked.{asked, board_asked}
 use Rattle.pana_commands.proofs.tables.board_of.Goals as goal
 

@@ -1,5 +1,5 @@
 use Rattle.std.proofs.Common.{◌∙◌}
-use Rattle.pana_hall.specs.declared.call.Query.TheVariants as queries
+use Rattle.pana_calls.specs.declared.call.Query.TheVariants as queries
 use Rattle.pana_commands.proofs.Asked.{asked, families_asked}
 use Rattle.pana_commands.proofs.tables.families_of.Goals as goal
 

@@ -1,7 +1,7 @@
 use Rattle.std.proofs.Common.{subst}
-use Rattle.pana_hall.specs.declared.call.Call.TheVariants as calls
+use Rattle.pana_calls.specs.declared.call.Call.TheVariants as calls
 use Rattle.pana_journal.specs.declared.report.Report.{Report}
-use Rattle.pana_wire.specs.declared.answer.Answer.{Answer}
+use Rattle.pana_calls.specs.declared.answer.Answer.{Answer}
 use Rattle.pana_daemon.proofs.Scans.{report_done}
 use Rattle.pana_daemon.proofs.scanning.report.Goals as goal
 

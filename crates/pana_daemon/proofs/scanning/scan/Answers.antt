@@ -1,7 +1,7 @@
 use Rattle.std.proofs.Common.{List, Option, refl, subst}
-use Rattle.pana_hall.specs.declared.holding.Holding.{Holding}
-use Rattle.pana_hall.specs.declared.reply.Reply.TheVariants.{Holdings}
-use Rattle.pana_wire.specs.declared.answer.Answer.TheVariants.{Given}
+use Rattle.pana_calls.specs.declared.holding.Holding.{Holding}
+use Rattle.pana_calls.specs.declared.reply.Reply.TheVariants.{Holdings}
+use Rattle.pana_calls.specs.declared.answer.Answer.TheVariants.{Given}
 use Rattle.pana_daemon.specs.inner.Scan.{Asks}
 use Rattle.pana_daemon.proofs.Scans.{asked, if_err, none_asked, none_held, planned_all, planned_spent}
 use Rattle.pana_daemon.proofs.scanning.scan.Goals as goal

@@ -4,8 +4,8 @@ use Rattle.pana_event.specs.declared.rel.Rel.TheVariants as rels
 use Rattle.pana_rel.specs.Board.{relates}
 use Rattle.pana_family.specs.Board.{known_relation, number_of as board_number}
 use Rattle.pana_hall.specs.Status.{copy_relation, family_copies, placed, standing_of, state_among, status_row, with_of}
-use Rattle.pana_hall.specs.declared.standing.{CopyState.CopyState, StatusRow.StatusRow}
-use Rattle.pana_hall.specs.declared.standing.CopyState.TheVariants.{Newest, Obsolete, Conflict}
+use Rattle.pana_calls.specs.declared.standing.{CopyState.CopyState, StatusRow.StatusRow}
+use Rattle.pana_calls.specs.declared.standing.CopyState.TheVariants.{Newest, Obsolete, Conflict}
 use Rattle.pana_hall.proofs.{Lists.each_of, Lists.filter_twice, Related.count_alike, Tables.table_living}
 use Rattle.pana_hall.proofs.laws.standings_come_from_tables.Goals as goal
 

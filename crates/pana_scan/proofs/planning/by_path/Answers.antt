@@ -2,7 +2,7 @@ use Rattle.std.proofs.Common.{◌≡◌, sym, ◌∙◌, subst, arith, rules}
 use Rattle.std.proofs.lemmas.List.{take_all}
 use Rattle.std.specs.Cmp.Lexicographic.{nat_list_cmp_total}
 use Rattle.std.proofs.lemmas.List.Sorted.{answers_always, ranks_by}
-use Rattle.pana_hall.specs.Holdings.{HaveOwnPaths}
+use Rattle.pana_calls.specs.Holdings.{HaveOwnPaths}
 use Rattle.pana_scan.specs.inner.Left.{HoldTheSame}
 use Rattle.pana_scan.proofs.Merged.{lent}
 use Rattle.pana_scan.proofs.Sorted.{precedes, sorted_rise, sorted_same}

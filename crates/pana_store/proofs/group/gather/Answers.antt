@@ -2,10 +2,10 @@
 use Rattle.std.proofs.Common.{◌≡◌, ◌∷◌, ◌++◌, ◌≤◌, List, Option, length, sym, ap, subst, ◌∙◌, arith}
 use Rattle.std.specs.Prelude.{option_copied, option_to_list}
 use Rattle.pana_journal.specs.declared.entry.Entry.{Entry}
-use Rattle.pana_hall.specs.declared.reply.Reply.{Reply}
+use Rattle.pana_calls.specs.declared.reply.Reply.{Reply}
 use Rattle.pana_hall.specs.Prepared.{Prepares, AnswersAt, entries_of}
-use Rattle.pana_wire.specs.declared.answer.Answer.{Answer}
-use Rattle.pana_wire.specs.declared.answer.Answer.TheVariants.{Given}
+use Rattle.pana_calls.specs.declared.answer.Answer.{Answer}
+use Rattle.pana_calls.specs.declared.answer.Answer.TheVariants.{Given}
 use Rattle.pana_store.specs.Group.{GathersOnly, stored}
 use Rattle.pana_store.specs.inner.{IsWaiting, IsGroup, group_of, waiting_of}
 use Rattle.pana_store.proofs.Calls.{ready, needs_open}

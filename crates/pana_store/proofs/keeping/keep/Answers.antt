@@ -2,7 +2,7 @@ use Rattle.std.proofs.Common.{◌≡◌, IsTrue, List, ⊎_elim, Err, sym, ap, s
 use Rattle.std.proofs.lemmas.Result.{IfOk-weaker, on_err_weaker}
 use Rattle.pana_journal.specs.declared.entry.Entry.{Entry}
 use Rattle.pana_hall.specs.Prepared.{entries_of}
-use Rattle.pana_wire.specs.declared.answer.Answer.{Answer}
+use Rattle.pana_calls.specs.declared.answer.Answer.{Answer}
 use Rattle.pana_log.specs.declared.log_state.LogState.TheVariants.{Open}
 use Rattle.pana_log.specs.Log.{IsSettled}
 use Rattle.pana_store.specs.Store.{Breaks, Keeps}

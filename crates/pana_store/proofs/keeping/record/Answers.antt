@@ -1,7 +1,7 @@
 use Rattle.std.proofs.Common.{◌≡◌, IfOk, List, OnErr, subst, sym, ◌∙◌}
 use Rattle.pana_journal.specs.declared.entry.Entry.{Entry}
-use Rattle.pana_hall.specs.declared.cause.Cause.TheVariants as causes
-use Rattle.pana_hall.specs.declared.reply.Reply.TheVariants as replies
+use Rattle.pana_calls.specs.declared.cause.Cause.TheVariants as causes
+use Rattle.pana_calls.specs.declared.reply.Reply.TheVariants as replies
 use Rattle.pana_hall.specs.Prepared.{Prepares, AnswersAt, entries_of}
 use Rattle.pana_store.specs.Store.{Breaks, Keeps}
 use Rattle.pana_store.proofs.Calls.{IsReady, ready, after_refused, needs_open, answered, permits_short}

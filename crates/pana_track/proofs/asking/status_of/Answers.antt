@@ -1,5 +1,5 @@
 use Rattle.std.proofs.Common.{List, Option, subst, sym, ◌∙◌}
-use Rattle.pana_hall.specs.declared.standing.StatusRow.{StatusRow}
+use Rattle.pana_calls.specs.declared.standing.StatusRow.{StatusRow}
 use Rattle.pana_track.specs.Status.{next_after}
 use Rattle.pana_track.specs.inner.Pages.{AsksPage}
 use Rattle.std.proofs.Common.{ap}

@@ -6,7 +6,7 @@ use Rattle.std.proofs.lemmas.Str.{IsUtf8-string_bytes, is_utf8-from_IsUtf8}
 use Rattle.serde_json.specs.Data.{depth}
 use Rattle.serde_json.specs.Read.{max_depth}
 use Rattle.serde_json.specs.Written.{has_float, compact_text}
-use Rattle.pana_hall.specs.declared.reply.Reply.TheVariants.{Journal}
+use Rattle.pana_calls.specs.declared.reply.Reply.TheVariants.{Journal}
 use Rattle.pana_wire.specs.Dump.{dump_says}
 use Rattle.pana_wire.specs.Reply.{reply_text}
 use Rattle.pana_wire.proofs.EntriesBack.{reply_back}

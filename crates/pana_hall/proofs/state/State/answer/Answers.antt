@@ -1,5 +1,5 @@
 use Rattle.pana_hall.proofs.Words.{refl, sym, subst}
-use Rattle.pana_hall.specs.Holdings.{HaveOwnPaths}
+use Rattle.pana_calls.specs.Holdings.{HaveOwnPaths}
 use Rattle.pana_hall.proofs.Places.{found_have_own_paths, page_own_paths}
 use Rattle.pana_hall.proofs.state.State.answer.Goals as goal
 

@@ -1,5 +1,5 @@
 use Rattle.pana_hall.proofs.Words.{◌≡◌, IsSome, sym, ap, ap₂, ◌∙◌, subst, kept}
-use Rattle.pana_hall.specs.declared.standing.{CopyState.CopyState, PlacedCopy.PlacedCopy, StatusRow.StatusRow}
+use Rattle.pana_calls.specs.declared.standing.{CopyState.CopyState, PlacedCopy.PlacedCopy, StatusRow.StatusRow}
 use Rattle.pana_hall.specs.Status.{is_newest, state_of}
 use Rattle.pana_hall.specs.inner.Relatives.{counts_in, placed_at, relatives_of, with_in}
 use Rattle.pana_hall.proofs.Related.{has_copy, row_is, row_not, with_kept}

@@ -1,6 +1,6 @@
 use Rattle.pana_hall.proofs.Words.{List, Option, arith, nat_tests, ◌≡◌, ℕ, ap, ◌∙◌, KeptRows, families}
 use Rattle.pana_rel.specs.declared.counts.Counts.{Counts}
-use Rattle.pana_hall.specs.declared.standing.CopyState.{CopyState}
+use Rattle.pana_calls.specs.declared.standing.CopyState.{CopyState}
 use Rattle.pana_hall.specs.Status.{state_of}
 use Rattle.pana_hall.specs.inner.Relatives.{counts_in}
 use Rattle.pana_hall.proofs.Listed.{found_entry}

@@ -1,9 +1,9 @@
 -- A query changes nothing.
 use Rattle.std.proofs.Common.{◌≡◌, List, sym, ◌∙◌, subst}
 use Rattle.pana_journal.specs.declared.entry.Entry.{Entry}
-use Rattle.pana_hall.specs.declared.call.Call.{Call}
-use Rattle.pana_hall.specs.declared.call.Call.TheVariants as calls
-use Rattle.pana_wire.specs.declared.answer.Answer.TheVariants.{Given}
+use Rattle.pana_calls.specs.declared.call.Call.{Call}
+use Rattle.pana_calls.specs.declared.call.Call.TheVariants as calls
+use Rattle.pana_calls.specs.declared.answer.Answer.TheVariants.{Given}
 use Rattle.pana_store.specs.Group.{GroupView, Gathers}
 use Rattle.pana_store.specs.inner.{group_of, IsGroup}
 use Rattle.pana_store.proofs.Calls.{after_query}

@@ -1,0 +1,8 @@
+//! Stamps in an answer.
+
+/// A copy's number and the text of its stamp.
+#[derive(Debug, Drop)]
+pub struct CopyStamp {
+    pub copy: u64,
+    pub text: String,
+}

@@ -1,5 +1,0 @@
-use Rattle.pana_wire.proofs.SessionRun.{session_run}
-use Rattle.pana_wire.proofs.laws.every_session_is_a_run.Goals as goal
-
-pub returns : goal.returns
-returns c = session_run

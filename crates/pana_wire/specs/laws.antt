@@ -1,2 +1,0 @@
--- Words of laws: what no contract of a call that does something needs.
-pub mod Sessions

@@ -1,0 +1,44 @@
+# Completions of panad for bash.
+
+_panad_options() {
+  case $1 in
+    run | show) printf '%s\n' --journal --help ;;
+    status) printf '%s\n' --journal --port --quiet --json --help ;;
+    load | scan | compare) printf '%s\n' --help ;;
+    track) printf '%s\n' --journal --port --sums --empty --ignore --read-all --one-file-system --quiet --json --help ;;
+    serve)
+      printf '%s\n' --port --sessions --journal --stay --track --every --ignore --one-file-system --hurry --idle --help
+      ;;
+  esac
+}
+
+_panad() {
+  local word=${COMP_WORDS[COMP_CWORD]} before=${COMP_WORDS[COMP_CWORD - 1]} command=${COMP_WORDS[1]}
+  COMPREPLY=()
+  # Of DEVICE=DIR bash makes three words.
+  [ "$word" != = ] || before== word=
+  if [ "$COMP_CWORD" -eq 1 ]; then
+    mapfile -t COMPREPLY < <(compgen -W 'run show load scan compare track status serve --help --version' -- "$word")
+    return
+  fi
+  case $before in
+    --journal | --sums)
+      mapfile -t COMPREPLY < <(compgen -f -- "$word")
+      return
+      ;;
+    =)
+      mapfile -t COMPREPLY < <(compgen -d -- "$word")
+      return
+      ;;
+    --port | --sessions | --every | --ignore | --hurry | --idle) return ;;
+  esac
+  if [[ $word == -* ]]; then
+    mapfile -t COMPREPLY < <(compgen -W "$(_panad_options "$command")" -- "$word")
+  elif [ "$command" = show ] || [ "$command" = load ]; then
+    mapfile -t COMPREPLY < <(compgen -f -- "$word")
+  elif [ "$command" = scan ] && [ "$COMP_CWORD" -eq 3 ]; then
+    mapfile -t COMPREPLY < <(compgen -d -- "$word")
+  fi
+}
+
+complete -o filenames -F _panad panad

@@ -1,0 +1,45 @@
+# Completions of panad for fish.
+
+function __panad_after
+    __fish_seen_subcommand_from $argv
+end
+
+# The folders behind DEVICE=.
+function __panad_roots
+    set -l word (commandline -ct)
+    if string match -q '*=*' -- $word
+        set -l device (string replace -r '=.*' '' -- $word)
+        __fish_complete_directories (string replace -r '^[^=]*=' '' -- $word) | string replace -r '^' "$device="
+    end
+end
+
+complete -c panad -f
+complete -c panad -n __fish_use_subcommand -l version -d 'Print the version'
+complete -c panad -l help -d 'Print help'
+complete -c panad -n __fish_use_subcommand -a run -d 'Answer the lines on standard input'
+complete -c panad -n __fish_use_subcommand -a show -d 'Print a table of the copies of each file'
+complete -c panad -n __fish_use_subcommand -a load -d 'Load a dump of a journal, and print its tables'
+complete -c panad -n __fish_use_subcommand -a scan -d 'Print the lines that register all files of a folder'
+complete -c panad -n __fish_use_subcommand -a compare -d 'Print how two stamps relate'
+complete -c panad -n __fish_use_subcommand -a track -d 'Track folders by contents'
+complete -c panad -n __fish_use_subcommand -a status -d 'Print what is obsolete or in conflict'
+complete -c panad -n __fish_use_subcommand -a serve -d 'Answer lines over TCP, and look at folders'
+complete -c panad -n '__panad_after run show track status serve' -l journal -r -F -d 'The file that keeps the reports'
+complete -c panad -n '__panad_after show load' -F
+complete -c panad -n '__panad_after scan' -a '(__fish_complete_directories)'
+complete -c panad -n '__panad_after track status' -l port -x -d 'Speak to the daemon on this port'
+complete -c panad -n '__panad_after track' -l sums -r -F -d 'The file that keeps sums of files'
+complete -c panad -n '__panad_after track' -l empty -d 'Take an empty folder as meant'
+complete -c panad -n '__panad_after track' -l read-all -d 'Read all files'
+complete -c panad -n '__panad_after track status' -l quiet -d 'Print no table'
+complete -c panad -n '__panad_after track status' -l json -d 'Print a line of JSON'
+complete -c panad -n '__panad_after serve' -l port -x -d 'The port of 127.0.0.1'
+complete -c panad -n '__panad_after serve' -l sessions -x -d 'End after so many sessions'
+complete -c panad -n '__panad_after serve' -l stay -d 'Answer questions once the journal has failed'
+complete -c panad -n '__panad_after serve' -l track -d 'Track folders by contents'
+complete -c panad -n '__panad_after serve' -l every -x -d 'Look again after so many seconds'
+complete -c panad -n '__panad_after serve' -l hurry -x -d 'Time to a first line while others wait'
+complete -c panad -n '__panad_after serve' -l idle -x -d 'Time to a further line while others wait'
+complete -c panad -n '__panad_after track serve' -l ignore -x -d 'Pass over paths that match'
+complete -c panad -n '__panad_after track serve' -l one-file-system -d 'Enter no folder of another file system'
+complete -c panad -n '__panad_after track serve' -a '(__panad_roots)'
