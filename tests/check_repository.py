@@ -23,6 +23,10 @@ VERSION = re.compile(r'VERSION: &str = "(\d+\.\d+\.\d+) \((.*)\)";')
 NAMED = re.compile(r"\| (?:\d+ \| )?`([A-Z]\w+)` \|")
 COMMANDS = re.compile(r"^```(?:sh|console)$", re.MULTILINE)
 EXAMPLE = re.compile(r"```rust\n(.*?)```", re.DOTALL)
+# The same on a crate's page, and the source that it is from, which stands under it.
+SHOWN = re.compile(EXAMPLE.pattern + r"(?:\n+From `(crates/[^`]*\.rt)`)?", re.DOTALL)
+# How long a crate's page is at most: a screen.
+MOST_WORDS, MOST_LINES = 480, 70
 # An option in the help.
 OPTION = re.compile(r"^ {2,6}(?:-\w, )?(--[a-z-]+)", re.MULTILINE)
 LINK = re.compile(r"\]\(([^)\s]+)\)")
@@ -290,16 +294,37 @@ def man_page():
         yield from (f"docs/panad.1 lacks {it}, of {named(text)}" for it in OPTION.findall(text.read_text(encoding="utf-8")) if it not in page)
 
 
+def missing_line(block, source):
+    """The first line of a block that doesn't stand in the source behind those before it, but for blanks at its ends, or None."""
+    rest = iter([line.strip() for line in lines_of(source)])
+    return next((it for it in map(str.strip, block.splitlines()) if it and it not in rest), None)
+
+
+def crate_pages():
+    """Each crate's page is a screen at most, and each of its examples is lines of the source that it names, in order."""
+    for page in sorted(TOP.glob("crates/*/README.md")):
+        text = page.read_text(encoding="utf-8")
+        words, lines = len(text.split()), len(text.splitlines())
+        if words > MOST_WORDS or lines > MOST_LINES:
+            yield f"{named(page)} has {words} words and {lines} lines, over {MOST_WORDS} or {MOST_LINES}"
+        examples = SHOWN.findall(text)
+        if not examples and not page.parent.name.endswith("_tests"):
+            yield f"{named(page)} has no example"
+        for block, source in examples:
+            if not source or not (TOP / source).is_file():
+                yield f"{named(page)}: no source stands under the example {block.splitlines()[0]}"
+            elif missing := missing_line(block, TOP / source):
+                yield f"{named(page)}: {source} doesn't have this line behind those before it: {missing}"
+
+
 def shown_and_run():
-    """The machine on the page of pana_turn, and the examples on the page of the clocks, are ones that tests run."""
-    page, clocks = TOP / "crates/pana_turn/README.md", TOP / "docs/CLOCKS.md"
+    """The examples on the page of the clocks are ones that tests run."""
+    clocks = TOP / "docs/CLOCKS.md"
     tests = "".join(it.read_text(encoding="utf-8") for it in sorted(TOP.glob("crates/pana_clock_tests/src/*.rt")))
-    first, shown = (EXAMPLE.findall(it.read_text(encoding="utf-8")) for it in (page, clocks))
-    if not first or not shown:
-        yield f"{named(page)} or {named(clocks)} has no example"
-    elif first[0] not in tests:
-        yield f"the first example of {named(page)} doesn't stand in the tests"
-    # on the page of the clocks a part of a function's body is shown, without its indent
+    shown = EXAMPLE.findall(clocks.read_text(encoding="utf-8"))
+    if not shown:
+        yield f"{named(clocks)} has no example"
+    # a part of a function's body is shown, without its indent
     yield from (f"{named(clocks)}: this example doesn't stand in the tests: {it.splitlines()[0]}" for it in shown if textwrap.indent(it, "    ") not in tests)
 
 
@@ -311,7 +336,7 @@ def recorded():
         yield "docs/five-minutes.svg is another: python3 -B tools/record.py > docs/five-minutes.svg"
 
 
-CHECKS = (long_sources, crates_and_folders, crate_folders, dead_links, citations, dialect, edits, uncited_lemmas, untried_names, named_in_pages, pages_that_are_run, man_page, shown_and_run, recorded, kit_line)
+CHECKS = (long_sources, crates_and_folders, crate_folders, dead_links, citations, dialect, edits, uncited_lemmas, untried_names, named_in_pages, pages_that_are_run, man_page, crate_pages, shown_and_run, recorded, kit_line)
 
 
 def main():
