@@ -1,0 +1,4 @@
+pub mod Lacking
+pub mod Pages
+pub mod Why
+pub mod inner

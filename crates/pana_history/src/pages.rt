@@ -1,0 +1,81 @@
+//! The journal, asked for page by page.
+ghost use Rattle.std.specs.Prelude.{◌≡◌, IfOk, IfSome, OnErr};
+ghost use Rattle.pana_history.specs.Pages.{HasJournal, next_after};
+ghost use Rattle.pana_history.specs.inner.Pages.{AsksPage, Stops, page_in};
+
+use pana_calls::{Answer, Call, NoAnswer, Query, Reply, Session};
+use pana_copies::DeviceName;
+use pana_journal::{Entry, EntryList};
+use pana_list::PlainList;
+use std::alloc::Global;
+
+/// How many pages are asked for at most.
+const MOST_PAGES: u64 = 4_294_967_296;
+
+/// How many entries a full page has.
+const FULL_PAGE: usize = 100;
+
+/// The entries that were asked for, where the answer has them.
+fn page_in(answer: Answer) -> Option<EntryList>
+    ensures { result ≡ page_in answer }
+{
+    match answer {
+        Answer::Given(Reply::Journal(entries)) => Some(entries),
+        _ => None,
+    }
+}
+
+/// The page from this number on; none where it isn't answered.
+fn page_from<S: Session>(
+    session: &mut S,
+    by: &DeviceName,
+    from: u64,
+) -> Result<Option<EntryList>, NoAnswer>
+    ensures ok { IfOk result (AsksPage S.step by.now from session.old session.new) }
+    ensures fails { OnErr result (S.fails session.old by.now (Call.Query (Query.JournalFrom from)) session.new) }
+{
+    let answer = session.call(by, Call::Query(Query::JournalFrom { entry: from }))?;
+    Ok(page_in(answer))
+}
+
+/// The number from which the next page is to be asked for; none where this one isn't full.
+fn next_after(from: u64, entries: &[Entry]) -> Option<u64>
+    ensures { result ≡ next_after from entries.now }
+{
+    if entries.len() < FULL_PAGE {
+        None
+    } else {
+        Some(from.saturating_add(100))
+    }
+}
+
+/// All entries of a session's journal, in order; none where memory runs out.
+///
+/// # Errors
+///
+/// `NoAnswer` where a question has no answer.
+pub fn journal_of<S: Session>(
+    alloc: Global,
+    session: &mut S,
+    by: &DeviceName,
+) -> Result<Option<EntryList>, NoAnswer>
+    ensures ok { IfOk result (λ entries. IfSome entries (HasJournal S.step by.now session.old session.new)) }
+    ensures fails { OnErr result (Stops S.step S.fails by.now session.old session.new) }
+{
+    let mut entries = PlainList::new(alloc);
+    let mut from = 1;
+    for _ in 0..MOST_PAGES {
+        let Some(page) = page_from(session, by, from)? else {
+            return Ok(None);
+        };
+        let next = next_after(from, page.as_slice());
+        if entries.append(page).is_err() {
+            return Ok(None);
+        }
+        match next {
+            Some(number) => from = number,
+            None => return Ok(Some(entries)),
+        }
+    }
+    Ok(None)
+}

@@ -1,0 +1,250 @@
+//! What makes one of two copies obsolete, or sets them in conflict, for people.
+ghost use Rattle.std.specs.Prelude.{◌≡◌, ◌++◌, false, IfOk, IfErr, OnOk, IsErrOf, string_bytes};
+ghost use Rattle.pana_hall.specs.Living.{living};
+ghost use Rattle.pana_hall.specs.Status.{standing_at};
+ghost use Rattle.pana_history.specs.Why.{Explains, IsDamage, IsExplained, difference_text, has_line, has_lines, kind_name, place_name, unknown_text, unrelated_text};
+ghost use Rattle.pana_history.specs.inner.Pages.{Stops};
+
+use crate::difference::{Difference, difference};
+use crate::pages::journal_of;
+use pana_calls::{Call, Cause, CopyStanding, NoAnswer, Query, Reply, Session};
+use pana_copies::{DeviceName, Place};
+use pana_hall::{Hall, LoadCause, LoadFault};
+use pana_journal::{Entry, EntryList, ReportKind};
+use pana_list::PlainList;
+use std::alloc::{AllocError, Global};
+
+/// What is said of two places.
+#[derive(Debug, Drop)]
+pub struct Explanation {
+    /// A line for each update that one copy knows and the other lacks, or why there is none.
+    pub text: String,
+    /// Whether a copy is at each place, and both are of one file.
+    pub is_of_one_file: bool,
+}
+
+/// Why nothing is said.
+#[derive(Clone, Copy, Debug, PartialEq, Eq)]
+pub enum Unexplained {
+    /// A question has no answer.
+    NoAnswer,
+    /// The journal that came is none: this entry doesn't follow from those before it.
+    Damaged(LoadFault),
+    /// An allocation failed.
+    OutOfMemory,
+}
+
+impl From<NoAnswer> for Unexplained {
+    ghost use Rattle.std.specs.Prelude.{◌≡◌};
+    ghost use Rattle.pana_history.specs.declared.why.Unexplained.TheVariants as unexplained;
+
+    ghost from_gives = { λ error fault. fault ≡ unexplained.NoAnswer };
+
+    fn from(_: NoAnswer) -> Unexplained {
+        Unexplained::NoAnswer
+    }
+}
+
+impl From<AllocError> for Unexplained {
+    ghost use Rattle.std.specs.Prelude.{◌≡◌};
+    ghost use Rattle.pana_history.specs.declared.why.Unexplained.TheVariants as unexplained;
+
+    ghost from_gives = { λ error fault. fault ≡ unexplained.OutOfMemory };
+
+    fn from(_: AllocError) -> Unexplained {
+        Unexplained::OutOfMemory
+    }
+}
+
+/// A place as it is named: its device, a colon, its path.
+fn place_name(alloc: Global, place: &Place) -> Result<String, AllocError>
+    ensures { IfOk result (λ name. string_bytes name ≡ place_name place.now) }
+{
+    format!(in alloc; "{}:{}", place.device.as_str(), place.path.as_str())
+}
+
+/// A report's kind in a word.
+fn kind_name(kind: ReportKind) -> &'static str
+    ensures { result.now ≡ kind_name kind }
+{
+    match kind {
+        ReportKind::Register => "register",
+        ReportKind::Duplicate => "duplicate",
+        ReportKind::Edit => "edit",
+        ReportKind::Reconcile => "reconcile",
+        ReportKind::Merge => "merge",
+        ReportKind::Relocate => "relocate",
+        ReportKind::Remove => "remove",
+        ReportKind::Note => "note",
+        ReportKind::Confirm => "confirm",
+        ReportKind::Withdraw => "withdraw",
+    }
+}
+
+/// The line that says that the copy with this name has an entry.
+fn has_line(alloc: Global, name: &str, entry: &Entry) -> Result<String, AllocError>
+    ensures { IfOk result (λ line. string_bytes line ≡ has_line name.now entry.now) }
+{
+    let kind = kind_name(entry.report.kind());
+    format!(in alloc; "{name} has {} {kind} by {}\n", entry.number, entry.by.as_str())
+}
+
+/// Appends a line for each entry.
+fn push_lines(
+    alloc: Global,
+    text: &mut String,
+    name: &str,
+    entries: &[Entry],
+) -> Result<(), AllocError>
+    ensures { OnOk result (string_bytes text.new ≡ string_bytes text.old ++ has_lines name.now entries.now) }
+{
+    for entry in entries {
+        text.push_str(has_line(alloc, name, entry)?.as_str())?;
+    }
+    Ok(())
+}
+
+/// What is said of two copies with these names.
+fn difference_text(
+    alloc: Global,
+    first: &str,
+    second: &str,
+    difference: &Difference,
+) -> Result<String, AllocError>
+    ensures { IfOk result (λ text. string_bytes text ≡ difference_text first.now second.now difference.now.first.items difference.now.second.items) }
+{
+    if difference.first.is_empty() && difference.second.is_empty() {
+        return format!(in alloc; "{first} and {second} are equal\n");
+    }
+    let mut text = String::new(alloc);
+    push_lines(alloc, &mut text, first, difference.first.as_slice())?;
+    push_lines(alloc, &mut text, second, difference.second.as_slice())?;
+    Ok(text)
+}
+
+/// That no copy is at a place.
+fn unknown(alloc: Global, place: &Place) -> Result<Explanation, AllocError>
+    ensures text { IfOk result (λ explanation. string_bytes explanation.text ≡ unknown_text (place_name place.now)) }
+    ensures related { IfOk result (λ explanation. explanation.is_of_one_file ≡ false) }
+{
+    let name = place_name(alloc, place)?;
+    Ok(Explanation {
+        text: format!(in alloc; "unknown: no copy is at {name}\n")?,
+        is_of_one_file: false,
+    })
+}
+
+/// That two copies are of two files.
+fn unrelated(alloc: Global, first: &Place, second: &Place) -> Result<Explanation, AllocError>
+    ensures text { IfOk result (λ explanation. string_bytes explanation.text ≡ unrelated_text (place_name first.now) (place_name second.now)) }
+    ensures related { IfOk result (λ explanation. explanation.is_of_one_file ≡ false) }
+{
+    let first = place_name(alloc, first)?;
+    let second = place_name(alloc, second)?;
+    Ok(Explanation {
+        text: format!(in alloc; "unrelated: {first} and {second} are copies of two files\n")?,
+        is_of_one_file: false,
+    })
+}
+
+/// The entries once more.
+fn copy_of(alloc: Global, entries: &[Entry]) -> Result<EntryList, AllocError>
+    ensures { IfOk result (λ copies. copies ≡ entries.now) }
+{
+    let mut copies = Vec::new(alloc);
+    for entry in entries {
+        copies.push(entry.copy_of(alloc)?)?;
+    }
+    Ok(PlainList::from_vec(copies))
+}
+
+/// How the copy at a place stands, if one is there.
+fn standing_at(
+    hall: &mut Hall,
+    by: &DeviceName,
+    place: &Place,
+) -> Result<Option<CopyStanding>, AllocError>
+    ensures standing { IfOk result (λ standing. standing ≡ standing_at (living hall.old) place.now) }
+    ensures hall { hall.new ≡ hall.old }
+{
+    let place = place.copy_of()?;
+    match hall.apply(by, Call::Query(Query::At { place })) {
+        Reply::At(standing) => Ok(standing),
+        _ => Err(AllocError),
+    }
+}
+
+/// The hall of a journal.
+fn load(alloc: Global, journal: EntryList) -> Result<Hall, Unexplained>
+    ensures ok { IfOk result (λ hall. hall ≡ journal) }
+    ensures damaged { IfErr result (IsDamage journal) }
+{
+    match Hall::load(alloc, journal) {
+        Ok(hall) => Ok(hall),
+        Err(fault) if fault.cause == LoadCause::Refused(Cause::OutOfMemory) => {
+            Err(Unexplained::OutOfMemory)
+        }
+        Err(fault) => Err(Unexplained::Damaged(fault)),
+    }
+}
+
+/// What is said of two places by a journal.
+///
+/// It takes memory for the journal twice, and for its hall.
+///
+/// # Errors
+///
+/// `Damaged` where an entry doesn't follow from those before it; `OutOfMemory`.
+pub fn explain(
+    alloc: Global,
+    journal: EntryList,
+    first: &Place,
+    second: &Place,
+) -> Result<Explanation, Unexplained>
+    ensures ok { IfOk result (IsExplained journal first.now second.now) }
+    ensures damaged { IfErr result (IsDamage journal) }
+{
+    let entries = copy_of(alloc, journal.as_slice())?;
+    let mut hall = load(alloc, journal)?;
+    let Some(ours) = standing_at(&mut hall, &first.device, first)? else {
+        return Ok(unknown(alloc, first)?);
+    };
+    let Some(theirs) = standing_at(&mut hall, &first.device, second)? else {
+        return Ok(unknown(alloc, second)?);
+    };
+    if ours.family != theirs.family {
+        return Ok(unrelated(alloc, first, second)?);
+    }
+    // The contract of this call has that the hall refuses none of its entries.
+    let _ = hall.length();
+    let difference = difference(alloc, entries, ours.family, ours.copy, theirs.copy)?;
+    let ours = place_name(alloc, first)?;
+    let theirs = place_name(alloc, second)?;
+    Ok(Explanation {
+        text: difference_text(alloc, ours.as_str(), theirs.as_str(), &difference)?,
+        is_of_one_file: true,
+    })
+}
+
+/// Asks a session for its journal, as the device `by`, and says what each of the copies at two places knows that the other lacks: a
+/// line for each update, as `usb:plan.txt has 5 edit by usb`, those of the first place before those of the second; or that they are
+/// equal, or of two files, or that no copy is at a place. All is said of one moment: that of the last question.
+///
+/// # Errors
+///
+/// `NoAnswer` where a question has none; `Damaged` where what came is no journal; `OutOfMemory`.
+pub fn why_on<S: Session>(
+    alloc: Global,
+    session: &mut S,
+    by: &DeviceName,
+    first: &Place,
+    second: &Place,
+) -> Result<Explanation, Unexplained>
+    ensures ok { IfOk result (Explains S.step by.now first.now second.now session.old session.new) }
+    ensures fails { IsErrOf result Unexplained.NoAnswer → Stops S.step S.fails by.now session.old session.new }
+{
+    let Some(journal) = journal_of(alloc, session, by)? else {
+        return Err(Unexplained::OutOfMemory);
+    };
+    explain(alloc, journal, first, second)
+}
