@@ -28,7 +28,7 @@ pub one_back : (e : Entry) (before : List Entry) → AreFit (e ∷ before) → (
 one_back e before fit sources u =
     ap (λ l. any_knows (copies_of l) sources u) (reverse-cons before e)
     ∙ ap (λ l. any_knows l sources u) (copies_of-push (reverse before) e)
-    ∙ step e.number (copies_back before) (copies_below e.number (reverse before) (each_reverse (λ x. x.number < e.number) before fit.0)) e.report fit.1.0 sources u
+    ∙ step e.number (copies_back before) (copies_below e.number (reverse before) (each_reverse (λ x. x.number < e.number) before fit.0)) e.report fit.1 sources u
 
 -- who isn't there knows nothing
 none_known : (sources : List ℕ) (u : ℕ) → any_knows [] sources u ≡ false
@@ -38,7 +38,7 @@ none_known (s ∷ sources) u = none_known sources u
 -- no update is known but those of the entries
 pub known_below : (m : ℕ) (entries : List Entry) → AreFit entries → AllByRecursion (λ e. e.number < m) entries → (sources : List ℕ) (u : ℕ) → any_knows (copies_back entries) sources u ≡ true → u < m
 known_below m [] fit all sources u is = absurd (grind (arith, nat_tests, none_known, copies_of_none))
-known_below m (e ∷ before) fit all sources u is = grind (arith, nat_tests, one_back, known_below m before fit.1.1 all.1)
+known_below m (e ∷ before) fit all sources u is = grind (arith, nat_tests, one_back, known_below m before fit.2 all.1)
 
 -- what is known to the sources alone, the last first
 abbrev pub only : List Entry → List ℕ → List ℕ → List Entry
@@ -52,7 +52,7 @@ is_only entries here there e = any_knows (copies_back entries) here e.number && 
 module _ (e : Entry) (before : List Entry) (fit : AreFit (e ∷ before)) where
   fresh : (sources : List ℕ) → any_knows (copies_back before) sources e.number ≡ false
   fresh sources = elim (cases_Bool (any_knows (copies_back before) sources e.number)) [
-    | inl is ↦ absurd (let less = known_below e.number before fit.1.1 fit.0 sources e.number is in omega arith)
+    | inl is ↦ absurd (let less = known_below e.number before fit.2 fit.0 sources e.number is in omega arith)
     | inr is ↦ is
   ]
 
@@ -74,7 +74,7 @@ module _ (e : Entry) (before : List Entry) (fit : AreFit (e ∷ before)) where
 pub only_is : (entries : List Entry) → AreFit entries → (here there : List ℕ) → only entries here there ≡ filter (is_only entries here there) entries
 only_is [] fit here there = refl
 only_is (e ∷ before) fit here there =
-    let rest = only_is before fit.1.1 (sources_before e here) (sources_before e there) ∙ sym (others e before fit here there before fit.0) in
+    let rest = only_is before fit.2 (sources_before e here) (sources_before e there) ∙ sym (others e before fit here there before fit.0) in
     let head : is_only (e ∷ before) here there e ≡ (reaches here e.report && not (reaches there e.report)) = ap₂ (λ p q. p && not q) (of_last e before fit here) (of_last e before fit there) in
     ap (λ l. alone e (reaches here e.report) (reaches there e.report) ++ l) rest
     ∙ by_case (reaches here e.report && not (reaches there e.report)) (filter (is_only (e ∷ before) here there) before)
@@ -140,4 +140,4 @@ found_all whole a b here there found fit far =
 
 -- the same entries are fit but for the last
 pub fit_before : (left : List Entry) (e : Entry) → IsFit (left ++ e ∷ []) → IsFit left
-fit_before left e fit = (subst AreFit (reverse-push left e) fit).1.1
+fit_before left e fit = (subst AreFit (reverse-push left e) fit).2

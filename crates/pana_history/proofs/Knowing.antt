@@ -6,6 +6,8 @@ use Rattle.pana_copies.specs.declared.place.Place.{Place}
 use Rattle.pana_hall.proofs.Words.{nat_tests, cases_eq, eq-eqb, ne_eqb, Copy, copy_in, known_to, after_report, comes, made, new_copy, content_by, has, option_and_then}
 use Rattle.pana_journal.specs.declared.report.Report.{Report}
 use Rattle.pana_journal.specs.declared.report.Report.TheVariants.{Register, Duplicate, Edit, Reconcile, Merge, Relocate, Remove, Note, Confirm, Withdraw}
+use Rattle.pana_family.specs.Updates.{union}
+use Rattle.pana_hall.specs.Living.{changed}
 use Rattle.pana_family.proofs.Unions.{union_members}
 use Rattle.pana_hall.proofs.Moves.{AreBelow, Lives, Names, found_after, found_number, found_push, none_below}
 use Rattle.pana_family.proofs.Images.{made_itself}
@@ -35,7 +37,11 @@ any_push x g [] = grind (arith, nat_tests)
 any_push x g (s ∷ sources) = grind (arith, nat_tests, any_push x g sources)
 
 any_with : (x : ℕ) (g : ℕ → Bool) (sources : List ℕ) → list_any g (with_source x sources) ≡ (g x || list_any g sources)
-any_with x g sources = grind (arith, nat_tests, any_push, any_without)
+any_with x g sources = by_case (has sources x) refl
+  where
+    by_case : (b : Bool) → has sources x ≡ b → list_any g (cond b sources (sources ++ x ∷ [])) ≡ (g x || list_any g sources)
+    by_case true is = let e = any_without x g sources in grind (arith, nat_tests)
+    by_case false is = any_push x g sources
 
 any_same : (g h : ℕ → Bool) → ((c : ℕ) → g c ≡ h c) → (sources : List ℕ) → list_any g sources ≡ list_any h sources
 any_same g h same [] = refl
@@ -44,6 +50,11 @@ any_same g h same (s ∷ sources) = grind (arith, nat_tests, any_same g h same s
 cond_map : {X Y : Type 0} (f : X → Y) (b : Bool) (x y : X) → f (cond b x y) ≡ cond b (f x) (f y)
 cond_map f true x y = refl
 cond_map f false x y = refl
+
+spread : (h p k r : Bool) → ((h && (p || k)) || r) ≡ ((h && p) || ((h && k) || r))
+spread true true k r = refl
+spread true false k r = refl
+spread false p k r = refl
 
 -- What one copy knows after a report.
 
@@ -139,19 +150,33 @@ module _ (n : ℕ) (copies : List Copy) where
     ]
   ]
 
+  or_assoc : (p q r : Bool) → ((p || q) || r) ≡ (p || (q || r))
+  or_assoc true q r = refl
+  or_assoc false q r = refl
+
+  merged : (a b : ℕ) (sum : Option (List ℕ)) (y : Copy) (u : ℕ) → (y.known.copy ≡ a) ⊎ (y.known.copy ≡ b)
+      → has (set_of (made n (Merge a b sum) copies y)) u ≡ has (union (n ∷ known_to copies a) (known_to copies b)) u
+  merged a b sum y u (inl is) = ap (λ t. has (set_of (cond (t || (y.known.copy == b)) (changed n (Merge a b sum) copies y) (Some y))) u) (eq-eqb y.known.copy a is)
+  merged a b sum y u (inr is) = ap (λ t. has (set_of (cond t (changed n (Merge a b sum) copies y) (Some y))) u) (or_true (y.known.copy == a) (y.known.copy == b) (eq-eqb y.known.copy b is))
+    where
+      or_true : (p q : Bool) → q ≡ true → (p || q) ≡ true
+      or_true true q e = refl
+      or_true false q e = e
+
   merge_knows : (a b : ℕ) (sum : Option (List ℕ)) → Lives copies a → Lives copies b → (c u : ℕ)
       → knows (after_report n (Merge a b sum) copies) c u ≡ cond (c == a) ((n == u) || (knows copies a u || knows copies b u)) (cond (c == b) ((n == u) || (knows copies a u || knows copies b u)) (knows copies c u))
   merge_knows a b sum here there c u =
       let both = (n == u) || (knows copies a u || knows copies b u) in
+      let united = union_members (n ∷ known_to copies a) (known_to copies b) u ∙ or_assoc (n == u) (knows copies a u) (knows copies b u) in
       elim (cases_eq c a) [
         | inl same ↦
             ap (λ m. knows (after_report n (Merge a b sum) copies) m u) same
-            ∙ becomes_known n (Merge a b sum) copies refl a u both here (λ y is. grind (arith, nat_tests, found_number, union_members))
+            ∙ becomes_known n (Merge a b sum) copies refl a u both here (λ y is. merged a b sum y u (inl (found_number copies a y is)) ∙ united)
             ∙ sym (ap (λ t. cond t both (cond (c == b) both (knows copies c u))) (eq-eqb c a same))
         | inr other ↦ elim (cases_eq c b) [
           | inl same ↦
               ap (λ m. knows (after_report n (Merge a b sum) copies) m u) same
-              ∙ becomes_known n (Merge a b sum) copies refl b u both there (λ y is. grind (arith, nat_tests, found_number, union_members))
+              ∙ becomes_known n (Merge a b sum) copies refl b u both there (λ y is. merged a b sum y u (inr (found_number copies b y is)) ∙ united)
               ∙ sym (ap (λ t. cond t both (cond (c == b) both (knows copies c u))) (ne_eqb c a other) ∙ ap (λ t. cond t both (knows copies c u)) (eq-eqb c b same))
           | inr apart ↦
               stays_known n (Merge a b sum) copies refl c u (λ y is. grind (arith, nat_tests, found_number))
@@ -187,7 +212,8 @@ module _ (n : ℕ) (copies : List Copy) (below : AreBelow n copies) where
   step (Edit x sum) lives sources u =
       any_same _ _ (λ c. edit_knows n copies x sum (lives x refl) c u) sources
       ∙ any_split x ((n == u) || knows copies x u) (λ c. knows copies c u) sources
-      ∙ grind (arith, nat_tests, any_without)
+      ∙ spread (has sources x) (n == u) (knows copies x u) (any_knows copies (without x sources) u)
+      ∙ ap (λ f. (has sources x && (n == u)) || f) (sym (any_without x (λ c. knows copies c u) sources))
   step (Reconcile a b sum) lives sources u =
       any_same _ _ (λ c. reconcile_knows n copies a b sum (lives a (inl refl)) (lives b (inr refl)) c u) sources
       ∙ two_split copies a b (knows copies a u || knows copies b u) sources u (λ e. grind (arith, nat_tests)) (λ e. grind (arith, nat_tests)) ∙ by_case (has sources a || has sources b) refl

@@ -1,5 +1,7 @@
 pub mod Fit
 pub mod Knowing
 pub mod Alone
-pub mod Families
+pub mod Gathered
 pub mod Paged
+pub mod Asked
+pub mod Explained

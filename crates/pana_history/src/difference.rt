@@ -5,7 +5,7 @@ ghost use Rattle.pana_hall.specs.Family.{families};
 ghost use Rattle.pana_history.specs.Lacking.{lacking};
 ghost use Rattle.pana_history.specs.inner.Alone.{IsFit, alone, known_alone};
 
-use crate::family_entries::family_entries;
+use crate::families::family_entries;
 use crate::sources::{reaches, sources_before};
 use pana_journal::{Entry, EntryList};
 use std::alloc::{AllocError, Global};
@@ -37,12 +37,11 @@ impl Difference {
         ensures second { OnOk result (self.new.second.items ≡ self.old.second.items ++ alone entry is_in_second is_in_first) }
     {
         if is_in_first && !is_in_second {
-            self.first.push(entry)
+            self.first.push(entry)?;
         } else if is_in_second && !is_in_first {
-            self.second.push(entry)
-        } else {
-            Ok(())
+            self.second.push(entry)?;
         }
+        Ok(())
     }
 }
 
@@ -50,7 +49,7 @@ impl Difference {
 /// entries, as that of a hall.
 ///
 /// It takes memory for the family's entries, and for a number for each entry of the journal. Fails only where memory runs out.
-pub fn difference(
+pub fn difference_between(
     alloc: Global,
     journal: EntryList,
     family: u64,

@@ -2,12 +2,12 @@
 #![tactic(auto)]
 
 mod difference;
-mod family_entries;
+mod families;
 mod pages;
 mod sources;
 mod why;
 
-pub use crate::difference::{Difference, difference};
-pub use crate::family_entries::family_entries;
+pub use crate::difference::{Difference, difference_between};
+pub use crate::families::family_entries;
 pub use crate::pages::journal_of;
 pub use crate::why::{Explanation, Unexplained, explain, why_on};

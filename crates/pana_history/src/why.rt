@@ -1,11 +1,14 @@
 //! What makes one of two copies obsolete, or sets them in conflict, for people.
-ghost use Rattle.std.specs.Prelude.{◌≡◌, ◌++◌, false, IfOk, IfErr, OnOk, IsErrOf, string_bytes};
+ghost use Rattle.std.specs.Prelude.{◌≡◌, ◌++◌, true, false, Some, IfOk, IfErr, OnOk, IsErrOf, string_bytes};
+ghost use Rattle.pana_hall.specs.Accepted.{IsAccepted};
+ghost use Rattle.pana_hall.specs.Family.{families};
 ghost use Rattle.pana_hall.specs.Living.{living};
 ghost use Rattle.pana_hall.specs.Status.{standing_at};
+ghost use Rattle.pana_history.specs.Lacking.{lacking};
 ghost use Rattle.pana_history.specs.Why.{Explains, IsDamage, IsExplained, difference_text, has_line, has_lines, kind_name, place_name, unknown_text, unrelated_text};
 ghost use Rattle.pana_history.specs.inner.Pages.{Stops};
 
-use crate::difference::{Difference, difference};
+use crate::difference::{Difference, difference_between};
 use crate::pages::journal_of;
 use pana_calls::{Call, Cause, CopyStanding, NoAnswer, Query, Reply, Session};
 use pana_copies::{DeviceName, Place};
@@ -188,6 +191,73 @@ fn load(alloc: Global, journal: EntryList) -> Result<Hall, Unexplained>
     }
 }
 
+/// What is said of two copies of one file.
+fn related(
+    alloc: Global,
+    journal: EntryList,
+    ours: &CopyStanding,
+    theirs: &CopyStanding,
+    first: &str,
+    second: &str,
+) -> Result<Explanation, AllocError>
+    requires accepted { IsAccepted 8 journal }
+    requires ours { families journal ours.now.copy ≡ ours.now.family }
+    requires theirs { families journal theirs.now.copy ≡ ours.now.family }
+    ensures text { IfOk result (λ explanation. string_bytes explanation.text ≡ difference_text first.now second.now (lacking journal ours.now.family ours.now.copy theirs.now.copy) (lacking journal ours.now.family theirs.now.copy ours.now.copy)) }
+    ensures related { IfOk result (λ explanation. explanation.is_of_one_file ≡ true) }
+{
+    let difference = difference_between(alloc, journal, ours.family, ours.copy, theirs.copy)?;
+    Ok(Explanation {
+        text: difference_text(alloc, first, second, &difference)?,
+        is_of_one_file: true,
+    })
+}
+
+/// What is said of two copies.
+fn compared(
+    alloc: Global,
+    journal: EntryList,
+    ours: &CopyStanding,
+    theirs: &CopyStanding,
+    first: &Place,
+    second: &Place,
+) -> Result<Explanation, AllocError>
+    requires accepted { IsAccepted 8 journal }
+    requires ours { Some ours.now ≡ standing_at (living journal) first.now }
+    requires theirs { Some theirs.now ≡ standing_at (living journal) second.now }
+    ensures { IfOk result (IsExplained journal first.now second.now) }
+{
+    if ours.family != theirs.family {
+        return unrelated(alloc, first, second);
+    }
+    let first = place_name(alloc, first)?;
+    let second = place_name(alloc, second)?;
+    related(alloc, journal, ours, theirs, first.as_str(), second.as_str())
+}
+
+/// What is said of two places, by how the copies there stand.
+fn told(
+    alloc: Global,
+    journal: EntryList,
+    ours: Option<CopyStanding>,
+    theirs: Option<CopyStanding>,
+    first: &Place,
+    second: &Place,
+) -> Result<Explanation, AllocError>
+    requires accepted { IsAccepted 8 journal }
+    requires ours { ours ≡ standing_at (living journal) first.now }
+    requires theirs { theirs ≡ standing_at (living journal) second.now }
+    ensures { IfOk result (IsExplained journal first.now second.now) }
+{
+    let Some(ours) = ours else {
+        return unknown(alloc, first);
+    };
+    let Some(theirs) = theirs else {
+        return unknown(alloc, second);
+    };
+    compared(alloc, journal, &ours, &theirs, first, second)
+}
+
 /// What is said of two places by a journal.
 ///
 /// It takes memory for the journal twice, and for its hall.
@@ -206,24 +276,11 @@ pub fn explain(
 {
     let entries = copy_of(alloc, journal.as_slice())?;
     let mut hall = load(alloc, journal)?;
-    let Some(ours) = standing_at(&mut hall, &first.device, first)? else {
-        return Ok(unknown(alloc, first)?);
-    };
-    let Some(theirs) = standing_at(&mut hall, &first.device, second)? else {
-        return Ok(unknown(alloc, second)?);
-    };
-    if ours.family != theirs.family {
-        return Ok(unrelated(alloc, first, second)?);
-    }
+    let ours = standing_at(&mut hall, &first.device, first)?;
+    let theirs = standing_at(&mut hall, &first.device, second)?;
     // The contract of this call has that the hall refuses none of its entries.
     let _ = hall.length();
-    let difference = difference(alloc, entries, ours.family, ours.copy, theirs.copy)?;
-    let ours = place_name(alloc, first)?;
-    let theirs = place_name(alloc, second)?;
-    Ok(Explanation {
-        text: difference_text(alloc, ours.as_str(), theirs.as_str(), &difference)?,
-        is_of_one_file: true,
-    })
+    Ok(told(alloc, entries, ours, theirs, first, second)?)
 }
 
 /// Asks a session for its journal, as the device `by`, and says what each of the copies at two places knows that the other lacks: a

@@ -1,5 +1,5 @@
 //! The entries of one family that count.
-ghost use Rattle.std.specs.Prelude.{◌≡◌, ◌++◌, [], ◌∷◌, IfOk, OnOk, filter, not, ◌==◌};
+ghost use Rattle.std.specs.Prelude.{◌≡◌, ◌++◌, [], ◌∷◌, IfOk, filter, not, ◌==◌, if◌then◌else◌};
 ghost use Rattle.pana_hall.specs.Accepted.{IsAccepted};
 ghost use Rattle.pana_hall.specs.Family.{begun_or_joined, subject};
 ghost use Rattle.pana_history.specs.Lacking.{family_entries};
@@ -86,6 +86,22 @@ fn with_next(
     }
 }
 
+/// The family's entries that count, once the next entry is its own or not.
+fn with_own(
+    alloc: Global,
+    entries: Vec<Entry>,
+    entry: Entry,
+    is_own: bool,
+) -> Result<Vec<Entry>, AllocError>
+    ensures { IfOk result (λ more. more.items ≡ (if is_own then with_next entry entries.items else entries.items)) }
+{
+    if is_own {
+        with_next(alloc, entries, entry)
+    } else {
+        Ok(entries)
+    }
+}
+
 /// The entries of a family that count, in order: reports of its copies that no later entry withdraws. The journal is one that
 /// refuses none of its entries, as that of a hall.
 ///
@@ -103,9 +119,8 @@ pub fn family_entries(
     };
     let mut entries = Vec::new(alloc);
     for entry in journal.into_vec() {
-        if table.take(&entry)? == family {
-            entries = with_next(alloc, entries, entry)?;
-        }
+        let is_own = table.take(&entry)? == family;
+        entries = with_own(alloc, entries, entry, is_own)?;
     }
     Ok(entries)
 }

@@ -1,10 +1,10 @@
 -- The families of a journal's entries, and the entries of one, as entries come.
-use Rattle.std.proofs.Common.{◌≡◌, ◌≢◌, ℕ, ◌+◌, ◌-◌, ◌<◌, ◌==◌, not, Bool, true, false, cond, List, [], ◌∷◌, ◌++◌, length, filter, slice_get, unwrap_or, Option, Some, None, refl, sym, ap, subst, ◌∙◌, inl, inr, arith, append-nil, append_assoc}
+use Rattle.std.proofs.Common.{◌≡◌, ◌≢◌, ℕ, zero, suc, ◌+◌, ◌-◌, ◌<◌, ◌==◌, not, Bool, true, false, cond, List, [], ◌∷◌, ◌++◌, length, filter, slice_get, unwrap_or, Option, Some, None, refl, sym, ap, subst, ◌∙◌, inl, inr, arith, append-nil, append_assoc}
 use Rattle.pana_journal.specs.declared.entry.Entry.{Entry}
 use Rattle.pana_journal.specs.declared.report.Report.{Report}
 use Rattle.pana_hall.specs.Accepted.{Accepts, AcceptsAll, IsAccepted}
 use Rattle.pana_hall.specs.Effective.{is_of_copies}
-use Rattle.pana_hall.specs.Family.{begun_or_joined, families, subject}
+use Rattle.pana_hall.specs.Family.{begun_or_joined, families, subject, with_entry}
 use Rattle.pana_hall.specs.laws.Layers.{family_of_next}
 use Rattle.pana_hall.proofs.Words.{nat_tests, cases_eq, eq-eqb, ne_eqb, fold-append, length-append}
 use Rattle.pana_hall.proofs.Sound.{IsSound, Kind, OfCopies, Confirms, Withdraws, accepted_is_sound, family_new, keeps_families, kind_of, left_by, own_confirm, own_copies, own_withdraw, sound_grows}
@@ -29,8 +29,15 @@ pub record AreFamilies (families_so_far : List ℕ) (journal : List Entry) : Typ
 pub no_families : AreFamilies [] []
 no_families = record { count = refl; are = λ n. grind (arith, nat_tests) }
 
+get_push : (list : List ℕ) (x i : ℕ) → slice_get (list ++ x ∷ []) i ≡ cond (i == length list) (Some x) (slice_get list i)
+get_push [] x zero = grind (arith, nat_tests)
+get_push [] x (suc i) = grind (arith, nat_tests)
+get_push (y ∷ list) x zero = grind (arith, nat_tests)
+get_push (y ∷ list) x (suc i) = grind (arith, nat_tests, get_push list x i)
+
 in_push : (list : List ℕ) (family n : ℕ) → family_in (list ++ family ∷ []) n ≡ cond (n == length list + 1) family (family_in list n)
-in_push list family n = grind (arith, nat_tests)
+in_push list family zero = grind (arith, nat_tests)
+in_push list family (suc n) = grind (arith, nat_tests, get_push)
 
 joined_same : (f g : ℕ → ℕ) → ((n : ℕ) → f n ≡ g n) → (n : ℕ) (of : Option ℕ) → begun_or_joined f n of ≡ begun_or_joined g n of
 joined_same f g same n None = refl
@@ -46,7 +53,7 @@ families_next list journal e family more far next is grown =
             in_push list family n
             ∙ ap (λ k. cond (n == k) family (family_in list n)) (ap (λ k. k + 1) far.count ∙ sym next)
             ∙ ap (λ f. cond (n == e.number) f (family_in list n)) of ∙ ap (λ f. cond (n == e.number) (begun_or_joined (families journal) e.number (subject e.report)) f) (far.are n)
-            ∙ sym (ap (λ f. f n) (fold-append _ (λ m. m) journal (e ∷ [])));
+            ∙ sym (ap (λ (f : ℕ → ℕ). f n) (fold-append with_entry (λ m. m) journal (e ∷ [])));
       }),
       of ∙ sym (family_new journal e),
     )

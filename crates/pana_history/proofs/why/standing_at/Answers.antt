@@ -1,0 +1,20 @@
+use Rattle.std.proofs.Common.{◌∙◌, ap, subst}
+use Rattle.pana_copies.specs.declared.place.Place.{Place}
+use Rattle.pana_calls.specs.declared.call.Call.TheVariants as calls
+use Rattle.pana_calls.specs.declared.call.Query.TheVariants as queries
+use Rattle.pana_calls.specs.declared.reply.Reply.TheVariants as replies
+use Rattle.pana_hall.specs.Living.{living}
+use Rattle.pana_hall.specs.Permit.{Permits}
+use Rattle.pana_hall.specs.Status.{standing_at}
+use Rattle.pana_history.proofs.Asked.{asked, at_asked}
+use Rattle.pana_history.proofs.why.standing_at.Goals as goal
+
+pub returns-in-At-clause-standing : goal.returns-in-At-clause-standing
+returns-in-At-clause-standing c =
+    at_asked c.args.hall.now c.args.by.now c.in_ok-place.place c.in-At.standing c.in-At.ensures.permitted ∙ ap (standing_at (living c.args.hall.now)) c.in_ok-place.ensures
+
+pub returns-in-At-clause-hall : goal.returns-in-At-clause-hall
+returns-in-At-clause-hall c = c.apply.ensures.journal ∙ asked c.args.hall.now c.args.by.now c.in_ok-place.place c.apply.result
+
+pub returns : goal.returns
+returns c = record { standing = tt; hall = c.apply.ensures.journal ∙ asked c.args.hall.now c.args.by.now c.in_ok-place.place c.apply.result }
