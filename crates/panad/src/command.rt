@@ -2,8 +2,10 @@ use crate::descriptors::take_standard_descriptors;
 use crate::fault::ProgramFault;
 use crate::keeping::{run_kept, show_kept};
 use crate::options::{JOURNAL, journal_option};
+use crate::overwrite_command::{self, MAY_OVERWRITE, overwrite_command};
 use crate::printing::{complain, output, print_out, print_text};
 use crate::progress::Progress;
+use crate::report_command::{self, REPORT, report_command};
 use crate::serve_command::{self, SERVE, serve_command};
 use crate::status_command::{self, STATUS, status_command};
 use crate::track_command::{self, TRACK, track_command};
@@ -42,7 +44,8 @@ pair, holdings, at, status, journal.
 `panad show` takes such lines and prints tables in place of the answers, and
 `panad serve` answers them over TCP, to several devices at a time.
 `panad track` needs no lines: it looks at folders, and `panad status` shows what is
-obsolete or in conflict.
+obsolete or in conflict. `panad may-overwrite` says whether a copy may be replaced,
+and `panad report` makes one report of copies that are named by their places.
 `panad COMMAND --help` shows an example. docs/PROTOCOL.md has all answers, and
 docs/PROMISES.md what is proved of them, and what isn't.";
 
@@ -199,6 +202,8 @@ fn command_line<'a>(alloc: Global) -> Result<Command<'a>, AllocError> {
         .subcommand(compare_command(alloc)?)?
         .subcommand(track_command(alloc)?)?
         .subcommand(status_command(alloc)?)?
+        .subcommand(overwrite_command(alloc)?)?
+        .subcommand(report_command(alloc)?)?
         .subcommand(serve_command(alloc)?)
 }
 
@@ -345,6 +350,8 @@ fn obey_words<T: Threads + Wait + Clock + Sync>(
         Some((COMPARE, words)) => compare(rt, words),
         Some((TRACK, words)) => Ok(track_command::run(rt, threads, words)),
         Some((STATUS, words)) => Ok(status_command::run(rt, words)),
+        Some((MAY_OVERWRITE, words)) => Ok(overwrite_command::run(rt, words)),
+        Some((REPORT, words)) => Ok(report_command::run(rt, words)),
         Some((SERVE, words)) => serve_command::run(rt, threads, words),
         _ => refuse(rt, ErrorKind::MissingSubcommand, "a command is required"),
     }

@@ -1,0 +1,174 @@
+//! What words of a command line report.
+ghost use Rattle.std.specs.Prelude.{◌≡◌, IfOk};
+ghost use Rattle.pana_ask.specs.Words.{Spells, word_name};
+
+use crate::placed_report::{OneCopyReport, PlacedReport, TwoCopyReport};
+use crate::report_word::{ReportWord, word_of};
+use crate::words::{Words, WordsFault, place_of};
+use pana_calls::{Call, Sighting};
+use pana_journal::Report;
+use std::alloc::Global;
+
+/// `register PLACE [--sum SUM]`
+fn register<'a>(alloc: Global, words: &Words<'a>) -> Result<PlacedReport, WordsFault<'a>>
+    requires { words.now.word.now ≡ word_name ReportWord.Register }
+    ensures { IfOk result (Spells words.now) }
+{
+    words.without_heir(ReportWord::Register)?;
+    let place = words.place(alloc, ReportWord::Register)?;
+    let sum = words.sum(alloc)?;
+    Ok(PlacedReport::Direct(Call::Report(Report::Register { place, sum })))
+}
+
+/// `duplicate PLACE PLACE [--sum SUM]`
+fn duplicate<'a>(alloc: Global, words: &Words<'a>) -> Result<PlacedReport, WordsFault<'a>>
+    requires { words.now.word.now ≡ word_name ReportWord.Duplicate }
+    ensures { IfOk result (Spells words.now) }
+{
+    words.without_heir(ReportWord::Duplicate)?;
+    let (source, place) = words.places(alloc, ReportWord::Duplicate)?;
+    let sum = words.sum(alloc)?;
+    Ok(PlacedReport::One(source, OneCopyReport::Duplicate { place, sum }))
+}
+
+/// `edit PLACE [--sum SUM]`
+fn edit<'a>(alloc: Global, words: &Words<'a>) -> Result<PlacedReport, WordsFault<'a>>
+    requires { words.now.word.now ≡ word_name ReportWord.Edit }
+    ensures { IfOk result (Spells words.now) }
+{
+    words.without_heir(ReportWord::Edit)?;
+    let place = words.place(alloc, ReportWord::Edit)?;
+    let sum = words.sum(alloc)?;
+    Ok(PlacedReport::One(place, OneCopyReport::Edit { sum }))
+}
+
+/// `reconcile PLACE PLACE [--sum SUM]`
+fn reconcile<'a>(alloc: Global, words: &Words<'a>) -> Result<PlacedReport, WordsFault<'a>>
+    requires { words.now.word.now ≡ word_name ReportWord.Reconcile }
+    ensures { IfOk result (Spells words.now) }
+{
+    words.without_heir(ReportWord::Reconcile)?;
+    let (a, b) = words.places(alloc, ReportWord::Reconcile)?;
+    let sum = words.sum(alloc)?;
+    Ok(PlacedReport::Two(a, b, TwoCopyReport::Reconcile { sum }))
+}
+
+/// `merge PLACE PLACE [--sum SUM]`
+fn merge<'a>(alloc: Global, words: &Words<'a>) -> Result<PlacedReport, WordsFault<'a>>
+    requires { words.now.word.now ≡ word_name ReportWord.Merge }
+    ensures { IfOk result (Spells words.now) }
+{
+    words.without_heir(ReportWord::Merge)?;
+    let (a, b) = words.places(alloc, ReportWord::Merge)?;
+    let sum = words.sum(alloc)?;
+    Ok(PlacedReport::Two(a, b, TwoCopyReport::Merge { sum }))
+}
+
+/// `relocate PLACE PLACE`
+fn relocate<'a>(alloc: Global, words: &Words<'a>) -> Result<PlacedReport, WordsFault<'a>>
+    requires { words.now.word.now ≡ word_name ReportWord.Relocate }
+    ensures { IfOk result (Spells words.now) }
+{
+    words.without_heir(ReportWord::Relocate)?;
+    words.without_sum(ReportWord::Relocate)?;
+    let (source, place) = words.places(alloc, ReportWord::Relocate)?;
+    Ok(PlacedReport::One(source, OneCopyReport::Relocate { place }))
+}
+
+/// `remove PLACE [--heir PLACE]`
+fn remove<'a>(alloc: Global, words: &Words<'a>) -> Result<PlacedReport, WordsFault<'a>>
+    requires { words.now.word.now ≡ word_name ReportWord.Remove }
+    ensures { IfOk result (Spells words.now) }
+{
+    words.without_sum(ReportWord::Remove)?;
+    let place = words.place(alloc, ReportWord::Remove)?;
+    match words.heir {
+        Some(name) => {
+            let heir = place_of(alloc, name)?;
+            Ok(PlacedReport::Two(place, heir, TwoCopyReport::RemoveFor))
+        }
+        None => Ok(PlacedReport::One(place, OneCopyReport::Remove)),
+    }
+}
+
+/// `note PLACE --sum SUM`
+fn note<'a>(alloc: Global, words: &Words<'a>) -> Result<PlacedReport, WordsFault<'a>>
+    requires { words.now.word.now ≡ word_name ReportWord.Note }
+    ensures { IfOk result (Spells words.now) }
+{
+    words.without_heir(ReportWord::Note)?;
+    let place = words.place(alloc, ReportWord::Note)?;
+    let sum = words.needed_sum(alloc, ReportWord::Note)?;
+    Ok(PlacedReport::One(place, OneCopyReport::Note { sum }))
+}
+
+/// `confirm ENTRY`
+fn confirm<'a>(alloc: Global, words: &Words<'a>) -> Result<PlacedReport, WordsFault<'a>>
+    requires { words.now.word.now ≡ word_name ReportWord.Confirm }
+    ensures { IfOk result (Spells words.now) }
+{
+    words.without_heir(ReportWord::Confirm)?;
+    words.without_sum(ReportWord::Confirm)?;
+    let entry = words.entry(alloc, ReportWord::Confirm)?;
+    Ok(PlacedReport::Direct(Call::Report(Report::Confirm { entry })))
+}
+
+/// `withdraw ENTRY`
+fn withdraw<'a>(alloc: Global, words: &Words<'a>) -> Result<PlacedReport, WordsFault<'a>>
+    requires { words.now.word.now ≡ word_name ReportWord.Withdraw }
+    ensures { IfOk result (Spells words.now) }
+{
+    words.without_heir(ReportWord::Withdraw)?;
+    words.without_sum(ReportWord::Withdraw)?;
+    let entry = words.entry(alloc, ReportWord::Withdraw)?;
+    Ok(PlacedReport::Direct(Call::Report(Report::Withdraw { entry })))
+}
+
+/// `found PLACE --sum SUM`
+fn found<'a>(alloc: Global, words: &Words<'a>) -> Result<PlacedReport, WordsFault<'a>>
+    requires { words.now.word.now ≡ word_name ReportWord.Found }
+    ensures { IfOk result (Spells words.now) }
+{
+    words.without_heir(ReportWord::Found)?;
+    let place = words.place(alloc, ReportWord::Found)?;
+    let sum = words.needed_sum(alloc, ReportWord::Found)?;
+    Ok(PlacedReport::Direct(Call::Sighting(Sighting::Found { place, sum })))
+}
+
+/// `missing PLACE`
+fn missing<'a>(alloc: Global, words: &Words<'a>) -> Result<PlacedReport, WordsFault<'a>>
+    requires { words.now.word.now ≡ word_name ReportWord.Missing }
+    ensures { IfOk result (Spells words.now) }
+{
+    words.without_heir(ReportWord::Missing)?;
+    words.without_sum(ReportWord::Missing)?;
+    let place = words.place(alloc, ReportWord::Missing)?;
+    Ok(PlacedReport::Direct(Call::Sighting(Sighting::Missing { place })))
+}
+
+/// What the words report.
+///
+/// # Errors
+///
+/// Why they report nothing, as the variants of `WordsFault` say; where several hold, one of them.
+pub fn read_report<'a>(alloc: Global, words: &Words<'a>) -> Result<PlacedReport, WordsFault<'a>>
+    ensures { IfOk result (Spells words.now) }
+{
+    let Some(word) = word_of(words.word) else {
+        return Err(WordsFault::Word(words.word));
+    };
+    match word {
+        ReportWord::Register => register(alloc, words),
+        ReportWord::Duplicate => duplicate(alloc, words),
+        ReportWord::Edit => edit(alloc, words),
+        ReportWord::Reconcile => reconcile(alloc, words),
+        ReportWord::Merge => merge(alloc, words),
+        ReportWord::Relocate => relocate(alloc, words),
+        ReportWord::Remove => remove(alloc, words),
+        ReportWord::Note => note(alloc, words),
+        ReportWord::Confirm => confirm(alloc, words),
+        ReportWord::Withdraw => withdraw(alloc, words),
+        ReportWord::Found => found(alloc, words),
+        ReportWord::Missing => missing(alloc, words),
+    }
+}
