@@ -3,8 +3,8 @@
 
 mod ask_fault;
 mod looking;
+mod naming;
 mod overwriting;
-mod place_name;
 mod placed_report;
 mod reading;
 mod report_end;
@@ -14,8 +14,8 @@ mod verdict;
 mod words;
 
 pub use crate::ask_fault::AskFault;
+pub use crate::naming::{place_name, read_place, unknown_line};
 pub use crate::overwriting::may_overwrite;
-pub use crate::place_name::{place_name, read_place, unknown_line};
 pub use crate::placed_report::{OneCopyReport, PlacedReport, TwoCopyReport};
 pub use crate::reading::read_report;
 pub use crate::report_end::ReportEnd;

@@ -82,9 +82,9 @@ impl PlacedReport {
     {
         match self {
             PlacedReport::Direct(Call::Report(Report::Register { place, .. }))
-            | PlacedReport::Direct(Call::Sighting(
-                Sighting::Found { place, .. } | Sighting::Missing { place },
-            ))
+            | PlacedReport::Direct(
+                Call::Sighting(Sighting::Found { place, .. } | Sighting::Missing { place }),
+            )
             | PlacedReport::One(place, _)
             | PlacedReport::Two(place, _, _) => Some(place.device.copy_of()),
             PlacedReport::Direct(_) => None,

@@ -3,7 +3,7 @@ ghost use Rattle.std.specs.Prelude.{◌≡◌, IfOk};
 ghost use Rattle.pana_ask.specs.Words.{Spells, word_name};
 
 use crate::placed_report::{OneCopyReport, PlacedReport, TwoCopyReport};
-use crate::report_word::{ReportWord, word_of};
+use crate::report_word::ReportWord;
 use crate::words::{Words, WordsFault, place_of};
 use pana_calls::{Call, Sighting};
 use pana_journal::Report;
@@ -154,7 +154,7 @@ fn missing<'a>(alloc: Global, words: &Words<'a>) -> Result<PlacedReport, WordsFa
 pub fn read_report<'a>(alloc: Global, words: &Words<'a>) -> Result<PlacedReport, WordsFault<'a>>
     ensures { IfOk result (Spells words.now) }
 {
-    let Some(word) = word_of(words.word) else {
+    let Some(word) = ReportWord::of(words.word) else {
         return Err(WordsFault::Word(words.word));
     };
     match word {

@@ -1,5 +1,5 @@
 //! The words of reports and sightings.
-ghost use Rattle.std.specs.Prelude.{◌≡◌};
+ghost use Rattle.std.specs.Prelude.{◌≡◌, IfSome};
 ghost use Rattle.pana_ask.specs.Words.{word_name, word_of};
 
 /// The word for what is reported.
@@ -57,10 +57,20 @@ impl ReportWord {
     }
 }
 
-/// The word that the text is, if it is one. Takes no memory.
+/// The word that the text is, if it is one.
 #[tactic(auto, unfolding(crate::specs::Words::word_of))]
-pub(crate) fn word_of(text: &str) -> Option<ReportWord>
+fn word_of(text: &str) -> Option<ReportWord>
     ensures { result ≡ word_of text.now }
 {
     WORDS.iter().copied().find(|word| word.name() == text)
+}
+
+impl ReportWord {
+    /// The word that is spelled so, if one is. Takes no memory.
+    pub fn of(text: &str) -> Option<ReportWord>
+        ensures word { result ≡ word_of text.now }
+        ensures named { IfSome result (λ word. word_name word ≡ text.now) }
+    {
+        word_of(text)
+    }
 }

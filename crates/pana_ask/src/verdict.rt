@@ -2,7 +2,7 @@
 ghost use Rattle.std.specs.Prelude.{◌≡◌, IfOk, string_bytes};
 ghost use Rattle.pana_ask.specs.Verdict.{verdict_line, verdict_status};
 
-use crate::place_name::place_name;
+use crate::naming::place_name;
 use pana_copies::Place;
 use std::alloc::{AllocError, Global};
 
@@ -21,12 +21,7 @@ pub enum Verdict {
 
 impl Verdict {
     /// The line that says so of the copies at these places, with its newline. Fails only where memory runs out.
-    pub fn line(
-        self,
-        alloc: Global,
-        target: &Place,
-        source: &Place,
-    ) -> Result<String, AllocError>
+    pub fn line(self, alloc: Global, target: &Place, source: &Place) -> Result<String, AllocError>
         ensures { IfOk result (λ line. string_bytes line ≡ verdict_line self target.now source.now) }
     {
         let copy = place_name(alloc, target)?;

@@ -3,7 +3,7 @@ ghost use Rattle.std.specs.Prelude.{◌≡◌, [], ◌∷◌, None, Some, IfOk, 
 ghost use Rattle.pana_ask.specs.Place.{place_name};
 ghost use Rattle.pana_ask.specs.Texts.{texts};
 
-use crate::place_name::read_place;
+use crate::naming::read_place;
 use crate::report_word::ReportWord;
 use pana_copies::{NameFault, Place, Sum};
 use std::alloc::{AllocError, Global};
