@@ -105,10 +105,6 @@ judged true true back = Yes
 judged true false true = Newer
 judged true false false = Conflict
 
-abbrev is_yes : Verdict → Bool
-is_yes Yes = true
-is_yes verdict = false
-
 by_tests : (v w : Bool) (verdict : Verdict) → verdict_in (Given (replies.Pair (cond v (cond w rels.Equal rels.Older) (cond w rels.Newer rels.Conflict)))) ≡ Some verdict → verdict ≡ judged true v w
 by_tests true true verdict is = cc
 by_tests true false verdict is = cc
@@ -195,8 +191,8 @@ yes_just_then journal new by target source verdict accepted judges = (forth, bac
   b = both journal new by target source verdict accepted judges
 
   forth : verdict ≡ Yes → LosesNothing (living journal) target source
-  forth yes =
-      let needs = yes_needs (is_of b.copy.family b.other) (is_within b.copy.known.set b.other.known.set) (is_within b.other.known.set b.copy.known.set) (sym b.is ∙ yes) in
+  forth may =
+      let needs = yes_needs (is_of b.copy.family b.other) (is_within b.copy.known.set b.other.known.set) (is_within b.other.known.set b.copy.known.set) (sym b.is ∙ may) in
       record {
         copy = b.copy;
         other = b.other;
@@ -210,7 +206,7 @@ yes_just_then journal new by target source verdict accepted judges = (forth, bac
   back loses =
       let copy_is : loses.copy ≡ b.copy = let e = loses.is_there in let f = b.is_there in cc in
       let other_is : loses.other ≡ b.other = let e = loses.other_there in let f = b.other_there in cc in
-      let family : is_of b.copy.family b.other ≡ true = eq-eqb b.other.family b.copy.family (sym (ap (λ (c : Copy). c.family) copy_is) ∙ loses.one_file ∙ ap (λ (c : Copy). c.family) other_is) in
+      let family : is_of b.copy.family b.other ≡ true = eq-eqb b.other.family b.copy.family (sym (sym (ap (λ (c : Copy). c.family) copy_is) ∙ loses.one_file ∙ ap (λ (c : Copy). c.family) other_is)) in
       let within : is_within b.copy.known.set b.other.known.set ≡ true = sym (ap₂ (λ (c d : Copy). is_within c.known.set d.known.set) copy_is other_is) ∙ loses.within in
       b.is ∙ rw (family, within) refl
 
