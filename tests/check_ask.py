@@ -106,10 +106,10 @@ def verdicts(program, room):
     with Daemon(program) as daemon:
         keepers = (("--port", daemon.port), ("--journal", journal))
         for reports, *wanted in VERDICTS:
+            for keeper, words in ((keeper, words) for keeper in keepers for words in reports):
+                yield from differs((words, run(program, "report", *words, *keeper)[0]), (words, 0))
+            before = journal.read_bytes()
             for keeper in keepers:
-                for words in reports:
-                    yield from differs(run(program, "report", *words, *keeper)[0], 0)
-                before = journal.read_bytes()
                 for (target, source), line in zip(((LAPTOP, USB), (USB, LAPTOP)), wanted):
                     got = run(program, "may-overwrite", target, "--by", source, *keeper)
                     yield from differs((target, got), (target, (int(line != "yes\n"), line, "")))
