@@ -1,10 +1,10 @@
 //! What words of a command line report.
-ghost use Rattle.std.specs.Prelude.{◌≡◌, IfOk};
-ghost use Rattle.pana_ask.specs.Words.{Spells, word_name};
+ghost use Rattle.std.specs.Prelude.{◌≡◌, IfErr, IfOk};
+ghost use Rattle.pana_ask.specs.Words.{AreRefused, IsFault, Spells, word_name};
 
 use crate::placed_report::{OneCopyReport, PlacedReport, TwoCopyReport};
 use crate::report_word::ReportWord;
-use crate::words::{Words, WordsFault, place_of};
+use crate::words::{Words, WordsFault};
 use pana_calls::{Call, Sighting};
 use pana_journal::Report;
 use std::alloc::Global;
@@ -12,62 +12,68 @@ use std::alloc::Global;
 /// `register PLACE [--sum SUM]`
 fn register<'a>(alloc: Global, words: &Words<'a>) -> Result<PlacedReport, WordsFault<'a>>
     requires { words.now.word.now ≡ word_name ReportWord.Register }
-    ensures { IfOk result (Spells words.now) }
+    ensures ok { IfOk result (Spells words.now) }
+    ensures err { IfErr result (IsFault words.now ReportWord.Register) }
 {
     words.without_heir(ReportWord::Register)?;
     let place = words.place(alloc, ReportWord::Register)?;
-    let sum = words.sum(alloc)?;
+    let sum = words.sum(alloc, ReportWord::Register)?;
     Ok(PlacedReport::Direct(Call::Report(Report::Register { place, sum })))
 }
 
 /// `duplicate PLACE PLACE [--sum SUM]`
 fn duplicate<'a>(alloc: Global, words: &Words<'a>) -> Result<PlacedReport, WordsFault<'a>>
     requires { words.now.word.now ≡ word_name ReportWord.Duplicate }
-    ensures { IfOk result (Spells words.now) }
+    ensures ok { IfOk result (Spells words.now) }
+    ensures err { IfErr result (IsFault words.now ReportWord.Duplicate) }
 {
     words.without_heir(ReportWord::Duplicate)?;
     let (source, place) = words.places(alloc, ReportWord::Duplicate)?;
-    let sum = words.sum(alloc)?;
+    let sum = words.sum(alloc, ReportWord::Duplicate)?;
     Ok(PlacedReport::One(source, OneCopyReport::Duplicate { place, sum }))
 }
 
 /// `edit PLACE [--sum SUM]`
 fn edit<'a>(alloc: Global, words: &Words<'a>) -> Result<PlacedReport, WordsFault<'a>>
     requires { words.now.word.now ≡ word_name ReportWord.Edit }
-    ensures { IfOk result (Spells words.now) }
+    ensures ok { IfOk result (Spells words.now) }
+    ensures err { IfErr result (IsFault words.now ReportWord.Edit) }
 {
     words.without_heir(ReportWord::Edit)?;
     let place = words.place(alloc, ReportWord::Edit)?;
-    let sum = words.sum(alloc)?;
+    let sum = words.sum(alloc, ReportWord::Edit)?;
     Ok(PlacedReport::One(place, OneCopyReport::Edit { sum }))
 }
 
 /// `reconcile PLACE PLACE [--sum SUM]`
 fn reconcile<'a>(alloc: Global, words: &Words<'a>) -> Result<PlacedReport, WordsFault<'a>>
     requires { words.now.word.now ≡ word_name ReportWord.Reconcile }
-    ensures { IfOk result (Spells words.now) }
+    ensures ok { IfOk result (Spells words.now) }
+    ensures err { IfErr result (IsFault words.now ReportWord.Reconcile) }
 {
     words.without_heir(ReportWord::Reconcile)?;
     let (a, b) = words.places(alloc, ReportWord::Reconcile)?;
-    let sum = words.sum(alloc)?;
+    let sum = words.sum(alloc, ReportWord::Reconcile)?;
     Ok(PlacedReport::Two(a, b, TwoCopyReport::Reconcile { sum }))
 }
 
 /// `merge PLACE PLACE [--sum SUM]`
 fn merge<'a>(alloc: Global, words: &Words<'a>) -> Result<PlacedReport, WordsFault<'a>>
     requires { words.now.word.now ≡ word_name ReportWord.Merge }
-    ensures { IfOk result (Spells words.now) }
+    ensures ok { IfOk result (Spells words.now) }
+    ensures err { IfErr result (IsFault words.now ReportWord.Merge) }
 {
     words.without_heir(ReportWord::Merge)?;
     let (a, b) = words.places(alloc, ReportWord::Merge)?;
-    let sum = words.sum(alloc)?;
+    let sum = words.sum(alloc, ReportWord::Merge)?;
     Ok(PlacedReport::Two(a, b, TwoCopyReport::Merge { sum }))
 }
 
 /// `relocate PLACE PLACE`
 fn relocate<'a>(alloc: Global, words: &Words<'a>) -> Result<PlacedReport, WordsFault<'a>>
     requires { words.now.word.now ≡ word_name ReportWord.Relocate }
-    ensures { IfOk result (Spells words.now) }
+    ensures ok { IfOk result (Spells words.now) }
+    ensures err { IfErr result (IsFault words.now ReportWord.Relocate) }
 {
     words.without_heir(ReportWord::Relocate)?;
     words.without_sum(ReportWord::Relocate)?;
@@ -78,15 +84,13 @@ fn relocate<'a>(alloc: Global, words: &Words<'a>) -> Result<PlacedReport, WordsF
 /// `remove PLACE [--heir PLACE]`
 fn remove<'a>(alloc: Global, words: &Words<'a>) -> Result<PlacedReport, WordsFault<'a>>
     requires { words.now.word.now ≡ word_name ReportWord.Remove }
-    ensures { IfOk result (Spells words.now) }
+    ensures ok { IfOk result (Spells words.now) }
+    ensures err { IfErr result (IsFault words.now ReportWord.Remove) }
 {
     words.without_sum(ReportWord::Remove)?;
     let place = words.place(alloc, ReportWord::Remove)?;
-    match words.heir {
-        Some(name) => {
-            let heir = place_of(alloc, name)?;
-            Ok(PlacedReport::Two(place, heir, TwoCopyReport::RemoveFor))
-        }
+    match words.heir(alloc, ReportWord::Remove)? {
+        Some(heir) => Ok(PlacedReport::Two(place, heir, TwoCopyReport::RemoveFor)),
         None => Ok(PlacedReport::One(place, OneCopyReport::Remove)),
     }
 }
@@ -94,7 +98,8 @@ fn remove<'a>(alloc: Global, words: &Words<'a>) -> Result<PlacedReport, WordsFau
 /// `note PLACE --sum SUM`
 fn note<'a>(alloc: Global, words: &Words<'a>) -> Result<PlacedReport, WordsFault<'a>>
     requires { words.now.word.now ≡ word_name ReportWord.Note }
-    ensures { IfOk result (Spells words.now) }
+    ensures ok { IfOk result (Spells words.now) }
+    ensures err { IfErr result (IsFault words.now ReportWord.Note) }
 {
     words.without_heir(ReportWord::Note)?;
     let place = words.place(alloc, ReportWord::Note)?;
@@ -105,7 +110,8 @@ fn note<'a>(alloc: Global, words: &Words<'a>) -> Result<PlacedReport, WordsFault
 /// `confirm ENTRY`
 fn confirm<'a>(alloc: Global, words: &Words<'a>) -> Result<PlacedReport, WordsFault<'a>>
     requires { words.now.word.now ≡ word_name ReportWord.Confirm }
-    ensures { IfOk result (Spells words.now) }
+    ensures ok { IfOk result (Spells words.now) }
+    ensures err { IfErr result (IsFault words.now ReportWord.Confirm) }
 {
     words.without_heir(ReportWord::Confirm)?;
     words.without_sum(ReportWord::Confirm)?;
@@ -116,7 +122,8 @@ fn confirm<'a>(alloc: Global, words: &Words<'a>) -> Result<PlacedReport, WordsFa
 /// `withdraw ENTRY`
 fn withdraw<'a>(alloc: Global, words: &Words<'a>) -> Result<PlacedReport, WordsFault<'a>>
     requires { words.now.word.now ≡ word_name ReportWord.Withdraw }
-    ensures { IfOk result (Spells words.now) }
+    ensures ok { IfOk result (Spells words.now) }
+    ensures err { IfErr result (IsFault words.now ReportWord.Withdraw) }
 {
     words.without_heir(ReportWord::Withdraw)?;
     words.without_sum(ReportWord::Withdraw)?;
@@ -127,7 +134,8 @@ fn withdraw<'a>(alloc: Global, words: &Words<'a>) -> Result<PlacedReport, WordsF
 /// `found PLACE --sum SUM`
 fn found<'a>(alloc: Global, words: &Words<'a>) -> Result<PlacedReport, WordsFault<'a>>
     requires { words.now.word.now ≡ word_name ReportWord.Found }
-    ensures { IfOk result (Spells words.now) }
+    ensures ok { IfOk result (Spells words.now) }
+    ensures err { IfErr result (IsFault words.now ReportWord.Found) }
 {
     words.without_heir(ReportWord::Found)?;
     let place = words.place(alloc, ReportWord::Found)?;
@@ -138,7 +146,8 @@ fn found<'a>(alloc: Global, words: &Words<'a>) -> Result<PlacedReport, WordsFaul
 /// `missing PLACE`
 fn missing<'a>(alloc: Global, words: &Words<'a>) -> Result<PlacedReport, WordsFault<'a>>
     requires { words.now.word.now ≡ word_name ReportWord.Missing }
-    ensures { IfOk result (Spells words.now) }
+    ensures ok { IfOk result (Spells words.now) }
+    ensures err { IfErr result (IsFault words.now ReportWord.Missing) }
 {
     words.without_heir(ReportWord::Missing)?;
     words.without_sum(ReportWord::Missing)?;
@@ -150,9 +159,10 @@ fn missing<'a>(alloc: Global, words: &Words<'a>) -> Result<PlacedReport, WordsFa
 ///
 /// # Errors
 ///
-/// Why they report nothing, as the variants of `WordsFault` say; where several hold, one of them.
+/// Why they report nothing, as the variants of `WordsFault` say; where several reasons hold, one of them.
 pub fn read_report<'a>(alloc: Global, words: &Words<'a>) -> Result<PlacedReport, WordsFault<'a>>
-    ensures { IfOk result (Spells words.now) }
+    ensures ok { IfOk result (Spells words.now) }
+    ensures err { IfErr result (AreRefused words.now) }
 {
     let Some(word) = ReportWord::of(words.word) else {
         return Err(WordsFault::Word(words.word));

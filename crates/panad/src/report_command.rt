@@ -60,14 +60,12 @@ fn with_details<'a>(alloc: Global, command: Command<'a>) -> Result<Command<'a>, 
     let by = Arg::new(alloc, BY).long(BY).value_name("DEVICE").help(
         "The device that reports; by default that of the first place",
     );
-    let sum = Arg::new(alloc, SUM)
-        .long(SUM)
-        .value_name("SUM")
-        .help("The SHA-256 of the bytes that the copies hold from then on");
-    let heir = Arg::new(alloc, HEIR)
-        .long(HEIR)
-        .value_name("PLACE")
-        .help("Of a copy that is removed the heir, another copy of its file");
+    let sum = Arg::new(alloc, SUM).long(SUM).value_name("SUM").help(
+        "The SHA-256 of the bytes that the copies hold from then on",
+    );
+    let heir = Arg::new(alloc, HEIR).long(HEIR).value_name("PLACE").help(
+        "Of a copy that is removed the heir, another copy of its file",
+    );
     command.arg(by)?.arg(sum)?.arg(heir)
 }
 
@@ -96,10 +94,8 @@ pub fn report_command<'a>(alloc: Global) -> Result<Command<'a>, AllocError> {
 fn wanted_by(word: ReportWord) -> &'static str {
     match word {
         ReportWord::Confirm | ReportWord::Withdraw => "one entry",
-        ReportWord::Duplicate
-        | ReportWord::Reconcile
-        | ReportWord::Merge
-        | ReportWord::Relocate => "two places",
+        ReportWord::Duplicate | ReportWord::Reconcile | ReportWord::Merge | ReportWord::Relocate =>
+            "two places",
         _ => "one place",
     }
 }
@@ -163,16 +159,30 @@ fn make_at(
     }
 }
 
+/// What these words report.
+fn said<'a>(
+    alloc: Global,
+    word: &'a str,
+    names: &'a [&'a str],
+    sum: Option<&'a str>,
+    heir: Option<&'a str>,
+) -> Result<PlacedReport, WordsFault<'a>> {
+    let words = Words {
+        word,
+        names,
+        sum,
+        heir,
+    };
+    read_report(alloc, &words)
+}
+
 /// Reports what the words say, or refuses them.
 fn obey(rt: &HostRuntime, words: &ArgMatches) -> Result<ExitCode, ProgramFault> {
-    let said = Words {
-        // The word is required, so it is there.
-        word: words.get_str(WORD).unwrap_or(""),
-        names: words.get_strs(NAME).unwrap_or(&[]),
-        sum: words.get_str(SUM),
-        heir: words.get_str(HEIR),
-    };
-    let what = match read_report(rt.alloc(), &said) {
+    // Both are required, so they are there.
+    let word = words.get_str(WORD).unwrap_or("");
+    let names = words.get_strs(NAME).unwrap_or(&[]);
+    let (sum, heir) = (words.get_str(SUM), words.get_str(HEIR));
+    let what = match said(rt.alloc(), word, names, sum, heir) {
         Ok(what) => what,
         Err(fault) => return refuse_words(rt, fault),
     };
