@@ -1,12 +1,13 @@
 use crate::descriptors::take_standard_descriptors;
 use crate::fault::ProgramFault;
-use crate::keeping::{run_kept, show_kept};
+use crate::keeping::run_kept;
 use crate::options::{JOURNAL, journal_option};
 use crate::overwrite_command::{self, MAY_OVERWRITE, overwrite_command};
 use crate::printing::{complain, output, print_out, print_text};
 use crate::progress::Progress;
 use crate::report_command::{self, REPORT, report_command};
 use crate::serve_command::{self, SERVE, serve_command};
+use crate::show_command::{FILE, Wanted, show_tables, source_of, wanted_by, with_tables};
 use crate::status_command::{self, STATUS, status_command};
 use crate::track_command::{self, TRACK, track_command};
 use crate::version::VERSION;
@@ -112,9 +113,6 @@ const SCAN: &str = "scan";
 
 const COMPARE: &str = "compare";
 
-/// The name of the file on the command line.
-const FILE: &str = "FILE";
-
 /// The names of the device and the folder on the command line.
 const DEVICE: &str = "DEVICE";
 
@@ -139,14 +137,11 @@ fn show_command<'a>(alloc: Global) -> Result<Command<'a>, AllocError> {
     let file = Arg::new(alloc, FILE).help(
         "The file with the lines; standard input where there is none",
     );
-    let journal = journal_option(alloc)
-        .help("Print the tables of this journal's file, and take no lines")
-        .conflicts_with(FILE)?;
-    Command::new(alloc, SHOW)
+    let command = Command::new(alloc, SHOW)
         .about("Takes lines as `run` does, and prints a table of each family's copies")
         .after_help(SHOW_EXAMPLE)
-        .arg(file)?
-        .arg(journal)
+        .arg(file)?;
+    with_tables(alloc, command)
 }
 
 fn load_command<'a>(alloc: Global) -> Result<Command<'a>, AllocError> {
@@ -271,8 +266,13 @@ fn cannot_read(rt: &HostRuntime, name: &str) -> Result<ExitCode, ProgramFault> {
 }
 
 fn show(rt: &HostRuntime, words: &ArgMatches) -> Result<ExitCode, ProgramFault> {
-    if let Some(name) = words.get_str(JOURNAL) {
-        return show_kept(rt, name);
+    let wanted = wanted_by(words);
+    if let Some(keeper) = source_of(words) {
+        return show_tables(rt, keeper, wanted);
+    }
+    if !matches!(wanted, Wanted::All) {
+        let reason = "--family and --split need --journal or --port";
+        return refuse(rt, ErrorKind::ArgumentConflict, reason);
     }
     let bytes = match words.get_str(FILE) {
         Some(name) => match bytes_of(rt, name)? {

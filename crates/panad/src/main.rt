@@ -16,6 +16,7 @@ mod printing;
 mod progress;
 mod report_command;
 mod serve_command;
+mod show_command;
 mod status_command;
 mod sums_file;
 mod track;
