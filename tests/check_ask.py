@@ -1,5 +1,5 @@
 #!/usr/bin/env python3
-"""Runs `may-overwrite` and `report` by a journal and by a daemon, and against servers that are none.
+"""Runs `may-overwrite`, `report` and `show` by a journal and by a daemon, and against servers that are none.
 
 usage: check_ask.py PROGRAM
 The last line is 'N passed, M failed'.
@@ -177,7 +177,34 @@ def no_answer(program, room):
         yield from differs(run(program, *words, "--journal", missing), (3, "", f"panad: journal {missing}: not a journal\n"))
 
 
-CHECKS = (history, verdicts, refused_words, no_answer)
+def tables(program, room):
+    """`show` prints the same tables of a daemon and of a journal: of all families, of one, and of those in conflict."""
+    journal = room / "files.journal"
+    head = "COPY  PLACE            STATE     NEWER  OLDER  EQUAL  CONFLICT\n"
+    first = "family 1: copies 2, newest 2, split yes\n" + head + f"   1  {LAPTOP}  conflict      0      0      0         1\n   2  {USB}     conflict      0      0      0         1\n"
+    second = "family 5: copies 1, newest 1, split no\nCOPY  PLACE      STATE     NEWER  OLDER  EQUAL  CONFLICT\n   5  desk:soup  newest        0      0      0         0\n"
+    reports = (("register", LAPTOP), ("duplicate", LAPTOP, USB), ("edit", LAPTOP), ("edit", USB), ("register", "desk:soup"))
+    with Daemon(program) as daemon:
+        for keeper in (("--port", daemon.port), ("--journal", journal)):
+            for words in reports:
+                run(program, "report", *words, *keeper)
+            rows = (((), first + "\n" + second), (("--split",), first), (("--family", "5"), second), (("--family", "1"), first))
+            for words, wanted in rows:
+                yield from differs((words, run(program, "show", *keeper, *words)), (words, (0, wanted, "")))
+            yield from differs(run(program, "show", *keeper, "--family", "2"), (1, "", "panad: UnknownFamily\n"))
+            for words in (("--split", "--family", "1"), ("--family", "x"), ("FILE",)):
+                status, out, err = run(program, "show", *keeper, *words)
+                yield from differs((words, status, out, err != ""), (words, 2, "", True))
+    yield from differs(run(program, "show", "--port", daemon.port), (1, "", f"panad: cannot connect to port {daemon.port}\n"))
+    for words in (("--split",), ("--family", "1")):
+        status, out, err = run(program, "show", *words)
+        yield from differs((status, out, err.split("\n")[0]), (2, "", "error: --family and --split need --journal or --port"))
+    for answers in ((b"",), (b'{"families":[{"copies":1,"family":1,"newest":1,"split":false}]}\n', b"")):
+        with Server(*answers) as server:
+            yield from differs(run(program, "show", "--port", server.port), (1, "", SILENT))
+
+
+CHECKS = (history, verdicts, refused_words, no_answer, tables)
 
 
 if __name__ == "__main__":

@@ -2,7 +2,8 @@
 
 _panad_options() {
   case $1 in
-    run | show) printf '%s\n' --journal --help ;;
+    run) printf '%s\n' --journal --help ;;
+    show) printf '%s\n' --journal --port --family --split --help ;;
     status) printf '%s\n' --journal --port --quiet --json --help ;;
     may-overwrite) printf '%s\n' --journal --port --by --help ;;
     report) printf '%s\n' --journal --port --by --sum --heir --help ;;
@@ -34,7 +35,7 @@ _panad() {
       mapfile -t COMPREPLY < <(compgen -d -- "$word")
       return
       ;;
-    --port | --sessions | --every | --ignore | --hurry | --idle | --by | --sum | --heir) return ;;
+    --port | --sessions | --every | --ignore | --hurry | --idle | --by | --sum | --heir | --family) return ;;
   esac
   if [[ $word == -* ]]; then
     mapfile -t COMPREPLY < <(compgen -W "$(_panad_options "$command")" -- "$word")
