@@ -21,14 +21,14 @@ from harness import differs, run_checks
 
 TOP = Path(__file__).resolve().parent.parent
 SHARE = TOP / "share"
-COMMANDS = ("run", "show", "load", "scan", "compare", "track", "status", "serve")
+COMMANDS = ("run", "show", "load", "scan", "compare", "track", "status", "may-overwrite", "report", "serve")
 OPTION = re.compile(r"^ +(?:-\w, )?(--[a-z-]+)", re.MULTILINE)
 ZSH_OPTION = re.compile(r"--[a-z-]+(?=\[)")
 
 
 def options_of(command):
     """The options in the help of a command."""
-    return set(OPTION.findall((scenario.folder_of(f"help_of_{command}") / "output").read_text()))
+    return set(OPTION.findall((scenario.folder_of(f"help_of_{command.replace('-', '_')}") / "output").read_text()))
 
 
 def ran(*words, **how):
@@ -62,6 +62,9 @@ def bash(program, room):
         ("panad show f", {"file", "folder"}),
         ("panad scan usb ", {"folder"}),
         ("panad scan u", set()),
+        ("panad may", {"may-overwrite"}),
+        ("panad report re", {"register", "reconcile", "relocate", "remove"}),
+        ("panad report edit usb", set()),
     )
     for line, wanted in rows:
         yield from differs((line, completed(room, line)), (line, wanted))
@@ -71,7 +74,7 @@ def fish(program, room):
     """fish has the options of each command, and takes its file where it is here."""
     file = SHARE / "completions/panad.fish"
     found = {it: {"--help"} for it in COMMANDS}
-    for commands, option in re.findall(r"-n '__panad_after ([a-z ]+)' -l ([a-z-]+)", file.read_text()):
+    for commands, option in re.findall(r"-n '__panad_after ([a-z -]+)' -l ([a-z-]+)", file.read_text()):
         for it in commands.split():
             found[it].add(f"--{option}")
     yield from differs(found, {it: options_of(it) for it in COMMANDS})

@@ -2,8 +2,11 @@
 
 _panad_options() {
   case $1 in
-    run | show) printf '%s\n' --journal --help ;;
+    run) printf '%s\n' --journal --help ;;
+    show) printf '%s\n' --journal --port --family --split --help ;;
     status) printf '%s\n' --journal --port --quiet --json --help ;;
+    may-overwrite) printf '%s\n' --journal --port --by --help ;;
+    report) printf '%s\n' --journal --port --by --sum --heir --help ;;
     load | scan | compare) printf '%s\n' --help ;;
     track) printf '%s\n' --journal --port --sums --empty --ignore --read-all --one-file-system --quiet --json --help ;;
     serve)
@@ -12,13 +15,15 @@ _panad_options() {
   esac
 }
 
+_panad_reports='register duplicate edit reconcile merge relocate remove note confirm withdraw found missing'
+
 _panad() {
   local word=${COMP_WORDS[COMP_CWORD]} before=${COMP_WORDS[COMP_CWORD - 1]} command=${COMP_WORDS[1]}
   COMPREPLY=()
   # Of DEVICE=DIR bash makes three words.
   [ "$word" != = ] || before== word=
   if [ "$COMP_CWORD" -eq 1 ]; then
-    mapfile -t COMPREPLY < <(compgen -W 'run show load scan compare track status serve --help --version' -- "$word")
+    mapfile -t COMPREPLY < <(compgen -W 'run show load scan compare track status may-overwrite report serve --help --version' -- "$word")
     return
   fi
   case $before in
@@ -30,12 +35,14 @@ _panad() {
       mapfile -t COMPREPLY < <(compgen -d -- "$word")
       return
       ;;
-    --port | --sessions | --every | --ignore | --hurry | --idle) return ;;
+    --port | --sessions | --every | --ignore | --hurry | --idle | --by | --sum | --heir | --family) return ;;
   esac
   if [[ $word == -* ]]; then
     mapfile -t COMPREPLY < <(compgen -W "$(_panad_options "$command")" -- "$word")
   elif [ "$command" = show ] || [ "$command" = load ]; then
     mapfile -t COMPREPLY < <(compgen -f -- "$word")
+  elif [ "$command" = report ] && [ "$COMP_CWORD" -eq 2 ]; then
+    mapfile -t COMPREPLY < <(compgen -W "$_panad_reports" -- "$word")
   elif [ "$command" = scan ] && [ "$COMP_CWORD" -eq 3 ]; then
     mapfile -t COMPREPLY < <(compgen -d -- "$word")
   fi

@@ -18,7 +18,7 @@ use Rattle.pana_commands.specs.Track.{HasNoAnswer, IsCut, TracksAll}
 
 module _ {S : Type 0} (step : S → List ℕ → Call → Answer → S → Type 0) (fails : S → List ℕ → Call → S → Type 0) where
   -- calls, and then such a call behind them
-  cut_on : (old mid new : S) (made : List Asked) → Makes step old made mid → IsCut step fails mid new → IsCut step fails old new
+  pub cut_on : (old mid new : S) (made : List Asked) → Makes step old made mid → IsCut step fails mid new → IsCut step fails old new
   cut_on old mid new made makes cut = record {
     made = made ++ cut.made;
     mid = cut.mid;

@@ -7,7 +7,7 @@ each_behind : {X : Type 0} (f : X → List ℕ) (between : List ℕ) (xs : List 
 each_behind f between [] = refl
 each_behind f between (x ∷ xs) = ap (λ rest. (between ++ f x) ++ rest) (each_behind f between xs)
 
-join_texts : {X : Type 0} (f : X → List ℕ) (between : List ℕ) (xs : List X) → join_by f between xs ≡ join_by (λ text. text) between (map f xs)
+pub join_texts : {X : Type 0} (f : X → List ℕ) (between : List ℕ) (xs : List X) → join_by f between xs ≡ join_by (λ text. text) between (map f xs)
 join_texts f between [] = refl
 join_texts f between (x ∷ xs) = ap (λ rest. f x ++ rest) (each_behind f between xs)
 

@@ -4,3 +4,4 @@ pub mod Asked
 pub mod Joined
 pub mod Reported
 pub mod Cut
+pub mod Boarded

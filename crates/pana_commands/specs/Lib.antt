@@ -7,3 +7,4 @@ pub mod Show
 pub mod Scan
 pub mod Track
 pub mod Status
+pub mod Boards

@@ -2,6 +2,7 @@
 //! from the words and files that they are given by.
 #![tactic(auto)]
 
+mod boards;
 mod comparing;
 mod loading;
 mod printout;
@@ -13,6 +14,7 @@ mod tables;
 mod tracking;
 mod untracked;
 
+pub use crate::boards::{table_on, tables_on};
 pub use crate::comparing::compare_on;
 pub use crate::loading::load_on;
 pub use crate::printout::Printout;

@@ -3,3 +3,4 @@ pub mod Passes
 pub mod Sessions
 pub mod OneRun
 pub mod KeptRun
+pub mod Overwritten

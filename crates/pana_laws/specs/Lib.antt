@@ -1,3 +1,4 @@
 pub mod SessionRun
 pub mod OneRun
 pub mod KeptRun
+pub mod Overwrite

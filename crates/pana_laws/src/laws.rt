@@ -1,14 +1,20 @@
 //! The laws.
 
-ghost use Rattle.std.specs.Prelude.{◌≡◌, ℕ, Bool, IsTrue, List, []};
+ghost use Rattle.std.specs.Prelude.{◌≡◌, ◌↔◌, ℕ, Bool, IsTrue, List, []};
+ghost use Rattle.pana_copies.specs.declared.place.Place.{Place};
 ghost use Rattle.pana_journal.specs.declared.entry.Entry.{Entry};
+ghost use Rattle.pana_hall.specs.Accepted.{IsAccepted};
+ghost use Rattle.pana_hall.specs.Living.{living};
 ghost use Rattle.pana_hall.specs.Step.{Replies};
+ghost use Rattle.pana_ask.specs.Verdict.{Judges};
+ghost use Rattle.pana_ask.specs.declared.verdict.Verdict.{Verdict};
 ghost use Rattle.pana_wire.specs.Session.{SessionText};
 ghost use Rattle.pana_store.specs.Store.{StoreView, IsKept, Keeps, Breaks};
 ghost use Rattle.pana_daemon.specs.declared.post.Post.{Post};
 ghost use Rattle.pana_daemon.specs.Serve.{Ends};
 ghost use Rattle.pana_laws.specs.KeptRun.{IsKeptRun};
 ghost use Rattle.pana_laws.specs.OneRun.{IsOneRun, never};
+ghost use Rattle.pana_laws.specs.Overwrite.{LosesNothing};
 ghost use Rattle.pana_laws.specs.SessionRun.{IsServedByRun};
 
 use pana_daemon::{Door, Folder};
@@ -38,4 +44,14 @@ pub fn daemon_keeps_what_is_done<V: Device, D: Door, F: Folder>()
         → Ends (Keeps V.is_known V.seen V.may_leave V.is_usable V.moment V.left_since V.has_failed) (Breaks V.is_known V.moment V.left_since V.has_failed)
         D.gives D.Reader.remaining D.Writer.contents F.gives begun posts left posts_left calls unanswered
         → IsKeptRun V.moment V.left_since (Keeps V.is_known V.seen V.may_leave V.is_usable V.moment V.left_since V.has_failed) (Breaks V.is_known V.moment V.left_since V.has_failed) begun left calls }
+{}
+
+/// Where a hall is asked whether the copy at a place may be overwritten with the one at another (`may_overwrite` of `pana_ask`), the
+/// verdict is `Yes` exactly where both are copies of one file, and the one that is lost knows no change that the other doesn't know.
+/// The hall stays as it is.
+pub fn may_overwrite_loses_nothing()
+    ensures verdict { (journal new : List Entry) (by : List ℕ) (target source : Place) (verdict : Verdict) → IsAccepted 8 journal
+        → Judges Replies by target source journal new verdict → (verdict ≡ Verdict.Yes) ↔ LosesNothing (living journal) target source }
+    ensures hall { (journal new : List Entry) (by : List ℕ) (target source : Place) (verdict : Verdict)
+        → Judges Replies by target source journal new verdict → new ≡ journal }
 {}

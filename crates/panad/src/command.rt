@@ -1,10 +1,13 @@
 use crate::descriptors::take_standard_descriptors;
 use crate::fault::ProgramFault;
-use crate::keeping::{run_kept, show_kept};
+use crate::keeping::run_kept;
 use crate::options::{JOURNAL, journal_option};
+use crate::overwrite_command::{self, MAY_OVERWRITE, overwrite_command};
 use crate::printing::{complain, output, print_out, print_text};
 use crate::progress::Progress;
+use crate::report_command::{self, REPORT, report_command};
 use crate::serve_command::{self, SERVE, serve_command};
+use crate::show_command::{FILE, Wanted, show_tables, source_of, wanted_by, with_tables};
 use crate::status_command::{self, STATUS, status_command};
 use crate::track_command::{self, TRACK, track_command};
 use crate::version::VERSION;
@@ -42,7 +45,8 @@ pair, holdings, at, status, journal.
 `panad show` takes such lines and prints tables in place of the answers, and
 `panad serve` answers them over TCP, to several devices at a time.
 `panad track` needs no lines: it looks at folders, and `panad status` shows what is
-obsolete or in conflict.
+obsolete or in conflict. `panad may-overwrite` says whether a copy may be replaced,
+and `panad report` makes one report of copies that are named by their places.
 `panad COMMAND --help` shows an example. docs/PROTOCOL.md has all answers, and
 docs/PROMISES.md what is proved of them, and what isn't.";
 
@@ -109,9 +113,6 @@ const SCAN: &str = "scan";
 
 const COMPARE: &str = "compare";
 
-/// The name of the file on the command line.
-const FILE: &str = "FILE";
-
 /// The names of the device and the folder on the command line.
 const DEVICE: &str = "DEVICE";
 
@@ -136,14 +137,11 @@ fn show_command<'a>(alloc: Global) -> Result<Command<'a>, AllocError> {
     let file = Arg::new(alloc, FILE).help(
         "The file with the lines; standard input where there is none",
     );
-    let journal = journal_option(alloc)
-        .help("Print the tables of this journal's file, and take no lines")
-        .conflicts_with(FILE)?;
-    Command::new(alloc, SHOW)
+    let command = Command::new(alloc, SHOW)
         .about("Takes lines as `run` does, and prints a table of each family's copies")
         .after_help(SHOW_EXAMPLE)
-        .arg(file)?
-        .arg(journal)
+        .arg(file)?;
+    with_tables(alloc, command)
 }
 
 fn load_command<'a>(alloc: Global) -> Result<Command<'a>, AllocError> {
@@ -199,6 +197,8 @@ fn command_line<'a>(alloc: Global) -> Result<Command<'a>, AllocError> {
         .subcommand(compare_command(alloc)?)?
         .subcommand(track_command(alloc)?)?
         .subcommand(status_command(alloc)?)?
+        .subcommand(overwrite_command(alloc)?)?
+        .subcommand(report_command(alloc)?)?
         .subcommand(serve_command(alloc)?)
 }
 
@@ -266,8 +266,13 @@ fn cannot_read(rt: &HostRuntime, name: &str) -> Result<ExitCode, ProgramFault> {
 }
 
 fn show(rt: &HostRuntime, words: &ArgMatches) -> Result<ExitCode, ProgramFault> {
-    if let Some(name) = words.get_str(JOURNAL) {
-        return show_kept(rt, name);
+    let wanted = wanted_by(words);
+    if let Some(keeper) = source_of(words) {
+        return show_tables(rt, keeper, wanted);
+    }
+    if !matches!(wanted, Wanted::All) {
+        let reason = "--family and --split need --journal or --port";
+        return refuse(rt, ErrorKind::ArgumentConflict, reason);
     }
     let bytes = match words.get_str(FILE) {
         Some(name) => match bytes_of(rt, name)? {
@@ -345,6 +350,8 @@ fn obey_words<T: Threads + Wait + Clock + Sync>(
         Some((COMPARE, words)) => compare(rt, words),
         Some((TRACK, words)) => Ok(track_command::run(rt, threads, words)),
         Some((STATUS, words)) => Ok(status_command::run(rt, words)),
+        Some((MAY_OVERWRITE, words)) => Ok(overwrite_command::run(rt, words)),
+        Some((REPORT, words)) => Ok(report_command::run(rt, words)),
         Some((SERVE, words)) => serve_command::run(rt, threads, words),
         _ => refuse(rt, ErrorKind::MissingSubcommand, "a command is required"),
     }

@@ -4,7 +4,7 @@ use crate::command::READS;
 use crate::fault::ProgramFault;
 use crate::journal_file::{FileFault, open_locked, open_to_read};
 use crate::printing::{complain, output, print_out};
-use pana_commands::{Printout, tables_of};
+use pana_commands::Printout;
 use pana_hall::Hall;
 use pana_log::{FileDevice, Log};
 use pana_store::{Group, OpenFault, Opened, Store, serve_kept};
@@ -134,16 +134,5 @@ pub fn open_hall(rt: &HostRuntime, name: &str) -> Result<Hall, NoStore> {
     match pana_store::read(rt.alloc(), &mut log) {
         Ok(Opened { hall, .. }) => Ok(hall),
         Err(fault) => Err(no_journal(rt, name, fault)?),
-    }
-}
-
-/// Prints the tables of a journal's file, which isn't changed.
-pub fn show_kept(rt: &HostRuntime, name: &str) -> Result<ExitCode, ProgramFault> {
-    match open_hall(rt, name) {
-        Ok(mut hall) => {
-            let tables = tables_of(rt.alloc(), &mut hall)?;
-            print_out(rt, &Printout::printed(rt.alloc(), tables))
-        }
-        Err(refusal) => report(rt, refusal),
     }
 }

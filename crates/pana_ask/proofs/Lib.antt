@@ -1,0 +1,4 @@
+pub mod Spelled
+pub mod Called
+pub mod Judged
+pub mod Numbered

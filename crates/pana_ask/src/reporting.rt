@@ -1,0 +1,57 @@
+//! Reports of copies that are named by their places, made at a session.
+ghost use Rattle.std.specs.Prelude.{IfOk, IfErr};
+ghost use Rattle.pana_ask.specs.Looking.{LooksInVain};
+ghost use Rattle.pana_ask.specs.Report.{IsCallFor, Reports, ReportsNothing, named};
+
+use crate::ask_fault::AskFault;
+use crate::looking::{copies_at, copy_at};
+use crate::placed_report::PlacedReport;
+use crate::report_end::ReportEnd;
+use pana_calls::{Call, Session};
+use pana_copies::DeviceName;
+
+/// The call that makes a report: a session is asked for the numbers of its copies.
+fn call_for<S: Session>(
+    session: &mut S,
+    by: &DeviceName,
+    report: PlacedReport,
+) -> Result<Call, AskFault>
+    ensures ok { IfOk result (IsCallFor S.step by.now report session.old session.new) }
+    ensures err { IfErr result (LooksInVain S.step S.fails by.now (named report) session.old session.new) }
+{
+    match report {
+        PlacedReport::Direct(call) => Ok(call),
+        PlacedReport::One(place, what) => {
+            let copy = copy_at(session, by, &place)?;
+            Ok(Call::Report(what.report(copy)))
+        }
+        PlacedReport::Two(first, second, what) => {
+            let (a, b) = copies_at(session, by, &first, &second)?;
+            Ok(Call::Report(what.report(a, b)))
+        }
+    }
+}
+
+/// Reports something as the device `by`: asks a session for the numbers of the copies that it is about, makes the call, and has
+/// what it has made kept.
+///
+/// # Errors
+///
+/// `NoCopy` with the first place where no copy is, and then nothing is reported; `OutOfMemory`, and then neither; `NoAnswer` where
+/// a call has none, or what it has made can't be kept.
+pub fn report_on<S: Session>(
+    session: &mut S,
+    by: &DeviceName,
+    report: PlacedReport,
+) -> Result<ReportEnd, AskFault>
+    ensures ok { IfOk result (Reports S.step S.settles by.now report session.old session.new) }
+    ensures err { IfErr result (ReportsNothing S.step S.settles S.fails S.breaks_off by.now report session.old session.new) }
+{
+    let call = call_for(session, by, report)?;
+    let answer = session.call(by, call)?;
+    session.settle()?;
+    match ReportEnd::of(&answer) {
+        Some(end) => Ok(end),
+        None => Err(AskFault::NoAnswer),
+    }
+}

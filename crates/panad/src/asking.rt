@@ -1,0 +1,48 @@
+//! What commands that ask or report by place have in common.
+
+use crate::fault::ProgramFault;
+use crate::options::Keeper;
+use crate::printing::print_out;
+use crate::track::{ASKER, report};
+use pana_ask::{AskFault, unknown_line};
+use pana_commands::Printout;
+use pana_copies::DeviceName;
+use std::process::ExitCode;
+
+/// The device in whose name questions are asked.
+pub fn asker() -> Result<DeviceName, ProgramFault> {
+    match DeviceName::new(ASKER) {
+        Ok(device) => Ok(device),
+        Err(_) => Err(ProgramFault::OutOfMemory),
+    }
+}
+
+/// Prints one line, and returns this status.
+pub fn print_line(rt: &HostRuntime, line: String, status: u8) -> Result<ExitCode, ProgramFault> {
+    let printout = Printout {
+        out: line,
+        err: String::new(rt.alloc()),
+        status,
+    };
+    print_out(rt, &printout)
+}
+
+/// Prints why nothing comes of what was asked or reported, and returns the status: 1 where no copy is at a place, and 3 where
+/// there is no answer.
+pub fn print_fault(
+    rt: &HostRuntime,
+    keeper: Keeper<'_>,
+    fault: AskFault,
+) -> Result<ExitCode, ProgramFault> {
+    match fault {
+        AskFault::NoCopy(place) => print_line(rt, unknown_line(rt.alloc(), &place)?, 1),
+        AskFault::NoAnswer => report(rt, keeper.no_answer()),
+        AskFault::OutOfMemory => Err(ProgramFault::OutOfMemory),
+    }
+}
+
+/// Prints that nothing listens on the port, and returns the status.
+pub fn report_no_daemon(rt: &HostRuntime, port: u16) -> Result<ExitCode, ProgramFault> {
+    let text = format!(in rt.alloc(); "cannot connect to port {port}")?;
+    report(rt, text.as_str())
+}

@@ -1,0 +1,211 @@
+#!/usr/bin/env python3
+"""Runs `may-overwrite`, `report` and `show` by a journal and by a daemon, and against servers that are none.
+
+usage: check_ask.py PROGRAM
+The last line is 'N passed, M failed'.
+"""
+from __future__ import annotations
+
+import json
+import subprocess
+import sys
+
+from check_track_port import SILENT, Server
+from daemon import SECONDS, Daemon, pages
+from harness import differs, run_checks
+
+SUM = "4355a46b19d348dc2f57c046f8ef63d4538ebb936000f3c9ee954a27460dd865"
+UNKNOWN = "unknown: no copy is at {}\n"
+LAPTOP, USB, DESK = "laptop:plan.txt", "usb:plan.txt", "desk:a b/\u00e9:\u202e.txt"
+
+# Words of `report`, what it prints, and its status: a history of two files.
+HISTORY = (
+    (("register", LAPTOP), "entry 1\n", 0),
+    (("register", LAPTOP), "refused: PlaceTaken 1\n", 1),
+    (("duplicate", LAPTOP, USB, "--sum", SUM), "entry 2\n", 0),
+    (("duplicate", "desk:none", USB), UNKNOWN.format("desk:none"), 1),
+    (("edit", USB), "entry 3\n", 0),
+    (("edit", LAPTOP, "--sum", SUM, "--by", "desk"), "entry 4\n", 0),
+    (("merge", LAPTOP, USB), "entry 5\n", 0),
+    (("merge", LAPTOP, LAPTOP), "refused: SameCopy\n", 1),
+    (("merge", "desk:none", "desk:other"), UNKNOWN.format("desk:none"), 1),
+    (("merge", USB, "desk:other"), UNKNOWN.format("desk:other"), 1),
+    (("withdraw", "5", "--by", "usb"), "refused: NotYours\n", 1),
+    (("withdraw", "5", "--by", "laptop"), "entry 6\n", 0),
+    (("reconcile", USB, LAPTOP, "--sum", SUM), "entry 7\n", 0),
+    (("relocate", USB, DESK), "entry 8\n", 0),
+    (("relocate", USB, DESK), UNKNOWN.format(USB), 1),
+    (("note", DESK, "--sum", SUM), "entry 9\n", 0),
+    (("confirm", "9", "--by", "desk"), "entry 10\n", 0),
+    (("confirm", "99", "--by", "desk"), "refused: UnknownEntry\n", 1),
+    (("remove", DESK, "--heir", LAPTOP), "entry 11\n", 0),
+    (("remove", DESK), UNKNOWN.format(DESK), 1),
+    (("remove", LAPTOP, "--heir", DESK), UNKNOWN.format(DESK), 1),
+    (("remove", LAPTOP), "entry 12\n", 0),
+    (("found", USB, "--sum", SUM), "register, entry 13\n", 0),
+    (("found", USB, "--sum", SUM), "known\n", 0),
+    (("found", USB, "--sum", "0" * 64), "edit, entry 14\n", 0),
+    (("missing", USB), "remove, entry 15\n", 0),
+    (("missing", USB), "known\n", 0),
+)
+
+# The entries that these make, as a journal answers them.
+ENTRIES = (
+    {"by": "laptop", "device": "laptop", "do": "register", "number": 1, "path": "plan.txt"},
+    {"by": "laptop", "copy": 1, "device": "usb", "do": "duplicate", "number": 2, "path": "plan.txt", "sum": SUM},
+    {"by": "usb", "copy": 2, "do": "edit", "number": 3},
+    {"by": "desk", "copy": 1, "do": "edit", "number": 4, "sum": SUM},
+    {"a": 1, "b": 2, "by": "laptop", "do": "merge", "number": 5},
+    {"by": "laptop", "do": "withdraw", "entry": 5, "number": 6},
+    {"a": 2, "b": 1, "by": "usb", "do": "reconcile", "number": 7, "sum": SUM},
+    {"by": "usb", "copy": 2, "device": "desk", "do": "relocate", "number": 8, "path": DESK[5:]},
+    {"by": "desk", "copy": 2, "do": "note", "number": 9, "sum": SUM},
+    {"by": "desk", "do": "confirm", "entry": 9, "number": 10},
+    {"by": "desk", "copy": 2, "do": "remove", "heir": 1, "number": 11},
+    {"by": "laptop", "copy": 1, "do": "remove", "number": 12},
+    {"by": "usb", "device": "usb", "do": "register", "number": 13, "path": "plan.txt", "sum": SUM},
+    {"by": "usb", "copy": 13, "do": "edit", "number": 14, "sum": "0" * 64},
+    {"by": "usb", "copy": 13, "do": "remove", "number": 15},
+)
+
+# Reports, and then how each place compares with each.
+VERDICTS = (
+    ((("register", LAPTOP), ("duplicate", LAPTOP, USB)), "yes\n", "yes\n"),
+    ((("edit", LAPTOP),), f"newer: {LAPTOP} has changes that {USB} lacks\n", "yes\n"),
+    ((("edit", USB),), f"conflict: {LAPTOP} has changes that {USB} lacks\n", f"conflict: {USB} has changes that {LAPTOP} lacks\n"),
+    ((("reconcile", LAPTOP, USB),), "yes\n", "yes\n"),
+    ((("remove", USB),), UNKNOWN.format(USB), UNKNOWN.format(USB)),
+    ((("register", USB),), f"unrelated: {LAPTOP} and {USB} are copies of two files\n", f"unrelated: {USB} and {LAPTOP} are copies of two files\n"),
+    ((("remove", USB), ("remove", LAPTOP)), UNKNOWN.format(LAPTOP), UNKNOWN.format(USB)),
+)
+
+
+def run(program, *words):
+    """The status of a run, what it prints, and what it reports on standard error."""
+    done = subprocess.run([program, *map(str, words)], stdin=subprocess.DEVNULL, capture_output=True, timeout=SECONDS)
+    return done.returncode, done.stdout.decode(), done.stderr.decode()
+
+
+def history(program, room):
+    """Each report is the entry that its words say, by the device of its first place; what is refused or unknown is none. A daemon and a journal have the same."""
+    journal = room / "files.journal"
+    with Daemon(program) as daemon:
+        for words, line, status in HISTORY:
+            for keeper in (("--port", daemon.port), ("--journal", journal)):
+                yield from differs((words, run(program, "report", *words, *keeper)), (words, (status, line, "")))
+        with daemon.client() as client:
+            yield from differs([entry for page in pages(client) for entry in page["entries"]], [*ENTRIES])
+    line = b'{"by":"desk","do":"journal","from":1}\n'
+    kept = subprocess.run([program, "run", "--journal", journal], input=line, capture_output=True, timeout=SECONDS)
+    yield from differs(json.loads(kept.stdout)["entries"], [*ENTRIES])
+
+
+def verdicts(program, room):
+    """Whether a copy may be overwritten follows from what both know, by a daemon and by a journal, and nothing is reported."""
+    journal = room / "files.journal"
+    with Daemon(program) as daemon:
+        keepers = (("--port", daemon.port), ("--journal", journal))
+        for reports, *wanted in VERDICTS:
+            for keeper, words in ((keeper, words) for keeper in keepers for words in reports):
+                yield from differs((words, run(program, "report", *words, *keeper)[0]), (words, 0))
+            before = journal.read_bytes()
+            for keeper in keepers:
+                for (target, source), line in zip(((LAPTOP, USB), (USB, LAPTOP)), wanted):
+                    got = run(program, "may-overwrite", target, "--by", source, *keeper)
+                    yield from differs((target, got), (target, (int(line != "yes\n"), line, "")))
+                yield from differs(journal.read_bytes(), before)
+        for keeper in keepers:
+            run(program, "report", "register", USB, *keeper)
+            yield from differs(run(program, "may-overwrite", USB, "--by", USB, *keeper), (0, "yes\n", ""))
+
+
+def refused_words(program, room):
+    """Words that say no report, and names of no place, are refused, and no journal is made."""
+    journal = room / "files.journal"
+    rows = (
+        (("report", "change", USB), "bad word change"),
+        (("report", "edit", "usb"), "bad place usb"),
+        (("report", "edit", "USB:a"), "bad place USB:a"),
+        (("report", "edit", "usb:"), "bad place usb:"),
+        (("report", "edit", USB, LAPTOP), "edit is about one place"),
+        (("report", "merge", USB), "merge is about two places"),
+        (("report", "withdraw", "1", "2", "--by", "usb"), "withdraw is about one entry"),
+        (("report", "withdraw", "x", "--by", "usb"), "bad entry x"),
+        (("report", "withdraw", "01", "--by", "usb"), "bad entry 01"),
+        (("report", "withdraw", "+1", "--by", "usb"), "bad entry +1"),
+        (("report", "withdraw", "18446744073709551616", "--by", "usb"), "bad entry 18446744073709551616"),
+        (("report", "withdraw", "1"), "--by has to name the device that reports"),
+        (("report", "edit", USB, "--by", "USB"), "--by has to name the device that reports"),
+        (("report", "edit", USB, "--sum", "0"), "bad sum 0"),
+        (("report", "note", USB), "note needs --sum"),
+        (("report", "found", USB), "found needs --sum"),
+        (("report", "missing", USB, "--sum", SUM), "missing takes no --sum"),
+        (("report", "edit", USB, "--heir", LAPTOP), "edit takes no --heir"),
+        (("report", "remove", USB, "--heir", "laptop"), "bad place laptop"),
+        (("may-overwrite", "usb", "--by", LAPTOP), "bad place usb"),
+        (("may-overwrite", USB, "--by", "laptop"), "bad place laptop"),
+    )
+    for words, reason in rows:
+        status, out, err = run(program, *words, "--journal", journal)
+        yield from differs((words, status, out, err.split("\n")[0]), (words, 2, "", f"error: {reason}"))
+    yield from differs(journal.exists(), False)
+
+
+def no_answer(program, room):
+    """What answers otherwise than a daemon does, or not at all, is reported, and what answers another call too."""
+    at = b'{"at":{"conflict":0,"copy":1,"equal":0,"family":1,"newer":0,"older":0,"state":"newest"}}\n'
+    report, ask = ("report", "edit", USB), ("may-overwrite", USB, "--by", LAPTOP)
+    rows = [(words, answers, (3, "", SILENT)) for words in (report, ask) for answers in ((b"",), (b"{}\n",), (at, b""), (at, b'{"fault":"NotJson"}\n'))]
+    rows += [(ask, (at, at, b""), (3, "", SILENT)), (report, (at, b'{"status":[]}\n'), (3, "", SILENT))]
+    rows += [(words, (b'{"status":[]}\n',), (3, "", "panad: out of memory\n")) for words in (report, ask)]
+    rows += [
+        (report, (at, b'{"done":7}\n'), (0, "entry 7\n", "")),
+        (report, (at, b'{"code":14,"refused":"NotKept"}\n'), (1, "refused: NotKept\n", "")),
+        (ask, (at, at, b'{"code":2,"copy":1,"refused":"UnknownCopy"}\n'), (1, UNKNOWN.format(USB), "")),
+        (ask, (at, at.replace(b'"copy":1', b'"copy":2'), b'{"code":2,"copy":2,"refused":"UnknownCopy"}\n'), (1, UNKNOWN.format(LAPTOP), "")),
+    ]
+    for words, answers, wanted in rows:
+        with Server(*answers) as server:
+            yield from differs((words, answers, run(program, *words, "--port", server.port)), (words, answers, wanted))
+        port = server.port
+    for words in (report, ask):
+        yield from differs(run(program, *words, "--port", port), (3, "", f"panad: cannot connect to port {port}\n"))
+    missing = room / "none"
+    yield from differs(run(program, *ask, "--journal", missing), (3, "", f"panad: cannot open journal {missing}\n"))
+    missing.write_text("no journal\n")
+    for words in (report, ask):
+        yield from differs(run(program, *words, "--journal", missing), (3, "", f"panad: journal {missing}: not a journal\n"))
+
+
+def tables(program, room):
+    """`show` prints the same tables of a daemon and of a journal: of all families, of one, and of those in conflict."""
+    journal = room / "files.journal"
+    head = "COPY  PLACE            STATE     NEWER  OLDER  EQUAL  CONFLICT\n"
+    first = "family 1: copies 2, newest 2, split yes\n" + head + f"   1  {LAPTOP}  conflict      0      0      0         1\n   2  {USB}     conflict      0      0      0         1\n"
+    second = "family 5: copies 1, newest 1, split no\nCOPY  PLACE      STATE     NEWER  OLDER  EQUAL  CONFLICT\n   5  desk:soup  newest        0      0      0         0\n"
+    reports = (("register", LAPTOP), ("duplicate", LAPTOP, USB), ("edit", LAPTOP), ("edit", USB), ("register", "desk:soup"))
+    with Daemon(program) as daemon:
+        for keeper in (("--port", daemon.port), ("--journal", journal)):
+            for words in reports:
+                run(program, "report", *words, *keeper)
+            rows = (((), first + "\n" + second), (("--split",), first), (("--family", "5"), second), (("--family", "1"), first))
+            for words, wanted in rows:
+                yield from differs((words, run(program, "show", *keeper, *words)), (words, (0, wanted, "")))
+            yield from differs(run(program, "show", *keeper, "--family", "2"), (1, "", "panad: UnknownFamily\n"))
+            for words in (("--split", "--family", "1"), ("--family", "x"), ("FILE",)):
+                status, out, err = run(program, "show", *keeper, *words)
+                yield from differs((words, status, out, err != ""), (words, 2, "", True))
+    yield from differs(run(program, "show", "--port", daemon.port), (1, "", f"panad: cannot connect to port {daemon.port}\n"))
+    for words in (("--split",), ("--family", "1")):
+        status, out, err = run(program, "show", *words)
+        yield from differs((status, out, err.split("\n")[0]), (2, "", "error: --family and --split need --journal or --port"))
+    for answers in ((b"",), (b'{"families":[{"copies":1,"family":1,"newest":1,"split":false}]}\n', b"")):
+        with Server(*answers) as server:
+            yield from differs(run(program, "show", "--port", server.port), (1, "", SILENT))
+
+
+CHECKS = (history, verdicts, refused_words, no_answer, tables)
+
+
+if __name__ == "__main__":
+    sys.exit(run_checks(__doc__, CHECKS, sys.argv[1:]))
