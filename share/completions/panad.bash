@@ -6,6 +6,7 @@ _panad_options() {
     show) printf '%s\n' --journal --port --family --split --help ;;
     status) printf '%s\n' --journal --port --quiet --json --help ;;
     may-overwrite) printf '%s\n' --journal --port --by --help ;;
+    why) printf '%s\n' --journal --port --help ;;
     report) printf '%s\n' --journal --port --by --sum --heir --help ;;
     load | scan | compare) printf '%s\n' --help ;;
     track) printf '%s\n' --journal --port --sums --empty --ignore --read-all --one-file-system --quiet --json --help ;;
@@ -23,7 +24,7 @@ _panad() {
   # Of DEVICE=DIR bash makes three words.
   [ "$word" != = ] || before== word=
   if [ "$COMP_CWORD" -eq 1 ]; then
-    mapfile -t COMPREPLY < <(compgen -W 'run show load scan compare track status may-overwrite report serve --help --version' -- "$word")
+    mapfile -t COMPREPLY < <(compgen -W 'run show load scan compare track status may-overwrite why report serve --help --version' -- "$word")
     return
   fi
   case $before in

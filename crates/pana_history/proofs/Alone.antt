@@ -1,13 +1,13 @@
 -- What one copy knows alone, from a family's last entry back.
-use Rattle.std.proofs.Common.{◌≡◌, ◌≢◌, ℕ, ◌<◌, ◌==◌, ◌||◌, ◌&&◌, not, Bool, true, false, cond, List, [], ◌∷◌, ◌++◌, filter, reverse, refl, sym, ap, ap₂, subst, ◌∙◌, inl, inr, arith, append-nil, append_assoc}
-use Rattle.std.specs.List.{AllByRecursion, list_any}
+use Rattle.std.proofs.Common.{◌≡◌, ℕ, ◌<◌, ◌==◌, ◌||◌, ◌&&◌, not, Bool, true, false, cond, List, [], ◌∷◌, ◌++◌, filter, reverse, refl, sym, ap, ap₂, subst, ◌∙◌, inl, inr, arith, append-nil, append_assoc}
+use Rattle.std.specs.List.{AllByRecursion}
 use Rattle.std.proofs.lemmas.List.{reverse-reverse}
 use Rattle.std.proofs.lemmas.Bool.{cases_Bool}
 use Rattle.pana_journal.specs.declared.entry.Entry.{Entry}
 use Rattle.pana_hall.specs.Accepted.{IsAccepted}
 use Rattle.pana_hall.specs.Family.{families}
-use Rattle.pana_hall.specs.Living.{Copy, copies_of, copy_in, known_to, living}
-use Rattle.pana_hall.proofs.Words.{nat_tests, eq-eqb, ne_eqb, eqb-true, filter-append, has, option_map, unwrap_or}
+use Rattle.pana_hall.specs.Living.{Copy, copies_of, copy_in, living}
+use Rattle.pana_hall.proofs.Words.{nat_tests, eq-eqb, ne_eqb, filter-append, has, option_map, unwrap_or}
 use Rattle.pana_hall.proofs.Moves.{copies_of-push}
 use Rattle.pana_hall.proofs.Places.{copies_below}
 use Rattle.pana_hall.proofs.Sound.{accepted_is_sound}
@@ -128,16 +128,6 @@ lacking_is journal family a b accepted of_a of_b =
 abbrev pub IsFoundSoFar : List Entry → List ℕ → List ℕ → List Entry → List Entry → List ℕ → List ℕ → Type 0
 IsFoundSoFar whole a b found left here there = only (reverse whole) a b ≡ found ++ only (reverse left) here there
 
-pub found_more : (whole left : List Entry) (a b here there : List ℕ) (found more : List Entry) (e : Entry) → IsFoundSoFar whole a b found (left ++ e ∷ []) here there
-    → more ≡ found ++ alone e (reaches here e.report) (reaches there e.report) → IsFoundSoFar whole a b more left (sources_before e here) (sources_before e there)
-found_more whole left a b here there found more e far is =
-    far ∙ ap (λ l. found ++ only l here there) (reverse-push left e)
-    ∙ sym (append_assoc found (alone e (reaches here e.report) (reaches there e.report)) _) ∙ ap (λ l. l ++ only (reverse left) (sources_before e here) (sources_before e there)) (sym is)
-
 pub found_all : (whole : List Entry) (a b : ℕ) (here there : List ℕ) (found : List Entry) → IsFit whole → IsFoundSoFar whole (a ∷ []) (b ∷ []) found [] here there → reverse found ≡ known_alone whole a b
 found_all whole a b here there found fit far =
     ap reverse (sym (append-nil found) ∙ sym far ∙ known_is whole a b fit) ∙ reverse-reverse (known_alone whole a b)
-
--- the same entries are fit but for the last
-pub fit_before : (left : List Entry) (e : Entry) → IsFit (left ++ e ∷ []) → IsFit left
-fit_before left e fit = (subst AreFit (reverse-push left e) fit).2

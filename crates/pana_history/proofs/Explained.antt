@@ -1,5 +1,5 @@
 -- What is said of two places, by how their copies stand.
-use Rattle.std.proofs.Common.{◌≡◌, ◌≢◌, ℕ, ◌==◌, Bool, true, false, cond, List, [], length, Option, Some, None, find, option_map, refl, sym, ap, ap₂, subst, ◌∙◌}
+use Rattle.std.proofs.Common.{◌≡◌, ◌≢◌, ℕ, ◌==◌, Bool, true, false, cond, List, length, Option, Some, None, option_map, refl, sym, ap, ap₂, ◌∙◌}
 use Rattle.pana_copies.specs.declared.place.Place.{Place}
 use Rattle.pana_copies.specs.Places.{same_place}
 use Rattle.pana_journal.specs.declared.entry.Entry.{Entry}
@@ -8,12 +8,15 @@ use Rattle.pana_hall.specs.Accepted.{IsAccepted}
 use Rattle.pana_hall.specs.Family.{families}
 use Rattle.pana_hall.specs.Living.{Copy, living, number_of}
 use Rattle.pana_hall.specs.Status.{standing_at, standing_of}
-use Rattle.pana_hall.proofs.Words.{eq-eqb, ne_eqb, nat_tests}
+use Rattle.pana_hall.proofs.Words.{eq-eqb, ne_eqb}
 use Rattle.pana_hall.proofs.Lists.{found_by}
 use Rattle.pana_hall.proofs.Moves.{Fits}
 use Rattle.pana_hall.proofs.Sound.{accepted_is_sound, living_fit}
+use Rattle.pana_ask.specs.Place.{place_name, unknown_line}
+use Rattle.pana_ask.specs.Verdict.{verdict_line}
+use Rattle.pana_ask.specs.declared.verdict.Verdict.TheVariants.{Unrelated}
 use Rattle.pana_history.specs.Lacking.{lacking}
-use Rattle.pana_history.specs.Why.{are_related, copy_at, difference_text, place_name, text_of, unknown_text, unrelated_text, why_text}
+use Rattle.pana_history.specs.Why.{are_related, copy_at, difference_text, text_of, why_text}
 
 -- the copy that stands so at a place
 pub record IsThere (journal : List Entry) (place : Place) (standing : CopyStanding) : Type 0 where
@@ -39,53 +42,34 @@ there journal place standing accepted is = by_copy (copy_at (living journal) pla
         let fit = (found_by (λ c. same_place c.place place) (Fits (families journal) (length journal)) (living journal) copy (living_fit 8 journal (accepted_is_sound 8 journal accepted)) found).1 in
         record { copy = copy; found = found; number = parts.0; family = parts.1; of = ap (families journal) parts.0 ∙ sym fit.family ∙ sym parts.1 }
 
-pub not_there : (journal : List Entry) (place : Place) → None ≡ standing_at (living journal) place → copy_at (living journal) place ≡ None
-not_there journal place is = by_copy (copy_at (living journal) place) refl
-  where
-    by_copy : (o : Option Copy) → copy_at (living journal) place ≡ o → copy_at (living journal) place ≡ None
-    by_copy None none = none
-    by_copy (Some copy) found = absurd (let e = is ∙ ap (option_map (standing_of (living journal))) found in cc)
+module _ (journal : List Entry) (first second : Place) (ours : CopyStanding) (here : IsThere journal first ours) (theirs : CopyStanding) (other : IsThere journal second theirs) where
+  text_is : why_text journal first second ≡ text_of journal first second (Some here.copy) (Some other.copy)
+  text_is = ap₂ (text_of journal first second) here.found other.found
 
-module _ (journal : List Entry) (first second : Place) where
-  -- no copy is at the first place
-  pub first_unknown : None ≡ standing_at (living journal) first → (why_text journal first second ≡ unknown_text (place_name first)) × (are_related (copy_at (living journal) first) (copy_at (living journal) second) ≡ false)
-  first_unknown is =
-      let none = not_there journal first is in
-      (ap (λ o. text_of journal first second o (copy_at (living journal) second)) none, ap (λ o. are_related o (copy_at (living journal) second)) none)
+  related_is : are_related (copy_at (living journal) first) (copy_at (living journal) second) ≡ (here.copy.family == other.copy.family)
+  related_is = ap₂ are_related here.found other.found
 
-  module _ (ours : CopyStanding) (here : IsThere journal first ours) where
-    -- none is at the second
-    pub second_unknown : None ≡ standing_at (living journal) second → (why_text journal first second ≡ unknown_text (place_name second)) × (are_related (copy_at (living journal) first) (copy_at (living journal) second) ≡ false)
-    second_unknown is =
-        let none = not_there journal second is in
-        (ap₂ (text_of journal first second) here.found none, ap₂ are_related here.found none)
+  tested : (b : Bool) → (ours.family == theirs.family) ≡ b → (here.copy.family == other.copy.family) ≡ b
+  tested b is = ap₂ (λ p q. p == q) (sym here.family) (sym other.family) ∙ is
 
-    module _ (theirs : CopyStanding) (other : IsThere journal second theirs) where
-      text_is : why_text journal first second ≡ text_of journal first second (Some here.copy) (Some other.copy)
-      text_is = ap₂ (text_of journal first second) here.found other.found
+  -- they are of two files
+  pub are_apart : ours.family ≢ theirs.family → (why_text journal first second ≡ verdict_line Unrelated first second) × (are_related (copy_at (living journal) first) (copy_at (living journal) second) ≡ false)
+  are_apart differ =
+      let no = tested false (ne_eqb ours.family theirs.family differ) in
+      (text_is ∙ ap (λ b. cond b (both here.copy.family (number_of here.copy) (number_of other.copy)) (verdict_line Unrelated first second)) no, related_is ∙ no)
+    where
+      both : (family a b : ℕ) → List ℕ
+      both family a b = difference_text (place_name first) (place_name second) (lacking journal family a b) (lacking journal family b a)
 
-      related_is : are_related (copy_at (living journal) first) (copy_at (living journal) second) ≡ (here.copy.family == other.copy.family)
-      related_is = ap₂ are_related here.found other.found
-
-      tested : (b : Bool) → (ours.family == theirs.family) ≡ b → (here.copy.family == other.copy.family) ≡ b
-      tested b is = ap₂ (λ p q. p == q) (sym here.family) (sym other.family) ∙ is
-
-      -- they are of two files
-      pub are_apart : ours.family ≢ theirs.family → (why_text journal first second ≡ unrelated_text (place_name first) (place_name second)) × (are_related (copy_at (living journal) first) (copy_at (living journal) second) ≡ false)
-      are_apart differ =
-          let no = tested false (ne_eqb ours.family theirs.family differ) in
-          (text_is ∙ ap (λ b. cond b (both here.copy.family (number_of here.copy) (number_of other.copy)) (unrelated_text (place_name first) (place_name second))) no, related_is ∙ no)
-        where
-          both : (family a b : ℕ) → List ℕ
-          both family a b = difference_text (place_name first) (place_name second) (lacking journal family a b) (lacking journal family b a)
-
-      -- they are of one
-      pub are_one : ours.family ≡ theirs.family → (why_text journal first second ≡ difference_text (place_name first) (place_name second) (lacking journal ours.family ours.copy theirs.copy) (lacking journal ours.family theirs.copy ours.copy))
-          × (are_related (copy_at (living journal) first) (copy_at (living journal) second) ≡ true)
-      are_one same =
-          let yes = tested true (eq-eqb ours.family theirs.family same) in
-          (text_is ∙ ap (λ b. cond b (both here.copy.family (number_of here.copy) (number_of other.copy)) (unrelated_text (place_name first) (place_name second))) yes
-          ∙ ap (λ f. both f (number_of here.copy) (number_of other.copy)) (sym here.family) ∙ ap₂ (both ours.family) (sym here.number) (sym other.number), related_is ∙ yes)
-        where
-          both : (family a b : ℕ) → List ℕ
-          both family a b = difference_text (place_name first) (place_name second) (lacking journal family a b) (lacking journal family b a)
+  -- they are of one
+  pub are_one : ours.family ≡ theirs.family → (why_text journal first second ≡ difference_text (place_name first) (place_name second) (lacking journal ours.family ours.copy theirs.copy) (lacking journal ours.family theirs.copy ours.copy))
+      × (are_related (copy_at (living journal) first) (copy_at (living journal) second) ≡ true)
+  are_one same =
+      let yes = tested true (eq-eqb ours.family theirs.family same) in (
+        text_is ∙ ap (λ b. cond b (both here.copy.family (number_of here.copy) (number_of other.copy)) (verdict_line Unrelated first second)) yes
+            ∙ ap (λ f. both f (number_of here.copy) (number_of other.copy)) (sym here.family) ∙ ap₂ (both ours.family) (sym here.number) (sym other.number),
+        related_is ∙ yes,
+      )
+    where
+      both : (family a b : ℕ) → List ℕ
+      both family a b = difference_text (place_name first) (place_name second) (lacking journal family a b) (lacking journal family b a)

@@ -1,13 +1,12 @@
 -- The families of a journal's entries, and the entries of one, as entries come.
-use Rattle.std.proofs.Common.{◌≡◌, ◌≢◌, ℕ, zero, suc, ◌+◌, ◌-◌, ◌<◌, ◌==◌, not, Bool, true, false, cond, List, [], ◌∷◌, ◌++◌, length, filter, slice_get, unwrap_or, Option, Some, None, refl, sym, ap, subst, ◌∙◌, inl, inr, arith, append-nil, append_assoc}
+use Rattle.std.proofs.Common.{◌≡◌, ℕ, zero, suc, ◌+◌, ◌==◌, true, cond, List, [], ◌∷◌, ◌++◌, length, slice_get, Option, Some, None, refl, sym, ap, subst, ◌∙◌, inl, inr, arith, append-nil, append_assoc}
 use Rattle.pana_journal.specs.declared.entry.Entry.{Entry}
 use Rattle.pana_journal.specs.declared.report.Report.{Report}
 use Rattle.pana_hall.specs.Accepted.{Accepts, AcceptsAll, IsAccepted}
 use Rattle.pana_hall.specs.Effective.{is_of_copies}
 use Rattle.pana_hall.specs.Family.{begun_or_joined, families, subject, with_entry}
-use Rattle.pana_hall.specs.laws.Layers.{family_of_next}
 use Rattle.pana_hall.proofs.Words.{nat_tests, cases_eq, eq-eqb, ne_eqb, fold-append, length-append}
-use Rattle.pana_hall.proofs.Sound.{IsSound, Kind, OfCopies, Confirms, Withdraws, accepted_is_sound, family_new, keeps_families, kind_of, left_by, own_confirm, own_copies, own_withdraw, sound_grows}
+use Rattle.pana_hall.proofs.Sound.{IsSound, OfCopies, Confirms, Withdraws, family_new, keeps_families, kind_of, left_by, own_confirm, own_copies, own_withdraw}
 use Rattle.pana_history.specs.Lacking.{family_entries}
 use Rattle.pana_history.specs.inner.Families.{family_in, with_next, with_report}
 

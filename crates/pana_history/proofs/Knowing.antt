@@ -1,6 +1,6 @@
 -- What a report makes of what copies know.
-use Rattle.std.proofs.Common.{◌≡◌, ◌≢◌, ℕ, ◌<◌, ◌==◌, ◌||◌, ◌&&◌, ◌⊎◌, not, Bool, true, false, cond, List, [], ◌∷◌, ◌++◌, Option, Some, None, filter, refl, sym, ap, subst, ◌∙◌, inl, inr, arith, option_map, unwrap_or, append-nil}
-use Rattle.std.specs.List.{AllByRecursion, list_any}
+use Rattle.std.proofs.Common.{◌≡◌, ℕ, ◌==◌, ◌||◌, ◌&&◌, ◌⊎◌, Bool, true, false, cond, List, [], ◌∷◌, ◌++◌, Option, Some, None, refl, sym, ap, ◌∙◌, inl, inr, arith, option_map, unwrap_or, append-nil}
+use Rattle.std.specs.List.{list_any}
 use Rattle.std.specs.Option.{option_to_list}
 use Rattle.pana_copies.specs.declared.place.Place.{Place}
 use Rattle.pana_hall.proofs.Words.{nat_tests, cases_eq, eq-eqb, ne_eqb, Copy, copy_in, known_to, after_report, comes, made, new_copy, content_by, has, option_and_then}
@@ -11,7 +11,7 @@ use Rattle.pana_hall.specs.Living.{changed}
 use Rattle.pana_family.proofs.Unions.{union_members}
 use Rattle.pana_hall.proofs.Moves.{AreBelow, Lives, Names, found_after, found_number, found_push, none_below}
 use Rattle.pana_family.proofs.Images.{made_itself}
-use Rattle.pana_history.specs.inner.Sources.{before_report, copied, reaches, united, with_source, without}
+use Rattle.pana_history.specs.inner.Sources.{before_report, reaches, with_source, without}
 
 -- whether the copy with this number knows the update
 abbrev pub knows : List Copy → ℕ → ℕ → Bool

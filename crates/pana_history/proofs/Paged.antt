@@ -1,5 +1,5 @@
 -- Pages of the journal, one after another.
-use Rattle.std.proofs.Common.{◌≡◌, ℕ, List, [], ◌∷◌, ◌++◌, Option, None, Some, Result, Ok, Err, OnOk, is_err, false, refl, sym, ap, subst, ◌∙◌, append-nil, append_assoc}
+use Rattle.std.proofs.Common.{◌≡◌, ℕ, List, [], ◌∷◌, ◌++◌, Option, None, Some, Result, Ok, Err, OnOk, is_err, false, refl, sym, ap, subst, ◌∙◌, append-nil}
 use Rattle.std.specs.List.{flat_map}
 use Rattle.std.proofs.lemmas.Grind.{flat_map-append}
 use Rattle.pana_journal.specs.declared.entry.Entry.{Entry}
@@ -49,7 +49,7 @@ module _ {S : Type 0} (step : S → List ℕ → Call → Answer → S → Type 
   one_more from old mid new [] page next behind full made is =
       let asked : step old by (calls.Query (queries.JournalFrom from)) (Given (Journal page)) new =
       subst (λ (s : S). step s by (calls.Query (queries.JournalFrom from)) (Given (Journal page)) new) full.0 (subst (λ (n : ℕ). step mid by (calls.Query (queries.JournalFrom n)) (Given (Journal page)) new) full.1 made) in
-      (new, behind, asked, ap (λ (n : ℕ). next_after n page) (sym full.1) ∙ is, refl, refl)
+      (new, behind, asked, ap (λ (n : ℕ). next_after n page) (sym full.1) ∙ is, (refl, refl))
   one_more from old mid new (p ∷ pages) page next behind (s, b, made_first, full_first, rest) made is = (s, b, made_first, full_first, one_more b s mid new pages page next behind rest made is)
 
   -- and one that is the last

@@ -1,5 +1,5 @@
 -- What is said of two places: what each of their copies knows that the other lacks.
-use Rattle.std.specs.Prelude.{◌≡◌, ℕ, Bool, true, false, ◌==◌, List, [], ◌∷◌, ◌++◌, find, codes, decimal, string_bytes, Option, Some, None, if◌then◌else◌}
+use Rattle.std.specs.Prelude.{◌≡◌, ℕ, Bool, false, ◌==◌, List, [], ◌∷◌, ◌++◌, find, codes, decimal, string_bytes, Option, Some, None, if◌then◌else◌}
 use Rattle.std.specs.List.{flat_map}
 use Rattle.pana_copies.specs.declared.place.Place.{Place}
 use Rattle.pana_copies.specs.Places.{same_place}
@@ -9,6 +9,9 @@ use Rattle.pana_journal.specs.declared.report_kind.ReportKind.TheVariants.{Regis
 use Rattle.pana_journal.specs.Reports.{kind_of}
 use Rattle.pana_calls.specs.declared.call.Call.{Call}
 use Rattle.pana_calls.specs.declared.answer.Answer.{Answer}
+use Rattle.pana_ask.specs.Place.{place_name, unknown_line}
+use Rattle.pana_ask.specs.Verdict.{verdict_line}
+use Rattle.pana_ask.specs.declared.verdict.Verdict.TheVariants.{Unrelated}
 use Rattle.pana_hall.specs.Living.{Copy, living, number_of}
 use Rattle.pana_history.specs.Lacking.{lacking}
 use Rattle.pana_history.specs.Pages.{HasJournal}
@@ -16,10 +19,6 @@ use Rattle.pana_hall.specs.Load.{StopsAt}
 use Rattle.pana_history.specs.declared.why.Explanation.{Explanation}
 use Rattle.pana_history.specs.declared.why.Unexplained.{Unexplained}
 use Rattle.pana_history.specs.declared.why.Unexplained.TheVariants.{Damaged, NoAnswer, OutOfMemory}
-
--- a place as it is named: its device, a colon, its path
-abbrev pub place_name : Place → List ℕ
-place_name place = place.device ++ (codes ":" ++ place.path)
 
 -- the living copy at a place
 abbrev pub copy_at : List Copy → Place → Option Copy
@@ -50,19 +49,13 @@ abbrev pub difference_text : List ℕ → List ℕ → List Entry → List Entry
 difference_text first second [] [] = first ++ (codes " and " ++ (second ++ codes " are equal\n"))
 difference_text first second ours theirs = has_lines first ours ++ has_lines second theirs
 
-abbrev pub unknown_text : List ℕ → List ℕ
-unknown_text name = codes "unknown: no copy is at " ++ (name ++ 10 ∷ [])
-
-abbrev pub unrelated_text : List ℕ → List ℕ → List ℕ
-unrelated_text first second = codes "unrelated: " ++ (first ++ (codes " and " ++ (second ++ codes " are copies of two files\n")))
-
 -- what is said of the copies at two places of a journal, if they are there
 abbrev pub text_of : List Entry → Place → Place → Option Copy → Option Copy → List ℕ
-text_of journal first second None other = unknown_text (place_name first)
-text_of journal first second (Some a) None = unknown_text (place_name second)
+text_of journal first second None other = unknown_line first
+text_of journal first second (Some a) None = unknown_line second
 text_of journal first second (Some a) (Some b) =
     if a.family == b.family then difference_text (place_name first) (place_name second) (lacking journal a.family (number_of a) (number_of b)) (lacking journal a.family (number_of b) (number_of a))
-    else unrelated_text (place_name first) (place_name second)
+    else verdict_line Unrelated first second
 
 abbrev pub why_text : List Entry → Place → Place → List ℕ
 why_text journal first second = text_of journal first second (copy_at (living journal) first) (copy_at (living journal) second)

@@ -32,7 +32,12 @@ impl Difference {
     }
 
     /// Puts an entry behind those of the copy that knows it alone.
-    fn take(&mut self, entry: Entry, is_in_first: bool, is_in_second: bool) -> Result<(), AllocError>
+    fn take(
+        &mut self,
+        entry: Entry,
+        is_in_first: bool,
+        is_in_second: bool,
+    ) -> Result<(), AllocError>
         ensures first { OnOk result (self.new.first.items ≡ self.old.first.items ++ alone entry is_in_first is_in_second) }
         ensures second { OnOk result (self.new.second.items ≡ self.old.second.items ++ alone entry is_in_second is_in_first) }
     {

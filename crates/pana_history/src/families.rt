@@ -69,11 +69,7 @@ fn without(alloc: Global, entries: Vec<Entry>, number: u64) -> Result<Vec<Entry>
 }
 
 /// The family's entries that count, once it has one entry more.
-fn with_next(
-    alloc: Global,
-    mut entries: Vec<Entry>,
-    entry: Entry,
-) -> Result<Vec<Entry>, AllocError>
+fn with_next(alloc: Global, mut entries: Vec<Entry>, entry: Entry) -> Result<Vec<Entry>, AllocError>
     ensures { IfOk result (λ more. more.items ≡ with_next entry entries.items) }
 {
     match entry.report {

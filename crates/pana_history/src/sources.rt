@@ -62,12 +62,7 @@ fn united(sources: Vec<u64>, a: u64, b: u64) -> Result<Vec<u64>, AllocError>
 }
 
 /// The sources, where this copy was made of another.
-fn copied(
-    alloc: Global,
-    sources: Vec<u64>,
-    copy: u64,
-    of: u64,
-) -> Result<Vec<u64>, AllocError>
+fn copied(alloc: Global, sources: Vec<u64>, copy: u64, of: u64) -> Result<Vec<u64>, AllocError>
     ensures { IfOk result (λ more. more.items ≡ copied copy of sources.items) }
 {
     if has(sources.as_slice(), copy) {

@@ -1,15 +1,18 @@
 //! What makes one of two copies obsolete, or sets them in conflict, for people.
 ghost use Rattle.std.specs.Prelude.{◌≡◌, ◌++◌, true, false, Some, IfOk, IfErr, OnOk, IsErrOf, string_bytes};
+ghost use Rattle.pana_ask.specs.Place.{place_name, unknown_line};
+ghost use Rattle.pana_ask.specs.Verdict.{verdict_line};
 ghost use Rattle.pana_hall.specs.Accepted.{IsAccepted};
 ghost use Rattle.pana_hall.specs.Family.{families};
 ghost use Rattle.pana_hall.specs.Living.{living};
 ghost use Rattle.pana_hall.specs.Status.{standing_at};
 ghost use Rattle.pana_history.specs.Lacking.{lacking};
-ghost use Rattle.pana_history.specs.Why.{Explains, IsDamage, IsExplained, difference_text, has_line, has_lines, kind_name, place_name, unknown_text, unrelated_text};
+ghost use Rattle.pana_history.specs.Why.{Explains, IsDamage, IsExplained, difference_text, has_line, has_lines, kind_name};
 ghost use Rattle.pana_history.specs.inner.Pages.{Stops};
 
 use crate::difference::{Difference, difference_between};
 use crate::pages::journal_of;
+use pana_ask::{Verdict, place_name, unknown_line};
 use pana_calls::{Call, Cause, CopyStanding, NoAnswer, Query, Reply, Session};
 use pana_copies::{DeviceName, Place};
 use pana_hall::{Hall, LoadCause, LoadFault};
@@ -59,13 +62,6 @@ impl From<AllocError> for Unexplained {
     }
 }
 
-/// A place as it is named: its device, a colon, its path.
-fn place_name(alloc: Global, place: &Place) -> Result<String, AllocError>
-    ensures { IfOk result (λ name. string_bytes name ≡ place_name place.now) }
-{
-    format!(in alloc; "{}:{}", place.device.as_str(), place.path.as_str())
-}
-
 /// A report's kind in a word.
 fn kind_name(kind: ReportKind) -> &'static str
     ensures { result.now ≡ kind_name kind }
@@ -89,7 +85,11 @@ fn has_line(alloc: Global, name: &str, entry: &Entry) -> Result<String, AllocErr
     ensures { IfOk result (λ line. string_bytes line ≡ has_line name.now entry.now) }
 {
     let kind = kind_name(entry.report.kind());
-    format!(in alloc; "{name} has {} {kind} by {}\n", entry.number, entry.by.as_str())
+    format!(in alloc;
+        "{name} has {} {kind} by {}\n",
+        entry.number,
+        entry.by.as_str()
+    )
 }
 
 /// Appends a line for each entry.
@@ -127,25 +127,22 @@ fn difference_text(
 
 /// That no copy is at a place.
 fn unknown(alloc: Global, place: &Place) -> Result<Explanation, AllocError>
-    ensures text { IfOk result (λ explanation. string_bytes explanation.text ≡ unknown_text (place_name place.now)) }
+    ensures text { IfOk result (λ explanation. string_bytes explanation.text ≡ unknown_line place.now) }
     ensures related { IfOk result (λ explanation. explanation.is_of_one_file ≡ false) }
 {
-    let name = place_name(alloc, place)?;
     Ok(Explanation {
-        text: format!(in alloc; "unknown: no copy is at {name}\n")?,
+        text: unknown_line(alloc, place)?,
         is_of_one_file: false,
     })
 }
 
 /// That two copies are of two files.
 fn unrelated(alloc: Global, first: &Place, second: &Place) -> Result<Explanation, AllocError>
-    ensures text { IfOk result (λ explanation. string_bytes explanation.text ≡ unrelated_text (place_name first.now) (place_name second.now)) }
+    ensures text { IfOk result (λ explanation. string_bytes explanation.text ≡ verdict_line Verdict.Unrelated first.now second.now) }
     ensures related { IfOk result (λ explanation. explanation.is_of_one_file ≡ false) }
 {
-    let first = place_name(alloc, first)?;
-    let second = place_name(alloc, second)?;
     Ok(Explanation {
-        text: format!(in alloc; "unrelated: {first} and {second} are copies of two files\n")?,
+        text: Verdict::Unrelated.line(alloc, first, second)?,
         is_of_one_file: false,
     })
 }
@@ -232,7 +229,14 @@ fn compared(
     }
     let first = place_name(alloc, first)?;
     let second = place_name(alloc, second)?;
-    related(alloc, journal, ours, theirs, first.as_str(), second.as_str())
+    related(
+        alloc,
+        journal,
+        ours,
+        theirs,
+        first.as_str(),
+        second.as_str(),
+    )
 }
 
 /// What is said of two places, by how the copies there stand.

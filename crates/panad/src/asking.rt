@@ -1,12 +1,14 @@
 //! What commands that ask or report by place have in common.
 
+use crate::command::refuse;
 use crate::fault::ProgramFault;
 use crate::options::Keeper;
 use crate::printing::print_out;
 use crate::track::{ASKER, report};
-use pana_ask::{AskFault, unknown_line};
+use clap::error::ErrorKind;
+use pana_ask::{AskFault, read_place, unknown_line};
 use pana_commands::Printout;
-use pana_copies::DeviceName;
+use pana_copies::{DeviceName, NameFault, Place};
 use std::process::ExitCode;
 
 /// The device in whose name questions are asked.
@@ -45,4 +47,19 @@ pub fn print_fault(
 pub fn report_no_daemon(rt: &HostRuntime, port: u16) -> Result<ExitCode, ProgramFault> {
     let text = format!(in rt.alloc(); "cannot connect to port {port}")?;
     report(rt, text.as_str())
+}
+
+/// The place that a word names; none where it names none.
+pub fn place_of(rt: &HostRuntime, word: &str) -> Result<Option<Place>, ProgramFault> {
+    match read_place(rt.alloc(), word) {
+        Ok(place) => Ok(Some(place)),
+        Err(NameFault::OutOfMemory) => Err(ProgramFault::OutOfMemory),
+        Err(_) => Ok(None),
+    }
+}
+
+/// Refuses a word that names no place.
+pub fn refuse_place(rt: &HostRuntime, word: &str) -> Result<ExitCode, ProgramFault> {
+    let reason = format!(in rt.alloc(); "bad place {word}")?;
+    refuse(rt, ErrorKind::InvalidValue, reason.as_str())
 }

@@ -11,6 +11,7 @@ use crate::show_command::{FILE, Wanted, show_tables, source_of, wanted_by, with_
 use crate::status_command::{self, STATUS, status_command};
 use crate::track_command::{self, TRACK, track_command};
 use crate::version::VERSION;
+use crate::why_command::{self, WHY, why_command};
 use clap::error::{Error, ErrorKind};
 use clap::{Arg, ArgMatches, Command};
 use pana_commands::{Printout, compare_on, load_on, run_on, scan_on, show_on};
@@ -46,7 +47,8 @@ pair, holdings, at, status, journal.
 `panad serve` answers them over TCP, to several devices at a time.
 `panad track` needs no lines: it looks at folders, and `panad status` shows what is
 obsolete or in conflict. `panad may-overwrite` says whether a copy may be replaced,
-and `panad report` makes one report of copies that are named by their places.
+`panad why` what each of two copies knows that the other lacks, and `panad report`
+makes one report of copies that are named by their places.
 `panad COMMAND --help` shows an example. docs/PROTOCOL.md has all answers, and
 docs/PROMISES.md what is proved of them, and what isn't.";
 
@@ -198,6 +200,7 @@ fn command_line<'a>(alloc: Global) -> Result<Command<'a>, AllocError> {
         .subcommand(track_command(alloc)?)?
         .subcommand(status_command(alloc)?)?
         .subcommand(overwrite_command(alloc)?)?
+        .subcommand(why_command(alloc)?)?
         .subcommand(report_command(alloc)?)?
         .subcommand(serve_command(alloc)?)
 }
@@ -351,6 +354,7 @@ fn obey_words<T: Threads + Wait + Clock + Sync>(
         Some((TRACK, words)) => Ok(track_command::run(rt, threads, words)),
         Some((STATUS, words)) => Ok(status_command::run(rt, words)),
         Some((MAY_OVERWRITE, words)) => Ok(overwrite_command::run(rt, words)),
+        Some((WHY, words)) => Ok(why_command::run(rt, words)),
         Some((REPORT, words)) => Ok(report_command::run(rt, words)),
         Some((SERVE, words)) => serve_command::run(rt, threads, words),
         _ => refuse(rt, ErrorKind::MissingSubcommand, "a command is required"),

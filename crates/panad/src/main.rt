@@ -22,6 +22,7 @@ mod sums_file;
 mod track;
 mod track_command;
 mod version;
+mod why_command;
 
 use std::process::ExitCode;
 

@@ -1,17 +1,15 @@
 //! `panad may-overwrite`: whether a copy may be overwritten with another one, by a journal's file or a daemon.
 
-use crate::asking::{asker, print_fault, print_line, report_no_daemon};
+use crate::asking::{asker, place_of, print_fault, print_line, refuse_place, report_no_daemon};
 use crate::client::connect;
-use crate::command::refuse;
 use crate::fault::ProgramFault;
 use crate::keeping::{NoStore, open_hall};
 use crate::options::{Keeper, keeper_of, with_keeper};
 use crate::track::{FAULT, report};
-use clap::error::ErrorKind;
 use clap::{Arg, ArgMatches, Command};
-use pana_ask::{may_overwrite, read_place};
+use pana_ask::may_overwrite;
 use pana_calls::Session;
-use pana_copies::{NameFault, Place};
+use pana_copies::Place;
 use std::alloc::{AllocError, Global};
 use std::process::ExitCode;
 
@@ -92,20 +90,6 @@ fn ask_keeper(
             Err(_) => report_no_daemon(rt, port),
         },
     }
-}
-
-/// The place that a word names; none where it names none.
-fn place_of(rt: &HostRuntime, word: &str) -> Result<Option<Place>, ProgramFault> {
-    match read_place(rt.alloc(), word) {
-        Ok(place) => Ok(Some(place)),
-        Err(NameFault::OutOfMemory) => Err(ProgramFault::OutOfMemory),
-        Err(_) => Ok(None),
-    }
-}
-
-fn refuse_place(rt: &HostRuntime, word: &str) -> Result<ExitCode, ProgramFault> {
-    let reason = format!(in rt.alloc(); "bad place {word}")?;
-    refuse(rt, ErrorKind::InvalidValue, reason.as_str())
 }
 
 /// Asks about the places that the words name, or refuses the words.

@@ -1,18 +1,15 @@
 //! `panad why`: what each of two copies knows that the other lacks, by a journal's file or a daemon.
 
+use crate::asking::{asker, place_of, print_line, refuse_place, report_no_daemon};
 use crate::client::connect;
-use crate::command::refuse;
 use crate::fault::ProgramFault;
 use crate::keeping::{NoStore, open_hall};
-use crate::options::{Keeper, keeper_of, place_of, with_keeper};
-use crate::printing::print_out;
-use crate::track::{ASKER, FAULT, report};
-use clap::error::ErrorKind;
+use crate::options::{Keeper, keeper_of, with_keeper};
+use crate::track::{FAULT, report};
 use clap::{Arg, ArgMatches, Command};
 use pana_calls::Session;
-use pana_commands::Printout;
-use pana_copies::{DeviceName, Place};
-use pana_history::{Explanation, Unexplained, why_on};
+use pana_copies::Place;
+use pana_history::{Unexplained, why_on};
 use std::alloc::{AllocError, Global};
 use std::process::ExitCode;
 
@@ -57,19 +54,6 @@ pub fn why_command<'a>(alloc: Global) -> Result<Command<'a>, AllocError> {
     )
 }
 
-/// What is printed for an explanation.
-fn printout_of(alloc: Global, explanation: Explanation) -> Printout {
-    let Explanation {
-        text,
-        is_of_one_file,
-    } = explanation;
-    Printout {
-        out: text,
-        err: String::new(alloc),
-        status: if is_of_one_file { 0 } else { 1 },
-    }
-}
-
 /// Asks a session, and prints what it says of the places.
 fn ask<S: Session>(
     rt: &HostRuntime,
@@ -78,16 +62,61 @@ fn ask<S: Session>(
     first: &Place,
     second: &Place,
 ) -> Result<ExitCode, ProgramFault> {
-    let Ok(asker) = DeviceName::new(ASKER) else {
-        return Err(ProgramFault::OutOfMemory);
-    };
-    match why_on(rt.alloc(), session, &asker, first, second) {
-        Ok(explanation) => print_out(rt, &printout_of(rt.alloc(), explanation)),
+    match why_on(rt.alloc(), session, &asker()?, first, second) {
+        Ok(explanation) => {
+            let status = if explanation.is_of_one_file { 0 } else { 1 };
+            print_line(rt, explanation.text, status)
+        }
         Err(Unexplained::NoAnswer) => report(rt, keeper.no_answer()),
         Err(Unexplained::Damaged(fault)) => {
-            let text = format!(in rt.alloc(); "the journal that came is damaged: {fault}")?;
+            let text = format!(in rt.alloc(); "what came is no journal: {fault}")?;
             report(rt, text.as_str())
         }
         Err(Unexplained::OutOfMemory) => Err(ProgramFault::OutOfMemory),
+    }
+}
+
+/// Asks who keeps the reports.
+fn ask_keeper(
+    rt: &HostRuntime,
+    keeper: Keeper<'_>,
+    first: &Place,
+    second: &Place,
+) -> Result<ExitCode, ProgramFault> {
+    match keeper {
+        Keeper::Journal(name) => match open_hall(rt, name) {
+            Ok(mut hall) => ask(rt, &mut hall, keeper, first, second),
+            Err(NoStore::Because(text)) => report(rt, text.as_str()),
+            Err(NoStore::Fault(fault)) => Err(fault),
+        },
+        Keeper::Daemon(port) => match connect(rt, port) {
+            Ok(mut client) => ask(rt, &mut client, keeper, first, second),
+            Err(_) => report_no_daemon(rt, port),
+        },
+    }
+}
+
+/// Asks about the places that the words name, or refuses the words.
+fn obey(rt: &HostRuntime, words: &ArgMatches) -> Result<ExitCode, ProgramFault> {
+    // Both words are required, so they are there.
+    let first = words.get_str(FIRST).unwrap_or("");
+    let second = words.get_str(SECOND).unwrap_or("");
+    let Some(ours) = place_of(rt, first)? else {
+        return refuse_place(rt, first);
+    };
+    let Some(theirs) = place_of(rt, second)? else {
+        return refuse_place(rt, second);
+    };
+    ask_keeper(rt, keeper_of(words), &ours, &theirs)
+}
+
+/// Does what the words of `why` ask for. A fault is printed, and the status for it is 3.
+pub fn run(rt: &HostRuntime, words: &ArgMatches) -> ExitCode {
+    match obey(rt, words) {
+        Ok(status) => status,
+        Err(fault) => {
+            let _ = eprintln!(rt; "panad: {fault}");
+            ExitCode::from(FAULT)
+        }
     }
 }

@@ -1,6 +1,6 @@
 -- What one copy knows alone, by the entries of a family.
-use Rattle.std.specs.Prelude.{◌≡◌, ◌<◌, ℕ, Bool, true, not, ◌&&◌, List, [], ◌∷◌, filter, reverse, if◌then◌else◌}
-use Rattle.std.specs.List.{AllByRecursion, list_any}
+use Rattle.std.specs.Prelude.{◌<◌, ℕ, Bool, not, ◌&&◌, List, [], ◌∷◌, filter, reverse, if◌then◌else◌}
+use Rattle.std.specs.List.{AllByRecursion}
 use Rattle.pana_journal.specs.declared.entry.Entry.{Entry}
 use Rattle.pana_family.specs.Updates.{has}
 use Rattle.pana_hall.specs.Living.{copies_of, known_to}

@@ -1,4 +1,4 @@
-use Rattle.std.proofs.Common.{◌≡◌, List, [], ◌∷◌, length}
+use Rattle.std.proofs.Common.{[], ◌∷◌, length}
 use Rattle.pana_history.specs.inner.Alone.{IsFit}
 use Rattle.pana_history.proofs.Alone.{IsFoundSoFar}
 use Rattle.pana_history.proofs.difference.compare.Given as goal

@@ -1,4 +1,4 @@
-use Rattle.std.proofs.Common.{◌≡◌, ◌∙◌, sym, ap, subst}
+use Rattle.std.proofs.Common.{◌∙◌, sym, ap, subst}
 use Rattle.pana_history.specs.inner.Alone.{IsFit, known_alone}
 use Rattle.pana_history.proofs.Alone.{lacking_is}
 use Rattle.pana_history.proofs.Asked.{if_ok}

@@ -1,9 +1,9 @@
-use Rattle.std.proofs.Common.{◌≡◌, ◌==◌, ◌++◌, [], ◌∷◌, cond, subst, sym, ap, ◌∙◌, append_assoc, append-nil}
+use Rattle.std.proofs.Common.{◌==◌, ◌++◌, [], ◌∷◌, cond, subst, sym, ap, ◌∙◌, append_assoc}
 use Rattle.pana_hall.specs.Accepted.{IsAccepted}
 use Rattle.pana_hall.proofs.Sound.{accepted_is_sound}
 use Rattle.pana_history.specs.Lacking.{family_entries}
 use Rattle.pana_history.specs.inner.Families.{with_next}
-use Rattle.pana_history.proofs.Gathered.{entries_next, families_next, no_families, split_accepted}
+use Rattle.pana_history.proofs.Gathered.{entries_next, families_next, split_accepted}
 use Rattle.pana_history.proofs.families.family_entries.Goals as goal
 
 pub loop-entry-preserved : goal.loop-entry-preserved

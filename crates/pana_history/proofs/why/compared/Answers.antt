@@ -1,4 +1,4 @@
-use Rattle.std.proofs.Common.{◌≡◌, ◌∙◌, List, ℕ, sym, ap, ap₂}
+use Rattle.std.proofs.Common.{◌∙◌, List, ℕ, sym, ap₂}
 use Rattle.pana_history.specs.Lacking.{lacking}
 use Rattle.pana_history.specs.Why.{difference_text}
 use Rattle.pana_history.proofs.Asked.{if_ok_both}

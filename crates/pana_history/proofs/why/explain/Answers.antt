@@ -1,4 +1,4 @@
-use Rattle.std.proofs.Common.{◌∙◌, sym, ap, subst, Result, Err, IfErr}
+use Rattle.std.proofs.Common.{sym, subst, Result, IfErr}
 use Rattle.std.proofs.lemmas.Result.{err_from_is_err_and}
 use Rattle.pana_history.specs.Why.{IsDamage}
 use Rattle.pana_history.specs.declared.why.Explanation.{Explanation}

@@ -1,10 +1,5 @@
-use Rattle.std.proofs.Common.{◌∙◌, ap, subst}
-use Rattle.pana_copies.specs.declared.place.Place.{Place}
-use Rattle.pana_calls.specs.declared.call.Call.TheVariants as calls
-use Rattle.pana_calls.specs.declared.call.Query.TheVariants as queries
-use Rattle.pana_calls.specs.declared.reply.Reply.TheVariants as replies
+use Rattle.std.proofs.Common.{◌∙◌, ap}
 use Rattle.pana_hall.specs.Living.{living}
-use Rattle.pana_hall.specs.Permit.{Permits}
 use Rattle.pana_hall.specs.Status.{standing_at}
 use Rattle.pana_history.proofs.Asked.{asked, at_asked}
 use Rattle.pana_history.proofs.why.standing_at.Goals as goal
