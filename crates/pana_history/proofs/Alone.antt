@@ -1,5 +1,5 @@
 -- What one copy knows alone, from a family's last entry back.
-use Rattle.std.proofs.Common.{◌≡◌, ℕ, ◌<◌, ◌==◌, ◌||◌, ◌&&◌, not, Bool, true, false, cond, List, [], ◌∷◌, ◌++◌, filter, reverse, refl, sym, ap, ap₂, subst, ◌∙◌, inl, inr, arith, append-nil, append_assoc}
+use Rattle.std.proofs.Common.{◌≡◌, ℕ, ◌<◌, ◌==◌, ◌||◌, ◌&&◌, not, Bool, true, false, cond, List, [], ◌∷◌, ◌++◌, filter, reverse, refl, sym, ap, ap₂, ◌∙◌, inl, inr, arith, append-nil}
 use Rattle.std.specs.List.{AllByRecursion}
 use Rattle.std.proofs.lemmas.List.{reverse-reverse}
 use Rattle.std.proofs.lemmas.Bool.{cases_Bool}
@@ -15,7 +15,7 @@ use Rattle.pana_hall.proofs.Tables.{copies_of_none, layer_now, own_copy}
 use Rattle.pana_history.specs.Lacking.{family_entries, lacking}
 use Rattle.pana_history.specs.inner.Alone.{AreFit, IsFit, alone, known_alone}
 use Rattle.pana_history.specs.inner.Sources.{reaches, sources_before}
-use Rattle.pana_history.proofs.Fit.{each_reverse, reverse-cons, reverse-push}
+use Rattle.pana_history.proofs.Fit.{each_reverse, reverse-cons}
 use Rattle.pana_history.proofs.Knowing.{any_knows, knows, step}
 
 -- the copies that entries make, given from the last one back

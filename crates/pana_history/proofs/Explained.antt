@@ -12,7 +12,7 @@ use Rattle.pana_hall.proofs.Words.{eq-eqb, ne_eqb}
 use Rattle.pana_hall.proofs.Lists.{found_by}
 use Rattle.pana_hall.proofs.Moves.{Fits}
 use Rattle.pana_hall.proofs.Sound.{accepted_is_sound, living_fit}
-use Rattle.pana_ask.specs.Place.{place_name, unknown_line}
+use Rattle.pana_ask.specs.Place.{place_name}
 use Rattle.pana_ask.specs.Verdict.{verdict_line}
 use Rattle.pana_ask.specs.declared.verdict.Verdict.TheVariants.{Unrelated}
 use Rattle.pana_history.specs.Lacking.{lacking}

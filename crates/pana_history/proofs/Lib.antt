@@ -5,3 +5,4 @@ pub mod Gathered
 pub mod Paged
 pub mod Asked
 pub mod Explained
+pub mod Whole

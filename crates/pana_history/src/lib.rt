@@ -3,6 +3,7 @@
 
 mod difference;
 mod families;
+pub mod laws;
 mod pages;
 mod sources;
 mod why;
