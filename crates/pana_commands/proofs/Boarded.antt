@@ -1,5 +1,5 @@
 -- Boards that are asked for, one after another.
-use Rattle.std.proofs.Common.{Result, Ok, Err, is_ok, is_err, Bool, false, cond, ◌≡◌, ◌<◌, ◌≤◌, ◌+◌, suc, ℕ, List, [], ◌∷◌, ◌++◌, length, drop, drop-cons, get_or, map, refl, sym, ap, subst, ◌∙◌, append-nil, append_assoc, add-one}
+use Rattle.std.proofs.Common.{Result, Ok, Err, is_ok, is_err, false, cond, ◌≡◌, ◌<◌, ◌≤◌, ◌+◌, ℕ, List, [], ◌∷◌, ◌++◌, length, drop, drop-cons, get_or, map, refl, sym, ap, subst, ◌∙◌, append-nil, append_assoc, add-one}
 use Rattle.std.specs.Prelude.{IsErrOf}
 use Rattle.std.proofs.lemmas.List.{drop_all, map-append}
 use Rattle.pana_calls.specs.declared.answer.Answer.{Answer}

@@ -1,5 +1,5 @@
 -- Whether a hall says that a copy may be overwritten.
-use Rattle.std.proofs.Common.{◌≡◌, ◌↔◌, ℕ, Bool, true, false, not, ◌==◌, List, [], ◌∷◌, Option, Some, None, cond, find, is_none, option_and_then, option_map, unwrap_or, refl, sym, ap, ap₂, subst, ◌∙◌, inl, inr}
+use Rattle.std.proofs.Common.{◌≡◌, ◌↔◌, ℕ, Bool, true, false, not, List, [], ◌∷◌, Option, Some, None, cond, is_none, option_and_then, option_map, unwrap_or, refl, sym, ap, ap₂, subst, ◌∙◌, inl, inr}
 use Rattle.std.proofs.lemmas.Bool.{eq-eqb, eqb-true}
 use Rattle.std.specs.Bool.{then_some}
 use Rattle.pana_copies.specs.Places.{same_place}
@@ -10,7 +10,6 @@ use Rattle.pana_calls.specs.declared.answer.Answer.{Answer}
 use Rattle.pana_calls.specs.declared.answer.Answer.TheVariants.{Given, NotKept}
 use Rattle.pana_calls.specs.declared.call.Call.TheVariants as calls
 use Rattle.pana_calls.specs.declared.call.Query.{Query}
-use Rattle.pana_calls.specs.declared.call.Query.TheVariants as queries
 use Rattle.pana_calls.specs.declared.cause.Cause.{Cause}
 use Rattle.pana_calls.specs.declared.cause.Cause.TheVariants as causes
 use Rattle.pana_calls.specs.declared.reply.Reply.{Reply}
@@ -24,11 +23,11 @@ use Rattle.pana_hall.specs.Living.{Copy, copy_in, known_to, living, number_of}
 use Rattle.pana_hall.specs.Permit.{Permits, PermitsBy, journal_after}
 use Rattle.pana_hall.specs.Refusal.{first, refusal}
 use Rattle.pana_hall.specs.Status.{standing_of, standing_at}
-use Rattle.pana_hall.specs.Step.{Replies, Steps}
+use Rattle.pana_hall.specs.Step.{Replies}
 use Rattle.pana_hall.proofs.Lists.{found_by}
 use Rattle.pana_hall.proofs.Places.{living_found}
-use Rattle.pana_ask.specs.Looking.{Finds, LooksUp, at, found_in}
-use Rattle.pana_ask.specs.Verdict.{Compares, Judges, pair, verdict_in}
+use Rattle.pana_ask.specs.Looking.{LooksUp, at, found_in}
+use Rattle.pana_ask.specs.Verdict.{Judges, pair, verdict_in}
 use Rattle.pana_ask.specs.declared.verdict.Verdict.{Verdict}
 use Rattle.pana_ask.specs.declared.verdict.Verdict.TheVariants.{Yes, Newer, Conflict, Unrelated}
 use Rattle.pana_laws.specs.Overwrite.{LosesNothing, copy_at}

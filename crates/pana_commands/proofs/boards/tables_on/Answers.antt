@@ -1,4 +1,4 @@
-use Rattle.std.proofs.Common.{List, map, string_bytes, sym, ap, subst, ◌∙◌, ◌∷◌, [], ℕ}
+use Rattle.std.proofs.Common.{List, map, string_bytes, ap, subst, ◌∙◌, ◌∷◌, [], ℕ}
 use Rattle.std.specs.List.{join_by}
 use Rattle.std.proofs.lemmas.Result.{err_from_is_err_and}
 use Rattle.pana_commands.specs.Answered.{Prints}
