@@ -1,13 +1,13 @@
 #!/usr/bin/env python3
-"""Runs `track` and `status` with their Nth allocation failing, for N = 1, 2, .. until none fails: a first look at two
-folders, a second look after a change, and a question.
+"""Runs `track`, `status`, `why` and `may-overwrite` with their Nth allocation failing, for N = 1, 2, .. until none fails: a
+first look at two folders, a second look after a change, and a question by each of the others.
 
 usage: sweep_folders.py PROGRAM
 
 A run gives what it gives without a failed allocation, or says on standard error that memory ran out, with status 3, or 1
 where that was before the command line was read. A look or a question after it, with all its memory, gives what it gives
 after a run with none failing: what wasn't reported is reported then.
-The last line is 'N passed, M failed', one for each of the three.
+The last line is 'N passed, M failed', one for each of them.
 """
 from __future__ import annotations
 
@@ -27,7 +27,11 @@ MOST = 20_000
 SECONDS = 60
 SHOWN = 5
 LOOK = ("track", "--journal", "j", "laptop=l", "usb=u")
-QUESTION = ("status", "--journal", "j", "usb:")
+QUESTIONS = (
+    ("status", "usb:", "--journal", "j"),
+    ("why", "usb:a", "laptop:a", "--journal", "j"),
+    ("may-overwrite", "usb:a", "--by", "laptop:a", "--journal", "j"),
+)
 EARLY = (1, b"", b"panad: out of memory\n")
 
 
@@ -75,7 +79,7 @@ def passes(name, faults):
 
 
 def outcomes(program, library, folder):
-    """Whether each of the three passes."""
+    """Whether each of them passes."""
     for device in "lu":
         (folder / device).mkdir(parents=True)
         for file in "ab":
@@ -85,7 +89,8 @@ def outcomes(program, library, folder):
     (folder / "l" / "a").write_text("two")
     yield passes("a second look", [*faults_of(program, library, folder, LOOK)])
     run(program, LOOK, folder)
-    yield passes("a question", [*faults_of(program, library, folder, QUESTION)])
+    for words in QUESTIONS:
+        yield passes(words[0], [*faults_of(program, library, folder, words)])
 
 
 def main(program):
