@@ -1,5 +1,5 @@
 #!/usr/bin/env python3
-"""Runs `may-overwrite`, `report` and `show` by a journal and by a daemon, and against servers that are none.
+"""Runs `may-overwrite`, `why`, `report` and `show` by a journal and by a daemon, and against servers that are none.
 
 usage: check_ask.py PROGRAM
 The last line is 'N passed, M failed'.
@@ -177,6 +177,37 @@ def no_answer(program, room):
         yield from differs(run(program, *words, "--journal", missing), (3, "", f"panad: journal {missing}: not a journal\n"))
 
 
+def differences(program, room):
+    """What each copy knows that the other lacks is said of journals of several pages, by a daemon and by a journal; what is none of a journal is reported."""
+    journal = room / "files.journal"
+    edit = {"by": "laptop", "copy": 1, "do": "edit"}
+    lines = [{"by": "laptop", "device": "laptop", "do": "register", "path": LAPTOP[7:]}, {"by": "laptop", "copy": 1, "device": "usb", "do": "duplicate", "path": USB[4:]}]
+    lines += [edit] * 100 + [{"by": "usb", "copy": 2, "do": "edit"}] + [edit] * 97
+    given = "".join(json.dumps(it) + "\n" for it in lines).encode()
+    subprocess.run([program, "run", "--journal", journal], input=given, stdout=subprocess.DEVNULL, timeout=SECONDS, check=True)
+    of_laptop = "".join(f"{LAPTOP} has {number} edit by laptop\n" for number in (*range(3, 103), *range(104, 201)))
+    of_usb = f"{USB} has 103 edit by usb\n"
+    with Daemon(program, "--journal", journal) as daemon:
+        yield from differs(run(program, "why", LAPTOP, USB, "--port", daemon.port), (0, of_laptop + of_usb, ""))
+    yield from differs(run(program, "why", USB, LAPTOP, "--journal", journal), (0, of_usb + of_laptop, ""))
+    why = ("why", LAPTOP, USB)
+    yield from differs(run(program, *why, "--port", daemon.port), (3, "", f"panad: cannot connect to port {daemon.port}\n"))
+    entry = b'{"entries":[{"by":"laptop","copy":1,"do":"edit","number":%d}]}\n'
+    rows = (
+        (b"", SILENT),
+        (b"{}\n", SILENT),
+        (b'{"fault":"NotJson"}\n', SILENT),
+        (b'{"status":[]}\n', "panad: out of memory\n"),
+        (entry % 1, "panad: what came is no journal: entry 1: UnknownCopy 1\n"),
+        (entry % 2, "panad: what came is no journal: entry 1: OutOfOrder\n"),
+    )
+    for answer, wanted in rows:
+        with Server(answer) as server:
+            yield from differs((answer, run(program, *why, "--port", server.port)), (answer, (3, "", wanted)))
+    with Server(b'{"entries":[]}\n') as server:
+        yield from differs(run(program, *why, "--port", server.port), (1, UNKNOWN.format(LAPTOP), ""))
+
+
 def tables(program, room):
     """`show` prints the same tables of a daemon and of a journal: of all families, of one, and of those in conflict."""
     journal = room / "files.journal"
@@ -204,7 +235,7 @@ def tables(program, room):
             yield from differs(run(program, "show", "--port", server.port), (1, "", SILENT))
 
 
-CHECKS = (history, verdicts, refused_words, no_answer, tables)
+CHECKS = (history, verdicts, refused_words, no_answer, differences, tables)
 
 
 if __name__ == "__main__":
