@@ -21,8 +21,8 @@ pub enum ReportEnd {
     NotKept,
 }
 
-/// The name of a kind of report.
-fn kind_name(kind: ReportKind) -> &'static str
+/// The name of a kind of report, as lines have it. Takes no memory.
+pub fn kind_name(kind: ReportKind) -> &'static str
     ensures { result.now ≡ kind_name kind }
 {
     match kind {

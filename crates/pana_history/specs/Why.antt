@@ -4,12 +4,11 @@ use Rattle.std.specs.List.{flat_map}
 use Rattle.pana_copies.specs.declared.place.Place.{Place}
 use Rattle.pana_copies.specs.Places.{same_place}
 use Rattle.pana_journal.specs.declared.entry.Entry.{Entry}
-use Rattle.pana_journal.specs.declared.report_kind.ReportKind.{ReportKind}
-use Rattle.pana_journal.specs.declared.report_kind.ReportKind.TheVariants.{Register, Duplicate, Edit, Reconcile, Merge, Relocate, Remove, Note, Confirm, Withdraw}
 use Rattle.pana_journal.specs.Reports.{kind_of}
 use Rattle.pana_calls.specs.declared.call.Call.{Call}
 use Rattle.pana_calls.specs.declared.answer.Answer.{Answer}
 use Rattle.pana_ask.specs.Place.{place_name, unknown_line}
+use Rattle.pana_ask.specs.Report.{kind_name}
 use Rattle.pana_ask.specs.Verdict.{verdict_line}
 use Rattle.pana_ask.specs.declared.verdict.Verdict.TheVariants.{Unrelated}
 use Rattle.pana_hall.specs.Living.{Copy, living, number_of}
@@ -23,19 +22,6 @@ use Rattle.pana_history.specs.declared.why.Unexplained.TheVariants.{Damaged, NoA
 -- the living copy at a place
 abbrev pub copy_at : List Copy → Place → Option Copy
 copy_at copies place = find (λ copy. same_place copy.place place) copies
-
--- a report's kind in a word
-abbrev pub kind_name : ReportKind → List ℕ
-kind_name Register = codes "register"
-kind_name Duplicate = codes "duplicate"
-kind_name Edit = codes "edit"
-kind_name Reconcile = codes "reconcile"
-kind_name Merge = codes "merge"
-kind_name Relocate = codes "relocate"
-kind_name Remove = codes "remove"
-kind_name Note = codes "note"
-kind_name Confirm = codes "confirm"
-kind_name Withdraw = codes "withdraw"
 
 -- the line that says that the copy with this name has an entry
 abbrev pub has_line : List ℕ → Entry → List ℕ

@@ -7,16 +7,16 @@ ghost use Rattle.pana_hall.specs.Family.{families};
 ghost use Rattle.pana_hall.specs.Living.{living};
 ghost use Rattle.pana_hall.specs.Status.{standing_at};
 ghost use Rattle.pana_history.specs.Lacking.{lacking};
-ghost use Rattle.pana_history.specs.Why.{Explains, IsDamage, IsExplained, difference_text, has_line, has_lines, kind_name};
+ghost use Rattle.pana_history.specs.Why.{Explains, IsDamage, IsExplained, difference_text, has_line, has_lines};
 ghost use Rattle.pana_history.specs.inner.Pages.{Stops};
 
 use crate::difference::{Difference, difference_between};
 use crate::pages::journal_of;
-use pana_ask::{Verdict, place_name, unknown_line};
+use pana_ask::{Verdict, kind_name, place_name, unknown_line};
 use pana_calls::{Call, Cause, CopyStanding, NoAnswer, Query, Reply, Session};
 use pana_copies::{DeviceName, Place};
 use pana_hall::{Hall, LoadCause, LoadFault};
-use pana_journal::{Entry, EntryList, ReportKind};
+use pana_journal::{Entry, EntryList};
 use pana_list::PlainList;
 use std::alloc::{AllocError, Global};
 
@@ -59,24 +59,6 @@ impl From<AllocError> for Unexplained {
 
     fn from(_: AllocError) -> Unexplained {
         Unexplained::OutOfMemory
-    }
-}
-
-/// A report's kind in a word.
-fn kind_name(kind: ReportKind) -> &'static str
-    ensures { result.now ≡ kind_name kind }
-{
-    match kind {
-        ReportKind::Register => "register",
-        ReportKind::Duplicate => "duplicate",
-        ReportKind::Edit => "edit",
-        ReportKind::Reconcile => "reconcile",
-        ReportKind::Merge => "merge",
-        ReportKind::Relocate => "relocate",
-        ReportKind::Remove => "remove",
-        ReportKind::Note => "note",
-        ReportKind::Confirm => "confirm",
-        ReportKind::Withdraw => "withdraw",
     }
 }
 
