@@ -30,12 +30,13 @@ def ran(program, *words, given=""):
     return done.returncode, done.stdout.decode(), done.stderr.decode()
 
 
-def on_terminal(stream, program, *words, given=""):
-    """What a terminal gets of a run whose standard output or standard error it is."""
+def on_terminal(stream, program, *words, given="", **environment):
+    """What a terminal gets of a run whose standard output or standard error it is, with more in its environment."""
     ours, theirs = pty.openpty()
     tty.setraw(theirs)
     streams = {"stdout": subprocess.DEVNULL, "stderr": subprocess.DEVNULL, stream: theirs}
-    with subprocess.Popen([program, *words], stdin=subprocess.PIPE, **streams) as started:
+    without = {name: value for name, value in os.environ.items() if name != "NO_COLOR"}
+    with subprocess.Popen([program, *words], stdin=subprocess.PIPE, env={**without, **environment}, **streams) as started:
         os.close(theirs)
         started.stdin.write(given.encode())
         started.stdin.close()
@@ -100,12 +101,27 @@ def messages(program, room):
         yield from differs(shown, raw.replace(RAW, SHOWN))
 
 
+def colours(program, room):
+    """What is in conflict is red on a terminal, and what is obsolete yellow; not elsewhere, nor where the user wants none."""
+    journal = str(room / "journal")
+    for words in ("register laptop:a", "duplicate laptop:a usb:a", "register laptop:conflict", "duplicate laptop:conflict usb:b", "edit laptop:a", "edit laptop:conflict", "edit usb:b"):
+        ran(program, "report", *words.split(), "--journal", journal)
+    rows = (("", "STATE     COPY             WHAT TO DO"), ("33", "obsolete  usb:a            take laptop:a"), ("31", "conflict  laptop:conflict  merge with usb:b"), ("31", "conflict  usb:b            merge with laptop:conflict"))
+    plain = "".join(f"{line}\n" for _, line in rows)
+    status = ("status", "--journal", journal)
+    yield from differs(ran(program, *status), (1, plain, ""))
+    yield from differs(on_terminal("stdout", program, *status), "".join(f"\x1b[{code}m{line}\x1b[0m\n" if code else f"{line}\n" for code, line in rows))
+    yield from differs(on_terminal("stdout", program, *status, NO_COLOR="1"), plain)
+    # What looks like a row but is none has no colour.
+    yield from differs(on_terminal("stdout", program, "why", "laptop:conflict", "usb:b", "--journal", journal), "laptop:conflict has 6 edit by laptop\nusb:b has 7 edit by usb\n")
+
+
 def help_texts(program, _):
     """Help is the same on a terminal."""
     yield from differs(on_terminal("stdout", program, "--help"), ran(program, "--help")[1])
 
 
-CHECKS = (tables, answers, kept_answers, scans, messages, help_texts)
+CHECKS = (tables, answers, kept_answers, scans, messages, colours, help_texts)
 
 
 if __name__ == "__main__":

@@ -3,6 +3,7 @@
 
 mod asking;
 mod client;
+mod colour;
 mod command;
 mod daemon;
 mod descriptors;

@@ -1,5 +1,6 @@
 //! What the program prints. A terminal gets each text as `pana_terminal` shows it.
 
+use crate::colour::{coloured, is_wanted};
 use crate::fault::ProgramFault;
 use pana_commands::Printout;
 use pana_terminal::{Screen, shown};
@@ -36,9 +37,22 @@ pub fn complain(rt: &HostRuntime, text: &str) -> Result<(), ProgramFault> {
     printed.map_err(|_| ProgramFault::Write)
 }
 
-/// Prints both texts, and returns the status. That standard error can't be written is no fault.
+/// Prints tables on standard output, on a terminal in colour.
+fn print_tables(rt: &HostRuntime, text: &str) -> Result<(), ProgramFault> {
+    if text.is_empty() || !rt.stdout().is_terminal() || !is_wanted(rt) {
+        return print_text(rt, text);
+    }
+    let safe = shown(rt.alloc(), text)?;
+    let tables = coloured(rt.alloc(), &safe)?;
+    match print!(rt; "{tables}") {
+        Ok(()) => Ok(()),
+        Err(_) => Err(ProgramFault::Write),
+    }
+}
+
+/// Prints both texts, the first with its tables in colour on a terminal, and returns the status. That standard error can't be written is no fault.
 pub fn print_out(rt: &HostRuntime, printout: &Printout) -> Result<ExitCode, ProgramFault> {
-    print_text(rt, &printout.out)?;
+    print_tables(rt, &printout.out)?;
     match complain(rt, &printout.err) {
         Ok(()) | Err(ProgramFault::Write) => Ok(ExitCode::from(printout.status)),
         Err(fault) => Err(fault),
