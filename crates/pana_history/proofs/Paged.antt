@@ -9,8 +9,8 @@ use Rattle.pana_calls.specs.declared.call.Query.TheVariants as queries
 use Rattle.pana_calls.specs.declared.reply.Reply.TheVariants.{At, Board, Did, Done, Families, Holdings, Journal, Known, Pair, Refused, Stamps, Status}
 use Rattle.pana_calls.specs.declared.answer.Answer.{Answer}
 use Rattle.pana_calls.specs.declared.answer.Answer.TheVariants.{Given, NotKept}
-use Rattle.pana_history.specs.Pages.{HasJournal, Pages, next_after}
-use Rattle.pana_history.specs.inner.Pages.{AsksPage, FullPages, Stops, page_in}
+use Rattle.pana_history.specs.Pages.{FullPages, HasJournal, Pages, Stops, next_after}
+use Rattle.pana_history.specs.inner.Pages.{AsksPage, page_in}
 
 -- what holds of a result that is no error
 pub was_ok : {T E : Type 0} → (r : Result T E) (P : Type 0) → OnOk r P → is_err r ≡ false → P

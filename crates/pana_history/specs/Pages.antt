@@ -23,3 +23,17 @@ Pages {S = S} step by (Some from) old (page ∷ pages) new = (mid : S) × step o
 -- the entries are those of all pages
 abbrev pub HasJournal : {S : Type 0} → (S → List ℕ → Call → Answer → S → Type 0) → List ℕ → S → S → List Entry → Type 0
 HasJournal step by old new entries = (pages : List (List Entry)) × Pages step by (Some 1) old pages new × (entries ≡ flat_map (λ page. page) pages)
+
+-- the device asks for these pages, from this number on, each of which is full; the next page is asked for from that number on
+abbrev pub FullPages : {S : Type 0} → (S → List ℕ → Call → Answer → S → Type 0) → List ℕ → ℕ → S → List (List Entry) → S → ℕ → Type 0
+FullPages step by from old [] new next = (new ≡ old) × (next ≡ from)
+FullPages {S = S} step by from old (page ∷ pages) new next = (mid : S) × (behind : ℕ) × step old by (calls.Query (queries.JournalFrom from)) (Given (Journal page)) mid
+    × (next_after from page ≡ Some behind) × FullPages step by behind mid pages new next
+
+-- the device asks for pages, and one has no answer
+pub record Stops {S : Type 0} (step : S → List ℕ → Call → Answer → S → Type 0) (fails : S → List ℕ → Call → S → Type 0) (by : List ℕ) (old new : S) : Type 0 where
+  pub pages : List (List Entry)
+  pub mid : S
+  pub from : ℕ
+  pub asked : FullPages step by 1 old pages mid from
+  pub failed : fails mid by (calls.Query (queries.JournalFrom from)) new

@@ -13,7 +13,7 @@ use Rattle.pana_ask.specs.Verdict.{verdict_line}
 use Rattle.pana_ask.specs.declared.verdict.Verdict.TheVariants.{Unrelated}
 use Rattle.pana_hall.specs.Living.{Copy, living, number_of}
 use Rattle.pana_history.specs.Lacking.{lacking}
-use Rattle.pana_history.specs.Pages.{HasJournal}
+use Rattle.pana_history.specs.Pages.{HasJournal, Stops}
 use Rattle.pana_hall.specs.Load.{StopsAt}
 use Rattle.pana_history.specs.declared.why.Explanation.{Explanation}
 use Rattle.pana_history.specs.declared.why.Unexplained.{Unexplained}
@@ -67,3 +67,9 @@ pub record Explains {S : Type 0} (step : S → List ℕ → Call → Answer → 
   pub journal : List Entry
   pub has : HasJournal step by old new journal
   pub explained : IsExplained journal first second explanation
+
+-- why nothing is said: a question has no answer; the journal that was answered is none; or memory ran out
+abbrev pub SaysNothing : {S : Type 0} → (S → List ℕ → Call → Answer → S → Type 0) → (S → List ℕ → Call → S → Type 0) → List ℕ → S → S → Unexplained → Type 0
+SaysNothing step fails by old new NoAnswer = Stops step fails by old new
+SaysNothing step fails by old new (Damaged fault) = (journal : List Entry) × HasJournal step by old new journal × StopsAt journal fault
+SaysNothing step fails by old new OutOfMemory = Unit {0}

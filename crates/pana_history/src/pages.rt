@@ -1,7 +1,7 @@
 //! The journal, asked for page by page.
 ghost use Rattle.std.specs.Prelude.{◌≡◌, IfOk, IfSome, OnErr};
-ghost use Rattle.pana_history.specs.Pages.{HasJournal, next_after};
-ghost use Rattle.pana_history.specs.inner.Pages.{AsksPage, Stops, page_in};
+ghost use Rattle.pana_history.specs.Pages.{HasJournal, Stops, next_after};
+ghost use Rattle.pana_history.specs.inner.Pages.{AsksPage, page_in};
 
 use pana_calls::{Answer, Call, NoAnswer, Query, Reply, Session};
 use pana_copies::DeviceName;

@@ -1,5 +1,5 @@
 //! What makes one of two copies obsolete, or sets them in conflict, for people.
-ghost use Rattle.std.specs.Prelude.{◌≡◌, ◌++◌, true, false, Some, IfOk, IfErr, OnOk, IsErrOf, string_bytes};
+ghost use Rattle.std.specs.Prelude.{◌≡◌, ◌++◌, true, false, Some, IfOk, IfErr, OnOk, string_bytes};
 ghost use Rattle.pana_ask.specs.Place.{place_name, unknown_line};
 ghost use Rattle.pana_ask.specs.Verdict.{verdict_line};
 ghost use Rattle.pana_hall.specs.Accepted.{IsAccepted};
@@ -7,8 +7,7 @@ ghost use Rattle.pana_hall.specs.Family.{families};
 ghost use Rattle.pana_hall.specs.Living.{living};
 ghost use Rattle.pana_hall.specs.Status.{standing_at};
 ghost use Rattle.pana_history.specs.Lacking.{lacking};
-ghost use Rattle.pana_history.specs.Why.{Explains, IsDamage, IsExplained, difference_text, has_line, has_lines};
-ghost use Rattle.pana_history.specs.inner.Pages.{Stops};
+ghost use Rattle.pana_history.specs.Why.{Explains, IsDamage, IsExplained, SaysNothing, difference_text, has_line, has_lines};
 
 use crate::difference::{Difference, difference_between};
 use crate::pages::journal_of;
@@ -284,7 +283,7 @@ pub fn why_on<S: Session>(
     second: &Place,
 ) -> Result<Explanation, Unexplained>
     ensures ok { IfOk result (Explains S.step by.now first.now second.now session.old session.new) }
-    ensures fails { IsErrOf result Unexplained.NoAnswer → Stops S.step S.fails by.now session.old session.new }
+    ensures err { IfErr result (SaysNothing S.step S.fails by.now session.old session.new) }
 {
     let Some(journal) = journal_of(alloc, session, by)? else {
         return Err(Unexplained::OutOfMemory);
