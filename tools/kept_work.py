@@ -1,8 +1,8 @@
 """What a build keeps of its proofs for the next one, in a file of each crate's: out/kept-work.tgz.
 
 While a crate is built, the kit keeps its proofs in out/incremental, and in out/rlib what the crates above load. Both
-together are some gigabytes. Once the program is built, the first is packed and the second goes, since the kit makes
-it again from the first. What stood in out/incremental before, as rt check leaves it, stays as it is.
+together are some gigabytes. The first is packed while other crates are proved; once the program is built, both go, since
+the kit makes the second again from the first. What stood in out/incremental before, as rt check leaves it, stays as it is.
 """
 from __future__ import annotations
 
@@ -40,13 +40,18 @@ def mark(out):
 
 
 def pack(out):
-    """Packs what a build has kept in a crate's folder out/, where it is the build's own."""
+    """Packs what a build has kept in a crate's folder out/, where it is the build's own. Nothing is taken away yet."""
     if (out / MARK).exists() and (out / "incremental").is_dir():
         new = out / f"{PACKED}.new"
-        if not tar("-C", out, "-cf", new, "incremental"):
+        if tar("-C", out, "-cf", new, "incremental"):
+            new.replace(out / PACKED)
+        else:
             new.unlink(missing_ok=True)
-            return
-        new.replace(out / PACKED)
+
+
+def clear(out):
+    """Takes away of a crate's folder out/ what is packed there."""
+    if (out / MARK).exists() and (out / PACKED).is_file():
         for part in PARTS:
             shutil.rmtree(out / part, ignore_errors=True)
 

@@ -1,7 +1,8 @@
 """Copies of the repository in which crates are proved at the same time: rt works in one crate of a copy at a time.
 
-The first lane is the repository itself. The other has the sources alone, and of each crate that is built in either the
-folder out/, by links to its files. Where there is no room for it, one lane has to do.
+The first lane is the repository itself. The others have the sources alone, and of each crate that is built in any the
+folder out/, by links to its files. There are as many as processors and memory allow; where the disk has no room for
+them, one has to do.
 """
 from __future__ import annotations
 
@@ -13,39 +14,56 @@ import kept_work
 PARTS = ("src", "specs", "proofs")
 LISTED, HANDLES = "crates.txt", "HANDLES"
 FOLDER = ".build/lane"
+MOST = 3
+# A crate's provers together have been seen to take so much.
+BYTES_A_LANE = 5_000_000_000
+
+
+def wanted():
+    """How many crates this machine can prove at the same time."""
+    try:
+        available = os.sysconf("SC_AVPHYS_PAGES") * os.sysconf("SC_PAGE_SIZE")
+    except (OSError, ValueError):
+        available = 0
+    return max(1, min(MOST, os.cpu_count() or 1, available // BYTES_A_LANE))
 
 
 class Lanes:
     """Folders of the repository, each for one crate at a time."""
 
     def __init__(self, top, names):
-        self.top, self.names, self.other, self.busy = top, names, top / FOLDER, set()
+        self.top, self.names, self.others, self.busy = top, names, top / FOLDER, set()
         self.tops = [top]
 
     def open(self):
-        """Makes the second lane."""
-        try:
-            shutil.rmtree(self.other, ignore_errors=True)
-            for name in self.names:
-                for part in PARTS:
-                    at = self.top / "crates" / name / part
-                    if at.is_dir():
-                        shutil.copytree(at, self.other / "crates" / name / part)
-                self.share(name, self.top, self.other)
-            # rt wants a folder of each crate that is listed.
-            lines = (self.top / LISTED).read_text(encoding="utf-8").splitlines(keepends=True)
-            listed = "".join(it for it in lines if it.partition(":")[0].strip() in self.names)
-            (self.other / LISTED).write_text(listed, encoding="utf-8")
-            if (self.top / HANDLES).is_file():
-                shutil.copy2(self.top / HANDLES, self.other / HANDLES)
-        except OSError:
-            self.close()
-            return
-        self.tops.append(self.other)
+        """Makes the other lanes."""
+        shutil.rmtree(self.others, ignore_errors=True)
+        for at in range(1, wanted()):
+            try:
+                self.copy_to(self.others / str(at))
+            except OSError:
+                self.close()
+                return
+            self.tops.append(self.others / str(at))
+
+    def copy_to(self, other):
+        """Copies the sources of all crates, and has what is built of them there too."""
+        for name in self.names:
+            for part in PARTS:
+                at = self.top / "crates" / name / part
+                if at.is_dir():
+                    shutil.copytree(at, other / "crates" / name / part)
+            self.share(name, self.top, other)
+        # rt wants a folder of each crate that is listed.
+        lines = (self.top / LISTED).read_text(encoding="utf-8").splitlines(keepends=True)
+        listed = "".join(it for it in lines if it.partition(":")[0].strip() in self.names)
+        (other / LISTED).write_text(listed, encoding="utf-8")
+        if (self.top / HANDLES).is_file():
+            shutil.copy2(self.top / HANDLES, other / HANDLES)
 
     def close(self):
         self.tops = [self.top]
-        shutil.rmtree(self.other, ignore_errors=True)
+        shutil.rmtree(self.others, ignore_errors=True)
 
     def count(self):
         return len(self.tops)

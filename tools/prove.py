@@ -2,10 +2,10 @@
 """Proves the libraries of the program and then the program, links it, and tries it on an empty session.
 
 usage: prove.py RT LOG
-RT is the kit's command rt; all that it prints goes to the file LOG. Two crates are proved at a time where neither
-uses the other, each in a copy of the repository of its own (lanes.py). On standard error stands how far it is: on a
+RT is the kit's command rt; all that it prints goes to the file LOG. Up to three crates are proved at a time where none
+uses another, each in a copy of the repository of its own (lanes.py). On standard error stands how far it is: on a
 terminal one line that changes, elsewhere a line for each crate. Each crate's proofs are kept in its folder out/, so a
-run that is interrupted is gone on with by the next. Once the program is built they are packed (kept_work.py).
+run that is interrupted is gone on with by the next. They are packed meanwhile (kept_work.py).
 """
 from __future__ import annotations
 
@@ -16,6 +16,7 @@ import signal
 import subprocess
 import sys
 import time
+from concurrent.futures import ThreadPoolExecutor
 from pathlib import Path
 
 import kept_work
@@ -65,6 +66,7 @@ class Waiting:
             behind[name] += lines_of_code(name)
             for it in self.below[name]:
                 behind[it] = max(behind[it], behind[name])
+        self.behind = behind
         self.left = sorted(names, key=lambda it: -behind[it])
 
     def ready(self):
@@ -147,22 +149,24 @@ class Progress:
 
 
 class Builds:
-    """The crates that are being built, each in a lane of its own."""
+    """The crates that are being built, each in a lane of its own, and what packs the proofs of those that are done."""
 
     def __init__(self, rt, waiting, lanes):
         self.rt, self.waiting, self.lanes, self.running = rt, waiting, lanes, selectors.DefaultSelector()
+        self.packing = ThreadPoolExecutor(1)
 
     def all(self):
         return [it.fileobj for it in self.running.get_map().values()]
 
     def begin(self):
-        """Begins as many as may run; one that nothing can run beside gets all processors, the others a part."""
+        """Begins as many as may run. That with the longest chain behind it gets all processors, the others a part."""
         while (free := self.lanes.free()) and (ready := self.waiting.ready()):
-            count = os.cpu_count()
-            jobs = count if len(ready) == 1 and not self.all() else max(count // self.lanes.count(), 1)
-            self.waiting.begin(ready[0])
-            self.lanes.take(free[0], ready[0])
-            self.running.register(Build(self.rt, ready[0], jobs, free[0]), selectors.EVENT_READ)
+            name, count = ready[0], os.cpu_count()
+            longest = max((self.waiting.behind[it.name] for it in self.all()), default=0)
+            jobs = count if self.waiting.behind[name] >= longest else max(count // 2, 1)
+            self.waiting.begin(name)
+            self.lanes.take(free[0], name)
+            self.running.register(Build(self.rt, name, jobs, free[0]), selectors.EVENT_READ)
 
     def ended(self):
         """Waits a second at most, and returns those that have ended."""
@@ -172,9 +176,14 @@ class Builds:
             self.lanes.give_back(it.top, it.name)
         return ended
 
+    def pack(self, name):
+        """Has the proofs of a crate packed beside what else runs."""
+        self.packing.submit(kept_work.pack, TOP / "crates" / name / "out")
+
     def stop(self):
         for it in self.all():
             it.stop()
+        self.packing.shutdown(cancel_futures=True)
 
 
 def build(builds, log, progress):
@@ -187,6 +196,7 @@ def build(builds, log, progress):
             progress.end(it, is_built)
             if not is_built:
                 return False
+            builds.pack(it.name)
             builds.waiting.end(it.name)
         builds.begin()
         progress.show(builds.all())
@@ -206,7 +216,8 @@ def main(rt, log):
         with open(log, "w", encoding="utf-8") as log:
             is_built = build(builds, log, progress)
         if is_built:
-            kept_work.each(kept_work.pack, outs)
+            builds.packing.shutdown()
+            kept_work.each(kept_work.clear, outs)
         return 0 if is_built else 1
     except KeyboardInterrupt:
         progress.clear()

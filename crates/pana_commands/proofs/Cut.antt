@@ -13,7 +13,7 @@ use Rattle.pana_track.specs.declared.folder_end.FolderEnd.{FolderEnd}
 use Rattle.pana_track.specs.inner.Pages.{Stops}
 use Rattle.pana_track.proofs.Reported.{makes_on}
 use Rattle.pana_calls.specs.declared.answer.Answer.{Answer}
-use Rattle.pana_commands.specs.declared.tracking.ReadFolder.{ReadFolder}
+use Rattle.pana_track.specs.declared.read_folder.ReadFolder.{ReadFolder}
 use Rattle.pana_commands.specs.Track.{HasNoAnswer, IsCut, TracksAll}
 
 module _ {S : Type 0} (step : S → List ℕ → Call → Answer → S → Type 0) (fails : S → List ℕ → Call → S → Type 0) where

@@ -16,7 +16,7 @@ use Rattle.pana_track.specs.declared.reading.TrackedListing.{TrackedListing}
 use Rattle.pana_wire.specs.Reply.{reply_text}
 use Rattle.pana_calls.specs.declared.answer.Answer.{Answer}
 use Rattle.pana_commands.specs.declared.printout.Printout.{Printout}
-use Rattle.pana_commands.specs.declared.tracking.ReadFolder.{ReadFolder}
+use Rattle.pana_track.specs.declared.read_folder.ReadFolder.{ReadFolder}
 use Rattle.pana_commands.specs.declared.tracking.StatusForm.{StatusForm}
 use Rattle.pana_commands.specs.declared.tracking.StatusForm.TheVariants.{Table, Json, Nothing}
 use Rattle.pana_commands.specs.declared.untracked.Untracked.{Untracked}

@@ -23,5 +23,5 @@ pub use crate::scanning::scan_on;
 pub use crate::showing::show_on;
 pub use crate::status::status_on;
 pub use crate::tables::tables_of;
-pub use crate::tracking::{ReadFolder, StatusForm, track_on};
+pub use crate::tracking::{StatusForm, track_on};
 pub use crate::untracked::Untracked;

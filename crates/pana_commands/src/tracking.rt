@@ -12,16 +12,9 @@ use pana_calls::{NoAnswer, Reply, Session, StatusRow};
 use pana_copies::DeviceName;
 use pana_list::PlainList;
 use pana_report::print_status;
-use pana_track::{ReadFault, TrackedListing, status_of, track_folder};
+use pana_track::{ReadFolder, status_of, track_folder};
 use pana_wire::encode;
 use std::alloc::{AllocError, Global};
-
-/// A folder that is to be tracked, and what reading it has given.
-#[derive(Debug, Drop)]
-pub struct ReadFolder {
-    pub device: DeviceName,
-    pub given: Result<TrackedListing, ReadFault>,
-}
 
 /// How the copies that are obsolete or in conflict are shown.
 #[derive(Clone, Copy, Debug, PartialEq, Eq)]

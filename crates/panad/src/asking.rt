@@ -1,14 +1,13 @@
 //! What commands that ask or report by place have in common.
 
 use crate::command::refuse;
-use crate::fault::ProgramFault;
-use crate::options::Keeper;
 use crate::printing::print_out;
 use crate::track::{ASKER, report};
 use clap::error::ErrorKind;
 use pana_ask::{AskFault, read_place, unknown_line};
 use pana_commands::Printout;
 use pana_copies::{DeviceName, NameFault, Place};
+use pana_files::{Keeper, ProgramFault};
 use std::process::ExitCode;
 
 /// The device in whose name questions are asked.

@@ -1,10 +1,9 @@
 //! `panad serve`.
 
-use crate::fault::ProgramFault;
-use crate::keeping::{NoStore, open_store};
 use crate::printing::print_out;
 use pana_commands::Printout;
 use pana_daemon::{PassedOver, SystemDisks};
+use pana_files::{NoStore, ProgramFault, open_store};
 use pana_log::FileDevice;
 use pana_serve::{System, Wishes, serve_on};
 use pana_store::Store;

@@ -2,6 +2,7 @@
 
 use clap::{Arg, ArgAction, ArgMatches, Command, value_parser};
 use pana_commands::StatusForm;
+use pana_files::Keeper;
 use std::alloc::{AllocError, Global};
 
 /// The name of the journal's file on the command line.
@@ -16,25 +17,6 @@ pub const ONE_FILE_SYSTEM: &str = "one-file-system";
 const QUIET: &str = "quiet";
 
 const JSON: &str = "json";
-
-/// Who keeps the reports.
-#[derive(Clone, Copy)]
-pub enum Keeper<'a> {
-    /// The journal in the file with this name.
-    Journal(&'a str),
-    /// The daemon on this port of 127.0.0.1.
-    Daemon(u16),
-}
-
-impl Keeper<'_> {
-    /// What is printed where a call has no answer.
-    pub fn no_answer(self) -> &'static str {
-        match self {
-            Keeper::Journal(_) => "journal failed",
-            Keeper::Daemon(_) => "the daemon gives no answer",
-        }
-    }
-}
 
 /// An option without a value.
 pub fn flag<'a>(alloc: Global, name: &'a str, help: &'a str) -> Arg<'a> {

@@ -1,54 +1,8 @@
-//! What the program prints. A terminal gets each text as `pana_terminal` shows it.
+//! What commands answer, printed.
 
-use crate::colour::{coloured, is_wanted};
-use crate::fault::ProgramFault;
 use pana_commands::Printout;
-use pana_terminal::{Screen, shown};
-use std::io::{self, BufWriter, IsTerminal, Printer};
+use pana_files::{ProgramFault, complain, print_tables};
 use std::process::ExitCode;
-
-/// Standard output, for a session to write to.
-pub type Output<'a> = Screen<BufWriter<Printer<'a, HostRuntime>>>;
-
-/// Standard output behind a buffer.
-pub fn output(rt: &HostRuntime) -> Result<Output<'_>, ProgramFault> {
-    let alloc = rt.alloc();
-    let buffered = BufWriter::new(alloc, io::writer(rt)).map_err(|_| ProgramFault::OutOfMemory)?;
-    Ok(Screen::new(alloc, buffered, rt.stdout().is_terminal()))
-}
-
-/// Prints a text on standard output.
-pub fn print_text(rt: &HostRuntime, text: &str) -> Result<(), ProgramFault> {
-    let printed = if rt.stdout().is_terminal() {
-        print!(rt; "{}", shown(rt.alloc(), text)?)
-    } else {
-        print!(rt; "{text}")
-    };
-    printed.map_err(|_| ProgramFault::Write)
-}
-
-/// Prints a text on standard error.
-pub fn complain(rt: &HostRuntime, text: &str) -> Result<(), ProgramFault> {
-    let printed = if rt.stderr().is_terminal() {
-        eprint!(rt; "{}", shown(rt.alloc(), text)?)
-    } else {
-        eprint!(rt; "{text}")
-    };
-    printed.map_err(|_| ProgramFault::Write)
-}
-
-/// Prints tables on standard output, on a terminal in colour.
-fn print_tables(rt: &HostRuntime, text: &str) -> Result<(), ProgramFault> {
-    if text.is_empty() || !rt.stdout().is_terminal() || !is_wanted(rt) {
-        return print_text(rt, text);
-    }
-    let safe = shown(rt.alloc(), text)?;
-    let tables = coloured(rt.alloc(), &safe)?;
-    match print!(rt; "{tables}") {
-        Ok(()) => Ok(()),
-        Err(_) => Err(ProgramFault::Write),
-    }
-}
 
 /// Prints both texts, the first with its tables in colour on a terminal, and returns the status. That standard error can't be written is no fault.
 pub fn print_out(rt: &HostRuntime, printout: &Printout) -> Result<ExitCode, ProgramFault> {

@@ -1,17 +1,15 @@
 //! `panad report`: one report, to the store of a journal or a daemon.
 
 use crate::asking::{print_fault, print_line, report_no_daemon};
-use crate::client::connect;
 use crate::command::refuse;
-use crate::fault::ProgramFault;
-use crate::keeping::{NoStore, open_store};
-use crate::options::{Keeper, keeper_of, with_keeper};
+use crate::options::{keeper_of, with_keeper};
 use crate::track::{FAULT, report};
 use clap::error::ErrorKind;
 use clap::{Arg, ArgAction, ArgMatches, Command};
 use pana_ask::{PlacedReport, ReportWord, Words, WordsFault, read_report, report_on};
 use pana_calls::Session;
 use pana_copies::DeviceName;
+use pana_files::{Keeper, NoStore, ProgramFault, connect, open_store};
 use std::alloc::{AllocError, Global};
 use std::process::ExitCode;
 

@@ -2,15 +2,13 @@
 
 use crate::command::refuse;
 use crate::daemon;
-use crate::fault::ProgramFault;
 use crate::options::{
     JOURNAL, ONE_FILE_SYSTEM, PORT, flag, journal_option, one_file_system_option, port_option,
 };
-use crate::passed_over::{OwnFile, passed_over, root_patterns, slices_of};
-use crate::track::fault_of_roots;
 use clap::error::ErrorKind;
 use clap::{Arg, ArgAction, ArgMatches, Command, value_parser};
 use pana_daemon::{Looks, Patience, Root, roots_of};
+use pana_files::{OwnFile, ProgramFault, fault_of_roots, passed_over, root_patterns, slices_of};
 use pana_serve::Wishes;
 use std::alloc::{AllocError, Global};
 use std::marker::Sync;

@@ -1,14 +1,12 @@
 //! `panad show` of a journal's file or a daemon.
 
 use crate::asking::asker;
-use crate::client::connect;
-use crate::fault::ProgramFault;
-use crate::keeping::{NoStore, open_hall};
-use crate::options::{JOURNAL, Keeper, PORT, flag, journal_option, port_option};
+use crate::options::{JOURNAL, PORT, flag, journal_option, port_option};
 use crate::printing::print_out;
 use clap::{Arg, ArgMatches, Command, value_parser};
 use pana_calls::Session;
 use pana_commands::{Printout, Untracked, table_on, tables_on};
+use pana_files::{Keeper, NoStore, ProgramFault, connect, open_hall};
 use std::alloc::{AllocError, Global};
 use std::process::ExitCode;
 

@@ -1,10 +1,7 @@
 //! `panad status`: what is obsolete or in conflict, by a journal's file or a daemon.
 
-use crate::client::connect;
 use crate::command::refuse;
-use crate::fault::ProgramFault;
-use crate::keeping::{NoStore, open_hall};
-use crate::options::{Keeper, form_of, keeper_of, with_forms, with_keeper};
+use crate::options::{form_of, keeper_of, with_forms, with_keeper};
 use crate::printing::print_out;
 use crate::track::{ASKER, FAULT, report};
 use clap::error::ErrorKind;
@@ -12,6 +9,7 @@ use clap::{Arg, ArgAction, ArgMatches, Command};
 use pana_calls::Session;
 use pana_commands::{Untracked, status_on};
 use pana_copies::DeviceName;
+use pana_files::{Keeper, NoStore, ProgramFault, connect, open_hall};
 use std::alloc::{AllocError, Global};
 use std::process::ExitCode;
 

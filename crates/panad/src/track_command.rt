@@ -1,14 +1,14 @@
 //! The words of `panad track`.
 
 use crate::command::refuse;
-use crate::fault::ProgramFault;
 use crate::options::{
     ONE_FILE_SYSTEM, flag, form_of, keeper_of, one_file_system_option, with_forms, with_keeper,
 };
-use crate::track::{FAULT, TrackWishes, fault_of_roots, track};
+use crate::track::{FAULT, TrackWishes, track};
 use clap::error::ErrorKind;
 use clap::{Arg, ArgAction, ArgMatches, Command};
 use pana_daemon::{RootFault, roots_of};
+use pana_files::{ProgramFault, ReadingWishes, fault_of_roots};
 use std::alloc::{AllocError, Global};
 use std::marker::Sync;
 use std::process::ExitCode;
@@ -104,13 +104,16 @@ fn obey<T: Threads + Sync>(
         }
         Err(RootFault::OutOfMemory) => return Err(ProgramFault::OutOfMemory),
     };
-    let wishes = TrackWishes {
+    let reading = ReadingWishes {
         keeper: keeper_of(words),
         sums: words.get_str(SUMS),
         ignored: words.get_strs(IGNORE).unwrap_or(&[]),
-        may_be_empty: words.get_flag(EMPTY),
         reads_all: words.get_flag(READ_ALL),
         stays: words.get_flag(ONE_FILE_SYSTEM),
+    };
+    let wishes = TrackWishes {
+        reading,
+        may_be_empty: words.get_flag(EMPTY),
         form: form_of(words),
     };
     match fault_of_roots(rt, roots.as_slice())? {

@@ -1,14 +1,12 @@
 //! `panad why`: what each of two copies knows that the other lacks, by a journal's file or a daemon.
 
 use crate::asking::{asker, place_of, print_line, refuse_place, report_no_daemon};
-use crate::client::connect;
-use crate::fault::ProgramFault;
-use crate::keeping::{NoStore, open_hall};
-use crate::options::{Keeper, keeper_of, with_keeper};
+use crate::options::{keeper_of, with_keeper};
 use crate::track::{FAULT, report};
 use clap::{Arg, ArgMatches, Command};
 use pana_calls::Session;
 use pana_copies::Place;
+use pana_files::{Keeper, NoStore, ProgramFault, connect, open_hall};
 use pana_history::{Unexplained, why_on};
 use std::alloc::{AllocError, Global};
 use std::process::ExitCode;

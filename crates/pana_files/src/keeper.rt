@@ -1,0 +1,18 @@
+/// Who keeps the reports.
+#[derive(Clone, Copy)]
+pub enum Keeper<'a> {
+    /// The journal in the file with this name.
+    Journal(&'a str),
+    /// The daemon on this port of 127.0.0.1.
+    Daemon(u16),
+}
+
+impl Keeper<'_> {
+    /// What is printed where a call has no answer.
+    pub fn no_answer(self) -> &'static str {
+        match self {
+            Keeper::Journal(_) => "journal failed",
+            Keeper::Daemon(_) => "the daemon gives no answer",
+        }
+    }
+}

@@ -1,0 +1,27 @@
+//! What the program reads and writes outside itself: journals' files, files of sums, folders that are read, standard streams, and a
+//! daemon's port.
+#![tactic(auto)]
+
+mod client;
+mod colour;
+mod descriptors;
+mod fault;
+mod folders;
+mod journal_file;
+mod journals;
+mod keeper;
+mod passed_over;
+mod printing;
+mod progress;
+mod sums_file;
+
+pub use crate::client::{DaemonClient, connect};
+pub use crate::descriptors::take_standard_descriptors;
+pub use crate::fault::ProgramFault;
+pub use crate::folders::{ReadingWishes, fault_of_roots, read_folders};
+pub use crate::journals::{NoStore, open_hall, open_store};
+pub use crate::keeper::Keeper;
+pub use crate::passed_over::{OwnFile, RootPatterns, passed_over, root_patterns, slices_of};
+pub use crate::printing::{Output, complain, output, print_tables, print_text};
+pub use crate::progress::Progress;
+pub use crate::sums_file::may_keep_sums;

@@ -1,0 +1,10 @@
+use crate::read_fault::ReadFault;
+use crate::reading::TrackedListing;
+use pana_copies::DeviceName;
+
+/// A folder that is to be tracked, and what reading it has given.
+#[derive(Debug, Drop)]
+pub struct ReadFolder {
+    pub device: DeviceName,
+    pub given: Result<TrackedListing, ReadFault>,
+}
