@@ -28,11 +28,12 @@ printf '%s %s\\n' "$(basename -- "$PWD")" "$*" >>"$kit/calls"
 LIB = "printf 'so far: 2 of 5 functions checked\\nlogic=proved\\n'"
 PROGRAM = "mkdir -p out; printf '#!/bin/sh\\necho answers\\n' >out/panad; chmod +x out/panad"
 # What becomes of an edit is what its file says, or else what the file `all` beside `does` says.
-CI = f"""passed=2 failed=0
+EDITS = """passed=2 failed=0
 for it in crates/*/must-fail/*.edit; do
   [ -f "$it" ] || continue
-  crate=${{it#crates/}} crate=${{crate%%/*}}
-  name=$crate/${{it##*/}}
+  crate=${it#crates/} crate=${crate%%/*}
+  name=$crate/${it##*/}
+  case " $* " in " must-fail"*" $crate "*|" ci "*) ;; *) continue ;; esac
   printf '%s\\n' "$name" >>"$kit/tried"
   case $(cat "$kit/all" "$it" 2>/dev/null | head -n 1) in
     refused) said='refused, as it must be: ./src/lib.rt:1:1: error' passed=$((passed + 1)) ;;
@@ -41,14 +42,15 @@ for it in crates/*/must-fail/*.edit; do
     *) said='NOT REFUSED: the crate is still proved with this edit' failed=$((failed + 1)) ;;
   esac
   printf 'rt: must-fail %s: %s\\n' "$name" "$said"
-done
+done"""
+CI = f"""{EDITS}
 (cd crates/panad; {PROGRAM})
 printf '%s passed, %s failed\\n' "$passed" "$failed"
 [ "$failed" -eq 0 ]"""
-WELL = f'case "$1" in lib) {LIB} ;; run) {PROGRAM} ;; ci) {CI} ;; esac'
+WELL = f'case "$1" in lib) {LIB} ;; run) {PROGRAM} ;; ci) {CI} ;; must-fail) {EDITS} ;; esac'
 STUB = "print('1 passed, 0 failed')\n"
 # What is no stub: the scripts that the checks look at.
-REAL = {"edits.py", "gate.py", "quick.py"}
+REAL = {"edits.py", "gate.py", "quick.py", "try_edits.py"}
 
 
 class Kit:
@@ -374,6 +376,21 @@ def all_edits(kit):
             yield f"it ended with {status}, the record {kit.record()} and printed {output[-400:]!r}"
 
 
+def edits_of_crates(kit):
+    """./test edits CRATE tries the edits of that crate alone, without rt ci, and writes their lines; one that is not refused fails, and a crate without edits too."""
+    kit.has_edits(4, "refused")
+    status, output, _ = kit.run("./test", "edits", "high")
+    tried, calls = kit.tried(), kit.calls()
+    if status or len(tried) != 2 or [it.split()[0] for it in kit.record()] != sorted(tried) or calls != ["repository must-fail high"]:
+        yield f"it ended with {status}, called {calls}, tried {tried}, and the record is {kit.record()}: {output[-400:]!r}"
+    if kit.run("./test")[0] or len(kit.tried()) > 3:
+        yield "./test tries them again"
+    (kit.kit / "all").write_text("missed\n")
+    status, output, _ = kit.run("./test", "edits", "high", "panad")
+    if status != 1 or "panad is no crate with must-fail edits" not in output or any(it.startswith("high/") for it in kit.record()):
+        yield f"it ended with {status}, the record {kit.record()} and printed {output[-400:]!r}"
+
+
 def quick(kit):
     """./test quick doesn't call rt ci, and keeps the program that is built by then."""
     made = kit.repository / "crates" / "panad" / "out" / "panad"
@@ -401,7 +418,7 @@ def passes(check):
 
 
 CHECKS = (other_arguments, first_use, on_a_terminal, failed_proof, two_at_a_time, interrupted, ended_alone, gate_that_passes, quick)
-CHECKS += (kept_for_the_next, text_first, how_long, untried_edits, stale_edits, wrong_record, edits_not_refused, edits_of_failed_crates, all_edits)
+CHECKS += (kept_for_the_next, text_first, how_long, untried_edits, stale_edits, wrong_record, edits_not_refused, edits_of_failed_crates, all_edits, edits_of_crates)
 
 
 def main():
