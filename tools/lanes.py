@@ -1,31 +1,35 @@
 """Copies of the repository in which crates are proved at the same time: rt works in one crate of a copy at a time.
 
 The first lane is the repository itself. The others have the sources alone, and of each crate that is built in any the
-folder out/, by links to its files. There are as many as processors and memory allow; where the disk has no room for
-them, one has to do.
+folder out/, by links to its files. There are four where memory allows, and else two; where the disk has no room for them,
+one has to do.
 """
 from __future__ import annotations
 
 import os
+import re
 import shutil
+from pathlib import Path
 
 import kept_work
 
 PARTS = ("src", "specs", "proofs")
 LISTED, HANDLES = "crates.txt", "HANDLES"
 FOLDER = ".build/lane"
-MOST = 3
-# A crate's provers together have been seen to take so much.
-BYTES_A_LANE = 5_000_000_000
+# How many there are, and how many where that much memory isn't available: the provers of a crate have been seen to take five
+# gigabytes together.
+MANY, FEW = 4, 2
+BYTES_FOR_MANY = 15_000_000_000
+AVAILABLE = re.compile(r"^MemAvailable:\s+(\d+) kB$", re.MULTILINE)
 
 
 def wanted():
     """How many crates this machine can prove at the same time."""
     try:
-        available = os.sysconf("SC_AVPHYS_PAGES") * os.sysconf("SC_PAGE_SIZE")
-    except (OSError, ValueError):
-        available = 0
-    return max(1, min(MOST, os.cpu_count() or 1, available // BYTES_A_LANE))
+        found = AVAILABLE.search(Path("/proc/meminfo").read_text(encoding="ascii"))
+    except OSError:
+        found = None
+    return MANY if found and int(found[1]) * 1024 >= BYTES_FOR_MANY else FEW
 
 
 class Lanes:

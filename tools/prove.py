@@ -2,7 +2,7 @@
 """Proves the libraries of the program and then the program, links it, and tries it on an empty session.
 
 usage: prove.py RT LOG
-RT is the kit's command rt; all that it prints goes to the file LOG. Up to three crates are proved at a time where none
+RT is the kit's command rt; all that it prints goes to the file LOG. Up to four crates are proved at a time where none
 uses another, each in a copy of the repository of its own (lanes.py). On standard error stands how far it is: on a
 terminal one line that changes, elsewhere a line for each crate. Each crate's proofs are kept in its folder out/, so a
 run that is interrupted is gone on with by the next. They are packed meanwhile (kept_work.py).
@@ -11,6 +11,7 @@ from __future__ import annotations
 
 import os
 import re
+import resource
 import selectors
 import signal
 import subprocess
@@ -84,8 +85,8 @@ class Build:
     """A crate that rt proves and builds, in a process of its own. Only what is proved is built."""
 
     def __init__(self, rt, name, jobs, top):
-        self.name, self.top, self.begun = name, top, time.monotonic()
-        self.functions, self.lines, self.held = "", [], b""
+        self.name, self.top, self.jobs, self.begun = name, top, jobs, time.monotonic()
+        self.functions, self.lines, self.held, self.took = "", [], b"", ""
         words = ["run", f"--jobs={jobs}", "--", "run"] if name == PROGRAM else ["lib", f"--jobs={jobs}"]
         how = {"stdin": subprocess.DEVNULL, "stdout": subprocess.PIPE, "stderr": subprocess.STDOUT}
         self.process = subprocess.Popen([rt, *words], cwd=top / "crates" / name, **how)
@@ -105,15 +106,21 @@ class Build:
         return bool(more)
 
     def is_built(self):
+        """Waits until rt has ended, and notes what it took, with all that it started."""
         self.process.stdout.close()
-        return self.process.wait() == 0
+        before = resource.getrusage(resource.RUSAGE_CHILDREN)
+        self.process.wait()
+        after = resource.getrusage(resource.RUSAGE_CHILDREN)
+        used = after.ru_utime - before.ru_utime + after.ru_stime - before.ru_stime
+        self.took = f"{minutes(time.monotonic() - self.begun)} min, {minutes(used)} of processors, jobs={self.jobs}"
+        return self.process.returncode == 0
 
     def stop(self):
         self.process.terminate()
         self.is_built()
 
     def write_to(self, log):
-        print(f"== {self.name}", *self.lines, sep="\n", file=log, flush=True)
+        print(f"== {self.name}: {self.took}", *self.lines, sep="\n", file=log, flush=True)
 
 
 def minutes(seconds):
@@ -159,14 +166,16 @@ class Builds:
         return [it.fileobj for it in self.running.get_map().values()]
 
     def begin(self):
-        """Begins as many as may run. That with the longest chain behind it gets all processors, the others a part."""
+        """Begins as many as may run, so that there are as many provers as processors: one prover for each crate, since two
+        of a crate take more time together, and those that no other crate could have for that with the longest chain."""
         while (free := self.lanes.free()) and (ready := self.waiting.ready()):
-            name, count = ready[0], os.cpu_count()
-            longest = max((self.waiting.behind[it.name] for it in self.all()), default=0)
-            jobs = count if self.waiting.behind[name] >= longest else max(count // 2, 1)
-            self.waiting.begin(name)
-            self.lanes.take(free[0], name)
-            self.running.register(Build(self.rt, name, jobs, free[0]), selectors.EVENT_READ)
+            idle = os.cpu_count() - sum(it.jobs for it in self.all())
+            if idle <= 0 and self.all():
+                return
+            jobs = max(idle - min(len(ready), len(free)) + 1, 1)
+            self.waiting.begin(ready[0])
+            self.lanes.take(free[0], ready[0])
+            self.running.register(Build(self.rt, ready[0], jobs, free[0]), selectors.EVENT_READ)
 
     def ended(self):
         """Waits a second at most, and returns those that have ended."""
