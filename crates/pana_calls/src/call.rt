@@ -38,6 +38,13 @@ pub enum Query {
     JournalFrom {
         entry: u64,
     },
+    /// The same. Whoever asks would wait so many seconds for an entry with this number; a hall by itself answers at once.
+    JournalAwaited {
+        entry: u64,
+        seconds: u64,
+    },
+    /// How many copies live, and on how many devices.
+    Counts,
 }
 
 /// What was seen at a place, by whoever looks at files and knows no numbers of copies.

@@ -2,6 +2,7 @@ use crate::board::BoardView;
 use crate::cause::Cause;
 use crate::copy_stamp::CopyStamp;
 use crate::family_row::FamilyRow;
+use crate::hall_counts::HallCounts;
 use crate::holding::HoldingList;
 use crate::standing::{CopyStanding, StatusRow};
 use pana_event::Rel;
@@ -33,6 +34,8 @@ pub enum Reply {
     Status(PlainList<StatusRow>),
     /// Entries of the journal.
     Journal(EntryList),
+    /// How many copies live, and on how many devices.
+    Counts(HallCounts),
     /// The call was refused, and changed nothing.
     Refused(Cause),
 }

@@ -38,6 +38,11 @@ pub trait Session {
         ensures settles { OnOk result (settles self.old self.new) }
         ensures breaks_off { OnErr result (breaks_off self.old self.new) };
 
+    /// How many entries its journal has, as far as it knows: for who waits for a further one, and no part of any answer.
+    fn entries(&self) -> u64 {
+        0
+    }
+
     /// Whether a report takes as long as a disk does.
     fn is_slow(&self) -> bool {
         false

@@ -4,7 +4,7 @@ ghost use Rattle.pana_wire.specs.Answer.{answer_text};
 
 use crate::own_paths::holding_list;
 use crate::row_reading::{Row, member, number_in, number_or_none, rows_in, text_in, truth_in};
-use pana_calls::{Answer, BoardView, Cause, CopyStanding, Reply};
+use pana_calls::{Answer, BoardView, Cause, CopyStanding, HallCounts, Reply};
 use pana_event::Rel;
 use pana_journal::ReportKind;
 use pana_list::PlainList;
@@ -126,6 +126,7 @@ fn reply_in(alloc: Global, name: &str, value: &Value) -> Result<Reply, AnswerFau
         "pair" => Ok(Reply::Pair(rel_named(text_in(value, name)?)?)),
         "at" => at_in(alloc, value),
         "board" => board_in(alloc, value),
+        "counts" => counts_in(value),
         _ => list_in(alloc, name, value),
     }
 }
@@ -169,6 +170,14 @@ fn at_in(alloc: Global, value: &Value) -> Result<Reply, AnswerFault> {
     }
     let standing = CopyStanding::read(alloc, standing)?;
     Ok(Reply::At(Some(standing)))
+}
+
+fn counts_in(value: &Value) -> Result<Reply, AnswerFault> {
+    let counts = member(value, "counts")?;
+    Ok(Reply::Counts(HallCounts {
+        copies: number_in(counts, "copies")?,
+        devices: number_in(counts, "devices")?,
+    }))
 }
 
 fn board_in(alloc: Global, value: &Value) -> Result<Reply, AnswerFault> {

@@ -112,6 +112,13 @@ fn query_object(alloc: Global, by: &DeviceName, query: &Query) -> Result<Value, 
             page_object(alloc, by, "status", device.as_ref(), Some(*from))
         }
         Query::JournalFrom { entry } => page_object(alloc, by, "journal", None, Some(*entry)),
+        Query::JournalAwaited { entry, seconds } => json!(in alloc; {
+            "by": by.as_str(),
+            "do": "journal",
+            "from": *entry,
+            "wait": *seconds
+        }),
+        Query::Counts => json!(in alloc; { "by": by.as_str(), "do": "counts" }),
     }
 }
 

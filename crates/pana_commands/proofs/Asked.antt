@@ -30,6 +30,7 @@ asked journal by query (replies.Holdings holdings) = refl
 asked journal by query (replies.At standing) = refl
 asked journal by query (replies.Status rows) = refl
 asked journal by query (replies.Journal entries) = refl
+asked journal by query (replies.Counts counts) = refl
 asked journal by query (replies.Refused cause) = refl
 
 board_by : (cause : Option Cause) (journal : List Entry) (family : ℕ) (board : BoardView)

@@ -62,7 +62,7 @@ one_index (q ∷ ps) (suc i) zero p apart first second = absurd (not_later q ps 
 one_index (q ∷ ps) (suc i) (suc j) p apart first second = ap suc (one_index ps i j p (IsDistinct-tail same_place q ps apart) first second)
 
 -- where a test passes, it passes at an index
-place_from_any : {X : Type 0} (test : X → Bool) (xs : List X) → list_any test xs ≡ true → (i : ℕ) × (x : X) × (slice_get xs i ≡ Some x) × (test x ≡ true)
+pub place_from_any : {X : Type 0} (test : X → Bool) (xs : List X) → list_any test xs ≡ true → (i : ℕ) × (x : X) × (slice_get xs i ≡ Some x) × (test x ≡ true)
 place_from_any test [] any = absurd (cc)
 place_from_any test (x ∷ xs) any =
     elim (test x) as (λ b. test x ≡ b → (b || list_any test xs) ≡ true → (i : ℕ) × (y : _) × (slice_get (x ∷ xs) i ≡ Some y) × (test y ≡ true)) [
@@ -71,7 +71,7 @@ place_from_any test (x ∷ xs) any =
     ] refl any
 
 -- beside each place stands a copy
-entry_at : (es : List (ℕ × ℕ)) (ps : List Place) → length ps ≡ length es → (i : ℕ) (p : Place) → slice_get ps i ≡ Some p → (e : ℕ × ℕ) × (slice_get es i ≡ Some e)
+pub entry_at : (es : List (ℕ × ℕ)) (ps : List Place) → length ps ≡ length es → (i : ℕ) (p : Place) → slice_get ps i ≡ Some p → (e : ℕ × ℕ) × (slice_get es i ≡ Some e)
 entry_at [] [] even i p at = absurd (cc)
 entry_at [] (q ∷ ps) even i p at = absurd (omega arith)
 entry_at (e ∷ es) [] even i p at = absurd (omega arith)

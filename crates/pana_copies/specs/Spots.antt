@@ -1,7 +1,8 @@
 -- Where copies are kept.
-use Rattle.std.specs.Prelude.{◌≡◌, ℕ, ◌==◌, ◌<◌, List, [], ◌∷◌, Option, Some, option_map}
-use Rattle.std.specs.List.{AllByRecursion}
+use Rattle.std.specs.Prelude.{◌≡◌, ◌↔◌, ℕ, ◌==◌, ◌<◌, true, List, [], ◌∷◌, length, Option, Some, option_map}
+use Rattle.std.specs.List.{AllByRecursion, IsDistinct, list_any}
 use Rattle.std.specs.Map.{lookup}
+use Rattle.std.specs.Str.{bytes_eq}
 use Rattle.pana_copies.specs.declared.place.Place.{Place}
 
 -- the family of a copy, and the place where it is kept
@@ -29,6 +30,19 @@ placed place spot = option_map (λ s. record { family = s.family; place = place 
 -- the copy is kept at this path, on some device
 abbrev pub HasPath : Table → List ℕ → ℕ → Type 0
 HasPath table path copy = (place : Place) × (place_of table copy ≡ Some place) × (place.path ≡ path)
+
+-- a copy is kept on the device
+abbrev pub HasDevice : Table → List ℕ → Type 0
+HasDevice table device = (copy : ℕ) × (place : Place) × (place_of table copy ≡ Some place) × (place.device ≡ device)
+
+-- these are the devices on which a copy is kept, none twice
+pub record AreDevices (table : Table) (devices : List (List ℕ)) : Type 0 where
+  pub once : IsDistinct bytes_eq devices
+  pub those : (device : List ℕ) → (list_any (bytes_eq device) devices ≡ true) ↔ HasDevice table device
+
+-- on so many devices a copy is kept
+abbrev pub CountsDevices : Table → ℕ → Type 0
+CountsDevices table count = (devices : List (List ℕ)) × AreDevices table devices × (count ≡ length devices)
 
 -- each number is below all behind it
 abbrev pub AreRising : List ℕ → Type 0

@@ -4,7 +4,7 @@
 ghost use Rattle.std.specs.Prelude.{◌≡◌, ℕ, ◌+◌, ◌<◌, ◌≤◌, ◌==◌, ◌↔◌, true, None, Some, IsSome, IfOk, OnOk, if◌then◌else◌, length, nat_eq, option_map};
 ghost use Rattle.std.specs.List.{IsDistinct, list_any};
 ghost use Rattle.std.specs.Map.{keys_of};
-ghost use Rattle.pana_copies.specs.Spots.{kept, place_of, placed, AreRising, HasPath};
+ghost use Rattle.pana_copies.specs.Spots.{kept, place_of, placed, AreRising, CountsDevices, HasPath};
 
 use crate::copy_path::CopyPath;
 use crate::device_counts::{count_down, count_up};
@@ -66,6 +66,13 @@ impl CopyTable {
         ensures once { IsDistinct nat_eq (keys_of self.now.spots) }
     {
         self.families.len()
+    }
+
+    /// How many devices have a copy. Takes no memory; O(1).
+    pub fn device_count(&self) -> usize
+        ensures { CountsDevices self.now result }
+    {
+        self.devices.len()
     }
 
     /// The family and the place of a copy, if it is kept. Takes no memory; O(1) on average.

@@ -9,7 +9,7 @@ use Rattle.pana_scan.specs.declared.step.Step.{Step}
 use Rattle.pana_scan.specs.Listing.{Contents}
 use Rattle.pana_calls.specs.declared.call.Query.TheVariants as queries
 use Rattle.pana_calls.specs.declared.holding.Holding.{Holding}
-use Rattle.pana_calls.specs.declared.reply.Reply.TheVariants.{At, Status, Done, Did, Known, Families, Board, Stamps, Pair, Holdings, Journal, Refused}
+use Rattle.pana_calls.specs.declared.reply.Reply.TheVariants.{At, Counts, Status, Done, Did, Known, Families, Board, Stamps, Pair, Holdings, Journal, Refused}
 use Rattle.pana_scan.specs.declared.baseline.BaselineRow.{BaselineRow}
 use Rattle.pana_scan.specs.Plan.{plan_of}
 use Rattle.pana_scan.specs.declared.step.Plan.{Plan}
@@ -151,6 +151,7 @@ no_reports device listing old new (Given (Pair rel)) same = (refl, refl, same)
 no_reports device listing old new (Given (At standing)) same = (refl, refl, same)
 no_reports device listing old new (Given (Status rows)) same = (refl, refl, same)
 no_reports device listing old new (Given (Journal entries)) same = (refl, refl, same)
+no_reports device listing old new (Given (Counts counts)) same = (refl, refl, same)
 no_reports device listing old new (Given (Refused cause)) same = (refl, refl, same)
 no_reports device listing old new NotKept same = (refl, refl, same)
 

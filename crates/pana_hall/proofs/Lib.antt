@@ -22,6 +22,7 @@ pub mod Stood
 pub mod Decided
 pub mod Longer
 pub mod Runs
+pub mod Counted
 pub mod Worked
 pub mod WorkedContents
 pub mod WorkedStatus

@@ -15,7 +15,7 @@ use Rattle.pana_hall.specs.Living.{living}
 use Rattle.pana_hall.specs.Board.{board_of}
 use Rattle.pana_calls.specs.declared.copy_stamp.CopyStamp.{CopyStamp}
 use Rattle.pana_hall.specs.Stamps.{AreStampsOf}
-use Rattle.pana_hall.specs.Queries.{family_rows, pair_of, holdings, holdings_from}
+use Rattle.pana_hall.specs.Queries.{counts_of, family_rows, pair_of, holdings, holdings_from}
 use Rattle.pana_hall.specs.Status.{standing_at, status_rows}
 use Rattle.pana_journal.specs.Entries.{page}
 use Rattle.pana_journal.specs.Reports.{kind_of}
@@ -32,6 +32,8 @@ Answers journal (queries.Holdings device from) reply = reply ≡ replies.Holding
 Answers journal (queries.At place) reply = reply ≡ replies.At (standing_at (living journal) place)
 Answers journal (queries.Status device from) reply = reply ≡ replies.Status (status_rows (living journal) device from)
 Answers journal (queries.JournalFrom n) reply = reply ≡ replies.Journal (page journal n)
+Answers journal (queries.JournalAwaited n seconds) reply = reply ≡ replies.Journal (page journal n)
+Answers journal queries.Counts reply = reply ≡ replies.Counts (counts_of (living journal))
 
 -- the reply where what is done of a sighting is done
 abbrev pub reply_of : List Entry → Decision → Reply
@@ -52,9 +54,10 @@ Grants journal (calls.Report report) reply = reply ≡ replies.Done (length jour
 Grants journal (calls.Sighting sighting) reply = reply ≡ reply_of journal (decision (living journal) sighting)
 Grants journal (calls.Query query) reply = Answers journal query reply
 
--- the call may be refused so for a shortage, although nothing stands against it: memory may run out, but for a Pair
+-- the call may be refused so for a shortage, although nothing stands against it: memory may run out, but for a Pair and for Counts
 abbrev pub IsShortage : List Entry → Call → Cause → Type 0
 IsShortage journal (calls.Query (queries.Pair a b)) cause = ⊥
+IsShortage journal (calls.Query queries.Counts) cause = ⊥
 IsShortage journal call cause = cause ≡ causes.OutOfMemory
 
 -- the reply to a call, given why it is refused: that cause and no other, but that memory may run out before it is found what a

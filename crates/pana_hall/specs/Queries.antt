@@ -2,9 +2,11 @@
 use Rattle.std.specs.Prelude.{ℕ, nat_le, List, map, filter, length, take, Option, Some, None}
 use Rattle.std.specs.List.{list_any}
 use Rattle.std.specs.Str.{bytes_eq}
+use Rattle.std.specs.Set.{distinct_count}
 use Rattle.pana_event.specs.declared.rel.Rel.{Rel}
 use Rattle.pana_journal.specs.declared.entry.Entry.{Entry}
 use Rattle.pana_calls.specs.declared.family_row.FamilyRow.{FamilyRow}
+use Rattle.pana_calls.specs.declared.hall_counts.HallCounts.{HallCounts}
 use Rattle.pana_calls.specs.declared.holding.Holding.{Holding}
 use Rattle.pana_family.specs.Relation.{relation}
 use Rattle.pana_family.specs.Table.{Known, copies_of}
@@ -32,6 +34,10 @@ family_rows journal copies = map (family_row copies) (filter (λ family. list_an
 -- how the first copy relates to the second, by what they know
 abbrev pub pair_of : List Copy → ℕ → ℕ → Rel
 pair_of copies a b = relation (known_to copies a) (known_to copies b)
+
+-- how many copies live, and how many devices have one
+unfoldable pub counts_of : List Copy → HallCounts
+counts_of copies = record { copies = length copies; devices = distinct_count bytes_eq (map (λ copy. copy.place.device) copies) }
 
 -- a copy as a holding of its device
 abbrev pub holding : Copy → Holding

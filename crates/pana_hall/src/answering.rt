@@ -5,13 +5,14 @@ ghost use Rattle.pana_copies.specs.Spots.{kept};
 ghost use Rattle.pana_family.specs.{Stands.StandsFor, Table.Known};
 ghost use Rattle.pana_hall.specs.{Board.board_of, Stamps.AreStampsOf, Living.living, inner.Rows.holding_in, inner.Rows.placed_row};
 ghost use Rattle.pana_hall.specs.{Refusal.query_refusal, Permit.Answers, Permit.IsShortage, inner.State.IsHeld, inner.Listed.listed};
-ghost use Rattle.pana_hall.specs.Queries.{family_rows, holdings, holdings_from, pair_of, row_of_sets};
+ghost use Rattle.pana_hall.specs.Queries.{counts_of, family_rows, holdings, holdings_from, pair_of, row_of_sets};
 ghost use Rattle.pana_hall.specs.inner.Rows.{holding_from, sum_in};
 
 use crate::listed_family::ListedFamily;
 use crate::state::State;
 use pana_calls::{
-    BoardRow, BoardView, Call, Cause, CopyStamp, FamilyRow, Holding, HoldingList, Query, Reply,
+    BoardRow, BoardView, Call, Cause, CopyStamp, FamilyRow, HallCounts, Holding, HoldingList,
+    Query, Reply,
 };
 use pana_copies::{CopyTable, DeviceName, Place, Sum};
 use pana_event::Rel;
@@ -32,7 +33,8 @@ impl State {
         self.family(a).rel(a, b)
     }
 
-    /// The answer to a query that nothing stands against. Fails only where memory runs out; a Pair takes none.
+    /// The answer to a query that nothing stands against. Fails only where memory runs out; a Pair takes none, and
+    /// Counts neither.
     pub fn answer(&self, alloc: Global, query: Query) -> Result<Reply, AllocError>
         requires kept { IsHeld self.now }
         requires free { query_refusal self.now.journal.entries (living self.now.journal.entries) query ≡ None }
@@ -53,7 +55,21 @@ impl State {
                 let rows = self.status_rows(alloc, &device, from)?;
                 Ok(Reply::Status(PlainList::from_vec(rows)))
             }
-            Query::JournalFrom { entry } => Ok(Reply::Journal(self.journal.slice(entry)?)),
+            Query::JournalFrom { entry } | Query::JournalAwaited { entry, .. } => {
+                Ok(Reply::Journal(self.journal.slice(entry)?))
+            }
+            Query::Counts => Ok(Reply::Counts(self.counts())),
+        }
+    }
+
+    /// How many copies live, and on how many devices. Takes no memory; O(1).
+    fn counts(&self) -> HallCounts
+        requires kept { IsHeld self.now }
+        ensures { result ≡ counts_of (living self.now.journal.entries) }
+    {
+        HallCounts {
+            copies: self.copies.len() as u64,
+            devices: self.copies.device_count() as u64,
         }
     }
 

@@ -235,7 +235,9 @@ impl State {
             | Query::Holdings { .. }
             | Query::At { .. }
             | Query::Status { .. }
-            | Query::JournalFrom { .. } => None,
+            | Query::JournalFrom { .. }
+            | Query::JournalAwaited { .. }
+            | Query::Counts => None,
         }
     }
 }

@@ -15,6 +15,11 @@ impl Session for Hall {
         Ok(Answer::Given(self.apply(by, call)))
     }
 
+    /// How many entries the journal has.
+    fn entries(&self) -> u64 {
+        self.length()
+    }
+
     /// Does nothing.
     fn settle(&mut self) -> Result<(), NoAnswer> {
         Ok(())

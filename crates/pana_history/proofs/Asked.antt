@@ -32,6 +32,7 @@ asked journal by place (replies.Holdings holdings) = refl
 asked journal by place (replies.At standing) = refl
 asked journal by place (replies.Status rows) = refl
 asked journal by place (replies.Journal entries) = refl
+asked journal by place (replies.Counts counts) = refl
 asked journal by place (replies.Refused cause) = refl
 
 at_by : (cause : Option Cause) (journal : List Entry) (place : Place) (standing : Option CopyStanding)

@@ -6,7 +6,7 @@ use Rattle.pana_journal.specs.declared.entry.Entry.{Entry}
 use Rattle.pana_calls.specs.declared.call.Call.{Call}
 use Rattle.pana_calls.specs.declared.call.Call.TheVariants as calls
 use Rattle.pana_calls.specs.declared.call.Query.TheVariants as queries
-use Rattle.pana_calls.specs.declared.reply.Reply.TheVariants.{At, Board, Did, Done, Families, Holdings, Journal, Known, Pair, Refused, Stamps, Status}
+use Rattle.pana_calls.specs.declared.reply.Reply.TheVariants.{At, Board, Counts, Did, Done, Families, Holdings, Journal, Known, Pair, Refused, Stamps, Status}
 use Rattle.pana_calls.specs.declared.answer.Answer.{Answer}
 use Rattle.pana_calls.specs.declared.answer.Answer.TheVariants.{Given, NotKept}
 use Rattle.pana_history.specs.Pages.{FullPages, HasJournal, Pages, Stops, next_after}
@@ -30,6 +30,7 @@ is_page entries (Given (Pair rel)) is = absurd (cc)
 is_page entries (Given (Holdings holdings)) is = absurd (cc)
 is_page entries (Given (At standing)) is = absurd (cc)
 is_page entries (Given (Status rows)) is = absurd (cc)
+is_page entries (Given (Counts counts)) is = absurd (cc)
 is_page entries (Given (Refused cause)) is = absurd (cc)
 is_page entries NotKept is = absurd (cc)
 

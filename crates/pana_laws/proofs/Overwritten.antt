@@ -46,6 +46,7 @@ asked journal by query (replies.Holdings holdings) = refl
 asked journal by query (replies.At standing) = refl
 asked journal by query (replies.Status rows) = refl
 asked journal by query (replies.Journal entries) = refl
+asked journal by query (replies.Counts counts) = refl
 asked journal by query (replies.Refused cause) = refl
 
 -- so it does as a session's step
@@ -87,6 +88,7 @@ found_copy journal new by place n (Given (replies.Pair rel)) steps is = absurd (
 found_copy journal new by place n (Given (replies.Holdings holdings)) steps is = absurd (cc)
 found_copy journal new by place n (Given (replies.Status rows)) steps is = absurd (cc)
 found_copy journal new by place n (Given (replies.Journal entries)) steps is = absurd (cc)
+found_copy journal new by place n (Given (replies.Counts counts)) steps is = absurd (cc)
 found_copy journal new by place n (Given (replies.Refused cause)) steps is = absurd (cc)
 found_copy journal new by place n NotKept steps is = absurd (cc)
 

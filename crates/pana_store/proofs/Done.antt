@@ -134,6 +134,7 @@ reply_is_done (replies.At None) n is = absurd (other_third _ n 97 refl refl is)
 reply_is_done (replies.At (Some standing)) n is = absurd (other_third _ n 97 refl refl is)
 reply_is_done (replies.Status rows) n is = absurd (other_third _ n 115 refl refl is)
 reply_is_done (replies.Journal entries) n is = absurd (other_third _ n 101 refl refl is)
+reply_is_done (replies.Counts counts) n is = absurd (other_third _ n 99 refl refl is)
 reply_is_done (replies.Refused cause) n is = absurd (refusal_is_other (code_of cause) (cause_copy cause) (cause_name cause) n is)
 
 -- the answer is the reply to a call that was done
@@ -196,6 +197,8 @@ no_query journal (queries.Holdings device from) m reply done is = absurd (subst 
 no_query journal (queries.At place) m reply done is = absurd (subst (IsDone m) is done)
 no_query journal (queries.Status device from) m reply done is = absurd (subst (IsDone m) is done)
 no_query journal (queries.JournalFrom from) m reply done is = absurd (subst (IsDone m) is done)
+no_query journal (queries.JournalAwaited from seconds) m reply done is = absurd (subst (IsDone m) is done)
+no_query journal queries.Counts m reply done is = absurd (subst (IsDone m) is done)
 
 -- a call that was done was granted, and nothing stood against it
 granted_by : (cause : Option Cause) (journal : List Entry) (call : Call) (m : ℕ) (reply : Reply) → IsDone m reply → PermitsBy cause journal call reply → (cause ≡ None) × Grants journal call reply

@@ -132,6 +132,11 @@ impl<D: Device> Session for Store<D> {
         Ok(())
     }
 
+    /// How many entries the journal has.
+    fn entries(&self) -> u64 {
+        self.length()
+    }
+
     /// A report or a sighting takes as long as the disk does.
     fn is_slow(&self) -> bool {
         true

@@ -5,7 +5,7 @@ use Rattle.std.proofs.lemmas.Grind.{flat_map-append}
 use Rattle.pana_calls.specs.declared.call.Call.{Call}
 use Rattle.pana_calls.specs.declared.call.Call.TheVariants as calls
 use Rattle.pana_calls.specs.declared.call.Query.TheVariants as queries
-use Rattle.pana_calls.specs.declared.reply.Reply.TheVariants.{At, Board, Did, Done, Families, Holdings, Journal, Known, Pair, Refused, Stamps, Status}
+use Rattle.pana_calls.specs.declared.reply.Reply.TheVariants.{At, Board, Counts, Did, Done, Families, Holdings, Journal, Known, Pair, Refused, Stamps, Status}
 use Rattle.pana_calls.specs.declared.standing.StatusRow.{StatusRow}
 use Rattle.pana_calls.specs.declared.answer.Answer.{Answer}
 use Rattle.pana_calls.specs.declared.answer.Answer.TheVariants.{Given, NotKept}
@@ -27,6 +27,7 @@ is_page rows (Given (Pair rel)) is = absurd (cc)
 is_page rows (Given (Holdings holdings)) is = absurd (cc)
 is_page rows (Given (At standing)) is = absurd (cc)
 is_page rows (Given (Journal entries)) is = absurd (cc)
+is_page rows (Given (Counts counts)) is = absurd (cc)
 is_page rows (Given (Refused cause)) is = absurd (cc)
 is_page rows NotKept is = absurd (cc)
 

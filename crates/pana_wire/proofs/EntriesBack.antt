@@ -12,7 +12,7 @@ use Rattle.pana_journal.specs.declared.entry.Entry.{Entry}
 use Rattle.pana_journal.specs.declared.report.Report.{Report}
 use Rattle.pana_journal.specs.declared.report.Report.TheVariants as reports
 use Rattle.pana_calls.specs.declared.reply.Reply.{Reply}
-use Rattle.pana_calls.specs.declared.reply.Reply.TheVariants.{Done, Did, Known, Families, Board, Stamps, Pair, Holdings, At, Status, Journal, Refused}
+use Rattle.pana_calls.specs.declared.reply.Reply.TheVariants.{Done, Did, Known, Families, Board, Stamps, Pair, Holdings, At, Status, Journal, Counts, Refused}
 use Rattle.pana_wire.specs.declared.field.Field.TheVariants as fields
 use Rattle.pana_wire.specs.Field.{field_name}
 use Rattle.pana_wire.specs.Word.{word_of}
@@ -93,4 +93,5 @@ reply_back (Holdings holdings) line names is utf8 reads = tt
 reply_back (At standing) line names is utf8 reads = tt
 reply_back (Status rows) line names is utf8 reads = tt
 reply_back (Journal entries) line names is utf8 reads = λ short. dump_back line entries names utf8 (reads (reply_shallow entries)) (few_or_short entries line names is short)
+reply_back (Counts counts) line names is utf8 reads = tt
 reply_back (Refused cause) line names is utf8 reads = tt

@@ -4,7 +4,7 @@ use Rattle.std.specs.List.{list_all}
 use Rattle.std.proofs.Common.{refl, sym, subst, inl, inr}
 use Rattle.pana_calls.specs.declared.call.Call.{Call}
 use Rattle.pana_calls.specs.declared.reply.Reply.{Reply}
-use Rattle.pana_wire.specs.declared.field.Field.TheVariants.{By, Do, Device, Path, Copy, Family, A, B, Heir, Sum, Entry, From, Number, Entries}
+use Rattle.pana_wire.specs.declared.field.Field.TheVariants.{By, Do, Device, Path, Copy, Family, A, B, Heir, Sum, Entry, From, Number, Entries, Wait}
 use Rattle.pana_wire.specs.declared.fault.WireFault.{WireFault}
 use Rattle.pana_wire.specs.declared.fault.WireFault.TheVariants.{TooLong, NotUtf8, NotJson, NotObject, BadField, OutOfMemory}
 use Rattle.pana_wire.specs.declared.message.Message.{Message}
@@ -49,6 +49,7 @@ fault_in_line (BadField Entry) = all_in_line (fault_text (BadField Entry)) refl
 fault_in_line (BadField From) = all_in_line (fault_text (BadField From)) refl
 fault_in_line (BadField Number) = all_in_line (fault_text (BadField Number)) refl
 fault_in_line (BadField Entries) = all_in_line (fault_text (BadField Entries)) refl
+fault_in_line (BadField Wait) = all_in_line (fault_text (BadField Wait)) refl
 fault_in_line OutOfMemory = all_in_line (fault_text OutOfMemory) refl
 
 said_in_line : (answer : Answer) → IsInLine (answer_text answer)

@@ -17,13 +17,13 @@ use Rattle.pana_calls.specs.declared.board.BoardRow.{BoardRow}
 use Rattle.pana_calls.specs.declared.standing.CopyStanding.{CopyStanding}
 use Rattle.pana_calls.specs.declared.standing.StatusRow.{StatusRow}
 use Rattle.pana_calls.specs.declared.reply.Reply.{Reply}
-use Rattle.pana_calls.specs.declared.reply.Reply.TheVariants.{Done, Did, Known, Families, Board, Stamps, Pair, Holdings, At, Status, Journal, Refused}
+use Rattle.pana_calls.specs.declared.reply.Reply.TheVariants.{Done, Did, Known, Families, Board, Stamps, Pair, Holdings, At, Status, Journal, Counts, Refused}
 use Rattle.pana_wire.specs.declared.field.Field.{Field}
 use Rattle.pana_wire.specs.declared.field.Field.TheVariants as fields
 use Rattle.pana_wire.specs.Field.{field_name}
 use Rattle.pana_wire.specs.Word.{word_name, fields_of}
 use Rattle.pana_wire.specs.Report.{number_data, report_word, sum_contents, contents_of, put_fields, put_report, report_data, entry_data}
-use Rattle.pana_wire.specs.Reply.{family_data, families_data, with_sum, holding_data, holdings_data, standing_data, at_data, placed_data, status_row_data, status_data, entries_data, numbers_data, row_data, rows_data, board_data, stamp_data, stamps_data, refusal_data, refused_data, number_or_null, reply_data}
+use Rattle.pana_wire.specs.Reply.{family_data, families_data, with_sum, holding_data, holdings_data, standing_data, at_data, placed_data, status_row_data, status_data, entries_data, counts_data, numbers_data, row_data, rows_data, board_data, stamp_data, stamps_data, refusal_data, refused_data, number_or_null, reply_data}
 
 -- each number of a value is a whole one from 0 on
 abbrev mutual
@@ -195,7 +195,7 @@ number_or_null_natural None = refl
 number_or_null_natural (Some n) = refl
 
 pub reply_natural : (reply : Reply) → is_natural (reply_data reply) ≡ true
-unfolding reply_data board_data numbers_data rows_data families_data stamps_data holdings_data status_data entries_data refused_data
+unfolding reply_data board_data numbers_data rows_data families_data stamps_data holdings_data status_data entries_data counts_data refused_data
 reply_natural (Done entry) = refl
 reply_natural (Did kind entry) = refl
 reply_natural (Known copy) = rw (number_or_null_natural copy) refl
@@ -207,6 +207,7 @@ reply_natural (Holdings holdings) = rw (holdings_natural holdings) refl
 reply_natural (At standing) = rw (at_natural standing) refl
 reply_natural (Status rows) = rw (status_natural rows) refl
 reply_natural (Journal entries) = rw (entries_natural entries) refl
+reply_natural (Counts counts) = refl
 reply_natural (Refused cause) = refusal_natural _ _ _
 
 pub reply_whole : (reply : Reply) → has_float (reply_data reply) ≡ false

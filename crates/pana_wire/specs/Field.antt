@@ -1,7 +1,7 @@
 -- The names of the fields of a line.
 use Rattle.std.specs.Prelude.{ℕ, List, codes}
 use Rattle.pana_wire.specs.declared.field.Field.{Field}
-use Rattle.pana_wire.specs.declared.field.Field.TheVariants.{By, Do, Device, Path, Copy, Family, A, B, Heir, Sum, Entry, From, Number, Entries}
+use Rattle.pana_wire.specs.declared.field.Field.TheVariants.{By, Do, Device, Path, Copy, Family, A, B, Heir, Sum, Entry, From, Number, Entries, Wait}
 
 -- the name of a field
 abbrev pub field_name : Field → List ℕ
@@ -19,3 +19,4 @@ field_name Entry = codes "entry"
 field_name From = codes "from"
 field_name Number = codes "number"
 field_name Entries = codes "entries"
+field_name Wait = codes "wait"

@@ -1,6 +1,6 @@
 -- What a line says: its message, or its first fault. What counts as JSON, which value counts where a name stands
 -- twice, and which number fits 64 bits, is what `serde_json` reads.
-use Rattle.std.specs.Prelude.{◌≡◌, ℕ, Bool, false, List, [], ◌∷◌, length, nat_lt, Option, Some, None, is_some, option_and_then, not, Result, Ok, Err, if◌then◌else◌}
+use Rattle.std.specs.Prelude.{◌≡◌, ℕ, nat_le, Bool, false, List, [], ◌∷◌, length, nat_lt, Option, Some, None, is_some, option_and_then, not, Result, Ok, Err, if◌then◌else◌}
 use Rattle.std.specs.Str.{is_utf8}
 use Rattle.serde_json.specs.Data.{Data}
 use Rattle.serde_json.specs.Read.{read}
@@ -10,6 +10,7 @@ use Rattle.pana_copies.specs.Sums.{is_sum}
 use Rattle.pana_copies.specs.declared.place.Place.{Place}
 use Rattle.pana_journal.specs.declared.report.Report.{Report}
 use Rattle.pana_journal.specs.declared.report.Report.TheVariants as reports
+use Rattle.pana_calls.specs.declared.call.Query.{Query}
 use Rattle.pana_calls.specs.declared.call.Query.TheVariants as queries
 use Rattle.pana_calls.specs.declared.call.Sighting.TheVariants as sightings
 use Rattle.pana_calls.specs.declared.call.Call.{Call}
@@ -59,6 +60,10 @@ path_in field d = found field (option_and_then (when is_path) (string_in field d
 unfoldable pub number_in : Field → Data → Result ℕ WireFault
 number_in field d = found field (option_and_then as_u64 (option_and_then as_number (get (field_name field) d)))
 
+-- the seconds in a field: a number of 0 to 3,600
+unfoldable pub seconds_in : Field → Data → Result ℕ WireFault
+seconds_in field d = found field (option_and_then (when (λ seconds. nat_le seconds 3600)) (option_and_then as_u64 (option_and_then as_number (get (field_name field) d))))
+
 -- the sum in a field
 unfoldable pub sum_in : Field → Data → Result (List ℕ) WireFault
 sum_in field d = found field (option_and_then (when is_sum) (string_in field d))
@@ -72,9 +77,12 @@ is_given (Some d) = not (is_some (as_null d))
 abbrev pub if_given : {A : Type 0} → (Field → Data → Result A WireFault) → Field → Data → Result (Option A) WireFault
 if_given read field d = if is_given (get (field_name field) d) then (read field d >>= λ x. Ok (Some x)) else Ok None
 
--- the number in a field, the device's name, the sum, where there is one
+-- the number in a field, the seconds, the device's name, the sum, where there is one
 unfoldable pub number_or_none : Field → Data → Result (Option ℕ) WireFault
 number_or_none field d = if_given number_in field d
+
+unfoldable pub seconds_or_none : Field → Data → Result (Option ℕ) WireFault
+seconds_or_none field d = if_given seconds_in field d
 
 unfoldable pub device_or_none : Field → Data → Result (Option (List ℕ)) WireFault
 device_or_none field d = if_given device_in field d
@@ -148,6 +156,11 @@ report_from word others d = numbered_in word d
 unfoldable pub report_in : Word → Data → Result Report WireFault
 report_in word d = report_from word (fields_of word) d
 
+-- the question for the entries from a number on, for which the answer may be waited for so many seconds
+abbrev pub journal_query : ℕ → Option ℕ → Query
+journal_query entry None = queries.JournalFrom entry
+journal_query entry (Some seconds) = queries.JournalAwaited entry seconds
+
 -- the query of a word, or else its report
 abbrev pub asked_from : Word → List Field → Data → Result Call WireFault
 asked_from words.Families [] d = Ok (calls.Query queries.Families)
@@ -172,9 +185,11 @@ asked_from words.Status (device ∷ from ∷ []) d = do
   device ← device_or_none device d
   from ← number_in from d
   Ok (calls.Query (queries.Status device from))
-asked_from words.Journal (entry ∷ []) d = do
+asked_from words.Journal (entry ∷ wait ∷ []) d = do
   entry ← number_in entry d
-  Ok (calls.Query (queries.JournalFrom entry))
+  wait ← seconds_or_none wait d
+  Ok (calls.Query (journal_query entry wait))
+asked_from words.Counts [] d = Ok (calls.Query queries.Counts)
 asked_from word others d = do
   report ← report_in word d
   Ok (calls.Report report)

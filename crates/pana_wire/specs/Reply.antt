@@ -6,13 +6,14 @@ use Rattle.serde_json.specs.Written.{compact_text}
 use Rattle.pana_event.specs.Relation.{rel_name}
 use Rattle.pana_journal.specs.declared.entry.Entry.{Entry}
 use Rattle.pana_calls.specs.declared.family_row.FamilyRow.{FamilyRow}
+use Rattle.pana_calls.specs.declared.hall_counts.HallCounts.{HallCounts}
 use Rattle.pana_calls.specs.declared.holding.Holding.{Holding}
 use Rattle.pana_calls.specs.declared.board.BoardRow.{BoardRow}
 use Rattle.pana_calls.specs.declared.board.BoardView.{BoardView}
 use Rattle.pana_calls.specs.declared.cause.Cause.{Cause}
 use Rattle.pana_calls.specs.declared.copy_stamp.CopyStamp.{CopyStamp}
 use Rattle.pana_calls.specs.declared.reply.Reply.{Reply}
-use Rattle.pana_calls.specs.declared.reply.Reply.TheVariants.{Done, Did, Known, Families, Board, Stamps, Pair, Holdings, At, Status, Journal, Refused}
+use Rattle.pana_calls.specs.declared.reply.Reply.TheVariants.{Done, Did, Known, Families, Board, Stamps, Pair, Holdings, At, Status, Journal, Counts, Refused}
 use Rattle.pana_calls.specs.declared.standing.CopyStanding.{CopyStanding}
 use Rattle.pana_calls.specs.declared.standing.PlacedCopy.{PlacedCopy}
 use Rattle.pana_calls.specs.declared.standing.StatusRow.{StatusRow}
@@ -131,6 +132,13 @@ status_data rows = array (items_of (map status_row_data rows))
 unfoldable pub entries_data : List Entry → Data
 entries_data entries = array (items_of (map entry_data entries))
 
+-- how many copies live, and on how many devices
+unfoldable pub counts_data : HallCounts → Data
+counts_data counts = object (
+    member (codes "copies") (number_data counts.copies) (
+    member (codes "devices") (number_data counts.devices)
+    no_members))
+
 -- a refusal: the code and the name of its cause, with the copy that it names between them
 abbrev pub refusal_data : ℕ → Option ℕ → List ℕ → Data
 refusal_data code None name = object (
@@ -168,6 +176,7 @@ reply_data (Holdings holdings) = object (member (codes "holdings") (holdings_dat
 reply_data (At standing) = object (member (codes "at") (at_data standing) no_members)
 reply_data (Status rows) = object (member (codes "status") (status_data rows) no_members)
 reply_data (Journal entries) = object (member (codes "entries") (entries_data entries) no_members)
+reply_data (Counts counts) = object (member (codes "counts") (counts_data counts) no_members)
 reply_data (Refused cause) = refused_data cause
 
 -- the text of a reply: its object, with no blank

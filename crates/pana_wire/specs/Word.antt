@@ -4,7 +4,7 @@ use Rattle.std.specs.Str.{bytes_eq}
 use Rattle.pana_wire.specs.declared.field.Field.{Field}
 use Rattle.pana_wire.specs.declared.field.Field.TheVariants as fields
 use Rattle.pana_wire.specs.declared.word.Word.{Word}
-use Rattle.pana_wire.specs.declared.word.Word.TheVariants.{Register, Duplicate, Edit, Reconcile, Merge, Relocate, Remove, Note, Confirm, Withdraw, Found, Missing, Families, Board, Stamps, Pair, Holdings, At, Status, Journal}
+use Rattle.pana_wire.specs.declared.word.Word.TheVariants.{Register, Duplicate, Edit, Reconcile, Merge, Relocate, Remove, Note, Confirm, Withdraw, Found, Missing, Families, Board, Stamps, Pair, Holdings, At, Status, Journal, Counts}
 
 -- the word as it is spelled
 abbrev pub word_name : Word → List ℕ
@@ -28,6 +28,7 @@ word_name Holdings = codes "holdings"
 word_name At = codes "at"
 word_name Status = codes "status"
 word_name Journal = codes "journal"
+word_name Counts = codes "counts"
 
 -- the fields of a word beside `by` and `do`, in the order in which they are tried
 abbrev pub fields_of : Word → List Field
@@ -50,11 +51,12 @@ fields_of Pair = fields.A ∷ fields.B ∷ []
 fields_of Holdings = fields.Device ∷ fields.From ∷ []
 fields_of At = fields.Device ∷ fields.Path ∷ []
 fields_of Status = fields.Device ∷ fields.From ∷ []
-fields_of Journal = fields.From ∷ []
+fields_of Journal = fields.From ∷ fields.Wait ∷ []
+fields_of Counts = []
 
 -- all words
 abbrev pub words : List Word
-words = Register ∷ Duplicate ∷ Edit ∷ Reconcile ∷ Merge ∷ Relocate ∷ Remove ∷ Note ∷ Confirm ∷ Withdraw ∷ Found ∷ Missing ∷ Families ∷ Board ∷ Stamps ∷ Pair ∷ Holdings ∷ At ∷ Status ∷ Journal ∷ []
+words = Register ∷ Duplicate ∷ Edit ∷ Reconcile ∷ Merge ∷ Relocate ∷ Remove ∷ Note ∷ Confirm ∷ Withdraw ∷ Found ∷ Missing ∷ Families ∷ Board ∷ Stamps ∷ Pair ∷ Holdings ∷ At ∷ Status ∷ Journal ∷ Counts ∷ []
 
 -- the word that a text is
 unfoldable pub word_of : List ℕ → Option Word

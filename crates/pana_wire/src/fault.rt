@@ -61,6 +61,7 @@ impl WireFault {
             WireFault::BadField(Field::From) => "{\"fault\":\"BadField\",\"field\":\"from\"}",
             WireFault::BadField(Field::Number) => "{\"fault\":\"BadField\",\"field\":\"number\"}",
             WireFault::BadField(Field::Entries) => "{\"fault\":\"BadField\",\"field\":\"entries\"}",
+            WireFault::BadField(Field::Wait) => "{\"fault\":\"BadField\",\"field\":\"wait\"}",
             WireFault::OutOfMemory => "{\"fault\":\"OutOfMemory\"}",
         }
     }

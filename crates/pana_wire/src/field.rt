@@ -32,6 +32,8 @@ pub enum Field {
     Number,
     /// The entries of a dump.
     Entries,
+    /// For how many seconds an answer may be waited for.
+    Wait,
 }
 
 impl Field {
@@ -54,6 +56,7 @@ impl Field {
             Field::From => "from",
             Field::Number => "number",
             Field::Entries => "entries",
+            Field::Wait => "wait",
         }
     }
 }

@@ -2,7 +2,7 @@ ghost use Rattle.std.specs.Prelude.{◌≡◌, ◌≢◌, IfErr, OnOk};
 ghost use Rattle.serde_json.specs.Find.{get};
 ghost use Rattle.serde_json.specs.View.{view};
 ghost use Rattle.pana_wire.specs.Field.{field_name};
-ghost use Rattle.pana_wire.specs.Line.{Gives, IsText, Shows, text_within, data_in, object_in, device_in, path_in, number_in, sum_in, is_given, number_or_none, device_or_none, sum_or_none, place_in, word_in, numbered_in, report_in, asked_in, call_in, message_in, line_says};
+ghost use Rattle.pana_wire.specs.Line.{Gives, IsText, Shows, text_within, data_in, object_in, device_in, path_in, number_in, sum_in, is_given, journal_query, number_or_none, seconds_in, seconds_or_none, device_or_none, sum_or_none, place_in, word_in, numbered_in, report_in, asked_in, call_in, message_in, line_says};
 
 use crate::fault::WireFault;
 use crate::field::Field;
@@ -16,6 +16,9 @@ use std::alloc::Global;
 
 /// The longest line that is read, in bytes.
 const LONGEST_LINE: usize = 65536;
+
+/// For how many seconds at most an answer may be waited for.
+const LONGEST_WAIT: u64 = 3600;
 
 /// What a line says, or its first fault.
 ///
@@ -138,12 +141,24 @@ fn asked_in(alloc: Global, word: Word, value: &Value) -> Result<Call, WireFault>
             device: device_or_none(fields[0], value)?,
             from: number_in(fields[1], value)?,
         },
-        Word::Journal => Query::JournalFrom {
-            entry: number_in(fields[0], value)?,
-        },
+        Word::Journal => journal_query(
+            number_in(fields[0], value)?,
+            seconds_or_none(fields[1], value)?,
+        ),
+        Word::Counts => Query::Counts,
         _ => return Ok(Call::Report(report_in(alloc, word, value)?)),
     };
     Ok(Call::Query(query))
+}
+
+/// The question for the entries from a number on, for which the answer may be waited for so many seconds.
+fn journal_query(entry: u64, wait: Option<u64>) -> Query
+    ensures { result ≡ journal_query entry wait }
+{
+    match wait {
+        Some(seconds) => Query::JournalAwaited { entry, seconds },
+        None => Query::JournalFrom { entry },
+    }
 }
 
 #[tactic(auto, unfolding(crate::specs::Line::report_in))]
@@ -251,6 +266,16 @@ pub fn number_in(field: Field, value: &Value) -> Result<u64, WireFault>
     }
 }
 
+#[tactic(auto, unfolding(crate::specs::Line::seconds_in))]
+fn seconds_in(field: Field, value: &Value) -> Result<u64, WireFault>
+    ensures { Gives result (seconds_in field (view value.now)) }
+{
+    match value.get(field.name()).and_then(Value::as_u64) {
+        Some(seconds) if seconds <= LONGEST_WAIT => Ok(seconds),
+        _ => Err(WireFault::BadField(field)),
+    }
+}
+
 #[tactic(auto, unfolding(crate::specs::Line::sum_in))]
 fn sum_in(alloc: Global, field: Field, value: &Value) -> Result<Sum, WireFault>
     ensures { Gives result (sum_in field (view value.now)) }
@@ -280,6 +305,17 @@ fn number_or_none(field: Field, value: &Value) -> Result<Option<u64>, WireFault>
 {
     if is_given(field, value) {
         Ok(Some(number_in(field, value)?))
+    } else {
+        Ok(None)
+    }
+}
+
+#[tactic(auto, unfolding(crate::specs::Line::seconds_or_none))]
+fn seconds_or_none(field: Field, value: &Value) -> Result<Option<u64>, WireFault>
+    ensures { Gives result (seconds_or_none field (view value.now)) }
+{
+    if is_given(field, value) {
+        Ok(Some(seconds_in(field, value)?))
     } else {
         Ok(None)
     }

@@ -26,10 +26,11 @@ pub enum Word {
     At,
     Status,
     Journal,
+    Counts,
 }
 
 /// All words.
-const WORDS: [Word; 20] = [
+const WORDS: [Word; 21] = [
     Word::Register,
     Word::Duplicate,
     Word::Edit,
@@ -50,6 +51,7 @@ const WORDS: [Word; 20] = [
     Word::At,
     Word::Status,
     Word::Journal,
+    Word::Counts,
 ];
 
 impl Word {
@@ -78,6 +80,7 @@ impl Word {
             Word::At => "at",
             Word::Status => "status",
             Word::Journal => "journal",
+            Word::Counts => "counts",
         }
     }
 
@@ -105,7 +108,8 @@ impl Word {
             Word::Holdings => &[Field::Device, Field::From],
             Word::At => &[Field::Device, Field::Path],
             Word::Status => &[Field::Device, Field::From],
-            Word::Journal => &[Field::From],
+            Word::Journal => &[Field::From, Field::Wait],
+            Word::Counts => &[],
         }
     }
 }

@@ -5,13 +5,13 @@ ghost use Rattle.pana_calls.specs.declared.reply.Reply.TheVariants.{Journal};
 ghost use Rattle.pana_wire.specs.inner.Names.{HasEntryNames, HasReplyNames};
 ghost use Rattle.pana_wire.specs.Dump.{IsReadBack, IsEntryLine, dump_says, entries_text};
 ghost use Rattle.pana_wire.specs.Answer.{answer_text};
-ghost use Rattle.pana_wire.specs.Reply.{row_data, rows_data, numbers_data, board_data, stamp_data, stamps_data, family_data, families_data, with_sum, holding_data, holdings_data, standing_data, at_data, placed_data, status_row_data, status_data, refused_data, number_or_null, reply_data, reply_text};
+ghost use Rattle.pana_wire.specs.Reply.{row_data, rows_data, numbers_data, board_data, stamp_data, stamps_data, family_data, families_data, with_sum, holding_data, holdings_data, standing_data, at_data, placed_data, status_row_data, status_data, counts_data, refused_data, number_or_null, reply_data, reply_text};
 
 use crate::field::Field;
 use crate::report_writing::{entries_value, kind_word, line_value, put_sum};
 use pana_calls::{
-    Answer, BoardRow, BoardView, Cause, CopyStamp, CopyStanding, FamilyRow, Holding, PlacedCopy,
-    Reply, StatusRow,
+    Answer, BoardRow, BoardView, Cause, CopyStamp, CopyStanding, FamilyRow, HallCounts, Holding,
+    PlacedCopy, Reply, StatusRow,
 };
 use pana_copies::Sum;
 use pana_journal::Entry;
@@ -119,6 +119,10 @@ fn reply_value(alloc: Global, reply: &Reply) -> Result<Value, AllocError>
         Reply::Journal(list) => {
             let entries = entries_value(alloc, list.as_slice())?;
             json!(in alloc; { "entries": entries })
+        }
+        Reply::Counts(counts) => {
+            let counts = counts_value(alloc, counts)?;
+            json!(in alloc; { "counts": counts })
         }
         Reply::Refused(cause) => refused_value(alloc, cause),
     }
@@ -325,6 +329,13 @@ fn placed_value(alloc: Global, placed: &PlacedCopy) -> Result<Value, AllocError>
         "device": placed.place.device.as_str(),
         "path": placed.place.path.as_str()
     })
+}
+
+#[tactic(auto, unfolding(crate::specs::Reply::counts_data))]
+fn counts_value(alloc: Global, counts: &HallCounts) -> Result<Value, AllocError>
+    ensures { IfOk result (λ value. view value ≡ counts_data counts.now) }
+{
+    json!(in alloc; { "copies": counts.copies, "devices": counts.devices })
 }
 
 #[tactic(auto, unfolding(crate::specs::Reply::refused_data))]

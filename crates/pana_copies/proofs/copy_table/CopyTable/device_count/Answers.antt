@@ -1,0 +1,14 @@
+use Rattle.std.proofs.Common.{◌∙◌, length, sym, subst}
+use Rattle.std.specs.Map.{keys_of}
+use Rattle.std.proofs.lemmas.Map.Made.{length-keys_of}
+use Rattle.pana_copies.specs.Spots.{CountsDevices, kept}
+use Rattle.pana_copies.proofs.Devices.{devices_are}
+use Rattle.pana_copies.proofs.copy_table.CopyTable.device_count.Goals as goal
+
+pub returns : goal.returns
+unfolding kept
+returns c =
+    let inside = c.self.inside in
+    let devices = keys_of inside.devices.entries in
+    subst (λ t. CountsDevices t c.len.result) c.self.view_is
+    (devices, record { once = c.len.ensures.unique; those = devices_are inside.families.entries inside.places.keys inside.devices.entries c.self.invariant }, c.len.ensures.len ∙ sym (length-keys_of inside.devices.entries))
