@@ -9,6 +9,7 @@ pub mod Post
 pub mod Pause
 pub mod Newlines
 pub mod Start
+pub mod Waiting
 pub mod Root
 pub mod Serve
 pub mod inner

@@ -1,16 +1,24 @@
 //! What becomes of faults that aren't a session's own.
 
+use crate::listener::{CountedListener, is_awaited};
 use crate::start::Start;
 use crate::supervisor::Supervisor;
+use crate::waiting::Waiting;
 use std::io;
 use std::net::{Shutdown, TcpListener, TcpStream};
 use std::os::fd::OwnedFd;
-use std::sync::Wait;
 use std::sync::atomic::{AtomicBool, AtomicU64, Ordering};
-use std::time::Clock;
+use std::sync::{Mutex, Wait};
+use std::time::{Clock, Duration};
 
 /// How many seconds open sessions have before they are to end.
 const GRACE: u64 = 5;
+
+/// How long a step of a wait for an entry is at most.
+const STEP: Duration = Duration::from_millis(100);
+
+/// How long a wait for an entry may keep others waiting.
+const HOLD: Duration = Duration::from_secs(1);
 
 /// A supervisor that opens with the start, and lets all pass. It prints one line on standard error at the first call that has no
 /// answer, and one where a connection can't be taken for the first time.
@@ -18,40 +26,50 @@ const GRACE: u64 = 5;
 pub struct Alarm<'a> {
     rt: &'a HostRuntime,
     start: &'a Start,
+    listener: &'a Mutex<CountedListener>,
     has_rung: AtomicBool,
     is_deaf: AtomicBool,
-    /// The listener's socket, where no further connection is taken once it has rung.
-    closer: Option<TcpStream>,
+    closer: Option<Closer>,
     /// The second of the clock when it rang; the greatest number before.
     rung_at: AtomicU64,
+    waiting: Waiting,
 }
 
 /// The socket of a listener, by which it can be shut down while it waits for a connection.
-fn socket_of(listener: &TcpListener) -> io::Result<TcpStream> {
-    Ok(TcpStream::from(OwnedFd::from(listener.try_clone()?)))
+#[derive(Drop)]
+pub struct Closer {
+    socket: TcpStream,
+}
+
+impl Closer {
+    /// Fails only where no descriptor is left.
+    pub fn new(listener: &TcpListener) -> io::Result<Closer> {
+        Ok(Closer {
+            socket: TcpStream::from(OwnedFd::from(listener.try_clone()?)),
+        })
+    }
 }
 
 impl<'a> Alarm<'a> {
-    /// A supervisor before the first call; once it has rung all is to end where a listener is given.
-    ///
-    /// Fails only where a listener is given, and no descriptor is left.
+    /// A supervisor before the first call, where the journal has so many entries; once it has rung all is to end where a closer of
+    /// the listener is given.
     pub fn new(
         rt: &'a HostRuntime,
         start: &'a Start,
-        listener: Option<&TcpListener>,
-    ) -> io::Result<Alarm<'a>> {
-        let closer = match listener {
-            Some(listener) => Some(socket_of(listener)?),
-            None => None,
-        };
-        Ok(Alarm {
+        listener: &'a Mutex<CountedListener>,
+        closer: Option<Closer>,
+        entries: u64,
+    ) -> Alarm<'a> {
+        Alarm {
             rt,
             start,
+            listener,
             has_rung: AtomicBool::new(false),
             is_deaf: AtomicBool::new(false),
             closer,
             rung_at: AtomicU64::new(u64::MAX),
-        })
+            waiting: Waiting::new(entries),
+        }
     }
 
     /// Whether a call had no answer.
@@ -71,10 +89,36 @@ impl<'a> Alarm<'a> {
 
     /// Takes no further connection, and notes the time.
     fn close(&self) {
-        if let Some(socket) = &self.closer {
+        if let Some(closer) = &self.closer {
             self.rung_at.store(self.second(), Ordering::SeqCst);
-            let _ = socket.shutdown(Shutdown::Both);
+            let _ = closer.socket.shutdown(Shutdown::Both);
         }
+    }
+
+    /// Waits a step for an entry; returns false once it is known to be there, the time is over, or all is to end. A wait that has
+    /// kept others waiting is over too, and the caller's connection is to end.
+    fn wait_on<T: Wait>(
+        &self,
+        threads: &T,
+        caller: u32,
+        entry: u64,
+        begun: Duration,
+        time: Duration,
+    ) -> bool {
+        let known = self.waiting.entries();
+        let Ok(now) = self.rt.monotonic() else {
+            return false;
+        };
+        let left = begun.saturating_add(time).saturating_sub(now);
+        if known >= entry || left.is_zero() || self.is_closing() {
+            return false;
+        }
+        if now >= begun.saturating_add(HOLD) && is_awaited(self.listener) {
+            self.waiting.leave(caller);
+            return false;
+        }
+        self.waiting.nap(threads, known, left.min(STEP));
+        true
     }
 
     /// The second of the clock; 0 where it can't be read.
@@ -96,6 +140,30 @@ impl Supervisor for Alarm<'_> {
             let _ = eprintln!(self.rt; "panad: journal failed");
             self.close();
         }
+    }
+
+    fn wait<T: Wait>(&self, threads: &T, caller: u32, entry: u64, seconds: u64) {
+        let Ok(begun) = self.rt.monotonic() else {
+            return;
+        };
+        let time = Duration::from_secs(seconds);
+        for _ in threads.forever() {
+            if !self.wait_on(threads, caller, entry, begun, time) {
+                return;
+            }
+        }
+    }
+
+    fn note(&self, entry: u64) {
+        self.waiting.note(entry);
+    }
+
+    fn begin(&self, caller: u32) {
+        self.waiting.stay(caller);
+    }
+
+    fn makes_way(&self, caller: u32) -> bool {
+        self.waiting.leaves(caller)
     }
 
     fn opens<T: Wait>(&self, threads: &T) -> bool {

@@ -9,7 +9,7 @@ ghost use Rattle.pana_daemon.specs.inner.Newlines.{EndsInput};
 ghost use Rattle.pana_daemon.specs.Root.{folders_of, has_folders, new_folders};
 ghost use Rattle.pana_daemon.specs.Serve.{Ends, EndsDaemon, EndsDrawn};
 
-use crate::alarm::Alarm;
+use crate::alarm::{Alarm, Closer};
 use crate::attending::{Ended, attend};
 use crate::daemon_fault::{DaemonFault, LateFault};
 use crate::disks::Disks;
@@ -58,16 +58,15 @@ pub struct DaemonEnd<S> {
     pub fault: Option<LateFault>,
 }
 
-/// The alarm that ends all where no number of sessions is wanted and it isn't to stay.
-fn alarm_of<'a>(
-    rt: &'a HostRuntime,
-    signals: &'a Signals,
-    listener: &Listener,
-    stays: bool,
-) -> Result<Alarm<'a>, DaemonFault> {
-    let ends = listener.wanted.is_none() && !stays;
-    let closed = if ends { Some(&listener.listener) } else { None };
-    Alarm::new(rt, &signals.start, closed).map_err(|_| DaemonFault::NoDescriptor)
+/// What ends all once the alarm has rung, where no number of sessions is wanted and it isn't to stay.
+fn closer_of(listener: &Listener, stays: bool) -> Result<Option<Closer>, DaemonFault> {
+    if listener.wanted.is_some() || stays {
+        return Ok(None);
+    }
+    match Closer::new(&listener.listener) {
+        Ok(closer) => Ok(Some(closer)),
+        Err(_) => Err(DaemonFault::NoDescriptor),
+    }
 }
 
 /// The posts of 16 workers, each with a part of the whole of the tickets, and then those of the roots, in order, each of
@@ -97,10 +96,10 @@ fn posts_of<'a, T: Wait + Clock, K: Disks>(
 {
     let mut posts = Vec::with_capacity(alloc, SESSIONS + roots.len())?;
     for place in 0..SESSIONS {
-        let _ = place;
         let share = tickets.divide(whole);
+        let caller = place as u32 + 1;
         posts.push_reserved(Post::Door(SocketDoor::new(
-            threads, alloc, alarm, listener, patience, tickets, share,
+            threads, alloc, alarm, caller, listener, patience, tickets, share,
         )));
     }
     for root in roots {
@@ -305,7 +304,7 @@ pub fn serve<'a, S: Session + Send + Drop, T: Threads + Wait + Clock + Sync, K: 
 {
     let lasts = listener.wanted.is_none();
     let (signals, mut counter) = Signals::new(rt.alloc(), roots.len(), lasts)?;
-    let alarm = alarm_of(rt, &signals, &listener, stays)?;
+    let closer = closer_of(&listener, stays)?;
     let Listener {
         listener,
         wanted,
@@ -313,6 +312,7 @@ pub fn serve<'a, S: Session + Send + Drop, T: Threads + Wait + Clock + Sync, K: 
     } = listener;
     let (tickets, mut whole) = Tickets::new(rt.alloc(), limit_of(wanted))?;
     let counted = Mutex::new(CountedListener::new(listener, wanted));
+    let alarm = Alarm::new(rt, &signals.start, &counted, closer, session.entries());
     let posts = posts_of(
         rt.alloc(),
         &*threads,

@@ -2,6 +2,7 @@
 
 use crate::shared::Shared;
 use crate::supervisor::Supervisor;
+use crate::waiting::{awaited_by, made_by};
 use pana_calls::{Answer, Call, NoAnswer, Session};
 use pana_copies::DeviceName;
 use pana_turn::{Desk, Pass};
@@ -85,6 +86,20 @@ impl<'a, S: Session + Drop, T, G> DeskSession<'a, S, T, G> {
     }
 }
 
+/// Waits for the entry that the call waits for, if it does.
+fn wait_for<T: Wait, G: Supervisor>(rt: &T, supervisor: &G, caller: u32, call: &Call) {
+    if let Some((entry, seconds)) = awaited_by(call) {
+        supervisor.wait(rt, caller, entry, seconds);
+    }
+}
+
+/// Has the supervisor note the entry that a call has made, if it has.
+fn note<G: Supervisor>(supervisor: &G, answer: &Answer) {
+    if let Some(entry) = made_by(answer) {
+        supervisor.note(entry);
+    }
+}
+
 impl<S: Session + Drop, T: Wait, G: Supervisor> Session for DeskSession<'_, S, T, G> {
     ghost use Rattle.std.specs.Prelude.{IfOk, OnErr};
     ghost use Rattle.pana_daemon.specs.Session.{GetsNone, MakesCall, calls_seen};
@@ -95,13 +110,15 @@ impl<S: Session + Drop, T: Wait, G: Supervisor> Session for DeskSession<'_, S, T
 
     ghost fails = { GetsNone S.step S.fails };
 
-    /// Makes the call at the desk, between the supervisor's questions.
+    /// Makes the call at the desk, between the supervisor's questions. One that waits for an entry waits before it comes to the
+    /// desk, so that it takes no turn meanwhile.
     fn call(&mut self, by: &DeviceName, call: Call) -> Result<Answer, NoAnswer>
         ensures step { IfOk result (λ answer. MakesCall S.step S.fails self.old by.now call answer self.new) }
         ensures fails { OnErr result (GetsNone S.step S.fails self.old by.now call self.new) }
     {
         self.calls = self.calls.saturating_add(1);
         self.supervisor.before(self.caller, self.calls);
+        wait_for(self.rt, self.supervisor, self.caller, &call);
         let message = Message {
             by: by.copy_of(),
             call,
@@ -115,6 +132,7 @@ impl<S: Session + Drop, T: Wait, G: Supervisor> Session for DeskSession<'_, S, T
             return Err(NoAnswer);
         };
         self.supervisor.after(self.caller, self.calls);
+        note(self.supervisor, &answer);
         Ok(answer)
     }
     /// Does nothing: each call is kept once it is finished.

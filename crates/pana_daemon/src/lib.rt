@@ -28,6 +28,7 @@ mod standard_input;
 mod start;
 mod supervisor;
 mod timing;
+mod waiting;
 mod working;
 
 pub use crate::alarm::Alarm;

@@ -7,8 +7,8 @@ use crate::patience::Patience;
 use crate::supervisor::Supervisor;
 use std::io::ErrorKind;
 use std::net::{TcpListener, TcpStream};
-use std::sync::Wait;
 use std::sync::atomic::AtomicU64;
+use std::sync::{Mutex, Wait};
 use std::time::Duration;
 
 /// How long the pause is after a connection couldn't be taken, in milliseconds; each is twice as long as the one before.
@@ -22,6 +22,14 @@ fn pause_after(pause: u64) -> u64
     ensures { result ≡ pause_after pause }
 {
     pause.saturating_mul(2).min(LONGEST_PAUSE)
+}
+
+/// Whether a connection waits that nobody takes: one session looks at a time, and none does where a worker takes them.
+pub(crate) fn is_awaited(listener: &Mutex<CountedListener>) -> bool {
+    match listener.try_lock() {
+        Some(mut listener) => listener.has_waiting(),
+        None => false,
+    }
 }
 
 /// A listener, how many of its connections are wanted, all where there is no number, and how long each may keep others

@@ -2,7 +2,7 @@
 
 ghost use Rattle.std.specs.Io.{ReadsAtMost, WritesAtMost};
 
-use crate::listener::CountedListener;
+use crate::listener::{CountedListener, is_awaited};
 use crate::supervisor::Supervisor;
 use std::alloc::Global;
 use std::io::{self, Error, ErrorKind, Read, Write};
@@ -41,16 +41,18 @@ fn has_passed(error: Error) -> io::Result<bool> {
 pub struct Visit<'a, T, G> {
     rt: &'a T,
     supervisor: &'a G,
+    caller: u32,
     listener: &'a Mutex<CountedListener>,
     stream: TcpStream,
     patience: Patience,
 }
 
 impl<'a, T: Clock, G: Supervisor> Visit<'a, T, G> {
-    /// The visit of a connection. Fails where the socket takes no limits.
+    /// The visit of a connection that the caller is to serve. Fails where the socket takes no limits.
     pub(crate) fn new(
         rt: &'a T,
         supervisor: &'a G,
+        caller: u32,
         listener: &'a Mutex<CountedListener>,
         stream: TcpStream,
         patience: Patience,
@@ -58,21 +60,15 @@ impl<'a, T: Clock, G: Supervisor> Visit<'a, T, G> {
         let period = seconds(patience.hurry.min(patience.idle).min(PERIOD));
         stream.set_read_timeout(Some(period))?;
         stream.set_write_timeout(Some(period))?;
+        supervisor.begin(caller);
         Ok(Visit {
             rt,
             supervisor,
+            caller,
             listener,
             stream,
             patience,
         })
-    }
-
-    /// Whether a connection waits that nobody takes: one session looks at a time, and none does where a worker takes them.
-    fn is_awaited(&self) -> bool {
-        match self.listener.try_lock() {
-            Some(mut listener) => listener.has_waiting(),
-            None => false,
-        }
     }
 
     fn read(&self, buffer: &mut [u8]) -> io::Result<usize>
@@ -97,12 +93,17 @@ impl<'a, T: Clock, G: Supervisor> Visit<'a, T, G> {
         Ok(())
     }
 
+    /// Whether it is to end, since a question of its client has waited and kept others waiting.
+    fn makes_way(&self) -> bool {
+        self.supervisor.makes_way(self.caller)
+    }
+
     /// Fails where all sessions are to end, and where others wait and this one has waited for its client since then for
     /// as long as it may.
     fn go_on(&self, since: Duration, limit: u32) -> io::Result<()> {
         self.stay()?;
         let is_late = self.rt.monotonic()? >= since.saturating_add(seconds(limit));
-        if is_late && self.is_awaited() {
+        if is_late && is_awaited(self.listener) {
             return Err(Error::from(ErrorKind::TimedOut));
         }
         Ok(())
@@ -163,6 +164,9 @@ impl<T: Wait + Clock, G: Supervisor> Read for PatientReader<'_, T, G> {
         let rt = self.visit.rt;
         for _ in rt.forever() {
             self.visit.stay()?;
+            if self.visit.makes_way() {
+                return Err(Error::from(ErrorKind::TimedOut));
+            }
             match self.visit.read(buffer) {
                 Ok(count) => {
                     self.note(&buffer[..count])?;

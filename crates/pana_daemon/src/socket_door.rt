@@ -28,6 +28,7 @@ pub struct SocketDoor<'a, T, G> {
     rt: &'a T,
     alloc: Global,
     supervisor: &'a G,
+    caller: u32,
     listener: &'a Mutex<CountedListener>,
     patience: Patience,
     tickets: &'a Tickets,
@@ -50,11 +51,12 @@ impl<'a, T, G> Model for SocketDoor<'a, T, G> {
 }
 
 impl<'a, T: Wait + Clock, G: Supervisor> SocketDoor<'a, T, G> {
-    /// A share in the listener, which takes as many connections together with others as there are tickets. Takes no memory.
+    /// The share of this caller in the listener, which takes as many connections together with others as there are tickets. Takes no memory.
     pub fn new(
         rt: &'a T,
         alloc: Global,
         supervisor: &'a G,
+        caller: u32,
         listener: &'a Mutex<CountedListener>,
         patience: Patience,
         tickets: &'a Tickets,
@@ -68,6 +70,7 @@ impl<'a, T: Wait + Clock, G: Supervisor> SocketDoor<'a, T, G> {
             rt,
             alloc,
             supervisor,
+            caller,
             listener,
             patience,
             tickets,
@@ -123,6 +126,7 @@ impl<'a, T: Wait + Clock, G: Supervisor> SocketDoor<'a, T, G> {
         let Ok(visit) = Visit::new(
             self.rt,
             self.supervisor,
+            self.caller,
             self.listener,
             stream,
             self.patience,

@@ -15,6 +15,21 @@ pub trait Supervisor {
     /// After the caller's nth call was made and has no answer.
     fn unanswered(&self, _caller: u32, _nth: u64) {}
 
+    /// Before a call of the caller that waits for this entry: comes back once the journal is known to have it, at the latest after
+    /// so many seconds, and sooner where all sessions are to end or where the wait keeps others waiting.
+    fn wait<T: Wait>(&self, _rt: &T, _caller: u32, _entry: u64, _seconds: u64) {}
+
+    /// After an answer by which the journal has this entry.
+    fn note(&self, _entry: u64) {}
+
+    /// Before the first read of a connection that the caller is to serve.
+    fn begin(&self, _caller: u32) {}
+
+    /// Whether the caller's connection is to end, since its wait kept others waiting.
+    fn makes_way(&self, _caller: u32) -> bool {
+        false
+    }
+
     /// Whether connections are to be taken at all: asked once, when all is ready for the first one.
     fn opens<T: Wait>(&self, _rt: &T) -> bool {
         true

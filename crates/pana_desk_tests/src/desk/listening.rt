@@ -54,7 +54,9 @@ fn serve_all<'a, T: Threads + Wait + Clock + Sync>(
     };
     let (tickets, mut whole) = Tickets::new(alloc, u64::from(wanted))?;
     let share = tickets.divide(&mut whole);
-    let door = SocketDoor::new(rt, alloc, supervisor, listener, patience, &tickets, share);
+    let door = SocketDoor::new(
+        rt, alloc, supervisor, 1, listener, patience, &tickets, share,
+    );
     let mut posts: Vec<Post<'_, _, NoFolder>> = Vec::with_capacity(alloc, 1)?;
     posts.push_reserved(Post::Door(door));
     let hall = Hall::new(alloc)?;

@@ -1,0 +1,3 @@
+pub mod Line
+pub mod Watch
+pub mod inner

@@ -1,0 +1,33 @@
+-- What answers have.
+use Rattle.std.specs.Prelude.{◌≡◌, ℕ, List, ◌∷◌, Option, Some, None}
+use Rattle.pana_journal.specs.declared.entry.Entry.{Entry}
+use Rattle.pana_calls.specs.declared.board.BoardView.{BoardView}
+use Rattle.pana_calls.specs.declared.family_row.FamilyRow.{FamilyRow}
+use Rattle.pana_calls.specs.declared.call.Call.{Call}
+use Rattle.pana_calls.specs.declared.call.Call.TheVariants as calls
+use Rattle.pana_calls.specs.declared.call.Query.TheVariants as queries
+use Rattle.pana_watch.specs.Watch.{named_by}
+use Rattle.pana_calls.specs.declared.reply.Reply.TheVariants.{Board, Families, Journal}
+use Rattle.pana_calls.specs.declared.answer.Answer.{Answer}
+use Rattle.pana_calls.specs.declared.answer.Answer.TheVariants.{Given}
+
+-- the entries
+abbrev pub entries_in : Answer → Option (List Entry)
+entries_in (Given (Journal entries)) = Some entries
+entries_in answer = None
+
+-- the families
+abbrev pub families_in : Answer → Option (List FamilyRow)
+families_in (Given (Families rows)) = Some rows
+families_in answer = None
+
+-- the board
+abbrev pub board_in : Answer → Option BoardView
+board_in (Given (Board board)) = Some board
+board_in answer = None
+
+module _ {S : Type 0} (step : S → List ℕ → Call → Answer → S → Type 0) (by : List ℕ) where
+  -- the entry with this number was asked for, and names this
+  abbrev pub IsFirst : S → ℕ → S → Option ℕ → Type 0
+  IsFirst old number new named = (entry : Entry) × (rest : List Entry) × step old by (calls.Query (queries.JournalFrom number)) (Given (Journal (entry ∷ rest))) new
+      × (entry.number ≡ number) × (named ≡ named_by entry.report)

@@ -1,0 +1,31 @@
+//! Entries in answers.
+ghost use Rattle.std.specs.Prelude.{◌≡◌, IsTrue, Option, Some, None};
+ghost use Rattle.pana_watch.specs.Watch.{AreNumberedFrom};
+ghost use Rattle.pana_watch.specs.inner.Answers.{entries_in};
+
+use pana_calls::{Answer, Reply};
+use pana_journal::{Entry, EntryList};
+
+/// The entries that an answer has; none where it is no answer with entries.
+pub(crate) fn entries_in(answer: Answer) -> Option<EntryList>
+    ensures { result ≡ entries_in answer }
+{
+    match answer {
+        Answer::Given(Reply::Journal(entries)) => Some(entries),
+        _ => None,
+    }
+}
+
+/// Whether the entries have this number, the next one, and so on.
+pub(crate) fn are_numbered_from(number: u64, entries: &[Entry]) -> bool
+    ensures { IsTrue result → AreNumberedFrom number entries.now }
+{
+    let mut next = number;
+    for entry in entries {
+        if entry.number != next || next == u64::MAX {
+            return false;
+        }
+        next += 1;
+    }
+    true
+}

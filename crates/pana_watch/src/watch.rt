@@ -1,0 +1,87 @@
+//! A watch of a session's journal.
+ghost use Rattle.std.specs.Prelude.{◌≡◌, ℕ, ◌==◌, IfOk, OnErr, IfSome, if◌then◌else◌};
+ghost use Rattle.pana_watch.specs.Watch.{Looks, Takes, is_split};
+ghost use Rattle.pana_watch.specs.inner.Answers.{board_in};
+
+use crate::family_change::FamilyChange;
+use crate::pages::{are_numbered_from, entries_in};
+use crate::watch_fault::WatchFault;
+use indexmap::IndexMap;
+use pana_calls::{Answer, BoardView, Call, Query, Reply, Session};
+use pana_copies::DeviceName;
+use pana_journal::EntryList;
+
+/// For how many seconds an answer may wait for an entry.
+const SECONDS: u64 = 30;
+
+/// Which entry is shown next, and which families are known as split.
+#[derive(Drop)]
+pub struct Watch {
+    pub(crate) next: u64,
+    /// Whether each family that was looked at is split.
+    pub(crate) known: IndexMap<u64, bool>,
+}
+
+fn board_in(answer: Answer) -> Option<BoardView>
+    ensures { result ≡ board_in answer }
+{
+    match answer {
+        Answer::Given(Reply::Board(board)) => Some(board),
+        _ => None,
+    }
+}
+
+impl Watch {
+    /// The next entries, as soon as there is one; none where none has come for 30 seconds, or others wait for the daemon.
+    ///
+    /// # Errors
+    ///
+    /// `NoAnswer` where the question has no answer, or what comes aren't the next entries. The watch is as it was.
+    pub fn take<S: Session>(
+        &mut self,
+        session: &mut S,
+        by: &DeviceName,
+    ) -> Result<EntryList, WatchFault>
+        ensures ok { IfOk result (λ entries. Takes S.step by.now self.old session.old entries self.new session.new) }
+        ensures fails { OnErr result (self.new ≡ self.old) }
+    {
+        let query = Query::JournalAwaited {
+            entry: self.next,
+            seconds: SECONDS,
+        };
+        let answer = session.call(by, Call::Query(query))?;
+        let Some(entries) = entries_in(answer) else {
+            return Err(WatchFault::NoAnswer);
+        };
+        let Some(next) = self.next.checked_add(entries.as_slice().len() as u64) else {
+            return Err(WatchFault::NoAnswer);
+        };
+        if !are_numbered_from(self.next, entries.as_slice()) {
+            return Err(WatchFault::NoAnswer);
+        }
+        self.next = next;
+        Ok(entries)
+    }
+
+    /// What has become of a family since the watch last knew of it, by its board.
+    ///
+    /// # Errors
+    ///
+    /// `NoAnswer` where the question has no answer, or none that has a board; `OutOfMemory`. The watch is as it was.
+    pub fn look<S: Session>(
+        &mut self,
+        session: &mut S,
+        by: &DeviceName,
+        family: u64,
+    ) -> Result<Option<FamilyChange>, WatchFault>
+        ensures ok { IfOk result (λ change. Looks S.step by.now self.old session.old family change self.new session.new) }
+    {
+        let answer = session.call(by, Call::Query(Query::Board { family }))?;
+        let Some(board) = board_in(answer) else {
+            return Err(WatchFault::NoAnswer);
+        };
+        let was = self.known.get(&family).copied().unwrap_or(false);
+        self.known.insert(family, board.split)?;
+        Ok(FamilyChange::of(family, was, board.split))
+    }
+}
