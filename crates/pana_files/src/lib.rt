@@ -13,6 +13,7 @@ mod keeper;
 mod passed_over;
 mod printing;
 mod progress;
+mod redialing;
 mod sums_file;
 
 pub use crate::client::{DaemonClient, connect};
@@ -24,4 +25,5 @@ pub use crate::keeper::Keeper;
 pub use crate::passed_over::{OwnFile, RootPatterns, passed_over, root_patterns, slices_of};
 pub use crate::printing::{Output, complain, output, print_tables, print_text};
 pub use crate::progress::Progress;
+pub use crate::redialing::Redialing;
 pub use crate::sums_file::may_keep_sums;

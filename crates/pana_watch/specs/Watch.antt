@@ -17,10 +17,10 @@ use Rattle.pana_watch.specs.declared.family_change.FamilyChange.{FamilyChange}
 use Rattle.pana_watch.specs.declared.watch.Watch.{Watch}
 use Rattle.pana_watch.specs.Line.{change_lines}
 
--- the entries have this number, the next one, and so on
-abbrev pub AreNumberedFrom : ℕ → List Entry → Type 0
-AreNumberedFrom number [] = Unit {0}
-AreNumberedFrom number (entry ∷ entries) = (entry.number ≡ number) × AreNumberedFrom (number + 1) entries
+-- whether the entries have this number, the next one, and so on
+abbrev pub are_numbered : ℕ → List Entry → Bool
+are_numbered number [] = true
+are_numbered number (entry ∷ entries) = (entry.number == number) && are_numbered (number + 1) entries
 
 -- the question for the entries from this number on, whose answer may wait for 30 seconds
 abbrev pub awaited : ℕ → Call
@@ -57,7 +57,7 @@ module _ {S : Type 0} (step : S → List ℕ → Call → Answer → S → Type 
   -- these are the entries that were asked for, from the watch's next one on, and none of them is left out
   pub record Takes (before : Watch) (old : S) (entries : List Entry) (after : Watch) (new : S) : Type 0 where
     pub asked : step old by (awaited before.next) (Given (Journal entries)) new
-    pub numbered : AreNumberedFrom before.next entries
+    pub numbered : are_numbered before.next entries ≡ true
     pub next : after.next ≡ before.next + length entries
     pub known : after.known ≡ before.known
 

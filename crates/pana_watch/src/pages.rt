@@ -1,6 +1,6 @@
 //! Entries in answers.
-ghost use Rattle.std.specs.Prelude.{◌≡◌, IsTrue, Option, Some, None};
-ghost use Rattle.pana_watch.specs.Watch.{AreNumberedFrom};
+ghost use Rattle.std.specs.Prelude.{◌≡◌, IsTrue, true};
+ghost use Rattle.pana_watch.specs.Watch.{are_numbered};
 ghost use Rattle.pana_watch.specs.inner.Answers.{entries_in};
 
 use pana_calls::{Answer, Reply};
@@ -17,8 +17,8 @@ pub(crate) fn entries_in(answer: Answer) -> Option<EntryList>
 }
 
 /// Whether the entries have this number, the next one, and so on.
-pub(crate) fn are_numbered_from(number: u64, entries: &[Entry]) -> bool
-    ensures { IsTrue result → AreNumberedFrom number entries.now }
+pub(crate) fn are_numbered(number: u64, entries: &[Entry]) -> bool
+    ensures { IsTrue result → are_numbered number entries.now ≡ true }
 {
     let mut next = number;
     for entry in entries {

@@ -4,7 +4,7 @@ ghost use Rattle.pana_watch.specs.Watch.{Looks, Takes, is_split};
 ghost use Rattle.pana_watch.specs.inner.Answers.{board_in};
 
 use crate::family_change::FamilyChange;
-use crate::pages::{are_numbered_from, entries_in};
+use crate::pages::{are_numbered, entries_in};
 use crate::watch_fault::WatchFault;
 use indexmap::IndexMap;
 use pana_calls::{Answer, BoardView, Call, Query, Reply, Session};
@@ -56,7 +56,7 @@ impl Watch {
         let Some(next) = self.next.checked_add(entries.as_slice().len() as u64) else {
             return Err(WatchFault::NoAnswer);
         };
-        if !are_numbered_from(self.next, entries.as_slice()) {
+        if !are_numbered(self.next, entries.as_slice()) {
             return Err(WatchFault::NoAnswer);
         }
         self.next = next;

@@ -8,6 +8,7 @@ use crate::show_command::{FILE, Wanted, show_tables, source_of, wanted_by, with_
 use crate::status_command::{self, STATUS, status_command};
 use crate::track_command::{self, TRACK, track_command};
 use crate::version::VERSION;
+use crate::watch_command::{self, WATCH, watch_command};
 use crate::why_command::{self, WHY, why_command};
 use clap::error::{Error, ErrorKind};
 use clap::{Arg, ArgMatches, Command};
@@ -39,14 +40,15 @@ Each line of input to `panad run` is what a device reports, or asks:
 
 Reports: register, duplicate, edit, reconcile, merge, relocate, remove, note,
 confirm, withdraw. Sightings: found, missing. Questions: families, board, stamps,
-pair, holdings, at, status, journal.
+pair, holdings, at, status, journal, counts.
 
 `panad show` takes such lines and prints tables in place of the answers, and
 `panad serve` answers them over TCP, to several devices at a time.
 `panad track` needs no lines: it looks at folders, and `panad status` shows what is
 obsolete or in conflict. `panad may-overwrite` says whether a copy may be replaced,
 `panad why` what each of two copies knows that the other lacks, and `panad report`
-makes one report of copies that are named by their places.
+makes one report of copies that are named by their places. `panad watch` prints what
+is reported to a daemon, as it comes.
 `panad COMMAND --help` shows an example. docs/PROTOCOL.md has all answers, and
 docs/PROMISES.md what is proved of them, and what isn't.";
 
@@ -200,6 +202,7 @@ fn command_line<'a>(alloc: Global) -> Result<Command<'a>, AllocError> {
         .subcommand(overwrite_command(alloc)?)?
         .subcommand(why_command(alloc)?)?
         .subcommand(report_command(alloc)?)?
+        .subcommand(watch_command(alloc)?)?
         .subcommand(serve_command(alloc)?)
 }
 
@@ -354,6 +357,7 @@ fn obey_words<T: Threads + Wait + Clock + Sync>(
         Some((MAY_OVERWRITE, words)) => Ok(overwrite_command::run(rt, words)),
         Some((WHY, words)) => Ok(why_command::run(rt, words)),
         Some((REPORT, words)) => Ok(report_command::run(rt, words)),
+        Some((WATCH, words)) => Ok(watch_command::run(rt, words)),
         Some((SERVE, words)) => serve_command::run(rt, threads, words),
         _ => refuse(rt, ErrorKind::MissingSubcommand, "a command is required"),
     }

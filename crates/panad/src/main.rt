@@ -15,6 +15,7 @@ mod status_command;
 mod track;
 mod track_command;
 mod version;
+mod watch_command;
 mod why_command;
 
 use std::process::ExitCode;
