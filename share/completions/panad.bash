@@ -7,6 +7,7 @@ _panad_options() {
     status) printf '%s\n' --journal --port --quiet --json --help ;;
     may-overwrite) printf '%s\n' --journal --port --by --help ;;
     why) printf '%s\n' --journal --port --help ;;
+    watch) printf '%s\n' --port --from --help ;;
     report) printf '%s\n' --journal --port --by --sum --heir --help ;;
     load | scan | compare) printf '%s\n' --help ;;
     track) printf '%s\n' --journal --port --sums --empty --ignore --read-all --one-file-system --quiet --json --help ;;
@@ -24,7 +25,7 @@ _panad() {
   # Of DEVICE=DIR bash makes three words.
   [ "$word" != = ] || before== word=
   if [ "$COMP_CWORD" -eq 1 ]; then
-    mapfile -t COMPREPLY < <(compgen -W 'run show load scan compare track status may-overwrite why report serve --help --version' -- "$word")
+    mapfile -t COMPREPLY < <(compgen -W 'run show load scan compare track status may-overwrite why report watch serve --help --version' -- "$word")
     return
   fi
   case $before in
@@ -36,7 +37,7 @@ _panad() {
       mapfile -t COMPREPLY < <(compgen -d -- "$word")
       return
       ;;
-    --port | --sessions | --every | --ignore | --hurry | --idle | --by | --sum | --heir | --family) return ;;
+    --port | --sessions | --every | --ignore | --hurry | --idle | --by | --sum | --heir | --family | --from) return ;;
   esac
   if [[ $word == -* ]]; then
     mapfile -t COMPREPLY < <(compgen -W "$(_panad_options "$command")" -- "$word")
