@@ -10,7 +10,8 @@ use Rattle.std.proofs.lemmas.Bool.Decides.{nat_tests, same_from_decides}
 use Rattle.std.proofs.lemmas.Cmp.{nat_list_eq_equiv}
 use Rattle.std.proofs.lemmas.List.{length-map}
 use Rattle.std.proofs.lemmas.Map.Keys.{IsDistinct-cons}
-use Rattle.std.proofs.lemmas.Map.Made.{is_some-lookup, length-from_keys, length-from_same_keys, length-keys_of}
+use Rattle.std.proofs.lemmas.Map.Made.{is_some-lookup, length-from_keys, length-from_same_keys}
+use Rattle.std.proofs.lemmas.Map.Entries.{length-keys_of}
 use Rattle.std.proofs.lemmas.Slice.Eq.{bytes_eq-Decides}
 use Rattle.pana_copies.specs.Spots.{AreDevices, CountsDevices, HasDevice, Table, kept}
 use Rattle.pana_journal.specs.declared.entry.Entry.{Entry}

@@ -2,14 +2,14 @@
 #![tactic(auto)]
 
 mod beginning;
-mod entry_lines;
 mod family_change;
 mod family_of;
+mod lines;
 mod pages;
 mod watch;
 mod watch_fault;
 
-pub use crate::entry_lines::entry_lines;
 pub use crate::family_change::{FamilyChange, change_line};
+pub use crate::lines::entry_lines;
 pub use crate::watch::Watch;
 pub use crate::watch_fault::WatchFault;

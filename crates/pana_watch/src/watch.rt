@@ -81,7 +81,9 @@ impl Watch {
             return Err(WatchFault::NoAnswer);
         };
         let was = self.known.get(&family).copied().unwrap_or(false);
-        self.known.insert(family, board.split)?;
+        let Ok(_) = self.known.insert(family, board.split) else {
+            return Err(WatchFault::OutOfMemory);
+        };
         Ok(FamilyChange::of(family, was, board.split))
     }
 }

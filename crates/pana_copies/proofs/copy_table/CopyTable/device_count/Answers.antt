@@ -1,6 +1,6 @@
 use Rattle.std.proofs.Common.{◌∙◌, length, sym, subst}
 use Rattle.std.specs.Map.{keys_of}
-use Rattle.std.proofs.lemmas.Map.Made.{length-keys_of}
+use Rattle.std.proofs.lemmas.Map.Entries.{length-keys_of}
 use Rattle.pana_copies.specs.Spots.{CountsDevices, kept}
 use Rattle.pana_copies.proofs.Devices.{devices_are}
 use Rattle.pana_copies.proofs.copy_table.CopyTable.device_count.Goals as goal
