@@ -28,18 +28,18 @@ module _ {S : Type 0} (step : S → List ℕ → Call → Answer → S → Type 
 
   -- the changes of the families of entries so far, and their lines: whatever follows for the rest follows for all
   abbrev pub FollowedSoFar : Watch → S → List Entry → List ℕ → Watch → S → List Entry → Type 0
-  FollowedSoFar before old entries text after new rest = (changes : List (Option FamilyChange)) (then : Watch) (last : S) → Follows step by after new rest changes then last
-      → (all : List (Option FamilyChange)) × Follows step by before old entries all then last × (change_lines all ≡ text ++ change_lines changes)
+  FollowedSoFar before old entries text after new rest = (changes : List (Option FamilyChange)) (later : Watch) (last : S) → Follows step by after new rest changes later last
+      → (all : List (Option FamilyChange)) × Follows step by before old entries all later last × (change_lines all ≡ text ++ change_lines changes)
 
   pub none_followed : (before : Watch) (old : S) (entries : List Entry) → FollowedSoFar before old entries [] before old entries
-  none_followed before old entries changes then last follows = (changes, follows, refl)
+  none_followed before old entries changes later last follows = (changes, follows, refl)
 
   pub followed_on : (before : Watch) (old : S) (entries : List Entry) (text : List ℕ) (watch : Watch) (mid : S) (entry : Entry) (rest : List Entry) → FollowedSoFar before old entries text watch mid (entry ∷ rest)
       → (path : List Entry) (family : ℕ) (asked : S) → Leads step by mid entry.number (named_by entry.report) path family asked
       → (change : Option FamilyChange) (after : Watch) (new : S) → Looks step by watch asked family change after new
       → (more : List ℕ) → more ≡ text ++ line_or_none change → FollowedSoFar before old entries more after new rest
-  followed_on before old entries text watch mid entry rest so_far path family asked leads change after new looks more is changes then last follows =
-      let whole = so_far (change ∷ changes) then last (path, family, asked, after, new, leads, looks, follows) in
+  followed_on before old entries text watch mid entry rest so_far path family asked leads change after new looks more is changes later last follows =
+      let whole = so_far (change ∷ changes) later last (path, family, asked, after, new, leads, looks, follows) in
       (whole.0, whole.1, whole.2 ∙ sym (append_assoc text (line_or_none change) (change_lines changes)) ∙ ap (λ (l : List ℕ). l ++ change_lines changes) (sym is))
 
   pub followed : (before : Watch) (old : S) (entries : List Entry) (text : List ℕ) (after : Watch) (new : S) → FollowedSoFar before old entries text after new [] → Says step by before old entries text after new

@@ -98,8 +98,8 @@ module _ {S : Type 0} (step : S → List ℕ → Call → Answer → S → Type 
   Follows before old [] [] after new = (after ≡ before) × (new ≡ old)
   Follows before old [] (change ∷ changes) after new = ⊥
   Follows before old (entry ∷ entries) [] after new = ⊥
-  Follows before old (entry ∷ entries) (change ∷ changes) after new = (path : List Entry) × (family : ℕ) × (mid : S) × (then : Watch) × (behind : S)
-      × Leads old entry.number (named_by entry.report) path family mid × Looks before mid family change then behind × Follows then behind entries changes after new
+  Follows before old (entry ∷ entries) (change ∷ changes) after new = (path : List Entry) × (family : ℕ) × (mid : S) × (later : Watch) × (behind : S)
+      × Leads old entry.number (named_by entry.report) path family mid × Looks before mid family change later behind × Follows later behind entries changes after new
 
   -- the text has a line for each change of these
   pub record Says (before : Watch) (old : S) (entries : List Entry) (text : List ℕ) (after : Watch) (new : S) : Type 0 where

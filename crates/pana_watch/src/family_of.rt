@@ -59,8 +59,9 @@ fn family_of<S: Session>(session: &mut S, by: &DeviceName, entry: &Entry) -> Res
     let mut family = entry.number;
     let mut named = named_by(&entry.report);
     for _ in 0..MOST_ENTRIES {
-        let Some(number) = named else {
-            return Ok(family);
+        let number = match named {
+            Some(number) => number,
+            None => return Ok(family),
         };
         named = named_at(session, by, number)?;
         family = number;
