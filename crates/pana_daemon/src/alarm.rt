@@ -14,11 +14,11 @@ use std::time::{Clock, Duration};
 /// How many seconds open sessions have before they are to end.
 const GRACE: u64 = 5;
 
-/// How long a step of a wait for an entry is at most.
-const STEP: Duration = Duration::from_millis(100);
+/// How many milliseconds a step of a wait for an entry takes at most.
+const STEP: u64 = 100;
 
-/// How long a wait for an entry may keep others waiting.
-const HOLD: Duration = Duration::from_secs(1);
+/// For how many seconds a wait for an entry may keep others waiting.
+const HOLD: u64 = 1;
 
 /// A supervisor that opens with the start, and lets all pass. It prints one line on standard error at the first call that has no
 /// answer, and one where a connection can't be taken for the first time.
@@ -113,11 +113,12 @@ impl<'a> Alarm<'a> {
         if known >= entry || left.is_zero() || self.is_closing() {
             return false;
         }
-        if now >= begun.saturating_add(HOLD) && is_awaited(self.listener) {
+        if now >= begun.saturating_add(Duration::from_secs(HOLD)) && is_awaited(self.listener) {
             self.waiting.leave(caller);
             return false;
         }
-        self.waiting.nap(threads, known, left.min(STEP));
+        self.waiting
+            .nap(threads, known, left.min(Duration::from_millis(STEP)));
         true
     }
 
