@@ -15,9 +15,6 @@ module _ {S : Type 0} (step : S → List ℕ → Call → Answer → S → Type 
   LedSoFar old here named new there next = (path : List Entry) (family : ℕ) (last : S) → Leads step by new there next path family last
       → (whole : List Entry) × Leads step by old here named whole family last
 
-  pub not_led : (old : S) (here : ℕ) (named : Option ℕ) → LedSoFar old here named old here named
-  not_led old here named path family last leads = (path, leads)
-
   pub led_on : (old : S) (here : ℕ) (named : Option ℕ) (mid : S) (there number : ℕ) (new : S) (next : Option ℕ) → LedSoFar old here named mid there (Some number)
       → IsFirst step by mid number new next → LedSoFar old here named new number next
   led_on old here named mid there number new next so_far (entry, rest, asked, is, names) path family last leads =
@@ -30,9 +27,6 @@ module _ {S : Type 0} (step : S → List ℕ → Call → Answer → S → Type 
   abbrev pub FollowedSoFar : Watch → S → List Entry → List ℕ → Watch → S → List Entry → Type 0
   FollowedSoFar before old entries text after new rest = (changes : List (Option FamilyChange)) (later : Watch) (last : S) → Follows step by after new rest changes later last
       → (all : List (Option FamilyChange)) × Follows step by before old entries all later last × (change_lines all ≡ text ++ change_lines changes)
-
-  pub none_followed : (before : Watch) (old : S) (entries : List Entry) → FollowedSoFar before old entries [] before old entries
-  none_followed before old entries changes later last follows = (changes, follows, refl)
 
   pub followed_on : (before : Watch) (old : S) (entries : List Entry) (text : List ℕ) (watch : Watch) (mid : S) (entry : Entry) (rest : List Entry) → FollowedSoFar before old entries text watch mid (entry ∷ rest)
       → (path : List Entry) (family : ℕ) (asked : S) → Leads step by mid entry.number (named_by entry.report) path family asked

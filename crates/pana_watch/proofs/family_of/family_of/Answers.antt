@@ -1,6 +1,6 @@
 use Rattle.std.proofs.Common.{ℕ, Option, subst}
 use Rattle.pana_watch.specs.Watch.{named_by}
-use Rattle.pana_watch.proofs.Led.{LedSoFar, led, led_on, not_led}
+use Rattle.pana_watch.proofs.Led.{LedSoFar, led, led_on}
 use Rattle.pana_watch.proofs.family_of.family_of.Goals as goal
 
 pub returns-in-None : goal.returns-in-None

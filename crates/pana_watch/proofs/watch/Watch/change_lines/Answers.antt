@@ -11,7 +11,7 @@ loop-entry-preserved g c =
     let entry = c.entry-item.result in
     let next : suc i ≡ i + 1 = omega arith in
     let there : drop i entries ≡ entry ∷ drop (i + 1) entries =
-        drop-cons entries i entry c.loop-entry-test.true ∙ ap (λ (e : Entry). e ∷ drop (suc i) entries) (sym c.entry-item.is) ∙ ap (λ (k : ℕ). entry ∷ drop k entries) next in
+    drop-cons entries i entry c.loop-entry-test.true ∙ ap (λ (e : Entry). e ∷ drop (suc i) entries) (sym c.entry-item.is) ∙ ap (λ (k : ℕ). entry ∷ drop k entries) next in
     let path = c.in_ok-family.ensures in
     followed_on g.S.Session.step c.args.by.now c.args.self.now c.args.session.now entries (string_bytes c.loop-entry.text) c.loop-entry.self c.loop-entry.session entry (drop (i + 1) entries)
     (subst (λ (rest : List Entry). FollowedSoFar g.S.Session.step c.args.by.now c.args.self.now c.args.session.now entries (string_bytes c.loop-entry.text) c.loop-entry.self c.loop-entry.session rest) there c.loop-entry.invariant)
