@@ -1,5 +1,5 @@
 -- What a watch asks, and what it knows then.
-use Rattle.std.specs.Prelude.{◌≡◌, ◌⊎◌, ℕ, max, ◌+◌, ◌==◌, ◌&&◌, nat_eq, Bool, true, false, List, [], ◌∷◌, length, Option, Some, None, unwrap_or, if◌then◌else◌}
+use Rattle.std.specs.Prelude.{◌≡◌, ◌⊎◌, ℕ, max, ◌+◌, ◌^◌, ◌==◌, ◌&&◌, nat_eq, nat_lt, Bool, true, false, List, [], ◌∷◌, length, Option, Some, None, unwrap_or, if◌then◌else◌}
 use Rattle.std.specs.List.{list_any}
 use Rattle.indexmap.specs.IndexMap.{get}
 use Rattle.pana_journal.specs.declared.entry.Entry.{Entry}
@@ -21,6 +21,20 @@ use Rattle.pana_watch.specs.Line.{change_lines}
 abbrev pub are_numbered : ℕ → List Entry → Bool
 are_numbered number [] = true
 are_numbered number (entry ∷ entries) = (entry.number == number) && are_numbered (number + 1) entries
+
+-- the entries in an answer, and the board
+abbrev pub entries_in : Answer → Option (List Entry)
+entries_in (Given (Journal entries)) = Some entries
+entries_in answer = None
+
+abbrev pub board_in : Answer → Option BoardView
+board_in (Given (Board board)) = Some board
+board_in answer = None
+
+-- whether these are the entries with this number and the next ones, all of which have 64 bits
+abbrev pub are_next : ℕ → Option (List Entry) → Bool
+are_next number None = false
+are_next number (Some entries) = nat_lt (number + length entries) (2 ^ 64) && are_numbered number entries
 
 -- the question for the entries from this number on, whose answer may wait for 30 seconds
 abbrev pub awaited : ℕ → Call
@@ -60,6 +74,14 @@ module _ {S : Type 0} (step : S → List ℕ → Call → Answer → S → Type 
     pub numbered : are_numbered before.next entries ≡ true
     pub next : after.next ≡ before.next + length entries
     pub known : after.known ≡ before.known
+
+  -- the question has no answer, or one that isn't the next entries
+  abbrev pub TakesNone : (S → List ℕ → Call → S → Type 0) → ℕ → S → S → Type 0
+  TakesNone fails number old new = fails old by (awaited number) new ⊎ ((answer : Answer) × step old by (awaited number) answer new × (are_next number (entries_in answer) ≡ false))
+
+  -- the question for the board has no answer, or none that is a board
+  abbrev pub LooksInVain : (S → List ℕ → Call → S → Type 0) → ℕ → S → S → Type 0
+  LooksInVain fails family old new = fails old by (calls.Query (queries.Board family)) new ⊎ ((answer : Answer) × step old by (calls.Query (queries.Board family)) answer new × (board_in answer ≡ None))
 
   -- the family's board was asked for, and the change is that of the family since the watch last knew of it
   pub record Looks (before : Watch) (old : S) (family : ℕ) (change : Option FamilyChange) (after : Watch) (new : S) : Type 0 where

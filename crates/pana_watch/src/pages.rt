@@ -1,7 +1,6 @@
 //! Entries in answers.
-ghost use Rattle.std.specs.Prelude.{◌≡◌, IsTrue, true};
-ghost use Rattle.pana_watch.specs.Watch.{are_numbered};
-ghost use Rattle.pana_watch.specs.inner.Answers.{entries_in};
+ghost use Rattle.std.specs.Prelude.{◌≡◌, ◌+◌, ◌^◌, ◌<◌, length};
+ghost use Rattle.pana_watch.specs.Watch.{are_numbered, entries_in};
 
 use pana_calls::{Answer, Reply};
 use pana_journal::{Entry, EntryList};
@@ -18,11 +17,12 @@ pub(crate) fn entries_in(answer: Answer) -> Option<EntryList>
 
 /// Whether the entries have this number, the next one, and so on.
 pub(crate) fn are_numbered(number: u64, entries: &[Entry]) -> bool
-    ensures { IsTrue result → are_numbered number entries.now ≡ true }
+    requires { number + length entries.now < 2 ^ 64 }
+    ensures { result ≡ are_numbered number entries.now }
 {
     let mut next = number;
     for entry in entries {
-        if entry.number != next || next == u64::MAX {
+        if entry.number != next {
             return false;
         }
         next += 1;

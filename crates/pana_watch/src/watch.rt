@@ -1,7 +1,6 @@
 //! A watch of a session's journal.
-ghost use Rattle.std.specs.Prelude.{◌≡◌, ℕ, ◌==◌, IfOk, OnErr, IfSome, if◌then◌else◌};
-ghost use Rattle.pana_watch.specs.Watch.{Looks, Takes, is_split};
-ghost use Rattle.pana_watch.specs.inner.Answers.{board_in};
+ghost use Rattle.std.specs.Prelude.{◌≡◌, IfErr, IfOk, OnErr};
+ghost use Rattle.pana_watch.specs.Watch.{Looks, LooksInVain, Takes, TakesNone, board_in};
 
 use crate::family_change::FamilyChange;
 use crate::pages::{are_numbered, entries_in};
@@ -43,7 +42,8 @@ impl Watch {
         by: &DeviceName,
     ) -> Result<EntryList, WatchFault>
         ensures ok { IfOk result (λ entries. Takes S.step by.now self.old session.old entries self.new session.new) }
-        ensures fails { OnErr result (self.new ≡ self.old) }
+        ensures same { OnErr result (self.new ≡ self.old) }
+        ensures fails { OnErr result (TakesNone S.step by.now S.fails self.old.next session.old session.new) }
     {
         let query = Query::JournalAwaited {
             entry: self.next,
@@ -75,6 +75,7 @@ impl Watch {
         family: u64,
     ) -> Result<Option<FamilyChange>, WatchFault>
         ensures ok { IfOk result (λ change. Looks S.step by.now self.old session.old family change self.new session.new) }
+        ensures fails { IfErr result (λ fault. (fault ≡ WatchFault.NoAnswer) → LooksInVain S.step by.now S.fails family session.old session.new) }
     {
         let answer = session.call(by, Call::Query(Query::Board { family }))?;
         let Some(board) = board_in(answer) else {

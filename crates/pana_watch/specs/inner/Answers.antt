@@ -11,20 +11,10 @@ use Rattle.pana_calls.specs.declared.reply.Reply.TheVariants.{Board, Families, J
 use Rattle.pana_calls.specs.declared.answer.Answer.{Answer}
 use Rattle.pana_calls.specs.declared.answer.Answer.TheVariants.{Given}
 
--- the entries
-abbrev pub entries_in : Answer → Option (List Entry)
-entries_in (Given (Journal entries)) = Some entries
-entries_in answer = None
-
 -- the families
 abbrev pub families_in : Answer → Option (List FamilyRow)
 families_in (Given (Families rows)) = Some rows
 families_in answer = None
-
--- the board
-abbrev pub board_in : Answer → Option BoardView
-board_in (Given (Board board)) = Some board
-board_in answer = None
 
 module _ {S : Type 0} (step : S → List ℕ → Call → Answer → S → Type 0) (by : List ℕ) where
   -- the entry with this number was asked for, and names this
