@@ -51,11 +51,8 @@ fn has_no_entry(answer: &Answer) -> bool {
 }
 
 impl Session for Redialing<'_> {
-    ghost use Rattle.std.specs.Prelude.{Unit};
-
+    // Of what comes over a port nothing is known.
     ghost step = { λ old by call answer new. Unit {0} };
-
-    ghost fails = { λ old by call new. Unit {0} };
 
     /// Makes the call over the connection.
     ///
