@@ -1,3 +1,5 @@
+pub mod Cuts
+pub mod Fit
 pub mod Numbers
 pub mod Pieces
 pub mod Same

@@ -1,5 +1,5 @@
 -- Lines put together of their pieces.
-use Rattle.std.proofs.Common.{◌≡◌, ℕ, List, [], ◌∷◌, ◌++◌, append_assoc, length}
+use Rattle.std.proofs.Common.{◌≡◌, ℕ, List, [], ◌∷◌, ◌++◌, append_assoc, length, sym}
 use Rattle.std.specs.Prelude.{codes, decimal}
 use Rattle.pana_calls.specs.declared.board.BoardView.{BoardView}
 use Rattle.pana_report.specs.declared.cell.Alignment.TheVariants.{Left, Right}
@@ -28,3 +28,12 @@ pub family_pieces : (board : BoardView) → family_line board
     ++ (codes ", newest " ++ (decimal (length board.newest) ++ (codes ", split " ++ (yes_or_no board.split ++ newline)))))))
 unfolding family_line
 family_pieces board = simp append_assoc
+
+-- the line of a newest copy behind a text, cell by cell
+pub newest_pieces : (text state copy : List ℕ)
+    → text ++ (side_by_side (cell Left 8 state ∷ cell Left 0 copy ∷ []) ++ newline) ≡ text ++ cell Left 8 state ++ (blanks 2 ++ cell Left 0 copy) ++ newline
+newest_pieces text state copy = simp append_assoc
+
+-- three parts behind nothing
+pub all_lines : (heads rows newest : List ℕ) → heads ++ (rows ++ newest) ≡ [] ++ heads ++ rows ++ newest
+all_lines heads rows newest = sym (append_assoc heads rows newest)

@@ -1,4 +1,5 @@
 pub mod Columns
+pub mod Fitted
 pub mod Table
 pub mod Status
 pub mod laws

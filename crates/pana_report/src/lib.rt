@@ -2,7 +2,9 @@
 #![tactic(auto)]
 
 mod cell;
+mod fitting;
 pub mod laws;
+mod limits;
 mod line;
 mod place;
 mod printing;
@@ -11,4 +13,5 @@ mod status;
 mod widths;
 
 pub use crate::printing::print;
+pub use crate::state::state_of;
 pub use crate::status::print_status;

@@ -5,7 +5,7 @@ ghost use Rattle.pana_report.specs.Table.{family_line, table_text, yes_or_no};
 ghost use Rattle.pana_report.specs.inner.Lines.{heads_of, row_line_of};
 
 use crate::line::{Texts, write_line};
-use crate::place::place_text;
+use crate::place::fitted_place;
 use crate::state::state_of;
 use crate::widths::Widths;
 use pana_calls::{BoardRow, BoardView};
@@ -39,7 +39,7 @@ fn write_row(
     ensures { OnOk result (string_bytes text.new ≡ string_bytes text.old ++ row_line_of widths.now row.now) }
 {
     let copy = row.copy.to_string(alloc)?;
-    let place = place_text(alloc, &row.place)?;
+    let place = fitted_place(alloc, widths.most, &row.place)?;
     let newer = row.newer.to_string(alloc)?;
     let older = row.older.to_string(alloc)?;
     let equal = row.equal.to_string(alloc)?;
@@ -91,17 +91,22 @@ fn family_line(alloc: Global, board: &BoardView) -> Result<String, AllocError>
 }
 
 /// The table of a board, as text for people: a line about the family, a line of heads, and a line for each copy, in the
-/// board's order. Each line ends with a newline, and the columns line up in a terminal.
+/// board's order. Each line ends with a newline, and the columns line up in a terminal. Where the width of one is given, in its
+/// columns, places are cut in the middle so that the lines fit, but to no less than 12.
 ///
 /// # Errors
 ///
 /// `AllocError` where an allocation failed. Takes O(length of the table) time and memory.
 #[tactic(auto, using(crate::proofs::Same::same_lines), unfolding(crate::specs::Table::table_text))]
-pub fn print(alloc: Global, board: &BoardView) -> Result<String, AllocError>
-    ensures { IfOk result (λ text. string_bytes text ≡ table_text board.now) }
+pub fn print(
+    alloc: Global,
+    terminal: Option<usize>,
+    board: &BoardView,
+) -> Result<String, AllocError>
+    ensures { IfOk result (λ text. string_bytes text ≡ table_text terminal board.now) }
 {
     let rows = board.rows.as_slice();
-    let widths = Widths::of(alloc, rows)?;
+    let widths = Widths::of(alloc, terminal, rows)?;
     let mut text = family_line(alloc, board)?;
     write_heads(&mut text, &widths)?;
     write_rows(alloc, &mut text, &widths, rows)?;

@@ -2,10 +2,10 @@
 ghost use Rattle.std.specs.Prelude.{◌≡◌};
 ghost use Rattle.pana_report.specs.Table.{state_of};
 
-/// The state of the copy of this row.
 use pana_calls::{BoardRow, CopyState};
 
-pub(crate) fn state_of(row: &BoardRow) -> CopyState
+/// The state of the copy of this row: obsolete where another is newer, else in conflict where one is, else newest. Takes no memory.
+pub fn state_of(row: &BoardRow) -> CopyState
     ensures { result ≡ state_of row.now }
 {
     if row.newer != 0 {
