@@ -72,20 +72,20 @@ next_taken lines index d old mid new reports reports' why within before line is 
     (takes_one_more 1 old (texts (take index lines)) reports mid (get_or lines index d).now why new before line))
 
 -- where loading stopped at an entry, it is reported
-pub load_reported : (entries : List Entry) (fault : LoadFault) (answer : Printout) → IsLoadFault entries fault → fault.at ≢ 0
-    → ((text : List ℕ) → Some (shown_load_fault fault) ≡ Some text → Reports text answer) → AnswersEntries entries answer
-load_reported entries fault answer (inl shortage) some says = absurd (some shortage.0)
-load_reported entries fault answer (inr stops) some says = inr (fault, stops, says (shown_load_fault fault) refl)
+pub load_reported : (terminal : Option ℕ) (entries : List Entry) (fault : LoadFault) (answer : Printout) → IsLoadFault entries fault → fault.at ≢ 0
+    → ((text : List ℕ) → Some (shown_load_fault fault) ≡ Some text → Reports text answer) → AnswersEntries terminal entries answer
+load_reported terminal entries fault answer (inl shortage) some says = absurd (some shortage.0)
+load_reported terminal entries fault answer (inr stops) some says = inr (fault, stops, says (shown_load_fault fault) refl)
 
 -- a line's fault is reported
-pub line_reported : (lines : List (List ℕ)) (fault : LineFault) (answer : Printout) → HasFault lines fault
-    → ((text : List ℕ) → Some (shown_line_fault fault) ≡ Some text → Reports text answer) → AnswersLines lines answer
-line_reported lines fault answer has says = inr (fault, has, says (shown_line_fault fault) refl)
+pub line_reported : (terminal : Option ℕ) (lines : List (List ℕ)) (fault : LineFault) (answer : Printout) → HasFault lines fault
+    → ((text : List ℕ) → Some (shown_line_fault fault) ≡ Some text → Reports text answer) → AnswersLines terminal lines answer
+line_reported terminal lines fault answer has says = inr (fault, has, says (shown_line_fault fault) refl)
 
 -- a damaged line is reported
-pub damage_reported : (bytes : List ℕ) (number : ℕ) (answer : Printout) → IsDamagedAt (lines_of bytes) number
-    → ((text : List ℕ) → Some (shown_seal_fault (Damaged number)) ≡ Some text → Reports text answer) → AnswersDump bytes answer
-damage_reported bytes number answer damaged says = inr (number, damaged, says (shown_seal_fault (Damaged number)) refl)
+pub damage_reported : (terminal : Option ℕ) (bytes : List ℕ) (number : ℕ) (answer : Printout) → IsDamagedAt (lines_of bytes) number
+    → ((text : List ℕ) → Some (shown_seal_fault (Damaged number)) ≡ Some text → Reports text answer) → AnswersDump terminal bytes answer
+damage_reported terminal bytes number answer damaged says = inr (number, damaged, says (shown_seal_fault (Damaged number)) refl)
 
 -- names were passed over
 pub skipped_report : (skipped : ℕ) → skipped ≢ 0 → codes "panad: " ++ (decimal skipped ++ codes " names skipped\n") ≡ skipped_line skipped

@@ -1,5 +1,5 @@
 -- What `show` answers of the families of a session.
-use Rattle.std.specs.Prelude.{◌≡◌, ◌⊎◌, ◌||◌, ℕ, Bool, not, List, [], ◌∷◌, map, filter}
+use Rattle.std.specs.Prelude.{◌≡◌, ◌⊎◌, ◌||◌, ℕ, Bool, not, List, [], ◌∷◌, map, filter, Option}
 use Rattle.std.specs.List.{join_by}
 use Rattle.pana_calls.specs.Cause.{shown_cause}
 use Rattle.pana_calls.specs.declared.answer.Answer.{Answer}
@@ -34,22 +34,22 @@ module _ {S : Type 0} (step : S → List ℕ → Call → Answer → S → Type 
   AsksBoards (family ∷ families) old [] new = ⊥
   AsksBoards (family ∷ families) old (view ∷ views) new = (mid : S) × step old by (board family) (Given (replies.Board view)) mid × AsksBoards families mid views new
 
-  -- these are the tables of such boards
-  abbrev pub HasTables : List ℕ → S → S → List (List ℕ) → Type 0
-  HasTables families old new tables = (views : List BoardView) × AsksBoards families old views new × (tables ≡ map table_text views)
+  -- these are the tables of such boards, in a terminal of this width, or of any where none is given
+  abbrev pub HasTables : Option ℕ → List ℕ → S → S → List (List ℕ) → Type 0
+  HasTables terminal families old new tables = (views : List BoardView) × AsksBoards families old views new × (tables ≡ map (table_text terminal) views)
 
   -- it asks for the families and then for the boards of those that are shown, and their tables are printed, with an empty line
   -- between two
-  pub record PrintsFamilies (only_split : Bool) (old new : S) (answer : Printout) : Type 0 where
+  pub record PrintsFamilies (terminal : Option ℕ) (only_split : Bool) (old new : S) (answer : Printout) : Type 0 where
     pub rows : List FamilyRow
     pub mid : S
     pub tables : List (List ℕ)
     pub asked : step old by families (Given (replies.Families rows)) mid
-    pub has : HasTables (shown_families only_split rows) mid new tables
+    pub has : HasTables terminal (shown_families only_split rows) mid new tables
     pub prints : Prints (join_by (λ table. table) (10 ∷ []) tables) answer
 
   -- it asks for the board of a family, and its table is printed, or why there is none is reported
-  abbrev pub PrintsFamily : ℕ → S → S → Printout → Type 0
-  PrintsFamily family old new answer =
-      ((view : BoardView) × step old by (board family) (Given (replies.Board view)) new × Prints (table_text view) answer)
+  abbrev pub PrintsFamily : Option ℕ → ℕ → S → S → Printout → Type 0
+  PrintsFamily terminal family old new answer =
+      ((view : BoardView) × step old by (board family) (Given (replies.Board view)) new × Prints (table_text terminal view) answer)
       ⊎ ((cause : Cause) × step old by (board family) (Given (replies.Refused cause)) new × Reports (shown_cause cause) answer)

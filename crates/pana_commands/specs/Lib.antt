@@ -6,5 +6,7 @@ pub mod Load
 pub mod Show
 pub mod Scan
 pub mod Track
-pub mod Status
 pub mod Boards
+pub mod Newest
+pub mod Counts
+pub mod Status

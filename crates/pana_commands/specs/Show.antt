@@ -56,6 +56,6 @@ status_of [] = 0
 status_of reports = 1
 
 -- what is answered to lines: the tables of the journal that they leave, and a report about each that wasn't done
-abbrev pub AnswersLines : List ℕ → Printout → Type 0
-AnswersLines bytes answer = (journal : List Entry) × TakesLines 1 [] (lines_of bytes) (string_bytes answer.err) journal
-    × (string_bytes answer.out ≡ tables_text journal) × (answer.status ≡ status_of (string_bytes answer.err))
+abbrev pub AnswersLines : Option ℕ → List ℕ → Printout → Type 0
+AnswersLines terminal bytes answer = (journal : List Entry) × TakesLines 1 [] (lines_of bytes) (string_bytes answer.err) journal
+    × (string_bytes answer.out ≡ tables_text terminal journal) × (answer.status ≡ status_of (string_bytes answer.err))

@@ -4,6 +4,7 @@ use Rattle.std.specs.List.{list_all}
 use Rattle.std.specs.Str.{bytes_eq}
 use Rattle.pana_calls.specs.declared.call.Call.{Call}
 use Rattle.pana_calls.specs.declared.reply.Reply.TheVariants.{Status}
+use Rattle.pana_calls.specs.declared.standing.PlacedCopy.{PlacedCopy}
 use Rattle.pana_calls.specs.declared.standing.StatusRow.{StatusRow}
 use Rattle.pana_report.specs.Status.{status_text}
 use Rattle.pana_ignore.specs.Pattern.{is_ignored}
@@ -46,12 +47,14 @@ shows row folder = shows_by row folder.device folder.given
 abbrev pub shown_of : List ReadFolder → List StatusRow → List StatusRow
 shown_of folders rows = filter (λ row. list_all (shows row) folders) rows
 
--- the copies that are obsolete or in conflict: as a table, or as the line that answers a question for them, or not at all
-abbrev pub shown_rows : StatusForm → List StatusRow → List ℕ
-shown_rows Table [] = codes "nothing is obsolete or in conflict\n"
-shown_rows Table (row ∷ rows) = status_text (row ∷ rows)
-shown_rows Json rows = reply_text (Status rows) ++ codes "\n"
-shown_rows Nothing rows = []
+-- the copies that are obsolete or in conflict: as a table with newest ones behind them, or as the line that answers a question for
+-- the former, or not at all
+abbrev pub shown_rows : StatusForm → List StatusRow → List PlacedCopy → List ℕ
+shown_rows (Table terminal) [] [] = codes "nothing is obsolete or in conflict\n"
+shown_rows (Table terminal) [] (copy ∷ newest) = status_text terminal [] (copy ∷ newest)
+shown_rows (Table terminal) (row ∷ rows) newest = status_text terminal (row ∷ rows) newest
+shown_rows Json rows newest = reply_text (Status rows) ++ codes "\n"
+shown_rows Nothing rows newest = []
 
 -- 3 where something wasn't reported; else 1 where a copy is obsolete or in conflict; else 0
 abbrev pub status_by : Bool → List StatusRow → ℕ
@@ -69,7 +72,7 @@ pub record AnswersTrack {S : Type 0} (step : S → List ℕ → Call → Answer 
   pub tracks : TracksAll step may_be_empty folders old mid (string_bytes answer.err) has_fault
   pub keeps : settles mid kept
   pub has : HasAll step by kept new rows
-  pub out : string_bytes answer.out ≡ shown_rows form (shown_of folders rows)
+  pub out : string_bytes answer.out ≡ shown_rows form (shown_of folders rows) []
   pub status : answer.status ≡ status_by has_fault (shown_of folders rows)
 
 -- some calls were made, and the next has no answer

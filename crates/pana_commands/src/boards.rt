@@ -35,7 +35,7 @@ fn board_in(answer: Answer) -> Option<Result<BoardView, Cause>>
 }
 
 /// Asks for the families.
-fn families_of<S: Session>(
+pub(crate) fn families_of<S: Session>(
     session: &mut S,
     by: &DeviceName,
 ) -> Result<PlainList<FamilyRow>, Untracked>
@@ -50,7 +50,7 @@ fn families_of<S: Session>(
 }
 
 /// Asks for the board of a family, and returns it or why there is none.
-fn board_of<S: Session>(
+pub(crate) fn board_of<S: Session>(
     session: &mut S,
     by: &DeviceName,
     family: u64,
@@ -68,7 +68,7 @@ fn board_of<S: Session>(
 }
 
 /// The numbers of these families: of all, or of those of which two newest copies are in conflict.
-fn shown_families(
+pub(crate) fn shown_families(
     alloc: Global,
     only_split: bool,
     rows: &[FamilyRow],
@@ -84,11 +84,12 @@ fn shown_families(
 /// Asks for the boards of these families, one after another, and returns their tables.
 fn tables_of_each<S: Session>(
     alloc: Global,
+    terminal: Option<usize>,
     session: &mut S,
     by: &DeviceName,
     families: &[u64],
 ) -> Result<Vec<String>, Untracked>
-    ensures ok { IfOk result (λ tables. HasTables S.step by.now families.now session.old session.new (map string_bytes tables.items)) }
+    ensures ok { IfOk result (λ tables. HasTables S.step by.now terminal families.now session.old session.new (map string_bytes tables.items)) }
     ensures fails { IsErrOf result Untracked.NoAnswer → IsCut S.step S.fails session.old session.new }
 {
     let mut tables = Vec::new(alloc);
@@ -96,7 +97,7 @@ fn tables_of_each<S: Session>(
         let Ok(view) = board_of(session, by, *family)? else {
             return Err(Untracked::OutOfMemory);
         };
-        if tables.push(print(alloc, &view)?).is_err() {
+        if tables.push(print(alloc, terminal, &view)?).is_err() {
             return Err(Untracked::OutOfMemory);
         }
     }
@@ -104,46 +105,48 @@ fn tables_of_each<S: Session>(
 }
 
 /// Asks a session, as the device `by`, for the families that have a living copy, and prints the table of each, by rising number,
-/// with an empty line between two; where only split ones are shown, of those of which two newest copies are in conflict. The
-/// status is 0.
+/// with an empty line between two, for a terminal of this width where one is given; where only split ones are shown, of those of
+/// which two newest copies are in conflict. The status is 0.
 ///
 /// # Errors
 ///
 /// `NoAnswer` where a question has none; `OutOfMemory` where an allocation failed, here or where a question was asked.
 pub fn tables_on<S: Session>(
     alloc: Global,
+    terminal: Option<usize>,
     session: &mut S,
     by: &DeviceName,
     only_split: bool,
 ) -> Result<Printout, Untracked>
-    ensures ok { IfOk result (PrintsFamilies S.step by.now only_split session.old session.new) }
+    ensures ok { IfOk result (PrintsFamilies S.step by.now terminal only_split session.old session.new) }
     ensures fails { IsErrOf result Untracked.NoAnswer → IsCut S.step S.fails session.old session.new }
 {
     let rows = families_of(session, by)?;
     let shown = shown_families(alloc, only_split, rows.as_slice())?;
-    let tables = tables_of_each(alloc, session, by, shown.as_slice())?;
+    let tables = tables_of_each(alloc, terminal, session, by, shown.as_slice())?;
     let text = tables.as_slice().join(alloc, "\n")?;
     Ok(Printout::printed(alloc, text))
 }
 
 /// Asks a session, as the device `by`, for the board of the family with this number, and prints its table, with status 0; or
-/// reports why there is none, with status 1.
+/// reports why there is none, with status 1. The table is for a terminal of this width, where one is given.
 ///
 /// # Errors
 ///
 /// `NoAnswer` where the question has none; `OutOfMemory` where an allocation failed.
 pub fn table_on<S: Session>(
     alloc: Global,
+    terminal: Option<usize>,
     session: &mut S,
     by: &DeviceName,
     family: u64,
 ) -> Result<Printout, Untracked>
-    ensures ok { IfOk result (PrintsFamily S.step by.now family session.old session.new) }
+    ensures ok { IfOk result (PrintsFamily S.step by.now terminal family session.old session.new) }
     ensures fails { IsErrOf result Untracked.NoAnswer → S.fails session.old by.now (board family) session.new }
 {
     match board_of(session, by, family)? {
         Ok(view) => {
-            let table = print(alloc, &view)?;
+            let table = print(alloc, terminal, &view)?;
             Ok(Printout::printed(alloc, table))
         }
         Err(cause) => Ok(Printout::reported(alloc, &cause)?),

@@ -4,7 +4,9 @@
 
 mod boards;
 mod comparing;
+mod counting;
 mod loading;
+mod newest;
 mod printout;
 mod running;
 mod scanning;

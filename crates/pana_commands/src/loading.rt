@@ -15,13 +15,17 @@ use pana_wire::{decode_dump_lines, split_lines};
 use std::alloc::{AllocError, Global};
 
 /// The tables of the journal that these entries are, or why they are none.
-fn answer_entries(alloc: Global, entries: EntryList) -> Result<Printout, AllocError>
-    ensures { IfOk result (AnswersEntries entries) }
+fn answer_entries(
+    alloc: Global,
+    terminal: Option<usize>,
+    entries: EntryList,
+) -> Result<Printout, AllocError>
+    ensures { IfOk result (AnswersEntries terminal entries) }
 {
     match Hall::load(alloc, entries) {
         Ok(mut hall) => {
             let _ = hall.length();
-            Ok(Printout::printed(alloc, tables_of(alloc, &mut hall)?))
+            Ok(Printout::printed(alloc, tables_of(alloc, terminal, &mut hall)?))
         }
         Err(fault) if fault.at == 0 => Err(AllocError),
         Err(fault) => Printout::reported(alloc, &fault),
@@ -29,28 +33,37 @@ fn answer_entries(alloc: Global, entries: EntryList) -> Result<Printout, AllocEr
 }
 
 /// The tables of the journal that these lines are, or why they are none.
-fn answer_lines(alloc: Global, lines: &[&[u8]]) -> Result<Printout, AllocError>
-    ensures { IfOk result (AnswersLines (texts lines.now)) }
+fn answer_lines(
+    alloc: Global,
+    terminal: Option<usize>,
+    lines: &[&[u8]],
+) -> Result<Printout, AllocError>
+    ensures { IfOk result (AnswersLines terminal (texts lines.now)) }
 {
     match decode_dump_lines(alloc, lines)? {
-        Ok(entries) => answer_entries(alloc, entries),
+        Ok(entries) => answer_entries(alloc, terminal, entries),
         Err(fault) => Printout::reported(alloc, &fault),
     }
 }
 
 /// The tables of the families of a dump, of which each line is read by itself, or why there are none: the first line that
-/// isn't as it was sealed, or else the first with a fault, or else the first entry that isn't the next one of a journal.
+/// isn't as it was sealed, or else the first with a fault, or else the first entry that isn't the next one of a journal. The
+/// tables are for a terminal of this width, where one is given.
 ///
 /// # Errors
 ///
 /// `AllocError` where an allocation failed for the hall, the tables or the answer. One that failed for a line or an
 /// entry is answered as the fault of that.
-pub fn load_on(alloc: Global, bytes: &[u8]) -> Result<Printout, AllocError>
-    ensures { IfOk result (AnswersDump bytes.now) }
+pub fn load_on(
+    alloc: Global,
+    terminal: Option<usize>,
+    bytes: &[u8],
+) -> Result<Printout, AllocError>
+    ensures { IfOk result (AnswersDump terminal bytes.now) }
 {
     let lines = split_lines(alloc, bytes)?;
     match read_seals(alloc, lines.as_slice()) {
-        Ok(_) => answer_lines(alloc, lines.as_slice()),
+        Ok(_) => answer_lines(alloc, terminal, lines.as_slice()),
         Err(SealFault::Damaged { line }) => {
             Printout::reported(alloc, &SealFault::Damaged { line })
         }

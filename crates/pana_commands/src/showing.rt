@@ -96,19 +96,23 @@ fn status_of(err: &str) -> u8
 
 /// Takes lines as a session does, and returns the tables of the families that they leave, for standard output, and for
 /// standard error a report about each line that was faulty or refused, with its number from 1; the status is 1 where
-/// there is one.
+/// there is one. The tables are for a terminal of this width, where one is given.
 ///
 /// # Errors
 ///
 /// `AllocError` where an allocation failed for the hall, the tables or the reports. One that failed for a line is
 /// reported as that line's.
-pub fn show_on(alloc: Global, bytes: &[u8]) -> Result<Printout, AllocError>
-    ensures { IfOk result (AnswersLines bytes.now) }
+pub fn show_on(
+    alloc: Global,
+    terminal: Option<usize>,
+    bytes: &[u8],
+) -> Result<Printout, AllocError>
+    ensures { IfOk result (AnswersLines terminal bytes.now) }
 {
     let mut hall = Hall::new(alloc)?;
     let lines = split_lines(alloc, bytes)?;
     let err = take_lines(alloc, &mut hall, lines.as_slice())?;
-    let out = tables_of(alloc, &mut hall)?;
+    let out = tables_of(alloc, terminal, &mut hall)?;
     let status = status_of(err.as_str());
     Ok(Printout { out, err, status })
 }

@@ -1,13 +1,17 @@
 //! The copies that are obsolete or in conflict, all or those at places that are named.
-ghost use Rattle.std.specs.Prelude.{◌≡◌, IfOk, IsErrOf, string_bytes};
+ghost use Rattle.std.specs.Prelude.{◌≡◌, IfOk, IfSome, IsErrOf, string_bytes};
 ghost use Rattle.std.specs.List.{list_any};
-ghost use Rattle.pana_commands.specs.Status.{AnswersStatus, is_meant, is_of_many, names, place_name, rows_at};
+ghost use Rattle.pana_calls.specs.declared.answer.Answer.TheVariants.{Given};
+ghost use Rattle.pana_calls.specs.declared.reply.Reply.TheVariants as replies;
+ghost use Rattle.pana_commands.specs.Status.{AnswersStatus, HasTotal, copies_at, is_meant, is_of_many, is_table, names, place_name, rows_at, shown_status};
 ghost use Rattle.pana_commands.specs.Track.{IsCut};
 
+use crate::counting::counts_line;
+use crate::newest::newest_of;
 use crate::printout::Printout;
 use crate::tracking::{StatusForm, shown_rows, status_by};
 use crate::untracked::Untracked;
-use pana_calls::{Session, StatusRow};
+use pana_calls::{Answer, Call, HallCounts, PlacedCopy, Query, Reply, Session, StatusRow};
 use pana_copies::{DeviceName, Place};
 use pana_list::PlainList;
 use pana_track::status_of;
@@ -70,9 +74,88 @@ fn rows_at(
     Ok(PlainList::from_vec(meant))
 }
 
+/// The copies at these places.
+fn copies_at(
+    alloc: Global,
+    places: &[&str],
+    copies: PlainList<PlacedCopy>,
+) -> Result<PlainList<PlacedCopy>, AllocError>
+    ensures { IfOk result (λ meant. meant ≡ copies_at places.now copies) }
+{
+    let mut meant = Vec::new(alloc);
+    for copy in copies.into_vec() {
+        if is_meant(alloc, places, &copy.place)? {
+            meant.push(copy)?;
+        }
+    }
+    Ok(PlainList::from_vec(meant))
+}
+
+/// Whether a table is shown.
+fn is_table(form: StatusForm) -> bool
+    ensures { result ≡ is_table form }
+{
+    match form {
+        StatusForm::Table(_) => true,
+        StatusForm::Json => false,
+        StatusForm::Nothing => false,
+    }
+}
+
+/// The counts that an answer has, where it has them.
+fn counts_in(answer: Answer) -> Option<HallCounts>
+    ensures { IfSome result (λ counts. answer ≡ Given (replies.Counts counts)) }
+{
+    match answer {
+        Answer::Given(Reply::Counts(counts)) => Some(counts),
+        _ => None,
+    }
+}
+
+/// Asks how many copies there are, where that is wanted.
+fn total_of<S: Session>(
+    session: &mut S,
+    by: &DeviceName,
+    is_wanted: bool,
+) -> Result<Option<HallCounts>, Untracked>
+    ensures ok { IfOk result (HasTotal S.step by.now is_wanted session.old session.new) }
+    ensures fails { IsErrOf result Untracked.NoAnswer → IsCut S.step S.fails session.old session.new }
+{
+    if !is_wanted {
+        return Ok(None);
+    }
+    let answer = session.call(by, Call::Query(Query::Counts))?;
+    match counts_in(answer) {
+        Some(counts) => Ok(Some(counts)),
+        None => Err(Untracked::OutOfMemory),
+    }
+}
+
+/// The rows as they are to be shown, and below a table the line of counts.
+fn shown_status(
+    alloc: Global,
+    form: StatusForm,
+    total: Option<HallCounts>,
+    rows: PlainList<StatusRow>,
+    newest: &[PlacedCopy],
+) -> Result<String, AllocError>
+    ensures { IfOk result (λ text. string_bytes text ≡ shown_status form total rows newest.now) }
+{
+    let counts = if is_table(form) {
+        counts_line(alloc, total, rows.as_slice())?
+    } else {
+        String::new(alloc)
+    };
+    let mut text = shown_rows(alloc, form, rows, newest)?;
+    text.push_str(counts.as_str())?;
+    Ok(text)
+}
+
 /// Asks a session, as the device `by`, for all copies that are obsolete or in conflict, and shows those at the places that are
 /// named: `usb:plan.txt` is one place, `usb:photos/` all below a folder, `usb:` all of a device. Without names all are shown.
-/// The status is 1 where one is shown, else 0.
+/// A table has the newest copies there too, where they are to be listed, by rising number of their families; and below it a
+/// line says how many are obsolete and how many in conflict, and without names how many copies there are on how many devices.
+/// The status is 1 where one is obsolete or in conflict, else 0.
 ///
 /// # Errors
 ///
@@ -82,17 +165,22 @@ pub fn status_on<S: Session>(
     session: &mut S,
     by: &DeviceName,
     places: &[&str],
+    lists_newest: bool,
     form: StatusForm,
 ) -> Result<Printout, Untracked>
-    ensures ok { IfOk result (AnswersStatus S.step places.now form by.now session.old session.new) }
+    ensures ok { IfOk result (AnswersStatus S.step places.now lists_newest form by.now session.old session.new) }
     ensures fails { IsErrOf result Untracked.NoAnswer → IsCut S.step S.fails session.old session.new }
 {
     let Some(rows) = status_of(alloc, session, by)? else {
         return Err(Untracked::OutOfMemory);
     };
+    let is_table = is_table(form);
+    let newest = newest_of(alloc, session, by, lists_newest && is_table)?;
+    let total = total_of(session, by, is_table && places.is_empty())?;
     let meant = rows_at(alloc, places, rows)?;
+    let also = copies_at(alloc, places, newest)?;
     let status = status_by(false, meant.as_slice());
-    let out = shown_rows(alloc, form, meant)?;
+    let out = shown_status(alloc, form, total, meant, also.as_slice())?;
     Ok(Printout {
         out,
         err: String::new(alloc),

@@ -38,29 +38,34 @@ fn board_of(hall: &mut Hall, by: &DeviceName, family: u64) -> Result<BoardView, 
 /// The tables of families. The hall stays as it is.
 fn each_table(
     alloc: Global,
+    terminal: Option<usize>,
     hall: &mut Hall,
     by: &DeviceName,
     rows: &[FamilyRow],
 ) -> Result<Vec<String>, AllocError>
-    ensures tables { IfOk result (λ tables. map string_bytes tables.items ≡ map (table_of hall.old) rows.now) }
+    ensures tables { IfOk result (λ tables. map string_bytes tables.items ≡ map (table_of terminal hall.old) rows.now) }
     ensures hall { hall.new ≡ hall.old }
 {
     let mut tables = Vec::new(alloc);
     for row in rows {
         let board = board_of(hall, by, row.family)?;
-        tables.push(print(alloc, &board)?)?;
+        tables.push(print(alloc, terminal, &board)?)?;
     }
     Ok(tables)
 }
 
-/// The tables of the families that have a living copy, by rising number, with an empty line between two. The hall stays
-/// as it is. Fails only where memory runs out.
-pub fn tables_of(alloc: Global, hall: &mut Hall) -> Result<String, AllocError>
-    ensures text { IfOk result (λ text. string_bytes text ≡ tables_text hall.old) }
+/// The tables of the families that have a living copy, by rising number, with an empty line between two, for a terminal of this
+/// width where one is given. The hall stays as it is. Fails only where memory runs out.
+pub fn tables_of(
+    alloc: Global,
+    terminal: Option<usize>,
+    hall: &mut Hall,
+) -> Result<String, AllocError>
+    ensures text { IfOk result (λ text. string_bytes text ≡ tables_text terminal hall.old) }
     ensures hall { hall.new ≡ hall.old }
 {
     let by = DeviceName::new(ASKER).map_err(|_| AllocError)?;
     let rows = families_of(hall, &by)?;
-    let tables = each_table(alloc, hall, &by, rows.as_slice())?;
+    let tables = each_table(alloc, terminal, hall, &by, rows.as_slice())?;
     tables.as_slice().join(alloc, "\n")
 }

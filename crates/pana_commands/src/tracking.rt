@@ -8,7 +8,7 @@ ghost use Rattle.pana_commands.specs.Track.{AnswersTrack, HasNoAnswer, IsCut, Tr
 
 use crate::printout::Printout;
 use crate::untracked::Untracked;
-use pana_calls::{NoAnswer, Reply, Session, StatusRow};
+use pana_calls::{NoAnswer, PlacedCopy, Reply, Session, StatusRow};
 use pana_copies::DeviceName;
 use pana_list::PlainList;
 use pana_report::print_status;
@@ -16,11 +16,11 @@ use pana_track::{ReadFolder, status_of, track_folder};
 use pana_wire::encode;
 use std::alloc::{AllocError, Global};
 
-/// How the copies that are obsolete or in conflict are shown.
+/// How copies are shown.
 #[derive(Clone, Copy, Debug, PartialEq, Eq)]
 pub enum StatusForm {
-    /// As a table for people.
-    Table,
+    /// As a table for people, in a terminal of this width, or where none is given in any.
+    Table(Option<usize>),
     /// As the line that answers a question for them.
     Json,
     Nothing,
@@ -97,19 +97,32 @@ fn shown_of(
     Ok(PlainList::from_vec(shown))
 }
 
-/// The copies that are obsolete or in conflict, as they are to be shown.
+/// The table of copies that are obsolete or in conflict and of newest ones, or that there are none.
+fn table(
+    alloc: Global,
+    terminal: Option<usize>,
+    rows: &[StatusRow],
+    newest: &[PlacedCopy],
+) -> Result<String, AllocError>
+    ensures { IfOk result (λ text. string_bytes text ≡ shown_rows (StatusForm.Table terminal) rows.now newest.now) }
+{
+    if rows.is_empty() && newest.is_empty() {
+        return String::from_str(alloc, "nothing is obsolete or in conflict\n");
+    }
+    print_status(alloc, terminal, rows, newest)
+}
+
+/// The copies that are obsolete or in conflict, as they are to be shown, and newest ones with them.
 pub(crate) fn shown_rows(
     alloc: Global,
     form: StatusForm,
     rows: PlainList<StatusRow>,
+    newest: &[PlacedCopy],
 ) -> Result<String, AllocError>
-    ensures { IfOk result (λ text. string_bytes text ≡ shown_rows form rows) }
+    ensures { IfOk result (λ text. string_bytes text ≡ shown_rows form rows newest.now) }
 {
     match form {
-        StatusForm::Table if rows.as_slice().is_empty() => {
-            String::from_str(alloc, "nothing is obsolete or in conflict\n")
-        }
-        StatusForm::Table => print_status(alloc, rows.as_slice()),
+        StatusForm::Table(terminal) => table(alloc, terminal, rows.as_slice(), newest),
         StatusForm::Json => {
             let mut text = encode(alloc, &Reply::Status(rows))?;
             text.push_str("\n")?;
@@ -158,7 +171,7 @@ pub fn track_on<S: Session>(
     };
     let shown = shown_of(alloc, folders, rows)?;
     let status = status_by(has_fault, shown.as_slice());
-    let out = shown_rows(alloc, form, shown)?;
+    let out = shown_rows(alloc, form, shown, &[])?;
     Ok(Printout {
         out,
         err: lines,

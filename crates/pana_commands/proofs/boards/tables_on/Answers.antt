@@ -26,7 +26,7 @@ returns-clause-ok g c = record {
   mid = c.families_of.new.session;
   tables = map string_bytes c.in_ok-tables.tables.items;
   asked = c.in_ok-rows.ensures.ok;
-  has = subst (λ (numbers : List ℕ). HasTables g.S.Session.step c.args.by.now numbers c.families_of.new.session c.tables_of_each.new.session (map string_bytes c.in_ok-tables.tables.items))
+  has = subst (λ (numbers : List ℕ). HasTables g.S.Session.step c.args.by.now c.args.terminal numbers c.families_of.new.session c.tables_of_each.new.session (map string_bytes c.in_ok-tables.tables.items))
       (c.as_slice-2.ensures.value ∙ c.in_ok-shown.ensures ∙ ap (shown_families c.args.only_split) c.as_slice.ensures) c.in_ok-tables.ensures.ok;
   prints = subst (λ (text : List ℕ). Prints text c.printed.result)
       (c.in_ok-text.ensures.ok ∙ join_texts string_bytes (10 ∷ []) c.as_slice-3.result.now

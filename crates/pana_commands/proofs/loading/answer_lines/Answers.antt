@@ -9,4 +9,4 @@ use Rattle.pana_commands.proofs.loading.answer_lines.Goals as goal
 pub returns-in-Err : goal.returns-in-Err
 returns-in-Err c =
     let has = subst (λ read. MatchResult read (Say (texts c.args.lines.now)) (HasFault (texts c.args.lines.now))) c.in-Err.is c.in_ok-entries.ensures in
-    IfOk-weaker c.reported.result _ _ (λ answer says. line_reported (texts c.args.lines.now) c.in-Err.fault answer has says) c.reported.ensures
+    IfOk-weaker c.reported.result _ _ (λ answer says. line_reported c.args.terminal (texts c.args.lines.now) c.in-Err.fault answer has says) c.reported.ensures

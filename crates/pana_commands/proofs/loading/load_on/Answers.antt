@@ -10,9 +10,9 @@ pub returns-in-Ok : goal.returns-in-Ok
 returns-in-Ok c =
     let read = ap texts c.as_slice.ensures.value ∙ c.in_ok-lines.ensures in
     let lines = ap texts c.as_slice-in-Ok.ensures.value ∙ c.in_ok-lines.ensures in
-    IfOk-weaker c.answer_lines.result _ _ (λ answer says. inl (subst IsIntact read c.in-Ok.ensures.intact, subst (λ l. AnswersLines l answer) lines says)) c.answer_lines.ensures
+    IfOk-weaker c.answer_lines.result _ _ (λ answer says. inl (subst IsIntact read c.in-Ok.ensures.intact, subst (λ l. AnswersLines c.args.terminal l answer) lines says)) c.answer_lines.ensures
 
 pub returns-in-Err-Damaged : goal.returns-in-Err-Damaged
 returns-in-Err-Damaged c =
     let read = ap texts c.as_slice.ensures.value ∙ c.in_ok-lines.ensures in
-    IfOk-weaker c.reported.result _ _ (λ answer says. damage_reported c.args.bytes.now c.in-Err-Damaged.line answer (subst (λ l. IsDamagedAt l c.in-Err-Damaged.line) read (subst (IsSealFault (texts c.as_slice.result.now)) c.in-Err-Damaged.field-0-is c.in-Err-Damaged.ensures.fault)) says) c.reported.ensures
+    IfOk-weaker c.reported.result _ _ (λ answer says. damage_reported c.args.terminal c.args.bytes.now c.in-Err-Damaged.line answer (subst (λ l. IsDamagedAt l c.in-Err-Damaged.line) read (subst (IsSealFault (texts c.as_slice.result.now)) c.in-Err-Damaged.field-0-is c.in-Err-Damaged.ensures.fault)) says) c.reported.ensures

@@ -12,6 +12,6 @@ returns-clause-text c =
     let rows = c.as_slice.ensures ∙ c.in_ok-rows.ensures.rows in
     IfOk-weaker c.join.result _ _
     (λ text joined. joined ∙ same_join string_bytes _ (10 ∷ []) c.as_slice-2.result.now c.as_slice.result.now (ap (map string_bytes) c.as_slice-2.ensures.value ∙ c.in_ok-tables.ensures.tables)
-    ∙ ap (λ before. join_by (table_of before) (10 ∷ []) c.as_slice.result.now) c.families_of.ensures.hall
-    ∙ ap (join_by (table_of journal) (10 ∷ [])) rows)
+    ∙ ap (λ before. join_by (table_of c.args.terminal before) (10 ∷ []) c.as_slice.result.now) c.families_of.ensures.hall
+    ∙ ap (join_by (table_of c.args.terminal journal) (10 ∷ [])) rows)
     c.join.ensures.ok
