@@ -15,8 +15,10 @@ mod printing;
 mod progress;
 mod redialing;
 mod sums_file;
+mod terminal;
 
 pub use crate::client::{DaemonClient, connect};
+pub use crate::colour::Tables;
 pub use crate::descriptors::take_standard_descriptors;
 pub use crate::fault::ProgramFault;
 pub use crate::folders::{ReadingWishes, fault_of_roots, read_folders};
@@ -27,3 +29,4 @@ pub use crate::printing::{Output, complain, output, print_tables, print_text};
 pub use crate::progress::Progress;
 pub use crate::redialing::Redialing;
 pub use crate::sums_file::may_keep_sums;
+pub use crate::terminal::terminal_width;

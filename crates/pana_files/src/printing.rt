@@ -1,6 +1,6 @@
 //! Standard output and standard error. A terminal gets each text as `pana_terminal` shows it.
 
-use crate::colour::{coloured, is_wanted};
+use crate::colour::{Tables, coloured, is_wanted};
 use crate::fault::ProgramFault;
 use pana_terminal::{Screen, shown};
 use std::io::{self, BufWriter, IsTerminal, Printer};
@@ -35,14 +35,14 @@ pub fn complain(rt: &HostRuntime, text: &str) -> Result<(), ProgramFault> {
     printed.map_err(|_| ProgramFault::Write)
 }
 
-/// Prints tables on standard output, on a terminal in colour.
-pub fn print_tables(rt: &HostRuntime, text: &str) -> Result<(), ProgramFault> {
+/// Prints such tables on standard output, on a terminal in colour.
+pub fn print_tables(rt: &HostRuntime, tables: Tables, text: &str) -> Result<(), ProgramFault> {
     if text.is_empty() || !rt.stdout().is_terminal() || !is_wanted(rt) {
         return print_text(rt, text);
     }
     let safe = shown(rt.alloc(), text)?;
-    let tables = coloured(rt.alloc(), &safe)?;
-    match print!(rt; "{tables}") {
+    let lines = coloured(rt.alloc(), tables, &safe)?;
+    match print!(rt; "{lines}") {
         Ok(()) => Ok(()),
         Err(_) => Err(ProgramFault::Write),
     }

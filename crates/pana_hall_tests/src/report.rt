@@ -39,7 +39,7 @@ fn long_numbers(rt: HostRuntime) -> Result<(), Fail> {
         newest: PlainList::from_vec(newest),
         split: false,
     };
-    let text = print(rt.alloc(), &board)?;
+    let text = print(rt.alloc(), None, &board)?;
     let table = "\
 family 9: copies 2, newest 1, split no
   COPY  PLACE   STATE     NEWER  OLDER  EQUAL  CONFLICT

@@ -1,7 +1,7 @@
 use crate::keeping::run_kept;
 use crate::options::{JOURNAL, journal_option};
 use crate::overwrite_command::{self, MAY_OVERWRITE, overwrite_command};
-use crate::printing::print_out;
+use crate::printing::{print_out, print_out_tables};
 use crate::report_command::{self, REPORT, report_command};
 use crate::serve_command::{self, SERVE, serve_command};
 use crate::show_command::{FILE, Wanted, show_tables, source_of, wanted_by, with_tables};
@@ -13,7 +13,10 @@ use crate::why_command::{self, WHY, why_command};
 use clap::error::{Error, ErrorKind};
 use clap::{Arg, ArgMatches, Command};
 use pana_commands::{Printout, compare_on, load_on, run_on, scan_on, show_on};
-use pana_files::{ProgramFault, Progress, complain, output, print_text, take_standard_descriptors};
+use pana_files::{
+    ProgramFault, Progress, Tables, complain, output, print_text, take_standard_descriptors,
+    terminal_width,
+};
 use pana_log::ends_journal;
 use pana_scan::SystemDisk;
 use pana_store::before_end;
@@ -285,7 +288,8 @@ fn show(rt: &HostRuntime, words: &ArgMatches) -> Result<ExitCode, ProgramFault> 
         },
         None => bytes_of_input(rt)?,
     };
-    print_out(rt, &show_on(rt.alloc(), bytes.as_slice())?)
+    let shown = show_on(rt.alloc(), terminal_width(rt)?, bytes.as_slice())?;
+    print_out_tables(rt, Tables::Boards, &shown)
 }
 
 fn load(rt: &HostRuntime, words: &ArgMatches) -> Result<ExitCode, ProgramFault> {
@@ -303,7 +307,8 @@ fn load(rt: &HostRuntime, words: &ArgMatches) -> Result<ExitCode, ProgramFault> 
         let text = format!(in rt.alloc(); "journal {name}: not a journal")?;
         return print_out(rt, &Printout::reported(rt.alloc(), &text)?);
     }
-    print_out(rt, &load_on(rt.alloc(), lines)?)
+    let shown = load_on(rt.alloc(), terminal_width(rt)?, lines)?;
+    print_out_tables(rt, Tables::Boards, &shown)
 }
 
 /// Prints help, or what is wrong with the words, and returns the status for it.

@@ -2,7 +2,7 @@
 
 use clap::{Arg, ArgAction, ArgMatches, Command, value_parser};
 use pana_commands::StatusForm;
-use pana_files::Keeper;
+use pana_files::{Keeper, ProgramFault, terminal_width};
 use std::alloc::{AllocError, Global};
 
 /// The name of the journal's file on the command line.
@@ -16,7 +16,8 @@ pub const ONE_FILE_SYSTEM: &str = "one-file-system";
 
 const QUIET: &str = "quiet";
 
-const JSON: &str = "json";
+/// The name of the wish for a line of JSON.
+pub const JSON: &str = "json";
 
 /// An option without a value.
 pub fn flag<'a>(alloc: Global, name: &'a str, help: &'a str) -> Arg<'a> {
@@ -82,13 +83,13 @@ pub fn with_forms<'a>(alloc: Global, command: Command<'a>) -> Result<Command<'a>
     command.arg(quiet)?.arg(json)
 }
 
-/// How what is obsolete or in conflict is to be shown, by words of a command with these options.
-pub fn form_of(words: &ArgMatches) -> StatusForm {
+/// How what is obsolete or in conflict is to be shown, by words of a command with these options: a table is as wide as the terminal.
+pub fn form_of(rt: &HostRuntime, words: &ArgMatches) -> Result<StatusForm, ProgramFault> {
     if words.get_flag(QUIET) {
-        StatusForm::Nothing
+        Ok(StatusForm::Nothing)
     } else if words.get_flag(JSON) {
-        StatusForm::Json
+        Ok(StatusForm::Json)
     } else {
-        StatusForm::Table
+        Ok(StatusForm::Table(terminal_width(rt)?))
     }
 }

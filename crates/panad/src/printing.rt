@@ -1,14 +1,29 @@
 //! What commands answer, printed.
 
 use pana_commands::Printout;
-use pana_files::{ProgramFault, complain, print_tables};
+use pana_files::{ProgramFault, Tables, complain, print_tables, print_text};
 use std::process::ExitCode;
 
-/// Prints both texts, the first with its tables in colour on a terminal, and returns the status. That standard error can't be written is no fault.
-pub fn print_out(rt: &HostRuntime, printout: &Printout) -> Result<ExitCode, ProgramFault> {
-    print_tables(rt, &printout.out)?;
-    match complain(rt, &printout.err) {
-        Ok(()) | Err(ProgramFault::Write) => Ok(ExitCode::from(printout.status)),
+/// Prints a text on standard error, and returns the status. That it can't be written is no fault.
+fn complain_out(rt: &HostRuntime, text: &str, status: u8) -> Result<ExitCode, ProgramFault> {
+    match complain(rt, text) {
+        Ok(()) | Err(ProgramFault::Write) => Ok(ExitCode::from(status)),
         Err(fault) => Err(fault),
     }
+}
+
+/// Prints both texts, and returns the status.
+pub fn print_out(rt: &HostRuntime, printout: &Printout) -> Result<ExitCode, ProgramFault> {
+    print_text(rt, &printout.out)?;
+    complain_out(rt, &printout.err, printout.status)
+}
+
+/// Prints both texts, the first of such tables, on a terminal in colour, and returns the status.
+pub fn print_out_tables(
+    rt: &HostRuntime,
+    tables: Tables,
+    printout: &Printout,
+) -> Result<ExitCode, ProgramFault> {
+    print_tables(rt, tables, &printout.out)?;
+    complain_out(rt, &printout.err, printout.status)
 }

@@ -2,11 +2,13 @@
 
 use crate::asking::asker;
 use crate::options::{JOURNAL, PORT, flag, journal_option, port_option};
-use crate::printing::print_out;
+use crate::printing::{print_out, print_out_tables};
 use clap::{Arg, ArgMatches, Command, value_parser};
 use pana_calls::Session;
 use pana_commands::{Printout, Untracked, table_on, tables_on};
-use pana_files::{Keeper, NoStore, ProgramFault, connect, open_hall};
+use pana_files::{
+    Keeper, NoStore, ProgramFault, Tables, connect, open_hall, terminal_width,
+};
 use std::alloc::{AllocError, Global};
 use std::process::ExitCode;
 
@@ -82,13 +84,14 @@ fn show_session<S: Session>(
     wanted: Wanted,
 ) -> Result<ExitCode, ProgramFault> {
     let asker = asker()?;
+    let terminal = terminal_width(rt)?;
     let shown = match wanted {
-        Wanted::All => tables_on(rt.alloc(), session, &asker, false),
-        Wanted::Split => tables_on(rt.alloc(), session, &asker, true),
-        Wanted::Family(family) => table_on(rt.alloc(), session, &asker, family),
+        Wanted::All => tables_on(rt.alloc(), terminal, session, &asker, false),
+        Wanted::Split => tables_on(rt.alloc(), terminal, session, &asker, true),
+        Wanted::Family(family) => table_on(rt.alloc(), terminal, session, &asker, family),
     };
     match shown {
-        Ok(printout) => print_out(rt, &printout),
+        Ok(printout) => print_out_tables(rt, Tables::Boards, &printout),
         Err(Untracked::NoAnswer) => report(rt, keeper.no_answer()),
         Err(Untracked::OutOfMemory) => Err(ProgramFault::OutOfMemory),
     }

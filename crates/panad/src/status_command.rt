@@ -1,15 +1,15 @@
 //! `panad status`: what is obsolete or in conflict, by a journal's file or a daemon.
 
 use crate::command::refuse;
-use crate::options::{form_of, keeper_of, with_forms, with_keeper};
-use crate::printing::print_out;
+use crate::options::{JSON, flag, form_of, keeper_of, with_forms, with_keeper};
+use crate::printing::print_out_tables;
 use crate::track::{ASKER, FAULT, report};
 use clap::error::ErrorKind;
 use clap::{Arg, ArgAction, ArgMatches, Command};
 use pana_calls::Session;
 use pana_commands::{Untracked, status_on};
 use pana_copies::DeviceName;
-use pana_files::{Keeper, NoStore, ProgramFault, connect, open_hall};
+use pana_files::{Keeper, NoStore, ProgramFault, Tables, connect, open_hall};
 use std::alloc::{AllocError, Global};
 use std::process::ExitCode;
 
@@ -22,14 +22,19 @@ It looks at no folder: `panad track` does, and the daemon. Example:
     $ panad status --port 7000 usb:plan.txt laptop:photos/
     STATE     COPY          WHAT TO DO
     obsolete  usb:plan.txt  take laptop:plan.txt
+    1 obsolete, 0 in conflict
 
 `usb:` is all copies of a device, `usb:photos/` those below a folder. Without a
-place all are shown. Of a place where no copy is nothing is shown. The status is 0
-where nothing is shown, 1 where something is, 2 for a command line that is refused,
-and 3 where there is no answer.";
+place all are meant, and the last line says how many copies there are. Of a place
+where no copy is nothing is shown. The status is 0 where nothing is obsolete or in
+conflict, 1 where something is, 2 for a command line that is refused, and 3 where
+there is no answer.";
 
 /// The name of the places on the command line.
 const PLACE: &str = "PLACE";
+
+/// The name of the wish that newest copies are listed too.
+const ALL: &str = "all";
 
 /// What the words of `status` may be.
 pub fn status_command<'a>(alloc: Global) -> Result<Command<'a>, AllocError> {
@@ -45,7 +50,8 @@ pub fn status_command<'a>(alloc: Global) -> Result<Command<'a>, AllocError> {
         "The file that keeps the reports, which is only read",
         "Ask the daemon on this port of 127.0.0.1, in place of a journal",
     )?;
-    with_forms(alloc, command)?.arg(places)
+    let all = flag(alloc, ALL, "List the newest copies too, below the others").conflicts_with(JSON)?;
+    with_forms(alloc, command)?.arg(all)?.arg(places)
 }
 
 /// Whether the word begins with a device and a colon.
@@ -77,8 +83,16 @@ fn show_status<S: Session>(
         return Err(ProgramFault::OutOfMemory);
     };
     let places = words.get_strs(PLACE).unwrap_or(&[]);
-    match status_on(rt.alloc(), session, &asker, places, form_of(words)) {
-        Ok(printout) => print_out(rt, &printout),
+    let form = form_of(rt, words)?;
+    match status_on(
+        rt.alloc(),
+        session,
+        &asker,
+        places,
+        words.get_flag(ALL),
+        form,
+    ) {
+        Ok(printout) => print_out_tables(rt, Tables::Status, &printout),
         Err(Untracked::NoAnswer) => report(rt, keeper.no_answer()),
         Err(Untracked::OutOfMemory) => Err(ProgramFault::OutOfMemory),
     }

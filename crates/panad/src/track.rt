@@ -1,13 +1,13 @@
 //! `panad track`: folders are read, what was noticed is reported to the store of a journal, and what is obsolete or in conflict
 //! is printed.
 
-use crate::printing::print_out;
+use crate::printing::print_out_tables;
 use pana_calls::Session;
 use pana_commands::{StatusForm, Untracked, track_on};
 use pana_copies::DeviceName;
 use pana_daemon::Root;
 use pana_files::{
-    Keeper, NoStore, ProgramFault, ReadingWishes, complain, connect, may_keep_sums, open_store,
+    Keeper, NoStore, ProgramFault, ReadingWishes, Tables, complain, connect, may_keep_sums, open_store,
     read_folders,
 };
 use pana_store::Group;
@@ -57,7 +57,7 @@ fn track_by<S: Session>(
         wishes.may_be_empty,
         wishes.form,
     ) {
-        Ok(printout) => print_out(rt, &printout),
+        Ok(printout) => print_out_tables(rt, Tables::Status, &printout),
         Err(Untracked::NoAnswer) => report(rt, wishes.reading.keeper.no_answer()),
         Err(Untracked::OutOfMemory) => Err(ProgramFault::OutOfMemory),
     }

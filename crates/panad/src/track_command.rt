@@ -114,7 +114,7 @@ fn obey<T: Threads + Sync>(
     let wishes = TrackWishes {
         reading,
         may_be_empty: words.get_flag(EMPTY),
-        form: form_of(words),
+        form: form_of(rt, words)?,
     };
     match fault_of_roots(rt, roots.as_slice())? {
         Some(reason) => refuse(rt, ErrorKind::InvalidValue, reason.as_str()),
