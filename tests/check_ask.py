@@ -1,5 +1,5 @@
 #!/usr/bin/env python3
-"""Runs `may-overwrite`, `why`, `report` and `show` by a journal and by a daemon, and against servers that are none.
+"""Runs `may-overwrite`, `why`, `report`, `show` and `status` by a journal and by a daemon, and against servers that are none.
 
 usage: check_ask.py PROGRAM
 The last line is 'N passed, M failed'.
@@ -235,7 +235,42 @@ def tables(program, room):
             yield from differs(run(program, "show", "--port", server.port), (1, "", SILENT))
 
 
-CHECKS = (history, verdicts, refused_words, no_answer, differences, tables)
+def counted(program, room):
+    """`status` says how many copies there are, and with `--all` it lists the newest too, of a daemon and of a journal."""
+    journal = room / "files.journal"
+    reports = (("register", LAPTOP), ("duplicate", LAPTOP, USB), ("edit", LAPTOP), ("register", "desk:a"), ("register", "desk:b"), ("duplicate", "desk:b", "usb:b"), ("edit", "desk:b"), ("edit", "usb:b"))
+    head = "STATE     COPY             WHAT TO DO\n"
+    work = f"obsolete  {USB}     take {LAPTOP}\nconflict  desk:b           merge with usb:b\nconflict  usb:b            merge with desk:b\n"
+    newest = f"newest    {LAPTOP}\nnewest    desk:a\n"
+    rows = (
+        (("--all",), 1, head + work + newest + "5 copies on 3 devices: 1 obsolete, 2 in conflict\n"),
+        (("--all", "desk:"), 1, "STATE     COPY    WHAT TO DO\nconflict  desk:b  merge with usb:b\nnewest    desk:a\n0 obsolete, 1 in conflict\n"),
+        (("--all", "desk:a", "laptop:"), 0, head + newest + "0 obsolete, 0 in conflict\n"),
+        (("--all", "desk:none"), 0, "nothing is obsolete or in conflict\n0 obsolete, 0 in conflict\n"),
+        (("--all", "--quiet"), 1, ""),
+        (("usb:b",), 1, "STATE     COPY   WHAT TO DO\nconflict  usb:b  merge with desk:b\n0 obsolete, 1 in conflict\n"),
+    )
+    with Daemon(program) as daemon:
+        for keeper in (("--port", daemon.port), ("--journal", journal)):
+            for words in reports:
+                run(program, "report", *words, *keeper)
+            for words, status, wanted in rows:
+                yield from differs((words, run(program, "status", *keeper, *words)), (words, (status, wanted, "")))
+            status, out, err = run(program, "status", *keeper, "--all", "--json")
+            yield from differs((status, out, err != ""), (2, "", True))
+    # A comma stands before each three digits.
+    for number, total in ((1, "1 copy on 1 device"), (999, "999 copies on 1 device"), (1204, "1,204 copies on 1 device")):
+        given = "".join(json.dumps({"by": "usb", "device": "usb", "do": "register", "path": str(path)}) + "\n" for path in range(number)).encode()
+        journal = room / f"{number}.journal"
+        subprocess.run([program, "run", "--journal", journal], input=given, stdout=subprocess.DEVNULL, timeout=SECONDS, check=True)
+        yield from differs(run(program, "status", "--journal", journal), (0, f"nothing is obsolete or in conflict\n{total}: 0 obsolete, 0 in conflict\n", ""))
+    # What goes away between two questions is reported.
+    for answers in ((b'{"status":[]}\n', b""), (b'{"status":[]}\n', b'{"families":[{"copies":1,"family":1,"newest":1,"split":false}]}\n', b""), (b'{"status":[]}\n', b'{"families":[]}\n', b"")):
+        with Server(*answers) as server:
+            yield from differs((answers, run(program, "status", "--all", "--port", server.port)), (answers, (3, "", SILENT)))
+
+
+CHECKS = (history, verdicts, refused_words, no_answer, differences, tables, counted)
 
 
 if __name__ == "__main__":

@@ -1,5 +1,5 @@
 #!/usr/bin/env python3
-"""Has the program write characters that would act on a terminal: to one, and to a pipe.
+"""Has the program write to a terminal and to a pipe: characters that would act on one, tables that are wider than it, and colours.
 
 usage: check_terminal.py PROGRAM
 The last line is 'N passed, M failed'.
@@ -12,6 +12,7 @@ import pty
 import subprocess
 import sys
 import tty
+from unicodedata import east_asian_width
 
 from harness import differs, run_checks
 
@@ -35,7 +36,7 @@ def on_terminal(stream, program, *words, given="", **environment):
     ours, theirs = pty.openpty()
     tty.setraw(theirs)
     streams = {"stdout": subprocess.DEVNULL, "stderr": subprocess.DEVNULL, stream: theirs}
-    without = {name: value for name, value in os.environ.items() if name != "NO_COLOR"}
+    without = {name: value for name, value in os.environ.items() if name not in ("NO_COLOR", "COLUMNS")}
     with subprocess.Popen([program, *words], stdin=subprocess.PIPE, env={**without, **environment}, **streams) as started:
         os.close(theirs)
         started.stdin.write(given.encode())
@@ -107,13 +108,65 @@ def colours(program, room):
     for words in ("register laptop:a", "duplicate laptop:a usb:a", "register laptop:conflict", "duplicate laptop:conflict usb:b", "edit laptop:a", "edit laptop:conflict", "edit usb:b"):
         ran(program, "report", *words.split(), "--journal", journal)
     rows = (("", "STATE     COPY             WHAT TO DO"), ("33", "obsolete  usb:a            take laptop:a"), ("31", "conflict  laptop:conflict  merge with usb:b"), ("31", "conflict  usb:b            merge with laptop:conflict"))
-    plain = "".join(f"{line}\n" for _, line in rows)
-    status = ("status", "--journal", journal)
-    yield from differs(ran(program, *status), (1, plain, ""))
-    yield from differs(on_terminal("stdout", program, *status), "".join(f"\x1b[{code}m{line}\x1b[0m\n" if code else f"{line}\n" for code, line in rows))
-    yield from differs(on_terminal("stdout", program, *status, NO_COLOR="1"), plain)
+    rows += (("", "4 copies on 2 devices: 1 obsolete, 2 in conflict"),)
+    boards = (
+        ("", "family 1: copies 2, newest 1, split no"),
+        ("", "COPY  PLACE     STATE     NEWER  OLDER  EQUAL  CONFLICT"),
+        ("", "   1  laptop:a  newest        0      1      0         0"),
+        ("33", "   2  usb:a     obsolete      1      0      0         0"),
+        ("", ""),
+        ("31", "family 3: copies 2, newest 2, split yes"),
+        ("", "COPY  PLACE            STATE     NEWER  OLDER  EQUAL  CONFLICT"),
+        ("31", "   3  laptop:conflict  conflict      0      0      0         1"),
+        ("31", "   4  usb:b            conflict      0      0      0         1"),
+    )
+    for words, status, lines in ((("status", "--journal", journal), 1, rows), (("show", "--journal", journal), 0, boards)):
+        plain = "".join(f"{line}\n" for _, line in lines)
+        yield from differs(ran(program, *words), (status, plain, ""))
+        yield from differs(on_terminal("stdout", program, *words), "".join(f"\x1b[{code}m{line}\x1b[0m\n" if code else f"{line}\n" for code, line in lines))
+        yield from differs(on_terminal("stdout", program, *words, NO_COLOR="1"), plain)
     # What looks like a row but is none has no colour.
     yield from differs(on_terminal("stdout", program, "why", "laptop:conflict", "usb:b", "--journal", journal), "laptop:conflict has 6 edit by laptop\nusb:b has 7 edit by usb\n")
+
+
+def columns(text):
+    """How many columns of a terminal the widest line takes, of letters that take one or two."""
+    return max(sum(2 if east_asian_width(letter) == "W" else 1 for letter in line) for line in text.splitlines())
+
+
+def narrow(program, room):
+    """Where a terminal says that it has 60 columns the tables fit it: long places lose their middle. Elsewhere they don't."""
+    journal = str(room / "journal")
+    path = "photos/2024/beach.jpg"
+    for words in (f"register laptop:{path}", f"duplicate laptop:{path} usb:{path}", f"edit laptop:{path}", f"edit usb:{path}"):
+        ran(program, "report", *words.split(), "--journal", journal)
+    for words, lines in (
+        # Beside the state, the words and the blanks 37 columns are left for two places, 18 for each.
+        (("status",), ("STATE     COPY                WHAT TO DO", "conflict  laptop:ph…each.jpg  merge with usb:photo…each.jpg", "conflict  usb:photo…each.jpg  merge with laptop:ph…each.jpg", "2 copies on 2 devices: 0 obsolete, 2 in conflict")),
+        # The other columns leave 13.
+        (("show",), ("family 1: copies 2, newest 2, split yes", "COPY  PLACE          STATE     NEWER  OLDER  EQUAL  CONFLICT", "   1  laptop…ch.jpg  conflict      0      0      0         1", "   2  usb:ph…ch.jpg  conflict      0      0      0         1")),
+    ):
+        words += ("--journal", journal)
+        whole = ran(program, *words)[1]
+        on = lambda **more: on_terminal("stdout", program, *words, NO_COLOR="1", **more)
+        yield from differs(on(COLUMNS="60"), "".join(f"{line}\n" for line in lines))
+        yield from differs(columns(on(COLUMNS="60")) <= 60 < columns(whole), True)
+        for more in ({}, {"COLUMNS": "200"}, {"COLUMNS": ""}, {"COLUMNS": "0"}, {"COLUMNS": "-60"}, {"COLUMNS": "sixty"}):
+            yield from differs((more, on(**more)), (more, whole))
+        os.environ["COLUMNS"] = "60"
+        yield from differs(ran(program, *words)[1], whole)
+        del os.environ["COLUMNS"]
+        # Places keep 12 columns, also where the lines are too long then.
+        yield from differs(on(COLUMNS="1"), on(COLUMNS="20"))
+    # Letters of two columns, and a folder that is tracked.
+    for device in ("laptop", "usb"):
+        (room / device).mkdir()
+        (room / device / ("日記" * 20)).write_text("one")
+    track = ("track", "--journal", str(room / "tracked"), f"laptop={room / 'laptop'}", f"usb={room / 'usb'}")
+    ran(program, *track)
+    (room / "laptop" / ("日記" * 20)).write_text("two")
+    table = on_terminal("stdout", program, *track, NO_COLOR="1", COLUMNS="60")
+    yield from differs((columns(table) <= 60, table.count("…")), (True, 2))
 
 
 def help_texts(program, _):
@@ -121,7 +174,7 @@ def help_texts(program, _):
     yield from differs(on_terminal("stdout", program, "--help"), ran(program, "--help")[1])
 
 
-CHECKS = (tables, answers, kept_answers, scans, messages, colours, help_texts)
+CHECKS = (tables, answers, kept_answers, scans, messages, colours, narrow, help_texts)
 
 
 if __name__ == "__main__":

@@ -20,6 +20,9 @@ from harness import differs, run_checks
 ALL_WELL = "nothing is obsolete or in conflict\n"
 OBSOLETE = "STATE     COPY          WHAT TO DO\nobsolete  usb:plan.txt  take laptop:plan.txt\n"
 SILENT = "panad: the daemon gives no answer\n"
+# What `status` says below its table, of all copies and of those at some places.
+COUNTS = "4 copies on 2 devices: 1 obsolete, 0 in conflict\n"
+ONE, NONE = "1 obsolete, 0 in conflict\n", "0 obsolete, 0 in conflict\n"
 
 
 class Folders:
@@ -120,22 +123,24 @@ def asked_by_status(program, room):
         return done.returncode, done.stdout.decode(), done.stderr.decode()
 
     with Daemon(program, "--journal", str(room / "journal")) as daemon:
-        yield from differs(status(daemon.port), (0, ALL_WELL, ""))
+        yield from differs(status(daemon.port), (0, f"{ALL_WELL}0 copies on 0 devices: {NONE}", ""))
         at.track("--port", daemon.port)
         at.write("plan.txt", "two", at.laptop)
         at.track("--port", daemon.port)
-        for words in ((), ("usb:",), ("usb:plan.txt", "laptop:")):
-            yield from differs((words, status(daemon.port, *words)), (words, (1, OBSOLETE, "")))
+        yield from differs(status(daemon.port), (1, OBSOLETE + COUNTS, ""))
+        for words in (("usb:",), ("usb:plan.txt", "laptop:")):
+            yield from differs((words, status(daemon.port, *words)), (words, (1, OBSOLETE + ONE, "")))
         for words in (("laptop:",), ("usb:notes.txt",), ("usb:plan",)):
-            yield from differs((words, status(daemon.port, *words)), (words, (0, ALL_WELL, "")))
+            yield from differs((words, status(daemon.port, *words)), (words, (0, ALL_WELL + NONE, "")))
         yield from differs(status(daemon.port, "--quiet", "usb:"), (1, "", ""))
         # The journal is the daemon's, and can be read beside it.
         done = subprocess.run([program, "status", "--journal", room / "journal"], capture_output=True, text=True, timeout=SECONDS)
-        yield from differs((done.returncode, done.stdout, done.stderr), (1, OBSOLETE, ""))
+        yield from differs((done.returncode, done.stdout, done.stderr), (1, OBSOLETE + COUNTS, ""))
     yield from differs(status(daemon.port), (3, "", f"panad: cannot connect to port {daemon.port}\n"))
     for bad in (b"", b'{"status":[]} \n', b'{"fault":"NotJson"}\n'):
-        with Server(bad) as server:
-            yield from differs(status(server.port), (3, "", SILENT))
+        for before in ((), (b'{"status":[]}\n',)):
+            with Server(*before, bad) as server:
+                yield from differs((before, status(server.port)), (before, (3, "", SILENT)))
 
 
 def many_files(program, room):
