@@ -4,7 +4,7 @@ _panad_options() {
   case $1 in
     run) printf '%s\n' --journal --help ;;
     show) printf '%s\n' --journal --port --family --split --help ;;
-    status) printf '%s\n' --journal --port --quiet --json --help ;;
+    status) printf '%s\n' --journal --port --all --quiet --json --help ;;
     may-overwrite) printf '%s\n' --journal --port --by --help ;;
     why) printf '%s\n' --journal --port --help ;;
     watch) printf '%s\n' --port --from --help ;;

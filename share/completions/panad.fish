@@ -35,6 +35,7 @@ complete -c panad -n '__panad_after show track status may-overwrite why report w
 complete -c panad -n '__panad_after track' -l sums -r -F -d 'The file that keeps sums of files'
 complete -c panad -n '__panad_after track' -l empty -d 'Take an empty folder as meant'
 complete -c panad -n '__panad_after track' -l read-all -d 'Read all files'
+complete -c panad -n '__panad_after status' -l all -d 'List the newest copies too'
 complete -c panad -n '__panad_after track status' -l quiet -d 'Print no table'
 complete -c panad -n '__panad_after track status' -l json -d 'Print a line of JSON'
 complete -c panad -n '__panad_after report' -a 'register duplicate edit reconcile merge relocate remove note confirm withdraw found missing'
