@@ -54,11 +54,7 @@ fn answer_lines(
 ///
 /// `AllocError` where an allocation failed for the hall, the tables or the answer. One that failed for a line or an
 /// entry is answered as the fault of that.
-pub fn load_on(
-    alloc: Global,
-    terminal: Option<usize>,
-    bytes: &[u8],
-) -> Result<Printout, AllocError>
+pub fn load_on(alloc: Global, terminal: Option<usize>, bytes: &[u8]) -> Result<Printout, AllocError>
     ensures { IfOk result (AnswersDump terminal bytes.now) }
 {
     let lines = split_lines(alloc, bytes)?;

@@ -102,11 +102,7 @@ fn status_of(err: &str) -> u8
 ///
 /// `AllocError` where an allocation failed for the hall, the tables or the reports. One that failed for a line is
 /// reported as that line's.
-pub fn show_on(
-    alloc: Global,
-    terminal: Option<usize>,
-    bytes: &[u8],
-) -> Result<Printout, AllocError>
+pub fn show_on(alloc: Global, terminal: Option<usize>, bytes: &[u8]) -> Result<Printout, AllocError>
     ensures { IfOk result (AnswersLines terminal bytes.now) }
 {
     let mut hall = Hall::new(alloc)?;

@@ -43,12 +43,7 @@ fn cut(alloc: Global, all: &[char], kept: usize) -> Result<String, AllocError>
 
 /// With at most so many of these characters left, as many as fit.
 #[tactic(auto, using(crate::proofs::Cuts::first_cut))]
-fn longest_cut(
-    alloc: Global,
-    all: &[char],
-    most: usize,
-    kept: usize,
-) -> Result<String, AllocError>
+fn longest_cut(alloc: Global, all: &[char], most: usize, kept: usize) -> Result<String, AllocError>
     requires { kept ≤ length all.now }
     ensures { IfOk result (λ text. string_bytes text ≡ longest_cut most kept all.now) }
 {
@@ -61,11 +56,7 @@ fn longest_cut(
 
 /// The text in at most so many columns of a terminal: as it is where it fits, else without its middle.
 #[tactic(auto, unfolding(crate::specs::Fitted::fitted))]
-pub(crate) fn fitted(
-    alloc: Global,
-    text: String,
-    most: Option<usize>,
-) -> Result<String, AllocError>
+pub(crate) fn fitted(alloc: Global, text: String, most: Option<usize>) -> Result<String, AllocError>
     ensures { IfOk result (λ short. string_bytes short ≡ fitted most (string_bytes text)) }
 {
     let Some(most) = most else {

@@ -47,11 +47,7 @@ fn words_of(rows: &[StatusRow]) -> usize
 }
 
 /// The width of the widest place of these rows, and at least that of the head.
-fn rows_width(
-    alloc: Global,
-    most: Option<usize>,
-    rows: &[StatusRow],
-) -> Result<usize, AllocError>
+fn rows_width(alloc: Global, most: Option<usize>, rows: &[StatusRow]) -> Result<usize, AllocError>
     ensures { IfOk result (λ width. width ≡ widest 4 (copy_place most) rows.now) }
 {
     let mut width = LEAST_COPY;

@@ -61,11 +61,7 @@ fn place_limit(terminal: Option<usize>, copy: usize) -> Option<usize>
 }
 
 /// The width of the column of places: that of the widest, and at least that of its head.
-fn places_width(
-    alloc: Global,
-    most: Option<usize>,
-    rows: &[BoardRow],
-) -> Result<usize, AllocError>
+fn places_width(alloc: Global, most: Option<usize>, rows: &[BoardRow]) -> Result<usize, AllocError>
     ensures { IfOk result (λ width. width ≡ widest 5 (row_place most) rows.now) }
 {
     let mut width = LEAST_PLACE;

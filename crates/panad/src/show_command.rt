@@ -6,9 +6,7 @@ use crate::printing::{print_out, print_out_tables};
 use clap::{Arg, ArgMatches, Command, value_parser};
 use pana_calls::Session;
 use pana_commands::{Printout, Untracked, table_on, tables_on};
-use pana_files::{
-    Keeper, NoStore, ProgramFault, Tables, connect, open_hall, terminal_width,
-};
+use pana_files::{Keeper, NoStore, ProgramFault, Tables, connect, open_hall, terminal_width};
 use std::alloc::{AllocError, Global};
 use std::process::ExitCode;
 

@@ -50,7 +50,9 @@ pub fn status_command<'a>(alloc: Global) -> Result<Command<'a>, AllocError> {
         "The file that keeps the reports, which is only read",
         "Ask the daemon on this port of 127.0.0.1, in place of a journal",
     )?;
-    let all = flag(alloc, ALL, "List the newest copies too, below the others").conflicts_with(JSON)?;
+    let all = flag(alloc, ALL, "List the newest copies too, below the others").conflicts_with(
+        JSON,
+    )?;
     with_forms(alloc, command)?.arg(all)?.arg(places)
 }
 

@@ -7,8 +7,8 @@ use pana_commands::{StatusForm, Untracked, track_on};
 use pana_copies::DeviceName;
 use pana_daemon::Root;
 use pana_files::{
-    Keeper, NoStore, ProgramFault, ReadingWishes, Tables, complain, connect, may_keep_sums, open_store,
-    read_folders,
+    Keeper, NoStore, ProgramFault, ReadingWishes, Tables, complain, connect, may_keep_sums,
+    open_store, read_folders,
 };
 use pana_store::Group;
 use pana_track::ReadFolder;
