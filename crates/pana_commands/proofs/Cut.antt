@@ -3,7 +3,7 @@ use Rattle.std.specs.Prelude.{ℕ, Bool, List, [], ◌∷◌, ◌++◌, Result, 
 use Rattle.pana_calls.specs.declared.call.Call.{Call}
 use Rattle.pana_calls.specs.declared.call.Call.TheVariants as questions
 use Rattle.pana_calls.specs.declared.call.Query.TheVariants as queries
-use Rattle.std.specs.Prelude.{None}
+use Rattle.std.specs.Prelude.{Option, None, Some}
 use Rattle.std.proofs.Common.{inl, inr}
 use Rattle.pana_track.specs.Calls.{Asked, Makes}
 use Rattle.pana_track.specs.declared.read_fault.ReadFault.{ReadFault}
@@ -13,6 +13,10 @@ use Rattle.pana_track.specs.declared.folder_end.FolderEnd.{FolderEnd}
 use Rattle.pana_track.specs.inner.Pages.{Stops}
 use Rattle.pana_track.proofs.Reported.{makes_on}
 use Rattle.pana_calls.specs.declared.answer.Answer.{Answer}
+use Rattle.pana_calls.specs.declared.answer.Answer.TheVariants.{Given}
+use Rattle.pana_calls.specs.declared.reply.Reply.TheVariants.{Status}
+use Rattle.pana_calls.specs.declared.standing.StatusRow.{StatusRow}
+use Rattle.pana_track.specs.Status.{Pages, next_after}
 use Rattle.pana_track.specs.declared.read_folder.ReadFolder.{ReadFolder}
 use Rattle.pana_commands.specs.Track.{HasNoAnswer, IsCut, TracksAll}
 
@@ -31,6 +35,15 @@ module _ {S : Type 0} (step : S → List ℕ → Call → Answer → S → Type 
   -- pages that were asked for, and one has no answer
   pub cut_in_pages : (by : List ℕ) (old new : S) → Stops step fails by old new → IsCut step fails old new
   cut_in_pages by old new stops = record { made = stops.made; mid = stops.mid; by = by; call = questions.Query (queries.Status None stops.from); calls = stops.calls; failed = stops.failed }
+
+  -- pages that were asked for are calls that were made
+  pub pages_made : (by : List ℕ) (next : Option ℕ) (old : S) (pages : List (List StatusRow)) (new : S) → Pages step by next old pages new → (made : List Asked) × Makes step old made new
+  pages_made by None old [] new is = ([], is)
+  pages_made by None old (page ∷ pages) new is = absurd is
+  pages_made by (Some from) old [] new is = absurd is
+  pages_made by (Some from) old (page ∷ pages) new is =
+      let more = pages_made by (next_after page) is.0 pages new is.2 in
+      (record { by = by; call = questions.Query (queries.Status None from); answer = Given (Status page) } ∷ more.0, (is.0, is.1, more.1))
 
   module _ (may_be_empty : Bool) where
     -- a folder's calls were broken off

@@ -5,3 +5,4 @@ pub mod Joined
 pub mod Reported
 pub mod Cut
 pub mod Boarded
+pub mod Listed

@@ -1,8 +1,8 @@
 -- Texts that are cut in the middle.
-use Rattle.std.proofs.Common.{◌≡◌, ℕ, zero, suc, ◌+◌, ◌-◌, ◌/◌, ◌<◌, ◌≤◌, min, nat_le, cond, Bool, true, false, List, [], ◌∷◌, ◌++◌, length, take, drop, Some, refl, sym, ap, subst, ◌∙◌, inl, inr, arith, append_assoc}
+use Rattle.std.proofs.Common.{◌≡◌, ℕ, zero, suc, ◌+◌, ◌-◌, ◌/◌, ◌<◌, ◌≤◌, min, nat_le, cond, Bool, true, false, List, [], ◌∷◌, ◌++◌, length, take, drop, refl, sym, ap, ◌∙◌, inl, inr, arith, append_assoc, append-nil, get_or, length-drop}
 use Rattle.std.specs.Prelude.{◌⊎◌, chars, encode_utf8, encode_utf8_all}
 use Rattle.std.proofs.lemmas.Bool.Decides.{nat_tests}
-use Rattle.std.proofs.lemmas.List.{drop-drop, drop_all, take-append-drop}
+use Rattle.std.proofs.lemmas.List.{drop-drop, drop_all, take-append-drop, take_all, take_more}
 use Rattle.std.proofs.lemmas.Str.{encodes-append}
 use Rattle.unicode_width.proofs.Computing.{unicode_width}
 use Rattle.pana_report.specs.Columns.{width}
@@ -15,6 +15,16 @@ pub cut_pieces : (kept : ℕ) (text : List ℕ)
 cut_pieces kept text =
     encodes-append (take (kept - kept / 2) text) (0x2026 ∷ drop (length text - kept / 2) text)
     ∙ sym (append_assoc (encode_utf8_all (take (kept - kept / 2) text)) (encode_utf8 0x2026) (encode_utf8_all (drop (length text - kept / 2) text)))
+
+-- one character more
+pub encodes_more : (all : List ℕ) (index c : ℕ) → index < length all → c ≡ get_or all index c → encode_utf8_all (take (index + 1) all) ≡ encode_utf8_all (take index all) ++ encode_utf8 c
+encodes_more all index c within is =
+    ap encode_utf8_all (take_more all index c within ∙ ap (λ (d : ℕ). take index all ++ d ∷ []) (sym is))
+    ∙ encodes-append (take index all) (c ∷ []) ∙ ap (λ (last : List ℕ). encode_utf8_all (take index all) ++ last) (append-nil (encode_utf8 c))
+
+-- what stands from a place on
+pub last_of : (all : List ℕ) (at : ℕ) → take (length all - at) (drop at all) ≡ drop at all
+last_of all at = take_all (length all - at) (drop at all) (omega (arith, length-drop at all))
 
 either : {A : Type 0} (b : Bool) (x : A) → x ≡ cond b x x
 either true x = refl
@@ -31,7 +41,7 @@ first_cut most (suc kept) text =
 
 -- nothing but the …
 all_cut : (text : List ℕ) → cut 0 text ≡ encode_utf8_all (0x2026 ∷ [])
-all_cut text = ap (λ (back : List ℕ). encode_utf8_all (0x2026 ∷ back)) (drop_all (length text) text (omega arith))
+all_cut text = ap (λ (back : List ℕ). encode_utf8_all (0x2026 ∷ back)) (drop_all (length text - 0) text (omega arith))
 
 ellipsis_width : width (encode_utf8_all (0x2026 ∷ [])) ≡ 1
 unfolding unicode_width

@@ -1,12 +1,11 @@
 -- Lines that fit.
-use Rattle.std.proofs.Common.{◌≡◌, ℕ, zero, suc, ◌+◌, ◌-◌, ◌/◌, ◌<◌, ◌≤◌, max, List, [], ◌∷◌, length, map, fold, get_or, Some, None, refl, sym, ap, subst, inl, inr, arith}
+use Rattle.std.proofs.Common.{◌≡◌, ℕ, zero, suc, ◌+◌, ◌-◌, ◌<◌, ◌≤◌, max, List, [], ◌∷◌, length, map, fold, get_or, Some, None, refl, sym, ap, subst, inl, inr, arith}
 use Rattle.std.specs.Prelude.{◌⊎◌}
-use Rattle.pana_copies.specs.declared.place.Place.{Place}
 use Rattle.pana_calls.specs.declared.standing.PlacedCopy.{PlacedCopy}
 use Rattle.pana_calls.specs.declared.standing.StatusRow.{StatusRow}
 use Rattle.pana_report.specs.Columns.{width, widest, place_text}
 use Rattle.pana_report.specs.Fitted.{fitted, share}
-use Rattle.pana_report.specs.Status.{copy_place, left_for, limits_of, newest_place, others_width, places_width, words_of, words_width}
+use Rattle.pana_report.specs.Status.{copy_place, left_for, newest_place, others_width, places_width, words_of, words_width}
 use Rattle.pana_report.specs.laws.Fits.{IsCut, LinesFit}
 use Rattle.pana_report.proofs.Cuts.{fitted_texts_fit}
 

@@ -6,7 +6,6 @@ use Rattle.unicode_width.proofs.Computing.{unicode_width}
 use Rattle.pana_copies.specs.declared.place.Place.{Place}
 use Rattle.pana_calls.specs.declared.standing.CopyState.{CopyState}
 use Rattle.pana_calls.specs.declared.standing.CopyState.TheVariants.{Newest, Obsolete, Conflict}
-use Rattle.pana_calls.specs.declared.standing.PlacedCopy.{PlacedCopy}
 use Rattle.pana_calls.specs.declared.standing.StatusRow.{StatusRow}
 use Rattle.pana_report.specs.Columns.{cell, head_line, row_line, newline}
 use Rattle.pana_report.specs.Fitted.{fitted}

@@ -1,5 +1,5 @@
 -- Texts that are cut in the middle where they would take too many columns of a terminal.
-use Rattle.std.specs.Prelude.{ℕ, zero, suc, ◌-◌, ◌/◌, max, min, nat_le, if◌then◌else◌, List, [], ◌∷◌, ◌++◌, length, take, drop, chars, encode_utf8_all, Option, Some, None}
+use Rattle.std.specs.Prelude.{ℕ, zero, suc, ◌-◌, ◌/◌, max, min, nat_le, if◌then◌else◌, List, ◌∷◌, ◌++◌, length, take, drop, chars, encode_utf8_all, Option, Some, None}
 use Rattle.pana_report.specs.Columns.{width}
 
 -- the text of these characters with … in the place of its middle: so many of them are left, half on each side

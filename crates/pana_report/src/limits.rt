@@ -87,6 +87,7 @@ pub(crate) fn places_width(
 }
 
 /// The width of the widest other place, and at least so much.
+#[tactic(auto, unfolding(crate::specs::Fitted::fitted))]
 fn others_width(alloc: Global, least: usize, rows: &[StatusRow]) -> Result<usize, AllocError>
     ensures { IfOk result (λ width. width ≡ widest least (λ row. place_text row.with.place) rows.now) }
 {
