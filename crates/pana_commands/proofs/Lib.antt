@@ -6,3 +6,4 @@ pub mod Reported
 pub mod Cut
 pub mod Boarded
 pub mod Listed
+pub mod Grouped

@@ -1,14 +1,18 @@
 -- How many copies there are, as `status` says it.
-use Rattle.std.specs.Prelude.{ℕ, ◌%◌, ◌==◌, not, ◌&&◌, Bool, true, false, List, [], ◌∷◌, ◌++◌, length, count_by, codes, decimal, Option, Some, None, if◌then◌else◌}
+use Rattle.std.specs.Prelude.{ℕ, ◌%◌, ◌==◌, not, ◌&&◌, Bool, true, false, List, [], ◌∷◌, ◌++◌, length, count_by, codes, decimal, encode_utf8, Option, Some, None, if◌then◌else◌}
 use Rattle.pana_calls.specs.declared.hall_counts.HallCounts.{HallCounts}
 use Rattle.pana_calls.specs.declared.standing.CopyState.{CopyState}
 use Rattle.pana_calls.specs.declared.standing.CopyState.TheVariants.{Newest, Obsolete, Conflict}
 use Rattle.pana_calls.specs.declared.standing.StatusRow.{StatusRow}
 
--- digits, with a comma behind each behind which a multiple of three others stands
+-- a digit, and a comma behind it where three, six or more others follow
+abbrev pub digit_text : ℕ → ℕ → List ℕ
+digit_text digit others = if not (others == 0) && (others % 3 == 0) then encode_utf8 digit ++ codes "," else encode_utf8 digit
+
+-- digits with such commas
 abbrev pub grouped : List ℕ → List ℕ
 grouped [] = []
-grouped (digit ∷ digits) = digit ∷ (if not (length digits == 0) && (length digits % 3 == 0) then 44 ∷ grouped digits else grouped digits)
+grouped (digit ∷ digits) = digit_text digit (length digits) ++ grouped digits
 
 -- a number with such commas, as 1,204
 abbrev pub number_text : ℕ → List ℕ

@@ -55,6 +55,14 @@ is_table (Table terminal) = true
 is_table Json = false
 is_table Nothing = false
 
+-- the newest copies are asked for where they are to be listed in a table
+abbrev pub asks_newest : Bool → StatusForm → Bool
+asks_newest lists_newest form = lists_newest && is_table form
+
+-- all copies are counted below a table for which no place is named
+abbrev pub asks_total : List (Bor (List ℕ)) → StatusForm → Bool
+asks_total places form = is_table form && (length places == 0)
+
 -- the question how many copies there are, where that is wanted
 abbrev pub HasTotal : {S : Type 0} → (S → List ℕ → Call → Answer → S → Type 0) → List ℕ → Bool → S → S → Option HallCounts → Type 0
 HasTotal step by false old new total = (new ≡ old) × (total ≡ None)
@@ -75,8 +83,8 @@ pub record AnswersStatus {S : Type 0} (step : S → List ℕ → Call → Answer
   pub asked : S
   pub listed : S
   pub has : HasAll step by old asked rows
-  pub lists : HasNewest step by (lists_newest && is_table form) asked listed newest
-  pub counts : HasTotal step by (is_table form && (length places == 0)) listed new total
+  pub lists : HasNewest step by (asks_newest lists_newest form) asked listed newest
+  pub counts : HasTotal step by (asks_total places form) listed new total
   pub out : string_bytes answer.out ≡ shown_status form total (rows_at places rows) (copies_at places newest)
   pub err : string_bytes answer.err ≡ []
   pub status : answer.status ≡ status_by false (rows_at places rows)

@@ -1,22 +1,30 @@
 //! How many copies there are, in words.
-ghost use Rattle.std.specs.Prelude.{◌≡◌, ◌<◌, ◌++◌, ℕ, IfOk, OnOk, IsAscii, string_bytes};
-ghost use Rattle.pana_commands.specs.Counts.{counts_line, grouped, in_conflict_of, is_in_conflict, is_obsolete, number_text, obsolete_of, so_many, total_text};
+ghost use Rattle.std.specs.Prelude.{◌≡◌, ◌++◌, IfOk, OnOk, string_bytes};
+ghost use Rattle.pana_commands.specs.Counts.{counts_line, digit_text, grouped, in_conflict_of, is_in_conflict, is_obsolete, number_text, obsolete_of, so_many, total_text};
 
 use pana_calls::{CopyState, HallCounts, StatusRow};
 use std::alloc::{AllocError, Global};
 
-/// Appends digits, with a comma behind each behind which a multiple of three others stands.
+/// Appends a digit, and a comma behind it where three, six or more others follow.
+fn push_digit(text: &mut String, digit: u8, others: usize) -> Result<(), AllocError>
+    ensures { OnOk result (string_bytes text.new ≡ string_bytes text.old ++ digit_text digit others) }
+{
+    text.push(digit as char)?;
+    if others != 0 && others % 3 == 0 {
+        return text.push_str(",");
+    }
+    Ok(())
+}
+
+/// Appends digits with such commas.
+#[tactic(auto, using(crate::proofs::Grouped::grouped_more))]
 fn push_grouped(text: &mut String, digits: &[u8]) -> Result<(), AllocError>
-    requires { IsAscii digits.now }
     ensures { OnOk result (string_bytes text.new ≡ string_bytes text.old ++ grouped digits.now) }
 {
     let Some((digit, others)) = digits.split_first() else {
         return Ok(());
     };
-    text.push(*digit as char)?;
-    if !others.is_empty() && others.len() % 3 == 0 {
-        text.push(',')?;
-    }
+    push_digit(text, *digit, others.len())?;
     push_grouped(text, others)
 }
 

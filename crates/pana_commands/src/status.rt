@@ -3,7 +3,7 @@ ghost use Rattle.std.specs.Prelude.{◌≡◌, IfOk, IfSome, IsErrOf, string_byt
 ghost use Rattle.std.specs.List.{list_any};
 ghost use Rattle.pana_calls.specs.declared.answer.Answer.TheVariants.{Given};
 ghost use Rattle.pana_calls.specs.declared.reply.Reply.TheVariants as replies;
-ghost use Rattle.pana_commands.specs.Status.{AnswersStatus, HasTotal, copies_at, is_meant, is_of_many, is_table, names, place_name, rows_at, shown_status};
+ghost use Rattle.pana_commands.specs.Status.{AnswersStatus, HasTotal, asks_newest, asks_total, copies_at, is_meant, is_of_many, is_table, names, place_name, rows_at, shown_status};
 ghost use Rattle.pana_commands.specs.Track.{IsCut};
 
 use crate::counting::counts_line;
@@ -102,6 +102,20 @@ fn is_table(form: StatusForm) -> bool
     }
 }
 
+/// Whether the newest copies are asked for.
+fn asks_newest(lists_newest: bool, form: StatusForm) -> bool
+    ensures { result ≡ asks_newest lists_newest form }
+{
+    lists_newest && is_table(form)
+}
+
+/// Whether all copies are counted.
+fn asks_total(places: &[&str], form: StatusForm) -> bool
+    ensures { result ≡ asks_total places.now form }
+{
+    is_table(form) && places.is_empty()
+}
+
 /// The counts that an answer has, where it has them.
 fn counts_in(answer: Answer) -> Option<HallCounts>
     ensures { IfSome result (λ counts. answer ≡ Given (replies.Counts counts)) }
@@ -174,9 +188,8 @@ pub fn status_on<S: Session>(
     let Some(rows) = status_of(alloc, session, by)? else {
         return Err(Untracked::OutOfMemory);
     };
-    let is_table = is_table(form);
-    let newest = newest_of(alloc, session, by, lists_newest && is_table)?;
-    let total = total_of(session, by, is_table && places.is_empty())?;
+    let newest = newest_of(alloc, session, by, asks_newest(lists_newest, form))?;
+    let total = total_of(session, by, asks_total(places, form))?;
     let meant = rows_at(alloc, places, rows)?;
     let also = copies_at(alloc, places, newest)?;
     let status = status_by(false, meant.as_slice());
