@@ -29,6 +29,7 @@ SHOWN = 5
 LOOK = ("track", "--journal", "j", "laptop=l", "usb=u")
 QUESTIONS = (
     ("status", "usb:", "--journal", "j"),
+    ("status", "--all", "--journal", "j"),
     ("why", "usb:a", "laptop:a", "--journal", "j"),
     ("may-overwrite", "usb:a", "--by", "laptop:a", "--journal", "j"),
 )

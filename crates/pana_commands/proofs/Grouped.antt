@@ -1,32 +1,13 @@
 -- Digits with commas between them.
-use Rattle.std.proofs.Common.{◌≡◌, ℕ, List, [], ◌∷◌, ◌++◌, Option, refl, sym, append_assoc, length}
+use Rattle.std.proofs.Common.{◌≡◌, ℕ, List, ◌∷◌, ◌++◌, Option, refl, sym, append_assoc, length}
 use Rattle.std.specs.Prelude.{codes}
-use Rattle.std.specs.Fmt.{digits}
-use Rattle.std.specs.Char.{encode_utf8}
 use Rattle.pana_calls.specs.declared.hall_counts.HallCounts.{HallCounts}
 use Rattle.pana_calls.specs.declared.standing.StatusRow.{StatusRow}
-use Rattle.pana_commands.specs.Counts.{counts_line, digit_text, grouped, in_conflict_of, number_text, obsolete_of, so_many, total_text}
+use Rattle.pana_commands.specs.Counts.{counts_line, digit_text, grouped, in_conflict_of, number_text, obsolete_of, total_text}
 
 -- a digit behind a text, and then the others
 pub grouped_more : (text : List ℕ) (digit : ℕ) (others : List ℕ) → text ++ grouped (digit ∷ others) ≡ text ++ digit_text digit (length others) ++ grouped others
 grouped_more text digit others = sym (append_assoc text (digit_text digit (length others)) (grouped others))
-
--- worked examples, by computation
-small : number_text 999 ≡ codes "999"
-unfolding digits encode_utf8
-small = refl
-
-thousands : so_many 1204 (codes "copy") (codes "copies") ≡ codes "1,204 copies"
-unfolding digits encode_utf8
-thousands = refl
-
-millions : so_many 12345678 (codes "copy") (codes "copies") ≡ codes "12,345,678 copies"
-unfolding digits encode_utf8
-millions = refl
-
-one : so_many 1 (codes "copy") (codes "copies") ≡ codes "1 copy"
-unfolding digits encode_utf8
-one = refl
 
 -- the line of counts, piece by piece
 pub counts_pieces : (total : Option HallCounts) (rows : List StatusRow) (before obsolete conflicts : List ℕ)

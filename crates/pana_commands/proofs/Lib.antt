@@ -7,3 +7,4 @@ pub mod Cut
 pub mod Boarded
 pub mod Listed
 pub mod Grouped
+pub mod Worked
