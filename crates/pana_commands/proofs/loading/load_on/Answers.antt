@@ -15,4 +15,4 @@ returns-in-Ok c =
 pub returns-in-Err-Damaged : goal.returns-in-Err-Damaged
 returns-in-Err-Damaged c =
     let read = ap texts c.as_slice.ensures.value ∙ c.in_ok-lines.ensures in
-    IfOk-weaker c.reported.result _ _ (λ answer says. damage_reported c.args.terminal c.args.bytes.now c.in-Err-Damaged.line answer (subst (λ l. IsDamagedAt l c.in-Err-Damaged.line) read (subst (IsSealFault (texts c.as_slice.result.now)) c.in-Err-Damaged.field-0-is c.in-Err-Damaged.ensures.fault)) says) c.reported.ensures
+    IfOk-weaker c.reported.result _ _ (λ answer says. damage_reported c.args.terminal c.args.bytes.now c.in-Err-Damaged.line answer (subst (λ l. IsDamagedAt l c.in-Err-Damaged.line) read (subst (IsSealFault (texts c.as_slice.result.now)) c.in-Err-Damaged.field-0-is c.in-Err-Damaged.ensures.fault)) says) (rw c.in-Err-Damaged.field-0-is at c.reported.ensures)
