@@ -1,7 +1,7 @@
-use Rattle.std.proofs.Common.{rules, Bool, sym, subst}
+use Rattle.std.proofs.Common.{rules, Bool, subst}
 use Rattle.std.proofs.lemmas.Result.{err_from_is_err_and}
 use Rattle.pana_commands.specs.Newest.{HasNewest}
-use Rattle.pana_commands.specs.Status.{HasTotal, asks_newest, asks_total}
+use Rattle.pana_commands.specs.Status.{HasTotal}
 use Rattle.pana_commands.specs.declared.untracked.Untracked.TheVariants.{NoAnswer}
 use Rattle.pana_commands.proofs.Boarded.{passed_on}
 use Rattle.pana_commands.proofs.Cut.{cut_in_pages}
