@@ -6,3 +6,7 @@ pub mod Paged
 pub mod Asked
 pub mod Explained
 pub mod Whole
+pub mod Own
+pub mod Withdrawn
+pub mod Told
+pub mod Pictured

@@ -15,7 +15,10 @@ use Rattle.pana_hall.specs.Permit.{Permits, PermitsBy, journal_after}
 use Rattle.pana_hall.specs.Refusal.{refusal}
 use Rattle.pana_hall.specs.Step.{Replies}
 use Rattle.pana_history.specs.Pages.{HasJournal, Pages, next_after}
+use Rattle.pana_history.specs.History.{Draws, IsDrawn}
 use Rattle.pana_history.specs.Why.{Explains, IsExplained}
+use Rattle.pana_history.specs.declared.history.Form.{Form}
+use Rattle.pana_history.specs.declared.history.History.{History}
 use Rattle.pana_history.specs.declared.why.Explanation.{Explanation}
 
 page_by : (cause : Option Cause) (journal : List Entry) (from : ℕ) (entries : List Entry) → PermitsBy cause journal (calls.Query (queries.JournalFrom from)) (replies.Journal entries) → entries ≡ page journal from
@@ -82,3 +85,8 @@ pub explained : (by : List ℕ) (first second : Place) (old new : List Entry) (e
 explained by first second old new explanation few explains =
     let is = whole by old new few explains.journal explains.has in
     (subst (λ (journal : List Entry). IsExplained journal first second explanation) is.0 explains.explained, is.1)
+
+pub drawn : (by : List ℕ) (place : Place) (form : Form) (old new : List Entry) (history : History) → length old ≤ 1000000 → Draws Replies by place form old new history → IsDrawn old place form history × (new ≡ old)
+drawn by place form old new history few draws =
+    let is = whole by old new few draws.journal draws.has in
+    (subst (λ (journal : List Entry). IsDrawn journal place form history) is.0 draws.drawn, is.1)

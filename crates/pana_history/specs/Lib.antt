@@ -2,3 +2,9 @@ pub mod Lacking
 pub mod Pages
 pub mod Why
 pub mod inner
+pub mod Lanes
+pub mod Row
+pub mod Rows
+pub mod Text
+pub mod Svg
+pub mod History

@@ -3,3 +3,6 @@ pub mod Sources
 pub mod Families
 pub mod Alone
 pub mod Pages
+pub mod Lanes
+pub mod Withdrawals
+pub mod Told

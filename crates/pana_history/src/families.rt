@@ -3,6 +3,7 @@ ghost use Rattle.std.specs.Prelude.{◌≡◌, ◌++◌, [], ◌∷◌, IfOk, fi
 ghost use Rattle.pana_hall.specs.Accepted.{IsAccepted};
 ghost use Rattle.pana_hall.specs.Family.{begun_or_joined, subject};
 ghost use Rattle.pana_history.specs.Lacking.{family_entries};
+ghost use Rattle.pana_history.specs.Lanes.{own_entries};
 ghost use Rattle.pana_history.specs.inner.Families.{family_in, with_next};
 
 use pana_journal::{Entry, EntryList, Report};
@@ -117,6 +118,30 @@ pub fn family_entries(
     for entry in journal.into_vec() {
         let is_own = table.take(&entry)? == family;
         entries = with_own(alloc, entries, entry, is_own)?;
+    }
+    Ok(entries)
+}
+
+/// The entries of a family, also those that are withdrawn, in order. The journal is one that refuses none of its entries, as that of
+/// a hall.
+///
+/// It takes memory for these entries, and for a number for each entry of the journal. Fails only where memory runs out.
+pub(crate) fn own_entries(
+    alloc: Global,
+    journal: EntryList,
+    family: u64,
+) -> Result<Vec<Entry>, AllocError>
+    requires { IsAccepted 8 journal }
+    ensures { IfOk result (λ entries. entries.items ≡ own_entries journal family) }
+{
+    let mut table = FamilyTable {
+        families: Vec::new(alloc),
+    };
+    let mut entries = Vec::new(alloc);
+    for entry in journal.into_vec() {
+        if table.take(&entry)? == family {
+            entries.push(entry)?;
+        }
     }
     Ok(entries)
 }

@@ -129,7 +129,7 @@ fn unrelated(alloc: Global, first: &Place, second: &Place) -> Result<Explanation
 }
 
 /// The entries once more.
-fn copy_of(alloc: Global, entries: &[Entry]) -> Result<EntryList, AllocError>
+pub(crate) fn copy_of(alloc: Global, entries: &[Entry]) -> Result<EntryList, AllocError>
     ensures { IfOk result (λ copies. copies ≡ entries.now) }
 {
     let mut copies = Vec::new(alloc);
@@ -140,7 +140,7 @@ fn copy_of(alloc: Global, entries: &[Entry]) -> Result<EntryList, AllocError>
 }
 
 /// How the copy at a place stands, if one is there.
-fn standing_at(
+pub(crate) fn standing_at(
     hall: &mut Hall,
     by: &DeviceName,
     place: &Place,
@@ -156,7 +156,7 @@ fn standing_at(
 }
 
 /// The hall of a journal.
-fn load(alloc: Global, journal: EntryList) -> Result<Hall, Unexplained>
+pub(crate) fn load(alloc: Global, journal: EntryList) -> Result<Hall, Unexplained>
     ensures ok { IfOk result (λ hall. hall ≡ journal) }
     ensures damaged { IfErr result (IsDamage journal) }
 {

@@ -1,0 +1,17 @@
+-- Rows and marks one behind the other, each further than the one before it.
+use Rattle.std.proofs.Common.{◌≡◌, ℕ, zero, suc, ◌+◌, ◌*◌, List, [], ◌∷◌, ◌++◌, length, refl, sym, ap, ap₂, ◌∙◌, arith, append_assoc, append-nil}
+use Rattle.pana_history.specs.declared.mark.Mark.{Mark}
+use Rattle.pana_history.specs.Row.{Drawn}
+use Rattle.pana_history.specs.Svg.{line_path, line_paths, row_group, row_groups, sign_shape, sign_shapes}
+
+pub lines_push : (x : ℕ) (marks : List Mark) (mark : Mark) (k : ℕ) → k ≡ x + 16 * length marks → line_paths x (marks ++ mark ∷ []) ≡ line_paths x marks ++ line_path k mark
+lines_push x [] mark k at = append-nil (line_path x mark) ∙ ap (λ n. line_path n mark) (let it : x ≡ k = omega arith in it)
+lines_push x (first ∷ marks) mark k at = ap (λ l. line_path x first ++ l) (lines_push (x + 16) marks mark k (omega arith)) ∙ sym (append_assoc (line_path x first) (line_paths (x + 16) marks) (line_path k mark))
+
+pub shapes_push : (x : ℕ) (marks : List Mark) (mark : Mark) (k : ℕ) → k ≡ x + 16 * length marks → sign_shapes x (marks ++ mark ∷ []) ≡ sign_shapes x marks ++ sign_shape mark.sign k
+shapes_push x [] mark k at = append-nil (sign_shape mark.sign x) ∙ ap (λ n. sign_shape mark.sign n) (let it : x ≡ k = omega arith in it)
+shapes_push x (first ∷ marks) mark k at = ap (λ l. sign_shape first.sign x ++ l) (shapes_push (x + 16) marks mark k (omega arith)) ∙ sym (append_assoc (sign_shape first.sign x) (sign_shapes (x + 16) marks) (sign_shape mark.sign k))
+
+pub groups_push : (y : ℕ) (rows : List Drawn) (row : Drawn) (k : ℕ) → k ≡ y + 20 * length rows → row_groups y (rows ++ row ∷ []) ≡ row_groups y rows ++ row_group k row
+groups_push y [] row k at = append-nil (row_group y row) ∙ ap (λ n. row_group n row) (let it : y ≡ k = omega arith in it)
+groups_push y (first ∷ rows) row k at = ap (λ l. row_group y first ++ l) (groups_push (y + 20) rows row k (omega arith)) ∙ sym (append_assoc (row_group y first) (row_groups (y + 20) rows) (row_group k row))

@@ -1,0 +1,163 @@
+//! Rows as a picture in SVG.
+ghost use Rattle.std.specs.Prelude.{◌≡◌, ◌++◌, IfOk, OnOk, string_bytes};
+ghost use Rattle.pana_history.specs.Svg.{line_path, line_paths, row_class, row_group, row_groups, sign_shape, sign_shapes, style, svg_text, width_of, xml_char, xml_text};
+
+use crate::mark::{Mark, Sign};
+use crate::row::Row;
+use pana_terminal::shown;
+use std::alloc::{AllocError, Global};
+
+/// How far the lanes stand from each other, and the first from the left.
+const LANE: u128 = 16;
+
+/// How far the rows stand from each other.
+const ROW: u128 = 20;
+
+/// The colours, in the light and in the dark.
+const STYLE: &str = "<style>rect{fill:#ffffff}text{font:14px monospace;white-space:pre;fill:#1f2328}path{fill:none;stroke:#59636e;stroke-width:2}circle{fill:#0969da}.n{fill:none;stroke:#59636e;stroke-width:2}.x{stroke:#d1242f}.w text{fill:#59636e;text-decoration:line-through}@media (prefers-color-scheme:dark){rect{fill:#0d1117}text{fill:#f0f6fc}path,.n{stroke:#9198a1}circle{fill:#4493f8}.n{fill:none}.x{stroke:#f85149}.w text{fill:#9198a1}}</style>\n";
+
+/// Appends a character as it stands between tags.
+fn push_char(text: &mut String, c: char) -> Result<(), AllocError>
+    ensures { OnOk result (string_bytes text.new ≡ string_bytes text.old ++ xml_char c) }
+{
+    match c {
+        '&' => text.push_str("&amp;"),
+        '<' => text.push_str("&lt;"),
+        '>' => text.push_str("&gt;"),
+        '"' => text.push_str("&quot;"),
+        '\u{FFFE}' | '\u{FFFF}' => text.push('\u{FFFD}'),
+        _ => text.push(c),
+    }
+}
+
+/// A text between tags.
+fn xml_text(alloc: Global, text: &str) -> Result<String, AllocError>
+    ensures { IfOk result (λ out. string_bytes out ≡ xml_text text.now) }
+{
+    let safe = shown(alloc, text)?;
+    let mut out = String::new(alloc);
+    for c in safe.as_str().chars() {
+        push_char(&mut out, c)?;
+    }
+    Ok(out)
+}
+
+/// A lane's line.
+fn line_path(alloc: Global, x: u128, mark: Mark) -> Result<String, AllocError>
+    ensures { IfOk result (λ text. string_bytes text ≡ line_path x mark) }
+{
+    match (mark.lives_before, mark.lives_after) {
+        (true, true) => format!(in alloc; "M{x} 0v20"),
+        (true, false) => format!(in alloc; "M{x} 0v10"),
+        (false, true) => format!(in alloc; "M{x} 10v10"),
+        (false, false) => Ok(String::new(alloc)),
+    }
+}
+
+/// The shape of a sign.
+fn sign_shape(alloc: Global, x: u128, sign: Sign) -> Result<String, AllocError>
+    ensures { IfOk result (λ text. string_bytes text ≡ sign_shape sign x) }
+{
+    match sign {
+        Sign::Plain => Ok(String::new(alloc)),
+        Sign::Named => format!(in alloc; "<circle class=\"n\" cx=\"{x}\" cy=\"10\" r=\"4\"/>"),
+        Sign::Touched => format!(in alloc; "<circle cx=\"{x}\" cy=\"10\" r=\"5\"/>"),
+        Sign::Struck => {
+            format!(in alloc; "<path class=\"x\" d=\"M{x} 10m-5-5l10 10m0-10l-10 10\"/>")
+        }
+    }
+}
+
+/// The lines of a row's marks.
+fn line_paths(alloc: Global, marks: &[Mark]) -> Result<String, AllocError>
+    ensures { IfOk result (λ text. string_bytes text ≡ line_paths 16 marks.now) }
+{
+    let mut text = String::new(alloc);
+    let mut x = LANE;
+    for mark in marks {
+        text.push_str(line_path(alloc, x, *mark)?.as_str())?;
+        x += LANE;
+    }
+    Ok(text)
+}
+
+/// The shapes of a row's marks.
+fn sign_shapes(alloc: Global, marks: &[Mark]) -> Result<String, AllocError>
+    ensures { IfOk result (λ text. string_bytes text ≡ sign_shapes 16 marks.now) }
+{
+    let mut text = String::new(alloc);
+    let mut x = LANE;
+    for mark in marks {
+        text.push_str(sign_shape(alloc, x, mark.sign)?.as_str())?;
+        x += LANE;
+    }
+    Ok(text)
+}
+
+/// The attribute of a row that is struck.
+fn row_class(is_struck: bool) -> &'static str
+    ensures { result.now ≡ row_class is_struck }
+{
+    if is_struck { " class=\"w\"" } else { "" }
+}
+
+/// A row at this distance from the top.
+fn row_group(alloc: Global, y: u128, row: &Row) -> Result<String, AllocError>
+    ensures { IfOk result (λ text. string_bytes text ≡ row_group y row.now) }
+{
+    let class = row_class(row.is_struck());
+    let lines = line_paths(alloc, row.marks())?;
+    let lines = lines.as_str();
+    let shapes = sign_shapes(alloc, row.marks())?;
+    let shapes = shapes.as_str();
+    let x = LANE * row.marks().len() as u128 + 20;
+    let words = xml_text(alloc, row.text())?;
+    let words = words.as_str();
+    format!(in alloc;
+        "<g{class} transform=\"translate(0 {y})\"><path d=\"{lines}\"/>{shapes}<text x=\"{x}\" y=\"14\">{words}</text></g>\n"
+    )
+}
+
+/// The rows, each below the one before it.
+fn row_groups(alloc: Global, rows: &[Row]) -> Result<String, AllocError>
+    ensures { IfOk result (λ text. string_bytes text ≡ row_groups 0 rows.now) }
+{
+    let mut text = String::new(alloc);
+    let mut y = 0;
+    for row in rows {
+        text.push_str(row_group(alloc, y, row)?.as_str())?;
+        y += ROW;
+    }
+    Ok(text)
+}
+
+/// How wide a row is at most.
+fn row_width(row: &Row) -> u128
+    ensures { result ≡ row_width row.now }
+{
+    LANE * row.marks().len() as u128 + 9 * row.text().len() as u128 + 40
+}
+
+/// How wide the widest row is at most.
+fn width_of(rows: &[Row]) -> u128
+    ensures { result ≡ width_of rows.now }
+{
+    let mut width = 0;
+    for row in rows {
+        width = row_width(row).max(width);
+    }
+    width
+}
+
+/// The rows as a picture in SVG, which can be read on light and on dark ground.
+pub(crate) fn svg_text(alloc: Global, rows: &[Row]) -> Result<String, AllocError>
+    ensures { IfOk result (λ text. string_bytes text ≡ svg_text rows.now) }
+{
+    let width = width_of(rows);
+    let height = ROW * rows.len() as u128;
+    let groups = row_groups(alloc, rows)?;
+    let groups = groups.as_str();
+    format!(in alloc;
+        "<svg xmlns=\"http://www.w3.org/2000/svg\" width=\"{width}\" height=\"{height}\">\n{STYLE}<rect width=\"100%\" height=\"100%\"/>\n{groups}</svg>\n"
+    )
+}
