@@ -1,3 +1,4 @@
+use crate::history_command::{self, HISTORY, history_command};
 use crate::keeping::run_kept;
 use crate::options::{JOURNAL, journal_option};
 use crate::overwrite_command::{self, MAY_OVERWRITE, overwrite_command};
@@ -49,9 +50,10 @@ pair, holdings, at, status, journal, counts.
 `panad serve` answers them over TCP, to several devices at a time.
 `panad track` needs no lines: it looks at folders, and `panad status` shows what is
 obsolete or in conflict. `panad may-overwrite` says whether a copy may be replaced,
-`panad why` what each of two copies knows that the other lacks, and `panad report`
-makes one report of copies that are named by their places. `panad watch` prints what
-is reported to a daemon, as it comes.
+`panad why` what each of two copies knows that the other lacks, `panad history` all
+that was reported of a file, as a graph, and `panad report` makes one report of
+copies that are named by their places. `panad watch` prints what is reported to a
+daemon, as it comes.
 `panad COMMAND --help` shows an example. docs/PROTOCOL.md has all answers, and
 docs/PROMISES.md what is proved of them, and what isn't.";
 
@@ -204,6 +206,7 @@ fn command_line<'a>(alloc: Global) -> Result<Command<'a>, AllocError> {
         .subcommand(status_command(alloc)?)?
         .subcommand(overwrite_command(alloc)?)?
         .subcommand(why_command(alloc)?)?
+        .subcommand(history_command(alloc)?)?
         .subcommand(report_command(alloc)?)?
         .subcommand(watch_command(alloc)?)?
         .subcommand(serve_command(alloc)?)
@@ -361,6 +364,7 @@ fn obey_words<T: Threads + Wait + Clock + Sync>(
         Some((STATUS, words)) => Ok(status_command::run(rt, words)),
         Some((MAY_OVERWRITE, words)) => Ok(overwrite_command::run(rt, words)),
         Some((WHY, words)) => Ok(why_command::run(rt, words)),
+        Some((HISTORY, words)) => Ok(history_command::run(rt, words)),
         Some((REPORT, words)) => Ok(report_command::run(rt, words)),
         Some((WATCH, words)) => Ok(watch_command::run(rt, words)),
         Some((SERVE, words)) => serve_command::run(rt, threads, words),

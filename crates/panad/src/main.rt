@@ -4,6 +4,7 @@
 mod asking;
 mod command;
 mod daemon;
+mod history_command;
 mod keeping;
 mod options;
 mod overwrite_command;
