@@ -1,5 +1,5 @@
 #!/usr/bin/env python3
-"""Runs `may-overwrite`, `why`, `report`, `show` and `status` by a journal and by a daemon, and against servers that are none.
+"""Runs `may-overwrite`, `why`, `history`, `report`, `show` and `status` by a journal and by a daemon, and against servers that are none.
 
 usage: check_ask.py PROGRAM
 The last line is 'N passed, M failed'.
@@ -7,8 +7,10 @@ The last line is 'N passed, M failed'.
 from __future__ import annotations
 
 import json
+import re
 import subprocess
 import sys
+from xml.etree import ElementTree
 
 from check_track_port import SILENT, Server
 from daemon import SECONDS, Daemon, pages
@@ -17,6 +19,7 @@ from harness import differs, run_checks
 SUM = "4355a46b19d348dc2f57c046f8ef63d4538ebb936000f3c9ee954a27460dd865"
 UNKNOWN = "unknown: no copy is at {}\n"
 LAPTOP, USB, DESK = "laptop:plan.txt", "usb:plan.txt", "desk:a b/\u00e9:\u202e.txt"
+MARKED = "usb:<b>&\"c\" 'd'\uffff.txt"
 
 # Words of `report`, what it prints, and its status: a history of two files.
 HISTORY = (
@@ -66,6 +69,47 @@ ENTRIES = (
     {"by": "usb", "device": "usb", "do": "register", "number": 13, "path": "plan.txt", "sum": SUM},
     {"by": "usb", "copy": 13, "do": "edit", "number": 14, "sum": "0" * 64},
     {"by": "usb", "copy": 13, "do": "remove", "number": 15},
+)
+
+# Reports of a file and one of another, and the file's history.
+REPORTS = (
+    ("register", LAPTOP),
+    ("duplicate", LAPTOP, USB),
+    ("edit", USB),
+    ("edit", LAPTOP, "--by", "desk"),
+    ("merge", LAPTOP, USB),
+    ("withdraw", "5", "--by", "laptop"),
+    ("reconcile", USB, LAPTOP),
+    ("relocate", USB, DESK),
+    ("note", DESK, "--sum", SUM),
+    ("confirm", "9", "--by", "desk"),
+    ("register", "desk:other"),
+    ("remove", DESK, "--heir", LAPTOP),
+    ("duplicate", LAPTOP, MARKED),
+    ("duplicate", LAPTOP, USB),
+    ("withdraw", "14", "--by", "laptop"),
+    ("remove", LAPTOP),
+)
+GRAPH = (
+    ("o      ", "copy 1 gone"),
+    ("  o    ", "copy 2 gone"),
+    ("    o  ", f"copy 13 {MARKED}"),
+    ("      o", "copy 14 gone"),
+    ("*      ", f"1 register by laptop of {LAPTOP}"),
+    ("| *    ", f"2 duplicate by laptop of {LAPTOP} to {USB}"),
+    ("| *    ", f"3 edit by usb of {USB}"),
+    ("* |    ", f"4 edit by desk of {LAPTOP}"),
+    ("x x    ", f"5 merge by laptop of {LAPTOP} and {USB} (withdrawn by 6)"),
+    ("| |    ", "6 withdraw by laptop of 5"),
+    ("* *    ", f"7 reconcile by usb of {USB} and {LAPTOP}"),
+    ("| *    ", f"8 relocate by usb of {USB} to {DESK}"),
+    ("| *    ", f"9 note by desk of {DESK}"),
+    ("| |    ", "10 confirm by desk of 9"),
+    ("| *    ", f"12 remove by desk of {DESK} with heir {LAPTOP}"),
+    ("|   *  ", f"13 duplicate by laptop of {LAPTOP} to {MARKED}"),
+    ("|   | x", f"14 duplicate by laptop of {LAPTOP} to {USB} (withdrawn by 15)"),
+    ("|   |  ", "15 withdraw by laptop of 14"),
+    ("*   |  ", f"16 remove by laptop of {LAPTOP}"),
 )
 
 # Reports, and then how each place compares with each.
@@ -187,11 +231,16 @@ def differences(program, room):
     subprocess.run([program, "run", "--journal", journal], input=given, stdout=subprocess.DEVNULL, timeout=SECONDS, check=True)
     of_laptop = "".join(f"{LAPTOP} has {number} edit by laptop\n" for number in (*range(3, 103), *range(104, 201)))
     of_usb = f"{USB} has 103 edit by usb\n"
+    graph = f"o    copy 1 {LAPTOP}\n  o  copy 2 {USB}\n*    1 register by laptop of {LAPTOP}\n| *  2 duplicate by laptop of {LAPTOP} to {USB}\n"
+    graph += "".join(f"| *  {number} edit by usb of {USB}\n" if number == 103 else f"* |  {number} edit by laptop of {LAPTOP}\n" for number in range(3, 201))
     with Daemon(program, "--journal", journal) as daemon:
         yield from differs(run(program, "why", LAPTOP, USB, "--port", daemon.port), (0, of_laptop + of_usb, ""))
+        yield from differs(run(program, "history", USB, "--port", daemon.port), (0, graph, ""))
     yield from differs(run(program, "why", USB, LAPTOP, "--journal", journal), (0, of_usb + of_laptop, ""))
-    why = ("why", LAPTOP, USB)
-    yield from differs(run(program, *why, "--port", daemon.port), (3, "", f"panad: cannot connect to port {daemon.port}\n"))
+    yield from differs(run(program, "history", LAPTOP, "--journal", journal), (0, graph, ""))
+    questions = (("why", LAPTOP, USB), ("history", LAPTOP), ("history", LAPTOP, "--svg", room / "none.svg"))
+    for words in questions:
+        yield from differs(run(program, *words, "--port", daemon.port), (3, "", f"panad: cannot connect to port {daemon.port}\n"))
     entry = b'{"entries":[{"by":"laptop","copy":1,"do":"edit","number":%d}]}\n'
     rows = (
         (b"", SILENT),
@@ -201,11 +250,54 @@ def differences(program, room):
         (entry % 1, "panad: what came is no journal: entry 1: UnknownCopy 1\n"),
         (entry % 2, "panad: what came is no journal: entry 1: OutOfOrder\n"),
     )
-    for answer, wanted in rows:
+    rows = [(answer, (3, "", wanted)) for answer, wanted in rows] + [(b'{"entries":[]}\n', (1, UNKNOWN.format(LAPTOP), ""))]
+    for words, (answer, wanted) in ((words, row) for words in questions for row in rows):
         with Server(answer) as server:
-            yield from differs((answer, run(program, *why, "--port", server.port)), (answer, (3, "", wanted)))
-    with Server(b'{"entries":[]}\n') as server:
-        yield from differs(run(program, *why, "--port", server.port), (1, UNKNOWN.format(LAPTOP), ""))
+            yield from differs((words, answer, run(program, *words, "--port", server.port)), (words, answer, wanted))
+    yield from differs((room / "none.svg").exists(), False)
+
+
+def drawn(file):
+    """The rows of a picture: what is drawn in each lane, as in a line of text, and its text, which is struck or not."""
+    picture = ElementTree.fromstring(file.read_bytes())
+    for group in (it for it in picture if it.tag.endswith("}g")):
+        lines, *shapes, words = group
+        lanes = {}
+        for x, from_, length in re.findall(r"M(\d+) (\d+)v(\d+)", lines.get("d")):
+            lanes[x] = "|" if from_ == "0" else " "
+        for shape in shapes:
+            x = shape.get("cx") or shape.get("d")[1:].split()[0]
+            lanes[x] = {("circle", None): "*", ("circle", "n"): "o", ("path", "x"): "x"}[shape.tag.split("}")[1], shape.get("class")]
+        last = int(words.get("x")) - 20
+        yield " ".join(lanes.get(str(x), " ") for x in range(16, last + 1, 16)), words.text, group.get("class") == "w"
+
+
+def graphs(program, room):
+    """The history of a file is the same by a daemon and by a journal, and in a picture; a file that is none is left as it is."""
+    journal, picture = room / "files.journal", room / "graph.svg"
+    wanted = (0, "".join(f"{lanes}  {text}\n" for lanes, text in GRAPH), "")
+    struck = [(lanes, text.replace("\u202e", "\\u{202e}").replace("\uffff", "\ufffd"), "(withdrawn by" in text) for lanes, text in GRAPH]
+    with Daemon(program) as daemon:
+        keepers = (("--port", daemon.port), ("--journal", journal))
+        for keeper, words in ((keeper, words) for keeper in keepers for words in REPORTS):
+            yield from differs((words, run(program, "report", *words, *keeper)[0]), (words, 0))
+        before = journal.read_bytes()
+        for keeper in keepers:
+            yield from differs(run(program, "history", MARKED, *keeper), wanted)
+            yield from differs(run(program, "history", MARKED, "--svg", picture, *keeper), (0, "", ""))
+            yield from differs([*drawn(picture)], struck)
+            yield from differs(run(program, "history", LAPTOP, *keeper), (1, UNKNOWN.format(LAPTOP), ""))
+            status, out, err = run(program, "history", "laptop", *keeper)
+            yield from differs((status, out, err.split("\n")[0]), (2, "", "error: bad place laptop"))
+    ours = ("--journal", journal)
+    yield from differs(run(program, "history", MARKED, "--svg", journal, *ours), (3, "", f"panad: {journal} is no picture\n"))
+    for file in ("/dev/full", room, room / "none" / "graph.svg"):
+        yield from differs(run(program, "history", MARKED, "--svg", file, *ours), (3, "", f"panad: cannot write {file}\n"))
+    text = picture.read_text()
+    picture.write_text(text + text)
+    yield from differs(run(program, "history", MARKED, "--svg", picture, *ours), (0, "", ""))
+    yield from differs((picture.read_text(), run(program, "history", MARKED, "--svg", "/dev/stdout", *ours)), (text, (0, text, "")))
+    yield from differs(journal.read_bytes(), before)
 
 
 def tables(program, room):
@@ -270,7 +362,7 @@ def counted(program, room):
             yield from differs((answers, run(program, "status", "--all", "--port", server.port)), (answers, (3, "", SILENT)))
 
 
-CHECKS = (history, verdicts, refused_words, no_answer, differences, tables, counted)
+CHECKS = (history, verdicts, refused_words, no_answer, differences, graphs, tables, counted)
 
 
 if __name__ == "__main__":

@@ -7,6 +7,7 @@ _panad_options() {
     status) printf '%s\n' --journal --port --all --quiet --json --help ;;
     may-overwrite) printf '%s\n' --journal --port --by --help ;;
     why) printf '%s\n' --journal --port --help ;;
+    history) printf '%s\n' --journal --port --svg --help ;;
     watch) printf '%s\n' --port --from --help ;;
     report) printf '%s\n' --journal --port --by --sum --heir --help ;;
     load | scan | compare) printf '%s\n' --help ;;
@@ -25,11 +26,11 @@ _panad() {
   # Of DEVICE=DIR bash makes three words.
   [ "$word" != = ] || before== word=
   if [ "$COMP_CWORD" -eq 1 ]; then
-    mapfile -t COMPREPLY < <(compgen -W 'run show load scan compare track status may-overwrite why report watch serve --help --version' -- "$word")
+    mapfile -t COMPREPLY < <(compgen -W 'run show load scan compare track status may-overwrite why history report watch serve --help --version' -- "$word")
     return
   fi
   case $before in
-    --journal | --sums)
+    --journal | --sums | --svg)
       mapfile -t COMPREPLY < <(compgen -f -- "$word")
       return
       ;;

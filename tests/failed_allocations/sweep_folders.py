@@ -1,5 +1,5 @@
 #!/usr/bin/env python3
-"""Runs `track`, `status`, `why` and `may-overwrite` with their Nth allocation failing, for N = 1, 2, .. until none fails: a
+"""Runs `track`, `status`, `why`, `history` and `may-overwrite` with their Nth allocation failing, for N = 1, 2, .. until none fails: a
 first look at two folders, a second look after a change, and a question by each of the others.
 
 usage: sweep_folders.py PROGRAM
@@ -31,6 +31,8 @@ QUESTIONS = (
     ("status", "usb:", "--journal", "j"),
     ("status", "--all", "--journal", "j"),
     ("why", "usb:a", "laptop:a", "--journal", "j"),
+    ("history", "usb:a", "--journal", "j"),
+    ("history", "usb:a", "--svg", "/dev/stdout", "--journal", "j"),
     ("may-overwrite", "usb:a", "--by", "laptop:a", "--journal", "j"),
 )
 EARLY = (1, b"", b"panad: out of memory\n")

@@ -48,12 +48,7 @@ fn drawn_in(alloc: Global, form: Form, rows: &[Row]) -> Result<String, AllocErro
 }
 
 /// The history of a file, in one of the two forms.
-fn drawn(
-    alloc: Global,
-    journal: EntryList,
-    family: u64,
-    form: Form,
-) -> Result<String, AllocError>
+fn drawn(alloc: Global, journal: EntryList, family: u64, form: Form) -> Result<String, AllocError>
     requires { IsAccepted 8 journal }
     ensures { IfOk result (λ text. string_bytes text ≡ drawn_in form (rows_of journal family)) }
 {

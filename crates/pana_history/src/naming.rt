@@ -54,12 +54,7 @@ fn two_copies(
 }
 
 /// A copy that gets to a place.
-fn copy_to(
-    alloc: Global,
-    lanes: &[Lane],
-    number: u64,
-    place: &Place,
-) -> Result<String, AllocError>
+fn copy_to(alloc: Global, lanes: &[Lane], number: u64, place: &Place) -> Result<String, AllocError>
     ensures { IfOk result (λ text. string_bytes text ≡ copy_name lanes.now number ++ (codes " to " ++ place_name place.now)) }
 {
     let from = copy_name(alloc, lanes, number)?;

@@ -14,7 +14,8 @@ const LANE: u128 = 16;
 const ROW: u128 = 20;
 
 /// The colours, in the light and in the dark.
-const STYLE: &str = "<style>rect{fill:#ffffff}text{font:14px monospace;white-space:pre;fill:#1f2328}path{fill:none;stroke:#59636e;stroke-width:2}circle{fill:#0969da}.n{fill:none;stroke:#59636e;stroke-width:2}.x{stroke:#d1242f}.w text{fill:#59636e;text-decoration:line-through}@media (prefers-color-scheme:dark){rect{fill:#0d1117}text{fill:#f0f6fc}path,.n{stroke:#9198a1}circle{fill:#4493f8}.n{fill:none}.x{stroke:#f85149}.w text{fill:#9198a1}}</style>\n";
+const STYLE: &str =
+    "<style>rect{fill:#ffffff}text{font:14px monospace;white-space:pre;fill:#1f2328}path{fill:none;stroke:#59636e;stroke-width:2}circle{fill:#0969da}.n{fill:none;stroke:#59636e;stroke-width:2}.x{stroke:#d1242f}.w text{fill:#59636e;text-decoration:line-through}@media (prefers-color-scheme:dark){rect{fill:#0d1117}text{fill:#f0f6fc}path,.n{stroke:#9198a1}circle{fill:#4493f8}.n{fill:none}.x{stroke:#f85149}.w text{fill:#9198a1}}</style>\n";
 
 /// Appends a character as it stands between tags.
 fn push_char(text: &mut String, c: char) -> Result<(), AllocError>

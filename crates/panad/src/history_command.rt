@@ -7,8 +7,7 @@ use clap::{Arg, ArgMatches, Command};
 use pana_calls::Session;
 use pana_copies::Place;
 use pana_files::{
-    Keeper, NoStore, ProgramFault, connect, may_write_picture, open_hall, print_text,
-    write_picture,
+    Keeper, NoStore, ProgramFault, connect, may_write_picture, open_hall, print_text, write_picture,
 };
 use pana_history::{Form, History, Unexplained, history_on};
 use std::alloc::{AllocError, Global};
@@ -90,11 +89,7 @@ fn write_svg(rt: &HostRuntime, name: &str, picture: &str) -> Result<ExitCode, Pr
 }
 
 /// Prints what is said of the place, or writes the picture.
-fn tell(
-    rt: &HostRuntime,
-    history: History,
-    target: Target<'_>,
-) -> Result<ExitCode, ProgramFault> {
+fn tell(rt: &HostRuntime, history: History, target: Target<'_>) -> Result<ExitCode, ProgramFault> {
     if !history.is_known {
         return print_line(rt, history.text, 1);
     }
