@@ -8,5 +8,5 @@ pub mod Explained
 pub mod Whole
 pub mod Own
 pub mod Withdrawn
-pub mod Told
+pub mod Story
 pub mod Pictured

@@ -14,7 +14,7 @@ use Rattle.pana_hall.proofs.Tables.{open_withdraw}
 use Rattle.pana_history.specs.Lacking.{family_entries}
 use Rattle.pana_history.specs.Lanes.{own_entries, withdrawal_of}
 use Rattle.pana_history.specs.inner.Alone.{IsFit}
-use Rattle.pana_history.specs.inner.Told.{IsStory, counted}
+use Rattle.pana_history.specs.inner.Story.{IsStory, counted}
 use Rattle.pana_history.specs.inner.Withdrawals.{counts}
 use Rattle.pana_history.proofs.Fit.{fits}
 

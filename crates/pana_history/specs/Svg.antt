@@ -1,4 +1,4 @@
--- Rows as a picture in SVG: lanes stand 16 units apart, rows 20.
+-- Rows as a picture in SVG. Lanes stand 16 units apart, and rows stand 20 units apart.
 use Rattle.std.specs.Prelude.{ℕ, ◌+◌, ◌*◌, ◌==◌, ◌||◌, max, Bool, true, false, List, [], ◌∷◌, ◌++◌, fold, length, chars, codes, decimal, encode_utf8, if◌then◌else◌}
 use Rattle.std.specs.List.{flat_map}
 use Rattle.pana_terminal.specs.Shown.{shown}

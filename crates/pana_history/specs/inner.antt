@@ -5,4 +5,4 @@ pub mod Alone
 pub mod Pages
 pub mod Lanes
 pub mod Withdrawals
-pub mod Told
+pub mod Story

@@ -6,7 +6,7 @@ ghost use Rattle.pana_hall.specs.Living.{changes};
 ghost use Rattle.pana_history.specs.Lanes.{withdrawal_of};
 ghost use Rattle.pana_history.specs.Rows.{entry_row, head_mark, head_row, head_rows, lives_after, mark_of, rows_of, sign_of, touches};
 ghost use Rattle.pana_history.specs.inner.Lanes.{lanes_after};
-ghost use Rattle.pana_history.specs.inner.Told.{IsStory, last_lanes, told_rows};
+ghost use Rattle.pana_history.specs.inner.Story.{IsStory, last_lanes, story_rows};
 ghost use Rattle.pana_history.specs.inner.Withdrawals.{withdrawal_in};
 
 use crate::families::own_entries;
@@ -189,7 +189,7 @@ fn story_of(
 ) -> Result<Story, AllocError>
     requires story { IsStory last own.now }
     requires withdrawals { (n : ℕ) → 0 < n → n ≤ last → withdrawal_in withdrawals.now n ≡ withdrawal_of own.now n }
-    ensures rows { IfOk result (λ story. story.rows.items ≡ told_rows own.now) }
+    ensures rows { IfOk result (λ story. story.rows.items ≡ story_rows own.now) }
     ensures lanes { IfOk result (λ story. story.lanes.items ≡ last_lanes own.now) }
 {
     let mut lanes = empty_lanes(alloc, own)?;

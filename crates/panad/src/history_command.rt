@@ -89,7 +89,7 @@ fn write_svg(rt: &HostRuntime, name: &str, picture: &str) -> Result<ExitCode, Pr
 }
 
 /// Prints what is said of the place, or writes the picture.
-fn tell(rt: &HostRuntime, history: History, target: Target<'_>) -> Result<ExitCode, ProgramFault> {
+fn present(rt: &HostRuntime, history: History, target: Target<'_>) -> Result<ExitCode, ProgramFault> {
     if !history.is_known {
         return print_line(rt, history.text, 1);
     }
@@ -102,7 +102,7 @@ fn tell(rt: &HostRuntime, history: History, target: Target<'_>) -> Result<ExitCo
     }
 }
 
-/// Asks a session, and tells what it says of the place.
+/// Asks a session, and prints what it says of the place, or draws it.
 fn ask<S: Session>(
     rt: &HostRuntime,
     session: &mut S,
@@ -111,7 +111,7 @@ fn ask<S: Session>(
     target: Target<'_>,
 ) -> Result<ExitCode, ProgramFault> {
     match history_on(rt.alloc(), session, &asker()?, place, target.form()) {
-        Ok(history) => tell(rt, history, target),
+        Ok(history) => present(rt, history, target),
         Err(Unexplained::NoAnswer) => report(rt, keeper.no_answer()),
         Err(Unexplained::Damaged(fault)) => {
             let text = format!(in rt.alloc(); "what came is no journal: {fault}")?;

@@ -23,7 +23,7 @@ use Rattle.pana_history.specs.Rows.{entry_row, entry_rows, head_rows, rows_of}
 use Rattle.pana_history.specs.declared.lane.Lane.{Lane}
 use Rattle.pana_history.specs.inner.Alone.{AreFit, IsFit}
 use Rattle.pana_history.specs.inner.Lanes as lanes
-use Rattle.pana_history.specs.inner.Told.{IsStory, counted, counted_before, last_lanes, told_row, told_rows}
+use Rattle.pana_history.specs.inner.Story.{IsStory, counted, counted_before, last_lanes, story_row, story_rows}
 use Rattle.pana_history.specs.inner.Withdrawals.{counts}
 use Rattle.pana_history.proofs.Fit.{each_reverse, reverse-cons}
 use Rattle.pana_history.proofs.Own.{counted_is}
@@ -125,16 +125,16 @@ module _ (n : ℕ) (copies : List Copy) (below : AreBelow n copies) where
 abbrev pub lanes_so_far : List Entry → List Entry → List Lane
 lanes_so_far own before = lanes_in (copies_of (filter (counts own) before)) own
 
+empty_each : (numbers : List ℕ) → map lanes.empty_lane numbers ≡ map (lane_in (copies_of [])) numbers
+unfolding copies_of
+empty_each [] = refl
+empty_each (c ∷ numbers) = ap (λ l. lanes.empty_lane c ∷ l) (empty_each numbers)
+
 pub no_lanes : (own : List Entry) → map lanes.empty_lane (made_by own) ≡ lanes_so_far own []
-no_lanes own = each (made_by own)
-  where
-    each : (numbers : List ℕ) → map lanes.empty_lane numbers ≡ map (lane_in (copies_of [])) numbers
-    unfolding copies_of
-    each [] = refl
-    each (c ∷ numbers) = ap (λ l. lanes.empty_lane c ∷ l) (each numbers)
+no_lanes own = empty_each (made_by own)
 
 module _ (last : ℕ) (own before : List Entry) (e : Entry) (later : List Entry) (is : own ≡ before ++ e ∷ later) (story : IsStory last own) where
-  pub next_row : told_row own e ≡ entry_row (lanes_so_far own before) (withdrawal_of own e.number) e
+  pub next_row : story_row own e ≡ entry_row (lanes_so_far own before) (withdrawal_of own e.number) e
   next_row =
       ap (λ l. entry_row (lanes_in (copies_of l) own) (withdrawal_of own e.number) e)
       (ap (λ l. filter (λ x. nat_lt x.number e.number) (filter (counts own) l)) is ∙ cut (counts own) 0 before e later (subst (AreRising (λ x. x.number) 0) is story.rising))
@@ -184,10 +184,10 @@ module _ (family : ℕ) (journal : List Entry) (accepted : IsAccepted 8 journal)
       found_own (filter (λ e. nat_lt e.number n) (effective journal)) (each_filter _ _ (effective journal) well) c of
       ∙ ap (λ l. copy_in (copies_of l) c) (filter_swap (λ e. families journal e.number == family) (λ e. nat_lt e.number n) (effective journal) ∙ ap (filter (λ e. nat_lt e.number n)) (sym (counted_is family journal accepted))))
 
-  rows_same : (entries : List Entry) → map (told_row (own_entries journal family)) entries
+  rows_same : (entries : List Entry) → map (story_row (own_entries journal family)) entries
       ≡ map (λ e. entry_row (lanes_in (copies_before journal e.number) (own_entries journal family)) (withdrawal_of (own_entries journal family) e.number) e) entries
   rows_same [] = refl
   rows_same (e ∷ entries) = ap₂ (λ r l. entry_row r (withdrawal_of (own_entries journal family) e.number) e ∷ l) (sym (before_same e.number)) (rows_same entries)
 
-  pub rows_are : head_rows (last_lanes (own_entries journal family)) ++ told_rows (own_entries journal family) ≡ rows_of journal family
+  pub rows_are : head_rows (last_lanes (own_entries journal family)) ++ story_rows (own_entries journal family) ≡ rows_of journal family
   rows_are = ap₂ (λ l rows. head_rows l ++ rows) (sym now_same) (rows_same (own_entries journal family))

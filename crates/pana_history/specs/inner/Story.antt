@@ -19,11 +19,11 @@ counted own = filter (counts own) own
 abbrev pub counted_before : List Entry → ℕ → List Copy
 counted_before own n = copies_of (filter (λ entry. nat_lt entry.number n) (counted own))
 
-abbrev pub told_row : List Entry → Entry → Drawn
-told_row own entry = entry_row (lanes_in (counted_before own entry.number) own) (withdrawal_of own entry.number) entry
+abbrev pub story_row : List Entry → Entry → Drawn
+story_row own entry = entry_row (lanes_in (counted_before own entry.number) own) (withdrawal_of own entry.number) entry
 
-abbrev pub told_rows : List Entry → List Drawn
-told_rows own = map (told_row own) own
+abbrev pub story_rows : List Entry → List Drawn
+story_rows own = map (story_row own) own
 
 -- the lanes at the end
 abbrev pub last_lanes : List Entry → List Lane
