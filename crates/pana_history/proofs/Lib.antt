@@ -10,3 +10,4 @@ pub mod Own
 pub mod Withdrawn
 pub mod Story
 pub mod Pictured
+pub mod Found

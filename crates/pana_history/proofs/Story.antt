@@ -13,7 +13,7 @@ use Rattle.pana_hall.specs.Living.{Copy, after_report, copies_of, copy_in, livin
 use Rattle.pana_hall.specs.inner.Spots.{spot_after, spot_in, spot_of}
 use Rattle.pana_hall.specs.laws.Layers.{AreRising}
 use Rattle.pana_hall.proofs.Words.{nat_tests, cases_eq, eq-eqb, eqb-true, ne_eqb, filter-append}
-use Rattle.pana_hall.proofs.Lists.{each_filter, each_passes, each_weaker, filter_swap, map_same}
+use Rattle.pana_hall.proofs.Lists.{each_filter, each_passes, each_right, filter_swap, map_same}
 use Rattle.pana_hall.proofs.Moves.{AreBelow, IsWell, Lives, Names, copies_fit, copies_of-family, copies_of-push, copy_in-family, found_number}
 use Rattle.pana_hall.proofs.Places.{copies_below, spots_report}
 use Rattle.pana_hall.proofs.Sound.{accepted_is_sound, effective_well}
@@ -134,6 +134,11 @@ pub no_lanes : (own : List Entry) → map lanes.empty_lane (made_by own) ≡ lan
 no_lanes own = empty_each (made_by own)
 
 module _ (last : ℕ) (own before : List Entry) (e : Entry) (later : List Entry) (is : own ≡ before ++ e ∷ later) (story : IsStory last own) where
+  -- the entry has a number of the journal
+  pub number_is : (0 < e.number) × (e.number ≤ last)
+  number_is =
+      (rises_to 0 before e later (subst (AreRising (λ x. x.number) 0) is story.rising), (each_right (λ x. x.number ≤ last) before (e ∷ later) (subst (AllByRecursion (λ x. x.number ≤ last)) is story.within)).0)
+
   pub next_row : story_row own e ≡ entry_row (lanes_so_far own before) (withdrawal_of own e.number) e
   next_row =
       ap (λ l. entry_row (lanes_in (copies_of l) own) (withdrawal_of own e.number) e)

@@ -122,6 +122,20 @@ pub fn family_entries(
     Ok(entries)
 }
 
+/// The entries, and this one behind them, if it is one of them.
+fn with_entry(
+    mut entries: Vec<Entry>,
+    entry: Entry,
+    is_own: bool,
+) -> Result<Vec<Entry>, AllocError>
+    ensures { IfOk result (λ more. more.items ≡ (if is_own then entries.items ++ entry ∷ [] else entries.items)) }
+{
+    if is_own {
+        entries.push(entry)?;
+    }
+    Ok(entries)
+}
+
 /// The entries of a family, also those that are withdrawn, in order. The journal is one that refuses none of its entries, as that of
 /// a hall.
 ///
@@ -139,9 +153,8 @@ pub(crate) fn own_entries(
     };
     let mut entries = Vec::new(alloc);
     for entry in journal.into_vec() {
-        if table.take(&entry)? == family {
-            entries.push(entry)?;
-        }
+        let is_own = table.take(&entry)? == family;
+        entries = with_entry(entries, entry, is_own)?;
     }
     Ok(entries)
 }

@@ -52,7 +52,7 @@ pub(crate) fn place_at(lanes: &[Lane], number: u64) -> Option<&Place>
 
 /// The place once more, if there is one.
 fn copy_of(place: Option<&Place>) -> Result<Option<Place>, AllocError>
-    ensures { IfOk result (λ copy. copy ≡ option_copied place) }
+    ensures { IfOk result (λ copy. copy ≡ option_copied place.entry) }
 {
     match place {
         Some(place) => Ok(Some(place.copy_of()?)),
@@ -62,7 +62,7 @@ fn copy_of(place: Option<&Place>) -> Result<Option<Place>, AllocError>
 
 /// The lane, where the copy with this number is put at a place or taken away.
 fn put(lane: Lane, number: u64, place: Option<&Place>) -> Result<Lane, AllocError>
-    ensures { IfOk result (λ lane'. lane' ≡ put number (option_copied place) lane) }
+    ensures { IfOk result (λ lane'. lane' ≡ put number (option_copied place.entry) lane) }
 {
     if lane.copy == number {
         Ok(Lane {
@@ -81,7 +81,7 @@ fn put_in(
     number: u64,
     place: Option<&Place>,
 ) -> Result<Vec<Lane>, AllocError>
-    ensures { IfOk result (λ after. after.items ≡ map (put number (option_copied place)) lanes.items) }
+    ensures { IfOk result (λ after. after.items ≡ map (put number (option_copied place.entry)) lanes.items) }
 {
     let mut after = Vec::with_capacity(alloc, lanes.len())?;
     for lane in lanes {

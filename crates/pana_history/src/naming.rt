@@ -11,7 +11,7 @@ use std::alloc::{AllocError, Global};
 
 /// A copy's place, or its number where it doesn't live.
 fn name_by(alloc: Global, number: u64, place: Option<&Place>) -> Result<String, AllocError>
-    ensures { IfOk result (λ name. string_bytes name ≡ name_by number (option_copied place)) }
+    ensures { IfOk result (λ name. string_bytes name ≡ name_by number (option_copied place.entry)) }
 {
     match place {
         Some(place) => place_name(alloc, place),
@@ -28,29 +28,39 @@ fn copy_name(alloc: Global, lanes: &[Lane], number: u64) -> Result<String, Alloc
 
 /// Where a copy is now.
 fn now_text(alloc: Global, place: Option<&Place>) -> Result<String, AllocError>
-    ensures { IfOk result (λ name. string_bytes name ≡ now_text (option_copied place)) }
+    ensures { IfOk result (λ name. string_bytes name ≡ now_text (option_copied place.entry)) }
 {
     match place {
         Some(place) => place_name(alloc, place),
-        None => String::from(alloc, "gone"),
+        None => String::from_str(alloc, "gone"),
     }
 }
 
 /// Two copies.
-fn two_copies(
-    alloc: Global,
-    lanes: &[Lane],
-    a: u64,
-    between: &str,
-    b: u64,
-) -> Result<String, AllocError>
-    ensures { IfOk result (λ text. string_bytes text ≡ copy_name lanes.now a ++ (between.now ++ copy_name lanes.now b)) }
+fn two_copies(alloc: Global, lanes: &[Lane], a: u64, b: u64) -> Result<String, AllocError>
+    ensures { IfOk result (λ text. string_bytes text ≡ copy_name lanes.now a ++ (codes " and " ++ copy_name lanes.now b)) }
 {
     let first = copy_name(alloc, lanes, a)?;
     let first = first.as_str();
     let second = copy_name(alloc, lanes, b)?;
     let second = second.as_str();
-    format!(in alloc; "{first}{between}{second}")
+    format!(in alloc; "{first} and {second}")
+}
+
+/// A copy that is no more, and its heir.
+fn copy_with_heir(
+    alloc: Global,
+    lanes: &[Lane],
+    number: u64,
+    heir: u64,
+) -> Result<String, AllocError>
+    ensures { IfOk result (λ text. string_bytes text ≡ copy_name lanes.now number ++ (codes " with heir " ++ copy_name lanes.now heir)) }
+{
+    let copy = copy_name(alloc, lanes, number)?;
+    let copy = copy.as_str();
+    let heir = copy_name(alloc, lanes, heir)?;
+    let heir = heir.as_str();
+    format!(in alloc; "{copy} with heir {heir}")
 }
 
 /// A copy that gets to a place.
@@ -74,13 +84,13 @@ fn subject_text(alloc: Global, lanes: &[Lane], report: &Report) -> Result<String
         Report::Relocate { copy, place } => copy_to(alloc, lanes, *copy, place),
         Report::Edit { copy, .. } | Report::Note { copy, .. } => copy_name(alloc, lanes, *copy),
         Report::Reconcile { a, b, .. } | Report::Merge { a, b, .. } => {
-            two_copies(alloc, lanes, *a, " and ", *b)
+            two_copies(alloc, lanes, *a, *b)
         }
         Report::Remove { copy, heir: None } => copy_name(alloc, lanes, *copy),
         Report::Remove {
             copy,
             heir: Some(heir),
-        } => two_copies(alloc, lanes, *copy, " with heir ", *heir),
+        } => copy_with_heir(alloc, lanes, *copy, *heir),
         Report::Confirm { entry } | Report::Withdraw { entry } => format!(in alloc; "{entry}"),
     }
 }

@@ -1,6 +1,6 @@
 //! Rows as a picture in SVG.
 ghost use Rattle.std.specs.Prelude.{◌≡◌, ◌++◌, IfOk, OnOk, string_bytes};
-ghost use Rattle.pana_history.specs.Svg.{line_path, line_paths, row_class, row_group, row_groups, sign_shape, sign_shapes, style, svg_text, width_of, xml_char, xml_text};
+ghost use Rattle.pana_history.specs.Svg.{line_path, line_paths, row_class, row_group, row_groups, row_width, sign_shape, sign_shapes, style, svg_text, width_of, xml_char, xml_text};
 
 use crate::mark::{Mark, Sign};
 use crate::row::Row;
