@@ -52,11 +52,15 @@ abbrev pub row_class : Bool → List ℕ
 row_class true = codes " class=\"w\""
 row_class false = []
 
+-- how far the text of a row stands from the left
+abbrev pub text_x : Drawn → ℕ
+text_x row = 16 * length row.marks + 20
+
 -- a row at this distance from the top
 abbrev pub row_group : ℕ → Drawn → List ℕ
 row_group y row =
     codes "<g" ++ (row_class row.is_struck ++ (codes " transform=\"translate(0 " ++ (decimal y ++ (codes ")\"><path d=\"" ++ (line_paths 16 row.marks
-    ++ (codes "\"/>" ++ (sign_shapes 16 row.marks ++ (codes "<text x=\"" ++ (decimal (16 * length row.marks + 20) ++ (codes "\" y=\"14\">" ++ (xml_text row.text ++ codes "</text></g>\n")))))))))))
+    ++ (codes "\"/>" ++ (sign_shapes 16 row.marks ++ (codes "<text x=\"" ++ (decimal (text_x row) ++ (codes "\" y=\"14\">" ++ (xml_text row.text ++ codes "</text></g>\n")))))))))))
 
 abbrev pub row_groups : ℕ → List Drawn → List ℕ
 row_groups y [] = []
@@ -71,11 +75,14 @@ row_width row = 16 * length row.marks + 9 * length row.text + 40
 abbrev pub width_of : List Drawn → ℕ
 width_of rows = fold (λ width row. max width (row_width row)) 0 rows
 
+abbrev pub height_of : List Drawn → ℕ
+height_of rows = 20 * length rows
+
 -- the colours, in the light and in the dark
 abbrev pub style : List ℕ
 style = codes "<style>rect{fill:#ffffff}text{font:14px monospace;white-space:pre;fill:#1f2328}path{fill:none;stroke:#59636e;stroke-width:2}circle{fill:#0969da}.n{fill:none;stroke:#59636e;stroke-width:2}.x{stroke:#d1242f}.w text{fill:#59636e;text-decoration:line-through}@media (prefers-color-scheme:dark){rect{fill:#0d1117}text{fill:#f0f6fc}path,.n{stroke:#9198a1}circle{fill:#4493f8}.n{fill:none}.x{stroke:#f85149}.w text{fill:#9198a1}}</style>\n"
 
 abbrev pub svg_text : List Drawn → List ℕ
 svg_text rows =
-    codes "<svg xmlns=\"http://www.w3.org/2000/svg\" width=\"" ++ (decimal (width_of rows) ++ (codes "\" height=\"" ++ (decimal (20 * length rows) ++ (codes "\">\n"
+    codes "<svg xmlns=\"http://www.w3.org/2000/svg\" width=\"" ++ (decimal (width_of rows) ++ (codes "\" height=\"" ++ (decimal (height_of rows) ++ (codes "\">\n"
     ++ (style ++ (codes "<rect width=\"100%\" height=\"100%\"/>\n" ++ (row_groups 0 rows ++ codes "</svg>\n")))))))

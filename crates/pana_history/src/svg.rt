@@ -1,6 +1,6 @@
 //! Rows as a picture in SVG.
 ghost use Rattle.std.specs.Prelude.{◌≡◌, ◌++◌, IfOk, OnOk, string_bytes};
-ghost use Rattle.pana_history.specs.Svg.{line_path, line_paths, row_class, row_group, row_groups, row_width, sign_shape, sign_shapes, style, svg_text, width_of, xml_char, xml_text};
+ghost use Rattle.pana_history.specs.Svg.{height_of, line_path, line_paths, row_class, row_group, row_groups, row_width, sign_shape, sign_shapes, style, svg_text, text_x, width_of, xml_char, xml_text};
 
 use crate::mark::{Mark, Sign};
 use crate::row::Row;
@@ -102,6 +102,13 @@ fn row_class(is_struck: bool) -> &'static str
     if is_struck { " class=\"w\"" } else { "" }
 }
 
+/// How far the text of a row stands from the left.
+fn text_x(row: &Row) -> u128
+    ensures { result ≡ text_x row.now }
+{
+    LANE * row.marks().len() as u128 + 20
+}
+
 /// A row at this distance from the top.
 fn row_group(alloc: Global, y: u128, row: &Row) -> Result<String, AllocError>
     ensures { IfOk result (λ text. string_bytes text ≡ row_group y row.now) }
@@ -111,7 +118,7 @@ fn row_group(alloc: Global, y: u128, row: &Row) -> Result<String, AllocError>
     let lines = lines.as_str();
     let shapes = sign_shapes(alloc, row.marks())?;
     let shapes = shapes.as_str();
-    let x = LANE * row.marks().len() as u128 + 20;
+    let x = text_x(row);
     let words = xml_text(alloc, row.text())?;
     let words = words.as_str();
     format!(in alloc;
@@ -150,12 +157,19 @@ fn width_of(rows: &[Row]) -> u128
     width
 }
 
+/// How high all rows are.
+fn height_of(rows: &[Row]) -> u128
+    ensures { result ≡ height_of rows.now }
+{
+    ROW * rows.len() as u128
+}
+
 /// The rows as a picture in SVG, which can be read on light and on dark ground.
 pub(crate) fn svg_text(alloc: Global, rows: &[Row]) -> Result<String, AllocError>
     ensures { IfOk result (λ text. string_bytes text ≡ svg_text rows.now) }
 {
     let width = width_of(rows);
-    let height = ROW * rows.len() as u128;
+    let height = height_of(rows);
     let groups = row_groups(alloc, rows)?;
     let groups = groups.as_str();
     format!(in alloc;
