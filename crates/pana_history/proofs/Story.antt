@@ -71,7 +71,7 @@ fit_at before e later fit =
 -- Lanes behind a report.
 
 place_spot : (copies : List Copy) (c : ℕ) → place_in copies c ≡ option_map (λ s. s.place) (spot_in copies c)
-place_spot copies c = elim (copy_in copies c) as (λ o. option_map (λ x. x.place) o ≡ option_map (λ s. s.place) (option_map spot_of o)) [ | None ↦ refl | Some x ↦ refl ]
+place_spot copies c = elim (copy_in copies c) as (λ o. option_map (λ x. x.place) o ≡ option_map (λ s. s.place) (option_map spot_of o)) [ None ↦ refl | Some x ↦ refl ]
 
 lane_put : (copies after : List Copy) (n : ℕ) (to : Option Place) (c : ℕ) → place_in after c ≡ cond (c == n) to (place_in copies c) → lane_in after c ≡ lanes.put n to (lane_in copies c)
 lane_put copies after n to c is = elim (cases_eq c n) [

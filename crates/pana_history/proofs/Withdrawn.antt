@@ -80,7 +80,6 @@ behind table (e ∷ entries) n some within =
 -- so the table has the withdrawals of all entries
 pub all_noted : (last : ℕ) (entries : List Entry) (n : ℕ) → 0 < n → n ≤ last → withdrawal_in (behind_all (replicate last None) entries) n ≡ withdrawal_of entries n
 all_noted last entries n some within =
-    let whole = length-replicate last None in
     let inside : n - 1 < last = omega arith in
-    behind (replicate last None) entries n some (subst (λ k. n ≤ k) (sym whole) within)
+    behind (replicate last None) entries n some (subst (λ k. n ≤ k) (sym (length-replicate last None)) within)
     ∙ ap (λ o. option_or o (withdrawal_of entries n)) (at (replicate last None) n some ∙ get_or-replicate last (n - 1) None None inside)

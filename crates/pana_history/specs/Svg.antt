@@ -56,11 +56,18 @@ row_class false = []
 abbrev pub text_x : Drawn → ℕ
 text_x row = 16 * length row.marks + 20
 
--- a row at this distance from the top
+-- how the group of a row begins, at this distance from the top
+abbrev pub group_head : ℕ → Bool → List ℕ
+group_head y is_struck = codes "<g" ++ (row_class is_struck ++ (codes " transform=\"translate(0 " ++ (decimal y ++ codes ")\">")))
+
+-- a row's text, at this distance from the left
+abbrev pub text_element : ℕ → List ℕ → List ℕ
+text_element x text = codes "<text x=\"" ++ (decimal x ++ (codes "\" y=\"14\">" ++ (xml_text text ++ codes "</text>")))
+
+-- a row at this distance from the top: the lines of its lanes, the shapes over them, and its text
 abbrev pub row_group : ℕ → Drawn → List ℕ
 row_group y row =
-    codes "<g" ++ (row_class row.is_struck ++ (codes " transform=\"translate(0 " ++ (decimal y ++ (codes ")\"><path d=\"" ++ (line_paths 16 row.marks
-    ++ (codes "\"/>" ++ (sign_shapes 16 row.marks ++ (codes "<text x=\"" ++ (decimal (text_x row) ++ (codes "\" y=\"14\">" ++ (xml_text row.text ++ codes "</text></g>\n")))))))))))
+    group_head y row.is_struck ++ (codes "<path d=\"" ++ (line_paths 16 row.marks ++ (codes "\"/>" ++ (sign_shapes 16 row.marks ++ (text_element (text_x row) row.text ++ codes "</g>\n")))))
 
 abbrev pub row_groups : ℕ → List Drawn → List ℕ
 row_groups y [] = []
@@ -78,11 +85,13 @@ width_of rows = fold (λ width row. max width (row_width row)) 0 rows
 abbrev pub height_of : List Drawn → ℕ
 height_of rows = 20 * length rows
 
--- the colours, in the light and in the dark
+-- the colours, in the light and in the dark, and the ground
 abbrev pub style : List ℕ
-style = codes "<style>rect{fill:#ffffff}text{font:14px monospace;white-space:pre;fill:#1f2328}path{fill:none;stroke:#59636e;stroke-width:2}circle{fill:#0969da}.n{fill:none;stroke:#59636e;stroke-width:2}.x{stroke:#d1242f}.w text{fill:#59636e;text-decoration:line-through}@media (prefers-color-scheme:dark){rect{fill:#0d1117}text{fill:#f0f6fc}path,.n{stroke:#9198a1}circle{fill:#4493f8}.n{fill:none}.x{stroke:#f85149}.w text{fill:#9198a1}}</style>\n"
+style = codes "<style>rect{fill:#ffffff}text{font:14px monospace;white-space:pre;fill:#1f2328}path{fill:none;stroke:#59636e;stroke-width:2}circle{fill:#0969da}.n{fill:none;stroke:#59636e;stroke-width:2}.x{stroke:#d1242f}.w text{fill:#59636e;text-decoration:line-through}@media (prefers-color-scheme:dark){rect{fill:#0d1117}text{fill:#f0f6fc}path,.n{stroke:#9198a1}circle{fill:#4493f8}.n{fill:none}.x{stroke:#f85149}.w text{fill:#9198a1}}</style>\n<rect width=\"100%\" height=\"100%\"/>\n"
+
+-- how the picture begins, so wide and so high
+abbrev pub svg_head : ℕ → ℕ → List ℕ
+svg_head width height = codes "<svg xmlns=\"http://www.w3.org/2000/svg\" width=\"" ++ (decimal width ++ (codes "\" height=\"" ++ (decimal height ++ codes "\">\n")))
 
 abbrev pub svg_text : List Drawn → List ℕ
-svg_text rows =
-    codes "<svg xmlns=\"http://www.w3.org/2000/svg\" width=\"" ++ (decimal (width_of rows) ++ (codes "\" height=\"" ++ (decimal (height_of rows) ++ (codes "\">\n"
-    ++ (style ++ (codes "<rect width=\"100%\" height=\"100%\"/>\n" ++ (row_groups 0 rows ++ codes "</svg>\n")))))))
+svg_text rows = svg_head (width_of rows) (height_of rows) ++ (style ++ (row_groups 0 rows ++ codes "</svg>\n"))

@@ -123,11 +123,7 @@ pub fn family_entries(
 }
 
 /// The entries, and this one behind them, if it is one of them.
-fn with_entry(
-    mut entries: Vec<Entry>,
-    entry: Entry,
-    is_own: bool,
-) -> Result<Vec<Entry>, AllocError>
+fn with_entry(mut entries: Vec<Entry>, entry: Entry, is_own: bool) -> Result<Vec<Entry>, AllocError>
     ensures { IfOk result (λ more. more.items ≡ (if is_own then entries.items ++ entry ∷ [] else entries.items)) }
 {
     if is_own {

@@ -1,6 +1,6 @@
 //! Rows as a picture in SVG.
 ghost use Rattle.std.specs.Prelude.{◌≡◌, ◌++◌, IfOk, OnOk, string_bytes};
-ghost use Rattle.pana_history.specs.Svg.{height_of, line_path, line_paths, row_class, row_group, row_groups, row_width, sign_shape, sign_shapes, style, svg_text, text_x, width_of, xml_char, xml_text};
+ghost use Rattle.pana_history.specs.Svg.{group_head, height_of, line_path, line_paths, row_class, row_group, row_groups, row_width, sign_shape, sign_shapes, style, svg_head, svg_text, text_element, text_x, width_of, xml_char, xml_text};
 
 use crate::mark::{Mark, Sign};
 use crate::row::Row;
@@ -13,9 +13,12 @@ const LANE: u128 = 16;
 /// How far the rows stand from each other.
 const ROW: u128 = 20;
 
-/// The colours, in the light and in the dark.
-const STYLE: &str =
-    "<style>rect{fill:#ffffff}text{font:14px monospace;white-space:pre;fill:#1f2328}path{fill:none;stroke:#59636e;stroke-width:2}circle{fill:#0969da}.n{fill:none;stroke:#59636e;stroke-width:2}.x{stroke:#d1242f}.w text{fill:#59636e;text-decoration:line-through}@media (prefers-color-scheme:dark){rect{fill:#0d1117}text{fill:#f0f6fc}path,.n{stroke:#9198a1}circle{fill:#4493f8}.n{fill:none}.x{stroke:#f85149}.w text{fill:#9198a1}}</style>\n";
+/// The colours, in the light and in the dark, and the ground.
+fn style() -> &'static str
+    ensures { result.now ≡ style }
+{
+    "<style>rect{fill:#ffffff}text{font:14px monospace;white-space:pre;fill:#1f2328}path{fill:none;stroke:#59636e;stroke-width:2}circle{fill:#0969da}.n{fill:none;stroke:#59636e;stroke-width:2}.x{stroke:#d1242f}.w text{fill:#59636e;text-decoration:line-through}@media (prefers-color-scheme:dark){rect{fill:#0d1117}text{fill:#f0f6fc}path,.n{stroke:#9198a1}circle{fill:#4493f8}.n{fill:none}.x{stroke:#f85149}.w text{fill:#9198a1}}</style>\n<rect width=\"100%\" height=\"100%\"/>\n"
+}
 
 /// Appends a character as it stands between tags.
 fn push_char(text: &mut String, c: char) -> Result<(), AllocError>
@@ -109,21 +112,35 @@ fn text_x(row: &Row) -> u128
     LANE * row.marks().len() as u128 + 20
 }
 
+/// How the group of a row begins, at this distance from the top.
+fn group_head(alloc: Global, y: u128, is_struck: bool) -> Result<String, AllocError>
+    ensures { IfOk result (λ text. string_bytes text ≡ group_head y is_struck) }
+{
+    let class = row_class(is_struck);
+    format!(in alloc; "<g{class} transform=\"translate(0 {y})\">")
+}
+
+/// A row's text, at this distance from the left.
+fn text_element(alloc: Global, x: u128, text: &str) -> Result<String, AllocError>
+    ensures { IfOk result (λ element. string_bytes element ≡ text_element x text.now) }
+{
+    let words = xml_text(alloc, text)?;
+    let words = words.as_str();
+    format!(in alloc; "<text x=\"{x}\" y=\"14\">{words}</text>")
+}
+
 /// A row at this distance from the top.
 fn row_group(alloc: Global, y: u128, row: &Row) -> Result<String, AllocError>
     ensures { IfOk result (λ text. string_bytes text ≡ row_group y row.now) }
 {
-    let class = row_class(row.is_struck());
-    let lines = line_paths(alloc, row.marks())?;
-    let lines = lines.as_str();
-    let shapes = sign_shapes(alloc, row.marks())?;
-    let shapes = shapes.as_str();
-    let x = text_x(row);
-    let words = xml_text(alloc, row.text())?;
-    let words = words.as_str();
-    format!(in alloc;
-        "<g{class} transform=\"translate(0 {y})\"><path d=\"{lines}\"/>{shapes}<text x=\"{x}\" y=\"14\">{words}</text></g>\n"
-    )
+    let mut text = group_head(alloc, y, row.is_struck())?;
+    text.push_str("<path d=\"")?;
+    text.push_str(line_paths(alloc, row.marks())?.as_str())?;
+    text.push_str("\"/>")?;
+    text.push_str(sign_shapes(alloc, row.marks())?.as_str())?;
+    text.push_str(text_element(alloc, text_x(row), row.text())?.as_str())?;
+    text.push_str("</g>\n")?;
+    Ok(text)
 }
 
 /// The rows, each below the one before it.
@@ -164,15 +181,22 @@ fn height_of(rows: &[Row]) -> u128
     ROW * rows.len() as u128
 }
 
+/// How the picture begins, so wide and so high.
+fn svg_head(alloc: Global, width: u128, height: u128) -> Result<String, AllocError>
+    ensures { IfOk result (λ text. string_bytes text ≡ svg_head width height) }
+{
+    format!(in alloc;
+        "<svg xmlns=\"http://www.w3.org/2000/svg\" width=\"{width}\" height=\"{height}\">\n"
+    )
+}
+
 /// The rows as a picture in SVG, which can be read on light and on dark ground.
 pub(crate) fn svg_text(alloc: Global, rows: &[Row]) -> Result<String, AllocError>
     ensures { IfOk result (λ text. string_bytes text ≡ svg_text rows.now) }
 {
-    let width = width_of(rows);
-    let height = height_of(rows);
-    let groups = row_groups(alloc, rows)?;
-    let groups = groups.as_str();
-    format!(in alloc;
-        "<svg xmlns=\"http://www.w3.org/2000/svg\" width=\"{width}\" height=\"{height}\">\n{STYLE}<rect width=\"100%\" height=\"100%\"/>\n{groups}</svg>\n"
-    )
+    let mut text = svg_head(alloc, width_of(rows), height_of(rows))?;
+    text.push_str(style())?;
+    text.push_str(row_groups(alloc, rows)?.as_str())?;
+    text.push_str("</svg>\n")?;
+    Ok(text)
 }
