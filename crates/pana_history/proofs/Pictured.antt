@@ -1,5 +1,5 @@
 -- Rows and marks one behind the other, each further than the one before it.
-use Rattle.std.proofs.Common.{◌≡◌, ℕ, zero, suc, ◌+◌, ◌*◌, List, [], ◌∷◌, ◌++◌, length, refl, sym, ap, ap₂, ◌∙◌, arith, append_assoc, append-nil}
+use Rattle.std.proofs.Common.{◌≡◌, ℕ, ◌+◌, ◌*◌, List, [], ◌∷◌, ◌++◌, length, sym, ap, ◌∙◌, arith, append_assoc, append-nil}
 use Rattle.pana_history.specs.declared.mark.Mark.{Mark}
 use Rattle.pana_history.specs.Row.{Drawn}
 use Rattle.pana_history.specs.Svg.{line_path, line_paths, row_group, row_groups, sign_shape, sign_shapes}

@@ -1,5 +1,5 @@
 -- The rows of a file, entry by entry.
-use Rattle.std.proofs.Common.{◌≡◌, ℕ, ◌<◌, ◌≤◌, ◌==◌, ◌&&◌, Bool, true, false, cond, List, [], ◌∷◌, ◌++◌, filter, map, reverse, length, nat_lt, Option, Some, None, option_map, is_none, refl, sym, ap, ap₂, subst, ◌∙◌, inl, inr, arith, append_assoc, append-nil}
+use Rattle.std.proofs.Common.{◌≡◌, ℕ, ◌<◌, ◌≤◌, ◌==◌, Bool, true, false, cond, List, [], ◌∷◌, ◌++◌, filter, map, reverse, length, nat_lt, Option, Some, None, option_map, refl, sym, ap, ap₂, subst, ◌∙◌, inl, inr, arith, append_assoc, append-nil}
 use Rattle.std.specs.List.{AllByRecursion}
 use Rattle.std.proofs.lemmas.List.{reverse-append, reverse-reverse}
 use Rattle.pana_copies.specs.declared.place.Place.{Place}
@@ -7,19 +7,18 @@ use Rattle.pana_journal.specs.declared.entry.Entry.{Entry}
 use Rattle.pana_journal.specs.declared.report.Report.{Report}
 use Rattle.pana_journal.specs.declared.report.Report.TheVariants.{Confirm, Duplicate, Edit, Merge, Note, Reconcile, Register, Relocate, Remove, Withdraw}
 use Rattle.pana_hall.specs.Accepted.{IsAccepted}
-use Rattle.pana_hall.specs.Effective.{effective, is_of_copies}
+use Rattle.pana_hall.specs.Effective.{effective}
 use Rattle.pana_hall.specs.Family.{entries_of, families}
 use Rattle.pana_hall.specs.Living.{Copy, after_report, copies_of, copy_in, living}
 use Rattle.pana_hall.specs.inner.Spots.{spot_after, spot_in, spot_of}
 use Rattle.pana_hall.specs.laws.Layers.{AreRising}
 use Rattle.pana_hall.proofs.Words.{nat_tests, cases_eq, eq-eqb, eqb-true, ne_eqb, filter-append}
 use Rattle.pana_hall.proofs.Lists.{each_filter, each_passes, each_right, filter_swap, map_same}
-use Rattle.pana_hall.proofs.Moves.{AreBelow, IsWell, Lives, Names, copies_fit, copies_of-family, copies_of-push, copy_in-family, found_number}
+use Rattle.pana_hall.proofs.Moves.{AreBelow, IsWell, Lives, Names, copies_fit, copies_of-family, copies_of-push, copy_in-family}
 use Rattle.pana_hall.proofs.Places.{copies_below, spots_report}
 use Rattle.pana_hall.proofs.Sound.{accepted_is_sound, effective_well}
-use Rattle.pana_history.specs.Lacking.{family_entries}
 use Rattle.pana_history.specs.Lanes.{copies_before, lane_in, lanes_in, made_by, makes_copy, own_entries, place_in, withdrawal_of}
-use Rattle.pana_history.specs.Rows.{entry_row, entry_rows, head_rows, rows_of}
+use Rattle.pana_history.specs.Rows.{entry_row, head_rows, rows_of}
 use Rattle.pana_history.specs.declared.lane.Lane.{Lane}
 use Rattle.pana_history.specs.inner.Alone.{AreFit, IsFit}
 use Rattle.pana_history.specs.inner.Lanes as lanes

@@ -1,5 +1,5 @@
 -- Rows as lines of text.
-use Rattle.std.specs.Prelude.{ℕ, Bool, true, false, List, [], ◌∷◌, ◌++◌, codes}
+use Rattle.std.specs.Prelude.{ℕ, Bool, true, false, List, ◌++◌, codes}
 use Rattle.std.specs.List.{flat_map}
 use Rattle.pana_history.specs.declared.mark.Mark.{Mark}
 use Rattle.pana_history.specs.declared.mark.Sign.{Sign}

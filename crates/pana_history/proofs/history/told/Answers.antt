@@ -1,5 +1,5 @@
-use Rattle.std.proofs.Common.{◌≡◌, ℕ, List, Option, Some, is_some, sym, ap, ◌∙◌}
-use Rattle.pana_hall.specs.Living.{Copy, living}
+use Rattle.std.proofs.Common.{ℕ, Option, is_some, sym, ap, ◌∙◌}
+use Rattle.pana_hall.specs.Living.{Copy}
 use Rattle.pana_history.specs.History.{drawn_in, history_by}
 use Rattle.pana_history.specs.Rows.{rows_of}
 use Rattle.pana_history.proofs.Explained.{there}

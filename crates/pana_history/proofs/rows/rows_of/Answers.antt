@@ -1,9 +1,7 @@
 use Rattle.std.proofs.Common.{List, ℕ, ◌++◌, length, subst, sym, ap, ap₂, ◌∙◌}
-use Rattle.pana_journal.specs.declared.entry.Entry.{Entry}
 use Rattle.pana_history.specs.Lanes.{own_entries}
 use Rattle.pana_history.specs.Row.{Drawn}
 use Rattle.pana_history.specs.Rows.{head_rows}
-use Rattle.pana_history.specs.declared.lane.Lane.{Lane}
 use Rattle.pana_history.specs.inner.Story.{IsStory, last_lanes, story_rows}
 use Rattle.pana_history.proofs.Own.{story}
 use Rattle.pana_history.proofs.Story.{rows_are}

@@ -1,5 +1,4 @@
-use Rattle.std.proofs.Common.{◌≡◌, ℕ, ◌+◌, ◌&&◌, Bool, List, [], ◌∷◌, ◌++◌, cond, drop, is_none, map, Option, refl, rules, sym, take, ap, ap₂, ◌∙◌}
-use Rattle.pana_journal.specs.declared.entry.Entry.{Entry}
+use Rattle.std.proofs.Common.{ℕ, ◌+◌, ◌&&◌, Bool, List, [], ◌∷◌, ◌++◌, cond, drop, is_none, map, Option, refl, rules, sym, take, ap, ap₂, ◌∙◌}
 use Rattle.pana_hall.specs.Effective.{is_of_copies}
 use Rattle.pana_hall.proofs.Words.{map-append}
 use Rattle.pana_history.specs.Row.{Drawn}

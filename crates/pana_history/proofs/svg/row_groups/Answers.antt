@@ -1,6 +1,5 @@
-use Rattle.std.proofs.Common.{◌≡◌, ℕ, ◌+◌, ◌*◌, List, [], ◌∷◌, ◌++◌, length, string_bytes, take, sym, ap, ap₂, ◌∙◌, arith}
-use Rattle.pana_history.specs.Row.{Drawn}
-use Rattle.pana_history.specs.Svg.{row_group, row_groups}
+use Rattle.std.proofs.Common.{ℕ, List, ◌++◌, take, sym, ap, ap₂, ◌∙◌, arith}
+use Rattle.pana_history.specs.Svg.{row_groups}
 use Rattle.pana_history.proofs.Found.{next_item}
 use Rattle.pana_history.proofs.Pictured.{groups_push}
 use Rattle.std.proofs.lemmas.List.{length-take-le}

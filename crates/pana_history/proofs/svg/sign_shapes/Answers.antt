@@ -1,7 +1,6 @@
-use Rattle.std.proofs.Common.{ℕ, ◌+◌, ◌*◌, List, [], ◌∷◌, ◌++◌, false, get_or, take, sym, ap, ap₂, ◌∙◌, arith}
+use Rattle.std.proofs.Common.{ℕ, List, ◌++◌, false, get_or, take, sym, ap, ap₂, ◌∙◌, arith}
 use Rattle.std.proofs.lemmas.List.{length-take-le, take_more}
 use Rattle.pana_history.specs.Svg.{sign_shapes}
-use Rattle.pana_history.specs.declared.mark.Mark.{Mark}
 use Rattle.pana_history.specs.declared.mark.Sign.TheVariants.{Plain}
 use Rattle.pana_history.proofs.Pictured.{shapes_push}
 use Rattle.pana_history.proofs.svg.sign_shapes.Goals as goal

@@ -1,4 +1,4 @@
-use Rattle.std.proofs.Common.{ℕ, ◌<◌, ◌≤◌, None, Option, List, replicate, ap, ◌∙◌}
+use Rattle.std.proofs.Common.{ℕ, None, Option, List, replicate, ap, ◌∙◌}
 use Rattle.std.proofs.lemmas.List.{take_all}
 use Rattle.pana_history.specs.inner.Withdrawals.{behind_all, withdrawal_in}
 use Rattle.pana_history.proofs.Withdrawn.{all_noted}
