@@ -57,7 +57,7 @@ fn drawn(alloc: Global, journal: EntryList, family: u64, form: Form) -> Result<S
 }
 
 /// What is said of a place, by how the copy there stands.
-fn told(
+fn history_at(
     alloc: Global,
     journal: EntryList,
     standing: Option<CopyStanding>,
@@ -101,7 +101,7 @@ pub fn draw(
     let standing = standing_at(&mut hall, &place.device, place)?;
     // The contract of this call has that the hall refuses none of its entries.
     let _ = hall.length();
-    Ok(told(alloc, entries, standing, place, form)?)
+    Ok(history_at(alloc, entries, standing, place, form)?)
 }
 
 /// Asks a session for its journal, as the device `by`, and draws the history of the file whose copy is at the place: first a row

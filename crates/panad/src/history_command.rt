@@ -89,7 +89,11 @@ fn write_svg(rt: &HostRuntime, name: &str, picture: &str) -> Result<ExitCode, Pr
 }
 
 /// Prints what is said of the place, or writes the picture.
-fn present(rt: &HostRuntime, history: History, target: Target<'_>) -> Result<ExitCode, ProgramFault> {
+fn present(
+    rt: &HostRuntime,
+    history: History,
+    target: Target<'_>,
+) -> Result<ExitCode, ProgramFault> {
     if !history.is_known {
         return print_line(rt, history.text, 1);
     }

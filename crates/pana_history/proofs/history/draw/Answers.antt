@@ -10,7 +10,7 @@ returns-in_err-standing-clause-damaged c =
     let p = err_from_is_err_and c.from_residual-in_err-standing.result c.from_residual-in_err-standing.ensures.1 in
     subst (λ (r : Result History Unexplained). IfErr r (IsDamage c.args.journal)) (sym p.1) (subst (λ (e : Unexplained). IsDamage c.args.journal e) (sym p.2) tt)
 
-pub returns-in_err-told-clause-damaged : goal.returns-in_err-told-clause-damaged
-returns-in_err-told-clause-damaged c =
-    let p = err_from_is_err_and c.from_residual-in_err-told.result c.from_residual-in_err-told.ensures.1 in
+pub returns-in_err-history_at-clause-damaged : goal.returns-in_err-history_at-clause-damaged
+returns-in_err-history_at-clause-damaged c =
+    let p = err_from_is_err_and c.from_residual-in_err-history_at.result c.from_residual-in_err-history_at.ensures.1 in
     subst (λ (r : Result History Unexplained). IfErr r (IsDamage c.args.journal)) (sym p.1) (subst (λ (e : Unexplained). IsDamage c.args.journal e) (sym p.2) tt)

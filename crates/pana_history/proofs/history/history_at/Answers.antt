@@ -3,7 +3,7 @@ use Rattle.pana_hall.specs.Living.{Copy}
 use Rattle.pana_history.specs.History.{drawn_in, history_by}
 use Rattle.pana_history.specs.Rows.{rows_of}
 use Rattle.pana_history.proofs.Explained.{there}
-use Rattle.pana_history.proofs.history.told.Goals as goal
+use Rattle.pana_history.proofs.history.history_at.Goals as goal
 
 pub returns-in_ok-drawn-in-Some : goal.returns-in_ok-drawn-in-Some
 returns-in_ok-drawn-in-Some c =
