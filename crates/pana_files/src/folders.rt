@@ -3,7 +3,7 @@ ghost use Rattle.std.specs.Prelude.{◌<◌, IfOk, length};
 
 use crate::fault::ProgramFault;
 use crate::keeper::Keeper;
-use crate::passed_over::{OwnFile, is_within, passed_over, root_patterns, slices_of};
+use crate::patterns::{OwnFile, is_within, passed_over, root_patterns, slices_of};
 use crate::progress::Progress;
 use crate::sums_file::{keep_sums, read_sums, sums_name};
 use pana_daemon::{Disks, PassedOver, Root, SystemDisks};
