@@ -157,10 +157,10 @@ def removed(room):
 
 
 def forms(room):
-    """With --json a line of JSON stands in place of the table, and with --quiet nothing does."""
+    """With --json a line of JSON for each copy stands in place of the table, and with --quiet nothing does."""
     for folder in (room.laptop, room.usb):
         (folder / "plan.txt").write_text("one")
-    yield from differs(room.track("--json"), (0, '{"status":[]}\n', ""))
+    yield from differs(room.track("--json"), (0, "", ""))
     (room.usb / "plan.txt").write_text("two")
     row = '{"copy":1,"device":"laptop","path":"plan.txt","state":"obsolete","with":{"copy":2,"device":"usb","path":"plan.txt"}}'
     yield from differs(room.track("--json"), (1, f'{{"status":[{row}]}}\n', ""))

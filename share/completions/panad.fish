@@ -39,7 +39,7 @@ complete -c panad -n '__panad_after track' -l empty -d 'Take an empty folder as 
 complete -c panad -n '__panad_after track' -l read-all -d 'Read all files'
 complete -c panad -n '__panad_after status' -l all -d 'List the newest copies too'
 complete -c panad -n '__panad_after track status' -l quiet -d 'Print no table'
-complete -c panad -n '__panad_after track status' -l json -d 'Print a line of JSON'
+complete -c panad -n '__panad_after track status' -l json -d 'Print a line of JSON for each copy'
 complete -c panad -n '__panad_after report' -a 'register duplicate edit reconcile merge relocate remove note confirm withdraw found missing'
 complete -c panad -n '__panad_after may-overwrite report' -l by -x -d 'The place of the other copy, or the device that reports'
 complete -c panad -n '__panad_after show' -l family -x -d 'Print the table of this family'

@@ -1,6 +1,6 @@
 -- What `track` answers, once folders are read.
 use Rattle.std.specs.Prelude.{◌≡◌, ◌⊎◌, ℕ, not, ◌&&◌, ◌||◌, Bool, true, false, List, [], ◌∷◌, ◌++◌, codes, string_bytes, filter, Result, Ok, Err}
-use Rattle.std.specs.List.{list_all}
+use Rattle.std.specs.List.{flat_map, list_all}
 use Rattle.std.specs.Str.{bytes_eq}
 use Rattle.pana_calls.specs.declared.call.Call.{Call}
 use Rattle.pana_calls.specs.declared.reply.Reply.TheVariants.{Status}
@@ -47,13 +47,21 @@ shows row folder = shows_by row folder.device folder.given
 abbrev pub shown_of : List ReadFolder → List StatusRow → List StatusRow
 shown_of folders rows = filter (λ row. list_all (shows row) folders) rows
 
--- the copies that are obsolete or in conflict: as a table with newest ones behind them, or as the line that answers a question for
--- the former, or not at all
+-- the line that answers a question for a copy that is obsolete or in conflict, where there is no other
+abbrev pub row_line : StatusRow → List ℕ
+row_line row = reply_text (Status (row ∷ [])) ++ codes "\n"
+
+-- a line for each, in order
+abbrev pub row_lines : List StatusRow → List ℕ
+row_lines rows = flat_map row_line rows
+
+-- the copies that are obsolete or in conflict: as a table with newest ones behind them, or as a line for each of the former, or not
+-- at all
 abbrev pub shown_rows : StatusForm → List StatusRow → List PlacedCopy → List ℕ
 shown_rows (Table terminal) [] [] = codes "nothing is obsolete or in conflict\n"
 shown_rows (Table terminal) [] (copy ∷ newest) = status_text terminal [] (copy ∷ newest)
 shown_rows (Table terminal) (row ∷ rows) newest = status_text terminal (row ∷ rows) newest
-shown_rows Json rows newest = reply_text (Status rows) ++ codes "\n"
+shown_rows Json rows newest = row_lines rows
 shown_rows Nothing rows newest = []
 
 -- 3 where something wasn't reported; else 1 where a copy is obsolete or in conflict; else 0

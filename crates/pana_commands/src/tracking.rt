@@ -4,7 +4,7 @@ ghost use Rattle.std.specs.Prelude.{◌≡◌, IfOk, IsErrOf, string_bytes};
 ghost use Rattle.std.specs.List.{list_all};
 ghost use Rattle.pana_track.specs.Calls.{Makes};
 ghost use Rattle.pana_track.specs.Status.{HasAll};
-ghost use Rattle.pana_commands.specs.Track.{AnswersTrack, HasNoAnswer, IsCut, TracksAll, shown_of, shown_rows, shows, status_by};
+ghost use Rattle.pana_commands.specs.Track.{AnswersTrack, HasNoAnswer, IsCut, TracksAll, row_line, row_lines, shown_of, shown_rows, shows, status_by};
 
 use crate::printout::Printout;
 use crate::untracked::Untracked;
@@ -21,7 +21,7 @@ use std::alloc::{AllocError, Global};
 pub enum StatusForm {
     /// As a table for people, in a terminal of this width, or where none is given in any.
     Table(Option<usize>),
-    /// As the line that answers a question for them.
+    /// As lines, each of which answers a question for one of them.
     Json,
     Nothing,
 }
@@ -112,6 +112,28 @@ fn table(
     print_status(alloc, terminal, rows, newest)
 }
 
+/// The line that answers a question for a copy that is obsolete or in conflict, where there is no other.
+fn row_line(alloc: Global, row: StatusRow) -> Result<String, AllocError>
+    ensures { IfOk result (λ text. string_bytes text ≡ row_line row) }
+{
+    let mut rows = Vec::new(alloc);
+    rows.push(row)?;
+    let mut text = encode(alloc, &Reply::Status(PlainList::from_vec(rows)))?;
+    text.push_str("\n")?;
+    Ok(text)
+}
+
+/// Such a line for each of these copies.
+fn row_lines(alloc: Global, rows: PlainList<StatusRow>) -> Result<String, AllocError>
+    ensures { IfOk result (λ text. string_bytes text ≡ row_lines rows) }
+{
+    let mut text = String::new(alloc);
+    for row in rows.into_vec() {
+        text.push_str(row_line(alloc, row)?.as_str())?;
+    }
+    Ok(text)
+}
+
 /// The copies that are obsolete or in conflict, as they are to be shown, and newest ones with them.
 pub(crate) fn shown_rows(
     alloc: Global,
@@ -123,11 +145,7 @@ pub(crate) fn shown_rows(
 {
     match form {
         StatusForm::Table(terminal) => table(alloc, terminal, rows.as_slice(), newest),
-        StatusForm::Json => {
-            let mut text = encode(alloc, &Reply::Status(rows))?;
-            text.push_str("\n")?;
-            Ok(text)
-        }
+        StatusForm::Json => row_lines(alloc, rows),
         StatusForm::Nothing => Ok(String::new(alloc)),
     }
 }
