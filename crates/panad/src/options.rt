@@ -77,9 +77,12 @@ pub fn keeper_of<'a>(words: &'a ArgMatches) -> Keeper<'a> {
 /// The command with the options for how copies are shown.
 pub fn with_forms<'a>(alloc: Global, command: Command<'a>) -> Result<Command<'a>, AllocError> {
     let quiet = flag(alloc, QUIET, "Print no table");
-    let json = flag(alloc, JSON, "Print a line of JSON for each copy in place of the table").conflicts_with(
-        QUIET,
-    )?;
+    let json = flag(
+        alloc,
+        JSON,
+        "Print a line of JSON for each copy in place of the table",
+    )
+    .conflicts_with(QUIET)?;
     command.arg(quiet)?.arg(json)
 }
 
