@@ -34,9 +34,6 @@ TRIED = re.compile(r"rt: must-fail (\S+): (refused, as it must be|NOT REFUSED|BA
 HOLLOW = "(only because a proof file names"
 TICKS = os.sysconf("SC_CLK_TCK")
 SECONDS_BETWEEN_LOOKS = 2
-# What a prover of a large crate has been seen to take, and something more.
-BYTES_A_LANE = 4_000_000_000
-AVAILABLE = re.compile(r"^MemAvailable:\s+(\d+) kB$", re.MULTILINE)
 
 
 def copy_to(room, chosen):
@@ -105,20 +102,10 @@ class Processors(threading.Thread):
         return found
 
 
-def lanes():
-    """How many crates rt is to work on at a time: one for each processor, as far as memory allows; 0 leaves it to rt."""
-    found = AVAILABLE.search(Path("/proc/meminfo").read_text(encoding="ascii"))
-    count = len(os.sched_getaffinity(0))
-    return count if found and int(found[1]) * 1024 >= count * BYTES_A_LANE else 0
-
-
 def run_ci(kit, room):
     """Runs rt ci in the folder and prints its lines, those of rt with the minutes so far: its status, lines and processor time."""
-    start, lines, count = time.monotonic(), [], lanes()
+    start, lines = time.monotonic(), []
     how = {"stdin": subprocess.DEVNULL, "stdout": subprocess.PIPE, "stderr": subprocess.STDOUT}
-    if count:
-        # By itself rt has the largest crates wait until nothing else runs, since it takes them for larger than they are.
-        how["env"] = {**os.environ, "RT_JOBS": str(count)}
     with subprocess.Popen([Path(kit) / "bin" / "rt", "ci"], cwd=room, errors="replace", text=True, **how) as ran:
         processors = Processors(ran.pid)
         processors.start()
