@@ -13,7 +13,7 @@ _panad_options() {
     load | scan | compare) printf '%s\n' --help ;;
     track) printf '%s\n' --journal --port --sums --empty --ignore --read-all --one-file-system --quiet --json --help ;;
     serve)
-      printf '%s\n' --port --sessions --journal --stay --track --every --ignore --one-file-system --hurry --idle --help
+      printf '%s\n' --port --sessions --journal --track --every --ignore --one-file-system --hurry --idle --help
       ;;
   esac
 }

@@ -49,7 +49,6 @@ complete -c panad -n '__panad_after report' -l heir -x -d 'The place of the heir
 complete -c panad -n '__panad_after watch' -l from -x -d 'Begin with this entry'
 complete -c panad -n '__panad_after serve' -l port -x -d 'The port of 127.0.0.1'
 complete -c panad -n '__panad_after serve' -l sessions -x -d 'End after so many sessions'
-complete -c panad -n '__panad_after serve' -l stay -d 'Answer questions once the journal has failed'
 complete -c panad -n '__panad_after serve' -l track -d 'Track folders by contents'
 complete -c panad -n '__panad_after serve' -l every -x -d 'Look again after so many seconds'
 complete -c panad -n '__panad_after serve' -l hurry -x -d 'Time to a first line while others wait'

@@ -6,17 +6,18 @@ use Rattle.std.proofs.lemmas.List.FromFn.{length-map-range_with_len}
 use Rattle.std.proofs.Math.Seq.{take-append_seam}
 use Rattle.std.proofs.lemmas.Grind.{take_at_read}
 use Rattle.std.proofs.lemmas.Bool.Decides.{nat_tests}
-use Rattle.pana_calls.specs.declared.call.Call.{Call}
-use Rattle.pana_calls.specs.declared.answer.Answer.{Answer}
 use Rattle.pana_turn.specs.Closing.{HasAll, LacksOne, has_pass}
 use Rattle.pana_turn.specs.Passes.{DeskId, new_pass, new_passes}
+use Rattle.pana_scan.specs.declared.baseline.BaselineRow.{BaselineRow}
 use Rattle.pana_track.specs.Calls.{Asked, Makes}
 use Rattle.pana_daemon.specs.declared.folder.Look.{Look}
 use Rattle.pana_daemon.specs.Desk.{PassView}
+use Rattle.pana_daemon.specs.declared.request.Request.{Request}
+use Rattle.pana_daemon.specs.declared.request.Response.{Response}
 use Rattle.pana_daemon.specs.inner.Passes.{AreOf, AreOpen, HaveGrown}
-use Rattle.pana_daemon.specs.Scan.{Scans}
-use Rattle.pana_daemon.specs.Session.{GetsNone, GrowsTo, MakesCall}
-use Rattle.pana_daemon.proofs.Sessions.{grows_on, grows_same, call_grows, none_grows}
+use Rattle.pana_daemon.specs.Scan.{BreaksLook, KeepsLooks, Scans}
+use Rattle.pana_daemon.specs.Session.{BreaksOff, GetsNone, GrowsTo, MakesCall, Settles}
+use Rattle.pana_daemon.proofs.Sessions.{grows_on, grows_same, call_grows, none_grows, settled_grows, broken_grows}
 
 -- new passes with these numbers
 abbrev numbered : {S : Type 0} → DeskId S → List ℕ → List (PassView S)
@@ -92,16 +93,25 @@ from_either : {A B C : Type 0} → A ⊎ B → (A → C) → (B → C) → C
 from_either (inl a) f g = f a
 from_either (inr b) f g = g b
 
-module _ {S : Type 0} (step : S → List ℕ → Call → Answer → S → Type 0) (fails : S → List ℕ → Call → S → Type 0) where
-  made_grow : (old new : PassView S) (made : List Asked) → Makes (MakesCall step fails) old made new → GrowsTo old new
+module _ {S : Type 0} (steps : S → Request → Response → S → Type 0) where
+  made_grow : (old new : PassView S) (made : List Asked) → Makes (MakesCall steps) old made new → GrowsTo old new
   made_grow old new [] so = grows_same old new so
-  made_grow old new (one ∷ more) (mid, first, others) = grows_on old mid new (call_grows step fails old mid one.by one.call (Ok one.answer) first) (made_grow mid new more others)
+  made_grow old new (one ∷ more) (mid, first, others) = grows_on old mid new (call_grows steps old mid one.by one.call one.answer first) (made_grow mid new more others)
+
+  looks_grow : (device : List ℕ) (given : List Look) (old new : PassView S) (marks_old marks_new : List BaselineRow) → KeepsLooks (MakesCall steps) device (Settles steps) given old new marks_old marks_new → GrowsTo old new
+  looks_grow device [] old new marks_old marks_new so = grows_same old new so.0
+  looks_grow device (look ∷ given) old new marks_old marks_new (made, kept, marks, looks, settled, more) =
+      grows_on old kept new (grows_on old made kept (made_grow old made looks.made looks.calls) (settled_grows steps made kept settled)) (looks_grow device given kept new marks marks_new more)
+
+  breaks_grow : (device : List ℕ) (look : Look) (old new : PassView S) (marks : List BaselineRow) → BreaksLook (MakesCall steps) device (GetsNone steps) (BreaksOff steps) look old new marks → GrowsTo old new
+  breaks_grow device look old new marks (inl stops) = grows_on old stops.mid new (made_grow old stops.mid stops.made stops.calls) (none_grows steps stops.mid new device stops.call stops.ends)
+  breaks_grow device look old new marks (inr (made, left, looks, broken)) = grows_on old made new (made_grow old made looks.made looks.calls) (broken_grows steps made new broken)
 
   pub scanning_grows : {F : Type 0} (gives : F → Option Look → F → Type 0) (device : List ℕ) (folder_old folder_new : F) (old new : PassView S)
-      → Scans gives (MakesCall step fails) (GetsNone step fails) device folder_old folder_new old new → GrowsTo old new
+      → Scans gives (MakesCall steps) (GetsNone steps) (Settles steps) (BreaksOff steps) device folder_old folder_new old new → GrowsTo old new
   scanning_grows gives device folder_old folder_new old new s =
-      grows_on old s.mid new (made_grow old s.mid s.made s.calls)
-      (from_either s.ends (λ e. grows_same s.mid new e.1) (λ e. grows_on s.mid e.1.mid new (made_grow s.mid e.1.mid e.0 e.1.calls) (none_grows step fails e.1.mid new device e.1.call e.1.failed)))
+      grows_on old s.mid new (looks_grow device s.given old s.mid [] s.baseline s.keeps)
+      (from_either s.ends (λ e. grows_same s.mid new e.1) (λ e. breaks_grow device e.0 s.mid new s.baseline e.2))
 
 -- a vector whose first `n` places are written again has what was written, where it had so many items
 pub as_left : {X : Type 0} (n : ℕ) (new old : List X) → length new ≡ length old → length old ≡ n → take n (new ++ drop (length new) old) ≡ new

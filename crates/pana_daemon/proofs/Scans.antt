@@ -25,8 +25,8 @@ use Rattle.pana_track.specs.declared.read_fault.ReadFault.{ReadFault}
 use Rattle.pana_track.specs.declared.reading.TrackedListing.{TrackedListing}
 use Rattle.pana_track.proofs.Reported.{makes_on}
 use Rattle.pana_daemon.specs.declared.folder.Look.TheVariants.{Scanned, Tracked}
-use Rattle.pana_daemon.specs.Scan.{Reports, Follow, done_as, settled_as}
-use Rattle.pana_daemon.specs.inner.Scan.{Asks, IsOwn, ReportsOne, ReportsSteps, ScansOnce, StopsLook, StopsReporting, StopsScan, StopsTracking, TracksOnce, reporting}
+use Rattle.pana_daemon.specs.Scan.{Follow, Reports, StopsLook, done_as, settled_as}
+use Rattle.pana_daemon.specs.inner.Scan.{Asks, IsOwn, ReportsOne, ReportsSteps, ScansOnce, StopsReporting, StopsScan, StopsTracking, TracksOnce, reporting}
 
 module _ {S : Type 0} (step : S → List ℕ → Call → Answer → S → Type 0) where
   -- one call
@@ -246,7 +246,7 @@ module _ {S : Type 0} (step : S → List ℕ → Call → Answer → S → Type 
     none_of (Err fault) odd = absurd odd
 
   -- a scan that was broken off is a look that was
-  pub scan_stops_look : (given : Result Contents ScanFault) (old new : S) (marks : List BaselineRow) → StopsScan step fails device given old new marks → StopsLook step fails device (Scanned given) old new marks
+  pub scan_stops_look : (given : Result Contents ScanFault) (old new : S) (marks : List BaselineRow) → StopsScan step fails device given old new marks → StopsLook step device fails (Scanned given) old new marks
   scan_stops_look given old new marks s = record {
     mid = s.mid;
     made = s.made;
@@ -257,5 +257,5 @@ module _ {S : Type 0} (step : S → List ℕ → Call → Answer → S → Type 
   }
 
   -- and so is tracking
-  pub tracking_stops_look : (given : Result TrackedListing ReadFault) (old new : S) (marks : List BaselineRow) → StopsTracking step fails device given old new → StopsLook step fails device (Tracked given) old new marks
+  pub tracking_stops_look : (given : Result TrackedListing ReadFault) (old new : S) (marks : List BaselineRow) → StopsTracking step fails device given old new → StopsLook step device fails (Tracked given) old new marks
   tracking_stops_look given old new marks s = record { mid = s.mid; made = s.made; calls = s.calls; call = s.call; is = λ answer. (marks, (s.is answer, refl)); ends = s.ends }

@@ -4,14 +4,12 @@ use denote.RattleType.{RattleType}
 use denote.Struct.Field.{row_field}
 use denote.Param.SendFields.{as_row_send, declared_send}
 use denote.Param.Send.{IsSend, IsSync, sendable, view_send, shr_send}
-use Rattle.std.specs.contracts.result.Result as results_row
-use Rattle.pana_wire.specs.contracts.message.Message as message
-use Rattle.pana_calls.specs.contracts.answer.Answer as answer
-use Rattle.pana_calls.specs.contracts.answer.NoAnswer as no_answer
 use Rattle.pana_calls.specs.declared.session.Session.{Ghosts}
 use Rattle.pana_turn.specs.contracts.desk.Desk as desk
 use Rattle.pana_turn.specs.contracts.pass.Pass as pass
 use Rattle.pana_turn.proofs.Sending as turns
+use Rattle.pana_daemon.specs.contracts.request.Request as request
+use Rattle.pana_daemon.specs.contracts.request.Response as response
 use Rattle.pana_daemon.specs.contracts.shared.Shared as shared
 use Rattle.pana_daemon.specs.contracts.shared.Shared.TheInside as shared_inside
 use Rattle.pana_daemon.specs.contracts.shared.SharedMachine.TheImpl as machine
@@ -25,11 +23,11 @@ module _ (S : RattleType) (g : Ghosts S.Denot) (s : IsSend S) where
   shared_send = view_send _ _ _ _ _ (declared_send (shared_inside.the_type S) (as_row_send (row_field S) s, tt))
 
   -- a pass of a desk may, and threads may share the desk
-  pub pass_send : IsSend (pass.the_row (shared.the_row S) message.the_row (results_row.the_row answer.the_row no_answer.the_row) (machine.ghosts S g machine.no_dict machine.no_dict))
-  pass_send = turns.pass_send (shared.the_row S) message.the_row (results_row.the_row answer.the_row no_answer.the_row) (machine.ghosts S g machine.no_dict machine.no_dict) shared_send
+  pub pass_send : IsSend (pass.the_row (shared.the_row S) request.the_row response.the_row (machine.ghosts S g machine.no_dict machine.no_dict))
+  pass_send = turns.pass_send (shared.the_row S) request.the_row response.the_row (machine.ghosts S g machine.no_dict machine.no_dict) shared_send
 
-  pub desk_sync : IsSync (desk.the_row (shared.the_row S) message.the_row (results_row.the_row answer.the_row no_answer.the_row) (machine.ghosts S g machine.no_dict machine.no_dict))
-  desk_sync = turns.desk_sync (shared.the_row S) message.the_row (results_row.the_row answer.the_row no_answer.the_row) (machine.ghosts S g machine.no_dict machine.no_dict) shared_send
+  pub desk_sync : IsSync (desk.the_row (shared.the_row S) request.the_row response.the_row (machine.ghosts S g machine.no_dict machine.no_dict))
+  desk_sync = turns.desk_sync (shared.the_row S) request.the_row response.the_row (machine.ghosts S g machine.no_dict machine.no_dict) shared_send
 
   pub session_send : (lft : NamedLft) (T G : RattleType) → IsSync T → IsSync G → IsSend (session.the_row lft S T G g)
   session_send lft T G t q = view_send _ _ _ _ _ (declared_send (session_inside.the_type lft S T G g) (shr_send _ _ T t, (shr_send _ _ _ desk_sync, (shr_send _ _ G q, (search sendable, (search sendable, (search sendable, (pass_send, tt))))))))

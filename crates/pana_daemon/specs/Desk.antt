@@ -1,21 +1,39 @@
--- The desk of a session that all share: what a call does to the session, and what contracts see of a pass.
-use Rattle.std.specs.Prelude.{ℕ, List, Result, Ok, Err}
+-- The desk of a session that all share: what a request does to the session, and what contracts see of a pass.
+use Rattle.std.specs.Prelude.{◌≡◌, ℕ, Bool, true, false, List}
 use Rattle.pana_calls.specs.declared.call.Call.{Call}
-use Rattle.pana_calls.specs.declared.answer.Answer.{Answer}
-use Rattle.pana_calls.specs.declared.answer.NoAnswer.{NoAnswer}
-use Rattle.pana_wire.specs.declared.message.Message.{Message}
+use Rattle.pana_calls.specs.declared.answer.Answer.{Answer as AnswerOf}
 use Rattle.pana_turn.specs.declared.finished_call.FinishedCall.{FinishedCall}
 use Rattle.pana_turn.specs.Passes.{PassView as ViewOf}
+use Rattle.pana_daemon.specs.declared.request.Request.{Request}
+use Rattle.pana_daemon.specs.declared.request.Request.TheVariants.{Make, Settle}
+use Rattle.pana_daemon.specs.declared.request.Response.{Response}
+use Rattle.pana_daemon.specs.declared.request.Response.TheVariants.{Answer, Settled, Nothing}
 
--- a call of a device, which was answered as this or has no answer, does what the session says of that
-abbrev pub SharedSteps : {S : Type 0} → (S → List ℕ → Call → Answer → S → Type 0) → (S → List ℕ → Call → S → Type 0) → S → Message → Result Answer NoAnswer → S → Type 0
-SharedSteps step fails old message (Ok answer) new = step old message.by message.call answer new
-SharedSteps step fails old message (Err none) new = fails old message.by message.call new
+-- A call of a device, which was answered as this or has no answer, does what the session says of that; and so it does where it
+-- settles, or can't.
+module _ {S : Type 0} (step : S → List ℕ → Call → AnswerOf → S → Type 0) (fails : S → List ℕ → Call → S → Type 0) (settles breaks_off : S → S → Type 0) where
+  abbrev pub RequestSteps : S → Request → Response → S → Type 0
+  RequestSteps old (Make message) (Answer answer) new = step old message.by message.call answer new
+  RequestSteps old (Make message) Settled new = ⊥
+  RequestSteps old (Make message) Nothing new = fails old message.by message.call new
+  RequestSteps old Settle (Answer answer) new = ⊥
+  RequestSteps old Settle Settled new = settles old new
+  RequestSteps old Settle Nothing new = breaks_off old new
+
+-- so does a session that answers every call, and keeps it once it is made
+abbrev pub AnsweredSteps : {S : Type 0} → (S → List ℕ → Call → AnswerOf → S → Type 0) → S → Request → Response → S → Type 0
+AnsweredSteps step = RequestSteps step (λ old by call new. ⊥) (λ old new. new ≡ old) (λ old new. ⊥)
+
+-- whether nothing has come of a request
+abbrev pub is_nothing : Response → Bool
+is_nothing (Answer answer) = false
+is_nothing Settled = false
+is_nothing Nothing = true
 
 -- a pass: its desk, its number there, and the history that it has seen
 abbrev pub PassView : Type 0 → Type 0
-PassView S = ViewOf S Message (Result Answer NoAnswer)
+PassView S = ViewOf S Request Response
 
--- a call that the desk has finished
+-- a request that the desk has finished
 abbrev pub Finished : Type 0 → Type 0
-Finished S = FinishedCall S Message (Result Answer NoAnswer)
+Finished S = FinishedCall S Request Response

@@ -1,24 +1,24 @@
 -- Callers before and after their work.
 use Rattle.std.specs.Prelude.{◌≡◌, ℕ, List, [], ◌∷◌, Option, Result, map}
-use Rattle.pana_calls.specs.declared.call.Call.{Call}
-use Rattle.pana_calls.specs.declared.answer.Answer.{Answer}
 use Rattle.pana_daemon.specs.declared.folder.Look.{Look}
 use Rattle.pana_daemon.specs.declared.connection.Connection.{Connection}
 use Rattle.pana_daemon.specs.declared.post.Caller.{Caller}
 use Rattle.pana_daemon.specs.declared.post.Post.{Post}
 use Rattle.pana_daemon.specs.declared.post.Post.TheVariants.{Door, Folder}
+use Rattle.pana_daemon.specs.declared.request.Request.{Request}
+use Rattle.pana_daemon.specs.declared.request.Response.{Response}
 use Rattle.pana_daemon.specs.Connection.{Works}
 use Rattle.pana_daemon.specs.Desk.{PassView}
 use Rattle.pana_daemon.specs.Scan.{Scans}
-use Rattle.pana_daemon.specs.Session.{MakesCall, GetsNone}
+use Rattle.pana_daemon.specs.Session.{BreaksOff, GetsNone, MakesCall, Settles}
 
-module _ {S D R W F : Type 0} (step : S → List ℕ → Call → Answer → S → Type 0) (fails : S → List ℕ → Call → S → Type 0)
+module _ {S D R W F : Type 0} (steps : S → Request → Response → S → Type 0)
     (gives : D → Option (Connection R W) → D → Type 0) (remaining : R → Option (List ℕ)) (contents : W → Option (List ℕ)) (finds : F → Option Look → F → Type 0) where
   -- a caller has done what it was to do, by its pass: it has served the connections of its door, or scanned its folder
   abbrev pub HasDone : Post D F → Post D F → PassView S → PassView S → Type 0
-  HasDone (Door door_old) (Door door_new) old new = Works step fails gives remaining contents door_old door_new old new
+  HasDone (Door door_old) (Door door_new) old new = Works steps gives remaining contents door_old door_new old new
   HasDone (Folder device_old folder_old) (Folder device_new folder_new) old new =
-      (device_new ≡ device_old) × Scans finds (MakesCall step fails) (GetsNone step fails) device_old.now folder_old folder_new old new
+      (device_new ≡ device_old) × Scans finds (MakesCall steps) (GetsNone steps) (Settles steps) (BreaksOff steps) device_old.now folder_old folder_new old new
   HasDone (Door door) (Folder device folder) old new = ⊥
   HasDone (Folder device folder) (Door door) old new = ⊥
 

@@ -89,33 +89,43 @@ IsLook device (Tracked given) old made new = IsTracking device given made × (ne
 abbrev pub IsNext : List ℕ → Look → List BaselineRow → List Asked → Call → Type 0
 IsNext device look old made call = (answer : Answer) → (new : List BaselineRow) × IsLook device look old (made ++ record { by = device; call = call; answer = answer } ∷ []) new
 
--- the calls of looks, one after another, each of which begins with the baseline that the one before has left
-abbrev pub AreLooks : List ℕ → List BaselineRow → List Look → List Asked → List BaselineRow → Type 0
-AreLooks device old [] made new = (made ≡ []) × (new ≡ old)
-AreLooks device old (look ∷ more) made new =
-    (first : List Asked) × (others : List Asked) × (mid : List BaselineRow) × IsLook device look old first mid × AreLooks device mid more others new × (made ≡ first ++ others)
+-- ---- a session
 
--- one more look, of what the folder gives next, is cut short: its next call has no answer
-pub record CutsShort {F S : Type 0} (gives : F → Option Look → F → Type 0) (step : S → List ℕ → Call → Answer → S → Type 0) (fails : S → List ℕ → Call → S → Type 0)
-    (device : List ℕ) (baseline : List BaselineRow) (folder_old folder_new : F) (old new : S) (part : List Asked) : Type 0 where
-  pub next : Look
-  pub mid : S
-  pub call : Call
-  pub gave : gives folder_old (Some next) folder_new
-  pub calls : Makes step old part mid
-  pub is : IsNext device next baseline part call
-  pub failed : fails mid device call new
+module _ {S : Type 0} (step : S → List ℕ → Call → Answer → S → Type 0) (device : List ℕ) where
+  -- the session makes the calls of a look
+  pub record LooksOnce (look : Look) (old new : S) (marks_old marks_new : List BaselineRow) : Type 0 where
+    pub made : List Asked
+    pub calls : Makes step old made new
+    pub is : IsLook device look marks_old made marks_new
 
--- a scanner's work: it takes what the folder gives until that gives no more, or a call has no answer, and the calls that the
--- session makes are those of the looks that were given, from an empty baseline on
-pub record Scans {F S : Type 0} (gives : F → Option Look → F → Type 0) (step : S → List ℕ → Call → Answer → S → Type 0) (fails : S → List ℕ → Call → S → Type 0)
+  -- the session makes the first calls of a look, and then one has no answer
+  pub record StopsLook (fails : S → List ℕ → Call → S → Type 0) (look : Look) (old new : S) (marks : List BaselineRow) : Type 0 where
+    pub mid : S
+    pub made : List Asked
+    pub calls : Makes step old made mid
+    pub call : Call
+    pub is : IsNext device look marks made call
+    pub ends : fails mid device call new
+
+  -- the session makes the calls of looks, one after another, each of which begins with the baseline that the one before has left,
+  -- and settles behind each
+  abbrev pub KeepsLooks : (S → S → Type 0) → List Look → S → S → List BaselineRow → List BaselineRow → Type 0
+  KeepsLooks settles [] old new marks_old marks_new = (new ≡ old) × (marks_new ≡ marks_old)
+  KeepsLooks settles (look ∷ more) old new marks_old marks_new =
+      (made : S) × (kept : S) × (marks : List BaselineRow) × LooksOnce look old made marks_old marks × settles made kept × KeepsLooks settles more kept new marks marks_new
+
+  -- a look is cut short: one of its calls has no answer, or all were made, and the session couldn't settle behind them
+  abbrev pub BreaksLook : (S → List ℕ → Call → S → Type 0) → (S → S → Type 0) → Look → S → S → List BaselineRow → Type 0
+  BreaksLook fails breaks_off look old new marks =
+      StopsLook fails look old new marks ⊎ ((made : S) × (left : List BaselineRow) × LooksOnce look old made marks left × breaks_off made new)
+
+-- A scanner's work: it takes what the folder gives until that gives no more, or a look is cut short, from an empty baseline on.
+pub record Scans {F S : Type 0} (gives : F → Option Look → F → Type 0) (step : S → List ℕ → Call → Answer → S → Type 0) (fails : S → List ℕ → Call → S → Type 0) (settles breaks_off : S → S → Type 0)
     (device : List ℕ) (folder_old folder_new : F) (old new : S) : Type 0 where
   pub given : List Look
-  pub made : List Asked
   pub baseline : List BaselineRow
   pub folder_mid : F
   pub mid : S
   pub folder : Gives gives folder_old given folder_mid
-  pub calls : Makes step old made mid
-  pub are : AreLooks device [] given made baseline
-  pub ends : (gives folder_mid None folder_new × (new ≡ mid)) ⊎ ((part : List Asked) × CutsShort gives step fails device baseline folder_mid folder_new mid new part)
+  pub keeps : KeepsLooks step device settles given old mid [] baseline
+  pub ends : (gives folder_mid None folder_new × (new ≡ mid)) ⊎ ((next : Look) × gives folder_mid (Some next) folder_new × BreaksLook step device fails breaks_off next mid new baseline)

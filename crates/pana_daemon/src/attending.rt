@@ -2,6 +2,7 @@
 ghost use Rattle.std.specs.Prelude.{◌≡◌, ◌<◌, ◌≤◌, IfOk, length, map, vec_capacity};
 ghost use Rattle.std.specs.List.{list_any};
 ghost use denote.Param.Send.{IsSync, IsSend};
+ghost use Rattle.pana_daemon.specs.Desk.{RequestSteps};
 ghost use Rattle.pana_daemon.specs.inner.Passes.{AreOpen};
 ghost use Rattle.pana_daemon.specs.Post.{HasDone, HaveDone, posted};
 ghost use Rattle.pana_daemon.specs.Serve.{Ends};
@@ -22,13 +23,13 @@ use std::sync::Wait;
 use std::thread;
 use std::thread::Threads;
 
-/// What is left once all have done what they were to do: the session that they shared, their posts, how many calls they
-/// made, and whether one of these has no answer.
+/// What is left once all have done what they were to do: the session that they shared, their posts, how many requests they
+/// made of it, and whether nothing has come of one of these.
 #[derive(Drop)]
 pub struct Ended<'a, S, D, F> {
     pub session: S,
     pub posts: Vec<Post<'a, D, F>>,
-    pub calls: u64,
+    pub requests: u64,
     pub unanswered: bool,
 }
 
@@ -73,16 +74,16 @@ fn run_all<
     D: Door + Send,
     F: Folder + Send,
 >(rt: &T, alloc: Global, callers: &mut [Caller<'_, '_, S, T, G, D, F>])
-    ensures { HaveDone S.step S.fails D.gives D.Reader.remaining D.Writer.contents F.gives
+    ensures { HaveDone (RequestSteps S.step S.fails S.settles S.breaks_off) D.gives D.Reader.remaining D.Writer.contents F.gives
         (map posted callers.old) (map posted callers.new) }
 {
     let run = move |_place: usize, caller: &mut Caller<'_, '_, S, T, G, D, F>|
-        ensures { HasDone S.step S.fails D.gives D.Reader.remaining D.Writer.contents F.gives caller.entry.now.post caller.exit.now.post caller.entry.now.session caller.exit.now.session }
+        ensures { HasDone (RequestSteps S.step S.fails S.settles S.breaks_off) D.gives D.Reader.remaining D.Writer.contents F.gives caller.entry.now.post caller.exit.now.post caller.entry.now.session caller.exit.now.session }
     { caller.run(rt, alloc) };
     thread::for_each_mut(rt, callers, 64, &run);
 }
 
-/// Whether a call of one of them has no answer.
+/// Whether nothing has come of a request of one of them.
 fn lack_answer<S: Session + Drop, T, G, D, F>(callers: &[Caller<'_, '_, S, T, G, D, F>]) -> bool
     ensures { result ≡ list_any (λ caller. lacks_answer caller.session) callers.now }
 {
@@ -135,7 +136,7 @@ pub fn attend<
     requires some { 0 < length posts.items }
     requires few { length posts.items ≤ 64 }
     requires begin { B.pre begin }
-    ensures { IfOk result (λ ended. Ends S.step S.fails D.gives D.Reader.remaining D.Writer.contents F.gives session posts.entry.items ended.session ended.posts.items ended.calls ended.unanswered) }
+    ensures { IfOk result (λ ended. Ends (RequestSteps S.step S.fails S.settles S.breaks_off) D.gives D.Reader.remaining D.Writer.contents F.gives session posts.entry.items ended.session ended.posts.items ended.requests ended.unanswered) }
 {
     let count = posts.len();
     let (desk, passes) = Desk::open(alloc, count as u32, Shared::new(session))?;
@@ -153,7 +154,7 @@ pub fn attend<
     Ok(Ended {
         session: machine.into_session(),
         posts: left,
-        calls,
+        requests: calls,
         unanswered,
     })
 }

@@ -1,11 +1,12 @@
 //! A connection, served as a session.
 ghost use Rattle.pana_daemon.specs.Connection.{ServesConnection};
+ghost use Rattle.pana_daemon.specs.Desk.{RequestSteps};
 
 use crate::desk_session::DeskSession;
 use crate::objects::ObjectReader;
 use crate::supervisor::Supervisor;
 use pana_calls::Session;
-use pana_wire::{Tap, serve};
+use pana_wire::{Tap, serve_groups};
 use std::alloc::Global;
 use std::io::{Read, Write};
 use std::sync::Wait;
@@ -29,11 +30,11 @@ impl<R: Read + Drop, W: Write + Drop> Connection<R, W> {
         alloc: Global,
         session: &mut DeskSession<'_, S, T, G>,
     )
-        ensures { ServesConnection S.step S.fails R.remaining W.contents self session.old session.new }
+        ensures { ServesConnection (RequestSteps S.step S.fails S.settles S.breaks_off) R.remaining W.contents self session.old session.new }
     {
         let Connection { reader, writer } = self;
         let mut reader = Tap::new(ObjectReader::new(reader));
         let mut writer = Tap::new(writer);
-        let _ = serve(alloc, &mut reader, &mut writer, session, MOST_READS);
+        let _ = serve_groups(alloc, &mut reader, &mut writer, session, MOST_READS);
     }
 }

@@ -2,6 +2,7 @@
 ghost use Rattle.std.specs.Prelude.{◌≡◌, ◌+◌, ◌<◌, ◌≤◌, IfOk, OnOk, length, replicate};
 ghost use Rattle.pana_tickets.specs.Hands.{hand};
 ghost use Rattle.pana_ticks.specs.Hands.{none_yet};
+ghost use Rattle.pana_daemon.specs.Desk.{RequestSteps};
 ghost use Rattle.pana_daemon.specs.Door.{GivesDrawn, new_door};
 ghost use Rattle.pana_daemon.specs.Post.{doors_in, folders_in};
 ghost use Rattle.pana_daemon.specs.inner.Folders.{AreOf};
@@ -50,17 +51,17 @@ const OTHERS: u32 = 2;
 /// The connections of sockets, or the folder of a root.
 type DaemonPost<'a, T, K> = Post<'a, SocketDoor<'a, T, Alarm<'a>>, RootFolder<'a, T, K>>;
 
-/// How the daemon has ended: the session that all shared, how many calls were made in it, and what has gone wrong.
+/// How the daemon has ended: the session that all shared, how many requests were made of it, and what has gone wrong.
 #[derive(Drop)]
 pub struct DaemonEnd<S> {
     pub session: S,
-    pub calls: u64,
+    pub requests: u64,
     pub fault: Option<LateFault>,
 }
 
-/// What ends all once the alarm has rung, where no number of sessions is wanted and it isn't to stay.
-fn closer_of(listener: &Listener, stays: bool) -> Result<Option<Closer>, DaemonFault> {
-    if listener.wanted.is_some() || stays {
+/// What ends all once the alarm has rung, where no number of sessions is wanted.
+fn closer_of(listener: &Listener) -> Result<Option<Closer>, DaemonFault> {
+    if listener.wanted.is_some() {
         return Ok(None);
     }
     match Closer::new(&listener.listener) {
@@ -175,7 +176,7 @@ fn attend_posts<
 ) -> Result<Ended<'a, S, D, F>, DaemonFault>
     requires some { 0 < length posts.items }
     requires few { length posts.items ≤ 24 }
-    ensures { IfOk result (λ ended. Ends S.step S.fails D.gives D.Reader.remaining D.Writer.contents F.gives session posts.entry.items ended.session ended.posts.items ended.calls ended.unanswered) }
+    ensures { IfOk result (λ ended. Ends (RequestSteps S.step S.fails S.settles S.breaks_off) D.gives D.Reader.remaining D.Writer.contents F.gives session posts.entry.items ended.session ended.posts.items ended.requests ended.unanswered) }
 {
     let count = posts.len() as u32 + OTHERS;
     let begin = || announce(rt, threads, address, count);
@@ -209,7 +210,7 @@ fn attend_and_count<
     requires some { 0 < length posts.items }
     requires few { length posts.items ≤ 24 }
     requires counter { counter ≡ record { id = signals.now.ticks; count = none_yet } }
-    ensures ends { IfOk result (λ all. Ends S.step S.fails D.gives D.Reader.remaining D.Writer.contents F.gives session posts.entry.items all.0.session all.0.posts.items all.0.calls all.0.unanswered) }
+    ensures ends { IfOk result (λ all. Ends (RequestSteps S.step S.fails S.settles S.breaks_off) D.gives D.Reader.remaining D.Writer.contents F.gives session posts.entry.items all.0.session all.0.posts.items all.0.requests all.0.unanswered) }
     ensures counts { IfOk result (λ all. EndsInput I.remaining signals.now.ticks signals.now.start.all.id has_roots all.1 all.2) }
 {
     let (ended, (counter, asked)) = thread::join(
@@ -247,7 +248,7 @@ fn serve_posts<'a, S: Session + Send + Drop, T: Threads + Wait + Clock + Sync, K
     requires counter { counter ≡ record { id = signals.now.ticks; count = none_yet } }
     requires scanners { AreOf signals.now.ticks signals.now.start.all.id (folders_in posts.items) }
     requires roots { has_roots ≡ has_folders (folders_in posts.items) }
-    ensures { IfOk result (λ ended. EndsDrawn S.step S.fails ⟦<PatientReader<'a, T, Alarm<'a>> as Read>⟧.remaining ⟦<BufWriter<PatientWriter<'a, T, Alarm<'a>>, Global> as Write>⟧.contents ⟦<StandardInput<'a, 'a, T> as Read>⟧.remaining ⟦<RootFolder<'a, T, K> as Folder>⟧.gives session tickets.now posts.entry.items ended.session ended.calls ended.fault) }
+    ensures { IfOk result (λ ended. EndsDrawn (RequestSteps S.step S.fails S.settles S.breaks_off) ⟦<PatientReader<'a, T, Alarm<'a>> as Read>⟧.remaining ⟦<BufWriter<PatientWriter<'a, T, Alarm<'a>>, Global> as Write>⟧.contents ⟦<StandardInput<'a, 'a, T> as Read>⟧.remaining ⟦<RootFolder<'a, T, K> as Folder>⟧.gives session tickets.now posts.entry.items ended.session ended.requests ended.fault) }
 {
     let input = StandardInput { rt, threads, alarm };
     let (ended, mut counter, asked) = attend_and_count(
@@ -256,7 +257,7 @@ fn serve_posts<'a, S: Session + Send + Drop, T: Threads + Wait + Clock + Sync, K
     let Ended {
         session,
         posts,
-        calls,
+        requests,
         unanswered,
     } = ended;
     let verdict = signals.start.decide(threads);
@@ -271,7 +272,7 @@ fn serve_posts<'a, S: Session + Send + Drop, T: Threads + Wait + Clock + Sync, K
     );
     Ok(DaemonEnd {
         session,
-        calls,
+        requests,
         fault: late_fault(unanswered, is_closed),
     })
 }
@@ -279,10 +280,9 @@ fn serve_posts<'a, S: Session + Send + Drop, T: Threads + Wait + Clock + Sync, K
 /// Prints where it listens, and then serves the listener's connections at a desk with this session, 16 at a time, and
 /// looks at the roots: each by a thread of its own, at the start and after newlines on standard input, and each so many
 /// seconds too where that is wanted. It ends once as many connections were taken as are wanted, these have ended and, where
-/// there is a root, standard input has ended too; where no number is given, only where a call has no answer and it isn't to
-/// stay: it takes no further connection then, closes
-/// those that are open still after 5 to 10 seconds, and doesn't wait for standard input. Then it closes the desk, and
-/// returns the session, with the number of calls that were made, and what has gone wrong.
+/// there is a root, standard input has ended too; where no number is given, only where nothing has come of a request: it takes
+/// no further connection then, closes those that are open still after 5 to 10 seconds, and doesn't wait for standard input. Then it closes the desk, and
+/// returns the session, with the number of requests that were made, and what has gone wrong.
 ///
 /// # Errors
 ///
@@ -294,17 +294,16 @@ pub fn serve<'a, S: Session + Send + Drop, T: Threads + Wait + Clock + Sync, K: 
     disks: &'a K,
     address: &SocketAddr,
     listener: Listener,
-    stays: bool,
     looks: Looks,
     roots: &'a [Root<'a>],
     session: S,
 ) -> Result<DaemonEnd<S>, DaemonFault>
     requires few { length roots.now ≤ 8 }
-    ensures { IfOk result (λ ended. EndsDaemon S.step S.fails ⟦<PatientReader<'a, T, Alarm<'a>> as Read>⟧.remaining ⟦<BufWriter<PatientWriter<'a, T, Alarm<'a>>, Global> as Write>⟧.contents ⟦<StandardInput<'a, 'a, T> as Read>⟧.remaining ⟦<RootFolder<'a, T, K> as Folder>⟧.gives session listener.wanted looks (folders_of disks.now roots.now) ended.session ended.calls ended.fault) }
+    ensures { IfOk result (λ ended. EndsDaemon (RequestSteps S.step S.fails S.settles S.breaks_off) ⟦<PatientReader<'a, T, Alarm<'a>> as Read>⟧.remaining ⟦<BufWriter<PatientWriter<'a, T, Alarm<'a>>, Global> as Write>⟧.contents ⟦<StandardInput<'a, 'a, T> as Read>⟧.remaining ⟦<RootFolder<'a, T, K> as Folder>⟧.gives session listener.wanted looks (folders_of disks.now roots.now) ended.session ended.requests ended.fault) }
 {
     let lasts = listener.wanted.is_none();
     let (signals, mut counter) = Signals::new(rt.alloc(), roots.len(), lasts)?;
-    let closer = closer_of(&listener, stays)?;
+    let closer = closer_of(&listener)?;
     let Listener {
         listener,
         wanted,

@@ -1,5 +1,6 @@
 //! A session whose calls are made at a desk.
 
+use crate::request::{Request, Response};
 use crate::shared::Shared;
 use crate::supervisor::Supervisor;
 use crate::waiting::{awaited_by, made_by};
@@ -18,7 +19,7 @@ pub struct DeskSession<'a, S: Session + Drop, T, G> {
     supervisor: &'a G,
     caller: u32,
     calls: u64,
-    /// Whether a call that it made has no answer.
+    /// Whether nothing has come of a request that it made.
     unanswered: bool,
     pass: Pass<Shared<S>>,
 }
@@ -39,7 +40,7 @@ impl<'a, S: Session + Drop, T, G> DeskSession<'a, S, T, G> {
     ghost use Rattle.std.specs.Prelude.{◌≡◌, false};
     ghost use Rattle.pana_daemon.specs.Session.{lacks_answer};
 
-    /// A session of this caller by a pass of the desk, whose calls so far were answered. Takes no memory.
+    /// A session of this caller by a pass of the desk, of whose requests so far something has come. Takes no memory.
     pub fn new(
         rt: &'a T,
         desk: &'a Desk<Shared<S>>,
@@ -62,7 +63,7 @@ impl<'a, S: Session + Drop, T, G> DeskSession<'a, S, T, G> {
         }
     }
 
-    /// Whether a call that it made has no answer.
+    /// Whether nothing has come of a request that it made.
     pub(crate) fn lacks_answer(&self) -> bool
         ensures { result ≡ lacks_answer self.now }
     {
@@ -100,21 +101,47 @@ fn note<G: Supervisor>(supervisor: &G, answer: &Answer) {
     }
 }
 
+impl<S: Session + Drop, T: Wait, G: Supervisor> DeskSession<'_, S, T, G> {
+    ghost use Rattle.std.specs.Prelude.{◌≡◌, IfOk, OnErr};
+    ghost use Rattle.pana_daemon.specs.Desk.{RequestSteps, is_nothing};
+    ghost use Rattle.pana_daemon.specs.Session.{Requests, RequestsNone};
+
+    /// Makes one request at the desk, and returns what has come of it. The supervisor is asked where that is nothing.
+    fn request(&mut self, request: Request) -> Result<Response, NoAnswer>
+        ensures response { IfOk result (λ response. Requests (RequestSteps S.step S.fails S.settles S.breaks_off) self.old request response self.new) }
+        ensures none { OnErr result (RequestsNone (RequestSteps S.step S.fails S.settles S.breaks_off) self.old self.new) }
+    {
+        let Ok(response) = self.desk.call(self.rt, &mut self.pass, request) else {
+            return Err(NoAnswer);
+        };
+        if response.is_nothing() {
+            self.unanswered = true;
+            self.supervisor.unanswered(self.caller, self.calls);
+        }
+        Ok(response)
+    }
+}
+
 impl<S: Session + Drop, T: Wait, G: Supervisor> Session for DeskSession<'_, S, T, G> {
-    ghost use Rattle.std.specs.Prelude.{IfOk, OnErr};
-    ghost use Rattle.pana_daemon.specs.Session.{GetsNone, MakesCall, calls_seen};
+    ghost use Rattle.std.specs.Prelude.{IfOk, OnOk, OnErr};
+    ghost use Rattle.pana_daemon.specs.Desk.{RequestSteps};
+    ghost use Rattle.pana_daemon.specs.Session.{BreaksOff, GetsNone, MakesCall, Settles, requests_seen};
 
-    ghost step = { MakesCall S.step S.fails };
+    ghost step = { MakesCall (RequestSteps S.step S.fails S.settles S.breaks_off) };
 
-    ghost moment = { calls_seen };
+    ghost moment = { requests_seen };
 
-    ghost fails = { GetsNone S.step S.fails };
+    ghost fails = { GetsNone (RequestSteps S.step S.fails S.settles S.breaks_off) };
+
+    ghost settles = { Settles (RequestSteps S.step S.fails S.settles S.breaks_off) };
+
+    ghost breaks_off = { BreaksOff (RequestSteps S.step S.fails S.settles S.breaks_off) };
 
     /// Makes the call at the desk, between the supervisor's questions. One that waits for an entry waits before it comes to the
     /// desk, so that it takes no turn meanwhile.
     fn call(&mut self, by: &DeviceName, call: Call) -> Result<Answer, NoAnswer>
-        ensures step { IfOk result (λ answer. MakesCall S.step S.fails self.old by.now call answer self.new) }
-        ensures fails { OnErr result (GetsNone S.step S.fails self.old by.now call self.new) }
+        ensures step { IfOk result (λ answer. MakesCall (RequestSteps S.step S.fails S.settles S.breaks_off) self.old by.now call answer self.new) }
+        ensures fails { OnErr result (GetsNone (RequestSteps S.step S.fails S.settles S.breaks_off) self.old by.now call self.new) }
     {
         self.calls = self.calls.saturating_add(1);
         self.supervisor.before(self.caller, self.calls);
@@ -123,20 +150,26 @@ impl<S: Session + Drop, T: Wait, G: Supervisor> Session for DeskSession<'_, S, T
             by: by.copy_of(),
             call,
         };
-        let Ok(reply) = self.desk.call(self.rt, &mut self.pass, message) else {
-            return Err(NoAnswer);
-        };
-        let Ok(answer) = reply else {
-            self.unanswered = true;
-            self.supervisor.unanswered(self.caller, self.calls);
-            return Err(NoAnswer);
-        };
-        self.supervisor.after(self.caller, self.calls);
-        note(self.supervisor, &answer);
-        Ok(answer)
+        match self.request(Request::Make(message))? {
+            Response::Answer(answer) => {
+                self.supervisor.after(self.caller, self.calls);
+                note(self.supervisor, &answer);
+                Ok(answer)
+            }
+            Response::Nothing => Err(NoAnswer),
+            Response::Settled => unreachable!(),
+        }
     }
-    /// Does nothing: each call is kept once it is finished.
-    fn settle(&mut self) -> Result<(), NoAnswer> {
-        Ok(())
+
+    /// Has the session that all share settle, at the desk.
+    fn settle(&mut self) -> Result<(), NoAnswer>
+        ensures settles { OnOk result (Settles (RequestSteps S.step S.fails S.settles S.breaks_off) self.old self.new) }
+        ensures breaks_off { OnErr result (BreaksOff (RequestSteps S.step S.fails S.settles S.breaks_off) self.old self.new) }
+    {
+        match self.request(Request::Settle)? {
+            Response::Settled => Ok(()),
+            Response::Nothing => Err(NoAnswer),
+            Response::Answer(_) => unreachable!(),
+        }
     }
 }

@@ -1,4 +1,5 @@
 //! What each caller at a desk does.
+ghost use Rattle.pana_daemon.specs.Desk.{RequestSteps};
 ghost use Rattle.pana_daemon.specs.Post.{HasDone};
 
 use crate::desk_session::DeskSession;
@@ -31,7 +32,7 @@ pub(crate) struct Caller<'a, 'b, S: Session + Drop, T, G, D, F> {
 impl<S: Session + Drop, T: Wait, G: Supervisor, D: Door, F: Folder> Caller<'_, '_, S, T, G, D, F> {
     /// Does what the caller is to do.
     pub(crate) fn run(&mut self, rt: &T, alloc: Global)
-        ensures { HasDone S.step S.fails D.gives D.Reader.remaining D.Writer.contents F.gives self.old.post self.new.post self.old.session self.new.session }
+        ensures { HasDone (RequestSteps S.step S.fails S.settles S.breaks_off) D.gives D.Reader.remaining D.Writer.contents F.gives self.old.post self.new.post self.old.session self.new.session }
     {
         let Caller { session, post } = self;
         match post {

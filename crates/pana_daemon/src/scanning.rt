@@ -1,8 +1,8 @@
 //! Looks at a folder, one after another, and what a session reports of them.
 ghost use Rattle.std.specs.Prelude.{◌≡◌, Ok, IfOk, IfErr, OnErr, MatchOption, false};
 ghost use Rattle.pana_track.specs.Folder.{BreaksFolder, TracksFolder};
-ghost use Rattle.pana_daemon.specs.Scan.{Scans, done_as};
-ghost use Rattle.pana_daemon.specs.inner.Scan.{Asks, IsOwn, LooksOnce, ReportsOne, ReportsSteps, ScansOnce, StopsLook, StopsReporting, StopsScan, TracksOnce, StopsTracking};
+ghost use Rattle.pana_daemon.specs.Scan.{BreaksLook, LooksOnce, Scans, StopsLook, done_as};
+ghost use Rattle.pana_daemon.specs.inner.Scan.{Asks, IsOwn, KeepsLook, ReportsOne, ReportsSteps, ScansOnce, StopsReporting, StopsScan, TracksOnce, StopsTracking};
 
 use crate::folder::{Folder, Look};
 use pana_calls::{Answer, Call, HoldingList, NoAnswer, Query, Reply, Session};
@@ -163,7 +163,7 @@ fn take<S: Session>(
     baseline: &mut Baseline,
 ) -> Result<Option<FolderEnd>, NoAnswer>
     ensures ok { IfOk result (λ _. LooksOnce S.step device.now look session.old session.new baseline.old baseline.new) }
-    ensures fails { OnErr result (StopsLook S.step S.fails device.now look session.old session.new baseline.old) }
+    ensures fails { OnErr result (StopsLook S.step device.now S.fails look session.old session.new baseline.old) }
 {
     match look {
         Look::Scanned(given) => {
@@ -174,11 +174,28 @@ fn take<S: Session>(
     }
 }
 
+/// Makes the calls for what the folder gave, and settles behind them.
+fn keep<S: Session>(
+    alloc: Global,
+    session: &mut S,
+    device: &DeviceName,
+    look: Look,
+    baseline: &mut Baseline,
+) -> Result<Option<FolderEnd>, NoAnswer>
+    ensures ok { IfOk result (λ _. KeepsLook S.step device.now S.settles look session.old session.new baseline.old baseline.new) }
+    ensures fails { OnErr result (BreaksLook S.step device.now S.fails S.breaks_off look session.old session.new baseline.old) }
+{
+    let end = take(alloc, session, device, look, baseline)?;
+    session.settle()?;
+    Ok(end)
+}
+
 /// Takes what the folder gives, one look after another. Of a folder that is scanned it asks for the device's holdings, plans,
 /// and makes the report of each step; a step that was done is settled in the baseline, and one that was refused isn't. Of one
-/// that is tracked it reports what was noticed, as `track_folder` of `pana_track` does, and the folder
-/// learns what became of it. A look is passed over from where a fault comes: a listing that failed or is of another device, holdings that were
-/// refused, memory that ran out. It ends where the folder gives no more, or at the first call that has no answer.
+/// that is tracked it reports what was noticed, as `track_folder` of `pana_track` does. Behind the calls of each look the
+/// session settles, and then the folder learns what became of one that is tracked. A look is passed over from where a fault
+/// comes: a listing that failed or is of another device, holdings that were refused, memory that ran out. It ends where the
+/// folder gives no more, at the first call that has no answer, or where the session can't settle.
 pub fn scanner<T: Wait, S: Session, F: Folder>(
     rt: &T,
     alloc: Global,
@@ -186,14 +203,14 @@ pub fn scanner<T: Wait, S: Session, F: Folder>(
     device: &DeviceName,
     folder: &mut F,
 )
-    ensures { Scans F.gives S.step S.fails device.now folder.old folder.new session.old session.new }
+    ensures { Scans F.gives S.step S.fails S.settles S.breaks_off device.now folder.old folder.new session.old session.new }
 {
     let mut baseline = Baseline::new(alloc);
     for _ in rt.forever() {
         let Some(look) = folder.next() else {
             return;
         };
-        match take(alloc, session, device, look, &mut baseline) {
+        match keep(alloc, session, device, look, &mut baseline) {
             Ok(Some(end)) => folder.note_end(&end),
             Ok(None) => {}
             Err(NoAnswer) => return,

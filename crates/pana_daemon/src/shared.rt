@@ -1,11 +1,12 @@
 //! The session that all at a desk share.
 
-use pana_calls::{Answer, Call, NoAnswer, Session};
+use crate::request::{Request, Response};
+use pana_calls::{NoAnswer, Session};
 use pana_turn::Machine;
 use pana_wire::Message;
 use std::marker::Model;
 
-/// A session as the machine of a desk: its callers' calls are made in it, one at a time. To contracts it is the session.
+/// A session as the machine of a desk: its callers' requests are made of it, one at a time. To contracts it is the session.
 #[derive(Drop)]
 pub struct Shared<S> {
     session: S,
@@ -37,25 +38,34 @@ impl<S> Shared<S> {
 }
 
 impl<S: Session + Drop> Machine for Shared<S> {
-    type Call = Message;
+    type Call = Request;
 
-    type Reply = Result<Answer, NoAnswer>;
+    type Reply = Response;
 
-    ghost use Rattle.pana_daemon.specs.Desk.{SharedSteps};
+    ghost use Rattle.pana_daemon.specs.Desk.{RequestSteps};
 
-    ghost step = { SharedSteps S.step S.fails };
+    ghost step = { RequestSteps S.step S.fails S.settles S.breaks_off };
 
-    fn make(&mut self, message: Message) -> Result<Answer, NoAnswer> {
-        let Message { by, call } = message;
-        self.session.call(&by, call)
+    fn make(&mut self, request: Request) -> Response {
+        match request {
+            Request::Make(Message { by, call }) => match self.session.call(&by, call) {
+                Ok(answer) => Response::Answer(answer),
+                Err(NoAnswer) => Response::Nothing,
+            },
+            Request::Settle => match self.session.settle() {
+                Ok(()) => Response::Settled,
+                Err(NoAnswer) => Response::Nothing,
+            },
+        }
     }
 
     fn is_slow(&self) -> bool {
         self.session.is_slow()
     }
 
-    /// All but a query, as it may have to be kept.
-    fn takes_long(message: &Message) -> bool {
-        !matches!(&message.call, Call::Query(_))
+    /// To settle alone comes to the disk. So the calls that have come meanwhile are made before the next one settles, and are
+    /// kept together.
+    fn takes_long(request: &Request) -> bool {
+        matches!(request, Request::Settle)
     }
 }

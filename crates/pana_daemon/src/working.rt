@@ -1,5 +1,6 @@
 //! Connections, served one after another.
 ghost use Rattle.pana_daemon.specs.Connection.{Works};
+ghost use Rattle.pana_daemon.specs.Desk.{RequestSteps};
 
 use crate::desk_session::DeskSession;
 use crate::door::Door;
@@ -15,7 +16,7 @@ pub fn work<S: Session + Drop, T: Wait, G: Supervisor, D: Door>(
     session: &mut DeskSession<'_, S, T, G>,
     door: &mut D,
 )
-    ensures { Works S.step S.fails D.gives D.Reader.remaining D.Writer.contents door.old door.new session.old session.new }
+    ensures { Works (RequestSteps S.step S.fails S.settles S.breaks_off) D.gives D.Reader.remaining D.Writer.contents door.old door.new session.old session.new }
 {
     for _ in rt.forever() {
         let Some(connection) = door.next() else {

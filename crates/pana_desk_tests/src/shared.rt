@@ -1,9 +1,9 @@
-//! What no clause says of a hall at a desk: that calls succeed where memory is there, and that a board sees another pass's
-//! call. Where an allocation fails, the test ends with that error.
+//! What no clause says of a hall at a desk: that calls succeed where memory is there, that a board sees another pass's
+//! call, and that a hall settles. Where an allocation fails, the test ends with that error.
 
-use pana_calls::{Answer, Call, Cause, NoAnswer, Query, Reply};
+use pana_calls::{Answer, Call, Cause, Query, Reply};
 use pana_copies::{CopyPath, DeviceName, Place};
-use pana_daemon::Shared;
+use pana_daemon::{Request, Response, Shared};
 use pana_hall::Hall;
 use pana_journal::Report;
 use pana_turn::{Desk, Spent};
@@ -24,19 +24,19 @@ fn register(alloc: Global) -> Result<Message, Fail> {
 }
 
 /// The number of the entry that a report made, or 0 where it made none. Fails where memory ran out.
-fn entry_of(answer: Result<Result<Answer, NoAnswer>, Spent>) -> Result<u64, AllocError> {
-    match answer {
-        Ok(Ok(Answer::Given(Reply::Done { entry }))) => Ok(entry),
-        Ok(Ok(Answer::Given(Reply::Refused(Cause::OutOfMemory)))) => Err(AllocError),
+fn entry_of(response: Result<Response, Spent>) -> Result<u64, AllocError> {
+    match response {
+        Ok(Response::Answer(Answer::Given(Reply::Done { entry }))) => Ok(entry),
+        Ok(Response::Answer(Answer::Given(Reply::Refused(Cause::OutOfMemory)))) => Err(AllocError),
         _ => Ok(0),
     }
 }
 
 /// How many rows the board has, or 0 where the reply is none. Fails where memory ran out.
-fn rows_of(answer: Result<Result<Answer, NoAnswer>, Spent>) -> Result<usize, AllocError> {
-    match answer {
-        Ok(Ok(Answer::Given(Reply::Board(board)))) => Ok(board.rows.as_slice().len()),
-        Ok(Ok(Answer::Given(Reply::Refused(Cause::OutOfMemory)))) => Err(AllocError),
+fn rows_of(response: Result<Response, Spent>) -> Result<usize, AllocError> {
+    match response {
+        Ok(Response::Answer(Answer::Given(Reply::Board(board)))) => Ok(board.rows.as_slice().len()),
+        Ok(Response::Answer(Answer::Given(Reply::Refused(Cause::OutOfMemory)))) => Err(AllocError),
         _ => Ok(0),
     }
 }
@@ -49,16 +49,19 @@ fn shared_desk(rt: HostRuntime) -> Result<(), Fail> {
         return Ok(());
     };
 
-    let done = desk.call(&rt, &mut first, register(alloc)?);
+    let done = desk.call(&rt, &mut first, Request::Make(register(alloc)?));
     assert_eq!(rt; entry_of(done)?, 1);
     assert_eq!(rt; desk.glance(&mut second), 1);
     let board = Message {
         by: DeviceName::new("laptop")?,
         call: Call::Query(Query::Board { family: 1 }),
     };
-    assert_eq!(rt; rows_of(desk.call(&rt, &mut second, board))?, 1);
+    let shown = desk.call(&rt, &mut second, Request::Make(board));
+    assert_eq!(rt; rows_of(shown)?, 1);
+    let settled = desk.call(&rt, &mut second, Request::Settle);
+    assert!(rt; matches!(settled, Ok(Response::Settled)));
     let note = desk.note(&mut first);
     desk.meet(&mut second, note);
-    assert_eq!(rt; desk.glance(&mut first), 2);
+    assert_eq!(rt; desk.glance(&mut first), 3);
     Ok(())
 }

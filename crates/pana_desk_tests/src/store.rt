@@ -3,7 +3,7 @@
 ghost use Rattle.std.specs.Prelude.{true, false, []};
 
 use pana_log::{Crash, Device, DeviceFault, Log, LogState, MemoryDevice};
-use pana_store::{Group, OpenFault, Opened, Store, before_end, open, read, serve_kept};
+use pana_store::{OpenFault, Opened, Store, before_end, open, read, serve_kept};
 use pana_wire::{ServeFault, Tap, WireFault};
 use std::alloc::Global;
 use std::test::Fail;
@@ -63,17 +63,17 @@ impl Device for ShortDevice {
 }
 
 /// A session on a new journal, whose device fails once after so many calls.
-fn session_of(alloc: Global, calls: usize) -> Result<Group<MemoryDevice>, Fail> {
+fn session_of(alloc: Global, calls: usize) -> Result<Store<MemoryDevice>, Fail> {
     let device = MemoryDevice::failing_after(alloc, Vec::new(alloc), calls);
     let mut journal = Log::new(device);
     let Opened { hall, sealer, .. } = open(alloc, &mut journal)?;
-    Ok(Group::of(Store::new(alloc, hall, journal, sealer))?)
+    Ok(Store::new(alloc, hall, journal, sealer)?)
 }
 
 /// What a session answers to lines, and why it ended.
 fn answers<D: Device>(
     alloc: Global,
-    session: &mut Group<D>,
+    session: &mut Store<D>,
     lines: &[u8],
 ) -> Result<(Vec<u8>, Option<ServeFault>), Fail> {
     let mut reader = Tap::new(lines);
@@ -201,7 +201,7 @@ fn writes_without_memory(rt: HostRuntime) -> Result<(), Fail> {
         end: 0,
         state: LogState::Open,
     };
-    let mut session = Group::of(Store::new(alloc, hall, short, sealer))?;
+    let mut session = Store::new(alloc, hall, short, sealer)?;
     let (answer, end) = answers(alloc, &mut session, REGISTER)?;
     let want = b"{\"code\":9,\"refused\":\"OutOfMemory\"}\n".as_slice();
     assert_eq!(rt; answer.as_slice(), want);

@@ -83,7 +83,7 @@ pub fn open_store(rt: &HostRuntime, name: &str) -> Result<Store<FileDevice>, NoS
     match pana_store::open(rt.alloc(), &mut log) {
         Ok(Opened { hall, sealer, torn }) => {
             report_torn(rt, name, torn)?;
-            Ok(Store::new(rt.alloc(), hall, log, sealer))
+            Ok(Store::new(rt.alloc(), hall, log, sealer)?)
         }
         Err(fault) => Err(no_journal(rt, name, fault)?),
     }

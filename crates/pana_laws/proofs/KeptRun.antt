@@ -1,98 +1,148 @@
--- What a history of a store's calls has kept.
-use Rattle.std.proofs.Common.{◌≡◌, ◌≢◌, ℕ, Bool, IsTrue, List, [], ◌∷◌, Result, Ok, Err, refl, sym, ap, subst, ◌∙◌}
+-- What a history of a store's requests has kept.
+use Rattle.std.proofs.Common.{◌≡◌, ◌≢◌, ◌⊎◌, inl, inr, ⊎_elim, ℕ, ◌<◌, ◌≤◌, Bool, IsTrue, List, [], ◌∷◌, ◌++◌, length, refl, sym, ap, subst, ◌∙◌, append-nil, arith}
+use Rattle.pana_calls.specs.declared.answer.Answer.{Answer}
+use Rattle.pana_calls.specs.declared.answer.Answer.TheVariants.{Given}
 use Rattle.pana_calls.specs.declared.call.Call.{Call}
 use Rattle.pana_calls.specs.declared.call.Call.TheVariants.{Report, Sighting, Query}
 use Rattle.pana_calls.specs.declared.reply.Reply.{Reply}
 use Rattle.pana_turn.specs.History.{IsHistory, left_by}
 use Rattle.pana_log.specs.declared.log_state.LogState.TheVariants.{Open}
-use Rattle.pana_calls.specs.declared.answer.Answer.{Answer}
-use Rattle.pana_calls.specs.declared.answer.Answer.TheVariants.{Given}
-use Rattle.pana_calls.specs.declared.answer.NoAnswer.{NoAnswer}
 use Rattle.pana_store.specs.Acknowledged.{IsDone}
 use Rattle.pana_store.specs.Entries.{LoadsFirst}
-use Rattle.pana_store.specs.Store.{StoreView, IsKept, KeepsAll, Keeps, Breaks}
-use Rattle.pana_store.proofs.Done.{done_is_last, no_query_is_done}
-use Rattle.pana_store.proofs.Runs.{Ran, begun, failed, ran_step}
-use Rattle.pana_daemon.specs.Desk.{Finished, SharedSteps}
+use Rattle.pana_store.specs.Store.{IsKept, KeepsFirst, StoreView, stored}
+use Rattle.pana_store.proofs.Acknowledged as groups
+use Rattle.pana_daemon.specs.Desk.{Finished, RequestSteps}
+use Rattle.pana_daemon.specs.declared.request.Request.{Request}
+use Rattle.pana_daemon.specs.declared.request.Request.TheVariants.{Make, Settle}
+use Rattle.pana_daemon.specs.declared.request.Response.{Response}
+use Rattle.pana_daemon.specs.declared.request.Response.TheVariants as responses
 use Rattle.pana_laws.specs.KeptRun.{KeepsDone}
 
 module _ {V : Type 0} (is_known : Bool) (seen : V → List ℕ) (may_leave : V → List ℕ → Type 0) (is_usable : V → Bool) (moment : V → ℕ) (left_since : V → ℕ → List ℕ → Type 0) (has_failed : V → Bool) (known : IsTrue is_known)
     (only_now : (d : V) (c : List ℕ) → left_since d (moment d) c → may_leave d c) where
   abbrev Step : StoreView V → List ℕ → Call → Answer → StoreView V → Type 0
-  Step old by call answer new = Keeps is_known seen may_leave is_usable moment left_since has_failed old by call answer new
+  Step = groups.Step is_known seen may_leave is_usable moment left_since has_failed
 
   abbrev Fails : StoreView V → List ℕ → Call → StoreView V → Type 0
-  Fails old by call new = Breaks is_known moment left_since has_failed old by call new
+  Fails = groups.Fails is_known seen may_leave is_usable moment left_since has_failed
+
+  abbrev So : StoreView V → StoreView V → Type 0
+  So = groups.So is_known seen may_leave is_usable moment left_since has_failed
+
+  abbrev Off : StoreView V → StoreView V → Type 0
+  Off = groups.Off is_known seen may_leave is_usable moment left_since has_failed
+
+  abbrev One : StoreView V → Request → Response → StoreView V → Type 0
+  One = RequestSteps Step Fails So Off
 
   abbrev Steps : StoreView V → List (Finished (StoreView V)) → Type 0
-  Steps old history = IsHistory (SharedSteps Step Fails) old history
+  Steps old history = IsHistory One old history
+
+  abbrev Good : StoreView V → Type 0
+  Good = groups.Good is_known seen may_leave is_usable moment left_since has_failed known only_now
 
   abbrev Runs : StoreView V → StoreView V → Type 0
-  Runs old new = Ran is_known seen may_leave is_usable moment left_since has_failed known old new
+  Runs = groups.Runs is_known seen may_leave is_usable moment left_since has_failed known only_now
 
-  -- a store whose log is broken stays as it is
-  answered_broken : (old : StoreView V) (by : List ℕ) (call : Call) (answer : Answer) (new : StoreView V) → old.log.state ≢ Open → Step old by call answer new → new ≡ old
-  answered_broken old by (Report report) answer new shut step = absurd (shut step.is_open)
-  answered_broken old by (Sighting sighting) answer new shut step = absurd (shut step.is_open)
-  answered_broken old by (Query query) answer new shut step = step.query tt
+  -- entries that wait can't be kept any more
+  record Lost (group : StoreView V) : Type 0 where
+    pub shut : group.log.state ≢ Open
+    pub waits : length group.kept < length group.entries
 
-  one_broken : (old : StoreView V) (x : Finished (StoreView V)) (reply : Result Answer NoAnswer) → old.log.state ≢ Open → SharedSteps Step Fails old x.call reply x.left → x.left ≡ old
-  one_broken old x (Ok answer) shut step = answered_broken old x.call.by x.call.call answer x.left shut step
-  one_broken old x (Err none) shut step = step.once shut
+  abbrev State : StoreView V → Type 0
+  State group = Good group ⊎ Lost group
 
-  stays_broken : (old : StoreView V) (history : List (Finished (StoreView V))) → old.log.state ≢ Open → Steps old history → left_by old history ≡ old
-  stays_broken old [] shut run = refl
-  stays_broken old (x ∷ history) shut run =
-      let same = one_broken old x x.reply shut run.0 in
-      stays_broken x.left history (subst (λ (s : StoreView V). s.log.state ≢ Open) (sym same) shut) run.1 ∙ same
+  lost_off : (old new : StoreView V) → Off old new → Lost new
+  lost_off old new off = record { shut = off.broken; waits = omega (arith, off.waits, ap length off.entries, ap length off.kept) }
 
-  -- so far each call was answered, and now come these
-  keeps_one : (first old : StoreView V) (x : Finished (StoreView V)) (history : List (Finished (StoreView V))) (reply : Result Answer NoAnswer) → Runs first old → SharedSteps Step Fails old x.call reply x.left → Steps x.left history
-      → (Runs first x.left → KeepsAll moment left_since first (left_by x.left history)) → KeepsAll moment left_since first (left_by x.left history)
-  keeps_one first old x history (Ok answer) ran step rest on = on (ran_step is_known seen may_leave is_usable moment left_since has_failed known first old x.left x.call.by x.call.call answer ran step)
-  keeps_one first old x history (Err none) ran step rest on =
-      subst (KeepsAll moment left_since first) (sym (stays_broken x.left history step.broken rest))
-      (failed is_known seen may_leave is_usable moment left_since has_failed known first old x.left x.call.by x.call.call ran step)
+  lost_answers : (old : StoreView V) (by : List ℕ) (call : Call) (answer : Answer) (new : StoreView V) → Lost old → Step old by call answer new → Lost new
+  lost_answers old by (Report report) answer new lost step = absurd (lost.shut step.is_open)
+  lost_answers old by (Sighting sighting) answer new lost step = absurd (lost.shut step.is_open)
+  lost_answers old by (Query query) answer new lost step = subst Lost (sym (step.query tt)) lost
 
-  keeps_on : (first old : StoreView V) (history : List (Finished (StoreView V))) → Runs first old → Steps old history → KeepsAll moment left_since first (left_by old history)
-  keeps_on first old [] ran run = ran.keeps_all
-  keeps_on first old (x ∷ history) ran run = keeps_one first old x history x.reply ran run.0 run.1 (λ more. keeps_on first x.left history more run.1)
+  -- such a store doesn't settle
+  not_settled : {A : Type 0} (old new : StoreView V) → Lost old → So old new → A
+  not_settled old new lost so = ⊎_elim
+      (λ same. absurd (omega (arith, lost.waits, ap length so.kept, ap length so.entries, ap (λ (g : StoreView V). length g.kept) same)))
+      (λ took. absurd (lost.shut took.0))
+      so.takes
 
-  pub keeps_all : (old : StoreView V) (history : List (Finished (StoreView V))) → old.log.state ≡ Open → IsKept seen may_leave is_usable old → Steps old history → KeepsAll moment left_since old (left_by old history)
-  keeps_all old history works kept run = keeps_on old old history (begun is_known seen may_leave is_usable moment left_since has_failed known old works kept (only_now old.log.device)) run
+  -- one request more
+  next_state : (old : StoreView V) (request : Request) (response : Response) (new : StoreView V) → State old → One old request response new → State new
+  next_state old (Make m) (responses.Answer answer) new (inl good) step = inl (groups.good_step is_known seen may_leave is_usable moment left_since has_failed known only_now old m.by m.call answer new good step)
+  next_state old (Make m) (responses.Answer answer) new (inr lost) step = inr (lost_answers old m.by m.call answer new lost step)
+  next_state old (Make m) responses.Settled new state step = absurd step
+  next_state old (Make m) responses.Nothing new (inl good) (makes, inl (shut, same)) = absurd (shut good.works)
+  next_state old (Make m) responses.Nothing new (inr lost) (makes, inl (shut, same)) = inr (subst Lost (sym same) lost)
+  next_state old (Make m) responses.Nothing new state (makes, inr off) = inr (lost_off old new off)
+  next_state old Settle (responses.Answer answer) new state step = absurd step
+  next_state old Settle responses.Settled new (inl good) step = inl (groups.good_settle is_known seen may_leave is_usable moment left_since has_failed known only_now old new good step)
+  next_state old Settle responses.Settled new (inr lost) step = not_settled old new lost step
+  next_state old Settle responses.Nothing new state step = inr (lost_off old new step)
 
-  -- a call that was done left an open log
-  done_open : (old : StoreView V) (by : List ℕ) (call : Call) (n : ℕ) (reply : Reply) (new : StoreView V) → IsDone n reply → Step old by call (Given reply) new → new.log.state ≡ Open
-  done_open old by (Report report) n reply new done step = step.state ∙ step.is_open
-  done_open old by (Sighting sighting) n reply new done step = step.state ∙ step.is_open
-  done_open old by (Query query) n reply new done step = absurd (no_query_is_done old.entries by query n reply new.entries done step.answers)
+  next_run : (first old : StoreView V) (request : Request) (response : Response) (new : StoreView V) → Runs first old → One old request response new → Runs first new
+  next_run first old (Make m) (responses.Answer answer) new run step = groups.runs_step is_known seen may_leave is_usable moment left_since has_failed known only_now first old m.by m.call answer new run step
+  next_run first old (Make m) responses.Settled new run step = absurd step
+  next_run first old (Make m) responses.Nothing new run step = groups.runs_fail is_known seen may_leave is_usable moment left_since has_failed known only_now first old m.by m.call new run step
+  next_run first old Settle (responses.Answer answer) new run step = absurd step
+  next_run first old Settle responses.Settled new run step = groups.runs_settle is_known seen may_leave is_usable moment left_since has_failed known only_now first old new run step
+  next_run first old Settle responses.Nothing new run step = groups.runs_off is_known seen may_leave is_usable moment left_since has_failed known only_now first old new run step
 
-  done_here : (old : StoreView V) (x : Finished (StoreView V)) (after : List (Finished (StoreView V))) (n : ℕ) (said : Reply) (reply : Result Answer NoAnswer) → reply ≡ Ok (Given said) → IsDone n said → SharedSteps Step Fails old x.call reply x.left → Steps x.left after
-      → (c : List ℕ) → left_since (left_by x.left after).log.device (moment x.left.log.device) c → LoadsFirst n (left_by x.left after).entries c
-  done_here old x after n said reply is done step rest c left =
-      let one : Step old x.call.by x.call.call (Given said) x.left = subst (λ (r : Result Answer NoAnswer). SharedSteps Step Fails old x.call r x.left) is step in
-      let last = done_is_last old.entries x.call.by x.call.call n said x.left.entries done one.answers in
-      let all = keeps_all x.left after (done_open old x.call.by x.call.call n said x.left done one) (one.kept known) rest in
-      subst (λ (k : ℕ). LoadsFirst k (left_by x.left after).entries c) (sym last.0) (all.each c left)
+  all_run : (first old : StoreView V) (history : List (Finished (StoreView V))) → Runs first old → Steps old history → Runs first (left_by old history)
+  all_run first old [] run steps = run
+  all_run first old (x ∷ history) run steps = all_run first x.left history (next_run first old x.call x.reply x.left run steps.0) steps.1
 
-  pub keeps_done : (old : StoreView V) (history : List (Finished (StoreView V))) → Steps old history → KeepsDone moment left_since history (left_by old history)
-  keeps_done old [] run [] after call n said is replied done = let odd = is in absurd (cc)
-  keeps_done old [] run (y ∷ before) after call n said is replied done = let odd = is in absurd (cc)
-  keeps_done old (x ∷ history) run [] after call n said is replied done =
-      let same : x ≡ call = ap (head_or x) is in
-      let rest : history ≡ after = ap tail_of is in
-      λ c left. done_here old x history n said x.reply (ap (λ (f : Finished (StoreView V)). f.reply) same ∙ replied) done run.0 run.1 c
-      (subst (λ (f : Finished (StoreView V)). left_since (left_by x.left history).log.device (moment f.left.log.device) c) (sym same) left)
-    where
-      head_or : Finished (StoreView V) → List (Finished (StoreView V)) → Finished (StoreView V)
-      head_or other [] = other
-      head_or other (f ∷ fs) = f
+  -- entries are never fewer
+  next_grows : (old : StoreView V) (request : Request) (response : Response) (new : StoreView V) → One old request response new → length old.entries ≤ length new.entries
+  next_grows old (Make m) (responses.Answer answer) new step = groups.grows is_known seen may_leave is_usable moment left_since has_failed known only_now old m.by m.call answer new step
+  next_grows old (Make m) responses.Settled new step = absurd step
+  next_grows old (Make m) responses.Nothing new (makes, inl (shut, same)) = omega (arith, ap (λ (g : StoreView V). length g.entries) same)
+  next_grows old (Make m) responses.Nothing new (makes, inr off) = omega (arith, ap length off.entries)
+  next_grows old Settle (responses.Answer answer) new step = absurd step
+  next_grows old Settle responses.Settled new step = omega (arith, ap length step.entries)
+  next_grows old Settle responses.Nothing new step = omega (arith, ap length step.entries)
 
-      tail_of : List (Finished (StoreView V)) → List (Finished (StoreView V))
-      tail_of [] = []
-      tail_of (f ∷ fs) = fs
-  keeps_done old (x ∷ history) run (y ∷ before) after call n said is replied done = keeps_done x.left history run.1 before after call n said (ap tail_of is) replied done
-    where
-      tail_of : List (Finished (StoreView V)) → List (Finished (StoreView V))
-      tail_of [] = []
-      tail_of (f ∷ fs) = fs
+  pub keeps_all : (old : StoreView V) (history : List (Finished (StoreView V))) → old.log.state ≡ Open → IsKept seen may_leave is_usable (stored old) → old.entries ≡ old.kept → Steps old history → KeepsFirst moment left_since old (left_by old history)
+  keeps_all old history works kept all steps =
+      let good : Good old = record { works = works; kept_so = kept } in
+      (all_run old old history (groups.starts is_known seen may_leave is_usable moment left_since has_failed known only_now old [] good (all ∙ sym (append-nil old.kept))) steps).keeps
+
+  -- what a settling keeps is kept from then on
+  settled_on : (old : StoreView V) (request : Request) (response : Response) (new : StoreView V) (after : List (Finished (StoreView V))) (n : ℕ) → State old → One old request response new → response ≡ responses.Settled → n ≤ length old.entries → Steps new after
+      → (c : List ℕ) → left_since (left_by new after).log.device (moment new.log.device) c → LoadsFirst n (left_by new after).entries c
+  settled_on old (Make m) response new after n state step is le steps = absurd (subst (λ (r : Response). One old (Make m) r new) is step)
+  settled_on old Settle response new after n (inr lost) step is le steps = not_settled old new lost (subst (λ (r : Response). One old Settle r new) is step)
+  settled_on old Settle response new after n (inl good) step is le steps = λ c left.
+      let so : So old new = subst (λ (r : Response). One old Settle r new) is step in
+      let fine = groups.good_settle is_known seen may_leave is_usable moment left_since has_failed known only_now old new good so in
+      let run = all_run new new after (groups.starts is_known seen may_leave is_usable moment left_since has_failed known only_now new [] fine (groups.all_kept is_known seen may_leave is_usable moment left_since has_failed known only_now old new so)) steps in
+      let (count, least, within, loads) = run.keeps.each c left in
+      (count, omega (arith, le, least, ap length so.kept, ap length so.entries), within, loads)
+
+  -- a settling that comes behind
+  later : (old : StoreView V) (between after : List (Finished (StoreView V))) (settled : Finished (StoreView V)) (n : ℕ) → State old → n ≤ length old.entries → settled.reply ≡ responses.Settled → Steps old (between ++ settled ∷ after)
+      → (c : List ℕ) → left_since (left_by old (between ++ settled ∷ after)).log.device (moment settled.left.log.device) c → LoadsFirst n (left_by old (between ++ settled ∷ after)).entries c
+  later old [] after settled n state le is steps = settled_on old settled.call settled.reply settled.left after n state steps.0 is le steps.1
+  later old (x ∷ between) after settled n state le is steps =
+      let grown = next_grows old x.call x.reply x.left steps.0 in
+      later x.left between after settled n (next_state old x.call x.reply x.left state steps.0) (omega (arith, le, grown)) is steps.1
+
+  -- the entries that a call has made are there
+  done_here : (old : StoreView V) (request : Request) (response : Response) (new : StoreView V) (n : ℕ) (reply : Reply) → One old request response new → response ≡ responses.Answer (Given reply) → IsDone n reply → n ≤ length new.entries
+  done_here old (Make m) response new n reply step is done =
+      let last = groups.done is_known seen may_leave is_usable moment left_since has_failed known only_now old m.by m.call n reply new done (subst (λ (r : Response). One old (Make m) r new) is step) in
+      omega (arith, last.0)
+  done_here old Settle response new n reply step is done = absurd (subst (λ (r : Response). One old Settle r new) is step)
+
+  done_in : (old : StoreView V) (before between after : List (Finished (StoreView V))) (call settled : Finished (StoreView V)) (n : ℕ) (reply : Reply) → State old → Steps old (before ++ call ∷ (between ++ settled ∷ after))
+      → call.reply ≡ responses.Answer (Given reply) → IsDone n reply → settled.reply ≡ responses.Settled
+      → (c : List ℕ) → left_since (left_by old (before ++ call ∷ (between ++ settled ∷ after))).log.device (moment settled.left.log.device) c → LoadsFirst n (left_by old (before ++ call ∷ (between ++ settled ∷ after))).entries c
+  done_in old [] between after call settled n reply state steps is done kept =
+      later call.left between after settled n (next_state old call.call call.reply call.left state steps.0) (done_here old call.call call.reply call.left n reply steps.0 is done) kept steps.1
+  done_in old (x ∷ before) between after call settled n reply state steps is done kept =
+      done_in x.left before between after call settled n reply (next_state old x.call x.reply x.left state steps.0) steps.1 is done kept
+
+  pub keeps_done : (old : StoreView V) (history : List (Finished (StoreView V))) → old.log.state ≡ Open → IsKept seen may_leave is_usable (stored old) → Steps old history → KeepsDone moment left_since history (left_by old history)
+  keeps_done old history works kept steps before between after call settled n reply is answered done so =
+      subst (λ (h : List (Finished (StoreView V))). (c : List ℕ) → left_since (left_by old h).log.device (moment settled.left.log.device) c → LoadsFirst n (left_by old h).entries c) (sym is)
+      (done_in old before between after call settled n reply (inl (record { works = works; kept_so = kept })) (subst (Steps old) is steps) answered done so)

@@ -1,84 +1,148 @@
 -- The calls of callers at a desk of a hall are one run of the hall.
-use Rattle.std.proofs.Common.{◌≡◌, ◌<◌, ◌==◌, ◌+◌, inl, inr, zero, suc, ℕ, Bool, true, false, cond, All, List, [], ◌∷◌, ◌++◌, length, get_or, filter, map, Option, Some, None, Result, Ok, Err, refl, sym, ap, subst, ◌∙◌, append-nil, arith}
+use Rattle.std.proofs.Common.{◌≡◌, ◌⊎◌, ◌<◌, ◌==◌, ◌+◌, inl, inr, zero, suc, ℕ, Bool, true, false, cond, All, List, [], ◌∷◌, ◌++◌, length, get_or, filter, map, Option, Some, None, Result, Ok, Err, refl, sym, ap, subst, ◌∙◌, append-nil, arith}
 use Rattle.std.specs.List.{range_with_len}
 use Rattle.std.proofs.lemmas.List.{length-map, map-append}
+use Rattle.std.proofs.lemmas.List.Elements.{filter-append}
 use Rattle.std.proofs.KnownBytes.{Appends-nil, Consumes-nil}
 use Rattle.std.specs.Io.KnownBytes.{Consumes, Appends}
 use Rattle.pana_journal.specs.declared.entry.Entry.{Entry}
 use Rattle.pana_calls.specs.declared.call.Call.{Call}
 use Rattle.pana_hall.specs.Run.{Exchange, IsRunFrom, journal_from}
+use Rattle.pana_scan.specs.declared.baseline.BaselineRow.{BaselineRow}
 use Rattle.pana_track.specs.Calls.{Asked, Makes}
 use Rattle.pana_turn.specs.History.{IsHistory, calls_of, left_by}
 use Rattle.pana_turn.specs.Passes.{DeskId, new_pass, new_passes, own_calls}
 use Rattle.pana_calls.specs.declared.answer.Answer.{Answer}
 use Rattle.pana_calls.specs.declared.answer.Answer.TheVariants.{Given, NotKept}
-use Rattle.pana_calls.specs.declared.answer.NoAnswer.{NoAnswer}
 use Rattle.pana_wire.specs.declared.serving.ServeFault.{ServeFault}
 use Rattle.pana_wire.specs.declared.serving.Served.{Served}
 use Rattle.pana_wire.specs.declared.tap.Tap.{Tap}
-use Rattle.pana_hall.specs.Step.{Replies}
-use Rattle.pana_wire.specs.Tap.{inside, has_ended}
+use Rattle.pana_wire.specs.Tap.{bytes_in, has_ended, inside}
 use Rattle.pana_daemon.specs.declared.connection.Connection.{Connection}
 use Rattle.pana_daemon.specs.declared.folder.Look.{Look}
 use Rattle.pana_daemon.specs.declared.post.Post.{Post}
 use Rattle.pana_daemon.specs.declared.post.Post.TheVariants.{Door, Folder}
 use Rattle.pana_daemon.specs.Connection.{ServesAll, ServesConnection, Works, given_by}
-use Rattle.pana_daemon.specs.Desk.{Finished, SharedSteps}
+use Rattle.pana_daemon.specs.Desk.{Finished}
+use Rattle.pana_daemon.specs.declared.request.Request.{Request}
+use Rattle.pana_daemon.specs.declared.request.Request.TheVariants.{Make, Settle}
+use Rattle.pana_daemon.specs.declared.request.Response.{Response}
+use Rattle.pana_daemon.specs.declared.request.Response.TheVariants as responses
 use Rattle.pana_daemon.specs.Post.{HasDone, HaveDone, passes_of, posts_of}
-use Rattle.pana_daemon.specs.Scan.{AreLooks, IsNext, Scans}
+use Rattle.pana_daemon.specs.Scan.{BreaksLook, IsLook, IsNext, KeepsLooks}
 use Rattle.pana_daemon.specs.Serve.{Ends}
 use Rattle.pana_daemon.specs.Served.{EndsWith}
-use Rattle.pana_daemon.specs.Session.{GetsNone, MakesCall}
-use Rattle.pana_laws.specs.OneRun.{AreTold, HasMade, HaveMade, IsOneRun, IsTold, Turn, asked_of, calls_by, exchanges, never}
-use Rattle.pana_laws.proofs.Passes.{Goes, Pass, exchange_of, goes_on, made_by, made_none, made_one, reply_in, stays}
+use Rattle.pana_daemon.specs.Session.{BreaksOff, GetsNone, MakesCall, Settles}
+use Rattle.pana_laws.specs.OneRun.{AreLooks, AreTold, HasMade, HaveMade, IsOneRun, IsRest, IsTold, Turn, asked_of, calls_by, exchanges}
+use Rattle.pana_laws.proofs.Passes.{Goes, Pass, Steps, broken_none, exchange_in, exchanges_in, goes_no_more, goes_on, made_by, made_none, made_one, settled_none, stays}
 use Rattle.pana_laws.proofs.Sessions.{Told, told_early, told_nothing, told_whole}
 
 -- the history as turns
 
-abbrev turn_of : Finished (List Entry) → Turn
-turn_of finished = record { caller = finished.pass; exchange = exchange_of finished }
+-- the calls of a caller as turns
+abbrev turns_of : ℕ → List Exchange → List Turn
+turns_of number xs = map (λ x. record { caller = number; exchange = x }) xs
 
-exchanges_of : (history : List (Finished (List Entry))) → exchanges (map turn_of history) ≡ map exchange_of history
+abbrev turns_in : List (Finished (List Entry)) → List Turn
+turns_in [] = []
+turns_in (x ∷ history) = turns_of x.pass (exchange_in x.call x.reply) ++ turns_in history
+
+exchanges_both : (ts us : List Turn) → exchanges (ts ++ us) ≡ exchanges ts ++ exchanges us
+exchanges_both ts us = map-append (λ (turn : Turn). turn.exchange) ts us
+
+exchanges_so : (number : ℕ) (xs : List Exchange) → exchanges (turns_of number xs) ≡ xs
+exchanges_so number [] = refl
+exchanges_so number (x ∷ xs) = ap (λ (w : List Exchange). x ∷ w) (exchanges_so number xs)
+
+exchanges_of : (history : List (Finished (List Entry))) → exchanges (turns_in history) ≡ exchanges_in history
 exchanges_of [] = refl
-exchanges_of (x ∷ history) = ap (λ xs. exchange_of x ∷ xs) (exchanges_of history)
+exchanges_of (x ∷ history) =
+    let xs = exchange_in x.call x.reply in
+    exchanges_both (turns_of x.pass xs) (turns_in history) ∙ ap (λ (w : List Exchange). w ++ exchanges (turns_in history)) (exchanges_so x.pass xs) ∙ ap (λ (w : List Exchange). xs ++ w) (exchanges_of history)
 
-either : (number : ℕ) (x : Finished (List Entry)) (history : List (Finished (List Entry))) (b : Bool) → exchanges (filter (λ turn. turn.caller == number) (map turn_of history)) ≡ map exchange_of (calls_of number history)
-    → exchanges (cond b (turn_of x ∷ filter (λ turn. turn.caller == number) (map turn_of history)) (filter (λ turn. turn.caller == number) (map turn_of history))) ≡ map exchange_of (cond b (x ∷ calls_of number history) (calls_of number history))
-either number x history true rest = ap (λ xs. exchange_of x ∷ xs) rest
-either number x history false rest = rest
+-- the turns of one caller are all or none of them
+all_by : (number pass : ℕ) (xs : List Exchange) → (pass == number) ≡ true → filter (λ turn. turn.caller == number) (turns_of pass xs) ≡ turns_of pass xs
+all_by number pass [] is = refl
+all_by number pass (x ∷ xs) is = rw is (ap (λ (w : List Turn). record { caller = pass; exchange = x } ∷ w) (all_by number pass xs is))
 
-calls_are : (number : ℕ) (history : List (Finished (List Entry))) → calls_by number (map turn_of history) ≡ map exchange_of (calls_of number history)
+none_by : (number pass : ℕ) (xs : List Exchange) → (pass == number) ≡ false → filter (λ turn. turn.caller == number) (turns_of pass xs) ≡ []
+none_by number pass [] is = refl
+none_by number pass (x ∷ xs) is = rw is (none_by number pass xs is)
+
+turns_by : (number : ℕ) (b : Bool) (pass : ℕ) (xs : List Exchange) → (pass == number) ≡ b → filter (λ turn. turn.caller == number) (turns_of pass xs) ≡ cond b (turns_of pass xs) []
+turns_by number true pass xs is = all_by number pass xs is
+turns_by number false pass xs is = none_by number pass xs is
+
+either : (number : ℕ) (b : Bool) (x : Finished (List Entry)) (history : List (Finished (List Entry))) → calls_by number (turns_in history) ≡ exchanges_in (calls_of number history)
+    → exchanges (cond b (turns_of x.pass (exchange_in x.call x.reply)) [] ++ filter (λ turn. turn.caller == number) (turns_in history)) ≡ exchanges_in (cond b (x ∷ calls_of number history) (calls_of number history))
+either number true x history rest =
+    let xs = exchange_in x.call x.reply in
+    exchanges_both (turns_of x.pass xs) (filter (λ turn. turn.caller == number) (turns_in history)) ∙ ap (λ (w : List Exchange). w ++ calls_by number (turns_in history)) (exchanges_so x.pass xs) ∙ ap (λ (w : List Exchange). xs ++ w) rest
+either number false x history rest = rest
+
+calls_are : (number : ℕ) (history : List (Finished (List Entry))) → calls_by number (turns_in history) ≡ exchanges_in (calls_of number history)
 calls_are number [] = refl
-calls_are number (x ∷ history) = either number x history (x.pass == number) (calls_are number history)
+calls_are number (x ∷ history) =
+    let xs = exchange_in x.call x.reply in
+    ap exchanges (filter-append (λ (turn : Turn). turn.caller == number) (turns_of x.pass xs) (turns_in history) ∙ ap (λ (w : List Turn). w ++ filter (λ turn. turn.caller == number) (turns_in history)) (turns_by number (x.pass == number) x.pass xs refl))
+    ∙ either number (x.pass == number) x history (calls_are number history)
 
--- a step of a hall, whatever the reply
-step_runs : (old : List Entry) (x : Finished (List Entry)) (rest : List Exchange) (reply : Result Answer NoAnswer) → x.reply ≡ reply → SharedSteps Replies never old x.call reply x.left → IsRunFrom x.left rest
-    → IsRunFrom old (exchange_of x ∷ rest) × (journal_from old (exchange_of x ∷ rest) ≡ journal_from x.left rest)
-step_runs old x rest (Ok (Given reply)) is steps run =
-    rw (ap reply_in is) (
-      (steps.0, subst (λ (j : List Entry). IsRunFrom j rest) steps.1 run),
-      ap (λ (j : List Entry). journal_from j rest) (sym steps.1),
-    )
-step_runs old x rest (Ok NotKept) is steps run = absurd steps
-step_runs old x rest (Err none) is steps run = absurd steps
+-- a step of a hall, whatever the request
+step_runs : (old : List Entry) (request : Request) (response : Response) (left : List Entry) (rest : List Exchange) → Steps old request response left → IsRunFrom left rest
+    → IsRunFrom old (exchange_in request response ++ rest) × (journal_from old (exchange_in request response ++ rest) ≡ journal_from left rest)
+step_runs old (Make m) (responses.Answer (Given reply)) left rest steps run =
+    ((steps.0, subst (λ (j : List Entry). IsRunFrom j rest) steps.1 run), ap (λ (j : List Entry). journal_from j rest) (sym steps.1))
+step_runs old (Make m) (responses.Answer NotKept) left rest steps run = absurd steps
+step_runs old (Make m) responses.Settled left rest steps run = absurd steps
+step_runs old (Make m) responses.Nothing left rest steps run = absurd steps
+step_runs old Settle (responses.Answer answer) left rest steps run = absurd steps
+step_runs old Settle responses.Settled left rest steps run = (subst (λ (j : List Entry). IsRunFrom j rest) steps run, ap (λ (j : List Entry). journal_from j rest) (sym steps))
+step_runs old Settle responses.Nothing left rest steps run = absurd steps
 
-history_runs : (begun : List Entry) (history : List (Finished (List Entry))) → IsHistory (SharedSteps Replies never) begun history
-    → IsRunFrom begun (map exchange_of history) × (left_by begun history ≡ journal_from begun (map exchange_of history))
+history_runs : (begun : List Entry) (history : List (Finished (List Entry))) → IsHistory Steps begun history
+    → IsRunFrom begun (exchanges_in history) × (left_by begun history ≡ journal_from begun (exchanges_in history))
 history_runs begun [] run = (tt, refl)
 history_runs begun (x ∷ history) run =
     let (rest, left) = history_runs x.left history run.1 in
-    let (runs, same) = step_runs begun x (map exchange_of history) x.reply refl run.0 rest in
+    let (runs, same) = step_runs begun x.call x.reply x.left (exchanges_in history) run.0 rest in
     (runs, left ∙ sym same)
+
+-- all other requests
+more_by : (number : ℕ) (request : Request) (response : Response) (rest : List Turn) (n k : ℕ) → k ≡ length rest + n → (m : ℕ) × (k + 1 ≡ length (turns_of number (exchange_in request response) ++ rest) + m)
+more_by number (Make m) (responses.Answer (Given reply)) rest n k is = (n, omega (arith, is))
+more_by number (Make m) (responses.Answer NotKept) rest n k is = (n + 1, omega (arith, is))
+more_by number (Make m) responses.Settled rest n k is = (n + 1, omega (arith, is))
+more_by number (Make m) responses.Nothing rest n k is = (n + 1, omega (arith, is))
+more_by number Settle response rest n k is = (n + 1, omega (arith, is))
+
+counted_so : (history : List (Finished (List Entry))) → (settled : ℕ) × (length history ≡ length (turns_in history) + settled)
+counted_so [] = (0, refl)
+counted_so (x ∷ history) =
+    let (n, is) = counted_so history in
+    let (m, so) = more_by x.pass x.call x.reply (turns_in history) n (length history) is in
+    (m, omega (arith, so))
 
 -- each caller's work
 
-made_so : (made : List Asked) (old new : Pass) → Makes (MakesCall Replies never) old made new → (run : List Exchange) × (made ≡ map asked_of run) × Goes old run new
+made_so : (made : List Asked) (old new : Pass) → Makes (MakesCall Steps) old made new → (run : List Exchange) × (made ≡ map asked_of run) × Goes old run new
 made_so [] old new makes = ([], refl, subst (Goes old []) (sym makes) (stays old))
 made_so (asked ∷ made) old new (mid, step, makes) =
     let (reply, given, goes) = made_one old asked.by asked.call asked.answer mid step in
     let (run, are, on) = made_so made mid new makes in
     let x : Exchange = record { by = asked.by; call = asked.call; reply = reply } in
     (x ∷ run, ap (λ (a : Answer). record { by = asked.by; call = asked.call; answer = a } ∷ made) given ∙ ap (λ (l : List Asked). asked_of x ∷ l) are, goes_on old mid new (x ∷ []) run goes on)
+
+-- the calls of a look at a folder
+looks_so : (device : List ℕ) (given : List Look) (old new : Pass) (marks_old marks_new : List BaselineRow) → KeepsLooks (MakesCall Steps) device (Settles Steps) given old new marks_old marks_new
+    → (run : List Exchange) × AreLooks device marks_old given (map asked_of run) marks_new × Goes old run new
+looks_so device [] old new marks_old marks_new so = ([], (refl, so.1), subst (Goes old []) (sym so.0) (stays old))
+looks_so device (look ∷ given) old new marks_old marks_new (made, kept, marks, looks, settled, more) =
+    let (first, are, goes) = made_so looks.made old made looks.calls in
+    let (others, later, on) = looks_so device given kept new marks marks_new more in (
+      first ++ others,
+      (map asked_of first, map asked_of others, marks, subst (λ (made : List Asked). IsLook device look marks_old made marks) are looks.is, later, map-append asked_of first others),
+      goes_on old kept new first others (goes_no_more old made kept first goes (settled_none made kept settled)) on,
+    )
 
 module _ {O W : Type 0} (given : O → Option (List ℕ)) (contents : W → Option (List ℕ)) where
   -- a session's bytes
@@ -90,9 +154,9 @@ module _ {O W : Type 0} (given : O → Option (List ℕ)) (contents : W → Opti
     pub told : Told input output old new
 
   bytes_of : (reader_old reader_new : Tap O) (writer_old writer_new : Tap W) (old new : Pass) (result : Result Served ServeFault)
-      → EndsWith Replies never given contents reader_old reader_new writer_old writer_new old new result → Bytes reader_old reader_new writer_old writer_new old new
+      → EndsWith Steps given contents reader_old reader_new writer_old writer_new old new result → Bytes reader_old reader_new writer_old writer_new old new
   bytes_of reader_old reader_new writer_old writer_new old new (Ok served) s =
-      record { input = s.input; output = s.output; reads = s.reads; writes = s.writes; told = told_whole s.input s.output old new served.calls s.text }
+      record { input = s.input; output = bytes_in s.notes; reads = s.reads; writes = s.writes.1; told = told_whole s.input s.answers.0 s.notes old new served.calls s.answers.1 s.answers.2 }
   bytes_of reader_old reader_new writer_old writer_new old new (Err fault) (inl n) = record {
     input = [];
     output = [];
@@ -101,10 +165,10 @@ module _ {O W : Type 0} (given : O → Option (List ℕ)) (contents : W → Opti
     told = told_nothing old new n.session;
   }
   bytes_of reader_old reader_new writer_old writer_new old new (Err fault) (inr s) =
-      record { input = s.input; output = s.output; reads = s.reads; writes = s.writes; told = told_early fault (has_ended reader_new) s.input s.output old new s.ends }
+      record { input = s.input; output = bytes_in s.notes; reads = s.reads; writes = s.writes.1; told = told_early fault (has_ended reader_new) s.input s.notes old new s.ends }
 
 module _ {R W : Type 0} (remaining : R → Option (List ℕ)) (contents : W → Option (List ℕ)) where
-  told_so : (connection : Connection R W) (old new : Pass) → ServesConnection Replies never remaining contents connection old new → (run : List Exchange) × IsTold remaining contents connection run × Goes old run new
+  told_so : (connection : Connection R W) (old new : Pass) → ServesConnection Steps remaining contents connection old new → (run : List Exchange) × IsTold remaining contents connection run × Goes old run new
   told_so connection old new s =
       let b = bytes_of (given_by remaining) contents s.reader_old s.reader_new s.writer_old s.writer_new old new s.result s.served.text in (
         b.told.0,
@@ -121,7 +185,7 @@ module _ {R W : Type 0} (remaining : R → Option (List ℕ)) (contents : W → 
       )
 
 module _ {D R W F : Type 0} (gives : D → Option (Connection R W) → D → Type 0) (remaining : R → Option (List ℕ)) (contents : W → Option (List ℕ)) (finds : F → Option Look → F → Type 0) where
-  all_told : (door last : D) (connections : List (Connection R W)) (old new : Pass) → ServesAll Replies never gives remaining contents door connections last old new
+  all_told : (door last : D) (connections : List (Connection R W)) (old new : Pass) → ServesAll Steps gives remaining contents door connections last old new
       → (run : List Exchange) × AreTold gives remaining contents finds door connections last run × Goes old run new
   all_told door last [] old new s = ([], (s.0, refl), subst (Goes old []) (sym s.1) (stays old))
   all_told door last (connection ∷ connections) old new (next, mid, gave, served, later) =
@@ -129,8 +193,24 @@ module _ {D R W F : Type 0} (gives : D → Option (Connection R W) → D → Typ
       let (others, are, on) = all_told next last connections mid new later in
       (first ++ others, (next, first, others, gave, told, are, refl), goes_on old mid new first others goes on)
 
+  -- a look that was cut short
+  cut_so : (device : List ℕ) (folder_old folder_new : F) (old new : Pass) (marks : List BaselineRow) (next : Look) → finds folder_old (Some next) folder_new → BreaksLook (MakesCall Steps) device (GetsNone Steps) (BreaksOff Steps) next old new marks
+      → (rest : List Exchange) × IsRest gives remaining contents finds device marks folder_old rest × Goes old rest new
+  cut_so device folder_old folder_new old new marks next gave (inl stops) =
+      let (rest, its, goes) = made_so stops.made old stops.mid stops.calls in
+      (rest, inr (next, folder_new, gave, inr (stops.call, subst (λ (part : List Asked). IsNext device next marks part stops.call) its stops.is)), goes_no_more old stops.mid new rest goes (made_none stops.mid device stops.call new stops.ends))
+  cut_so device folder_old folder_new old new marks next gave (inr (made, left, looks, broken)) =
+      let (rest, its, goes) = made_so looks.made old made looks.calls in
+      (rest, inr (next, folder_new, gave, inl (left, subst (λ (whole : List Asked). IsLook device next marks whole left) its looks.is)), goes_no_more old made new rest goes (broken_none made new broken))
+
+  -- how a scanner's work ends
+  rest_so : (device : List ℕ) (folder_old folder_new : F) (old new : Pass) (marks : List BaselineRow) → ((finds folder_old None folder_new × (new ≡ old)) ⊎ ((next : Look) × finds folder_old (Some next) folder_new × BreaksLook (MakesCall Steps) device (GetsNone Steps) (BreaksOff Steps) next old new marks))
+      → (rest : List Exchange) × IsRest gives remaining contents finds device marks folder_old rest × Goes old rest new
+  rest_so device folder_old folder_new old new marks (inl ended) = ([], inl refl, subst (Goes old []) (sym ended.1) (stays old))
+  rest_so device folder_old folder_new old new marks (inr (next, gave, breaks)) = cut_so device folder_old folder_new old new marks next gave breaks
+
   -- what a caller has made
-  has_made : (post_old post_new : Post D F) (old new : Pass) → HasDone Replies never gives remaining contents finds post_old post_new old new
+  has_made : (post_old post_new : Post D F) (old new : Pass) → HasDone Steps gives remaining contents finds post_old post_new old new
       → (run : List Exchange) × HasMade gives remaining contents finds post_old run × Goes old run new
   has_made (Door door) (Door door_new) old new w =
       let (run, told, goes) = all_told door w.door w.connections old new w.serves in
@@ -138,25 +218,14 @@ module _ {D R W F : Type 0} (gives : D → Option (Connection R W) → D → Typ
   has_made (Door door) (Folder device folder) old new odd = absurd odd
   has_made (Folder device folder) (Door door) old new odd = absurd odd
   has_made (Folder device folder) (Folder device_new folder_new) old new (same, s) =
-      let (whole, are, goes) = made_so s.made old s.mid s.calls in
-      let scans = subst (λ (made : List Asked). AreLooks device.now [] s.given made s.baseline) are s.are in
-      elim s.ends [
-        | inl ended ↦
-            (whole, (s.given, s.baseline, s.folder_mid, whole, [], s.folder, scans, inl refl, sym (append-nil whole)), subst (Goes old whole) (sym ended.1) goes)
-        | inr broke ↦
-            let (part, cut) = broke in
-            let (rest, its, on) = made_so part s.mid cut.mid cut.calls in
-            let last = goes_on s.mid cut.mid new rest [] on (made_none cut.mid device.now cut.call new cut.failed) in (
-              whole ++ rest,
-              (s.given, s.baseline, s.folder_mid, whole, rest, s.folder, scans, inr (cut.next, folder_new, cut.call, cut.gave, subst (λ (part : List Asked). IsNext device.now cut.next s.baseline part cut.call) its cut.is), refl),
-              goes_on old s.mid new whole rest goes (subst (λ (l : List Exchange). Goes s.mid l new) (append-nil rest) last),
-            )
-      ]
+      let (whole, are, goes) = looks_so device.now s.given old s.mid [] s.baseline s.keeps in
+      let (rest, is, on) = rest_so device.now s.folder_mid folder_new s.mid new s.baseline s.ends in
+      (whole ++ rest, (s.given, s.baseline, s.folder_mid, whole, rest, s.folder, are, is, refl), goes_on old s.mid new whole rest goes on)
 
   -- callers with new passes, numbered from this number on
-  have_made : (number : ℕ) (desk : DeskId (List Entry)) (history : List (Finished (List Entry))) (olds news : List (Post D F × Pass)) → HaveDone Replies never gives remaining contents finds olds news
+  have_made : (number : ℕ) (desk : DeskId (List Entry)) (history : List (Finished (List Entry))) (olds news : List (Post D F × Pass)) → HaveDone Steps gives remaining contents finds olds news
       → passes_of olds ≡ map (new_pass desk) (range_with_len number (length olds)) → All (λ pass. calls_of pass.number history ≡ own_calls pass) (passes_of news)
-      → HaveMade gives remaining contents finds number (posts_of olds) (map turn_of history)
+      → HaveMade gives remaining contents finds number (posts_of olds) (turns_in history)
   have_made number desk history [] [] done new own = tt
   have_made number desk history [] (n ∷ news) done new own = absurd done
   have_made number desk history (o ∷ olds) [] done new own = absurd done
@@ -166,8 +235,8 @@ module _ {D R W F : Type 0} (gives : D → Option (Connection R W) → D → Typ
       let others : passes_of olds ≡ map (new_pass desk) (range_with_len (number + 1) (length olds)) = ap tail_of new in
       let its : n.1.number ≡ number = goes.0 ∙ ap (λ (p : Pass). p.number) first in
       let mine : calls_of number history ≡ own_calls n.1 = ap (λ (k : ℕ). calls_of k history) (sym its) ∙ own 0 n.1 (omega arith) in
-      let so : calls_by number (map turn_of history) ≡ run =
-      calls_are number history ∙ ap (map exchange_of) mine ∙ goes.1 ∙ ap (λ (p : Pass). made_by p ++ run) first in
+      let so : calls_by number (turns_in history) ≡ run =
+      calls_are number history ∙ ap exchanges_in mine ∙ goes.1 ∙ ap (λ (p : Pass). made_by p ++ run) first in
       (subst (HasMade gives remaining contents finds o.0) (sym so) made, have_made (number + 1) desk history olds news done.1 others (λ k d h. own (suc k) d (omega (arith, h))))
     where
       head_or : Pass → List Pass → Pass
@@ -179,24 +248,31 @@ module _ {D R W F : Type 0} (gives : D → Option (Connection R W) → D → Typ
       tail_of (p ∷ ps) = ps
 
 -- the callers are those of the history
-callers_within : (seats : ℕ) (history : List (Finished (List Entry))) → All (λ finished. finished.pass < seats) history → All (λ turn. turn.caller < seats) (map turn_of history)
+one_within : (seats number : ℕ) (xs : List Exchange) (rest : List Turn) → number < seats → All (λ turn. turn.caller < seats) rest → All (λ turn. turn.caller < seats) (turns_of number xs ++ rest)
+one_within seats number [] rest within all k d h = all k d h
+one_within seats number (x ∷ xs) rest within all zero d h = within
+one_within seats number (x ∷ xs) rest within all (suc k) d h = one_within seats number xs rest within all k d (omega (arith, h))
+
+callers_within : (seats : ℕ) (history : List (Finished (List Entry))) → All (λ finished. finished.pass < seats) history → All (λ turn. turn.caller < seats) (turns_in history)
 callers_within seats [] all k d h = absurd (omega (arith, h))
-callers_within seats (x ∷ history) all zero d h = all 0 x (omega arith)
-callers_within seats (x ∷ history) all (suc k) d h = callers_within seats history (λ i e g. all (suc i) e (omega (arith, g))) k d (omega (arith, h))
+callers_within seats (x ∷ history) all k d h =
+    one_within seats x.pass (exchange_in x.call x.reply) (turns_in history) (all 0 x (omega arith)) (callers_within seats history (λ i e g. all (suc i) e (omega (arith, g)))) k d h
 
 pub one_run : {D R W F : Type 0} (gives : D → Option (Connection R W) → D → Type 0) (remaining : R → Option (List ℕ)) (contents : W → Option (List ℕ)) (finds : F → Option Look → F → Type 0)
-    (begun : List Entry) (posts posts_left : List (Post D F)) (left : List Entry) (calls : ℕ) (unanswered : Bool)
-    → Ends Replies never gives remaining contents finds begun posts left posts_left calls unanswered → IsOneRun gives remaining contents finds begun posts left calls
-one_run {D = D} {F = F} gives remaining contents finds begun posts posts_left left calls unanswered e =
+    (begun : List Entry) (posts posts_left : List (Post D F)) (left : List Entry) (requests : ℕ) (unanswered : Bool)
+    → Ends Steps gives remaining contents finds begun posts left posts_left requests unanswered → IsOneRun gives remaining contents finds begun posts left requests
+one_run {D = D} {F = F} gives remaining contents finds begun posts posts_left left requests unanswered e =
     let history = e.closed.history in
     let (runs, leaves) = history_runs begun history e.closed.run in
+    let (settled, counted) = counted_so history in
     let many : length posts ≡ length e.olds = ap length (sym e.posts_are) ∙ length-map e.olds (λ caller. caller.0) in
     record {
-      turns = map turn_of history;
+      turns = turns_in history;
+      settled = settled;
       run = subst (IsRunFrom begun) (sym (exchanges_of history)) runs;
       leaves = e.closed.left ∙ leaves ∙ ap (journal_from begun) (sym (exchanges_of history));
-      counted = e.closed.counted ∙ sym (length-map history turn_of);
-      own = subst (λ (ps : List (Post D F)). HaveMade gives remaining contents finds 0 ps (map turn_of history)) e.posts_are
+      counted = e.closed.counted ∙ counted;
+      own = subst (λ (ps : List (Post D F)). HaveMade gives remaining contents finds 0 ps (turns_in history)) e.posts_are
           (have_made gives remaining contents finds 0 e.desk history e.olds e.news e.done (e.are_new ∙ ap (λ n. new_passes e.desk n) many) e.closed.own);
       others = callers_within (length posts) history e.closed.others;
     }

@@ -10,23 +10,31 @@ use Rattle.pana_wire.specs.declared.fault.WireFault.TheVariants as faults
 use Rattle.pana_wire.specs.declared.message.Message.{Message}
 use Rattle.pana_wire.specs.declared.serving.ServeFault.{ServeFault}
 use Rattle.pana_wire.specs.declared.serving.ServeFault.TheVariants.{Read, Write, OutOfMemory, NoAnswer, Turns}
-use Rattle.pana_hall.specs.Step.{Replies}
 use Rattle.pana_wire.specs.Answer.{answer_text}
 use Rattle.pana_wire.specs.Fault.{fault_text}
 use Rattle.pana_wire.specs.Line.{line_says}
 use Rattle.pana_wire.specs.Lines.{ended, last_line, lines_of, unended}
 use Rattle.pana_wire.specs.Reply.{reply_text}
-use Rattle.pana_wire.specs.Session.{AnswersSaid, AnswersLine, AnswersLines, MayCallNext, BreaksIn, EndsBy, lines_come}
+use Rattle.pana_wire.specs.Groups.{joined as lines_in, AnswersGroups, BreaksAmong, BreaksGroup, EndsGroupsBy}
+use Rattle.pana_wire.specs.Session.{AnswersSaid, AnswersLine, AnswersLines, Made, MayCallNext, lines_come}
+use Rattle.pana_wire.specs.Tap.{Note, bytes_in, noted_at}
+use Rattle.pana_wire.proofs.Notes.{bytes_both, noted_bytes}
 use Rattle.pana_laws.specs.SessionRun.{IsExchangeOf, IsFaultOf, IsRunOf}
-use Rattle.pana_daemon.specs.Session.{GetsNone, MakesCall}
-use Rattle.pana_laws.specs.OneRun.{Answered, never}
-use Rattle.pana_laws.proofs.Passes.{Goes, Pass, goes_on, made_none, made_one, stays}
+use Rattle.pana_daemon.specs.Session.{BreaksOff, GetsNone, MakesCall, Settles, requests_seen}
+use Rattle.pana_laws.specs.OneRun.{Answered}
+use Rattle.pana_laws.proofs.Passes.{Goes, Pass, Steps, broken_none, goes_no_more, goes_on, made_none, made_one, settled_none, stays}
 
 abbrev Step : Pass → List ℕ → Call → Answer → Pass → Type 0
-Step = MakesCall Replies never
+Step = MakesCall Steps
 
 abbrev Fails : Pass → List ℕ → Call → Pass → Type 0
-Fails = GetsNone Replies never
+Fails = GetsNone Steps
+
+abbrev So : Pass → Pass → Type 0
+So = Settles Steps
+
+abbrev Off : Pass → Pass → Type 0
+Off = BreaksOff Steps
 
 -- a line is answered by the reply of one call, or by its fault and no call
 abbrev One : List ℕ → List ℕ → Pass → Pass → Type 0
@@ -110,15 +118,66 @@ behind lines first (line ∷ others) text output old mid new split written (run,
 all_of : (output text : List ℕ) → output ≡ text → IsPrefix output text
 all_of output text same = ([], append-nil output ∙ same)
 
-part_in : (fault : ServeFault) (lines : List (List ℕ)) (output : List ℕ) (old new : Pass) → BreaksIn Step Fails fault old lines output new → Part lines output old new
-part_in Read lines output old new breaks = absurd breaks
-part_in Write lines output old new (made, calls, written) =
-    behind lines made.first made.others made.text output old made.last new made.split written (all_lines made.first made.text old made.last made.steps made.answers) calls
-part_in OutOfMemory lines output old new (made, lost, written) =
-    behind lines made.first made.others made.text output old made.last new made.split (all_of output made.text written) (all_lines made.first made.text old made.last made.steps made.answers) (inr (inl lost))
-part_in NoAnswer lines output old new (made, failed, written) =
-    behind lines made.first made.others made.text output old made.last new made.split (all_of output made.text written) (all_lines made.first made.text old made.last made.steps made.answers) (inr (inr failed))
-part_in Turns lines output old new breaks = absurd breaks
+-- and then it settles, or can't
+settled_part : (lines : List (List ℕ)) (output : List ℕ) (old mid new : Pass) → Part lines output old mid → Goes mid [] new → Part lines output old new
+settled_part lines output old mid new p more = record { begun = p.begun; run = p.run; answers = p.answers; first = p.first; are = p.are; written = p.written; goes = goes_no_more old mid new p.run p.goes more }
+
+made_run : (old : Pass) (lines : List (List ℕ)) (made : Made Step old lines) → (run : List Exchange) × IsRunOf made.first run made.text × Goes old run made.last
+made_run old lines made = all_lines made.first made.text old made.last made.steps made.answers
+
+-- these bytes are all that was noted
+all_noted : (moment : ℕ) (notes : List Note) (text : List ℕ) → notes ≡ noted_at moment text → bytes_in notes ≡ text
+all_noted moment notes text is = ap bytes_in is ∙ noted_bytes moment text
+
+part_in : (fault : ServeFault) (lines : List (List ℕ)) (notes : List Note) (old new : Pass) → BreaksGroup Step Fails So Off requests_seen fault old lines notes new → Part lines (bytes_in notes) old new
+part_in Read lines notes old new breaks = absurd breaks
+part_in Write lines notes old new (made, last, output, calls, kept, written, is) =
+    settled_part lines (bytes_in notes) old last new
+    (behind lines made.first made.others made.text (bytes_in notes) old made.last last made.split (subst (λ (o : List ℕ). IsPrefix o made.text) (sym (all_noted (requests_seen new) notes output is)) written) (made_run old lines made) calls)
+    (settled_none last new kept)
+part_in OutOfMemory lines notes old new (made, last, lost, kept, is) =
+    settled_part lines (bytes_in notes) old last new
+    (behind lines made.first made.others made.text (bytes_in notes) old made.last last made.split (all_of (bytes_in notes) made.text (all_noted (requests_seen new) notes made.text is)) (made_run old lines made) (inr (inl lost)))
+    (settled_none last new kept)
+part_in NoAnswer lines notes old new (made, last, inl (failed, kept, is)) =
+    settled_part lines (bytes_in notes) old last new
+    (behind lines made.first made.others made.text (bytes_in notes) old made.last last made.split (all_of (bytes_in notes) made.text (all_noted (requests_seen new) notes made.text is)) (made_run old lines made) (inr (inr failed)))
+    (settled_none last new kept)
+part_in NoAnswer lines notes old new (made, last, inr (calls, broken, is)) =
+    settled_part lines (bytes_in notes) old last new
+    (behind lines made.first made.others made.text (bytes_in notes) old made.last last made.split (subst (λ (ns : List Note). IsPrefix (bytes_in ns) made.text) (sym is) (made.text, refl)) (made_run old lines made) calls)
+    (broken_none last new broken)
+part_in Turns lines notes old new breaks = absurd breaks
+
+-- groups of lines are answered by calls
+all_groups : (groups : List (List (List ℕ))) (notes : List Note) (old new : Pass) (steps : ℕ) → AnswersGroups Step So requests_seen old groups notes new steps
+    → (run : List Exchange) × IsRunOf (lines_in groups) run (bytes_in notes) × Goes old run new
+all_groups [] notes old new steps a = ([], (refl, ap bytes_in a.0), subst (Goes old []) (sym a.1) (stays old))
+all_groups (lines ∷ groups) notes old new steps (made, kept, text, rest, first, others, answers, settled, more, is, count) =
+    let (run, are, goes) = all_lines lines text old made first answers in
+    let (later, rest_are, on) = all_groups groups rest kept new others more in
+    let output : bytes_in notes ≡ text ++ bytes_in rest = ap bytes_in is ∙ bytes_both (noted_at (requests_seen kept) text) rest ∙ ap (λ (l : List ℕ). l ++ bytes_in rest) (noted_bytes (requests_seen kept) text) in (
+      run ++ later,
+      subst (λ (o : List ℕ). IsRunOf (lines ++ lines_in groups) (run ++ later) o) (sym output) (run_append lines (lines_in groups) run later text (bytes_in rest) are rest_are),
+      goes_on old kept new run later (goes_no_more old made kept run goes (settled_none made kept settled)) on,
+    )
+
+-- so are the first of the lines among which it breaks off
+part_among : (fault : ServeFault) (lines : List (List ℕ)) (notes : List Note) (old new : Pass) → BreaksAmong Step Fails So Off requests_seen fault old lines notes new → Part lines (bytes_in notes) old new
+part_among fault lines notes old new b =
+    let (run, are, goes) = all_groups b.groups b.whole old b.last b.steps b.answers in
+    let p = part_in fault b.others b.part b.last new b.breaks in
+    let output : bytes_in notes ≡ bytes_in b.whole ++ bytes_in b.part = ap bytes_in b.noted ∙ bytes_both b.whole b.part in
+    record {
+      begun = lines_in b.groups ++ p.begun;
+      run = run ++ p.run;
+      answers = bytes_in b.whole ++ p.answers;
+      first = (p.first.0, append_assoc (lines_in b.groups) p.begun p.first.0 ∙ ap (λ (ls : List (List ℕ)). lines_in b.groups ++ ls) p.first.1 ∙ sym b.split);
+      are = run_append (lines_in b.groups) p.begun run p.run (bytes_in b.whole) p.answers are p.are;
+      written = subst (λ (o : List ℕ). IsPrefix o (bytes_in b.whole ++ p.answers)) (sym output)
+          (p.written.0, append_assoc (bytes_in b.whole) (bytes_in b.part) p.written.0 ∙ ap (λ (w : List ℕ). bytes_in b.whole ++ w) p.written.1);
+      goes = goes_on old b.last new run p.run goes p.goes;
+    }
 
 -- what a session's input and output are, and its calls
 abbrev pub Told : List ℕ → List ℕ → Pass → Pass → Type 0
@@ -143,23 +202,30 @@ told_part met input output old new p =
       p.goes,
     )
 
-told_lines : (met : Bool) (input output : List ℕ) (old new : Pass) (steps : ℕ) → AnswersLines Step old (lines_come met input) output new steps → Told input output old new
-told_lines met input output old new steps a =
-    let (run, are, goes) = all_lines (lines_come met input) output old new steps a in
-    told_part met input output old new
-    (record { begun = lines_come met input; run = run; answers = output; first = ([], append-nil (lines_come met input)); are = are; written = ([], append-nil output); goes = goes })
+told_lines : (met : Bool) (input : List ℕ) (groups : List (List (List ℕ))) (notes : List Note) (old new : Pass) (steps : ℕ) → lines_come met input ≡ lines_in groups → AnswersGroups Step So requests_seen old groups notes new steps → Told input (bytes_in notes) old new
+told_lines met input groups notes old new steps split a =
+    let (run, are, goes) = all_groups groups notes old new steps a in
+    told_part met input (bytes_in notes) old new (record {
+      begun = lines_come met input;
+      run = run;
+      answers = bytes_in notes;
+      first = ([], append-nil (lines_come met input));
+      are = subst (λ (ls : List (List ℕ)). IsRunOf ls run (bytes_in notes)) (sym split) are;
+      written = ([], append-nil (bytes_in notes));
+      goes = goes;
+    })
 
 -- a session that was served whole
-pub told_whole : (input output : List ℕ) (old new : Pass) (steps : ℕ) → AnswersLines Step old (lines_of input) output new steps → Told input output old new
-told_whole input output old new steps a = told_lines true input output old new steps a
+pub told_whole : (input : List ℕ) (groups : List (List (List ℕ))) (notes : List Note) (old new : Pass) (steps : ℕ) → lines_of input ≡ lines_in groups → AnswersGroups Step So requests_seen old groups notes new steps → Told input (bytes_in notes) old new
+told_whole input groups notes old new steps split a = told_lines true input groups notes old new steps split a
 
 -- and one that stopped early
-pub told_early : (fault : ServeFault) (met : Bool) (input output : List ℕ) (old new : Pass) → EndsBy Step Fails fault met old input output new → Told input output old new
-told_early Read met input output old new (steps, a) = told_lines false input output old new steps a
-told_early Write met input output old new ends = told_part met input output old new (part_in Write (lines_come met input) output old new ends)
-told_early OutOfMemory met input output old new ends = told_part met input output old new (part_in OutOfMemory (lines_come met input) output old new ends)
-told_early NoAnswer met input output old new ends = told_part met input output old new (part_in NoAnswer (lines_come met input) output old new ends)
-told_early Turns met input output old new (steps, a) = told_lines false input output old new steps a
+pub told_early : (fault : ServeFault) (met : Bool) (input : List ℕ) (notes : List Note) (old new : Pass) → EndsGroupsBy Step Fails So Off requests_seen fault met old input notes new → Told input (bytes_in notes) old new
+told_early Read met input notes old new (steps, a) = told_lines false input a.0 notes old new steps a.1 a.2
+told_early Write met input notes old new ends = told_part met input (bytes_in notes) old new (part_among Write (lines_come met input) notes old new ends)
+told_early OutOfMemory met input notes old new ends = told_part met input (bytes_in notes) old new (part_among OutOfMemory (lines_come met input) notes old new ends)
+told_early NoAnswer met input notes old new ends = told_part met input (bytes_in notes) old new (part_among NoAnswer (lines_come met input) notes old new ends)
+told_early Turns met input notes old new (steps, a) = told_lines false input a.0 notes old new steps a.1 a.2
 
 -- and one that never began
 pub told_nothing : (old new : Pass) → new ≡ old → Told [] [] old new

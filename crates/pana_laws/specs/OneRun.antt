@@ -15,11 +15,7 @@ use Rattle.pana_daemon.specs.declared.folder.Look.{Look}
 use Rattle.pana_daemon.specs.declared.post.Post.{Post}
 use Rattle.pana_daemon.specs.declared.post.Post.TheVariants.{Door, Folder}
 use Rattle.pana_daemon.specs.Objects.{given_of}
-use Rattle.pana_daemon.specs.Scan.{AreLooks, Gives, IsNext}
-
--- a hall has an answer to every call
-abbrev pub never : List Entry → List ℕ → Call → List Entry → Type 0
-never old by call new = ⊥
+use Rattle.pana_daemon.specs.Scan.{Gives, IsLook, IsNext}
 
 -- a call in the one run: the number of the caller that made it, and the call with its reply
 pub record Turn : Type 0 where
@@ -58,6 +54,12 @@ module _ {R W : Type 0} (remaining : R → Option (List ℕ)) (contents : W → 
 abbrev pub asked_of : Exchange → Asked
 asked_of x = record { by = x.by; call = x.call; answer = Given x.reply }
 
+-- the calls of looks, one after another, each of which begins with the baseline that the one before has left
+abbrev pub AreLooks : List ℕ → List BaselineRow → List Look → List Asked → List BaselineRow → Type 0
+AreLooks device old [] made new = (made ≡ []) × (new ≡ old)
+AreLooks device old (look ∷ more) made new =
+    (first : List Asked) × (others : List Asked) × (mid : List BaselineRow) × IsLook device look old first mid × AreLooks device mid more others new × (made ≡ first ++ others)
+
 module _ {D R W F : Type 0} (gives : D → Option (Connection R W) → D → Type 0) (remaining : R → Option (List ℕ)) (contents : W → Option (List ℕ)) (finds : F → Option Look → F → Type 0) where
   -- the door gives these connections, and they were served one after another, each by calls of its own
   abbrev pub AreTold : D → List (Connection R W) → D → List Exchange → Type 0
@@ -65,9 +67,10 @@ module _ {D R W F : Type 0} (gives : D → Option (Connection R W) → D → Typ
   AreTold door (connection ∷ connections) last made = (next : D) × (first : List Exchange) × (others : List Exchange)
       × gives door (Some connection) next × IsTold remaining contents connection first × AreTold next connections last others × (made ≡ first ++ others)
 
-  -- these are the first calls of one more look, which was cut short, or there are none
+  -- there are none, or these are the calls of one more look, or the first of them
   abbrev pub IsRest : List ℕ → List BaselineRow → F → List Exchange → Type 0
-  IsRest device baseline last rest = (rest ≡ []) ⊎ ((next : Look) × (after : F) × (call : Call) × finds last (Some next) after × IsNext device next baseline (map asked_of rest) call)
+  IsRest device baseline last rest = (rest ≡ []) ⊎ ((next : Look) × (after : F) × finds last (Some next) after
+      × (((left : List BaselineRow) × IsLook device next baseline (map asked_of rest) left) ⊎ ((call : Call) × IsNext device next baseline (map asked_of rest) call)))
 
   -- what a caller was to do was done by these calls: the connections that its door gave were served, until it gave no
   -- more; or its folder was looked at
@@ -81,13 +84,14 @@ module _ {D R W F : Type 0} (gives : D → Option (Connection R W) → D → Typ
   HaveMade number [] turns = Unit {0}
   HaveMade number (post ∷ posts) turns = HasMade post (calls_by number turns) × HaveMade (number + 1) posts turns
 
-  -- There is one run of the hall, of as many calls, which leaves its journal: each reply is permitted on the journal that
-  -- all calls before it leave, from the one that the hall began with. Each caller's calls in it are those by which it did
-  -- what it was to do, in order, and there are no others.
-  pub record IsOneRun (begun : List Entry) (posts : List (Post D F)) (left : List Entry) (calls : ℕ) : Type 0 where
+  -- There is one run of the hall, which leaves its journal: each reply is permitted on the journal that all calls before it
+  -- leave, from the one that the hall began with. Each caller's calls in it are those by which it did what it was to do, in
+  -- order, and there are no others. All other requests at the desk were to settle, which changes no hall.
+  pub record IsOneRun (begun : List Entry) (posts : List (Post D F)) (left : List Entry) (requests : ℕ) : Type 0 where
     pub turns : List Turn
+    pub settled : ℕ
     pub run : IsRunFrom begun (exchanges turns)
     pub leaves : left ≡ journal_from begun (exchanges turns)
-    pub counted : calls ≡ length turns
+    pub counted : requests ≡ length turns + settled
     pub own : HaveMade 0 posts turns
     pub others : All (λ turn. turn.caller < length posts) turns

@@ -1,11 +1,12 @@
 -- What the words of `serve` make the daemon do, and what the program says at the end.
 use Rattle.std.specs.Prelude.{◌≡◌, ℕ, Bool, true, false, List, [], ◌∷◌, ◌++◌, codes, decimal, Option, Some, None, Result, Ok, Err}
 use Rattle.std.specs.Borrow.{Bor}
-use Rattle.pana_calls.specs.declared.call.Call.{Call}
 use Rattle.pana_journal.specs.declared.entry.Entry.{Entry}
 use Rattle.pana_hall.specs.Step.{Replies}
-use Rattle.pana_calls.specs.declared.answer.Answer.{Answer}
+use Rattle.pana_daemon.specs.Desk.{AnsweredSteps}
 use Rattle.pana_daemon.specs.declared.folder.Look.{Look}
+use Rattle.pana_daemon.specs.declared.request.Request.{Request}
+use Rattle.pana_daemon.specs.declared.request.Response.{Response}
 use Rattle.pana_daemon.specs.declared.looks.Looks.{Looks}
 use Rattle.pana_daemon.specs.declared.daemon_fault.DaemonFault.{DaemonFault}
 use Rattle.pana_daemon.specs.declared.daemon_fault.DaemonFault.TheVariants as faults
@@ -21,20 +22,16 @@ use Rattle.pana_daemon.specs.Serve.{EndsDaemon}
 abbrev pub loopback : List ℕ
 loopback = 127 ∷ 0 ∷ 0 ∷ 1 ∷ []
 
--- a hall has an answer to every call
-abbrev pub never : List Entry → List ℕ → Call → List Entry → Type 0
-never old by call new = ⊥
-
-module _ {D Y E R W I K : Type 0} (step : D → List ℕ → Call → Answer → D → Type 0) (fails : D → List ℕ → Call → D → Type 0)
+module _ {D Y E R W I K : Type 0} (steps : D → Request → Response → D → Type 0)
     (binds : Y → List ℕ → ℕ → Bool → Y → Type 0) (opens : Y → List ℕ → Result D E → Y → Type 0)
     (remaining : R → Option (List ℕ)) (contents : W → Option (List ℕ)) (inputs : I → Option (List ℕ)) (finds : FolderView K → Option Look → FolderView K → Type 0) (disks : K) where
   -- the daemon has served a new hall, where no journal is named, or else the store of the journal with this name, and
   -- looked so at the folders that the words name; this has gone wrong
   abbrev pub Serves : Option (Bor (List ℕ)) → List (List ℕ) → Option ℕ → Looks → Y → Option LateFault → Y → Type 0
   Serves None words wanted looks old fault new = (new ≡ old)
-      × ((left : List Entry) × (calls : ℕ) × EndsDaemon Replies never remaining contents inputs finds [] wanted looks (folders_named disks words) left calls fault)
+      × ((left : List Entry) × (requests : ℕ) × EndsDaemon (AnsweredSteps Replies) remaining contents inputs finds [] wanted looks (folders_named disks words) left requests fault)
   Serves (Some name) words wanted looks old fault new =
-      (begun : D) × (left : D) × (calls : ℕ) × opens old name.now (Ok begun) new × EndsDaemon step fails remaining contents inputs finds begun wanted looks (folders_named disks words) left calls fault
+      (begun : D) × (left : D) × (requests : ℕ) × opens old name.now (Ok begun) new × EndsDaemon steps remaining contents inputs finds begun wanted looks (folders_named disks words) left requests fault
 
   -- the journal that is named can't be used
   abbrev pub Refuses : Option (Bor (List ℕ)) → Y → E → Y → Type 0

@@ -1,6 +1,7 @@
 //! What the words of `serve` make the daemon do, and what the program says at the end.
 ghost use Rattle.std.specs.Prelude.{◌≡◌, ◌≤◌, [], IfErr, IfOk, length, string_bytes};
 ghost use Rattle.pana_serve.specs.Program.{Comes, Says, status_of};
+ghost use Rattle.pana_daemon.specs.Desk.{RequestSteps};
 ghost use Rattle.pana_daemon.specs.Root.{folders_of};
 ghost use Rattle.pana_daemon.specs.Serve.{EndsDaemon};
 
@@ -33,8 +34,6 @@ pub struct Wishes<'a> {
     /// How many connections are wanted; all where there is no number.
     pub wanted: Option<u64>,
     pub patience: Patience,
-    /// Whether it stays where a call has no answer.
-    pub stays: bool,
 }
 
 /// What has come of the words.
@@ -72,7 +71,7 @@ pub fn serve_on<'a, Y: System, T: Threads + Wait + Clock + Sync, K: Disks + Sync
     system: &mut Y,
     wishes: Wishes<'a>,
 ) -> Outcome<'a, Y::Refusal>
-    ensures { Comes Y.Store.step Y.Store.fails Y.binds Y.opens ⟦<PatientReader<'a, T, Alarm<'a>> as Read>⟧.remaining ⟦<BufWriter<PatientWriter<'a, T, Alarm<'a>>, Global> as Write>⟧.contents ⟦<StandardInput<'a, 'a, T> as Read>⟧.remaining ⟦<RootFolder<'a, T, K> as Folder>⟧.gives disks.now wishes.entry system.old result system.new }
+    ensures { Comes (RequestSteps Y.Store.step Y.Store.fails Y.Store.settles Y.Store.breaks_off) Y.binds Y.opens ⟦<PatientReader<'a, T, Alarm<'a>> as Read>⟧.remaining ⟦<BufWriter<PatientWriter<'a, T, Alarm<'a>>, Global> as Write>⟧.contents ⟦<StandardInput<'a, 'a, T> as Read>⟧.remaining ⟦<RootFolder<'a, T, K> as Folder>⟧.gives disks.now wishes.entry system.old result system.new }
 {
     let roots = match roots_of(rt.alloc(), wishes.roots) {
         Ok(roots) => roots,
@@ -87,19 +86,15 @@ pub fn serve_on<'a, Y: System, T: Threads + Wait + Clock + Sync, K: Disks + Sync
         wanted: wishes.wanted,
         patience: wishes.patience,
     };
-    let (stays, looks, roots) = (wishes.stays, wishes.looks, roots.as_slice());
+    let (looks, roots) = (wishes.looks, roots.as_slice());
     let Some(name) = wishes.journal else {
         let Ok(hall) = Hall::new(rt.alloc()) else {
             return Outcome::NotBegun(DaemonFault::OutOfMemory);
         };
-        return outcome_of(serve(
-            rt, threads, disks, &address, listener, stays, looks, roots, hall,
-        ));
+        return outcome_of(serve(rt, threads, disks, &address, listener, looks, roots, hall));
     };
     match system.open(name) {
-        Ok(store) => outcome_of(serve(
-            rt, threads, disks, &address, listener, stays, looks, roots, store,
-        )),
+        Ok(store) => outcome_of(serve(rt, threads, disks, &address, listener, looks, roots, store)),
         Err(refusal) => Outcome::NoStore(refusal),
     }
 }

@@ -23,8 +23,7 @@ use Rattle.pana_log.proofs.Moments.{started, then_on}
 use Rattle.pana_log.proofs.Settled.{recovered_same}
 use Rattle.pana_store.specs.Acknowledged.{IsDone, Acknowledges}
 use Rattle.pana_store.specs.Entries.{LoadsTo, LoadsFirst, LoadsEither}
-use Rattle.pana_store.specs.Group.{GroupView, stored, whole, KeepsFirst, Gathers, Settles, BreaksOff, FailsToGather}
-use Rattle.pana_store.specs.Store.{IsKept}
+use Rattle.pana_store.specs.Store.{BreaksOff, FailsToGather, Gathers, IsKept, KeepsFirst, Settles, StoreView, stored, whole}
 use Rattle.pana_store.proofs.Done.{done_is_last}
 use Rattle.pana_store.proofs.Grouped.{found_all, good_groups, good_lines, run_group, run_groups}
 use Rattle.pana_store.proofs.Runs.{becomes_grows}
@@ -32,49 +31,49 @@ use Rattle.pana_store.proofs.Said.{loads_same, loads_prefix, loads_grown}
 use Rattle.pana_store.proofs.Wrote.{Wrote, wrote}
 
 module _ {D : Type 0} (is_known : Bool) (seen : D → List ℕ) (may_leave : D → List ℕ → Type 0) (is_usable : D → Bool) (moment : D → ℕ) (left_since : D → ℕ → List ℕ → Type 0) (has_failed : D → Bool) where
-  abbrev Step : GroupView D → List ℕ → Call → Answer → GroupView D → Type 0
+  abbrev pub Step : StoreView D → List ℕ → Call → Answer → StoreView D → Type 0
   Step old by call answer new = Gathers is_known seen may_leave is_usable moment left_since has_failed old by call answer new
 
-  abbrev Fails : GroupView D → List ℕ → Call → GroupView D → Type 0
+  abbrev pub Fails : StoreView D → List ℕ → Call → StoreView D → Type 0
   Fails old by call new = FailsToGather is_known moment left_since has_failed old by call new
 
-  abbrev So : GroupView D → GroupView D → Type 0
+  abbrev pub So : StoreView D → StoreView D → Type 0
   So old new = Settles is_known seen may_leave is_usable moment left_since old new
 
-  abbrev Off : GroupView D → GroupView D → Type 0
+  abbrev pub Off : StoreView D → StoreView D → Type 0
   Off old new = BreaksOff is_known moment left_since has_failed old new
 
-  abbrev Moment : GroupView D → ℕ
+  abbrev Moment : StoreView D → ℕ
   Moment group = moment group.log.device
 
-  abbrev entries_in : GroupView D → List Entry
+  abbrev entries_in : StoreView D → List Entry
   entries_in group = group.entries
 
-  abbrev Session : {W : Type 0} → (W → Option (List ℕ)) → Tap W → Tap W → GroupView D → GroupView D → Type 0
+  abbrev Session : {W : Type 0} → (W → Option (List ℕ)) → Tap W → Tap W → StoreView D → StoreView D → Type 0
   Session contents a b old new = Wrote contents Step Fails So Off Moment a b old new
 
-  pub wrote_of : {R W : Type 0} (remaining : R → Option (List ℕ)) (contents : W → Option (List ℕ)) (most : ℕ) (r s : Tap R) (a b : Tap W) (old new : GroupView D) (result : Result Served ServeFault) → IfOk result (ServesGroups remaining contents Step So Moment r s a b old new)
+  pub wrote_of : {R W : Type 0} (remaining : R → Option (List ℕ)) (contents : W → Option (List ℕ)) (most : ℕ) (r s : Tap R) (a b : Tap W) (old new : StoreView D) (result : Result Served ServeFault) → IfOk result (ServesGroups remaining contents Step So Moment r s a b old new)
       → IfErr result (λ fault. NeverBegins r s a b old new fault ⊎ StopsGroups remaining contents Step Fails So Off Moment most r s a b old new fault) → Session contents a b old new
   wrote_of remaining contents most r s a b old new result ok err = wrote contents Step Fails So Off Moment a b remaining most r s old new result ok err
 
   module _ (known : IsTrue is_known) (only_now : (d : D) (c : List ℕ) → left_since d (moment d) c → may_leave d c) where
-    record Good (group : GroupView D) : Type 0 where
+    pub record Good (group : StoreView D) : Type 0 where
       pub works : group.log.state ≡ Open
       pub kept_so : IsKept seen may_leave is_usable (stored group)
 
     -- from the one to the other all that was kept is, and a crash has left no less
-    record Runs (old new : GroupView D) : Type 0 where
+    pub record Runs (old new : StoreView D) : Type 0 where
       pub least : length old.kept ≤ length new.kept
       pub waiting : List Entry
       pub waits : new.entries ≡ new.kept ++ waiting
       pub keeps : KeepsFirst moment left_since old new
 
-    left_kept : (s : GroupView D) → Good s → (f : List ℕ) → left_since s.log.device (Moment s) f → LoadsTo s.kept f
+    left_kept : (s : StoreView D) → Good s → (f : List ℕ) → left_since s.log.device (Moment s) f → LoadsTo s.kept f
     left_kept s good f left =
         let was = good.kept_so good.works in
         loads_same s.kept (seen s.log.device) f (recovered_same (seen s.log.device) f (was.0.durable f (only_now s.log.device f left))) was.1
 
-    starts : (s : GroupView D) (waiting : List Entry) → Good s → s.entries ≡ s.kept ++ waiting → Runs s s
+    pub starts : (s : StoreView D) (waiting : List Entry) → Good s → s.entries ≡ s.kept ++ waiting → Runs s s
     starts s waiting good waits = record {
       least = omega arith;
       waiting = waiting;
@@ -83,7 +82,7 @@ module _ {D : Type 0} (is_known : Bool) (seen : D → List ℕ) (may_leave : D �
     }
 
     -- one thing more, of which a crash leaves what was kept before it, or another prefix of the entries that is no shorter
-    runs_on : (z s t : GroupView D) (some waiting other rest : List Entry) → Runs z s → t.entries ≡ s.entries ++ some → t.entries ≡ t.kept ++ waiting → length s.kept ≤ length t.kept → t.entries ≡ other ++ rest → length s.kept ≤ length other
+    runs_on : (z s t : StoreView D) (some waiting other rest : List Entry) → Runs z s → t.entries ≡ s.entries ++ some → t.entries ≡ t.kept ++ waiting → length s.kept ≤ length t.kept → t.entries ≡ other ++ rest → length s.kept ≤ length other
         → LeavesOnly moment left_since s.log.device t.log.device (LoadsEither s.kept other) → Runs z t
     runs_on z s t some waiting other rest run grown waits more is long either = record {
       least = omega (arith, run.least, more);
@@ -98,7 +97,7 @@ module _ {D : Type 0} (is_known : Bool) (seen : D → List ℕ) (may_leave : D �
           p);
     }
 
-    runs_open : (z s : GroupView D) (by : List ℕ) (call : Call) (answer : Answer) (t : GroupView D) → Runs z s → Step s by call answer t → s.log.state ≡ Open → Runs z t
+    runs_open : (z s : StoreView D) (by : List ℕ) (call : Call) (answer : Answer) (t : StoreView D) → Runs z s → Step s by call answer t → s.log.state ≡ Open → Runs z t
     runs_open z s by call answer t run step works =
         let (some, grown) = becomes_grows s.entries by call answer t.entries step.answers in
         elim step.kept [
@@ -113,7 +112,7 @@ module _ {D : Type 0} (is_known : Bool) (seen : D → List ℕ) (may_leave : D �
               runs_on z s t some some t.kept some run grown waits long waits long (step.keeps_whole known works)
         ]
 
-    runs_step : (z s : GroupView D) (by : List ℕ) (call : Call) (answer : Answer) (t : GroupView D) → Runs z s → Step s by call answer t → Runs z t
+    pub runs_step : (z s : StoreView D) (by : List ℕ) (call : Call) (answer : Answer) (t : StoreView D) → Runs z s → Step s by call answer t → Runs z t
     runs_step z s by (Report report) answer t run step = runs_open z s by (Report report) answer t run step step.is_open
     runs_step z s by (Sighting sighting) answer t run step = runs_open z s by (Sighting sighting) answer t run step step.is_open
     runs_step z s by (Query query) answer t run step = subst (Runs z) (sym (step.query tt)) run
@@ -124,7 +123,7 @@ module _ {D : Type 0} (is_known : Bool) (seen : D → List ℕ) (may_leave : D �
     is_open Read = inr (λ odd. absurd (cc))
     is_open Broken = inr (λ odd. absurd (cc))
 
-    runs_off : (z s t : GroupView D) → Runs z s → Off s t → Runs z t
+    pub runs_off : (z s t : StoreView D) → Runs z s → Off s t → Runs z t
     runs_off z s t run off = elim (is_open s.log.state) [
       | inl works ↦
           let all : t.entries ≡ s.entries ++ [] = off.entries ∙ sym (append-nil s.entries) in
@@ -133,11 +132,11 @@ module _ {D : Type 0} (is_known : Bool) (seen : D → List ℕ) (may_leave : D �
       | inr shut ↦ subst (Runs z) (sym (off.once shut)) run
     ]
 
-    runs_fail : (z s : GroupView D) (by : List ℕ) (call : Call) (t : GroupView D) → Runs z s → Fails s by call t → Runs z t
+    pub runs_fail : (z s : StoreView D) (by : List ℕ) (call : Call) (t : StoreView D) → Runs z s → Fails s by call t → Runs z t
     runs_fail z s by call t run (makes, inl (shut, same)) = subst (Runs z) (sym same) run
     runs_fail z s by call t run (makes, inr off) = runs_off z s t run off
 
-    runs_settle : (z s t : GroupView D) → Runs z s → So s t → Runs z t
+    pub runs_settle : (z s t : StoreView D) → Runs z s → So s t → Runs z t
     runs_settle z s t run so = elim so.takes [
       | inl same ↦ subst (Runs z) (sym same) run
       | inr took ↦
@@ -146,71 +145,71 @@ module _ {D : Type 0} (is_known : Bool) (seen : D → List ℕ) (may_leave : D �
           runs_on z s t [] [] t.kept [] run (so.entries ∙ sym (append-nil s.entries)) waits long waits long (so.keeps_whole known took.0)
     ]
 
-    good_step : (s : GroupView D) (by : List ℕ) (call : Call) (answer : Answer) (t : GroupView D) → Good s → Step s by call answer t → Good t
+    pub good_step : (s : StoreView D) (by : List ℕ) (call : Call) (answer : Answer) (t : StoreView D) → Good s → Step s by call answer t → Good t
     good_step s by call answer t good step = record { works = step.state ∙ good.works; kept_so = step.file known }
 
-    good_settle : (s t : GroupView D) → Good s → So s t → Good t
+    pub good_settle : (s t : StoreView D) → Good s → So s t → Good t
     good_settle s t good so = record {
-      works = ⊎_elim (λ same. ap (λ (g : GroupView D). g.log.state) same ∙ good.works) (λ took. took.1) so.takes;
+      works = ⊎_elim (λ same. ap (λ (g : StoreView D). g.log.state) same ∙ good.works) (λ took. took.1) so.takes;
       kept_so = so.file known;
     }
 
     -- once all are kept
-    all_kept : (s t : GroupView D) → So s t → t.entries ≡ t.kept ++ []
+    pub all_kept : (s t : StoreView D) → So s t → t.entries ≡ t.kept ++ []
     all_kept s t so = sym so.kept ∙ sym (append-nil t.kept)
 
-    begun : (s z : GroupView D) → Good s → So s z → Runs z z
+    begun : (s z : StoreView D) → Good s → So s z → Runs z z
     begun s z good so = starts z [] (good_settle s z good so) (all_kept s z so)
 
-    grows : (s : GroupView D) (by : List ℕ) (call : Call) (answer : Answer) (t : GroupView D) → Step s by call answer t → length s.entries ≤ length t.entries
+    pub grows : (s : StoreView D) (by : List ℕ) (call : Call) (answer : Answer) (t : StoreView D) → Step s by call answer t → length s.entries ≤ length t.entries
     grows s by call answer t step = let some = becomes_grows s.entries by call answer t.entries step.answers in omega (arith, ap length some.1, length-append s.entries some.0)
 
-    done : (s : GroupView D) (by : List ℕ) (call : Call) (m : ℕ) (reply : Reply) (t : GroupView D) → IsDone m reply → Step s by call (Given reply) t → (m ≡ length t.entries) × (m < 2 ^ 64)
+    pub done : (s : StoreView D) (by : List ℕ) (call : Call) (m : ℕ) (reply : Reply) (t : StoreView D) → IsDone m reply → Step s by call (Given reply) t → (m ≡ length t.entries) × (m < 2 ^ 64)
     done s by call m reply t is step = done_is_last s.entries by call m reply t.entries is step.answers
 
     -- what can't be kept isn't settled after all
-    not_off : {A : Type 0} (s mid new : GroupView D) → Off s mid → So mid new → A
+    pub not_off : {A : Type 0} (s mid new : StoreView D) → Off s mid → So mid new → A
     not_off s mid new off so = ⊎_elim
         (λ same.
-        let all : mid.kept ≡ mid.entries = subst (λ (g : GroupView D). g.kept ≡ g.entries) same so.kept in
+        let all : mid.kept ≡ mid.entries = subst (λ (g : StoreView D). g.kept ≡ g.entries) same so.kept in
         absurd (omega (arith, off.waits, ap length off.entries, ap length off.kept, ap length all)))
         (λ took. absurd (off.broken took.0))
         so.takes
 
-    no_fail : {A : Type 0} (s mid new : GroupView D) (lines : List (List ℕ)) → Good s → FailsNext Fails s lines mid → So mid new → A
+    no_fail : {A : Type 0} (s mid new : StoreView D) (lines : List (List ℕ)) → Good s → FailsNext Fails s lines mid → So mid new → A
     no_fail s mid new [] good none so = absurd none
     no_fail s mid new (line ∷ lines) good (m, says, (makes, inl (shut, same))) so = absurd (shut good.works)
     no_fail s mid new (line ∷ lines) good (m, says, (makes, inr off)) so = not_off s mid new off so
 
     -- one call more
-    abbrev Further : GroupView D → GroupView D → Type 0
+    abbrev Further : StoreView D → StoreView D → Type 0
     Further s mid = Good mid × (length s.entries ≤ length mid.entries)
 
-    lost_further : (s mid : GroupView D) (lines : List (List ℕ)) → Good s → LosesNext Step s lines mid → Further s mid
+    lost_further : (s mid : StoreView D) (lines : List (List ℕ)) → Good s → LosesNext Step s lines mid → Further s mid
     lost_further s mid [] good lost = absurd lost
     lost_further s mid (line ∷ lines) good (m, answer, says, step) = (good_step s m.by m.call answer mid good step, grows s m.by m.call answer mid step)
 
-    further : (s mid new : GroupView D) (lines : List (List ℕ)) → Good s → MayCallNext Step Fails s lines mid → So mid new → Further s mid
+    further : (s mid new : StoreView D) (lines : List (List ℕ)) → Good s → MayCallNext Step Fails s lines mid → So mid new → Further s mid
     further s mid new lines good (inl same) so = subst (Further s) (sym same) (good, omega arith)
     further s mid new lines good (inr (inl lost)) so = lost_further s mid lines good lost
     further s mid new lines good (inr (inr none)) so = no_fail s mid new lines good none so
 
-    abbrev Kept : ℕ → GroupView D → ℕ → Type 0
+    abbrev Kept : ℕ → StoreView D → ℕ → Type 0
     Kept n new t = (c : List ℕ) → left_since new.log.device t c → LoadsFirst n new.entries c
 
-    kept_on : (new s z : GroupView D) (n : ℕ) → Good s → So s z → n ≤ length s.entries → Runs z new → Kept n new (Moment z)
+    kept_on : (new s z : StoreView D) (n : ℕ) → Good s → So s z → n ≤ length s.entries → Runs z new → Kept n new (Moment z)
     kept_on new s z n good so le run c left =
         let (count, least, within, loads) = run.keeps.each c left in
         (count, omega (arith, le, least, ap length so.kept, ap length so.entries), within, loads)
 
-    kept_last : (new s mid : GroupView D) (lines : List (List ℕ)) (n : ℕ) → Good s → MayCallNext Step Fails s lines mid → So mid new → n ≤ length s.entries → Kept n new (Moment new)
+    kept_last : (new s mid : StoreView D) (lines : List (List ℕ)) (n : ℕ) → Good s → MayCallNext Step Fails s lines mid → So mid new → n ≤ length s.entries → Kept n new (Moment new)
     kept_last new s mid lines n good calls so le c left =
         let on = further s mid new lines good calls so in
         loads_prefix n new.kept [] new.entries c (all_kept mid new so) (omega (arith, le, on.1, ap length so.kept, ap length so.entries)) (left_kept new (good_settle mid new on.0 so) c left)
 
     -- ---- over a session
 
-    pub keeps_first : {W : Type 0} (contents : W → Option (List ℕ)) (a b : Tap W) (old new : GroupView D) (waiting : List Entry) → old.log.state ≡ Open → IsKept seen may_leave is_usable (stored old) → old.entries ≡ old.kept ++ waiting → Session contents a b old new → KeepsFirst moment left_since old new
+    pub keeps_first : {W : Type 0} (contents : W → Option (List ℕ)) (a b : Tap W) (old new : StoreView D) (waiting : List Entry) → old.log.state ≡ Open → IsKept seen may_leave is_usable (stored old) → old.entries ≡ old.kept ++ waiting → Session contents a b old new → KeepsFirst moment left_since old new
     keeps_first contents a b old new waiting works kept waits wrote =
         let run : Runs old wrote.last =
         run_groups Step Fails So Off Moment entries_in Good Runs good_step good_settle runs_step runs_fail runs_settle runs_off
@@ -222,7 +221,7 @@ module _ {D : Type 0} (is_known : Bool) (seen : D → List ℕ) (may_leave : D �
         wrote.ends in
         all.keeps
 
-    pub acknowledges : {W : Type 0} (contents : W → Option (List ℕ)) (a b : Tap W) (old new : GroupView D) → old.log.state ≡ Open → IsKept seen may_leave is_usable (stored old) → Session contents a b old new → Acknowledges left_since a b (whole new)
+    pub acknowledges : {W : Type 0} (contents : W → Option (List ℕ)) (a b : Tap W) (old new : StoreView D) → old.log.state ≡ Open → IsKept seen may_leave is_usable (stored old) → Session contents a b old new → Acknowledges left_since a b (whole new)
     acknowledges contents a b old new works kept wrote before after n t small is line =
         found_all Step Fails So Off Moment entries_in Good Runs good_step good_settle runs_step runs_fail runs_settle runs_off grows done Kept new (kept_on new) begun (kept_last new)
         old wrote.last wrote.groups wrote.others wrote.whole wrote.part before t after n wrote.steps (record { works = works; kept_so = kept }) small wrote.answers wrote.ends
@@ -230,18 +229,18 @@ module _ {D : Type 0} (is_known : Bool) (seen : D → List ℕ) (may_leave : D �
 
     -- ---- where a session ends without an answer
 
-    after_off : (s mid new : GroupView D) (lines : List (List ℕ)) → Good s → MayCallNext Step Fails s lines mid → Off mid new → IsTrue (has_failed new.log.device)
-    after_off s mid new lines good (inl same) off = off.cause known (ap (λ (g : GroupView D). g.log.state) same ∙ good.works)
+    after_off : (s mid new : StoreView D) (lines : List (List ℕ)) → Good s → MayCallNext Step Fails s lines mid → Off mid new → IsTrue (has_failed new.log.device)
+    after_off s mid new lines good (inl same) off = off.cause known (ap (λ (g : StoreView D). g.log.state) same ∙ good.works)
     after_off s mid new lines good (inr (inl lost)) off = off.cause known (lost_further s mid lines good lost).0.works
     after_off s mid new lines good (inr (inr none)) off = after_fail s mid new lines good none off
       where
-        after_fail : (s mid new : GroupView D) (lines : List (List ℕ)) → Good s → FailsNext Fails s lines mid → Off mid new → IsTrue (has_failed new.log.device)
+        after_fail : (s mid new : StoreView D) (lines : List (List ℕ)) → Good s → FailsNext Fails s lines mid → Off mid new → IsTrue (has_failed new.log.device)
         after_fail s mid new [] good none off = absurd none
         after_fail s mid new (line ∷ lines) good (m, says, (makes, inl (shut, same))) off = absurd (shut good.works)
         after_fail s mid new (line ∷ lines) good (m, says, (makes, inr first)) off =
-            subst (λ (g : GroupView D). IsTrue (has_failed g.log.device)) (sym (off.once first.broken)) (first.cause known good.works)
+            subst (λ (g : StoreView D). IsTrue (has_failed g.log.device)) (sym (off.once first.broken)) (first.cause known good.works)
 
-    group_failed : (s : GroupView D) (lines : List (List ℕ)) (part : List Note) (new : GroupView D) → Good s → BreaksGroup Step Fails So Off Moment NoAnswer s lines part new → IsTrue (has_failed new.log.device)
+    group_failed : (s : StoreView D) (lines : List (List ℕ)) (part : List Note) (new : StoreView D) → Good s → BreaksGroup Step Fails So Off Moment NoAnswer s lines part new → IsTrue (has_failed new.log.device)
     group_failed s lines part new good (made, last, inl (none, so, is)) =
         no_fail made.last last new made.others
         (good_lines Step Fails So Off Moment entries_in Good Runs good_step good_settle runs_step runs_fail runs_settle runs_off s made.last made.first made.text made.steps good made.answers) none so
@@ -249,7 +248,7 @@ module _ {D : Type 0} (is_known : Bool) (seen : D → List ℕ) (may_leave : D �
         after_off made.last last new made.others
         (good_lines Step Fails So Off Moment entries_in Good Runs good_step good_settle runs_step runs_fail runs_settle runs_off s made.last made.first made.text made.steps good made.answers) calls off
 
-    pub failed : (old new : GroupView D) (lines : List (List ℕ)) (notes : List Note) → old.log.state ≡ Open → IsKept seen may_leave is_usable (stored old) → BreaksAmong Step Fails So Off Moment NoAnswer old lines notes new → IsTrue (has_failed new.log.device)
+    pub failed : (old new : StoreView D) (lines : List (List ℕ)) (notes : List Note) → old.log.state ≡ Open → IsKept seen may_leave is_usable (stored old) → BreaksAmong Step Fails So Off Moment NoAnswer old lines notes new → IsTrue (has_failed new.log.device)
     failed old new lines notes works kept p =
         group_failed p.last p.others p.part new
         (good_groups Step Fails So Off Moment entries_in Good Runs good_step good_settle runs_step runs_fail runs_settle runs_off old p.last p.groups p.whole p.steps (record { works = works; kept_so = kept }) p.answers) p.breaks

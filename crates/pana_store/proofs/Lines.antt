@@ -70,10 +70,3 @@ is_line entries digest text is =
 pub is_sealed_behind : (before : List ℕ) (entries : List Entry) (digest text : List ℕ) → digest ≡ digest_of before (entries_body entries) → IsSealedLine entries digest text → IsSealedBehind before text
 is_sealed_behind before entries digest text made is =
     (sealed_text entries digest, only_line (sealed_text entries digest) text is.text is.one is.opens, sealed_by before (entries_body entries) digest made)
-
--- the text of entries but for its brace and its newline
-pub body_of_line : (entries : List Entry) (line : List ℕ) → line ≡ entries_text entries ++ 10 ∷ [] → take (length line - 2) line ≡ entries_body entries
-body_of_line entries line is =
-    let text = entries_text entries in
-    let count : length line - 2 ≡ length text - 1 = omega (arith, ap length is, length-append text (10 ∷ [])) in
-    ap (λ (n : ℕ). take n line) count ∙ ap (take (length text - 1)) is ∙ take-append-le (length text - 1) text (10 ∷ []) (omega arith)

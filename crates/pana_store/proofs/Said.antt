@@ -6,7 +6,7 @@ use Rattle.pana_log.specs.declared.log.Log.{Log}
 use Rattle.pana_log.specs.Device.{LeavesOnly}
 use Rattle.pana_log.specs.Lines.{recovered, text_of, IsBeforeOrAfter}
 use Rattle.pana_log.specs.Log.{IsSettled}
-use Rattle.pana_log.proofs.Moments.{started, then_on}
+use Rattle.pana_log.proofs.Moments.{started}
 use Rattle.pana_log.proofs.Settled.{recovered_same}
 use Rattle.pana_wire.specs.DumpLines.{Say}
 use Rattle.pana_seal.specs.Seal.{IsIntact}
@@ -38,17 +38,6 @@ loads_prefix least kept rest es file is within loads = (
   subst (λ (xs : List Entry). LoadsTo xs file) (sym (ap (take (length kept)) is ∙ take_at kept rest (length kept) refl)) loads,
 )
 
-loads_all : (least : ℕ) (es : List Entry) (file : List ℕ) → least ≤ length es → LoadsTo es file → LoadsFirst least es file
-loads_all least es file within loads = loads_prefix least es [] es file (sym (append-nil es)) within loads
-
-loads_before : (es more : List Entry) (file : List ℕ) → LoadsTo es file → LoadsFirst (length es) (es ++ more) file
-loads_before es more file loads = loads_prefix (length es) es more (es ++ more) file refl (omega arith) loads
-
--- all of before or all of now
-loads_front : (es more : List Entry) (file : List ℕ) → LoadsEither es (es ++ more) file → LoadsFirst (length es) (es ++ more) file
-loads_front es more file (inl before) = loads_before es more file before
-loads_front es more file (inr after) = loads_all (length es) (es ++ more) file (omega (arith, length-append es more)) after
-
 -- one line more may be there or not
 loads_either : (es more : List Entry) (old text file : List ℕ) → LoadsTo es old → IsLineOf more text → IsSealedBehind (text_of (recovered old)) text → IsBeforeOrAfter (recovered old) (recovered text) file → LoadsEither es (es ++ more) file
 loads_either es more old text file loads line sealed (inl before) = inl (loads_same es old file before loads)
@@ -59,21 +48,6 @@ loads_grown least es more file loads =
     (loads.0, loads.1, omega (arith, loads.2, length-append es more), subst (λ (xs : List Entry). LoadsTo xs file) (sym (take-append-le loads.0 es more loads.2)) loads.3)
 
 module _ {D : Type 0} (moment : D → ℕ) (left_since : D → ℕ → List ℕ → Type 0) where
-  -- from then until now, and from now until later
-  pub keeps_on : (a b c : D) (old mid new some more : List Entry) → mid ≡ old ++ some → new ≡ mid ++ more → LeavesOnly moment left_since a b (LoadsFirst (length old) mid) → LeavesOnly moment left_since b c (LoadsFirst (length mid) new)
-      → LeavesOnly moment left_since a c (LoadsFirst (length old) new)
-  keeps_on a b c old mid new some more grown grown_more first second =
-      then_on moment left_since a b c (LoadsFirst (length old) mid) (LoadsFirst (length mid) new) (LoadsFirst (length old) new) first second
-      (λ f p. subst (λ (es : List Entry). LoadsFirst (length old) es f) (sym grown_more) (loads_grown (length old) mid more f p))
-      (λ f q. (q.0, omega (arith, q.1, ap length grown, length-append old some), q.2, q.3))
-
-  -- at first
-  pub keeps_start : (seen : D → List ℕ) (may_leave : D → List ℕ → Type 0) (is_usable : D → Bool) (log : Log D) (es : List Entry) → IsSettled seen may_leave is_usable log → LoadsTo es (seen log.device)
-      → ((c : List ℕ) → left_since log.device (moment log.device) c → may_leave log.device c) → LeavesOnly moment left_since log.device log.device (LoadsFirst (length es) es)
-  keeps_start seen may_leave is_usable log es settled loads only_now =
-      started moment left_since log.device (LoadsFirst (length es) es)
-      (λ f left. loads_all (length es) es f (omega arith) (loads_same es (seen log.device) f (recovered_same (seen log.device) f (settled.durable f (only_now f left))) loads))
-
   -- over a call that leaves the device alone
   pub either_start : (seen : D → List ℕ) (may_leave : D → List ℕ → Type 0) (is_usable : D → Bool) (log : Log D) (es : List Entry) → IsSettled seen may_leave is_usable log → LoadsTo es (seen log.device)
       → ((c : List ℕ) → left_since log.device (moment log.device) c → may_leave log.device c) → LeavesOnly moment left_since log.device log.device (LoadsEither es es)
@@ -92,18 +66,7 @@ module _ {D : Type 0} (moment : D → ℕ) (left_since : D → ℕ → List ℕ 
   pub either_same : (a b : D) (seen_a : List ℕ) (es : List Entry) → LoadsTo es seen_a → LeavesOnly moment left_since a b (λ f. recovered f ≡ recovered seen_a) → LeavesOnly moment left_since a b (LoadsEither es es)
   either_same a b seen_a es loads run = weaker a b (λ f. recovered f ≡ recovered seen_a) (LoadsEither es es) (λ f same. inl (loads_same es seen_a f same loads)) run
 
-  -- a line that is staged, and then the rest
-  pub either_on : (a b c : D) (seen_a : List ℕ) (es new : List Entry) → LoadsTo es seen_a → LeavesOnly moment left_since a b (λ f. recovered f ≡ recovered seen_a) → LeavesOnly moment left_since b c (LoadsEither es new) → LeavesOnly moment left_since a c (LoadsEither es new)
-  either_on a b c seen_a es new loads first second =
-      then_on moment left_since a b c (λ f. recovered f ≡ recovered seen_a) (LoadsEither es new) (LoadsEither es new) first second (λ f same. inl (loads_same es seen_a f same loads)) (λ f either. either)
-
   -- a line that is committed, or not
   pub either_more : (a b : D) (seen_a line : List ℕ) (es more : List Entry) → LoadsTo es seen_a → IsLineOf more line → IsSealedBehind (text_of (recovered seen_a)) line → LeavesOnly moment left_since a b (IsBeforeOrAfter (recovered seen_a) (recovered line))
       → LeavesOnly moment left_since a b (LoadsEither es (es ++ more))
   either_more a b seen_a line es more loads is sealed run = weaker a b (IsBeforeOrAfter (recovered seen_a) (recovered line)) (LoadsEither es (es ++ more)) (λ f p. loads_either es more seen_a line f loads is sealed p) run
-
-  -- of a call, what was there before is kept
-  pub either_all : (a b : D) (es new more : List Entry) → new ≡ es ++ more → LeavesOnly moment left_since a b (LoadsEither es new) → LeavesOnly moment left_since a b (LoadsFirst (length es) new)
-  either_all a b es new more grown run =
-      weaker a b (LoadsEither es new) (LoadsFirst (length es) new)
-      (λ f either. subst (λ (xs : List Entry). LoadsFirst (length es) xs f) (sym grown) (loads_front es more f (subst (λ (xs : List Entry). LoadsEither es xs f) grown either))) run

@@ -10,7 +10,7 @@ use Rattle.pana_wire.specs.Report.{kind_word}
 use Rattle.pana_wire.specs.Tap.{Note, noted, bytes_in}
 use Rattle.pana_wire.specs.Word.{word_name}
 use Rattle.pana_store.specs.Entries.{LoadsFirst}
-use Rattle.pana_store.specs.Store.{StoreView}
+use Rattle.pana_store.specs.Store.{KeptView}
 
 -- the reply says that entries were made, and that the last of them has this number
 abbrev pub IsDone : ℕ → Reply → Type 0
@@ -32,7 +32,7 @@ AcknowledgesEntry n line = (line ≡ done_line n) ⊎ ((kind : ReportKind) × (l
 
 -- Each entry that was acknowledged is kept. In what was noted since, wherever a newline ends a line that acknowledges entry
 -- n: each crash from the moment of that newline on leaves a file that loads to the first entries of now, n of them at least.
-abbrev pub Acknowledges : {D W : Type 0} → (D → ℕ → List ℕ → Type 0) → Tap W → Tap W → StoreView D → Type 0
+abbrev pub Acknowledges : {D W : Type 0} → (D → ℕ → List ℕ → Type 0) → Tap W → Tap W → KeptView D → Type 0
 Acknowledges left_since writer_old writer_new new =
     (before after : List Note) (n t : ℕ) → n < 2 ^ 64
     → noted writer_new ≡ noted writer_old ++ (before ++ record { byte = 10; moment = t } ∷ after)

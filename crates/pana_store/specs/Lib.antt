@@ -3,5 +3,4 @@ pub mod Ending
 pub mod Entries
 pub mod Opening
 pub mod Store
-pub mod Group
 pub mod inner

@@ -11,8 +11,7 @@ use Rattle.pana_wire.specs.inner.LongLine.{IsOpenLine}
 use Rattle.pana_store.specs.declared.pending.Pending.{Pending}
 use Rattle.pana_log.specs.declared.log_state.LogState.TheVariants.{Open}
 use Rattle.pana_store.specs.Entries.{LoadsTo, LoadsEither}
-use Rattle.pana_store.specs.Group.{GroupView}
-use Rattle.pana_store.specs.Store.{IsKept}
+use Rattle.pana_store.specs.Store.{IsKept, StoreView}
 use Rattle.pana_calls.specs.declared.cause.Cause.TheVariants.{OutOfMemory}
 use Rattle.pana_calls.specs.declared.reply.Reply.TheVariants.{Refused}
 use Rattle.pana_calls.specs.declared.answer.Answer.{Answer}
@@ -75,13 +74,13 @@ waiting_of entries pending = drop (length entries - pending.count) entries
 abbrev pub kept_of : List Entry → Pending → List Entry
 kept_of entries pending = take (length entries - pending.count) entries
 
--- what contracts see of a group
-abbrev pub group_of : {D : Type 0} → List Entry → Log D → Sealer → Pending → GroupView D
-group_of entries log sealer pending = record { entries = entries; kept = kept_of entries pending; log = log; sealer = sealer }
+-- what contracts see of a store
+abbrev pub store_of : {D : Type 0} → List Entry → Log D → Sealer → Pending → StoreView D
+store_of entries log sealer pending = record { entries = entries; kept = kept_of entries pending; log = log; sealer = sealer }
 
--- the parts of a group: no more wait than there are; the file has the others; and while the log is open, those that wait stand in
+-- the parts of a store: no more wait than there are; the file has the others; and while the log is open, those that wait stand in
 -- the line, and there is room for it
-pub record IsGroup {D : Type 0} (is_known : Bool) (seen : D → List ℕ) (may_leave : D → List ℕ → Type 0) (is_usable : D → Bool) (entries : List Entry) (log : Log D) (sealer : Sealer) (pending : Pending) : Type 0 where
+pub record IsStore {D : Type 0} (is_known : Bool) (seen : D → List ℕ) (may_leave : D → List ℕ → Type 0) (is_usable : D → Bool) (entries : List Entry) (log : Log D) (sealer : Sealer) (pending : Pending) : Type 0 where
   pub within : pending.count ≤ length entries
   pub few : pending.count ≤ 1000
   pub file : IsTrue is_known → IsKept seen may_leave is_usable (record { entries = kept_of entries pending; log = log; sealer = sealer })

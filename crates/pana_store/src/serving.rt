@@ -4,9 +4,9 @@ ghost use Rattle.pana_wire.specs.Groups.{ServesGroups, StopsGroups};
 ghost use Rattle.pana_wire.specs.Session.{NeverBegins};
 ghost use Rattle.pana_wire.specs.Tap.{Note, has_failed, MadeAtMost, IsNoted};
 ghost use Rattle.pana_store.specs.Acknowledged.{Acknowledges};
-ghost use Rattle.pana_store.specs.Group.{Gathers, Settles, BreaksOff, FailsToGather, KeepsFirst, whole};
+ghost use Rattle.pana_store.specs.Store.{Gathers, Settles, BreaksOff, FailsToGather, KeepsFirst, whole};
 
-use crate::group::Group;
+use crate::store::Store;
 use pana_log::{Device, LogState};
 use pana_wire::{ServeFault, Served, Tap, serve_groups};
 use std::alloc::Global;
@@ -23,19 +23,19 @@ pub fn serve_kept<R: Read, W: Write, D: Device>(
     alloc: Global,
     reader: &mut Tap<R>,
     writer: &mut Tap<W>,
-    session: &mut Group<D>,
+    session: &mut Store<D>,
     reads: u64,
 ) -> Result<Served, ServeFault>
     requires reader { has_failed reader.old ≡ false }
     requires writer { has_failed writer.old ≡ false }
     requires reads { reads ≤ 2 ^ 40 }
     ensures ok { IfOk result (ServesGroups R.remaining W.contents (Gathers D.is_known D.seen D.may_leave D.is_usable D.moment D.left_since D.has_failed)
-        (Settles D.is_known D.seen D.may_leave D.is_usable D.moment D.left_since) (λ group. D.moment group.log.device)
+        (Settles D.is_known D.seen D.may_leave D.is_usable D.moment D.left_since) (λ store. D.moment store.log.device)
         reader.old reader.new writer.old writer.new session.old session.new) }
     ensures fault { IfErr result (λ fault.
         NeverBegins reader.old reader.new writer.old writer.new session.old session.new fault
         ⊎ StopsGroups R.remaining W.contents (Gathers D.is_known D.seen D.may_leave D.is_usable D.moment D.left_since D.has_failed) (FailsToGather D.is_known D.moment D.left_since D.has_failed)
-        (Settles D.is_known D.seen D.may_leave D.is_usable D.moment D.left_since) (BreaksOff D.is_known D.moment D.left_since D.has_failed) (λ group. D.moment group.log.device) reads
+        (Settles D.is_known D.seen D.may_leave D.is_usable D.moment D.left_since) (BreaksOff D.is_known D.moment D.left_since D.has_failed) (λ store. D.moment store.log.device) reads
         reader.old reader.new writer.old writer.new session.old session.new fault) }
 
     // From an open log, it ends as NoAnswer only where the device has failed.

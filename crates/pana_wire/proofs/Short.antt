@@ -10,8 +10,6 @@ use Rattle.std.specs.Fmt.{decimal, digits, digits_onto, digit_glyph}
 use Rattle.std.proofs.lemmas.Bool.{leb-true, and_parts, eqb-true}
 use Rattle.std.proofs.lemmas.List.{length-append}
 use Rattle.std.proofs.lemmas.List.Elements.{All-head, All-tail}
-use Rattle.hex.specs.Hex.{lower_digits}
-use Rattle.hex.proofs.HexLemmas.{length-encode_with}
 use Rattle.json.specs.Print.{escape, escape_byte, escape_letter, quoted}
 use Rattle.serde_json.specs.Data.{unsigned, negative, float, Data, null, boolean, number, string, array, object, Items, no_items, item, Members, no_members, member, put}
 use Rattle.serde_json.specs.View.{items_of}
@@ -29,7 +27,6 @@ use Rattle.pana_wire.specs.Word.{word_name, fields_of}
 use Rattle.pana_wire.specs.Report.{number_data, sum_contents, contents_of, report_word, put_fields, put_report, report_data, report_text, entry_data}
 use Rattle.pana_wire.specs.Reply.{entries_data, reply_data, reply_text}
 use Rattle.pana_wire.specs.inner.Names.{IsSumOrNone, HasNames, HasEntryNames}
-use Rattle.pana_wire.specs.inner.SealedData.{sealed_data}
 
 -- what follows of two facts about what was returned
 pub IfOk-both : {X Y : Type 0} (r : Result X Y) (P Q R : X → Type 0) → ((x : X) → P x → Q x → R x) → IfOk r P → IfOk r Q → IfOk r R
@@ -200,10 +197,6 @@ entries_short (entry ∷ entries) names = omega (arith, entry_short entry (All-h
 pub page_short : (entries : List Entry) → All HasEntryNames entries → length entries ≤ 100 → length (reply_text (replies.Journal entries)) ≤ 1048576
 unfolding reply_text reply_data entries_data
 page_short entries names few = omega (arith, fits (reply_data (replies.Journal entries)), entries_short entries names)
-
-pub sealed_short : (entries : List Entry) (digest : List ℕ) → All HasEntryNames entries → length entries ≤ 100 → length digest ≡ 32 → length (compact_text (sealed_data entries digest)) ≤ 1048576
-unfolding sealed_data entries_data
-sealed_short entries digest names few long = omega (arith, fits (sealed_data entries digest), entries_short entries names, length-encode_with lower_digits digest, long)
 
 -- an entry, and a second one where there is one, are few
 pub one_or_two : (entry : Entry) (second : Option Entry) → length (entry ∷ option_to_list second) ≤ 100

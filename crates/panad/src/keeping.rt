@@ -5,7 +5,7 @@ use crate::printing::print_out;
 use pana_commands::Printout;
 use pana_files::{NoStore, ProgramFault, open_store, output};
 use pana_log::FileDevice;
-use pana_store::{Group, Store, serve_kept};
+use pana_store::{Store, serve_kept};
 use pana_wire::{ServeFault, Tap};
 use std::process::ExitCode;
 
@@ -17,12 +17,11 @@ fn report(rt: &HostRuntime, refusal: NoStore) -> Result<ExitCode, ProgramFault> 
     }
 }
 
-fn serve_input(rt: &HostRuntime, store: Store<FileDevice>) -> Result<ExitCode, ProgramFault> {
+fn serve_input(rt: &HostRuntime, mut store: Store<FileDevice>) -> Result<ExitCode, ProgramFault> {
     let alloc = rt.alloc();
-    let mut group = Group::of(store)?;
     let mut reader = Tap::new(rt.reader());
     let mut writer = Tap::new(output(rt)?);
-    match serve_kept(alloc, &mut reader, &mut writer, &mut group, READS) {
+    match serve_kept(alloc, &mut reader, &mut writer, &mut store, READS) {
         Ok(_) => Ok(ExitCode::SUCCESS),
         Err(ServeFault::NoAnswer) => {
             print_out(rt, &Printout::reported(alloc, &"journal failed")?)

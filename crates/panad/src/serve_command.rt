@@ -47,7 +47,6 @@ const IDLE: &str = "idle";
 const IDLE_SECONDS: u32 = 300;
 
 /// The name of the wish to go on without a journal.
-const STAY: &str = "stay";
 
 /// The names of how folders are looked at.
 const TRACK: &str = "track";
@@ -118,11 +117,6 @@ pub fn serve_command<'a>(alloc: Global) -> Result<Command<'a>, AllocError> {
     let journal = journal_option(alloc).help(
         "The file that keeps the reports; it is made if it isn't there",
     );
-    let stay = flag(
-        alloc,
-        STAY,
-        "Answer questions for ever once the journal's file has failed",
-    );
     let roots = Arg::new(alloc, ROOT)
         .action(ArgAction::Append)
         .help("A device and the folder with its copies, up to 8 of them");
@@ -132,7 +126,6 @@ pub fn serve_command<'a>(alloc: Global) -> Result<Command<'a>, AllocError> {
         .arg(port)?
         .arg(sessions)?
         .arg(journal)?
-        .arg(stay)?
         .arg(roots)?;
     with_patience(alloc, with_looks(alloc, command)?)
 }
@@ -187,7 +180,6 @@ pub fn run<T: Threads + Wait + Clock + Sync>(
             hurry: words.get_one(HURRY).unwrap_or(HURRY_SECONDS),
             idle: words.get_one(IDLE).unwrap_or(IDLE_SECONDS),
         },
-        stays: words.get_flag(STAY),
     };
     let ignored = words.get_strs(IGNORE).unwrap_or(&[]);
     obey(

@@ -10,7 +10,6 @@ use pana_files::{
     Keeper, NoStore, ProgramFault, ReadingWishes, Tables, complain, connect, may_keep_sums,
     open_store, read_folders,
 };
-use pana_store::Group;
 use pana_track::ReadFolder;
 use std::alloc::AllocError;
 use std::marker::Sync;
@@ -71,14 +70,13 @@ fn track_to_journal<T: Threads + Sync>(
     roots: &[Root<'_>],
     wishes: TrackWishes<'_>,
 ) -> Result<ExitCode, ProgramFault> {
-    let store = match open_store(rt, name) {
+    let mut store = match open_store(rt, name) {
         Ok(store) => store,
         Err(NoStore::Because(text)) => return report(rt, text.as_str()),
         Err(NoStore::Fault(fault)) => return Err(fault),
     };
-    let mut group = Group::of(store)?;
     let folders = read_folders(rt, threads, roots, wishes.reading)?;
-    track_by(rt, &mut group, folders.as_slice(), wishes)
+    track_by(rt, &mut store, folders.as_slice(), wishes)
 }
 
 /// Reads the folders, and reports to the daemon on this port. The session begins before they are read, so a daemon that isn't

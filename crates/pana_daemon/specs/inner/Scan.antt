@@ -15,7 +15,7 @@ use Rattle.pana_track.specs.Calls.{Asked, Makes}
 use Rattle.pana_track.specs.declared.read_fault.ReadFault.{ReadFault}
 use Rattle.pana_track.specs.declared.reading.TrackedListing.{TrackedListing}
 use Rattle.pana_daemon.specs.declared.folder.Look.{Look}
-use Rattle.pana_daemon.specs.Scan.{Reports, IsLook, IsNext, IsScan, IsTracking, done_as, settled_as}
+use Rattle.pana_daemon.specs.Scan.{IsScan, IsTracking, LooksOnce, Reports, done_as, settled_as}
 
 -- the device's report of the step, with its answer
 abbrev pub reporting : List ℕ → Step → Answer → Asked
@@ -96,17 +96,8 @@ pub record StopsTracking {S : Type 0} (step : S → List ℕ → Call → Answer
   pub is : (answer : Answer) → IsTracking device given (made ++ record { by = device; call = call; answer = answer } ∷ [])
   pub ends : fails mid device call new
 
--- the session makes the calls of a look
-pub record LooksOnce {S : Type 0} (step : S → List ℕ → Call → Answer → S → Type 0) (device : List ℕ) (look : Look) (old new : S) (marks_old marks_new : List BaselineRow) : Type 0 where
-  pub made : List Asked
-  pub calls : Makes step old made new
-  pub is : IsLook device look marks_old made marks_new
-
--- the session makes the first calls of a look, and then one has no answer
-pub record StopsLook {S : Type 0} (step : S → List ℕ → Call → Answer → S → Type 0) (fails : S → List ℕ → Call → S → Type 0) (device : List ℕ) (look : Look) (old new : S) (marks : List BaselineRow) : Type 0 where
+-- the session makes the calls of a look, and settles behind them
+pub record KeepsLook {S : Type 0} (step : S → List ℕ → Call → Answer → S → Type 0) (device : List ℕ) (settles : S → S → Type 0) (look : Look) (old new : S) (marks_old marks_new : List BaselineRow) : Type 0 where
   pub mid : S
-  pub made : List Asked
-  pub calls : Makes step old made mid
-  pub call : Call
-  pub is : IsNext device look marks made call
-  pub ends : fails mid device call new
+  pub looks : LooksOnce step device look old mid marks_old marks_new
+  pub settled : settles mid new

@@ -39,8 +39,8 @@ fn client<R: Net>(rt: &R, listener: &TcpListener, lines: &str) -> io::Result<R::
     Ok(stream)
 }
 
-/// Serves the listener's connections one after another, until all that are wanted were taken; returns how many calls were
-/// made, and how many entries they left.
+/// Serves the listener's connections one after another, until all that are wanted were taken; returns how many requests
+/// were made, and how many entries they left.
 fn serve_all<'a, T: Threads + Wait + Clock + Sync>(
     rt: &'a T,
     alloc: Global,
@@ -62,7 +62,7 @@ fn serve_all<'a, T: Threads + Wait + Clock + Sync>(
     let hall = Hall::new(alloc)?;
     let begin = || -> Result<(), DaemonFault> { Ok(()) };
     match attend(rt, alloc, supervisor, hall, posts, begin) {
-        Ok(ended) => Ok((ended.calls, ended.session.length())),
+        Ok(ended) => Ok((ended.requests, ended.session.length())),
         Err(_) => Err(Fail::from(AllocError)),
     }
 }
@@ -75,8 +75,9 @@ fn connections_one_after_another(rt: HostRuntime) -> Result<(), Fail> {
     let page = client(&rt, &listener, REQUEST)?;
     let second = client(&rt, &listener, PAIR)?;
     let counted = Mutex::new(CountedListener::new(listener, Some(3)));
-    let (calls, entries) = serve_all(&rt, alloc, &IdleSupervisor, &counted, 3)?;
-    assert_eq!(rt; (calls, entries), (2, 1));
+    // Of each session that has made a call, this and one to settle.
+    let (requests, entries) = serve_all(&rt, alloc, &IdleSupervisor, &counted, 3)?;
+    assert_eq!(rt; (requests, entries), (4, 1));
     let answer = io::read_to_string(alloc, first)?;
     assert_eq!(rt; answer.as_str(), "{\"done\":1}\n");
     let answer = io::read_to_string(alloc, page)?;

@@ -122,7 +122,8 @@ fn post<'a>(alloc: Global, lines: &'a str) -> Post<'a, Prepared<'a>, NoFolder> {
     })
 }
 
-/// Two sessions with these lines, each in a thread of its own: how many calls they made.
+/// Two sessions with these lines, each in a thread of its own: how many requests they made, of which one
+/// is to settle for each group of lines.
 fn serve_two<T: Threads + Wait + Sync, G: Supervisor + Sync>(
     rt: &T,
     alloc: Global,
@@ -137,7 +138,7 @@ fn serve_two<T: Threads + Wait + Sync, G: Supervisor + Sync>(
     let hall = Hall::new(alloc)?;
     let begin = || -> Result<(), DaemonFault> { Ok(()) };
     match attend(rt, alloc, supervisor, hall, posts, begin) {
-        Ok(ended) => Ok(ended.calls),
+        Ok(ended) => Ok(ended.requests),
         Err(_) => Err(Fail::from(AllocError)),
     }
 }
@@ -154,8 +155,8 @@ fn held_session_is_answered<T: Threads + Wait + Clock + Sync>(
         released: AtomicBool::new(false),
         late: AtomicBool::new(false),
     };
-    let calls = serve_two(rt, alloc, &supervisor, REGISTER, FAMILIES)?;
-    Ok(calls == 2 && !supervisor.late.load(Ordering::SeqCst))
+    let requests = serve_two(rt, alloc, &supervisor, REGISTER, FAMILIES)?;
+    Ok(requests == 4 && !supervisor.late.load(Ordering::SeqCst))
 }
 
 #[test]
@@ -173,8 +174,8 @@ fn supervisor_is_asked_by_session_and_number(rt: HostRuntime) -> Result<(), Fail
         second: AtomicU64::new(0),
         wrong: AtomicBool::new(false),
     };
-    let calls = serve_two(&rt, alloc, &supervisor, REGISTER, FAMILIES_TWICE)?;
-    assert_eq!(rt; calls, 3);
+    let requests = serve_two(&rt, alloc, &supervisor, REGISTER, FAMILIES_TWICE)?;
+    assert_eq!(rt; requests, 5);
     assert_eq!(rt; supervisor.first.load(Ordering::SeqCst), 1);
     assert_eq!(rt; supervisor.second.load(Ordering::SeqCst), 2);
     assert!(rt; !supervisor.wrong.load(Ordering::SeqCst));

@@ -1,4 +1,4 @@
--- A store over a file may go to another thread.
+-- The store of a file may go to another thread.
 use denote.Exit.{no}
 use denote.Param.Send.{arg_send, param_send}
 use Rattle.pana_store.proofs.Sending.{store_send}
