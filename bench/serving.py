@@ -18,6 +18,7 @@ from daemon import Daemon  # noqa: E402
 # How many clients there are at a time, and how many lines each has under way.
 SHAPES = ((1, 1), (4, 1), (16, 1), (1, 64), (4, 64), (16, 64))
 SECONDS = 1.0
+IDLE_SECONDS = 10
 LINE = workloads.line_of("edit", copy=1)
 # The same amount of work: a number goes up by one.
 INCREMENT = b"*2\r\n$4\r\nINCR\r\n$1\r\nx\r\n"
@@ -69,7 +70,12 @@ def best_rates(options, process, port, line):
 def of_daemon(options, program):
     with Daemon(program) as daemon:
         daemon.ask("laptop", "register", device="laptop", path="file-1.txt")
-        return best_rates(options, daemon.run.pid, daemon.port, LINE)
+        rates = best_rates(options, daemon.run.pid, daemon.port, LINE)
+        time.sleep(0.5)
+        before = processor_time(daemon.run.pid)
+        time.sleep(IDLE_SECONDS)
+        print(f"{program}, idle for {IDLE_SECONDS} seconds: {processor_time(daemon.run.pid) - before:.2f} of processor time")
+        return rates
 
 
 def free_port():

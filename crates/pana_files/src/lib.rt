@@ -1,5 +1,5 @@
-//! What the program reads and writes outside itself: journals' files, files of sums, folders that are read, standard streams, and a
-//! daemon's port.
+//! What the program reads and writes outside itself, but for journals: files of sums, folders that are read, standard streams, and
+//! a daemon's port.
 #![tactic(auto)]
 
 mod client;
@@ -7,8 +7,6 @@ mod colour;
 mod descriptors;
 mod fault;
 mod folders;
-mod journal_file;
-mod journals;
 mod keeper;
 mod patterns;
 mod picture_file;
@@ -23,7 +21,6 @@ pub use crate::colour::Tables;
 pub use crate::descriptors::take_standard_descriptors;
 pub use crate::fault::ProgramFault;
 pub use crate::folders::{ReadingWishes, fault_of_roots, read_folders};
-pub use crate::journals::{NoStore, open_hall, open_store};
 pub use crate::keeper::Keeper;
 pub use crate::patterns::{OwnFile, RootPatterns, passed_over, root_patterns, slices_of};
 pub use crate::picture_file::{may_write_picture, write_picture};

@@ -1,13 +1,7 @@
-//! The tests of the hall, of its lines and tables: what no clause says of their calls.
+//! The tests of the hall: what no clause says of its calls.
 #![tactic(auto)]
 
-#[cfg(test)]
-mod client;
 #[cfg(test)]
 mod hall;
 #[cfg(test)]
 mod places;
-#[cfg(test)]
-mod report;
-#[cfg(test)]
-mod wire;

@@ -1,8 +1,7 @@
 //! The stores and halls of journals' files.
 
-use crate::fault::ProgramFault;
 use crate::journal_file::{FileFault, open_locked, open_to_read};
-use crate::printing::complain;
+use pana_files::{ProgramFault, complain};
 use pana_hall::Hall;
 use pana_log::{FileDevice, Log};
 use pana_store::{OpenFault, Opened, Store};
