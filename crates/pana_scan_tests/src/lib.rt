@@ -4,6 +4,8 @@
 #[cfg(test)]
 mod disks;
 #[cfg(test)]
+mod holdings;
+#[cfg(test)]
 mod notices;
 #[cfg(test)]
 mod scan;

@@ -1,9 +1,9 @@
-use pana_calls::{Call, HoldingList, Query, Reply, Sighting};
+use crate::holdings::held;
+use pana_calls::{Call, Sighting};
 use pana_copies::{CopyPath, DeviceName, Place, Sum};
-use pana_hall::Hall;
 use pana_journal::Report;
 use pana_scan::{Found, Listing, notice};
-use std::alloc::{AllocError, Global};
+use std::alloc::Global;
 use std::test::Fail;
 
 /// SHA-256 of `abc`, from the standard.
@@ -15,9 +15,6 @@ const ABC: [u8; 32] = [
 /// The same as a sum.
 const ABC_SUM: &str = "ba7816bf8f01cfea414140de5dae2223b00361a396177a9cb410ff61f20015ad";
 
-/// SHA-256 of the empty text as a sum, as `sha256sum` prints it.
-const EMPTY_SUM: &str = "e3b0c44298fc1c149afbf4c8996fb92427ae41e4649b934ca495991b7852b855";
-
 fn place(alloc: Global, text: &str) -> Result<Place, Fail> {
     Ok(Place {
         device: DeviceName::new("usb")?,
@@ -26,27 +23,8 @@ fn place(alloc: Global, text: &str) -> Result<Place, Fail> {
 }
 
 /// Copies 1 to 3 at `a`, `c` and `d`: of `abc`, of an empty file, and of what nobody has said.
-fn held(alloc: Global) -> Result<HoldingList, Fail> {
-    let usb = DeviceName::new("usb")?;
-    let mut hall = Hall::new(alloc)?;
-    for (text, sum) in [("a", Some(ABC_SUM)), ("c", Some(EMPTY_SUM)), ("d", None)] {
-        let place = place(alloc, text)?;
-        let sum = match sum {
-            Some(text) => Some(Sum::new(alloc, text)?),
-            None => None,
-        };
-        let call = Call::Report(Report::Register { place, sum });
-        if !matches!(hall.apply(&usb, call), Reply::Done { .. }) {
-            return Err(Fail::from(AllocError));
-        }
-    }
-    let device = usb.copy_of();
-    let query = Query::Holdings { device, from: None };
-    let Reply::Holdings(holdings) = hall.apply(&usb, Call::Query(query)) else {
-        return Err(Fail::from(AllocError));
-    };
-    Ok(holdings)
-}
+const HELD: &[u8] =
+    b"{\"holdings\":[{\"copy\":1,\"family\":1,\"path\":\"a\",\"sum\":\"ba7816bf8f01cfea414140de5dae2223b00361a396177a9cb410ff61f20015ad\",\"touch\":1},{\"copy\":2,\"family\":2,\"path\":\"c\",\"sum\":\"e3b0c44298fc1c149afbf4c8996fb92427ae41e4649b934ca495991b7852b855\",\"touch\":2},{\"copy\":3,\"family\":3,\"path\":\"d\",\"touch\":3}]}";
 
 /// What a scan finds: `abc` at `b`, and what can't be read at `d`.
 fn scanned(alloc: Global) -> Result<Listing, Fail> {
@@ -64,7 +42,7 @@ fn scanned(alloc: Global) -> Result<Listing, Fail> {
 fn a_renamed_file_is_noticed(rt: HostRuntime) -> Result<(), Fail> {
     let alloc = rt.alloc();
     let usb = DeviceName::new("usb")?;
-    let notices = notice(alloc, &held(alloc)?, &scanned(alloc)?)?;
+    let notices = notice(alloc, &held(alloc, HELD)?, &scanned(alloc)?)?;
     let [renamed, found, missing] = notices.as_slice() else {
         return Err(Fail::from("not three notices"));
     };

@@ -1,9 +1,9 @@
 ghost use Rattle.pana_scan.specs.Scan.{IsFresh};
 
 use crate::disks::{disk, file, folder};
-use pana_calls::{Call, HoldingList, Query, Reply};
+use crate::holdings::held;
+use pana_calls::HoldingList;
 use pana_copies::{CopyPath, DeviceName, NameFault, Place};
-use pana_hall::Hall;
 use pana_journal::Report;
 use pana_scan::{
     Baseline, Disk, Found, Kind, Listing, Mark, MemoryDisk, Plan, ScanFault, Step, SystemDisk,
@@ -66,26 +66,8 @@ fn settled(alloc: Global) -> Result<Baseline, Fail> {
 }
 
 /// The copies of the four paths, of which a session has edited the second since.
-fn held(alloc: Global) -> Result<HoldingList, Fail> {
-    let usb = DeviceName::new("usb")?;
-    let mut hall = Hall::new(alloc)?;
-    for text in ["a", "c", "d", "e"] {
-        let report = register(alloc, text)?;
-        if !matches!(hall.apply(&usb, Call::Report(report)), Reply::Done { .. }) {
-            return Err(Fail::from(AllocError));
-        }
-    }
-    let edit = Report::Edit { copy: 2, sum: None };
-    if !matches!(hall.apply(&usb, Call::Report(edit)), Reply::Done { .. }) {
-        return Err(Fail::from(AllocError));
-    }
-    let device = usb.copy_of();
-    let query = Query::Holdings { device, from: None };
-    let Reply::Holdings(holdings) = hall.apply(&usb, Call::Query(query)) else {
-        return Err(Fail::from(AllocError));
-    };
-    Ok(holdings)
-}
+const HELD: &[u8] =
+    b"{\"holdings\":[{\"copy\":1,\"family\":1,\"path\":\"a\",\"touch\":1},{\"copy\":2,\"family\":2,\"path\":\"c\",\"touch\":5},{\"copy\":3,\"family\":3,\"path\":\"d\",\"touch\":3},{\"copy\":4,\"family\":4,\"path\":\"e\",\"touch\":4}]}";
 
 /// What a scan finds: a file that was edited, a new one, one that a session has reported, one that can't be read, and
 /// one that is gone.
@@ -138,7 +120,7 @@ fn mark(fingerprint: [u8; 32], touch: u64) -> Mark {
 #[test]
 fn a_scan_of_five_paths(rt: HostRuntime) -> Result<(), Fail> {
     let alloc = rt.alloc();
-    let (baseline, holdings, listing) = (settled(alloc)?, held(alloc)?, scanned(alloc)?);
+    let (baseline, holdings, listing) = (settled(alloc)?, held(alloc, HELD)?, scanned(alloc)?);
     let plan = plan(alloc, &baseline, &holdings, &listing)?;
     let expected = [("a", Some(EMPTY)), ("b", Some(ABC)), ("e", None)];
     assert!(rt; are_about(plan.steps.as_slice(), &expected));
@@ -149,7 +131,7 @@ fn a_scan_of_five_paths(rt: HostRuntime) -> Result<(), Fail> {
 #[test]
 fn a_plan_is_settled(rt: HostRuntime) -> Result<(), Fail> {
     let alloc = rt.alloc();
-    let (baseline, holdings, listing) = (settled(alloc)?, held(alloc)?, scanned(alloc)?);
+    let (baseline, holdings, listing) = (settled(alloc)?, held(alloc, HELD)?, scanned(alloc)?);
     let Plan {
         steps,
         mut baseline,
@@ -257,7 +239,7 @@ fn a_file_that_becomes_unreadable_keeps_its_row(rt: HostRuntime) -> Result<(), F
     }
     let listing = file_found(alloc, false)?;
     assert!(rt; lists(&listing, &[("a", Found::Unreadable)]));
-    let second = plan(alloc, &baseline, &held(alloc)?, &listing)?;
+    let second = plan(alloc, &baseline, &held(alloc, HELD)?, &listing)?;
     assert!(rt; keeps(&second.baseline, &[("a", mark(ABC, 1))]));
     assert!(rt; second.steps.as_slice().is_empty());
     Ok(())
