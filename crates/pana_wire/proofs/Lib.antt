@@ -16,3 +16,6 @@ pub mod InLine
 pub mod Sealed
 pub mod LongLine
 pub mod Said
+pub mod Pieces
+pub mod Fitting
+pub mod EntryTokens

@@ -26,10 +26,11 @@ use Rattle.serde_json.proofs.Texts.{tokens_from_order, print-outline}
 use Rattle.pana_journal.specs.declared.entry.Entry.{Entry}
 use Rattle.pana_wire.specs.Dump.{dump_says}
 use Rattle.pana_wire.specs.Report.{entry_data}
-use Rattle.pana_wire.specs.Reply.{entries_data}
+use Rattle.pana_calls.specs.declared.reply.Reply.TheVariants.{Journal}
+use Rattle.pana_wire.specs.Reply.{entries_data, reply_data}
 use Rattle.pana_wire.specs.Seal.{mark, close, seal_with, entries_body, sealed_text, IsSealedLine}
 use Rattle.pana_wire.specs.inner.Names.{HasEntryNames}
-use Rattle.pana_wire.specs.inner.LongLine.{IsReadable, IsTextOf, IsWritable, listed, opening, is_none, IsOpenLine, IsBody}
+use Rattle.pana_wire.specs.inner.LongLine.{IsReadable, IsKnown, IsTextOf, IsWritable, listed, opening, is_none, IsOpenLine, IsBody}
 use Rattle.pana_wire.specs.inner.SealedData.{sealed_data}
 use Rattle.pana_wire.proofs.Whole.{entry_natural, entry_depth, natural_whole}
 use Rattle.pana_wire.proofs.Sealed.{head_of, body_is, text_is, sealed_whole, sealed_shallow, sealed_back, sealed_line}
@@ -96,22 +97,29 @@ readable d text natural shallow is order =
       numbers = value-HasNumbers max_depth (tokens text) [] (outline d) (ArePrintableOrBad-tokens text) whole_so;
     }
 
-read_readable : (d : Data) → depth d ≤ max_depth → IsReadable d → read (compact_text d) ≡ Some d
+pub read_readable : (d : Data) → depth d ≤ max_depth → IsReadable d → read (compact_text d) ≡ Some d
 read_readable d shallow is =
     let same : tokens (compact_text d) ≡ json_tokens (outline d) = ap tokens (sym (print-outline d)) ∙ tokens-print (json_tokens (outline d)) (ArePrintable-json_tokens (outline d) is.numbers) in
     ap whole (parsed (compact_text d) d same shallow) ∙ is.whole
 
-items_whole : (entries : List Entry) → All IsWritable entries → of_items (items_outline (items_of (map entry_data entries))) ≡ Some (items_of (map entry_data entries))
+items_whole : (entries : List Entry) → All IsKnown entries → of_items (items_outline (items_of (map entry_data entries))) ≡ Some (items_of (map entry_data entries))
 items_whole [] each = refl
-items_whole (entry ∷ entries) each = rw ((All-head IsWritable entry entries each).reads.whole, items_whole entries (All-tail IsWritable entry entries each)) refl
+items_whole (entry ∷ entries) each = rw ((All-head IsKnown entry entries each).reads.whole, items_whole entries (All-tail IsKnown entry entries each)) refl
 
-items_numbers : (entries : List Entry) → All IsWritable entries → ItemsHaveNumbers (items_outline (items_of (map entry_data entries)))
+items_numbers : (entries : List Entry) → All IsKnown entries → ItemsHaveNumbers (items_outline (items_of (map entry_data entries)))
 items_numbers [] each = tt
-items_numbers (entry ∷ entries) each = ((All-head IsWritable entry entries each).reads.numbers, items_numbers entries (All-tail IsWritable entry entries each))
+items_numbers (entry ∷ entries) each = ((All-head IsKnown entry entries each).reads.numbers, items_numbers entries (All-tail IsKnown entry entries each))
+
+pub journal_readable : (entries : List Entry) → All IsKnown entries → IsReadable (reply_data (Journal entries))
+unfolding reply_data entries_data
+journal_readable entries each = record { whole = rw (items_whole entries each) refl; numbers = (items_numbers entries each, tt) }
+
+all_known : (entries : List Entry) → All IsWritable entries → All IsKnown entries
+all_known entries each = All-weaker IsWritable IsKnown (λ entry is. record { names = is.names; reads = is.reads }) entries each
 
 sealed_readable : (entries : List Entry) (digest : List ℕ) → All IsWritable entries → IsReadable (sealed_data entries digest)
 unfolding sealed_data entries_data
-sealed_readable entries digest each = record { whole = rw (items_whole entries each) refl; numbers = (items_numbers entries each, (tt, tt)) }
+sealed_readable entries digest each = record { whole = rw (items_whole entries (all_known entries each)) refl; numbers = (items_numbers entries (all_known entries each), (tt, tt)) }
 
 -- ---- it is text
 

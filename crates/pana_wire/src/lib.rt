@@ -2,10 +2,13 @@
 #![tactic(auto)]
 
 mod answer_buffer;
+mod board_writing;
 mod cutting;
 mod dump;
+mod entry_writing;
 mod fault;
 mod field;
+mod json_writing;
 mod line_buffer;
 mod line_fault;
 mod message;
@@ -13,6 +16,7 @@ mod open_line;
 mod reading;
 mod report_writing;
 mod serving;
+mod standing_writing;
 mod tap;
 mod word;
 mod writing;

@@ -11,7 +11,6 @@ ghost use Rattle.pana_wire.specs.Word.{fields_of};
 ghost use Rattle.pana_wire.specs.inner.Names.{HasPlaceNames, IsSumOrNone, HasNames, HasEntryNames};
 ghost use Rattle.pana_wire.specs.Report.{number_data, heir_contents, sum_contents, kind_word, report_word, contents_of, put_fields, put_report, report_data, report_text, entry_data};
 ghost use Rattle.pana_wire.specs.Reply.{entries_data};
-ghost use Rattle.pana_wire.specs.inner.LongLine.{IsTextOf};
 
 use crate::field::Field;
 use crate::word::Word;
@@ -44,18 +43,6 @@ fn report_value(alloc: Global, by: &DeviceName, report: &Report) -> Result<Value
     Ok(Value::Object(members))
 }
 
-#[tactic(auto, unfolding(crate::specs::Reply::entries_data))]
-pub fn entries_value(alloc: Global, entries: &[Entry]) -> Result<Value, AllocError>
-    ensures value { IfOk result (λ value. view value ≡ entries_data entries.now) }
-    ensures names { OnOk result (All HasEntryNames entries.now) }
-{
-    let mut values = Vec::new(alloc);
-    for entry in entries {
-        values.push(entry_value(alloc, entry)?)?;
-    }
-    Ok(Value::Array(values))
-}
-
 // One entry, or two.
 #[tactic(auto, unfolding(crate::specs::Reply::entries_data))]
 pub fn line_value(alloc: Global, entry: &Entry, second: Option<&Entry>) -> Result<Value, AllocError>
@@ -70,14 +57,6 @@ pub fn line_value(alloc: Global, entry: &Entry, second: Option<&Entry>) -> Resul
         }
         None => Ok(Value::Array(vec![in alloc; first]?)),
     }
-}
-
-/// The text of an entry, as it stands in a line that has it. Fails only where memory runs out.
-pub fn encode_one(alloc: Global, entry: &Entry) -> Result<String, AllocError>
-    ensures { IfOk result (λ text. IsTextOf entry.now (string_bytes text)) }
-{
-    let value = entry_value(alloc, entry)?;
-    value.to_string(alloc)
 }
 
 #[tactic(auto, unfolding(crate::specs::Report::entry_data))]
@@ -213,7 +192,7 @@ fn put_sum_if_given(
     }
 }
 
-pub fn put_sum(
+fn put_sum(
     alloc: Global,
     members: &mut Map<String, Value>,
     field: Field,
