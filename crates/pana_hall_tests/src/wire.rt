@@ -8,7 +8,7 @@ use pana_calls::{
 use pana_copies::{CopyPath, DeviceName, Sum};
 use pana_journal::{Entry, Report};
 use pana_list::PlainList;
-use pana_wire::{Field, Served, Tap, WireFault, decode, encode, encode_call, encode_entry, serve};
+use pana_wire::{Field, Served, Tap, WireFault, decode, encode, encode_call, serve};
 use std::alloc::{AllocError, Global};
 use std::io;
 use std::io::{Read, Write};
@@ -24,18 +24,18 @@ fn an_entry_is_written_as_a_line(rt: HostRuntime) -> Result<(), Fail> {
         sum: None,
     };
     let by = DeviceName::new("laptop")?;
-    let line = encode_entry(
+    let entry = Entry {
+        number: 2,
+        by,
+        report,
+    };
+    let line = encode(
         alloc,
-        &Entry {
-            number: 2,
-            by,
-            report,
-        },
-        None,
+        &Reply::Journal(PlainList::from_vec(vec![in alloc; entry]?)),
     )?;
     assert_eq!(rt;
         line.as_str(),
-        "{\"entries\":[{\"by\":\"laptop\",\"copy\":1,\"device\":\"usb\",\"do\":\"duplicate\",\"number\":2,\"path\":\"a\\\"b\\\\c\"}]}\n"
+        "{\"entries\":[{\"by\":\"laptop\",\"copy\":1,\"device\":\"usb\",\"do\":\"duplicate\",\"number\":2,\"path\":\"a\\\"b\\\\c\"}]}"
     );
     Ok(())
 }

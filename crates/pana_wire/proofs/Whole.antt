@@ -210,8 +210,5 @@ reply_natural (Journal entries) = rw (entries_natural entries) refl
 reply_natural (Counts counts) = refl
 reply_natural (Refused cause) = refusal_natural _ _ _
 
-pub reply_whole : (reply : Reply) → has_float (reply_data reply) ≡ false
-reply_whole reply = natural_whole (reply_data reply) (reply_natural reply)
-
 pub report_whole : (by : List ℕ) (report : Report) → has_float (report_data by report) ≡ false
 report_whole by report = natural_whole (report_data by report) (report_natural by report)

@@ -32,4 +32,4 @@ pub use crate::reading::decode;
 pub use crate::report_writing::encode_call;
 pub use crate::serving::{ServeFault, Served, serve, serve_groups};
 pub use crate::tap::Tap;
-pub use crate::writing::{encode, encode_answer, encode_entry};
+pub use crate::writing::{encode, encode_answer};

@@ -1,6 +1,5 @@
-//! Reports and entries as objects.
-ghost use Rattle.std.specs.Prelude.{◌≡◌, [], ◌∷◌, true, IfOk, OnOk, option_copied, option_to_list, string_bytes};
-ghost use Rattle.std.specs.List.{All};
+//! Reports as objects.
+ghost use Rattle.std.specs.Prelude.{◌≡◌, [], ◌∷◌, true, IfOk, OnOk, string_bytes};
 ghost use Rattle.serde_json.specs.Data.{string, put};
 ghost use Rattle.serde_json.specs.View.{view, members_view};
 ghost use Rattle.pana_copies.specs.Names.{is_device};
@@ -8,15 +7,14 @@ ghost use Rattle.pana_wire.specs.Field.{field_name};
 ghost use Rattle.pana_wire.specs.Line.{line_says};
 ghost use Rattle.pana_copies.specs.Sums.{is_sum};
 ghost use Rattle.pana_wire.specs.Word.{fields_of};
-ghost use Rattle.pana_wire.specs.inner.Names.{HasPlaceNames, IsSumOrNone, HasNames, HasEntryNames};
-ghost use Rattle.pana_wire.specs.Report.{number_data, heir_contents, sum_contents, kind_word, report_word, contents_of, put_fields, put_report, report_data, report_text, entry_data};
-ghost use Rattle.pana_wire.specs.Reply.{entries_data};
+ghost use Rattle.pana_wire.specs.inner.Names.{HasPlaceNames, IsSumOrNone, HasNames};
+ghost use Rattle.pana_wire.specs.Report.{number_data, heir_contents, sum_contents, kind_word, report_word, contents_of, put_fields, put_report, report_data, report_text};
 
 use crate::field::Field;
 use crate::word::Word;
 use pana_calls::Call;
 use pana_copies::{DeviceName, Place, Sum};
-use pana_journal::{Entry, Report, ReportKind};
+use pana_journal::{Report, ReportKind};
 use serde_json::{Map, Value};
 use std::alloc::{AllocError, Global};
 
@@ -40,33 +38,6 @@ fn report_value(alloc: Global, by: &DeviceName, report: &Report) -> Result<Value
 {
     let mut members = Map::new(alloc);
     put_report(alloc, &mut members, by, report)?;
-    Ok(Value::Object(members))
-}
-
-// One entry, or two.
-#[tactic(auto, unfolding(crate::specs::Reply::entries_data))]
-pub fn line_value(alloc: Global, entry: &Entry, second: Option<&Entry>) -> Result<Value, AllocError>
-    ensures value { IfOk result (λ value. view value ≡ entries_data (entry.now ∷ option_to_list (option_copied second.entry))) }
-    ensures names { OnOk result (All HasEntryNames (entry.now ∷ option_to_list (option_copied second.entry))) }
-{
-    let first = entry_value(alloc, entry)?;
-    match second {
-        Some(second) => {
-            let second = entry_value(alloc, second)?;
-            Ok(Value::Array(vec![in alloc; first, second]?))
-        }
-        None => Ok(Value::Array(vec![in alloc; first]?)),
-    }
-}
-
-#[tactic(auto, unfolding(crate::specs::Report::entry_data))]
-fn entry_value(alloc: Global, entry: &Entry) -> Result<Value, AllocError>
-    ensures value { IfOk result (λ value. view value ≡ entry_data entry.now) }
-    ensures names { OnOk result (HasEntryNames entry.now) }
-{
-    let mut members = Map::new(alloc);
-    put_number(alloc, &mut members, Field::Number, entry.number)?;
-    put_report(alloc, &mut members, &entry.by, &entry.report)?;
     Ok(Value::Object(members))
 }
 

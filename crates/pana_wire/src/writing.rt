@@ -1,20 +1,16 @@
-ghost use Rattle.std.specs.Prelude.{◌≡◌, ◌∷◌, IfOk, OnOk, option_copied, option_to_list, string_bytes};
-ghost use Rattle.std.specs.List.{All};
-ghost use Rattle.serde_json.specs.View.{view};
+ghost use Rattle.std.specs.Prelude.{◌≡◌, IfOk, string_bytes};
 ghost use Rattle.pana_calls.specs.declared.reply.Reply.TheVariants.{Did, Journal, Pair, Refused};
-ghost use Rattle.pana_wire.specs.inner.Names.{HasEntryNames};
-ghost use Rattle.pana_wire.specs.Dump.{IsReadBack, IsEntryLine, dump_says, entries_text};
+ghost use Rattle.pana_wire.specs.Dump.{IsReadBack, entries_text};
 ghost use Rattle.pana_wire.specs.Answer.{answer_text};
-ghost use Rattle.pana_wire.specs.Reply.{reply_data, reply_text};
+ghost use Rattle.pana_wire.specs.Reply.{reply_text};
 
 use crate::entry_writing::write_entries;
 use crate::json_writing::{Piece, list_text, member_text, pieces_text, written_text};
-use crate::report_writing::{kind_word, line_value};
+use crate::report_writing::kind_word;
 use json::Writer;
 use pana_calls::{Answer, Cause, Reply};
 use pana_event::Rel;
 use pana_journal::{Entry, ReportKind};
-use serde_json::{Value, json};
 use std::alloc::{AllocError, Global};
 
 /// The line that answers a report which isn't kept.
@@ -56,40 +52,6 @@ pub fn encode_answer(alloc: Global, answer: &Answer) -> Result<String, AllocErro
         Answer::Given(reply) => encode(alloc, reply),
         Answer::NotKept => String::from_str(alloc, NOT_KEPT),
     }
-}
-
-/// The line of a dump that has this entry, and where a second one is given that one behind it, with its newline: the
-/// answer to `journal` where it would have just these. It is one line, and `decode_dump` reads it, without the newline,
-/// back as the entries.
-///
-/// It takes memory for the object and for its text, and fails only where that runs out.
-pub fn encode_entry(
-    alloc: Global,
-    entry: &Entry,
-    second: Option<&Entry>,
-) -> Result<String, AllocError>
-    ensures line { IfOk result (λ line. IsEntryLine (entry.now ∷ option_to_list (option_copied second.entry)) (string_bytes line)) }
-{
-    let mut line = entries_text(alloc, entry, second)?;
-    line.push('\n')?;
-    Ok(line)
-}
-
-fn entries_text(alloc: Global, entry: &Entry, second: Option<&Entry>) -> Result<String, AllocError>
-    ensures text { IfOk result (λ text. string_bytes text ≡ entries_text (entry.now ∷ option_to_list (option_copied second.entry))) }
-    ensures back { OnOk result (dump_says (entries_text (entry.now ∷ option_to_list (option_copied second.entry))) ≡ Ok (entry.now ∷ option_to_list (option_copied second.entry))) }
-{
-    let value = entries_object(alloc, entry, second)?;
-    value.to_string(alloc)
-}
-
-#[tactic(auto, unfolding(crate::specs::Reply::reply_data))]
-fn entries_object(alloc: Global, entry: &Entry, second: Option<&Entry>) -> Result<Value, AllocError>
-    ensures value { IfOk result (λ value. view value ≡ reply_data (Journal (entry.now ∷ option_to_list (option_copied second.entry)))) }
-    ensures names { OnOk result (All HasEntryNames (entry.now ∷ option_to_list (option_copied second.entry))) }
-{
-    let entries = line_value(alloc, entry, second)?;
-    json!(in alloc; { "entries": entries })
 }
 
 fn did_text(alloc: Global, kind: ReportKind, entry: u64) -> Result<String, AllocError>

@@ -1,7 +1,6 @@
 -- The object of the entries, which is read back.
-use Rattle.std.proofs.Common.{◌≡◌, List, [], ap, ◌∙◌}
+use Rattle.std.proofs.Common.{◌≡◌, ap, ◌∙◌}
 use Rattle.std.specs.Prelude.{codes, string_bytes}
-use Rattle.std.specs.List.{All}
 use Rattle.std.proofs.lemmas.List.Elements.{All-weaker}
 use Rattle.std.proofs.lemmas.Str.{IsUtf8-string_bytes, is_utf8-from_IsUtf8}
 use Rattle.serde_json.specs.Read.{read}
@@ -9,7 +8,7 @@ use Rattle.pana_calls.specs.declared.reply.Reply.TheVariants.{Journal}
 use Rattle.pana_wire.specs.Reply.{entries_data, reply_data, reply_text}
 use Rattle.pana_wire.specs.inner.LongLine.{IsKnown}
 use Rattle.pana_wire.specs.inner.Names.{HasEntryNames}
-use Rattle.pana_wire.proofs.EntriesBack.{reply_back}
+use Rattle.pana_wire.proofs.EntriesBack.{page_back}
 use Rattle.pana_wire.proofs.LongLine.{journal_readable, read_readable}
 use Rattle.pana_wire.proofs.Pieces.{one_member}
 use Rattle.pana_wire.proofs.writing.journal_text.Goals as goal
@@ -28,6 +27,6 @@ returns-clause-back c =
     let text = string_bytes c.written_text.result in
     let known = c.in_ok-write_entries.ensures.known in
     let same : text ≡ reply_text (Journal entries) = returns-clause-text c in
-    reply_back (Journal entries) text (All-weaker IsKnown HasEntryNames (λ entry is. is.names) entries known) same
+    page_back entries text (All-weaker IsKnown HasEntryNames (λ entry is. is.names) entries known) same
     (is_utf8-from_IsUtf8 _ (IsUtf8-string_bytes c.written_text.result))
     (λ shallow. ap read same ∙ read_readable (reply_data (Journal entries)) shallow (journal_readable entries known))
