@@ -17,5 +17,4 @@ pub mod Sealed
 pub mod LongLine
 pub mod Said
 pub mod Pieces
-pub mod Fitting
-pub mod EntryTokens
+pub mod ReportTokens

@@ -6,4 +6,4 @@ pub mod Progress
 pub mod SealedData
 pub mod Writing
 pub mod Pieces
-pub mod EntryTokens
+pub mod ReportTokens

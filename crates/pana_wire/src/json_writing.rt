@@ -1,5 +1,5 @@
 //! Texts in JSON, token by token, with no blank.
-ghost use Rattle.std.specs.Prelude.{◌≡◌, ◌∷◌, [], ◌++◌, decimal, IfOk, OnOk, option_copied, map, flat_map, string_bytes};
+ghost use Rattle.std.specs.Prelude.{◌≡◌, ◌<◌, ◌^◌, ◌∷◌, [], ◌++◌, decimal, IfOk, OnOk, option_copied, map, flat_map, string_bytes};
 ghost use Rattle.std.specs.List.{All};
 ghost use Rattle.json.specs.Print.{print};
 ghost use Rattle.json.specs.Token as Token;
@@ -9,10 +9,10 @@ ghost use Rattle.serde_json.specs.Data.{array, member, no_members, object};
 ghost use Rattle.serde_json.specs.View.{items_of};
 ghost use Rattle.serde_json.specs.Written.{compact_text, outline};
 ghost use Rattle.pana_wire.specs.inner.Names.{IsSumOrNone};
-ghost use Rattle.pana_wire.specs.inner.Pieces.{HasSum, piece_tokens, sum_tokens};
+ghost use Rattle.pana_wire.specs.inner.Pieces.{IsSound, piece_tokens, text_tokens};
 
 use json::Writer;
-use pana_copies::Sum;
+use pana_copies::{Place, Sum};
 use std::alloc::{AllocError, Global};
 
 /// A part of a text.
@@ -31,6 +31,9 @@ pub(crate) enum Piece<'a> {
     /// A member where its content is given, and else nothing.
     NumberIfGiven(&'a str, Option<u64>),
     SumIfGiven(&'a str, Option<&'a Sum>),
+    /// So with the device and the path of a place.
+    DeviceIfGiven(&'a str, Option<&'a Place>),
+    PathIfGiven(&'a str, Option<&'a Place>),
 }
 
 /// What has a text in JSON.
@@ -75,6 +78,7 @@ impl<T: WriteJson> WriteJson for Option<T> {
 fn write_number(out: &mut Writer<Global>, name: &str, number: u64) -> Result<(), AllocError>
     ensures tokens { OnOk result (out.new.tokens ≡ out.old.tokens ++ key name.now ∷ Token.number (decimal number) ∷ []) }
     ensures before { OnOk result (out.new.before ≡ out.old.before) }
+    ensures number { number < 2 ^ 64 }
 {
     out.key(name)?;
     out.u64(number)
@@ -102,7 +106,7 @@ fn write_sum(
     name: &str,
     sum: Option<&Sum>,
 ) -> Result<(), AllocError>
-    ensures tokens { OnOk result (out.new.tokens ≡ out.old.tokens ++ sum_tokens name.now (option_copied sum.entry)) }
+    ensures tokens { OnOk result (out.new.tokens ≡ out.old.tokens ++ text_tokens name.now (option_copied sum.entry)) }
     ensures before { OnOk result (out.new.before ≡ out.old.before) }
     ensures sum { OnOk result (IsSumOrNone (option_copied sum.entry)) }
 {
@@ -118,7 +122,7 @@ fn write_sum(
 fn write_piece(alloc: Global, out: &mut Writer<Global>, piece: &Piece<'_>) -> Result<(), AllocError>
     ensures tokens { OnOk result (out.new.tokens ≡ out.old.tokens ++ piece_tokens piece.now) }
     ensures before { OnOk result (out.new.before ≡ out.old.before) }
-    ensures sum { OnOk result (HasSum piece.now) }
+    ensures sound { OnOk result (IsSound piece.now) }
 {
     match piece {
         Piece::Begin => out.begin_object(),
@@ -127,10 +131,14 @@ fn write_piece(alloc: Global, out: &mut Writer<Global>, piece: &Piece<'_>) -> Re
         Piece::Number(name, number) | Piece::NumberIfGiven(name, Some(number)) => {
             write_number(out, name, *number)
         }
-        Piece::NumberIfGiven(_, None) => Ok(()),
+        Piece::NumberIfGiven(_, None)
+        | Piece::DeviceIfGiven(_, None)
+        | Piece::PathIfGiven(_, None) => Ok(()),
         Piece::Text(name, text) => write_text(out, name, text),
         Piece::Flag(name, flag) => write_flag(out, name, *flag),
         Piece::SumIfGiven(name, sum) => write_sum(alloc, out, name, *sum),
+        Piece::DeviceIfGiven(name, Some(place)) => write_text(out, name, place.device.as_str()),
+        Piece::PathIfGiven(name, Some(place)) => write_text(out, name, place.path.as_str()),
     }
 }
 
@@ -142,7 +150,7 @@ pub(crate) fn write_all(
 ) -> Result<(), AllocError>
     ensures tokens { OnOk result (out.new.tokens ≡ out.old.tokens ++ flat_map piece_tokens pieces.now) }
     ensures before { OnOk result (out.new.before ≡ out.old.before) }
-    ensures sums { OnOk result (All HasSum pieces.now) }
+    ensures sound { OnOk result (All IsSound pieces.now) }
 {
     for piece in pieces {
         write_piece(alloc, out, piece)?;

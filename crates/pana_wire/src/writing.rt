@@ -6,7 +6,7 @@ ghost use Rattle.pana_wire.specs.Reply.{reply_text};
 
 use crate::entry_writing::write_entries;
 use crate::json_writing::{Piece, list_text, member_text, pieces_text, written_text};
-use crate::report_writing::kind_word;
+use crate::word::kind_word;
 use json::Writer;
 use pana_calls::{Answer, Cause, Reply};
 use pana_event::Rel;

@@ -1,10 +1,9 @@
 use Rattle.std.proofs.Common.{◌≡◌, List, ◌++◌, ap, ◌∙◌}
-use Rattle.std.specs.Prelude.{string_bytes}
 use Rattle.std.proofs.lemmas.Str.{IsUtf8-string_bytes}
 use Rattle.json.specs.Print.{print}
 use Rattle.json.specs.Token.{Token}
 use Rattle.json.specs.Tree.{json_tokens}
-use Rattle.serde_json.specs.Written.{compact_text, outline}
+use Rattle.serde_json.specs.Written.{outline}
 use Rattle.serde_json.proofs.Texts.{print-outline}
 use Rattle.pana_wire.specs.Report.{entry_data}
 use Rattle.pana_wire.proofs.entry_writing.encode_one.Goals as goal

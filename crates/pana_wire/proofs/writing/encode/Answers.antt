@@ -1,8 +1,6 @@
 -- Each reply is an object with the members that were written.
 use Rattle.std.specs.Prelude.{ℕ, Option, Some, None}
-use Rattle.std.proofs.Common.{◌≡◌, refl, ◌∙◌, ap}
-use Rattle.std.proofs.lemmas.Result.{IfOk-weaker}
-use Rattle.serde_json.specs.Data.{Data, object, member, no_members}
+use Rattle.std.proofs.Common.{◌≡◌, refl}
 use Rattle.pana_calls.specs.declared.standing.CopyStanding.{CopyStanding}
 use Rattle.pana_wire.specs.inner.Pieces.{data_or_null}
 use Rattle.pana_wire.specs.Report.{number_data}

@@ -1,8 +1,6 @@
-use Rattle.std.specs.Prelude.{codes, decimal, Option, Some, None}
-use Rattle.std.proofs.Common.{◌≡◌, List, ℕ, [], ◌∷◌, ◌∙◌, ap, refl, sym}
+use Rattle.std.specs.Prelude.{Option, Some, None}
+use Rattle.std.proofs.Common.{◌≡◌, List, ℕ, ◌∙◌, refl, sym}
 use Rattle.std.proofs.lemmas.Result.{IfOk-weaker}
-use Rattle.json.specs.Print.{print}
-use Rattle.json.specs.Token.{begin_object, end_object, key, number, string}
 use Rattle.serde_json.specs.Written.{compact_text}
 use Rattle.pana_calls.specs.Cause.{code_of, cause_copy, cause_name}
 use Rattle.pana_calls.specs.declared.cause.Cause.{Cause}

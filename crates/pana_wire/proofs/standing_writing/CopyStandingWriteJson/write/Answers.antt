@@ -1,12 +1,12 @@
 -- With a sum and without.
 use Rattle.std.specs.Prelude.{Option, Some, None, codes, decimal}
 use Rattle.std.proofs.Common.{◌≡◌, refl, ℕ, List, [], ◌∷◌, ◌++◌}
-use Rattle.json.specs.Token.{Token, begin_object, end_object, key, number, string}
+use Rattle.json.specs.Token.{begin_object, end_object, key, number, string}
 use Rattle.json.specs.Tree.{json_tokens}
 use Rattle.serde_json.specs.Written.{outline}
 use Rattle.pana_calls.specs.declared.standing.CopyStanding.{CopyStanding}
 use Rattle.pana_calls.specs.Standing.{state_name}
-use Rattle.pana_wire.specs.inner.Pieces.{sum_tokens}
+use Rattle.pana_wire.specs.inner.Pieces.{text_tokens}
 use Rattle.pana_wire.specs.Reply.{standing_data, with_sum}
 use Rattle.pana_wire.proofs.standing_writing.CopyStandingWriteJson.write.Goals as goal
 
@@ -19,7 +19,7 @@ whole : (standing : CopyStanding) (sum : Option (List ℕ)) →
     ∷ key (codes "newer") ∷ number (decimal standing.newer)
     ∷ key (codes "older") ∷ number (decimal standing.older)
     ∷ key (codes "state") ∷ string (state_name standing.state)
-    ∷ sum_tokens (codes "sum") sum ++ end_object ∷ []
+    ∷ text_tokens (codes "sum") sum ++ end_object ∷ []
     ≡ json_tokens (outline (with_sum sum (standing_data standing)))
 unfolding standing_data
 whole standing None = refl
