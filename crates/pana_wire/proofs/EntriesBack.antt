@@ -11,8 +11,7 @@ use Rattle.pana_copies.specs.Names.{is_device}
 use Rattle.pana_journal.specs.declared.entry.Entry.{Entry}
 use Rattle.pana_journal.specs.declared.report.Report.{Report}
 use Rattle.pana_journal.specs.declared.report.Report.TheVariants as reports
-use Rattle.pana_calls.specs.declared.reply.Reply.{Reply}
-use Rattle.pana_calls.specs.declared.reply.Reply.TheVariants.{Done, Did, Known, Families, Board, Stamps, Pair, Holdings, At, Status, Journal, Counts, Refused}
+use Rattle.pana_calls.specs.declared.reply.Reply.TheVariants.{Journal}
 use Rattle.pana_wire.specs.declared.field.Field.TheVariants as fields
 use Rattle.pana_wire.specs.Field.{field_name}
 use Rattle.pana_wire.specs.Word.{word_of}
@@ -20,7 +19,7 @@ use Rattle.pana_wire.specs.Line.{device_in, path_in, number_in, sum_in, number_o
 use Rattle.pana_wire.specs.Dump.{are_objects, entry_in, entries_in, dump_says, IsReadBack}
 use Rattle.pana_wire.specs.Report.{number_data, put_report, entry_data}
 use Rattle.pana_wire.specs.Reply.{entries_data, reply_data, reply_text}
-use Rattle.pana_wire.specs.inner.Names.{HasNames, HasEntryNames, HasReplyNames}
+use Rattle.pana_wire.specs.inner.Names.{HasNames, HasEntryNames}
 use Rattle.pana_wire.proofs.DumpBack.{objects_found}
 use Rattle.pana_wire.proofs.Short.{page_short}
 use Rattle.pana_wire.proofs.Whole.{entry_depth}
@@ -80,18 +79,6 @@ few_or_short : (entries : List Entry) (line : List ℕ) → All HasEntryNames en
 few_or_short entries line names is (inl few) = subst (λ text. length text ≤ 1048576) (sym is) (page_short entries names few)
 few_or_short entries line names is (inr short) = short
 
-pub reply_back : (reply : Reply) (line : List ℕ) → HasReplyNames reply → line ≡ reply_text reply → is_utf8 line ≡ true → (depth (reply_data reply) ≤ max_depth → read line ≡ Some (reply_data reply))
-    → IsReadBack reply line
-reply_back (Done entry) line names is utf8 reads = tt
-reply_back (Did kind entry) line names is utf8 reads = tt
-reply_back (Known copy) line names is utf8 reads = tt
-reply_back (Families rows) line names is utf8 reads = tt
-reply_back (Board board) line names is utf8 reads = tt
-reply_back (Stamps stamps) line names is utf8 reads = tt
-reply_back (Pair rel) line names is utf8 reads = tt
-reply_back (Holdings holdings) line names is utf8 reads = tt
-reply_back (At standing) line names is utf8 reads = tt
-reply_back (Status rows) line names is utf8 reads = tt
-reply_back (Journal entries) line names is utf8 reads = λ short. dump_back line entries names utf8 (reads (reply_shallow entries)) (few_or_short entries line names is short)
-reply_back (Counts counts) line names is utf8 reads = tt
-reply_back (Refused cause) line names is utf8 reads = tt
+pub page_back : (entries : List Entry) (line : List ℕ) → All HasEntryNames entries → line ≡ reply_text (Journal entries) → is_utf8 line ≡ true → (depth (reply_data (Journal entries)) ≤ max_depth → read line ≡ Some (reply_data (Journal entries)))
+    → IsReadBack (Journal entries) line
+page_back entries line names is utf8 reads short = dump_back line entries names utf8 (reads (reply_shallow entries)) (few_or_short entries line names is short)

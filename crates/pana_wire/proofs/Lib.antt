@@ -16,3 +16,5 @@ pub mod InLine
 pub mod Sealed
 pub mod LongLine
 pub mod Said
+pub mod Pieces
+pub mod ReportTokens

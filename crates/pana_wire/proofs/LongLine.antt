@@ -1,6 +1,6 @@
 -- A line of entries in the making, and that it is read back once it is whole.
-use Rattle.std.proofs.Common.{◌≡◌, ◌≤◌, ◌<◌, ℕ, zero, suc, ◌+◌, ◌/◌, ◌%◌, ◌&&◌, max, Bool, true, false, nat_lt, List, [], ◌∷◌, ◌++◌, length, map, slice_index, Option, Some, Result, Ok, Err, IfOk, inl, inr, refl, sym, ap, ◌∙◌, subst, arith, append_assoc, append-nil, length-append}
-use Rattle.std.specs.Prelude.{codes, option_and_then, option_map}
+use Rattle.std.proofs.Common.{◌≡◌, ◌≤◌, ◌<◌, ℕ, zero, suc, ◌+◌, ◌/◌, ◌%◌, ◌&&◌, Bool, true, false, nat_lt, List, [], ◌∷◌, ◌++◌, length, map, slice_index, Option, Some, Ok, inl, inr, refl, sym, ap, ◌∙◌, subst, arith, append_assoc, append-nil, length-append}
+use Rattle.std.specs.Prelude.{option_and_then}
 use Rattle.std.specs.List.{All}
 use Rattle.std.specs.Str.{IsUtf8, is_utf8}
 use Rattle.std.proofs.lemmas.Bool.{and_parts, cases_lt}
@@ -10,29 +10,28 @@ use Rattle.hex.proofs.HexLemmas.{length-encode_with}
 use Rattle.hex.specs.Hex.{IsBytes, encode_with, encode_lower, lower_digits}
 use Rattle.json.specs.Token.{Token}
 use Rattle.json.specs.Lex.{tokens}
-use Rattle.json.specs.Print.{quoted, escape_byte, print}
-use Rattle.json.specs.Tree.{json_tokens, HasNumbers, ItemsHaveNumbers}
+use Rattle.json.specs.Print.{escape_byte}
+use Rattle.json.specs.Tree.{json_tokens, ItemsHaveNumbers}
 use Rattle.json.specs.Tree as tree
 use Rattle.json.specs.Json as json
-use Rattle.json.proofs.Numbered.{ArePrintableOrBad-tokens, value-HasNumbers}
 use Rattle.json.proofs.Printed.Tokens.{tokens-print}
 use Rattle.json.proofs.Printed.Trees.{value-json_tokens, ArePrintable-json_tokens}
 use Rattle.json.proofs.Printed.Utf8.{are_ascii, IsUtf8-are_ascii}
 use Rattle.serde_json.specs.Data.{Data, null, boolean, number, string, array, object, Items, no_items, item, Members, no_members, member, depth, items_depth, members_depth}
 use Rattle.serde_json.specs.View.{items_of}
 use Rattle.serde_json.specs.Read.{of_json, of_items, read, max_depth}
-use Rattle.serde_json.specs.Written.{compact_text, items_text, comma_if, outline, items_outline, members_outline, has_float, IsInOrder}
-use Rattle.serde_json.proofs.Texts.{tokens_from_order, print-outline}
+use Rattle.serde_json.specs.Written.{compact_text, items_text, comma_if, outline, items_outline, members_outline}
+use Rattle.serde_json.proofs.Texts.{print-outline}
 use Rattle.pana_journal.specs.declared.entry.Entry.{Entry}
 use Rattle.pana_wire.specs.Dump.{dump_says}
 use Rattle.pana_wire.specs.Report.{entry_data}
-use Rattle.pana_wire.specs.Reply.{entries_data}
+use Rattle.pana_calls.specs.declared.reply.Reply.TheVariants.{Journal}
+use Rattle.pana_wire.specs.Reply.{entries_data, reply_data}
 use Rattle.pana_wire.specs.Seal.{mark, close, seal_with, entries_body, sealed_text, IsSealedLine}
 use Rattle.pana_wire.specs.inner.Names.{HasEntryNames}
-use Rattle.pana_wire.specs.inner.LongLine.{IsReadable, IsTextOf, IsWritable, listed, opening, is_none, IsOpenLine, IsBody}
+use Rattle.pana_wire.specs.inner.LongLine.{IsReadable, IsKnown, IsTextOf, IsWritable, listed, opening, is_none, IsOpenLine, IsBody}
 use Rattle.pana_wire.specs.inner.SealedData.{sealed_data}
-use Rattle.pana_wire.proofs.Whole.{entry_natural, entry_depth, natural_whole}
-use Rattle.pana_wire.proofs.Sealed.{head_of, body_is, text_is, sealed_whole, sealed_shallow, sealed_back, sealed_line}
+use Rattle.pana_wire.proofs.Sealed.{body_is, text_is, sealed_shallow, sealed_back, sealed_line}
 
 -- ---- the text
 
@@ -88,30 +87,29 @@ parsed : (text : List ℕ) (d : Data) → tokens text ≡ json_tokens (outline d
 parsed text d same shallow =
     ap (json.value max_depth) (same ∙ sym (append-nil (json_tokens (outline d)))) ∙ value-json_tokens (outline d) max_depth [] (omega (arith, outline_depth d, shallow))
 
-pub readable : (d : Data) (text : List ℕ) → has_float d ≡ false → depth d ≤ max_depth → read text ≡ Some d → IsInOrder text d → IsReadable d
-readable d text natural shallow is order =
-    let whole_so = parsed text d (tokens_from_order text d order natural) shallow in
-    record {
-      whole = sym (ap whole whole_so) ∙ is;
-      numbers = value-HasNumbers max_depth (tokens text) [] (outline d) (ArePrintableOrBad-tokens text) whole_so;
-    }
-
-read_readable : (d : Data) → depth d ≤ max_depth → IsReadable d → read (compact_text d) ≡ Some d
+pub read_readable : (d : Data) → depth d ≤ max_depth → IsReadable d → read (compact_text d) ≡ Some d
 read_readable d shallow is =
     let same : tokens (compact_text d) ≡ json_tokens (outline d) = ap tokens (sym (print-outline d)) ∙ tokens-print (json_tokens (outline d)) (ArePrintable-json_tokens (outline d) is.numbers) in
     ap whole (parsed (compact_text d) d same shallow) ∙ is.whole
 
-items_whole : (entries : List Entry) → All IsWritable entries → of_items (items_outline (items_of (map entry_data entries))) ≡ Some (items_of (map entry_data entries))
+items_whole : (entries : List Entry) → All IsKnown entries → of_items (items_outline (items_of (map entry_data entries))) ≡ Some (items_of (map entry_data entries))
 items_whole [] each = refl
-items_whole (entry ∷ entries) each = rw ((All-head IsWritable entry entries each).reads.whole, items_whole entries (All-tail IsWritable entry entries each)) refl
+items_whole (entry ∷ entries) each = rw ((All-head IsKnown entry entries each).reads.whole, items_whole entries (All-tail IsKnown entry entries each)) refl
 
-items_numbers : (entries : List Entry) → All IsWritable entries → ItemsHaveNumbers (items_outline (items_of (map entry_data entries)))
+items_numbers : (entries : List Entry) → All IsKnown entries → ItemsHaveNumbers (items_outline (items_of (map entry_data entries)))
 items_numbers [] each = tt
-items_numbers (entry ∷ entries) each = ((All-head IsWritable entry entries each).reads.numbers, items_numbers entries (All-tail IsWritable entry entries each))
+items_numbers (entry ∷ entries) each = ((All-head IsKnown entry entries each).reads.numbers, items_numbers entries (All-tail IsKnown entry entries each))
+
+pub journal_readable : (entries : List Entry) → All IsKnown entries → IsReadable (reply_data (Journal entries))
+unfolding reply_data entries_data
+journal_readable entries each = record { whole = rw (items_whole entries each) refl; numbers = (items_numbers entries each, tt) }
+
+all_known : (entries : List Entry) → All IsWritable entries → All IsKnown entries
+all_known entries each = All-weaker IsWritable IsKnown (λ entry is. record { names = is.names; reads = is.reads }) entries each
 
 sealed_readable : (entries : List Entry) (digest : List ℕ) → All IsWritable entries → IsReadable (sealed_data entries digest)
 unfolding sealed_data entries_data
-sealed_readable entries digest each = record { whole = rw (items_whole entries each) refl; numbers = (items_numbers entries each, (tt, tt)) }
+sealed_readable entries digest each = record { whole = rw (items_whole entries (all_known entries each)) refl; numbers = (items_numbers entries (all_known entries each), (tt, tt)) }
 
 -- ---- it is text
 
@@ -207,22 +205,6 @@ second_pushed entries entry next new is = subst (λ (es : List Entry). IsOpenLin
 
 pub some_before : (entries : List Entry) (entry : Entry) → false ≡ is_none (entries ++ entry ∷ [])
 some_before entries entry = sym (none_more entries entry)
-
--- what follows of three facts about what was returned
-pub IfOk-three : {X Y : Type 0} (r : Result X Y) (P Q R T : X → Type 0) → ((x : X) → P x → Q x → R x → T x) → IfOk r P → IfOk r Q → IfOk r R → IfOk r T
-IfOk-three (Ok x) P Q R T all p q s = all x p q s
-IfOk-three (Err y) P Q R T all p q s = tt
-
-pub text_of_entry : (entry : Entry) (text : List ℕ) (d : Data) → d ≡ entry_data entry → HasEntryNames entry → IsUtf8 text → (has_float d ≡ false → text ≡ compact_text d) → IsInOrder text d → (depth d ≤ max_depth → read text ≡ Some d) → IsTextOf entry text
-text_of_entry entry text d value names utf8 said order back =
-    let natural : has_float (entry_data entry) ≡ false = natural_whole (entry_data entry) (entry_natural entry) in
-    let shallow : depth (entry_data entry) ≤ max_depth = omega (arith, entry_depth entry) in
-    record {
-      same = said (ap has_float value ∙ natural) ∙ ap compact_text value;
-      names = names;
-      reads = readable (entry_data entry) text natural shallow (back (subst (λ (e : Data). depth e ≤ max_depth) (sym value) shallow) ∙ ap (λ (e : Data). Some e) value) (subst (IsInOrder text) value order);
-      utf8 = utf8;
-    }
 
 pub sealed_length : (body digest : List ℕ) → length digest ≡ 32 → length body + 78 ≤ 1048577 → length (((body ++ mark) ++ encode_lower digest) ++ (close ++ 10 ∷ [])) ≤ 1048577
 sealed_length body digest long room =

@@ -1,5 +1,5 @@
 -- The text of entries has no newline.
-use Rattle.std.specs.Prelude.{◌≡◌, ℕ, zero, suc, ◌+◌, ◌==◌, ◌&&◌, ◌||◌, ◌/◌, ◌%◌, Bool, true, false, cond, nat_lt, List, [], ◌∷◌, ◌++◌, Some, Ok, slice_get}
+use Rattle.std.specs.Prelude.{◌≡◌, ℕ, zero, suc, ◌+◌, ◌==◌, ◌&&◌, ◌||◌, ◌/◌, ◌%◌, Bool, true, false, cond, nat_lt, List, [], ◌∷◌, ◌++◌}
 use Rattle.std.specs.Char.{digit_char}
 use Rattle.std.specs.Fmt.{decimal, digits, digits_onto, digit_glyph}
 use Rattle.std.specs.List.{AllByRecursion}
@@ -8,12 +8,8 @@ use Rattle.std.proofs.lemmas.Bool.{ne_eqb, cases_Bool, ltb-false}
 use Rattle.json.specs.Print.{escape, escape_byte, escape_letter, quoted}
 use Rattle.serde_json.specs.Data.{unsigned, negative, float, Data, null, boolean, number, string, array, object, Items, no_items, item, Members, no_members, member}
 use Rattle.serde_json.specs.Written.{compact_text, items_text, members_text, comma_if}
-use Rattle.pana_journal.specs.declared.entry.Entry.{Entry}
-use Rattle.pana_calls.specs.declared.reply.Reply.TheVariants.{Journal}
 use Rattle.pana_wire.specs.Lines.{ended, unended, lines_of}
-use Rattle.pana_wire.specs.Reply.{reply_data, reply_text}
-use Rattle.pana_wire.specs.Dump.{dump_says, entries_text, IsEntryLine}
-use Rattle.pana_wire.proofs.Whole.{is_natural, items_natural, members_natural, reply_natural}
+use Rattle.pana_wire.proofs.Whole.{is_natural, items_natural, members_natural}
 
 -- no byte of a text is a newline
 abbrev pub IsInLine : List ℕ → Type 0
@@ -123,20 +119,3 @@ unended_one begun (b ∷ bytes) line =
 
 pub lines_one : (bytes : List ℕ) → IsInLine bytes → lines_of (bytes ++ 10 ∷ []) ≡ bytes ∷ []
 lines_one bytes line = rw (ended_one [] bytes line, unended_one [] bytes line) refl
-
-text_one : (entries : List Entry) → IsInLine (entries_text entries)
-unfolding reply_text
-text_one entries = text_in_line (reply_data (Journal entries)) (reply_natural (Journal entries))
-
-text_opens : (entries : List Entry) → slice_get (entries_text entries ++ 10 ∷ []) 0 ≡ Some 123
-unfolding reply_text reply_data
-text_opens entries = refl
-
--- a line with entries, once its text is read back
-pub entry_line : (entries : List Entry) (line : List ℕ) → dump_says (entries_text entries) ≡ Ok entries → line ≡ entries_text entries ++ 10 ∷ [] → IsEntryLine entries line
-entry_line entries line back is = record {
-  text = is;
-  one = ap lines_of is ∙ lines_one (entries_text entries) (text_one entries);
-  opens = ap (λ (l : List ℕ). slice_get l 0) is ∙ text_opens entries;
-  back = back;
-}

@@ -9,7 +9,7 @@ use Rattle.hex.specs.Hex.{IsBytes, encode_with, encode_lower, lower_digits}
 use Rattle.json.specs.Print.{escape, escape_byte, escape_letter, quoted}
 use Rattle.serde_json.specs.Data.{depth}
 use Rattle.serde_json.specs.Read.{read, max_depth}
-use Rattle.serde_json.specs.Written.{compact_text, has_float}
+use Rattle.serde_json.specs.Written.{compact_text}
 use Rattle.pana_journal.specs.declared.entry.Entry.{Entry}
 use Rattle.pana_wire.specs.Lines.{lines_of}
 use Rattle.pana_wire.specs.Line.{data_in, object_in}
@@ -22,7 +22,7 @@ use Rattle.pana_wire.specs.inner.SealedData.{sealed_data}
 use Rattle.pana_wire.proofs.DumpBack.{objects_found}
 use Rattle.pana_wire.proofs.EntriesBack.{entries_back, entries_shallow, all_objects}
 use Rattle.pana_wire.proofs.OneLine.{IsInLine, text_in_line, lines_one}
-use Rattle.pana_wire.proofs.Whole.{is_natural, natural_whole, entries_natural}
+use Rattle.pana_wire.proofs.Whole.{is_natural, entries_natural}
 
 -- ---- digits stand in a string as they are
 
@@ -100,9 +100,6 @@ text_is entries digest are =
 sealed_natural : (entries : List Entry) (digest : List ℕ) → is_natural (sealed_data entries digest) ≡ true
 unfolding sealed_data entries_data
 sealed_natural entries digest = rw (entries_natural entries) refl
-
-pub sealed_whole : (entries : List Entry) (digest : List ℕ) → has_float (sealed_data entries digest) ≡ false
-sealed_whole entries digest = natural_whole (sealed_data entries digest) (sealed_natural entries digest)
 
 pub sealed_shallow : (entries : List Entry) (digest : List ℕ) → depth (sealed_data entries digest) ≤ max_depth
 unfolding sealed_data entries_data

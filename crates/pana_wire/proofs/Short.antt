@@ -1,8 +1,5 @@
 -- The text of a report, and that of 100 entries, is short enough to be read back.
-use Rattle.std.proofs.Common.{◌≡◌, ℕ, zero, suc, ◌+◌, ◌*◌, ◌≤◌, ◌==◌, ◌&&◌, ◌/◌, ◌%◌, Bool, true, false, cond, if◌then◌else◌, List, [], ◌∷◌, ◌++◌, length, map, nat_le, nat_lt, Option, Some, None, Result, Ok, Err, Ordering, Less, Equal, Greater, refl, arith}
-use Rattle.std.specs.Prelude.{OnOk}
-use Rattle.std.specs.Result.{IfOk}
-use Rattle.std.specs.Option.{option_to_list}
+use Rattle.std.proofs.Common.{◌≡◌, ℕ, zero, suc, ◌+◌, ◌*◌, ◌≤◌, ◌==◌, ◌&&◌, ◌/◌, ◌%◌, Bool, true, false, cond, if◌then◌else◌, List, [], ◌∷◌, ◌++◌, length, map, nat_le, nat_lt, Option, Some, None, Ordering, Less, Equal, Greater, refl, arith}
 use Rattle.std.specs.Char.{digit_char}
 use Rattle.std.specs.List.{All, list_all}
 use Rattle.std.specs.Ordering.{match_ordering}
@@ -27,16 +24,6 @@ use Rattle.pana_wire.specs.Word.{word_name, fields_of}
 use Rattle.pana_wire.specs.Report.{number_data, sum_contents, contents_of, report_word, put_fields, put_report, report_data, report_text, entry_data}
 use Rattle.pana_wire.specs.Reply.{entries_data, reply_data, reply_text}
 use Rattle.pana_wire.specs.inner.Names.{IsSumOrNone, HasNames, HasEntryNames}
-
--- what follows of two facts about what was returned
-pub IfOk-both : {X Y : Type 0} (r : Result X Y) (P Q R : X → Type 0) → ((x : X) → P x → Q x → R x) → IfOk r P → IfOk r Q → IfOk r R
-IfOk-both (Ok x) P Q R both p q = both x p q
-IfOk-both (Err y) P Q R both p q = tt
-
--- what holds anyway, holds where something was returned
-pub on_ok : {X Y : Type 0} (P : Type 0) (r : Result X Y) → IfOk r (λ x. P) → OnOk r P
-on_ok P (Ok x) holds = holds
-on_ok P (Err y) holds = tt
 
 either_short : (b : Bool) (most : ℕ) (xs ys : List ℕ) → length xs ≤ most → length ys ≤ most → length (cond b xs ys) ≤ most
 either_short true most xs ys first second = first
@@ -197,8 +184,3 @@ entries_short (entry ∷ entries) names = omega (arith, entry_short entry (All-h
 pub page_short : (entries : List Entry) → All HasEntryNames entries → length entries ≤ 100 → length (reply_text (replies.Journal entries)) ≤ 1048576
 unfolding reply_text reply_data entries_data
 page_short entries names few = omega (arith, fits (reply_data (replies.Journal entries)), entries_short entries names)
-
--- an entry, and a second one where there is one, are few
-pub one_or_two : (entry : Entry) (second : Option Entry) → length (entry ∷ option_to_list second) ≤ 100
-one_or_two entry None = omega arith
-one_or_two entry (Some second) = omega arith

@@ -1,12 +1,11 @@
--- Each number in a report and in a reply is a whole one from 0 on, so its text is the one of its object.
+-- Each number in an entry and in a reply is a whole one from 0 on, and reports and entries are shallow.
 use Rattle.std.specs.Prelude.{◌≡◌, ℕ, ◌==◌, ◌&&◌, Bool, true, false, List, [], ◌∷◌, map, codes, Option, Some, None}
 use Rattle.std.specs.Ordering.{match_ordering}
 use Rattle.std.specs.List.{list_all}
 use Rattle.std.proofs.Common.{Ordering, Less, Equal, Greater, refl}
 use Rattle.std.proofs.lemmas.Bool.{and_parts, eqb-true}
-use Rattle.serde_json.specs.Data.{unsigned, negative, float, Data, null, boolean, number, string, array, object, Items, no_items, item, Members, no_members, member, put, depth, members_depth}
+use Rattle.serde_json.specs.Data.{unsigned, Data, null, boolean, number, string, array, object, Items, no_items, item, Members, no_members, member, put, depth, members_depth}
 use Rattle.serde_json.specs.View.{items_of}
-use Rattle.serde_json.specs.Written.{has_float, items_have_float, members_have_float}
 use Rattle.pana_calls.specs.declared.copy_stamp.CopyStamp.{CopyStamp}
 use Rattle.pana_journal.specs.declared.entry.Entry.{Entry}
 use Rattle.pana_journal.specs.declared.report.Report.{Report}
@@ -43,25 +42,6 @@ abbrev mutual
   pub members_natural : Members → Bool
   members_natural no_members = true
   members_natural (member k d ms) = is_natural d && members_natural ms
-
-mutual
-  pub natural_whole : (d : Data) → is_natural d ≡ true → has_float d ≡ false
-  natural_whole null is = refl
-  natural_whole (boolean b) is = refl
-  natural_whole (number (unsigned n)) is = refl
-  natural_whole (number (negative z)) is = refl
-  natural_whole (number (float x)) is = absurd (cc)
-  natural_whole (string s) is = refl
-  natural_whole (array ds) is = items_whole ds is
-  natural_whole (object ms) is = members_whole ms is
-
-  items_whole : (ds : Items) → items_natural ds ≡ true → items_have_float ds ≡ false
-  items_whole no_items is = refl
-  items_whole (item d ds) is = let parts = and_parts (is_natural d) (items_natural ds) is in rw (natural_whole d parts.0, items_whole ds parts.1) refl
-
-  members_whole : (ms : Members) → members_natural ms ≡ true → members_have_float ms ≡ false
-  members_whole no_members is = refl
-  members_whole (member k d ms) is = let parts = and_parts (is_natural d) (members_natural ms) is in rw (natural_whole d parts.0, members_whole ms parts.1) refl
 
 -- a value is flat where it is such a number, or a text, or has nothing else in it
 unfoldable pub is_flat : Data → Bool
@@ -119,10 +99,6 @@ flat_shallow : (ms : Members) → are_flat ms ≡ true → members_depth ms ≡ 
 unfolding is_flat
 flat_shallow no_members are = refl
 flat_shallow (member k d ms) are = let parts = and_parts (is_flat d) (are_flat ms) are in rw (eqb-true (depth d) 0 (and_parts (is_natural d) (depth d == 0) parts.0).1, flat_shallow ms parts.1) refl
-
-pub report_natural : (by : List ℕ) (report : Report) → is_natural (report_data by report) ≡ true
-unfolding report_data
-report_natural by report = flat_natural (put_report by report no_members) (report_flat by report no_members refl)
 
 pub report_depth : (by : List ℕ) (report : Report) → depth (report_data by report) ≡ 1
 unfolding report_data
@@ -209,9 +185,3 @@ reply_natural (Status rows) = rw (status_natural rows) refl
 reply_natural (Journal entries) = rw (entries_natural entries) refl
 reply_natural (Counts counts) = refl
 reply_natural (Refused cause) = refusal_natural _ _ _
-
-pub reply_whole : (reply : Reply) → has_float (reply_data reply) ≡ false
-reply_whole reply = natural_whole (reply_data reply) (reply_natural reply)
-
-pub report_whole : (by : List ℕ) (report : Report) → has_float (report_data by report) ≡ false
-report_whole by report = natural_whole (report_data by report) (report_natural by report)

@@ -1,5 +1,5 @@
 -- What a line of a dump says: its entries in order, or its first fault.
-use Rattle.std.specs.Prelude.{◌≡◌, ◌≤◌, ◌⊎◌, ℕ, List, length, [], ◌∷◌, ◌++◌, slice_get, Bool, Some, is_some, option_map, option_and_then, Result, Ok}
+use Rattle.std.specs.Prelude.{◌≡◌, ◌≤◌, ◌⊎◌, ℕ, List, length, [], ◌∷◌, Bool, is_some, option_map, option_and_then, Result, Ok}
 use Rattle.std.specs.List.{list_all}
 use Rattle.serde_json.specs.Data.{Data, Items, no_items, item}
 use Rattle.serde_json.specs.Find.{get, as_array, as_object}
@@ -9,7 +9,6 @@ use Rattle.pana_calls.specs.declared.reply.Reply.TheVariants.{Journal}
 use Rattle.pana_wire.specs.declared.field.Field.TheVariants as fields
 use Rattle.pana_wire.specs.declared.fault.WireFault.{WireFault}
 use Rattle.pana_wire.specs.Field.{field_name}
-use Rattle.pana_wire.specs.Lines.{lines_of}
 use Rattle.pana_wire.specs.Reply.{reply_text}
 use Rattle.pana_wire.specs.Line.{◌>>=◌, found, when, number_in, device_in, word_in, report_in, text_within, data_in, object_in}
 
@@ -64,10 +63,3 @@ IsReadBack _ text = Unit {0}
 -- the text of entries: that of a Journal reply which has just these
 abbrev pub entries_text : List Entry → List ℕ
 entries_text entries = reply_text (Journal entries)
-
--- the text is one line of a dump, which begins with a brace and ends with its newline, and is read back as the entries
-pub record IsEntryLine (entries : List Entry) (line : List ℕ) : Type 0 where
-  pub text : line ≡ entries_text entries ++ 10 ∷ []
-  pub one : lines_of line ≡ entries_text entries ∷ []
-  pub opens : slice_get line 0 ≡ Some 123
-  pub back : dump_says (entries_text entries) ≡ Ok entries

@@ -5,3 +5,5 @@ pub mod LongLine
 pub mod Progress
 pub mod SealedData
 pub mod Writing
+pub mod Pieces
+pub mod ReportTokens

@@ -2,10 +2,13 @@
 #![tactic(auto)]
 
 mod answer_buffer;
+mod board_writing;
 mod cutting;
 mod dump;
+mod entry_writing;
 mod fault;
 mod field;
+mod json_writing;
 mod line_buffer;
 mod line_fault;
 mod message;
@@ -13,6 +16,7 @@ mod open_line;
 mod reading;
 mod report_writing;
 mod serving;
+mod standing_writing;
 mod tap;
 mod word;
 mod writing;
@@ -28,4 +32,4 @@ pub use crate::reading::decode;
 pub use crate::report_writing::encode_call;
 pub use crate::serving::{ServeFault, Served, serve, serve_groups};
 pub use crate::tap::Tap;
-pub use crate::writing::{encode, encode_answer, encode_entry};
+pub use crate::writing::{encode, encode_answer};

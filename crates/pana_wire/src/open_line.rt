@@ -4,7 +4,7 @@ ghost use Rattle.pana_journal.specs.declared.entry.Entry.{Entry};
 ghost use Rattle.pana_wire.specs.Seal.{IsSealedLine};
 ghost use Rattle.pana_wire.specs.inner.LongLine.{is_none, IsOpenLine, IsBody, IsTextOf};
 
-use crate::report_writing::encode_one;
+use crate::entry_writing::encode_one;
 use pana_journal::Entry;
 use std::alloc::{AllocError, Global};
 use std::marker::Model;

@@ -1,266 +1,133 @@
-//! Reports and entries as objects.
-ghost use Rattle.std.specs.Prelude.{◌≡◌, [], ◌∷◌, true, IfOk, OnOk, option_copied, option_to_list, string_bytes};
-ghost use Rattle.std.specs.List.{All};
-ghost use Rattle.serde_json.specs.Data.{string, put};
-ghost use Rattle.serde_json.specs.View.{view, members_view};
+//! Reports as texts.
+ghost use Rattle.std.specs.Prelude.{◌≡◌, ◌++◌, true, IfOk, OnOk, option_copied, string_bytes};
+ghost use Rattle.json.specs.Tree.{json_tokens};
+ghost use Rattle.serde_json.specs.Written.{outline};
 ghost use Rattle.pana_copies.specs.Names.{is_device};
-ghost use Rattle.pana_wire.specs.Field.{field_name};
 ghost use Rattle.pana_wire.specs.Line.{line_says};
-ghost use Rattle.pana_copies.specs.Sums.{is_sum};
-ghost use Rattle.pana_wire.specs.Word.{fields_of};
-ghost use Rattle.pana_wire.specs.inner.Names.{HasPlaceNames, IsSumOrNone, HasNames, HasEntryNames};
-ghost use Rattle.pana_wire.specs.Report.{number_data, heir_contents, sum_contents, kind_word, report_word, contents_of, put_fields, put_report, report_data, report_text, entry_data};
-ghost use Rattle.pana_wire.specs.Reply.{entries_data};
-ghost use Rattle.pana_wire.specs.inner.LongLine.{IsTextOf};
+ghost use Rattle.pana_wire.specs.Report.{report_text};
+ghost use Rattle.pana_wire.specs.inner.LongLine.{IsReadable};
+ghost use Rattle.pana_wire.specs.inner.Names.{HasNames};
+ghost use Rattle.pana_wire.specs.inner.ReportTokens.{given_place, numbers_of, object_of};
 
-use crate::field::Field;
-use crate::word::Word;
+use crate::json_writing::{Piece, write_all, written_text};
+use crate::word::kind_word;
+use json::Writer;
 use pana_calls::Call;
-use pana_copies::{DeviceName, Place, Sum};
-use pana_journal::{Entry, Report, ReportKind};
-use serde_json::{Map, Value};
+use pana_copies::{DeviceName, Place};
+use pana_journal::Report;
 use std::alloc::{AllocError, Global};
 
 /// The line that makes a device's report, without its newline: an object in JSON with no blank, its names in byte
 /// order. `decode` reads it back as the report.
 ///
-/// It takes memory for the object and for its text, and fails only where that runs out.
+/// It takes memory for its text and for the digits of the sum, and fails only where that runs out.
 pub fn encode_call(alloc: Global, by: &DeviceName, report: &Report) -> Result<String, AllocError>
     ensures text { IfOk result (λ text. string_bytes text ≡ report_text by.now report.now) }
     ensures back { IfOk result (λ text. line_says (string_bytes text) ≡ Ok (record { by = by.now; call = Call.Report report.now })) }
 {
-    let value = report_value(alloc, by, report)?;
-    value.to_string(alloc)
+    let mut out = Writer::new(Vec::new(alloc));
+    write_report(alloc, &mut out, by, report, None)?;
+    Ok(written_text(out))
 }
 
-#[tactic(auto, unfolding(crate::specs::Report::report_data))]
-fn report_value(alloc: Global, by: &DeviceName, report: &Report) -> Result<Value, AllocError>
-    ensures value { IfOk result (λ value. view value ≡ report_data by.now report.now) }
-    ensures by { OnOk result (is_device by.now ≡ true) }
-    ensures names { OnOk result (HasNames report.now) }
-{
-    let mut members = Map::new(alloc);
-    put_report(alloc, &mut members, by, report)?;
-    Ok(Value::Object(members))
-}
-
-#[tactic(auto, unfolding(crate::specs::Reply::entries_data))]
-pub fn entries_value(alloc: Global, entries: &[Entry]) -> Result<Value, AllocError>
-    ensures value { IfOk result (λ value. view value ≡ entries_data entries.now) }
-    ensures names { OnOk result (All HasEntryNames entries.now) }
-{
-    let mut values = Vec::new(alloc);
-    for entry in entries {
-        values.push(entry_value(alloc, entry)?)?;
-    }
-    Ok(Value::Array(values))
-}
-
-// One entry, or two.
-#[tactic(auto, unfolding(crate::specs::Reply::entries_data))]
-pub fn line_value(alloc: Global, entry: &Entry, second: Option<&Entry>) -> Result<Value, AllocError>
-    ensures value { IfOk result (λ value. view value ≡ entries_data (entry.now ∷ option_to_list (option_copied second.entry))) }
-    ensures names { OnOk result (All HasEntryNames (entry.now ∷ option_to_list (option_copied second.entry))) }
-{
-    let first = entry_value(alloc, entry)?;
-    match second {
-        Some(second) => {
-            let second = entry_value(alloc, second)?;
-            Ok(Value::Array(vec![in alloc; first, second]?))
-        }
-        None => Ok(Value::Array(vec![in alloc; first]?)),
-    }
-}
-
-/// The text of an entry, as it stands in a line that has it. Fails only where memory runs out.
-pub fn encode_one(alloc: Global, entry: &Entry) -> Result<String, AllocError>
-    ensures { IfOk result (λ text. IsTextOf entry.now (string_bytes text)) }
-{
-    let value = entry_value(alloc, entry)?;
-    value.to_string(alloc)
-}
-
-#[tactic(auto, unfolding(crate::specs::Report::entry_data))]
-fn entry_value(alloc: Global, entry: &Entry) -> Result<Value, AllocError>
-    ensures value { IfOk result (λ value. view value ≡ entry_data entry.now) }
-    ensures names { OnOk result (HasEntryNames entry.now) }
-{
-    let mut members = Map::new(alloc);
-    put_number(alloc, &mut members, Field::Number, entry.number)?;
-    put_report(alloc, &mut members, &entry.by, &entry.report)?;
-    Ok(Value::Object(members))
-}
-
-pub fn kind_word(kind: ReportKind) -> Word
-    ensures { result ≡ kind_word kind }
-{
-    match kind {
-        ReportKind::Register => Word::Register,
-        ReportKind::Duplicate => Word::Duplicate,
-        ReportKind::Edit => Word::Edit,
-        ReportKind::Reconcile => Word::Reconcile,
-        ReportKind::Merge => Word::Merge,
-        ReportKind::Relocate => Word::Relocate,
-        ReportKind::Remove => Word::Remove,
-        ReportKind::Note => Word::Note,
-        ReportKind::Confirm => Word::Confirm,
-        ReportKind::Withdraw => Word::Withdraw,
-    }
-}
-
-#[tactic(auto, unfolding(crate::specs::Report::put_report))]
-fn put_report(
+/// Writes the object of a device's report, with a number where it is that of an entry. Fails only where memory runs out.
+pub(crate) fn write_report<'a>(
     alloc: Global,
-    members: &mut Map<String, Value>,
-    by: &DeviceName,
-    report: &Report,
-) -> Result<(), AllocError>
-    ensures value { OnOk result (members_view members.new.entries ≡ put_report by.now report.now (members_view members.old.entries)) }
-    ensures by { OnOk result (is_device by.now ≡ true) }
-    ensures names { OnOk result (HasNames report.now) }
-{
-    put_text(alloc, members, Field::By, by.as_str())?;
-    put_text(alloc, members, Field::Do, kind_word(report.kind()).name())?;
-    put_contents(alloc, members, report)
-}
-
-fn put_contents(
-    alloc: Global,
-    members: &mut Map<String, Value>,
-    report: &Report,
-) -> Result<(), AllocError>
-    ensures value { OnOk result (members_view members.new.entries ≡ put_fields (fields_of (report_word report.now)) (contents_of report.now) (members_view members.old.entries)) }
-    ensures names { OnOk result (HasNames report.now) }
-{
-    let fields = kind_word(report.kind()).fields();
-    match report {
-        Report::Register { place, sum } => {
-            put_place(alloc, members, fields[0], fields[1], place)?;
-            put_sum_if_given(alloc, members, fields[2], sum)
-        }
-        Report::Duplicate { copy, place, sum } => {
-            put_number(alloc, members, fields[0], *copy)?;
-            put_place(alloc, members, fields[1], fields[2], place)?;
-            put_sum_if_given(alloc, members, fields[3], sum)
-        }
-        Report::Edit { copy, sum } => {
-            put_number(alloc, members, fields[0], *copy)?;
-            put_sum_if_given(alloc, members, fields[1], sum)
-        }
-        Report::Reconcile { a, b, sum } | Report::Merge { a, b, sum } => {
-            put_number(alloc, members, fields[0], *a)?;
-            put_number(alloc, members, fields[1], *b)?;
-            put_sum_if_given(alloc, members, fields[2], sum)
-        }
-        Report::Relocate { copy, place } => {
-            put_number(alloc, members, fields[0], *copy)?;
-            put_place(alloc, members, fields[1], fields[2], place)
-        }
-        Report::Remove { copy, heir } => {
-            put_number(alloc, members, fields[0], *copy)?;
-            put_number_if_given(alloc, members, fields[1], *heir)
-        }
-        Report::Note { copy, sum } => {
-            put_number(alloc, members, fields[0], *copy)?;
-            put_sum(alloc, members, fields[1], sum)
-        }
-        Report::Confirm { entry } | Report::Withdraw { entry } => {
-            put_number(alloc, members, fields[0], *entry)
-        }
-    }
-}
-
-fn put_place(
-    alloc: Global,
-    members: &mut Map<String, Value>,
-    device: Field,
-    path: Field,
-    place: &Place,
-) -> Result<(), AllocError>
-    ensures value { OnOk result (members_view members.new.entries ≡ put (field_name path) (string place.now.path) (put (field_name device) (string place.now.device) (members_view members.old.entries))) }
-    ensures names { OnOk result (HasPlaceNames place.now) }
-{
-    put_text(alloc, members, device, place.device.as_str())?;
-    put_text(alloc, members, path, place.path.as_str())
-}
-
-fn put_number_if_given(
-    alloc: Global,
-    members: &mut Map<String, Value>,
-    field: Field,
+    out: &mut Writer<Global>,
+    by: &'a DeviceName,
+    report: &'a Report,
     number: Option<u64>,
 ) -> Result<(), AllocError>
-    ensures { OnOk result (members_view members.new.entries ≡ put_fields (field ∷ []) (heir_contents number) (members_view members.old.entries)) }
+    ensures tokens { OnOk result (out.new.tokens ≡ out.old.tokens ++ json_tokens (outline (object_of by.now report.now number))) }
+    ensures before { OnOk result (out.new.before ≡ out.old.before) }
+    ensures by { OnOk result (is_device by.now ≡ true) }
+    ensures names { OnOk result (HasNames report.now) }
+    ensures reads { OnOk result (IsReadable (object_of by.now report.now number)) }
 {
-    match number {
-        Some(number) => put_number(alloc, members, field, number),
-        None => Ok(()),
-    }
-}
-
-fn put_sum_if_given(
-    alloc: Global,
-    members: &mut Map<String, Value>,
-    field: Field,
-    sum: &Option<Sum>,
-) -> Result<(), AllocError>
-    ensures value { OnOk result (members_view members.new.entries ≡ put_fields (field ∷ []) (sum_contents sum.now) (members_view members.old.entries)) }
-    ensures sum { OnOk result (IsSumOrNone sum.now) }
-{
-    match sum {
-        Some(sum) => put_sum(alloc, members, field, sum),
-        None => Ok(()),
-    }
-}
-
-pub fn put_sum(
-    alloc: Global,
-    members: &mut Map<String, Value>,
-    field: Field,
-    sum: &Sum,
-) -> Result<(), AllocError>
-    ensures value { OnOk result (members_view members.new.entries ≡ put (field_name field) (string sum.now) (members_view members.old.entries)) }
-    ensures sum { OnOk result (is_sum sum.now ≡ true) }
-{
-    let text = sum.text(alloc)?;
-    put_text(alloc, members, field, text.as_str())
-}
-
-fn put_number(
-    alloc: Global,
-    members: &mut Map<String, Value>,
-    field: Field,
-    number: u64,
-) -> Result<(), AllocError>
-    ensures { OnOk result (members_view members.new.entries ≡ put (field_name field) (number_data number) (members_view members.old.entries)) }
-{
-    put_value(alloc, members, field, Value::from(number))
-}
-
-fn put_text(
-    alloc: Global,
-    members: &mut Map<String, Value>,
-    field: Field,
-    text: &str,
-) -> Result<(), AllocError>
-    ensures { OnOk result (members_view members.new.entries ≡ put (field_name field) (string text.now) (members_view members.old.entries)) }
-{
-    put_value(
+    let numbers = numbers_of(report);
+    let place = given_place(report);
+    write_all(
         alloc,
-        members,
-        field,
-        Value::String(String::from_str(alloc, text)?),
-    )
+        out,
+        &[
+            Piece::Begin,
+            Piece::NumberIfGiven("a", numbers.a),
+            Piece::NumberIfGiven("b", numbers.b),
+            Piece::Text("by", by.as_str()),
+            Piece::NumberIfGiven("copy", numbers.copy),
+            Piece::DeviceIfGiven("device", place),
+            Piece::Text("do", kind_word(report.kind()).name()),
+            Piece::NumberIfGiven("entry", numbers.entry),
+            Piece::NumberIfGiven("heir", numbers.heir),
+            Piece::NumberIfGiven("number", number),
+            Piece::PathIfGiven("path", place),
+            Piece::SumIfGiven("sum", report.sum()),
+            Piece::End,
+        ],
+    )?;
+    Ok(())
 }
 
-fn put_value(
-    alloc: Global,
-    members: &mut Map<String, Value>,
-    field: Field,
-    value: Value,
-) -> Result<(), AllocError>
-    ensures { OnOk result (members_view members.new.entries ≡ put (field_name field) (view value) (members_view members.old.entries)) }
+/// The numbers in a report, by the names of their members.
+#[derive(Clone, Copy)]
+pub(crate) struct Numbers {
+    a: Option<u64>,
+    b: Option<u64>,
+    copy: Option<u64>,
+    entry: Option<u64>,
+    heir: Option<u64>,
+}
+
+const NO_NUMBERS: Numbers = Numbers {
+    a: None,
+    b: None,
+    copy: None,
+    entry: None,
+    heir: None,
+};
+
+fn numbers_of(report: &Report) -> Numbers
+    ensures { result ≡ numbers_of report.now }
 {
-    members.insert(String::from_str(alloc, field.name())?, value)?;
-    Ok(())
+    match report {
+        Report::Register { .. } => NO_NUMBERS,
+        Report::Duplicate { copy, .. }
+        | Report::Edit { copy, .. }
+        | Report::Relocate { copy, .. }
+        | Report::Note { copy, .. } => Numbers {
+            copy: Some(*copy),
+            ..NO_NUMBERS
+        },
+        Report::Reconcile { a, b, .. } | Report::Merge { a, b, .. } => Numbers {
+            a: Some(*a),
+            b: Some(*b),
+            ..NO_NUMBERS
+        },
+        Report::Remove { copy, heir } => Numbers {
+            copy: Some(*copy),
+            heir: *heir,
+            ..NO_NUMBERS
+        },
+        Report::Confirm { entry } | Report::Withdraw { entry } => Numbers {
+            entry: Some(*entry),
+            ..NO_NUMBERS
+        },
+    }
+}
+
+fn given_place(report: &Report) -> Option<&Place>
+    ensures { option_copied result ≡ given_place report.now }
+{
+    match report {
+        Report::Register { place, .. }
+        | Report::Duplicate { place, .. }
+        | Report::Relocate { place, .. } => Some(place),
+        Report::Edit { .. }
+        | Report::Reconcile { .. }
+        | Report::Merge { .. }
+        | Report::Remove { .. }
+        | Report::Note { .. }
+        | Report::Confirm { .. }
+        | Report::Withdraw { .. } => None,
+    }
 }

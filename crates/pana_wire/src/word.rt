@@ -1,7 +1,9 @@
 ghost use Rattle.std.specs.Prelude.{◌≡◌};
 ghost use Rattle.pana_wire.specs.Word.{word_name, fields_of, word_of};
+ghost use Rattle.pana_wire.specs.Report.{kind_word};
 
 use crate::field::Field;
+use pana_journal::ReportKind;
 
 /// The word in a line for what is asked.
 #[derive(Clone, Copy, Debug, PartialEq, Eq)]
@@ -120,4 +122,22 @@ pub fn word_of(text: &str) -> Option<Word>
     ensures { result ≡ word_of text.now }
 {
     WORDS.iter().copied().find(|word| word.name() == text)
+}
+
+/// The word for reports of this kind. Takes no memory.
+pub fn kind_word(kind: ReportKind) -> Word
+    ensures { result ≡ kind_word kind }
+{
+    match kind {
+        ReportKind::Register => Word::Register,
+        ReportKind::Duplicate => Word::Duplicate,
+        ReportKind::Edit => Word::Edit,
+        ReportKind::Reconcile => Word::Reconcile,
+        ReportKind::Merge => Word::Merge,
+        ReportKind::Relocate => Word::Relocate,
+        ReportKind::Remove => Word::Remove,
+        ReportKind::Note => Word::Note,
+        ReportKind::Confirm => Word::Confirm,
+        ReportKind::Withdraw => Word::Withdraw,
+    }
 }

@@ -48,3 +48,8 @@ pub record IsOpenLine (entries : List Entry) (bytes : List ℕ) : Type 0 where
 pub record IsBody (entries : List Entry) (bytes : List ℕ) : Type 0 where
   pub text : bytes ≡ opening ++ (listed false entries ++ 93 ∷ [])
   pub each : All IsWritable entries
+
+-- what is known of an entry that was written
+pub record IsKnown (entry : Entry) : Type 0 where
+  pub names : HasEntryNames entry
+  pub reads : IsReadable (entry_data entry)

@@ -1,14 +1,11 @@
 -- That the names in reports, entries and replies are names of devices, paths and sums, as those of a program are by their types.
 use Rattle.std.specs.Prelude.{◌≡◌, ℕ, List, Option, Some, None, true}
-use Rattle.std.specs.List.{All}
 use Rattle.pana_copies.specs.Names.{is_device, is_path}
 use Rattle.pana_copies.specs.Sums.{is_sum}
 use Rattle.pana_copies.specs.declared.place.Place.{Place}
 use Rattle.pana_journal.specs.declared.entry.Entry.{Entry}
 use Rattle.pana_journal.specs.declared.report.Report.{Report}
 use Rattle.pana_journal.specs.declared.report.Report.TheVariants.{Register, Duplicate, Edit, Reconcile, Merge, Relocate, Note}
-use Rattle.pana_calls.specs.declared.reply.Reply.{Reply}
-use Rattle.pana_calls.specs.declared.reply.Reply.TheVariants.{Journal}
 
 -- of a place
 abbrev pub HasPlaceNames : Place → Type 0
@@ -33,8 +30,3 @@ HasNames _ = Unit {0}
 -- of an entry
 abbrev pub HasEntryNames : Entry → Type 0
 HasEntryNames entry = (is_device entry.by ≡ true) × HasNames entry.report
-
--- of the entries in a reply
-abbrev pub HasReplyNames : Reply → Type 0
-HasReplyNames (Journal entries) = All HasEntryNames entries
-HasReplyNames _ = Unit {0}

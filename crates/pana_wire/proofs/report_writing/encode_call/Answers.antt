@@ -1,31 +1,33 @@
-use Rattle.std.proofs.Common.{ap, sym, ◌∙◌, ◌≤◌, length, subst, Some}
-use Rattle.std.proofs.lemmas.Result.{IfOk-weaker}
-use Rattle.std.proofs.lemmas.Str.{IsUtf8-string_bytes, is_utf8-from_IsUtf8}
+use Rattle.std.proofs.Common.{◌≡◌, ◌≤◌, ◌++◌, List, length, sym, subst, ap, ◌∙◌}
 use Rattle.std.specs.Prelude.{string_bytes}
-use Rattle.serde_json.specs.Data.{depth}
-use Rattle.serde_json.specs.Read.{max_depth}
-use Rattle.serde_json.specs.Written.{compact_text, has_float}
-use Rattle.pana_wire.specs.Report.{report_text}
-use Rattle.pana_wire.proofs.Whole.{report_whole}
-use Rattle.pana_wire.proofs.Short.{IfOk-both, report_short}
+use Rattle.std.proofs.lemmas.Str.{IsUtf8-string_bytes, is_utf8-from_IsUtf8}
+use Rattle.json.specs.Print.{print}
+use Rattle.json.specs.Token.{Token}
+use Rattle.json.specs.Tree.{json_tokens}
+use Rattle.serde_json.specs.Read.{read}
+use Rattle.serde_json.specs.Written.{outline}
+use Rattle.serde_json.proofs.Texts.{print-outline}
+use Rattle.pana_wire.specs.Report.{report_data, report_text}
+use Rattle.pana_wire.proofs.LongLine.{read_readable}
 use Rattle.pana_wire.proofs.ReadBack.{report_shallow, line_back}
+use Rattle.pana_wire.proofs.Short.{report_short}
 use Rattle.pana_wire.proofs.report_writing.encode_call.Goals as goal
 
 pub returns-clause-text : goal.returns-clause-text
-unfolding report_text
+unfolding report_text report_data
 returns-clause-text c =
-    let value = c.in_ok-value.ensures.value in
-    IfOk-weaker c.to_string.result _ _ (λ text h. h (ap has_float value ∙ report_whole c.args.by.now c.args.report.now) ∙ ap compact_text value) c.to_string.ensures.text
+    let values = report_data c.args.by.now c.args.report.now in
+    let tokens : c.write_report.new.out.tokens ≡ json_tokens (outline values) = c.in_ok-write_report.ensures.tokens ∙ ap (λ (ts : List Token). ts ++ json_tokens (outline values)) c.new-out.ensures.tokens in
+    c.written_text.ensures ∙ ap print tokens ∙ print-outline values
 
 pub returns-clause-back : goal.returns-clause-back
+unfolding report_text report_data
 returns-clause-back c =
-    let value = c.in_ok-value.ensures.value in
-    let by = c.in_ok-value.ensures.by in
-    let names = c.in_ok-value.ensures.names in
-    IfOk-both c.to_string.result _ _ _
-    (λ text reads is. line_back c.args.by.now (string_bytes text) c.args.report.now by names
-    (is_utf8-from_IsUtf8 _ (IsUtf8-string_bytes text))
-    (reads (subst (λ d. depth d ≤ max_depth) (sym value) (report_shallow c.args.by.now c.args.report.now)) ∙ ap (λ d. Some d) value)
-    (subst (λ bytes. length bytes ≤ 65536) (sym is) (report_short c.args.by.now c.args.report.now by names)))
-    c.to_string.ensures.reads_back
-    (returns-clause-text c)
+    let by = c.args.by.now in
+    let report = c.args.report.now in
+    let named = c.in_ok-write_report.ensures.by in
+    let names = c.in_ok-write_report.ensures.names in
+    let same : string_bytes c.written_text.result ≡ report_text by report = returns-clause-text c in
+    line_back by (string_bytes c.written_text.result) report named names (is_utf8-from_IsUtf8 _ (IsUtf8-string_bytes c.written_text.result))
+    (ap read same ∙ read_readable (report_data by report) (report_shallow by report) c.in_ok-write_report.ensures.reads)
+    (subst (λ bytes. length bytes ≤ 65536) (sym same) (report_short by report named names))

@@ -1,29 +1,52 @@
--- The text of the reply's value is that of its object, since no number in it has a fraction.
-use Rattle.std.proofs.Common.{◌≤◌, Some, sym, subst, ◌∙◌, ap}
-use Rattle.std.specs.Prelude.{string_bytes}
-use Rattle.std.proofs.lemmas.Result.{IfOk-weaker}
-use Rattle.std.proofs.lemmas.Str.{IsUtf8-string_bytes, is_utf8-from_IsUtf8}
-use Rattle.serde_json.specs.Data.{depth}
-use Rattle.serde_json.specs.Read.{max_depth}
-use Rattle.serde_json.specs.Written.{has_float, compact_text}
-use Rattle.pana_wire.specs.Reply.{reply_text}
-use Rattle.pana_wire.proofs.EntriesBack.{reply_back}
-use Rattle.pana_wire.proofs.Whole.{reply_whole}
-use Rattle.pana_wire.proofs.Short.{IfOk-both}
+-- Each reply is an object with the members that were written.
+use Rattle.std.specs.Prelude.{ℕ, Option, Some, None}
+use Rattle.std.proofs.Common.{◌≡◌, refl}
+use Rattle.pana_calls.specs.declared.standing.CopyStanding.{CopyStanding}
+use Rattle.pana_wire.specs.inner.Pieces.{data_or_null}
+use Rattle.pana_wire.specs.Report.{number_data}
+use Rattle.pana_wire.specs.Reply.{at_data, families_data, holdings_data, number_or_null, reply_data, reply_text, stamps_data, standing_data, status_data, with_sum}
 use Rattle.pana_wire.proofs.writing.encode.Goals as goal
 
-pub returns-clause-text : goal.returns-clause-text
-unfolding reply_text
-returns-clause-text c =
-    let value = c.in_ok-value.ensures.value in
-    IfOk-weaker c.to_string.result _ _ (λ text h. h (ap has_float value ∙ reply_whole _) ∙ ap compact_text value) c.to_string.ensures.text
+number_same : (n : Option ℕ) → data_or_null number_data n ≡ number_or_null n
+number_same None = refl
+number_same (Some n) = refl
 
-pub returns-clause-back : goal.returns-clause-back
-returns-clause-back c =
-    let value = c.in_ok-value.ensures.value in
-    IfOk-both c.to_string.result _ _ _
-    (λ text reads is. reply_back c.args.reply.now (string_bytes text) c.in_ok-value.ensures.names is
-    (is_utf8-from_IsUtf8 _ (IsUtf8-string_bytes text))
-    (λ shallow. reads (subst (λ d. depth d ≤ max_depth) (sym value) shallow) ∙ ap (λ d. Some d) value))
-    c.to_string.ensures.reads_back
-    (returns-clause-text c)
+standing_same : (standing : Option CopyStanding) → data_or_null (λ s. with_sum s.sum (standing_data s)) standing ≡ at_data standing
+standing_same None = refl
+standing_same (Some standing) = refl
+
+pub returns-in-Done-clause-text : goal.returns-in-Done-clause-text
+unfolding reply_text reply_data
+returns-in-Done-clause-text c = rw c.in-Done.is c.member_text.ensures
+
+pub returns-in-Known-clause-text : goal.returns-in-Known-clause-text
+unfolding reply_text reply_data
+returns-in-Known-clause-text c = rw (c.in-Known.is, ← number_same c.in-Known.copy) c.member_text-in-Known.ensures
+
+pub returns-in-Families-clause-text : goal.returns-in-Families-clause-text
+unfolding reply_text reply_data families_data
+returns-in-Families-clause-text c = rw (c.in-Families.is, ← c.as_slice.ensures) c.list_text.ensures
+
+pub returns-in-Board-clause-text : goal.returns-in-Board-clause-text
+unfolding reply_text reply_data
+returns-in-Board-clause-text c = rw c.in-Board.is c.member_text-in-Board.ensures
+
+pub returns-in-Stamps-clause-text : goal.returns-in-Stamps-clause-text
+unfolding reply_text reply_data stamps_data
+returns-in-Stamps-clause-text c = rw (c.in-Stamps.is, ← c.as_slice-in-Stamps.ensures) c.list_text-in-Stamps.ensures
+
+pub returns-in-Holdings-clause-text : goal.returns-in-Holdings-clause-text
+unfolding reply_text reply_data holdings_data
+returns-in-Holdings-clause-text c = rw (c.in-Holdings.is, ← c.as_slice-in-Holdings.ensures.holdings) c.list_text-in-Holdings.ensures
+
+pub returns-in-At-clause-text : goal.returns-in-At-clause-text
+unfolding reply_text reply_data
+returns-in-At-clause-text c = rw (c.in-At.is, ← standing_same c.in-At.standing) c.member_text-in-At.ensures
+
+pub returns-in-Status-clause-text : goal.returns-in-Status-clause-text
+unfolding reply_text reply_data status_data
+returns-in-Status-clause-text c = rw (c.in-Status.is, ← c.as_slice-in-Status.ensures) c.list_text-in-Status.ensures
+
+pub returns-in-Counts-clause-text : goal.returns-in-Counts-clause-text
+unfolding reply_text reply_data
+returns-in-Counts-clause-text c = rw c.in-Counts.is c.member_text-in-Counts.ensures

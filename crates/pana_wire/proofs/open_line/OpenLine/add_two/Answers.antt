@@ -1,5 +1,5 @@
 -- One behind the other.
-use Rattle.std.proofs.Common.{◌≡◌, List, ℕ, [], ◌∷◌, ◌++◌, ap, ◌∙◌, append_assoc}
+use Rattle.std.proofs.Common.{List, ℕ, [], ◌∷◌, ◌++◌, ap, ◌∙◌, append_assoc}
 use Rattle.pana_wire.proofs.LongLine.{second_pushed, some_before}
 use Rattle.pana_wire.proofs.open_line.OpenLine.add_two.Goals as goal
 

@@ -1,5 +1,5 @@
 -- A comma where others stand before, and the text.
-use Rattle.std.proofs.Common.{◌≡◌, List, ℕ, [], ◌∷◌, ◌++◌, true, false, sym, ap, subst, ◌∙◌, append_assoc}
+use Rattle.std.proofs.Common.{List, ℕ, [], ◌∷◌, ◌++◌, sym, ap, ◌∙◌, append_assoc}
 use Rattle.pana_wire.proofs.LongLine.{first_pushed, next_pushed}
 use Rattle.pana_wire.proofs.open_line.OpenLine.push_entry.Goals as goal
 use Rattle.pana_wire.proofs.open_line.OpenLine.push_entry.Goals.{then-not-is_first, else-not-is_first}

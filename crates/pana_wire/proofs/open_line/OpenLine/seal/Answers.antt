@@ -1,5 +1,5 @@
 -- The mark, the digits, and what closes the object.
-use Rattle.std.proofs.Common.{rules, ◌≡◌, ◌+◌, ◌*◌, ◌≤◌, List, ℕ, [], ◌∷◌, ◌++◌, length, sym, ap, subst, ◌∙◌}
+use Rattle.std.proofs.Common.{rules, ◌≡◌, ◌≤◌, List, ℕ, [], ◌∷◌, ◌++◌, length, sym, ap, subst, ◌∙◌}
 use Rattle.hex.specs.Hex.{encode_lower}
 use Rattle.pana_wire.specs.Seal.{mark, close}
 use Rattle.pana_wire.proofs.LongLine.{whole_line, sealed_length}

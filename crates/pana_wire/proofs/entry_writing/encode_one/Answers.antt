@@ -1,0 +1,20 @@
+use Rattle.std.proofs.Common.{◌≡◌, List, ◌++◌, ap, ◌∙◌}
+use Rattle.std.proofs.lemmas.Str.{IsUtf8-string_bytes}
+use Rattle.json.specs.Print.{print}
+use Rattle.json.specs.Token.{Token}
+use Rattle.json.specs.Tree.{json_tokens}
+use Rattle.serde_json.specs.Written.{outline}
+use Rattle.serde_json.proofs.Texts.{print-outline}
+use Rattle.pana_wire.specs.Report.{entry_data}
+use Rattle.pana_wire.proofs.entry_writing.encode_one.Goals as goal
+
+pub returns : goal.returns
+returns c =
+    let values = entry_data c.args.entry.now in
+    let tokens : c.write_entry.new.out.tokens ≡ json_tokens (outline values) = c.in_ok-write_entry.ensures.tokens ∙ ap (λ (ts : List Token). ts ++ json_tokens (outline values)) c.new-out.ensures.tokens in
+    record {
+      same = c.written_text.ensures ∙ ap print tokens ∙ print-outline values;
+      names = c.in_ok-write_entry.ensures.known.names;
+      reads = c.in_ok-write_entry.ensures.known.reads;
+      utf8 = IsUtf8-string_bytes c.written_text.result;
+    }

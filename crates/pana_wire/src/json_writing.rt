@@ -1,0 +1,227 @@
+//! Texts in JSON, token by token, with no blank.
+ghost use Rattle.std.specs.Prelude.{◌≡◌, ◌<◌, ◌^◌, ◌∷◌, [], ◌++◌, decimal, IfOk, OnOk, option_copied, map, flat_map, string_bytes};
+ghost use Rattle.std.specs.List.{All};
+ghost use Rattle.json.specs.Print.{print};
+ghost use Rattle.json.specs.Token as Token;
+ghost use Rattle.json.specs.Token.{key};
+ghost use Rattle.json.specs.Tree.{json_tokens};
+ghost use Rattle.serde_json.specs.Data.{array, member, no_members, object};
+ghost use Rattle.serde_json.specs.View.{items_of};
+ghost use Rattle.serde_json.specs.Written.{compact_text, outline};
+ghost use Rattle.pana_wire.specs.inner.Names.{IsSumOrNone};
+ghost use Rattle.pana_wire.specs.inner.Pieces.{IsSound, piece_tokens, text_tokens};
+
+use json::Writer;
+use pana_copies::{Place, Sum};
+use std::alloc::{AllocError, Global};
+
+/// A part of a text.
+#[derive(Drop)]
+pub(crate) enum Piece<'a> {
+    /// What an object begins with.
+    Begin,
+    /// What it ends with.
+    End,
+    /// The name of a member, whose content comes next.
+    Key(&'a str),
+    /// A member: its name and its content.
+    Number(&'a str, u64),
+    Text(&'a str, &'a str),
+    Flag(&'a str, bool),
+    /// A member where its content is given, and else nothing.
+    NumberIfGiven(&'a str, Option<u64>),
+    SumIfGiven(&'a str, Option<&'a Sum>),
+    /// So with the device and the path of a place.
+    DeviceIfGiven(&'a str, Option<&'a Place>),
+    PathIfGiven(&'a str, Option<&'a Place>),
+}
+
+/// What has a text in JSON.
+pub(crate) trait WriteJson {
+    ghost use Rattle.std.specs.Prelude.{◌≡◌, ◌++◌, OnOk};
+    ghost use Rattle.json.specs.Tree.{json_tokens};
+    ghost use Rattle.serde_json.specs.Data.{Data};
+    ghost use Rattle.serde_json.specs.Written.{outline};
+
+    // The value that it stands for.
+    ghost json: { Self → Data };
+
+    /// Writes its tokens behind what is written. Fails only where memory runs out.
+    fn write(&self, alloc: Global, out: &mut Writer<Global>) -> Result<(), AllocError>
+        ensures tokens { OnOk result (out.new.tokens ≡ out.old.tokens ++ json_tokens (outline (json self.now))) }
+        ensures before { OnOk result (out.new.before ≡ out.old.before) };
+}
+
+impl WriteJson for u64 {
+    ghost use Rattle.pana_wire.specs.Report.{number_data};
+
+    ghost json = { number_data };
+
+    fn write(&self, _alloc: Global, out: &mut Writer<Global>) -> Result<(), AllocError> {
+        out.u64(*self)
+    }
+}
+
+impl<T: WriteJson> WriteJson for Option<T> {
+    ghost use Rattle.pana_wire.specs.inner.Pieces.{data_or_null};
+
+    ghost json = { data_or_null T.json };
+
+    fn write(&self, alloc: Global, out: &mut Writer<Global>) -> Result<(), AllocError> {
+        match self {
+            Some(content) => content.write(alloc, out),
+            None => out.null(),
+        }
+    }
+}
+
+fn write_number(out: &mut Writer<Global>, name: &str, number: u64) -> Result<(), AllocError>
+    ensures tokens { OnOk result (out.new.tokens ≡ out.old.tokens ++ key name.now ∷ Token.number (decimal number) ∷ []) }
+    ensures before { OnOk result (out.new.before ≡ out.old.before) }
+    ensures number { number < 2 ^ 64 }
+{
+    out.key(name)?;
+    out.u64(number)
+}
+
+fn write_text(out: &mut Writer<Global>, name: &str, text: &str) -> Result<(), AllocError>
+    ensures tokens { OnOk result (out.new.tokens ≡ out.old.tokens ++ key name.now ∷ Token.string text.now ∷ []) }
+    ensures before { OnOk result (out.new.before ≡ out.old.before) }
+{
+    out.key(name)?;
+    out.string(text)
+}
+
+fn write_flag(out: &mut Writer<Global>, name: &str, flag: bool) -> Result<(), AllocError>
+    ensures tokens { OnOk result (out.new.tokens ≡ out.old.tokens ++ key name.now ∷ Token.boolean flag ∷ []) }
+    ensures before { OnOk result (out.new.before ≡ out.old.before) }
+{
+    out.key(name)?;
+    out.boolean(flag)
+}
+
+fn write_sum(
+    alloc: Global,
+    out: &mut Writer<Global>,
+    name: &str,
+    sum: Option<&Sum>,
+) -> Result<(), AllocError>
+    ensures tokens { OnOk result (out.new.tokens ≡ out.old.tokens ++ text_tokens name.now (option_copied sum.entry)) }
+    ensures before { OnOk result (out.new.before ≡ out.old.before) }
+    ensures sum { OnOk result (IsSumOrNone (option_copied sum.entry)) }
+{
+    match sum {
+        Some(sum) => {
+            let text = sum.text(alloc)?;
+            write_text(out, name, text.as_str())
+        }
+        None => Ok(()),
+    }
+}
+
+fn write_piece(alloc: Global, out: &mut Writer<Global>, piece: &Piece<'_>) -> Result<(), AllocError>
+    ensures tokens { OnOk result (out.new.tokens ≡ out.old.tokens ++ piece_tokens piece.now) }
+    ensures before { OnOk result (out.new.before ≡ out.old.before) }
+    ensures sound { OnOk result (IsSound piece.now) }
+{
+    match piece {
+        Piece::Begin => out.begin_object(),
+        Piece::End => out.end_object(),
+        Piece::Key(name) => out.key(name),
+        Piece::Number(name, number) | Piece::NumberIfGiven(name, Some(number)) => {
+            write_number(out, name, *number)
+        }
+        Piece::NumberIfGiven(_, None)
+        | Piece::DeviceIfGiven(_, None)
+        | Piece::PathIfGiven(_, None) => Ok(()),
+        Piece::Text(name, text) => write_text(out, name, text),
+        Piece::Flag(name, flag) => write_flag(out, name, *flag),
+        Piece::SumIfGiven(name, sum) => write_sum(alloc, out, name, *sum),
+        Piece::DeviceIfGiven(name, Some(place)) => write_text(out, name, place.device.as_str()),
+        Piece::PathIfGiven(name, Some(place)) => write_text(out, name, place.path.as_str()),
+    }
+}
+
+/// Writes these parts, one after another. Fails only where memory runs out.
+pub(crate) fn write_all(
+    alloc: Global,
+    out: &mut Writer<Global>,
+    pieces: &[Piece<'_>],
+) -> Result<(), AllocError>
+    ensures tokens { OnOk result (out.new.tokens ≡ out.old.tokens ++ flat_map piece_tokens pieces.now) }
+    ensures before { OnOk result (out.new.before ≡ out.old.before) }
+    ensures sound { OnOk result (All IsSound pieces.now) }
+{
+    for piece in pieces {
+        write_piece(alloc, out, piece)?;
+    }
+    Ok(())
+}
+
+/// Writes an array of these. Fails only where memory runs out.
+pub(crate) fn write_list<T: WriteJson>(
+    alloc: Global,
+    out: &mut Writer<Global>,
+    items: &[T],
+) -> Result<(), AllocError>
+    ensures tokens { OnOk result (out.new.tokens ≡ out.old.tokens ++ json_tokens (outline (array (items_of (map T.json items.now))))) }
+    ensures before { OnOk result (out.new.before ≡ out.old.before) }
+{
+    out.begin_array()?;
+    for item in items {
+        item.write(alloc, out)?;
+    }
+    out.end_array()
+}
+
+/// The text of these parts. Fails only where memory runs out.
+pub(crate) fn pieces_text(alloc: Global, pieces: &[Piece<'_>]) -> Result<String, AllocError>
+    ensures { IfOk result (λ text. string_bytes text ≡ print (flat_map piece_tokens pieces.now)) }
+{
+    let mut out = Writer::new(Vec::new(alloc));
+    write_all(alloc, &mut out, pieces)?;
+    Ok(written_text(out))
+}
+
+/// The text of an object with one member. Fails only where memory runs out.
+pub(crate) fn member_text<T: WriteJson>(
+    alloc: Global,
+    name: &str,
+    content: &T,
+) -> Result<String, AllocError>
+    ensures { IfOk result (λ text. string_bytes text ≡ compact_text (object (member name.now (T.json content.now) no_members))) }
+{
+    let mut out = Writer::new(Vec::new(alloc));
+    out.begin_object()?;
+    out.key(name)?;
+    content.write(alloc, &mut out)?;
+    out.end_object()?;
+    Ok(written_text(out))
+}
+
+/// The text of an object whose one member is an array of these. Fails only where memory runs out.
+pub(crate) fn list_text<T: WriteJson>(
+    alloc: Global,
+    name: &str,
+    items: &[T],
+) -> Result<String, AllocError>
+    ensures { IfOk result (λ text. string_bytes text ≡ compact_text (object (member name.now (array (items_of (map T.json items.now))) no_members))) }
+{
+    let mut out = Writer::new(Vec::new(alloc));
+    out.begin_object()?;
+    out.key(name)?;
+    write_list(alloc, &mut out, items)?;
+    out.end_object()?;
+    Ok(written_text(out))
+}
+
+/// What was written, as text. Takes no memory.
+pub(crate) fn written_text(out: Writer<Global>) -> String
+    requires { out.before ≡ [] }
+    ensures { string_bytes result ≡ print out.tokens }
+{
+    match String::from_utf8(out.into_inner()) {
+        Ok(text) => text,
+        Err(_) => unreachable!(),
+    }
+}
