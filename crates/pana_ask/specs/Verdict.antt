@@ -65,12 +65,16 @@ module _ {S : Type 0} (step : S → List ℕ → Call → Answer → S → Type 
 
 -- ---- what is printed
 
+-- the line of copies that are named so
+abbrev pub line_naming : Verdict → List ℕ → List ℕ → List ℕ
+line_naming Yes copy other = codes "yes\n"
+line_naming Newer copy other = codes "newer: " ++ (copy ++ (codes " has changes that " ++ (other ++ codes " lacks\n")))
+line_naming Conflict copy other = codes "conflict: " ++ (copy ++ (codes " has changes that " ++ (other ++ codes " lacks\n")))
+line_naming Unrelated copy other = codes "unrelated: " ++ (copy ++ (codes " and " ++ (other ++ codes " are copies of two files\n")))
+
 -- the line of a verdict
 abbrev pub verdict_line : Verdict → Place → Place → List ℕ
-verdict_line Yes target source = codes "yes\n"
-verdict_line Newer target source = codes "newer: " ++ (place_name target ++ (codes " has changes that " ++ (place_name source ++ codes " lacks\n")))
-verdict_line Conflict target source = codes "conflict: " ++ (place_name target ++ (codes " has changes that " ++ (place_name source ++ codes " lacks\n")))
-verdict_line Unrelated target source = codes "unrelated: " ++ (place_name target ++ (codes " and " ++ (place_name source ++ codes " are copies of two files\n")))
+verdict_line verdict target source = line_naming verdict (place_name target) (place_name source)
 
 -- its status
 abbrev pub verdict_status : Verdict → ℕ

@@ -32,6 +32,14 @@ fn gone_in(answer: &Answer) -> Option<u64>
     }
 }
 
+/// What an answer says: the copy that is no more, and the verdict.
+fn read_answer(answer: Answer) -> (Option<u64>, Option<Verdict>)
+    ensures gone { result.0 ≡ gone_in answer }
+    ensures verdict { result.1 ≡ verdict_in answer }
+{
+    (gone_in(&answer), verdict_in(&answer))
+}
+
 /// Whether the copy at the place `target` may be overwritten with the one at `source`: asks a session, as the device `by`, for
 /// both, and how the one relates to the other. One place twice is the same copy, so it may.
 ///
@@ -50,11 +58,12 @@ pub fn may_overwrite<S: Session>(
     let (copy, other) = copies_at(session, by, target, source)?;
     let pair = Query::Pair { a: copy, b: other };
     let answer = session.call(by, Call::Query(pair))?;
-    if let Some(gone) = gone_in(&answer) {
+    let (gone, verdict) = read_answer(answer);
+    if let Some(gone) = gone {
         let place = if gone == copy { target } else { source };
         return Err(AskFault::NoCopy(place.copy_of()?));
     }
-    match verdict_in(&answer) {
+    match verdict {
         Some(verdict) => Ok(verdict),
         None => Err(AskFault::OutOfMemory),
     }

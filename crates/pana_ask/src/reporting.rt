@@ -1,13 +1,13 @@
 //! Reports of copies that are named by their places, made at a session.
-ghost use Rattle.std.specs.Prelude.{IfOk, IfErr};
+ghost use Rattle.std.specs.Prelude.{◌≡◌, IfOk, IfErr};
 ghost use Rattle.pana_ask.specs.Looking.{LooksInVain};
-ghost use Rattle.pana_ask.specs.Report.{IsCallFor, Reports, ReportsNothing, named};
+ghost use Rattle.pana_ask.specs.Report.{IsCallFor, Reports, ReportsNothing, end_in, named};
 
 use crate::ask_fault::AskFault;
 use crate::looking::{copies_at, copy_at};
 use crate::placed_report::PlacedReport;
 use crate::report_end::ReportEnd;
-use pana_calls::{Call, Session};
+use pana_calls::{Answer, Call, Session};
 use pana_copies::DeviceName;
 
 /// The call that makes a report: a session is asked for the numbers of its copies.
@@ -32,6 +32,13 @@ fn call_for<S: Session>(
     }
 }
 
+/// What an answer says of the report, where it says something.
+fn end_of(answer: Answer) -> Option<ReportEnd>
+    ensures { result ≡ end_in answer }
+{
+    ReportEnd::of(&answer)
+}
+
 /// Reports something as the device `by`: asks a session for the numbers of the copies that it is about, makes the call, and has
 /// what it has made kept.
 ///
@@ -48,9 +55,9 @@ pub fn report_on<S: Session>(
     ensures err { IfErr result (ReportsNothing S.step S.settles S.fails S.breaks_off by.now report session.old session.new) }
 {
     let call = call_for(session, by, report)?;
-    let answer = session.call(by, call)?;
+    let end = end_of(session.call(by, call)?);
     session.settle()?;
-    match ReportEnd::of(&answer) {
+    match end {
         Some(end) => Ok(end),
         None => Err(AskFault::NoAnswer),
     }

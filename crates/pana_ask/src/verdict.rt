@@ -1,6 +1,6 @@
 //! Whether a copy may be overwritten, as it is said.
 ghost use Rattle.std.specs.Prelude.{◌≡◌, IfOk, string_bytes};
-ghost use Rattle.pana_ask.specs.Verdict.{verdict_line, verdict_status};
+ghost use Rattle.pana_ask.specs.Verdict.{line_naming, verdict_line, verdict_status};
 
 use crate::naming::place_name;
 use pana_copies::Place;
@@ -26,7 +26,13 @@ impl Verdict {
     {
         let copy = place_name(alloc, target)?;
         let other = place_name(alloc, source)?;
-        let (copy, other) = (copy.as_str(), other.as_str());
+        self.line_naming(alloc, copy.as_str(), other.as_str())
+    }
+
+    /// The line that says so of copies that are named so.
+    fn line_naming(self, alloc: Global, copy: &str, other: &str) -> Result<String, AllocError>
+        ensures { IfOk result (λ line. string_bytes line ≡ line_naming self copy.now other.now) }
+    {
         match self {
             Verdict::Yes => String::from_str(alloc, "yes\n"),
             Verdict::Newer => {

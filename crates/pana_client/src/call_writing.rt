@@ -2,10 +2,10 @@
 ghost use Rattle.std.specs.Prelude.{◌≡◌, IfOk, IsTrue, string_bytes};
 ghost use Rattle.pana_client.specs.Line.{IsCallLine, IsOneLine};
 
+use json::Writer;
 use pana_calls::{Call, Query, Sighting};
-use pana_copies::{DeviceName, Place};
+use pana_copies::{DeviceName, Place, Sum};
 use pana_wire::{Message, WireFault, decode, encode_call};
-use serde_json::{Value, json};
 use std::alloc::{AllocError, Global};
 
 /// Why a call has no line.
@@ -19,8 +19,7 @@ pub enum CallFault {
 
 /// The line that makes a device's call, without its newline: an object in JSON with no blank.
 ///
-/// The line is read back before it is returned. It takes memory for the object, for its text, and for the call that is
-/// read back.
+/// The line is read back before it is returned. It takes memory for its text, and for the call that is read back.
 ///
 /// # Errors
 ///
@@ -63,96 +62,163 @@ fn is_message(message: &Message, by: &DeviceName, call: &Call) -> bool
     message.by == *by && message.call == *call
 }
 
+/// The members of the line of a sighting or a question, in the order in which they stand there. What isn't given is left out.
+#[derive(Clone, Copy)]
+struct Members<'a> {
+    a: Option<u64>,
+    b: Option<u64>,
+    by: &'a str,
+    device: Option<&'a str>,
+    word: &'a str,
+    family: Option<u64>,
+    from: Option<u64>,
+    path: Option<&'a str>,
+    sum: Option<&'a Sum>,
+    wait: Option<u64>,
+}
+
+impl<'a> Members<'a> {
+    /// Those of a word alone.
+    fn of(by: &'a DeviceName, word: &'a str) -> Members<'a> {
+        Members {
+            a: None,
+            b: None,
+            by: by.as_str(),
+            device: None,
+            word,
+            family: None,
+            from: None,
+            path: None,
+            sum: None,
+            wait: None,
+        }
+    }
+
+    /// Those of a word about a place.
+    fn at(by: &'a DeviceName, word: &'a str, place: &'a Place) -> Members<'a> {
+        Members {
+            device: Some(place.device.as_str()),
+            path: Some(place.path.as_str()),
+            ..Members::of(by, word)
+        }
+    }
+}
+
+fn members_of_sighting<'a>(by: &'a DeviceName, sighting: &'a Sighting) -> Members<'a> {
+    match sighting {
+        Sighting::Found { place, sum } => Members {
+            sum: Some(sum),
+            ..Members::at(by, "found", place)
+        },
+        Sighting::Missing { place } => Members::at(by, "missing", place),
+    }
+}
+
+fn members_of_query<'a>(by: &'a DeviceName, query: &'a Query) -> Members<'a> {
+    match query {
+        Query::Families => Members::of(by, "families"),
+        Query::Board { family } => Members {
+            family: Some(*family),
+            ..Members::of(by, "board")
+        },
+        Query::Stamps { family } => Members {
+            family: Some(*family),
+            ..Members::of(by, "stamps")
+        },
+        Query::Pair { a, b } => Members {
+            a: Some(*a),
+            b: Some(*b),
+            ..Members::of(by, "pair")
+        },
+        Query::Holdings { device, from } => Members {
+            device: Some(device.as_str()),
+            from: *from,
+            ..Members::of(by, "holdings")
+        },
+        Query::At { place } => Members::at(by, "at", place),
+        Query::Status { device, from } => Members {
+            device: device.as_ref().map(|device| device.as_str()),
+            from: Some(*from),
+            ..Members::of(by, "status")
+        },
+        Query::JournalFrom { entry } => Members {
+            from: Some(*entry),
+            ..Members::of(by, "journal")
+        },
+        Query::JournalAwaited { entry, seconds } => Members {
+            from: Some(*entry),
+            wait: Some(*seconds),
+            ..Members::of(by, "journal")
+        },
+        Query::Counts => Members::of(by, "counts"),
+    }
+}
+
+fn write_number(
+    out: &mut Writer<Global>,
+    name: &str,
+    number: Option<u64>,
+) -> Result<(), AllocError> {
+    match number {
+        Some(number) => {
+            out.key(name)?;
+            out.u64(number)
+        }
+        None => Ok(()),
+    }
+}
+
+fn write_text(out: &mut Writer<Global>, name: &str, text: Option<&str>) -> Result<(), AllocError> {
+    match text {
+        Some(text) => {
+            out.key(name)?;
+            out.string(text)
+        }
+        None => Ok(()),
+    }
+}
+
+fn write_sum(alloc: Global, out: &mut Writer<Global>, sum: Option<&Sum>) -> Result<(), AllocError> {
+    match sum {
+        Some(sum) => write_text(out, "sum", Some(sum.text(alloc)?.as_str())),
+        None => Ok(()),
+    }
+}
+
+fn write_members(
+    alloc: Global,
+    out: &mut Writer<Global>,
+    members: Members<'_>,
+) -> Result<(), AllocError> {
+    out.begin_object()?;
+    write_number(out, "a", members.a)?;
+    write_number(out, "b", members.b)?;
+    write_text(out, "by", Some(members.by))?;
+    write_text(out, "device", members.device)?;
+    write_text(out, "do", Some(members.word))?;
+    write_number(out, "family", members.family)?;
+    write_number(out, "from", members.from)?;
+    write_text(out, "path", members.path)?;
+    write_sum(alloc, out, members.sum)?;
+    write_number(out, "wait", members.wait)?;
+    out.end_object()
+}
+
+/// The text of an object with these members; that of no object is empty.
+fn text_of_members(alloc: Global, members: Members<'_>) -> Result<String, AllocError> {
+    let mut out = Writer::new(Vec::new(alloc));
+    write_members(alloc, &mut out, members)?;
+    match String::from_utf8(out.into_inner()) {
+        Ok(text) => Ok(text),
+        Err(_) => Ok(String::new(alloc)),
+    }
+}
+
 /// The text of a call. That it is read as this call is for `is_call_line` to find.
 fn text_of(alloc: Global, by: &DeviceName, call: &Call) -> Result<String, AllocError> {
     match call {
         Call::Report(report) => encode_call(alloc, by, report),
-        Call::Sighting(sighting) => sighting_object(alloc, by, sighting)?.to_string(alloc),
-        Call::Query(query) => query_object(alloc, by, query)?.to_string(alloc),
-    }
-}
-
-fn sighting_object(
-    alloc: Global,
-    by: &DeviceName,
-    sighting: &Sighting,
-) -> Result<Value, AllocError> {
-    match sighting {
-        Sighting::Found { place, sum } => {
-            let sum = sum.text(alloc)?;
-            json!(in alloc; {
-                "by": by.as_str(),
-                "device": place.device.as_str(),
-                "do": "found",
-                "path": place.path.as_str(),
-                "sum": sum.as_str()
-            })
-        }
-        Sighting::Missing { place } => place_object(alloc, by, "missing", place),
-    }
-}
-
-fn query_object(alloc: Global, by: &DeviceName, query: &Query) -> Result<Value, AllocError> {
-    match query {
-        Query::Families => json!(in alloc; { "by": by.as_str(), "do": "families" }),
-        Query::Board { family } => {
-            json!(in alloc; { "by": by.as_str(), "do": "board", "family": *family })
-        }
-        Query::Stamps { family } => {
-            json!(in alloc; { "by": by.as_str(), "do": "stamps", "family": *family })
-        }
-        Query::Pair { a, b } => {
-            json!(in alloc; { "a": *a, "b": *b, "by": by.as_str(), "do": "pair" })
-        }
-        Query::Holdings { device, from } => {
-            page_object(alloc, by, "holdings", Some(device), *from)
-        }
-        Query::At { place } => place_object(alloc, by, "at", place),
-        Query::Status { device, from } => {
-            page_object(alloc, by, "status", device.as_ref(), Some(*from))
-        }
-        Query::JournalFrom { entry } => page_object(alloc, by, "journal", None, Some(*entry)),
-        Query::JournalAwaited { entry, seconds } => json!(in alloc; {
-            "by": by.as_str(),
-            "do": "journal",
-            "from": *entry,
-            "wait": *seconds
-        }),
-        Query::Counts => json!(in alloc; { "by": by.as_str(), "do": "counts" }),
-    }
-}
-
-fn place_object(
-    alloc: Global,
-    by: &DeviceName,
-    word: &str,
-    place: &Place,
-) -> Result<Value, AllocError> {
-    json!(in alloc; {
-        "by": by.as_str(),
-        "device": place.device.as_str(),
-        "do": word,
-        "path": place.path.as_str()
-    })
-}
-
-// What isn't given is left out.
-fn page_object(
-    alloc: Global,
-    by: &DeviceName,
-    word: &str,
-    device: Option<&DeviceName>,
-    from: Option<u64>,
-) -> Result<Value, AllocError> {
-    let by = by.as_str();
-    match (device, from) {
-        (Some(device), Some(from)) => {
-            json!(in alloc; { "by": by, "device": device.as_str(), "do": word, "from": from })
-        }
-        (Some(device), None) => {
-            json!(in alloc; { "by": by, "device": device.as_str(), "do": word })
-        }
-        (None, Some(from)) => json!(in alloc; { "by": by, "do": word, "from": from }),
-        (None, None) => json!(in alloc; { "by": by, "do": word }),
+        Call::Sighting(sighting) => text_of_members(alloc, members_of_sighting(by, sighting)),
+        Call::Query(query) => text_of_members(alloc, members_of_query(by, query)),
     }
 }

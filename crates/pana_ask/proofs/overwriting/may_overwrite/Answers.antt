@@ -16,4 +16,4 @@ returns-in-Some-clause-err g c =
     ] in
     gone_since g.S.Session.step g.S.Session.fails c.args.by.now c.args.target.now c.args.source.now c.args.session.now c.copies_at.new.session c.call.new.self
     c.in_ok-copy.copy c.in_ok-copy.other c.in-Some.gone c.in_ok-answer.answer c.in_ok-copy_of.field-0
-    c.in_ok-copy.ensures.ok c.in_ok-answer.ensures.step (sym c.gone_in.ensures ∙ c.in-Some.is) place
+    c.in_ok-copy.ensures.ok c.in_ok-answer.ensures.step (sym c.read_answer-gone.ensures.gone ∙ c.in-Some.is) place
