@@ -175,7 +175,7 @@ def passes(check, *given):
 
 def checked(room):
     """What came of each check of the package."""
-    version, kit = VERSION.search((TOP / "crates/panad/src/version.rt").read_text()).groups()
+    version, kit = VERSION.search((TOP / "crates/pana_arguments/src/version.rt").read_text()).groups()
     first = packed(room, "first")
     archive, debian = first
     with tarfile.open(archive) as it:

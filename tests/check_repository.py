@@ -189,7 +189,7 @@ def kit_line():
     printed = subprocess.run([rt, "version"], stdin=subprocess.DEVNULL, capture_output=True, text=True, check=True).stdout.strip()
     # a letter behind the number tells kits of one line apart, which have one logic
     kit = re.sub(r"^(rattle-kit-\d+)[a-z]\b", r"\1", printed)
-    source, page = TOP / "crates/panad/src/version.rt", TOP / "README.md"
+    source, page = TOP / "crates/pana_arguments/src/version.rt", TOP / "README.md"
     version = VERSION.search("\n".join(lines_of(source)))
     if not version:
         yield f"{named(source)} has no version with the kit's line"

@@ -3,7 +3,6 @@
 use crate::command::refuse;
 use crate::printing::print_out;
 use crate::track::{ASKER, report};
-use clap::error::ErrorKind;
 use pana_ask::{AskFault, read_place, unknown_line};
 use pana_commands::Printout;
 use pana_copies::{DeviceName, NameFault, Place};
@@ -60,5 +59,5 @@ pub fn place_of(rt: &HostRuntime, word: &str) -> Result<Option<Place>, ProgramFa
 /// Refuses a word that names no place.
 pub fn refuse_place(rt: &HostRuntime, word: &str) -> Result<ExitCode, ProgramFault> {
     let reason = format!(in rt.alloc(); "bad place {word}")?;
-    refuse(rt, ErrorKind::InvalidValue, reason.as_str())
+    refuse(rt, reason.as_str())
 }

@@ -3,10 +3,11 @@
 use crate::printing::print_out;
 use pana_commands::Printout;
 use pana_daemon::{PassedOver, SystemDisks};
-use pana_files::{NoStore, ProgramFault, open_store};
+use pana_files::ProgramFault;
 use pana_log::FileDevice;
 use pana_serve::{System, Wishes, serve_on};
 use pana_store::Store;
+use pana_store_file::{NoStore, open_store};
 use std::io;
 use std::marker::Sync;
 use std::net::{Ipv4Addr, SocketAddr, TcpListener};

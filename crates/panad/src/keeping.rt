@@ -3,9 +3,10 @@
 use crate::command::READS;
 use crate::printing::print_out;
 use pana_commands::Printout;
-use pana_files::{NoStore, ProgramFault, open_store, output};
+use pana_files::{ProgramFault, output};
 use pana_log::FileDevice;
 use pana_store::{Store, serve_kept};
+use pana_store_file::{NoStore, open_store};
 use pana_wire::{ServeFault, Tap};
 use std::process::ExitCode;
 

@@ -15,7 +15,6 @@ mod show_command;
 mod status_command;
 mod track;
 mod track_command;
-mod version;
 mod watch_command;
 mod why_command;
 

@@ -1,74 +1,13 @@
 //! `panad show` of a journal's file or a daemon.
 
 use crate::asking::asker;
-use crate::options::{JOURNAL, PORT, flag, journal_option, port_option};
 use crate::printing::{print_out, print_out_tables};
-use clap::{Arg, ArgMatches, Command, value_parser};
+use pana_arguments::Wanted;
 use pana_calls::Session;
 use pana_commands::{Printout, Untracked, table_on, tables_on};
-use pana_files::{Keeper, NoStore, ProgramFault, Tables, connect, open_hall, terminal_width};
-use std::alloc::{AllocError, Global};
+use pana_files::{Keeper, ProgramFault, Tables, connect, terminal_width};
+use pana_store_file::{NoStore, open_hall};
 use std::process::ExitCode;
-
-/// The name of the file with lines on the command line.
-pub const FILE: &str = "FILE";
-
-/// The names of the wishes which tables are shown.
-const FAMILY: &str = "family";
-
-const SPLIT: &str = "split";
-
-/// Which tables are shown.
-#[derive(Clone, Copy)]
-pub enum Wanted {
-    /// Those of all families.
-    All,
-    /// Those of families of which two newest copies are in conflict.
-    Split,
-    /// That of the family with this number.
-    Family(u64),
-}
-
-/// The command with the options that say whose tables are shown, and which.
-pub fn with_tables<'a>(alloc: Global, command: Command<'a>) -> Result<Command<'a>, AllocError> {
-    let journal = journal_option(alloc)
-        .help("Print the tables of this journal's file, and take no lines")
-        .conflicts_with(FILE)?;
-    let port = port_option(alloc)
-        .help("Print the tables of the daemon on this port of 127.0.0.1, and take no lines")
-        .conflicts_with(FILE)?
-        .conflicts_with(JOURNAL)?;
-    let family = Arg::new(alloc, FAMILY)
-        .long(FAMILY)
-        .value_name("N")
-        .value_parser(value_parser!(u64))
-        .help("Of a journal or a daemon, print the table of this family alone")
-        .conflicts_with(SPLIT)?;
-    let split = flag(
-        alloc,
-        SPLIT,
-        "Of a journal or a daemon, print the tables of families in conflict alone",
-    );
-    command.arg(journal)?.arg(port)?.arg(family)?.arg(split)
-}
-
-/// Which tables the words of `show` ask for.
-pub fn wanted_by(words: &ArgMatches) -> Wanted {
-    match words.get_one(FAMILY) {
-        Some(family) => Wanted::Family(family),
-        None if words.get_flag(SPLIT) => Wanted::Split,
-        None => Wanted::All,
-    }
-}
-
-/// Whose tables they ask for: none where lines are taken.
-pub fn source_of<'a>(words: &'a ArgMatches) -> Option<Keeper<'a>> {
-    match (words.get_str(JOURNAL), words.get_one(PORT)) {
-        (Some(name), _) => Some(Keeper::Journal(name)),
-        (None, Some(port)) => Some(Keeper::Daemon(port)),
-        (None, None) => None,
-    }
-}
 
 fn report(rt: &HostRuntime, text: &str) -> Result<ExitCode, ProgramFault> {
     print_out(rt, &Printout::reported(rt.alloc(), &text)?)

@@ -7,9 +7,9 @@ use pana_commands::{StatusForm, Untracked, track_on};
 use pana_copies::DeviceName;
 use pana_daemon::Root;
 use pana_files::{
-    Keeper, NoStore, ProgramFault, ReadingWishes, Tables, complain, connect, may_keep_sums,
-    open_store, read_folders,
+    Keeper, ProgramFault, ReadingWishes, Tables, complain, connect, may_keep_sums, read_folders,
 };
+use pana_store_file::{NoStore, open_store};
 use pana_track::ReadFolder;
 use std::alloc::AllocError;
 use std::marker::Sync;

@@ -3,7 +3,7 @@ import json
 import re
 from pathlib import Path
 
-SOURCE = Path(__file__).resolve().parents[4] / "crates/panad/src/version.rt"
+SOURCE = Path(__file__).resolve().parents[4] / "crates/pana_arguments/src/version.rt"
 version = re.search(r'VERSION: &str = "(.*)";', SOURCE.read_text(encoding="utf-8"))[1]
 
 for word in ("--version", "-V"):

@@ -1,0 +1,63 @@
+//! The words of `panad compare`.
+
+use crate::item::{Item, Kind, Need, with_items};
+use crate::options::value_of;
+use clap::{ArgMatches, Command};
+use std::alloc::{AllocError, Global};
+
+/// The name of the command.
+pub const COMPARE: &str = "compare";
+
+const EXAMPLE: &str = "\
+A stamp is an id and an event of an Interval Tree Clock. Example:
+
+    $ panad compare '((1,0),(0,1,0))' '((0,1),0)'
+    Newer";
+
+/// The names of the two stamps on the command line.
+const FIRST: &str = "FIRST";
+
+const SECOND: &str = "SECOND";
+
+/// What the words of `compare` ask for.
+#[derive(Clone, Copy)]
+pub struct CompareArguments<'a> {
+    /// The text of a stamp.
+    pub first: &'a str,
+    /// The text of the stamp that it is compared with.
+    pub second: &'a str,
+}
+
+/// The words and options of the command.
+const ITEMS: [Item; 2] = [
+    Item {
+        name: FIRST,
+        kind: Kind::Word,
+        need: Need::Required,
+        help: "The text of a stamp",
+    },
+    Item {
+        name: SECOND,
+        kind: Kind::Word,
+        need: Need::Required,
+        help: "The text of the stamp that it is compared with",
+    },
+];
+
+/// What the words of `compare` may be.
+pub fn compare_command<'a>(alloc: Global) -> Result<Command<'a>, AllocError> {
+    let command = Command::new(alloc, COMPARE)
+        .about("Prints how two stamps relate: Equal, Older, Newer or Conflict")
+        .after_help(EXAMPLE);
+    with_items(alloc, command, &ITEMS)
+}
+
+impl<'a> CompareArguments<'a> {
+    /// What these words ask for.
+    pub fn of(words: &'a ArgMatches) -> CompareArguments<'a> {
+        CompareArguments {
+            first: value_of(words, FIRST),
+            second: value_of(words, SECOND),
+        }
+    }
+}

@@ -1,0 +1,46 @@
+//! The words of `panad run`.
+
+use crate::item::{Item, with_items};
+use crate::options::{JOURNAL, OWN_JOURNAL};
+use clap::{ArgMatches, Command};
+use std::alloc::{AllocError, Global};
+
+/// The name of the command.
+pub const RUN: &str = "run";
+
+const EXAMPLE: &str = "\
+Example: a file on a laptop, its copy on a stick, an edit, and which is newest?
+
+    $ panad run <<END
+    {\"by\":\"laptop\",\"do\":\"register\",\"device\":\"laptop\",\"path\":\"plan.txt\"}
+    {\"by\":\"laptop\",\"do\":\"duplicate\",\"copy\":1,\"device\":\"usb\",\"path\":\"plan.txt\"}
+    {\"by\":\"laptop\",\"do\":\"edit\",\"copy\":1}
+    {\"by\":\"laptop\",\"do\":\"board\",\"family\":1}
+    END";
+
+/// What the words of `run` ask for.
+#[derive(Clone, Copy)]
+pub struct RunArguments<'a> {
+    /// The name of the journal's file, if there is to be one.
+    pub journal: Option<&'a str>,
+}
+
+/// The words and options of the command.
+const ITEMS: [Item; 1] = [OWN_JOURNAL];
+
+/// What the words of `run` may be.
+pub fn run_command<'a>(alloc: Global) -> Result<Command<'a>, AllocError> {
+    let command = Command::new(alloc, RUN)
+        .about("Answers the lines on standard input, each a report or a question")
+        .after_help(EXAMPLE);
+    with_items(alloc, command, &ITEMS)
+}
+
+impl<'a> RunArguments<'a> {
+    /// What these words ask for.
+    pub fn of(words: &'a ArgMatches) -> RunArguments<'a> {
+        RunArguments {
+            journal: words.get_str(JOURNAL),
+        }
+    }
+}

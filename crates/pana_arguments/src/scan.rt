@@ -1,0 +1,67 @@
+//! The words of `panad scan`.
+
+use crate::item::{Item, Kind, Need, with_items};
+use crate::options::value_of;
+use clap::{ArgMatches, Command};
+use std::alloc::{AllocError, Global};
+
+/// The name of the command.
+pub const SCAN: &str = "scan";
+
+const EXAMPLE: &str = "\
+Each regular file below DIR is registered as a first copy, at its path relative to
+DIR. Example:
+
+    $ panad scan usb /media/usb > usb.lines
+    $ panad show usb.lines
+
+Symbolic links are passed over. Names that can't be reported are counted on
+standard error.";
+
+/// The names of the device and the folder on the command line.
+const DEVICE: &str = "DEVICE";
+
+const DIR: &str = "DIR";
+
+/// What the words of `scan` ask for.
+#[derive(Clone, Copy)]
+pub struct ScanArguments<'a> {
+    /// The name of the device.
+    pub device: &'a str,
+    /// The folder with its copies.
+    pub folder: &'a str,
+}
+
+/// The words and options of the command.
+const ITEMS: [Item; 2] = [
+    Item {
+        name: DEVICE,
+        kind: Kind::Word,
+        need: Need::Required,
+        help: "The name of the device, 1 to 32 of a to z, 0 to 9, - and _",
+    },
+    Item {
+        name: DIR,
+        kind: Kind::Word,
+        need: Need::Required,
+        help: "The folder with the device's copies",
+    },
+];
+
+/// What the words of `scan` may be.
+pub fn scan_command<'a>(alloc: Global) -> Result<Command<'a>, AllocError> {
+    let command = Command::new(alloc, SCAN)
+        .about("Prints the lines that register all files of a folder")
+        .after_help(EXAMPLE);
+    with_items(alloc, command, &ITEMS)
+}
+
+impl<'a> ScanArguments<'a> {
+    /// What these words ask for.
+    pub fn of(words: &'a ArgMatches) -> ScanArguments<'a> {
+        ScanArguments {
+            device: value_of(words, DEVICE),
+            folder: value_of(words, DIR),
+        }
+    }
+}
