@@ -22,6 +22,7 @@ import time
 from pathlib import Path
 
 import edits
+import lanes
 import prove
 
 TOP = edits.TOP
@@ -105,7 +106,9 @@ class Processors(threading.Thread):
 def run_ci(kit, room):
     """Runs rt ci in the folder and prints its lines, those of rt with the minutes so far: its status, lines and processor time."""
     start, lines = time.monotonic(), []
-    how = {"stdin": subprocess.DEVNULL, "stdout": subprocess.PIPE, "stderr": subprocess.STDOUT}
+    # By itself it counts a gigabyte for each thousand lines of a crate, and has the largest wait until nothing else runs.
+    settings = {"RT_JOBS": str(min(os.cpu_count() or 1, lanes.wanted())), **os.environ}
+    how = {"stdin": subprocess.DEVNULL, "stdout": subprocess.PIPE, "stderr": subprocess.STDOUT, "env": settings}
     with subprocess.Popen([Path(kit) / "bin" / "rt", "ci"], cwd=room, errors="replace", text=True, **how) as ran:
         processors = Processors(ran.pid)
         processors.start()
