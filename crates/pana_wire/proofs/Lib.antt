@@ -18,3 +18,4 @@ pub mod LongLine
 pub mod Said
 pub mod Pieces
 pub mod ReportTokens
+pub mod FlatObject

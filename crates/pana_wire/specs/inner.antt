@@ -7,3 +7,4 @@ pub mod SealedData
 pub mod Writing
 pub mod Pieces
 pub mod ReportTokens
+pub mod FlatObject

@@ -1,12 +1,12 @@
 ghost use Rattle.std.specs.Prelude.{◌≡◌, ◌≢◌, IfErr, OnOk};
-ghost use Rattle.serde_json.specs.Find.{get};
 ghost use Rattle.serde_json.specs.View.{view};
-ghost use Rattle.pana_wire.specs.Field.{field_name};
-ghost use Rattle.pana_wire.specs.Line.{Gives, IsText, Shows, text_within, data_in, object_in, device_in, path_in, number_in, sum_in, is_given, journal_query, number_or_none, seconds_in, seconds_or_none, device_or_none, sum_or_none, place_in, word_in, numbered_in, report_in, asked_in, call_in, message_in, line_says};
+ghost use Rattle.pana_wire.specs.Line.{Gives, IsText, Shows, text_within, data_in, object_in, device_in, path_in, number_in, sum_in, journal_query, number_or_none, seconds_in, seconds_or_none, device_or_none, sum_or_none, place_in, word_in, numbered_in, report_in, asked_in, call_in, message_in, line_says};
 
 use crate::fault::WireFault;
 use crate::field::Field;
+use crate::flat_object::flat_object;
 use crate::message::Message;
+use crate::object::Object;
 use crate::word::{Word, word_of};
 use pana_calls::{Call, Query, Sighting};
 use pana_copies::{CopyPath, DeviceName, NameFault, Place, Sum};
@@ -23,14 +23,18 @@ const LONGEST_WAIT: u64 = 3600;
 /// What a line says, or its first fault.
 ///
 /// The faults are those of `WireFault`, in its order; the fields are tried in the order `by`, `do`, and then those of
-/// the word, as `Word::fields` has them. It takes memory for the value that the line is and for the names in it; where
-/// that runs out the fault is `OutOfMemory`. To find a line too long, or not UTF-8, takes none.
+/// the word, as `Word::fields` has them. It takes memory for a list of the members of a flat object, or for the value
+/// that another line is, and for the names in it; where that runs out the fault is `OutOfMemory`. To find a line too
+/// long, or not UTF-8, takes none.
 #[tactic(auto, unfolding(crate::specs::Line::line_says, crate::specs::Line::text_in))]
 pub fn decode(alloc: Global, line: &[u8]) -> Result<Message, WireFault>
     ensures exact { Gives result (line_says line.now) }
     ensures memory { IfErr result (λ fault. fault ≡ WireFault.OutOfMemory → IsText line.now) }
 {
     let text = text_within(line, LONGEST_LINE)?;
+    if let Some(object) = flat_object(alloc, text) {
+        return message_in(alloc, &object);
+    }
     let value = value_in(alloc, text)?;
     check_object(&value)?;
     message_in(alloc, &value)
@@ -73,20 +77,20 @@ pub fn check_object(value: &Value) -> Result<(), WireFault>
 }
 
 #[tactic(auto, unfolding(crate::specs::Line::message_in))]
-fn message_in(alloc: Global, value: &Value) -> Result<Message, WireFault>
-    ensures { Gives result (message_in (view value.now)) }
+fn message_in<O: Object>(alloc: Global, object: &O) -> Result<Message, WireFault>
+    ensures { Gives result (message_in (O.json object.now)) }
 {
-    let by = device_in(Field::By, value)?;
-    let word = word_in(value)?;
-    let call = call_in(alloc, word, value)?;
+    let by = device_in(Field::By, object)?;
+    let word = word_in(object)?;
+    let call = call_in(alloc, word, object)?;
     Ok(Message { by, call })
 }
 
 #[tactic(auto, unfolding(crate::specs::Line::word_in))]
-pub fn word_in(value: &Value) -> Result<Word, WireFault>
-    ensures { Gives result (word_in (view value.now)) }
+pub fn word_in<O: Object>(object: &O) -> Result<Word, WireFault>
+    ensures { Gives result (word_in (O.json object.now)) }
 {
-    let Some(text) = value.get(Field::Do.name()).and_then(Value::as_str) else {
+    let Some(text) = object.text(Field::Do) else {
         return Err(WireFault::BadField(Field::Do));
     };
     match word_of(text) {
@@ -96,57 +100,57 @@ pub fn word_in(value: &Value) -> Result<Word, WireFault>
 }
 
 #[tactic(auto, unfolding(crate::specs::Line::call_in))]
-fn call_in(alloc: Global, word: Word, value: &Value) -> Result<Call, WireFault>
-    ensures { Gives result (call_in word (view value.now)) }
+fn call_in<O: Object>(alloc: Global, word: Word, object: &O) -> Result<Call, WireFault>
+    ensures { Gives result (call_in word (O.json object.now)) }
 {
     let fields = word.fields();
     match word {
         Word::Found => Ok(Call::Sighting(Sighting::Found {
-            place: place_in(alloc, fields[0], fields[1], value)?,
-            sum: sum_in(alloc, fields[2], value)?,
+            place: place_in(alloc, fields[0], fields[1], object)?,
+            sum: sum_in(alloc, fields[2], object)?,
         })),
         Word::Missing => Ok(Call::Sighting(Sighting::Missing {
-            place: place_in(alloc, fields[0], fields[1], value)?,
+            place: place_in(alloc, fields[0], fields[1], object)?,
         })),
-        _ => asked_in(alloc, word, value),
+        _ => asked_in(alloc, word, object),
     }
 }
 
 // A query, or else a report.
 #[tactic(auto, unfolding(crate::specs::Line::asked_in))]
-fn asked_in(alloc: Global, word: Word, value: &Value) -> Result<Call, WireFault>
-    ensures { Gives result (asked_in word (view value.now)) }
+fn asked_in<O: Object>(alloc: Global, word: Word, object: &O) -> Result<Call, WireFault>
+    ensures { Gives result (asked_in word (O.json object.now)) }
 {
     let fields = word.fields();
     let query = match word {
         Word::Families => Query::Families,
         Word::Board => Query::Board {
-            family: number_in(fields[0], value)?,
+            family: number_in(fields[0], object)?,
         },
         Word::Stamps => Query::Stamps {
-            family: number_in(fields[0], value)?,
+            family: number_in(fields[0], object)?,
         },
         Word::Pair => Query::Pair {
-            a: number_in(fields[0], value)?,
-            b: number_in(fields[1], value)?,
+            a: number_in(fields[0], object)?,
+            b: number_in(fields[1], object)?,
         },
         Word::Holdings => Query::Holdings {
-            device: device_in(fields[0], value)?,
-            from: number_or_none(fields[1], value)?,
+            device: device_in(fields[0], object)?,
+            from: number_or_none(fields[1], object)?,
         },
         Word::At => Query::At {
-            place: place_in(alloc, fields[0], fields[1], value)?,
+            place: place_in(alloc, fields[0], fields[1], object)?,
         },
         Word::Status => Query::Status {
-            device: device_or_none(fields[0], value)?,
-            from: number_in(fields[1], value)?,
+            device: device_or_none(fields[0], object)?,
+            from: number_in(fields[1], object)?,
         },
         Word::Journal => journal_query(
-            number_in(fields[0], value)?,
-            seconds_or_none(fields[1], value)?,
+            number_in(fields[0], object)?,
+            seconds_or_none(fields[1], object)?,
         ),
         Word::Counts => Query::Counts,
-        _ => return Ok(Call::Report(report_in(alloc, word, value)?)),
+        _ => return Ok(Call::Report(report_in(alloc, word, object)?)),
     };
     Ok(Call::Query(query))
 }
@@ -162,91 +166,96 @@ fn journal_query(entry: u64, wait: Option<u64>) -> Query
 }
 
 #[tactic(auto, unfolding(crate::specs::Line::report_in))]
-pub fn report_in(alloc: Global, word: Word, value: &Value) -> Result<Report, WireFault>
-    ensures { Gives result (report_in word (view value.now)) }
+pub fn report_in<O: Object>(alloc: Global, word: Word, object: &O) -> Result<Report, WireFault>
+    ensures { Gives result (report_in word (O.json object.now)) }
 {
     let fields = word.fields();
     match word {
         Word::Register => Ok(Report::Register {
-            place: place_in(alloc, fields[0], fields[1], value)?,
-            sum: sum_or_none(alloc, fields[2], value)?,
+            place: place_in(alloc, fields[0], fields[1], object)?,
+            sum: sum_or_none(alloc, fields[2], object)?,
         }),
         Word::Duplicate => Ok(Report::Duplicate {
-            copy: number_in(fields[0], value)?,
-            place: place_in(alloc, fields[1], fields[2], value)?,
-            sum: sum_or_none(alloc, fields[3], value)?,
+            copy: number_in(fields[0], object)?,
+            place: place_in(alloc, fields[1], fields[2], object)?,
+            sum: sum_or_none(alloc, fields[3], object)?,
         }),
         Word::Relocate => Ok(Report::Relocate {
-            copy: number_in(fields[0], value)?,
-            place: place_in(alloc, fields[1], fields[2], value)?,
+            copy: number_in(fields[0], object)?,
+            place: place_in(alloc, fields[1], fields[2], object)?,
         }),
-        _ => numbered_in(alloc, word, value),
+        _ => numbered_in(alloc, word, object),
     }
 }
 
 // A report that has no place.
 #[tactic(auto, unfolding(crate::specs::Line::numbered_in))]
-fn numbered_in(alloc: Global, word: Word, value: &Value) -> Result<Report, WireFault>
-    ensures { Gives result (numbered_in word (view value.now)) }
+fn numbered_in<O: Object>(alloc: Global, word: Word, object: &O) -> Result<Report, WireFault>
+    ensures { Gives result (numbered_in word (O.json object.now)) }
 {
     let fields = word.fields();
     match word {
         Word::Edit => Ok(Report::Edit {
-            copy: number_in(fields[0], value)?,
-            sum: sum_or_none(alloc, fields[1], value)?,
+            copy: number_in(fields[0], object)?,
+            sum: sum_or_none(alloc, fields[1], object)?,
         }),
         Word::Reconcile => Ok(Report::Reconcile {
-            a: number_in(fields[0], value)?,
-            b: number_in(fields[1], value)?,
-            sum: sum_or_none(alloc, fields[2], value)?,
+            a: number_in(fields[0], object)?,
+            b: number_in(fields[1], object)?,
+            sum: sum_or_none(alloc, fields[2], object)?,
         }),
         Word::Merge => Ok(Report::Merge {
-            a: number_in(fields[0], value)?,
-            b: number_in(fields[1], value)?,
-            sum: sum_or_none(alloc, fields[2], value)?,
+            a: number_in(fields[0], object)?,
+            b: number_in(fields[1], object)?,
+            sum: sum_or_none(alloc, fields[2], object)?,
         }),
         Word::Remove => Ok(Report::Remove {
-            copy: number_in(fields[0], value)?,
-            heir: number_or_none(fields[1], value)?,
+            copy: number_in(fields[0], object)?,
+            heir: number_or_none(fields[1], object)?,
         }),
         Word::Note => Ok(Report::Note {
-            copy: number_in(fields[0], value)?,
-            sum: sum_in(alloc, fields[1], value)?,
+            copy: number_in(fields[0], object)?,
+            sum: sum_in(alloc, fields[1], object)?,
         }),
         Word::Confirm => Ok(Report::Confirm {
-            entry: number_in(fields[0], value)?,
+            entry: number_in(fields[0], object)?,
         }),
         Word::Withdraw => Ok(Report::Withdraw {
-            entry: number_in(fields[0], value)?,
+            entry: number_in(fields[0], object)?,
         }),
         _ => Err(WireFault::BadField(Field::Do)),
     }
 }
 
 #[tactic(auto, unfolding(crate::specs::Line::place_in))]
-fn place_in(alloc: Global, device: Field, path: Field, value: &Value) -> Result<Place, WireFault>
-    ensures { Gives result (place_in device path (view value.now)) }
+fn place_in<O: Object>(
+    alloc: Global,
+    device: Field,
+    path: Field,
+    object: &O,
+) -> Result<Place, WireFault>
+    ensures { Gives result (place_in device path (O.json object.now)) }
 {
-    let device = device_in(device, value)?;
-    let path = path_in(alloc, path, value)?;
+    let device = device_in(device, object)?;
+    let path = path_in(alloc, path, object)?;
     Ok(Place { device, path })
 }
 
 #[tactic(auto, unfolding(crate::specs::Line::device_in))]
-pub fn device_in(field: Field, value: &Value) -> Result<DeviceName, WireFault>
-    ensures { Gives result (device_in field (view value.now)) }
+pub fn device_in<O: Object>(field: Field, object: &O) -> Result<DeviceName, WireFault>
+    ensures { Gives result (device_in field (O.json object.now)) }
 {
-    let Some(text) = value.get(field.name()).and_then(Value::as_str) else {
+    let Some(text) = object.text(field) else {
         return Err(WireFault::BadField(field));
     };
     DeviceName::new(text).map_err(|_| WireFault::BadField(field))
 }
 
 #[tactic(auto, unfolding(crate::specs::Line::path_in))]
-fn path_in(alloc: Global, field: Field, value: &Value) -> Result<CopyPath, WireFault>
-    ensures { Gives result (path_in field (view value.now)) }
+fn path_in<O: Object>(alloc: Global, field: Field, object: &O) -> Result<CopyPath, WireFault>
+    ensures { Gives result (path_in field (O.json object.now)) }
 {
-    let Some(text) = value.get(field.name()).and_then(Value::as_str) else {
+    let Some(text) = object.text(field) else {
         return Err(WireFault::BadField(field));
     };
     match CopyPath::new(alloc, text) {
@@ -257,30 +266,30 @@ fn path_in(alloc: Global, field: Field, value: &Value) -> Result<CopyPath, WireF
 }
 
 #[tactic(auto, unfolding(crate::specs::Line::number_in))]
-pub fn number_in(field: Field, value: &Value) -> Result<u64, WireFault>
-    ensures { Gives result (number_in field (view value.now)) }
+pub fn number_in<O: Object>(field: Field, object: &O) -> Result<u64, WireFault>
+    ensures { Gives result (number_in field (O.json object.now)) }
 {
-    match value.get(field.name()).and_then(Value::as_u64) {
+    match object.number(field) {
         Some(number) => Ok(number),
         None => Err(WireFault::BadField(field)),
     }
 }
 
 #[tactic(auto, unfolding(crate::specs::Line::seconds_in))]
-fn seconds_in(field: Field, value: &Value) -> Result<u64, WireFault>
-    ensures { Gives result (seconds_in field (view value.now)) }
+fn seconds_in<O: Object>(field: Field, object: &O) -> Result<u64, WireFault>
+    ensures { Gives result (seconds_in field (O.json object.now)) }
 {
-    match value.get(field.name()).and_then(Value::as_u64) {
+    match object.number(field) {
         Some(seconds) if seconds <= LONGEST_WAIT => Ok(seconds),
         _ => Err(WireFault::BadField(field)),
     }
 }
 
 #[tactic(auto, unfolding(crate::specs::Line::sum_in))]
-fn sum_in(alloc: Global, field: Field, value: &Value) -> Result<Sum, WireFault>
-    ensures { Gives result (sum_in field (view value.now)) }
+fn sum_in<O: Object>(alloc: Global, field: Field, object: &O) -> Result<Sum, WireFault>
+    ensures { Gives result (sum_in field (O.json object.now)) }
 {
-    let Some(text) = value.get(field.name()).and_then(Value::as_str) else {
+    let Some(text) = object.text(field) else {
         return Err(WireFault::BadField(field));
     };
     match Sum::new(alloc, text) {
@@ -290,54 +299,45 @@ fn sum_in(alloc: Global, field: Field, value: &Value) -> Result<Sum, WireFault>
     }
 }
 
-fn is_given(field: Field, value: &Value) -> bool
-    ensures { result ≡ is_given (get (field_name field) (view value.now)) }
-{
-    match value.get(field.name()) {
-        Some(content) => !content.is_null(),
-        None => false,
-    }
-}
-
 #[tactic(auto, unfolding(crate::specs::Line::number_or_none))]
-fn number_or_none(field: Field, value: &Value) -> Result<Option<u64>, WireFault>
-    ensures { Gives result (number_or_none field (view value.now)) }
+fn number_or_none<O: Object>(field: Field, object: &O) -> Result<Option<u64>, WireFault>
+    ensures { Gives result (number_or_none field (O.json object.now)) }
 {
-    if is_given(field, value) {
-        Ok(Some(number_in(field, value)?))
+    if object.is_given(field) {
+        Ok(Some(number_in(field, object)?))
     } else {
         Ok(None)
     }
 }
 
 #[tactic(auto, unfolding(crate::specs::Line::seconds_or_none))]
-fn seconds_or_none(field: Field, value: &Value) -> Result<Option<u64>, WireFault>
-    ensures { Gives result (seconds_or_none field (view value.now)) }
+fn seconds_or_none<O: Object>(field: Field, object: &O) -> Result<Option<u64>, WireFault>
+    ensures { Gives result (seconds_or_none field (O.json object.now)) }
 {
-    if is_given(field, value) {
-        Ok(Some(seconds_in(field, value)?))
+    if object.is_given(field) {
+        Ok(Some(seconds_in(field, object)?))
     } else {
         Ok(None)
     }
 }
 
 #[tactic(auto, unfolding(crate::specs::Line::device_or_none))]
-fn device_or_none(field: Field, value: &Value) -> Result<Option<DeviceName>, WireFault>
-    ensures { Gives result (device_or_none field (view value.now)) }
+fn device_or_none<O: Object>(field: Field, object: &O) -> Result<Option<DeviceName>, WireFault>
+    ensures { Gives result (device_or_none field (O.json object.now)) }
 {
-    if is_given(field, value) {
-        Ok(Some(device_in(field, value)?))
+    if object.is_given(field) {
+        Ok(Some(device_in(field, object)?))
     } else {
         Ok(None)
     }
 }
 
 #[tactic(auto, unfolding(crate::specs::Line::sum_or_none))]
-fn sum_or_none(alloc: Global, field: Field, value: &Value) -> Result<Option<Sum>, WireFault>
-    ensures { Gives result (sum_or_none field (view value.now)) }
+fn sum_or_none<O: Object>(alloc: Global, field: Field, object: &O) -> Result<Option<Sum>, WireFault>
+    ensures { Gives result (sum_or_none field (O.json object.now)) }
 {
-    if is_given(field, value) {
-        Ok(Some(sum_in(alloc, field, value)?))
+    if object.is_given(field) {
+        Ok(Some(sum_in(alloc, field, object)?))
     } else {
         Ok(None)
     }
