@@ -8,6 +8,7 @@ use crate::flat_object::flat_object;
 use crate::message::Message;
 use crate::object::Object;
 use crate::word::{Word, word_of};
+use json::Scratch;
 use pana_calls::{Call, Query, Sighting};
 use pana_copies::{CopyPath, DeviceName, NameFault, Place, Sum};
 use pana_journal::Report;
@@ -32,7 +33,8 @@ pub fn decode(alloc: Global, line: &[u8]) -> Result<Message, WireFault>
     ensures memory { IfErr result (λ fault. fault ≡ WireFault.OutOfMemory → IsText line.now) }
 {
     let text = text_within(line, LONGEST_LINE)?;
-    if let Some(object) = flat_object(alloc, text) {
+    let mut scratch = Scratch::new(alloc);
+    if let Some(object) = flat_object(alloc, text, &mut scratch) {
         return message_in(alloc, &object);
     }
     let value = value_in(alloc, text)?;
