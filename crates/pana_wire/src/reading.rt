@@ -21,25 +21,58 @@ const LONGEST_LINE: usize = 65536;
 /// For how many seconds at most an answer may be waited for.
 const LONGEST_WAIT: u64 = 3600;
 
+/// Reads lines, with memory that is kept from line to line.
+#[derive(Drop)]
+pub struct LineReader {
+    alloc: Global,
+    scratch: Scratch<Global>,
+}
+
+impl LineReader {
+    /// Takes no memory.
+    pub fn new(alloc: Global) -> LineReader {
+        LineReader {
+            alloc,
+            scratch: Scratch::new(alloc),
+        }
+    }
+
+    /// Where memory is taken from.
+    pub fn alloc(&self) -> Global {
+        self.alloc
+    }
+
+    /// What a line says, or its first fault, as `decode` returns it.
+    ///
+    /// It keeps as many bytes as the longest line that it has read.
+    #[tactic(auto, unfolding(crate::specs::Line::line_says, crate::specs::Line::text_in))]
+    pub fn read(&mut self, line: &[u8]) -> Result<Message, WireFault>
+        ensures exact { Gives result (line_says line.now) }
+        ensures memory { IfErr result (λ fault. fault ≡ WireFault.OutOfMemory → IsText line.now) }
+    {
+        let LineReader { alloc, scratch } = self;
+        let text = text_within(line, LONGEST_LINE)?;
+        if let Some(object) = flat_object(*alloc, text, scratch) {
+            return message_in(*alloc, &object);
+        }
+        let value = value_in(*alloc, text)?;
+        check_object(&value)?;
+        message_in(*alloc, &value)
+    }
+}
+
 /// What a line says, or its first fault.
 ///
 /// The faults are those of `WireFault`, in its order; the fields are tried in the order `by`, `do`, and then those of
-/// the word, as `Word::fields` has them. It takes memory for a list of the members of a flat object, or for the value
-/// that another line is, and for the names in it; where that runs out the fault is `OutOfMemory`. To find a line too
-/// long, or not UTF-8, takes none.
-#[tactic(auto, unfolding(crate::specs::Line::line_says, crate::specs::Line::text_in))]
+/// the word, as `Word::fields` has them. It takes memory for as many bytes as the line has, for a list of the members of
+/// a flat object, or for the value that another line is, and for the names in it; where that runs out the fault is
+/// `OutOfMemory`. To find a line too long, or not UTF-8, takes none.
 pub fn decode(alloc: Global, line: &[u8]) -> Result<Message, WireFault>
     ensures exact { Gives result (line_says line.now) }
     ensures memory { IfErr result (λ fault. fault ≡ WireFault.OutOfMemory → IsText line.now) }
 {
-    let text = text_within(line, LONGEST_LINE)?;
-    let mut scratch = Scratch::new(alloc);
-    if let Some(object) = flat_object(alloc, text, &mut scratch) {
-        return message_in(alloc, &object);
-    }
-    let value = value_in(alloc, text)?;
-    check_object(&value)?;
-    message_in(alloc, &value)
+    let mut lines = LineReader::new(alloc);
+    lines.read(line)
 }
 
 pub fn text_within(bytes: &[u8], most: usize) -> Result<&str, WireFault>

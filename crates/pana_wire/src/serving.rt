@@ -12,7 +12,7 @@ ghost use Rattle.pana_wire.specs.inner.Writing.{Writes, WritesPrefix};
 use crate::answer_buffer::AnswerBuffer;
 use crate::line_buffer::LineBuffer;
 use crate::message::Message;
-use crate::reading::decode;
+use crate::reading::LineReader;
 use crate::tap::Tap;
 use crate::writing::encode_answer;
 use pana_calls::{Call, Session};
@@ -101,8 +101,8 @@ impl Served {
 /// A tap that had ended before may be lent too: it is read again, and of `Read` and `Turns` it isn't known then
 /// whether the end was met anew.
 ///
-/// It takes 196,609 bytes at the start, and for each line no more than `decode`, the call and `encode` do,
-/// which is given back before the next line. O(n) in the bytes that are read, besides these.
+/// It takes 196,609 bytes at the start, then as many as the longest line has, and for each line no more than `decode`, the call
+/// and `encode` do, which is given back before the next line. O(n) in the bytes that are read, besides these.
 pub fn serve_groups<R: Read, W: Write, S: Session>(
     alloc: Global,
     reader: &mut Tap<R>,
@@ -131,7 +131,7 @@ pub fn serve_groups<R: Read, W: Write, S: Session>(
     } = buffers;
     let piece = piece.as_mut_slice();
     serve_lines(
-        alloc,
+        &mut LineReader::new(alloc),
         &mut answers,
         reader,
         writer,
@@ -192,7 +192,7 @@ impl Buffers {
 }
 
 fn serve_lines<R: Read, W: Write, S: Session>(
-    alloc: Global,
+    lines: &mut LineReader,
     answers: &mut AnswerBuffer,
     reader: &mut Tap<R>,
     writer: &mut Tap<W>,
@@ -218,11 +218,11 @@ fn serve_lines<R: Read, W: Write, S: Session>(
         match reader.read(piece) {
             Err(_) => return Err(ServeFault::Read),
             Ok(0) => {
-                let last = finish(alloc, answers, writer, session, held)?;
+                let last = finish(lines, answers, writer, session, held)?;
                 return Ok(served.and(last));
             }
             Ok(length) => {
-                let more = take_piece(alloc, answers, writer, session, held, &piece[..length])?;
+                let more = take_piece(lines, answers, writer, session, held, &piece[..length])?;
                 served = served.and(more);
             }
         }
@@ -232,7 +232,7 @@ fn serve_lines<R: Read, W: Write, S: Session>(
 
 /// Answers the lines that end in the piece. All that was held is written then.
 fn take_piece<W: Write, S: Session>(
-    alloc: Global,
+    lines: &mut LineReader,
     answers: &mut AnswerBuffer,
     writer: &mut Tap<W>,
     session: &mut S,
@@ -251,14 +251,14 @@ fn take_piece<W: Write, S: Session>(
     ensures empty { OnOk result (answers.new ≡ []) }
     ensures out { IfErr result (IsOutFault (has_failed writer.new)) }
 {
-    let served = take_lines(alloc, answers, writer, session, held, piece)?;
+    let served = take_lines(lines, answers, writer, session, held, piece)?;
     send(answers, writer, session)?;
     Ok(served)
 }
 
 /// Makes the calls of the lines that end in the piece.
 fn take_lines<W: Write, S: Session>(
-    alloc: Global,
+    lines: &mut LineReader,
     answers: &mut AnswerBuffer,
     writer: &mut Tap<W>,
     session: &mut S,
@@ -279,7 +279,7 @@ fn take_lines<W: Write, S: Session>(
     let mut served = Served::NOTHING;
     for byte in piece {
         if *byte == b'\n' {
-            let answered = answer(alloc, answers, writer, session, held.as_slice())?;
+            let answered = answer(lines, answers, writer, session, held.as_slice())?;
             served = served.and(answered);
             held.clear();
         } else {
@@ -291,7 +291,7 @@ fn take_lines<W: Write, S: Session>(
 
 /// Answers the last line, where there is one.
 fn finish<W: Write, S: Session>(
-    alloc: Global,
+    lines: &mut LineReader,
     answers: &mut AnswerBuffer,
     writer: &mut Tap<W>,
     session: &mut S,
@@ -311,14 +311,14 @@ fn finish<W: Write, S: Session>(
     if held.is_empty() {
         return Ok(Served::NOTHING);
     }
-    let last = answer(alloc, answers, writer, session, held.as_slice())?;
+    let last = answer(lines, answers, writer, session, held.as_slice())?;
     send(answers, writer, session)?;
     Ok(last)
 }
 
 /// Makes the call of a line, and holds its answer.
 fn answer<W: Write, S: Session>(
-    alloc: Global,
+    lines: &mut LineReader,
     answers: &mut AnswerBuffer,
     writer: &mut Tap<W>,
     session: &mut S,
@@ -333,14 +333,14 @@ fn answer<W: Write, S: Session>(
     ensures works { OnOk result (has_failed writer.new ≡ false) }
     ensures out { IfErr result (IsOutFault (has_failed writer.new)) }
 {
-    let Message { by, call } = match decode(alloc, held) {
+    let Message { by, call } = match lines.read(held) {
         Ok(message) => message,
         Err(fault) => {
             put(answers, writer, session, fault.answer())?;
             return Ok(Served { lines: 1, calls: 0 });
         }
     };
-    match make(alloc, session, &by, call) {
+    match make(lines.alloc(), session, &by, call) {
         Ok(text) => put(answers, writer, session, text.as_str())?,
         Err(fault) => {
             release(answers, writer, session)?;
