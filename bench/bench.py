@@ -12,10 +12,12 @@ from __future__ import annotations
 
 import argparse
 import os
+import re
 import shutil
 import subprocess
 import sys
 import tempfile
+import time
 from dataclasses import dataclass
 from pathlib import Path
 
@@ -27,6 +29,8 @@ HERE = Path(__file__).resolve().parent
 ROOMS = Path("/dev/shm")
 FILES = 10_000
 FILE_BYTES = 4096
+SECONDS_BETWEEN_LOOKS = 0.002
+MOST_MEMORY = re.compile(r"^VmHWM:\s+(\d+) kB$", re.MULTILINE)
 
 
 @dataclass
@@ -37,15 +41,27 @@ class Used:
     megabytes: float
 
 
+def most_memory(process):
+    """The most megabytes that a process has had in memory so far. What the kernel says at its end counts those of this one too."""
+    try:
+        found = MOST_MEMORY.search(Path(f"/proc/{process}/status").read_text())
+    except OSError:
+        found = None
+    return int(found[1]) / 1024 if found else 0.0
+
+
 def run(words, given, folder=None):
-    """Runs a program on a file, and returns what it used. What it prints is dropped."""
-    with open(given, "rb") as stdin:
-        child = subprocess.Popen(words, stdin=stdin, stdout=subprocess.DEVNULL, stderr=subprocess.DEVNULL, cwd=folder)
-        _, status, used = os.wait4(child.pid, 0)
-    child.returncode = os.waitstatus_to_exitcode(status)
+    """Runs a program on a file, and returns what it used. What it prints goes to a file in memory."""
+    with open(given, "rb") as stdin, open(given.with_name("printed"), "wb") as stdout:
+        child = subprocess.Popen(words, stdin=stdin, stdout=stdout, stderr=subprocess.DEVNULL, cwd=folder)
+        memory = 0.0
+        while (ended := os.wait4(child.pid, os.WNOHANG))[0] == 0:
+            memory = max(memory, most_memory(child.pid))
+            time.sleep(SECONDS_BETWEEN_LOOKS)
+    child.returncode, used = os.waitstatus_to_exitcode(ended[1]), ended[2]
     if child.returncode < 0:
         raise SystemExit(f"bench.py: {words[0]} was ended by signal {-child.returncode}")
-    return Used(used.ru_utime + used.ru_stime, used.ru_maxrss / 1024)
+    return Used(used.ru_utime + used.ru_stime, memory)
 
 
 def best(rounds, measures):
