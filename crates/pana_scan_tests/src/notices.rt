@@ -2,7 +2,7 @@ use crate::holdings::held;
 use pana_calls::{Call, Sighting};
 use pana_copies::{CopyPath, DeviceName, Place, Sum};
 use pana_journal::Report;
-use pana_scan::{Found, Listing, notice};
+use pana_scan::{Found, Listing, Notice, notice};
 use std::alloc::Global;
 use std::test::Fail;
 
@@ -38,27 +38,39 @@ fn scanned(alloc: Global) -> Result<Listing, Fail> {
     Ok(listing)
 }
 
+/// What is reported: the file at `a` is at `b` now, where it was found, and the one at `c` is missing.
+fn expected(alloc: Global) -> Result<Vec<Call>, Fail> {
+    let mut calls = Vec::new(alloc);
+    calls.push(Call::Report(Report::Relocate {
+        copy: 1,
+        place: place(alloc, "b")?,
+    }))?;
+    calls.push(Call::Sighting(Sighting::Found {
+        place: place(alloc, "b")?,
+        sum: Sum::new(alloc, ABC_SUM)?,
+    }))?;
+    calls.push(Call::Sighting(Sighting::Missing {
+        place: place(alloc, "c")?,
+    }))?;
+    Ok(calls)
+}
+
+/// The calls that report what was noticed.
+fn calls_of(alloc: Global, notices: &[Notice]) -> Result<Vec<Call>, Fail> {
+    let usb = DeviceName::new("usb")?;
+    let mut calls = Vec::new(alloc);
+    for notice in notices {
+        calls.push(notice.call(alloc, &usb)?)?;
+    }
+    Ok(calls)
+}
+
 #[test]
 fn a_renamed_file_is_noticed(rt: HostRuntime) -> Result<(), Fail> {
     let alloc = rt.alloc();
-    let usb = DeviceName::new("usb")?;
     let notices = notice(alloc, &held(alloc, HELD)?, &scanned(alloc)?)?;
-    let [renamed, found, missing] = notices.as_slice() else {
-        return Err(Fail::from("not three notices"));
-    };
-    let relocate = Report::Relocate {
-        copy: 1,
-        place: place(alloc, "b")?,
-    };
-    assert!(rt; renamed.call(alloc, &usb)? == Call::Report(relocate));
-    let seen = Sighting::Found {
-        place: place(alloc, "b")?,
-        sum: Sum::new(alloc, ABC_SUM)?,
-    };
-    assert!(rt; found.call(alloc, &usb)? == Call::Sighting(seen));
-    let gone = Sighting::Missing {
-        place: place(alloc, "c")?,
-    };
-    assert!(rt; missing.call(alloc, &usb)? == Call::Sighting(gone));
+    let calls = calls_of(alloc, notices.as_slice())?;
+    let wanted = expected(alloc)?;
+    assert!(rt; calls.as_slice() == wanted.as_slice());
     Ok(())
 }
