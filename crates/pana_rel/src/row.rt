@@ -1,5 +1,5 @@
 //! The relations of one copy to all.
-ghost use Rattle.std.specs.Prelude.{◌≡◌, ◌+◌, ◌<◌, ◌≤◌, ◌++◌, [], ◌∷◌, OnOk, IfOk, count_by, length, slice_index_or, slice_set};
+ghost use Rattle.std.specs.Prelude.{◌≡◌, ◌+◌, ◌<◌, ◌≤◌, ◌++◌, [], ◌∷◌, OnOk, IfOk, length, slice_index_or, slice_set};
 ghost use Rattle.std.specs.List.{insert, remove, list_any};
 ghost use Rattle.pana_event.specs.declared.rel.Rel.TheVariants.{Equal, Older};
 ghost use Rattle.pana_rel.specs.Board.{is_rel};
@@ -112,24 +112,15 @@ impl Row {
         self.rels.clear();
     }
 
-    /// How many relations there are of one kind. Takes no memory; visits them.
-    fn count(&self, wanted: Rel) -> u64
-        ensures { result ≡ count_by (λ rel. is_rel rel wanted) self.now.items }
-    {
-        self.as_slice().iter().filter(|rel| **rel == wanted).count() as u64
-    }
-
-    /// How many relations there are of each kind. Takes no memory; visits them once for each kind, which is quicker than to
-    /// look at each kind at each of them.
+    /// How many relations there are of each kind. Takes no memory; visits them.
     pub(crate) fn counts(&self) -> Counts
         ensures { AreCounted self.now.items result }
     {
-        Counts {
-            above: self.count(Rel::Older),
-            below: self.count(Rel::Newer),
-            equal: self.count(Rel::Equal),
-            conflict: self.count(Rel::Conflict),
+        let mut counts = Counts::none();
+        for rel in self.as_slice() {
+            counts.add(*rel);
         }
+        counts
     }
 
     /// Whether the copy is older than any. Takes no memory; visits the relations up to the first that is so.
