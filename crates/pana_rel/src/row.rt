@@ -1,5 +1,5 @@
 //! The relations of one copy to all.
-ghost use Rattle.std.specs.Prelude.{◌≡◌, ◌+◌, ◌<◌, ◌≤◌, ◌++◌, [], ◌∷◌, OnOk, IfOk, length, slice_index_or, slice_set};
+ghost use Rattle.std.specs.Prelude.{◌≡◌, ◌+◌, ◌<◌, ◌≤◌, ◌++◌, [], ◌∷◌, OnOk, IfOk, count_by, length, slice_index_or, slice_set};
 ghost use Rattle.std.specs.List.{insert, remove, list_any};
 ghost use Rattle.pana_event.specs.declared.rel.Rel.TheVariants.{Equal, Older};
 ghost use Rattle.pana_rel.specs.Board.{is_rel};
@@ -9,6 +9,21 @@ use crate::counts::Counts;
 use pana_event::Rel;
 use std::alloc::{AllocError, Global};
 use std::marker::Model;
+
+/// How many relations are counted at once: no more than a byte counts, so that the processor counts many at a time.
+const MOST_AT_ONCE: usize = 255;
+
+/// How many of a few relations are of one kind.
+fn count_few(rels: &[Rel], wanted: Rel) -> u8
+    requires { length rels.now ≤ 255 }
+    ensures { result ≡ count_by (λ rel. is_rel rel wanted) rels.now }
+{
+    let mut count: u8 = 0;
+    for rel in rels {
+        count += u8::from(*rel == wanted);
+    }
+    count
+}
 
 /// The relations of a copy to all copies in order, itself among them, a byte each.
 #[derive(Drop)]
@@ -112,15 +127,30 @@ impl Row {
         self.rels.clear();
     }
 
-    /// How many relations there are of each kind. Takes no memory; visits them.
+    /// How many relations there are of one kind. Takes no memory; visits them.
+    fn count(&self, wanted: Rel) -> u64
+        ensures { result ≡ count_by (λ rel. is_rel rel wanted) self.now.items }
+    {
+        let mut rest = self.as_slice();
+        let mut count: u64 = 0;
+        while rest.len() > MOST_AT_ONCE {
+            let (few, others) = rest.split_at(MOST_AT_ONCE);
+            count += u64::from(count_few(few, wanted));
+            rest = others;
+        }
+        count + u64::from(count_few(rest, wanted))
+    }
+
+    /// How many relations there are of each kind. Takes no memory; visits them once for each kind.
     pub(crate) fn counts(&self) -> Counts
         ensures { AreCounted self.now.items result }
     {
-        let mut counts = Counts::none();
-        for rel in self.as_slice() {
-            counts.add(*rel);
+        Counts {
+            above: self.count(Rel::Older),
+            below: self.count(Rel::Newer),
+            equal: self.count(Rel::Equal),
+            conflict: self.count(Rel::Conflict),
         }
-        counts
     }
 
     /// Whether the copy is older than any. Takes no memory; visits the relations up to the first that is so.
