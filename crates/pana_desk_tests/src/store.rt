@@ -120,28 +120,66 @@ fn leaves(
     Ok(true)
 }
 
+/// How many operations the device has made after each of these lines.
+fn operations_after(
+    alloc: Global,
+    session: &mut Store<MemoryDevice>,
+    lines: &[&[u8]],
+) -> Result<Vec<usize>, Fail> {
+    let mut done = Vec::new(alloc);
+    for line in lines {
+        let _ = answers(alloc, session, line)?;
+        done.push(session.log().device.operations())?;
+    }
+    Ok(done)
+}
+
+/// The first number of operations, of so many from the first on, after which a crash leaves other entries than it may: one for each
+/// six operations, or one more.
+fn wrong_crash(
+    alloc: Global,
+    device: &MemoryDevice,
+    first: usize,
+    count: usize,
+) -> Result<Option<usize>, Fail> {
+    for done in 0..count {
+        let calls = first.saturating_add(done);
+        if !leaves(alloc, device, calls, (done / 6) as u64, 1)? {
+            return Ok(Some(calls));
+        }
+    }
+    Ok(None)
+}
+
 #[test]
 fn crashes_of_a_session(rt: HostRuntime) -> Result<(), Fail> {
     let alloc = rt.alloc();
     let mut session = session_of(alloc, usize::MAX)?;
     let first = session.log().device.operations();
-    let mut done = Vec::new(alloc);
-    for line in [REGISTER, EDIT, BOARD, EDIT] {
-        let _ = answers(alloc, &mut session, line)?;
-        done.push(session.log().device.operations())?;
-    }
+    let done = operations_after(alloc, &mut session, &[REGISTER, EDIT, BOARD, EDIT])?;
+    let wrong = wrong_crash(alloc, &session.log().device, first, 19)?;
     assert_eq!(rt;
         done.as_slice(),
         [first + 6, first + 12, first + 12, first + 18].as_slice()
     );
-    for calls in first..first + 19 {
-        let least = ((calls - first) / 6) as u64;
-        assert!(rt;
-            leaves(alloc, &session.log().device, calls, least, 1)?,
-            "{calls}"
-        );
-    }
+    assert_eq!(rt; wrong, None);
     Ok(())
+}
+
+/// The same of a group of two entries, which a crash leaves both or none, and both once it was kept by seven operations.
+fn wrong_crash_of_a_group(
+    alloc: Global,
+    device: &MemoryDevice,
+    first: usize,
+) -> Result<Option<usize>, Fail> {
+    for done in 0..8 {
+        let calls = first.saturating_add(done);
+        let least = if done < 7 { 0 } else { 2 };
+        if !leaves(alloc, device, calls, least, 2)? {
+            return Ok(Some(calls));
+        }
+    }
+    Ok(None)
 }
 
 #[test]
@@ -150,19 +188,23 @@ fn crashes_of_a_group(rt: HostRuntime) -> Result<(), Fail> {
     let mut session = session_of(alloc, usize::MAX)?;
     let first = session.log().device.operations();
     let (answer, _) = answers(alloc, &mut session, TWO_FILES)?;
+    let done = session.log().device.operations();
+    let wrong = wrong_crash_of_a_group(alloc, &session.log().device, first)?;
     assert_eq!(rt;
         answer.as_slice(),
         b"{\"done\":1}\n{\"done\":2}\n".as_slice()
     );
-    assert_eq!(rt; session.log().device.operations(), first + 7);
-    for calls in first..first + 8 {
-        let least = if calls < first + 7 { 0 } else { 2 };
-        assert!(rt;
-            leaves(alloc, &session.log().device, calls, least, 2)?,
-            "{calls}"
-        );
-    }
+    assert_eq!(rt; done, first + 7);
+    assert_eq!(rt; wrong, None);
     Ok(())
+}
+
+/// What a session whose device fails once, after so many calls, answers to two reports that come together, why it ended, and
+/// whether it is open still.
+fn failing_after(alloc: Global, calls: usize) -> Result<(Vec<u8>, Option<ServeFault>, bool), Fail> {
+    let mut session = session_of(alloc, calls)?;
+    let (answer, end) = answers(alloc, &mut session, TWO_FILES)?;
+    Ok((answer, end, session.is_open()))
 }
 
 #[test]
@@ -182,18 +224,16 @@ fn failing_calls(rt: HostRuntime) -> Result<(), Fail> {
         (16, both, None),
     ];
     for (calls, want, fault) in rows {
-        let mut session = session_of(alloc, calls)?;
-        let (answer, end) = answers(alloc, &mut session, TWO_FILES)?;
+        let (answer, end, is_open) = failing_after(alloc, calls)?;
         assert_eq!(rt; answer.as_slice(), want, "{calls}");
         assert_eq!(rt; end, fault, "{calls}");
-        assert_eq!(rt; session.is_open(), fault.is_none(), "{calls}");
+        assert_eq!(rt; is_open, fault.is_none(), "{calls}");
     }
     Ok(())
 }
 
-#[test]
-fn writes_without_memory(rt: HostRuntime) -> Result<(), Fail> {
-    let alloc = rt.alloc();
+/// A session on a new journal, whose device takes nothing that is written.
+fn short_session(alloc: Global) -> Result<Store<ShortDevice>, Fail> {
     let mut journal = Log::new(MemoryDevice::new(alloc, Vec::new(alloc)));
     let Opened { hall, sealer, .. } = open(alloc, &mut journal)?;
     let short = Log {
@@ -201,12 +241,28 @@ fn writes_without_memory(rt: HostRuntime) -> Result<(), Fail> {
         end: 0,
         state: LogState::Open,
     };
-    let mut session = Store::new(alloc, hall, short, sealer)?;
+    Ok(Store::new(alloc, hall, short, sealer)?)
+}
+
+#[test]
+fn writes_without_memory(rt: HostRuntime) -> Result<(), Fail> {
+    let alloc = rt.alloc();
+    let mut session = short_session(alloc)?;
     let (answer, end) = answers(alloc, &mut session, REGISTER)?;
     let want = b"{\"code\":9,\"refused\":\"OutOfMemory\"}\n".as_slice();
     assert_eq!(rt; answer.as_slice(), want);
     assert_eq!(rt; end, None);
     Ok(())
+}
+
+/// How many entries and torn bytes a file has, as it is read, how many operations that takes, and how long the file is then.
+fn read_of(alloc: Global, file: Vec<u8>) -> Result<(u64, usize, usize, usize), Fail> {
+    let mut journal = Log::new(MemoryDevice::new(alloc, file));
+    let Opened { hall, torn, .. } = read(alloc, &mut journal)?;
+    let entries = hall.length();
+    drop(hall);
+    let left = journal.device.read(alloc)?.len();
+    Ok((entries, torn, journal.device.operations(), left))
 }
 
 #[test]
@@ -215,12 +271,8 @@ fn journals_that_are_read(rt: HostRuntime) -> Result<(), Fail> {
     let mut file = REGISTERED.to_vec(alloc)?;
     file.extend_from_slice(b"\0torn")?;
     assert_eq!(rt; before_end(&file), REGISTERED);
-    let mut journal = Log::new(MemoryDevice::new(alloc, file));
-    let found = read(alloc, &mut journal)?;
-    assert_eq!(rt; found.hall.length(), 1);
-    assert_eq!(rt; found.torn, 4);
-    assert_eq!(rt; journal.device.operations(), 0);
-    assert_eq!(rt; journal.device.read(alloc)?.len(), REGISTERED.len() + 5);
+    let read = read_of(alloc, file)?;
+    assert_eq!(rt; read, (1, 4, 0, REGISTERED.len() + 5));
     Ok(())
 }
 
