@@ -106,8 +106,10 @@ class Processors(threading.Thread):
 def run_ci(kit, room):
     """Runs rt ci in the folder and prints its lines, those of rt with the minutes so far: its status, lines and processor time."""
     start, lines = time.monotonic(), []
-    # By itself it counts a gigabyte for each thousand lines of a crate, and has the largest wait until nothing else runs.
-    settings = {"RT_JOBS": str(min(os.cpu_count() or 1, lanes.wanted())), **os.environ}
+    processors, settings = os.cpu_count() or 1, dict(os.environ)
+    if processors <= lanes.MANY:
+        # By itself it counts a gigabyte for each thousand lines of a crate, and has the largest wait until nothing else runs.
+        settings.setdefault("RT_JOBS", str(min(processors, lanes.wanted())))
     how = {"stdin": subprocess.DEVNULL, "stdout": subprocess.PIPE, "stderr": subprocess.STDOUT, "env": settings}
     with subprocess.Popen([Path(kit) / "bin" / "rt", "ci"], cwd=room, errors="replace", text=True, **how) as ran:
         processors = Processors(ran.pid)
