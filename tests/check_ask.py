@@ -321,7 +321,7 @@ def tables(program, room):
     yield from differs(run(program, "show", "--port", daemon.port), (1, "", f"panad: cannot connect to port {daemon.port}\n"))
     for words in (("--split",), ("--family", "1")):
         status, out, err = run(program, "show", *words)
-        yield from differs((status, out, err.split("\n")[0]), (2, "", "error: --family and --split need --journal or --port"))
+        yield from differs((status, out, err.split("\n")[0]), (2, "", "error: --family and --split need --journal, --log or --port"))
     for answers in ((b"",), (b'{"families":[{"copies":1,"family":1,"newest":1,"split":false}]}\n', b"")):
         with Server(*answers) as server:
             yield from differs(run(program, "show", "--port", server.port), (1, "", SILENT))

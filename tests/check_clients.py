@@ -32,11 +32,11 @@ def name_of(number):
     return f"c{number:02}"
 
 
-def calls_of(number):
-    """The calls of a client, each made from what its own copy is, once that is known."""
+def calls_of(number, count):
+    """So many calls of a client, each made from what its own copy is, once that is known."""
     chance, by = random.Random(number), name_of(number)
     yield {"by": by, "do": "duplicate", "copy": 1, "device": by, "path": "shared"}
-    for nth in range(CALLS - 1):
+    for nth in range(count - 1):
         kind = chance.choice(KINDS)
         if kind == "edit":
             yield {"by": by, "do": "edit", "copy": "mine"}
@@ -54,10 +54,10 @@ def calls_of(number):
             yield {"by": by, "do": "register", "device": by, "path": str(nth)}
 
 
-def talk(client, number, made):
+def talk(client, number, made, count):
     """Makes a client's calls, and puts each with its reply into a list."""
     mine = 0
-    for call in calls_of(number):
+    for call in calls_of(number, count):
         call = {name: mine if value == "mine" else value for name, value in call.items()}
         reply = client.ask(**call)
         if call["do"] == "duplicate":
@@ -65,11 +65,10 @@ def talk(client, number, made):
         made.append((call, reply))
 
 
-def run_clients(daemon):
-    """What each client has asked and got, all of them at once."""
-    made = [[] for _ in range(CLIENTS)]
-    clients = [daemon.client() for _ in range(CLIENTS)]
-    threads = [threading.Thread(target=talk, args=(it, *of)) for it, of in zip(clients, enumerate(made))]
+def run_clients(clients, count):
+    """What each client has asked and got by so many calls, all of them at once."""
+    made = [[] for _ in clients]
+    threads = [threading.Thread(target=talk, args=(it, *of, count)) for it, of in zip(clients, enumerate(made))]
     for it in threads:
         it.start()
     for it in threads:
@@ -92,8 +91,8 @@ def in_order(made, entries):
     if any(of != sorted(of) for of in numbers):
         yield "a client's numbers don't rise"
     for call, reply in ((call, reply) for of in made for call, reply in of if "done" in reply):
-        if entries[reply["done"] - 1] != entry_of(reply["done"], call):
-            yield f"entry {reply['done']} isn't {call}, but {entries[reply['done'] - 1]}"
+        if (found := entries[reply["done"] - 1 : reply["done"]]) != [entry_of(reply["done"], call)]:
+            yield f"entry {reply['done']} isn't {call}, but {found}"
 
 
 class Session:
@@ -169,7 +168,7 @@ def main(words):
     try:
         with Daemon(program) as daemon:
             daemon.ask(**FIRST)
-            made = run_clients(daemon)
+            made = run_clients([daemon.client() for _ in range(CLIENTS)], CALLS)
             with daemon.client() as client:
                 dump = [*pages(client)]
             entries = [it for page in dump for it in page["entries"]]

@@ -58,9 +58,12 @@ class Watch:
         timer = threading.Timer(SECONDS, self.run.kill)
         timer.start()
         try:
-            return [self.run.stdout.readline().decode() for _ in range(count)]
+            lines = [self.run.stdout.readline().decode() for _ in range(count)]
         finally:
             timer.cancel()
+        if not all(lines):
+            raise Broken(f"watch ended after {sum(map(bool, lines))} of {count} lines with status {self.run.wait()} and {self.run.stderr.read()!r:.200}")
+        return lines
 
     def ended(self):
         out, err = self.run.communicate(timeout=SECONDS)

@@ -2,16 +2,16 @@
 
 _panad_options() {
   case $1 in
-    run) printf '%s\n' --journal --help ;;
-    show) printf '%s\n' --journal --port --family --split --help ;;
-    status) printf '%s\n' --journal --port --all --quiet --json --help ;;
-    may-overwrite) printf '%s\n' --journal --port --by --help ;;
-    why) printf '%s\n' --journal --port --help ;;
-    history) printf '%s\n' --journal --port --svg --help ;;
+    run) printf '%s\n' --journal --log --help ;;
+    show) printf '%s\n' --journal --log --port --family --split --help ;;
+    status) printf '%s\n' --journal --log --port --all --quiet --json --help ;;
+    may-overwrite) printf '%s\n' --journal --log --port --by --help ;;
+    why) printf '%s\n' --journal --log --port --help ;;
+    history) printf '%s\n' --journal --log --port --svg --help ;;
     watch) printf '%s\n' --port --from --help ;;
-    report) printf '%s\n' --journal --port --by --sum --heir --help ;;
+    report) printf '%s\n' --journal --log --port --by --sum --heir --help ;;
     load | scan | compare) printf '%s\n' --help ;;
-    track) printf '%s\n' --journal --port --sums --empty --ignore --read-all --one-file-system --quiet --json --help ;;
+    track) printf '%s\n' --journal --log --port --sums --empty --ignore --read-all --one-file-system --quiet --json --help ;;
     serve)
       printf '%s\n' --port --sessions --journal --track --every --ignore --one-file-system --hurry --idle --help
       ;;

@@ -30,6 +30,7 @@ complete -c panad -n __fish_use_subcommand -a report -d 'Report one change of co
 complete -c panad -n __fish_use_subcommand -a watch -d 'Print each entry of a daemon as it comes'
 complete -c panad -n __fish_use_subcommand -a serve -d 'Answer lines over TCP, and look at folders'
 complete -c panad -n '__panad_after run show track status may-overwrite why history report serve' -l journal -r -F -d 'The file that keeps the reports'
+complete -c panad -n '__panad_after run show track status may-overwrite why history report' -l log -x -d 'A journal in etcd'
 complete -c panad -n '__panad_after show load' -F
 complete -c panad -n '__panad_after scan' -a '(__fish_complete_directories)'
 complete -c panad -n '__panad_after show track status may-overwrite why history report watch' -l port -x -d 'Speak to the daemon on this port'

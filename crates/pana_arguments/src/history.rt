@@ -1,7 +1,7 @@
 //! The words of `panad history`.
 
 use crate::item::{Item, Kind, Need, with_items};
-use crate::options::{ASKED_PORT, KeptBy, PLACE, PLACE_WORD, READ_JOURNAL, value_of};
+use crate::options::{ASKED_PORT, KeptBy, PLACE, PLACE_WORD, READ_JOURNAL, SHARED_LOG, value_of};
 use clap::{ArgMatches, Command};
 use std::alloc::{AllocError, Global};
 
@@ -39,7 +39,7 @@ pub struct HistoryArguments<'a> {
 }
 
 /// The words and options of the command.
-const ITEMS: [Item; 4] = [
+const ITEMS: [Item; 5] = [
     PLACE_WORD,
     Item {
         name: SVG,
@@ -48,6 +48,7 @@ const ITEMS: [Item; 4] = [
         help: "Draw a picture to this file, in place of printing text",
     },
     READ_JOURNAL,
+    SHARED_LOG,
     ASKED_PORT,
 ];
 

@@ -33,8 +33,10 @@ pub enum Need {
     Without(&'static str),
     /// It may stand beside none of these two.
     WithoutEither(&'static str, &'static str),
-    /// Either it is there or this one.
-    InPlaceOf(&'static str),
+    /// It may stand beside none of these three.
+    WithoutAny(&'static str, &'static str, &'static str),
+    /// One of it and these two is there, and no other of them.
+    InPlaceOfEither(&'static str, &'static str),
 }
 
 /// A word or an option of a command.
@@ -81,7 +83,15 @@ fn arg_of<'a>(alloc: Global, item: Item) -> Result<Arg<'a>, AllocError> {
         Need::Required => Ok(arg.required(true)),
         Need::Without(other) => arg.conflicts_with(other),
         Need::WithoutEither(first, second) => arg.conflicts_with(first)?.conflicts_with(second),
-        Need::InPlaceOf(other) => arg.required_unless_present(other)?.conflicts_with(other),
+        Need::WithoutAny(first, second, third) => arg
+            .conflicts_with(first)?
+            .conflicts_with(second)?
+            .conflicts_with(third),
+        Need::InPlaceOfEither(first, second) => arg
+            .required_unless_present(first)?
+            .required_unless_present(second)?
+            .conflicts_with(first)?
+            .conflicts_with(second),
     }
 }
 

@@ -6,6 +6,9 @@ use clap::ArgMatches;
 /// The name of the journal's file on the command line.
 pub const JOURNAL: &str = "journal";
 
+/// The name of a log in etcd on the command line.
+pub const LOG: &str = "log";
+
 /// The name of the daemon's port on the command line.
 pub const PORT: &str = "port";
 
@@ -33,8 +36,24 @@ const QUIET: &str = "quiet";
 pub const READ_JOURNAL: Item = Item {
     name: JOURNAL,
     kind: Kind::Text("FILE"),
-    need: Need::InPlaceOf(PORT),
+    need: Need::InPlaceOfEither(PORT, LOG),
     help: "The file that keeps the reports, which is only read",
+};
+
+/// The option for a log that is asked, or gets reports.
+pub const SHARED_LOG: Item = Item {
+    name: LOG,
+    kind: Kind::Text("URL"),
+    need: Need::WithoutEither(JOURNAL, PORT),
+    help: "A journal in etcd that other machines share, etcd://HOST:PORT/NAME",
+};
+
+/// The option for a log that gets reports, where no daemon may do so.
+pub const OWN_LOG: Item = Item {
+    name: LOG,
+    kind: Kind::Text("URL"),
+    need: Need::Without(JOURNAL),
+    help: "A journal in etcd that other machines share, etcd://HOST:PORT/NAME",
 };
 
 /// The option for a daemon that is asked.
@@ -59,7 +78,7 @@ pub const OWN_JOURNAL: Item = Item {
 pub const REPORTED_JOURNAL: Item = Item {
     name: JOURNAL,
     kind: Kind::Text("FILE"),
-    need: Need::InPlaceOf(PORT),
+    need: Need::InPlaceOfEither(PORT, LOG),
     help: MADE,
 };
 
@@ -110,6 +129,8 @@ pub const AS_JSON: Item = Item {
 pub enum KeptBy<'a> {
     /// The journal in the file with this name.
     Journal(&'a str),
+    /// The log at this address.
+    Log(&'a str),
     /// The daemon on this port of 127.0.0.1.
     Daemon(u16),
 }
@@ -117,10 +138,20 @@ pub enum KeptBy<'a> {
 impl<'a> KeptBy<'a> {
     /// Whom the words name, if anyone.
     pub fn named(words: &'a ArgMatches) -> Option<KeptBy<'a>> {
-        match (words.get_one(PORT), words.get_str(JOURNAL)) {
-            (Some(port), _) => Some(KeptBy::Daemon(port)),
-            (None, Some(name)) => Some(KeptBy::Journal(name)),
-            (None, None) => None,
+        if let Some(port) = words.get_one(PORT) {
+            return Some(KeptBy::Daemon(port));
+        }
+        KeptBy::own(words)
+    }
+
+    /// The journal or the log that the words name, if they do.
+    pub fn own(words: &'a ArgMatches) -> Option<KeptBy<'a>> {
+        if let Some(address) = words.get_str(LOG) {
+            return Some(KeptBy::Log(address));
+        }
+        match words.get_str(JOURNAL) {
+            Some(name) => Some(KeptBy::Journal(name)),
+            None => None,
         }
     }
 
@@ -128,7 +159,7 @@ impl<'a> KeptBy<'a> {
     pub fn of(words: &'a ArgMatches) -> KeptBy<'a> {
         match KeptBy::named(words) {
             Some(kept_by) => kept_by,
-            // The journal is required where there is no port, so this isn't met.
+            // The journal is required where there is neither a port nor a log, so this isn't met.
             None => KeptBy::Journal(""),
         }
     }

@@ -1,7 +1,9 @@
 //! The words of `panad report`.
 
 use crate::item::{Item, Kind, Need, with_items};
-use crate::options::{KeptBy, PLACE, REPORTED_JOURNAL, REPORTED_PORT, value_of, values_of};
+use crate::options::{
+    KeptBy, PLACE, REPORTED_JOURNAL, REPORTED_PORT, SHARED_LOG, value_of, values_of,
+};
 use clap::{ArgMatches, Command};
 use std::alloc::{AllocError, Global};
 
@@ -61,8 +63,9 @@ pub struct ReportArguments<'a> {
 }
 
 /// The words and options of the command.
-const ITEMS: [Item; 7] = [
+const ITEMS: [Item; 8] = [
     REPORTED_JOURNAL,
+    SHARED_LOG,
     REPORTED_PORT,
     Item {
         name: BY,

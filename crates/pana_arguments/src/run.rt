@@ -1,7 +1,7 @@
 //! The words of `panad run`.
 
 use crate::item::{Item, with_items};
-use crate::options::{JOURNAL, OWN_JOURNAL};
+use crate::options::{KeptBy, OWN_JOURNAL, OWN_LOG};
 use clap::{ArgMatches, Command};
 use std::alloc::{AllocError, Global};
 
@@ -21,12 +21,12 @@ Example: a file on a laptop, its copy on a stick, an edit, and which is newest?
 /// What the words of `run` ask for.
 #[derive(Clone, Copy)]
 pub struct RunArguments<'a> {
-    /// The name of the journal's file, if there is to be one.
-    pub journal: Option<&'a str>,
+    /// The journal or the log, if there is to be one.
+    pub kept_by: Option<KeptBy<'a>>,
 }
 
 /// The words and options of the command.
-const ITEMS: [Item; 1] = [OWN_JOURNAL];
+const ITEMS: [Item; 2] = [OWN_JOURNAL, OWN_LOG];
 
 /// What the words of `run` may be.
 pub fn run_command<'a>(alloc: Global) -> Result<Command<'a>, AllocError> {
@@ -40,7 +40,7 @@ impl<'a> RunArguments<'a> {
     /// What these words ask for.
     pub fn of(words: &'a ArgMatches) -> RunArguments<'a> {
         RunArguments {
-            journal: words.get_str(JOURNAL),
+            kept_by: KeptBy::own(words),
         }
     }
 }

@@ -1,7 +1,7 @@
 //! The words of `panad show`.
 
 use crate::item::{Item, Kind, Need, with_items};
-use crate::options::{FILE, JOURNAL, KeptBy, PORT};
+use crate::options::{FILE, JOURNAL, KeptBy, LOG, PORT};
 use clap::{ArgMatches, Command};
 use std::alloc::{AllocError, Global};
 
@@ -50,7 +50,7 @@ pub enum ShowArguments<'a> {
 }
 
 /// The words and options of the command.
-const ITEMS: [Item; 5] = [
+const ITEMS: [Item; 6] = [
     Item {
         name: FILE,
         kind: Kind::Word,
@@ -64,9 +64,15 @@ const ITEMS: [Item; 5] = [
         help: "Print the tables of this journal's file, and take no lines",
     },
     Item {
+        name: LOG,
+        kind: Kind::Text("URL"),
+        need: Need::WithoutEither(FILE, JOURNAL),
+        help: "Print the tables of this journal in etcd, and take no lines",
+    },
+    Item {
         name: PORT,
         kind: Kind::Port,
-        need: Need::WithoutEither(FILE, JOURNAL),
+        need: Need::WithoutAny(FILE, JOURNAL, LOG),
         help: "Print the tables of the daemon on this port of 127.0.0.1, and take no lines",
     },
     Item {
@@ -107,7 +113,7 @@ impl<'a> ShowArguments<'a> {
         match (KeptBy::named(words), Wanted::of(words)) {
             (Some(kept_by), wanted) => Ok(ShowArguments::Kept(kept_by, wanted)),
             (None, Wanted::All) => Ok(ShowArguments::OfLines(words.get_str(FILE))),
-            (None, _) => Err("--family and --split need --journal or --port"),
+            (None, _) => Err("--family and --split need --journal, --log or --port"),
         }
     }
 }

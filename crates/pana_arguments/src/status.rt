@@ -2,7 +2,8 @@
 
 use crate::item::{Item, Kind, Need, with_items};
 use crate::options::{
-    AS_JSON, ASKED_PORT, JSON, KeptBy, NO_TABLE, PLACE, READ_JOURNAL, ShownAs, values_of,
+    AS_JSON, ASKED_PORT, JSON, KeptBy, NO_TABLE, PLACE, READ_JOURNAL, SHARED_LOG, ShownAs,
+    values_of,
 };
 use clap::{ArgMatches, Command};
 use std::alloc::{AllocError, Global};
@@ -39,8 +40,9 @@ pub struct StatusArguments<'a> {
 }
 
 /// The words and options of the command.
-const ITEMS: [Item; 6] = [
+const ITEMS: [Item; 7] = [
     READ_JOURNAL,
+    SHARED_LOG,
     ASKED_PORT,
     NO_TABLE,
     AS_JSON,

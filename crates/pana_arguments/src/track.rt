@@ -3,7 +3,7 @@
 use crate::item::{Item, Kind, Need, with_items};
 use crate::options::{
     AS_JSON, IGNORE, KeptBy, NO_TABLE, ONE_FILE_SYSTEM, REPORTED_JOURNAL, REPORTED_PORT, ROOT,
-    ROOTS_HELP, STAY, ShownAs, values_of,
+    ROOTS_HELP, SHARED_LOG, STAY, ShownAs, values_of,
 };
 use clap::{ArgMatches, Command};
 use std::alloc::{AllocError, Global};
@@ -53,8 +53,9 @@ pub struct TrackArguments<'a> {
 }
 
 /// The words and options of the command.
-const ITEMS: [Item; 10] = [
+const ITEMS: [Item; 11] = [
     REPORTED_JOURNAL,
+    SHARED_LOG,
     REPORTED_PORT,
     Item {
         name: SUMS,

@@ -1,7 +1,7 @@
 //! The words of `panad why`.
 
 use crate::item::{Item, Kind, Need, with_items};
-use crate::options::{ASKED_PORT, KeptBy, PLACE, PLACE_WORD, READ_JOURNAL, value_of};
+use crate::options::{ASKED_PORT, KeptBy, PLACE, PLACE_WORD, READ_JOURNAL, SHARED_LOG, value_of};
 use clap::{ArgMatches, Command};
 use std::alloc::{AllocError, Global};
 
@@ -34,7 +34,7 @@ pub struct WhyArguments<'a> {
 }
 
 /// The words and options of the command.
-const ITEMS: [Item; 4] = [
+const ITEMS: [Item; 5] = [
     PLACE_WORD,
     Item {
         name: OTHER,
@@ -43,6 +43,7 @@ const ITEMS: [Item; 4] = [
         help: "The place of the copy that it is compared with",
     },
     READ_JOURNAL,
+    SHARED_LOG,
     ASKED_PORT,
 ];
 

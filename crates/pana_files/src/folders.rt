@@ -65,7 +65,7 @@ fn name_of_sums(rt: &HostRuntime, wishes: ReadingWishes<'_>) -> Result<Option<St
     Ok(match (wishes.sums, wishes.keeper) {
         (Some(name), _) => Some(String::from_str(rt.alloc(), name)?),
         (None, Keeper::Journal(journal)) => Some(sums_name(rt, journal)?),
-        (None, Keeper::Daemon(_)) => None,
+        (None, Keeper::Log(_) | Keeper::Daemon(_)) => None,
     })
 }
 

@@ -3,6 +3,8 @@
 pub enum Keeper<'a> {
     /// The journal in the file with this name.
     Journal(&'a str),
+    /// The log at this address.
+    Log(&'a str),
     /// The daemon on this port of 127.0.0.1.
     Daemon(u16),
 }
@@ -12,6 +14,7 @@ impl Keeper<'_> {
     pub fn no_answer(self) -> &'static str {
         match self {
             Keeper::Journal(_) => "journal failed",
+            Keeper::Log(_) => "the log gives no answer",
             Keeper::Daemon(_) => "the daemon gives no answer",
         }
     }

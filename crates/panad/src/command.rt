@@ -1,6 +1,6 @@
 //! What the commands of the command line do.
 
-use crate::keeping::run_kept;
+use crate::keeping::{run_kept, run_shared};
 use crate::options::keeper_of;
 use crate::printing::{print_out, print_out_tables};
 use crate::show_command::show_tables;
@@ -10,7 +10,7 @@ use crate::{
     track_command, watch_command, why_command,
 };
 use pana_arguments::{
-    Arguments, CommandLine, CompareArguments, Explanation, LoadArguments, RunArguments,
+    Arguments, CommandLine, CompareArguments, Explanation, KeptBy, LoadArguments, RunArguments,
     ScanArguments, ShowArguments, Unread, refusal,
 };
 use pana_commands::{Printout, compare_on, load_on, run_on, scan_on, show_on};
@@ -34,8 +34,10 @@ use std::{fs, io};
 pub const READS: u64 = 4_294_967_296;
 
 fn run(rt: &HostRuntime, arguments: RunArguments<'_>) -> Result<ExitCode, ProgramFault> {
-    if let Some(name) = arguments.journal {
-        return run_kept(rt, name);
+    match arguments.kept_by {
+        Some(KeptBy::Journal(name)) => return run_kept(rt, name),
+        Some(KeptBy::Log(address)) => return run_shared(rt, address),
+        _ => {}
     }
     let mut reader = Tap::new(rt.reader());
     let mut writer = Tap::new(output(rt)?);

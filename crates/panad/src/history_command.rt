@@ -1,14 +1,14 @@
-//! `panad history`: all that was reported of a file as a graph, by a journal's file or a daemon.
+//! `panad history`: all that was reported of a file as a graph, by a journal or a daemon.
 
-use crate::asking::{asker, place_of, print_line, refuse_place, report_no_daemon};
+use crate::asking::{asker, place_of, print_line, refuse_place};
+use crate::inquiry::{Inquiry, ask_keeper};
 use crate::options::keeper_of;
 use crate::track::report;
 use pana_arguments::HistoryArguments;
 use pana_calls::Session;
 use pana_copies::Place;
-use pana_files::{Keeper, ProgramFault, connect, may_write_picture, print_text, write_picture};
+use pana_files::{Keeper, ProgramFault, may_write_picture, print_text, write_picture};
 use pana_history::{Form, History, Unexplained, history_on};
-use pana_store_file::{NoStore, open_hall};
 use std::process::ExitCode;
 
 /// Where the history goes.
@@ -56,42 +56,31 @@ fn present(
     }
 }
 
-/// Asks a session, and prints what it says of the place, or draws it.
-fn ask<S: Session>(
-    rt: &HostRuntime,
-    session: &mut S,
-    keeper: Keeper<'_>,
-    place: &Place,
-    target: Target<'_>,
-) -> Result<ExitCode, ProgramFault> {
-    match history_on(rt.alloc(), session, &asker()?, place, target.form()) {
-        Ok(history) => present(rt, history, target),
-        Err(Unexplained::NoAnswer) => report(rt, keeper.no_answer()),
-        Err(Unexplained::Damaged(fault)) => {
-            let text = format!(in rt.alloc(); "what came is no journal: {fault}")?;
-            report(rt, text.as_str())
-        }
-        Err(Unexplained::OutOfMemory) => Err(ProgramFault::OutOfMemory),
-    }
+/// A place, and where its history goes.
+#[derive(Drop)]
+struct Asked<'a> {
+    place: &'a Place,
+    target: Target<'a>,
 }
 
-/// Asks who keeps the reports.
-fn ask_keeper(
-    rt: &HostRuntime,
-    keeper: Keeper<'_>,
-    place: &Place,
-    target: Target<'_>,
-) -> Result<ExitCode, ProgramFault> {
-    match keeper {
-        Keeper::Journal(name) => match open_hall(rt, name) {
-            Ok(mut hall) => ask(rt, &mut hall, keeper, place, target),
-            Err(NoStore::Because(text)) => report(rt, text.as_str()),
-            Err(NoStore::Fault(fault)) => Err(fault),
-        },
-        Keeper::Daemon(port) => match connect(rt, port) {
-            Ok(mut client) => ask(rt, &mut client, keeper, place, target),
-            Err(_) => report_no_daemon(rt, port),
-        },
+impl Inquiry for Asked<'_> {
+    /// Asks, and prints what is said of the place, or draws it.
+    fn make<S: Session>(
+        self,
+        rt: &HostRuntime,
+        session: &mut S,
+        keeper: Keeper<'_>,
+    ) -> Result<ExitCode, ProgramFault> {
+        let form = self.target.form();
+        match history_on(rt.alloc(), session, &asker()?, self.place, form) {
+            Ok(history) => present(rt, history, self.target),
+            Err(Unexplained::NoAnswer) => report(rt, keeper.no_answer()),
+            Err(Unexplained::Damaged(fault)) => {
+                let text = format!(in rt.alloc(); "what came is no journal: {fault}")?;
+                report(rt, text.as_str())
+            }
+            Err(Unexplained::OutOfMemory) => Err(ProgramFault::OutOfMemory),
+        }
     }
 }
 
@@ -108,5 +97,9 @@ pub fn run(rt: &HostRuntime, arguments: HistoryArguments<'_>) -> Result<ExitCode
         Some(name) => Target::Picture(name),
         None => Target::Output,
     };
-    ask_keeper(rt, keeper_of(arguments.kept_by), &place, target)
+    let asked = Asked {
+        place: &place,
+        target,
+    };
+    ask_keeper(rt, keeper_of(arguments.kept_by), asked)
 }

@@ -1,4 +1,4 @@
-//! Standard input, served on a journal that is kept in a file.
+//! Standard input, served on a journal that is kept in a file or in a log that others append to.
 
 use crate::command::READS;
 use crate::printing::print_out;
@@ -6,8 +6,8 @@ use pana_commands::Printout;
 use pana_files::{ProgramFault, output};
 use pana_log::FileDevice;
 use pana_store::{Store, serve_kept};
-use pana_store_file::{NoStore, open_store};
-use pana_wire::{ServeFault, Tap};
+use pana_store_file::{EtcdStore, NoStore, open_shared, open_store};
+use pana_wire::{ServeFault, Tap, serve_groups};
 use std::process::ExitCode;
 
 /// Prints why there is no store, and returns the status.
@@ -36,6 +36,37 @@ fn serve_input(rt: &HostRuntime, mut store: Store<FileDevice>) -> Result<ExitCod
 pub fn run_kept(rt: &HostRuntime, name: &str) -> Result<ExitCode, ProgramFault> {
     match open_store(rt, name) {
         Ok(store) => serve_input(rt, store),
+        Err(refusal) => report(rt, refusal),
+    }
+}
+
+/// Prints why a log has given no answer, and returns the status.
+fn report_log(rt: &HostRuntime, store: &EtcdStore) -> Result<ExitCode, ProgramFault> {
+    let alloc = rt.alloc();
+    let printout = match store.foreign() {
+        Some(number) => {
+            let text = format!(in alloc; "log: what stands at {number} is no entry")?;
+            Printout::reported(alloc, &text)?
+        }
+        None => Printout::reported(alloc, &"the log gives no answer")?,
+    };
+    print_out(rt, &printout)
+}
+
+fn serve_input_shared(rt: &HostRuntime, mut store: EtcdStore) -> Result<ExitCode, ProgramFault> {
+    let mut reader = Tap::new(rt.reader());
+    let mut writer = Tap::new(output(rt)?);
+    match serve_groups(rt.alloc(), &mut reader, &mut writer, &mut store, READS) {
+        Ok(_) => Ok(ExitCode::SUCCESS),
+        Err(ServeFault::NoAnswer) => report_log(rt, &store),
+        Err(fault) => Err(ProgramFault::of_serving(fault)),
+    }
+}
+
+/// Serves standard input as `run` does, on the store of a log in etcd, into which each entry is put before its `Done` is printed.
+pub fn run_shared(rt: &HostRuntime, address: &str) -> Result<ExitCode, ProgramFault> {
+    match open_shared(rt, address) {
+        Ok(store) => serve_input_shared(rt, store),
         Err(refusal) => report(rt, refusal),
     }
 }

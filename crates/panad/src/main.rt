@@ -5,6 +5,7 @@ mod asking;
 mod command;
 mod daemon;
 mod history_command;
+mod inquiry;
 mod keeping;
 mod options;
 mod overwrite_command;

@@ -8,6 +8,7 @@ use pana_files::{Keeper, ProgramFault, terminal_width};
 pub fn keeper_of<'a>(kept_by: KeptBy<'a>) -> Keeper<'a> {
     match kept_by {
         KeptBy::Journal(name) => Keeper::Journal(name),
+        KeptBy::Log(address) => Keeper::Log(address),
         KeptBy::Daemon(port) => Keeper::Daemon(port),
     }
 }

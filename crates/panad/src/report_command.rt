@@ -1,15 +1,14 @@
 //! `panad report`: one report, to the store of a journal or a daemon.
 
-use crate::asking::{print_fault, print_line, report_no_daemon};
+use crate::asking::{print_fault, print_line};
 use crate::command::refuse;
+use crate::inquiry::{Inquiry, report_to_keeper};
 use crate::options::keeper_of;
-use crate::track::report;
 use pana_arguments::ReportArguments;
 use pana_ask::{PlacedReport, ReportWord, Words, WordsFault, read_report, report_on};
 use pana_calls::Session;
 use pana_copies::DeviceName;
-use pana_files::{Keeper, ProgramFault, connect};
-use pana_store_file::{NoStore, open_store};
+use pana_files::{Keeper, ProgramFault};
 use std::alloc::{AllocError, Global};
 use std::process::ExitCode;
 
@@ -48,37 +47,26 @@ fn refuse_words(rt: &HostRuntime, fault: WordsFault<'_>) -> Result<ExitCode, Pro
     }
 }
 
-/// Reports to a session, and prints what comes of it.
-fn make<S: Session>(
-    rt: &HostRuntime,
-    session: &mut S,
-    keeper: Keeper<'_>,
-    by: &DeviceName,
+/// A report, and the device in whose name it is made.
+#[derive(Drop)]
+struct Made {
+    by: DeviceName,
     what: PlacedReport,
-) -> Result<ExitCode, ProgramFault> {
-    match report_on(session, by, what) {
-        Ok(end) => print_line(rt, end.line(rt.alloc())?, end.status()),
-        Err(fault) => print_fault(rt, keeper, fault),
-    }
 }
 
-/// Reports to who keeps the reports.
-fn make_at(
-    rt: &HostRuntime,
-    keeper: Keeper<'_>,
-    by: &DeviceName,
-    what: PlacedReport,
-) -> Result<ExitCode, ProgramFault> {
-    match keeper {
-        Keeper::Journal(name) => match open_store(rt, name) {
-            Ok(mut store) => make(rt, &mut store, keeper, by, what),
-            Err(NoStore::Because(text)) => report(rt, text.as_str()),
-            Err(NoStore::Fault(fault)) => Err(fault),
-        },
-        Keeper::Daemon(port) => match connect(rt, port) {
-            Ok(mut client) => make(rt, &mut client, keeper, by, what),
-            Err(_) => report_no_daemon(rt, port),
-        },
+impl Inquiry for Made {
+    /// Reports, and prints what comes of it.
+    fn make<S: Session>(
+        self,
+        rt: &HostRuntime,
+        session: &mut S,
+        keeper: Keeper<'_>,
+    ) -> Result<ExitCode, ProgramFault> {
+        let Made { by, what } = self;
+        match report_on(session, &by, what) {
+            Ok(end) => print_line(rt, end.line(rt.alloc())?, end.status()),
+            Err(fault) => print_fault(rt, keeper, fault),
+        }
     }
 }
 
@@ -104,7 +92,7 @@ pub fn run(rt: &HostRuntime, arguments: ReportArguments<'_>) -> Result<ExitCode,
         None => what.device(),
     };
     match by {
-        Some(by) => make_at(rt, keeper_of(arguments.kept_by), &by, what),
+        Some(by) => report_to_keeper(rt, keeper_of(arguments.kept_by), Made { by, what }),
         None => refuse(rt, "--by has to name the device that reports"),
     }
 }

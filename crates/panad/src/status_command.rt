@@ -1,15 +1,15 @@
-//! `panad status`: what is obsolete or in conflict, by a journal's file or a daemon.
+//! `panad status`: what is obsolete or in conflict, by a journal or a daemon.
 
-use crate::asking::{refuse_place, report_no_daemon};
+use crate::asking::{asker, refuse_place};
+use crate::inquiry::{Inquiry, ask_keeper};
 use crate::options::{form_of, keeper_of};
 use crate::printing::print_out_tables;
-use crate::track::{ASKER, report};
+use crate::track::report;
 use pana_arguments::StatusArguments;
 use pana_calls::Session;
 use pana_commands::{Untracked, status_on};
 use pana_copies::DeviceName;
-use pana_files::{Keeper, ProgramFault, Tables, connect};
-use pana_store_file::{NoStore, open_hall};
+use pana_files::{Keeper, ProgramFault, Tables};
 use std::process::ExitCode;
 
 /// Whether the word begins with a device and a colon.
@@ -30,47 +30,34 @@ fn first_bad<'a>(words: &[&'a str]) -> Option<&'a str> {
     None
 }
 
-/// Asks a session, and prints what is obsolete or in conflict.
-fn show_status<S: Session>(
-    rt: &HostRuntime,
-    session: &mut S,
-    keeper: Keeper<'_>,
-    arguments: StatusArguments<'_>,
-) -> Result<ExitCode, ProgramFault> {
-    let Ok(asker) = DeviceName::new(ASKER) else {
-        return Err(ProgramFault::OutOfMemory);
-    };
-    let form = form_of(rt, arguments.shown_as)?;
-    match status_on(
-        rt.alloc(),
-        session,
-        &asker,
-        arguments.places,
-        arguments.lists_all,
-        form,
-    ) {
-        Ok(printout) => print_out_tables(rt, Tables::Status, &printout),
-        Err(Untracked::NoAnswer) => report(rt, keeper.no_answer()),
-        Err(Untracked::OutOfMemory) => Err(ProgramFault::OutOfMemory),
-    }
+/// What the words ask for.
+#[derive(Drop)]
+struct Asked<'a> {
+    arguments: StatusArguments<'a>,
 }
 
-/// Asks who keeps the reports.
-fn ask_keeper(
-    rt: &HostRuntime,
-    keeper: Keeper<'_>,
-    arguments: StatusArguments<'_>,
-) -> Result<ExitCode, ProgramFault> {
-    match keeper {
-        Keeper::Journal(name) => match open_hall(rt, name) {
-            Ok(mut hall) => show_status(rt, &mut hall, keeper, arguments),
-            Err(NoStore::Because(text)) => report(rt, text.as_str()),
-            Err(NoStore::Fault(fault)) => Err(fault),
-        },
-        Keeper::Daemon(port) => match connect(rt, port) {
-            Ok(mut client) => show_status(rt, &mut client, keeper, arguments),
-            Err(_) => report_no_daemon(rt, port),
-        },
+impl Inquiry for Asked<'_> {
+    /// Asks, and prints what is obsolete or in conflict.
+    fn make<S: Session>(
+        self,
+        rt: &HostRuntime,
+        session: &mut S,
+        keeper: Keeper<'_>,
+    ) -> Result<ExitCode, ProgramFault> {
+        let arguments = self.arguments;
+        let form = form_of(rt, arguments.shown_as)?;
+        match status_on(
+            rt.alloc(),
+            session,
+            &asker()?,
+            arguments.places,
+            arguments.lists_all,
+            form,
+        ) {
+            Ok(printout) => print_out_tables(rt, Tables::Status, &printout),
+            Err(Untracked::NoAnswer) => report(rt, keeper.no_answer()),
+            Err(Untracked::OutOfMemory) => Err(ProgramFault::OutOfMemory),
+        }
     }
 }
 
@@ -78,6 +65,6 @@ fn ask_keeper(
 pub fn run(rt: &HostRuntime, arguments: StatusArguments<'_>) -> Result<ExitCode, ProgramFault> {
     match first_bad(arguments.places) {
         Some(word) => refuse_place(rt, word),
-        None => ask_keeper(rt, keeper_of(arguments.kept_by), arguments),
+        None => ask_keeper(rt, keeper_of(arguments.kept_by), Asked { arguments }),
     }
 }

@@ -1,16 +1,15 @@
 //! `panad track`: folders are read, what was noticed is reported to the store of a journal, and what is obsolete or in conflict
 //! is printed.
 
+use crate::asking::{asker, report_no_daemon};
 use crate::printing::print_out_tables;
 use pana_calls::Session;
 use pana_commands::{StatusForm, Untracked, track_on};
-use pana_copies::DeviceName;
 use pana_daemon::Root;
 use pana_files::{
     Keeper, ProgramFault, ReadingWishes, Tables, complain, connect, may_keep_sums, read_folders,
 };
-use pana_store_file::{NoStore, open_store};
-use pana_track::ReadFolder;
+use pana_store_file::{NoStore, open_shared, open_store};
 use std::alloc::AllocError;
 use std::marker::Sync;
 use std::process::ExitCode;
@@ -37,22 +36,20 @@ pub fn report(rt: &HostRuntime, text: &str) -> Result<ExitCode, ProgramFault> {
     Ok(ExitCode::from(FAULT))
 }
 
-/// Reports what was noticed in folders that were read to a session, and prints what is obsolete or in conflict.
-fn track_by<S: Session>(
+/// Reads the folders, reports what was noticed in them to a session, and prints what is obsolete or in conflict.
+fn track_by<T: Threads + Sync, S: Session>(
     rt: &HostRuntime,
+    threads: &T,
     session: &mut S,
-    folders: &[ReadFolder],
+    roots: &[Root<'_>],
     wishes: TrackWishes<'_>,
 ) -> Result<ExitCode, ProgramFault> {
-    let alloc = rt.alloc();
-    let Ok(asker) = DeviceName::new(ASKER) else {
-        return Err(ProgramFault::OutOfMemory);
-    };
+    let folders = read_folders(rt, threads, roots, wishes.reading)?;
     match track_on(
-        alloc,
+        rt.alloc(),
         session,
-        &asker,
-        folders,
+        &asker()?,
+        folders.as_slice(),
         wishes.may_be_empty,
         wishes.form,
     ) {
@@ -62,38 +59,12 @@ fn track_by<S: Session>(
     }
 }
 
-/// Reads the folders, and reports to the store of the journal with this name.
-fn track_to_journal<T: Threads + Sync>(
-    rt: &HostRuntime,
-    threads: &T,
-    name: &str,
-    roots: &[Root<'_>],
-    wishes: TrackWishes<'_>,
-) -> Result<ExitCode, ProgramFault> {
-    let mut store = match open_store(rt, name) {
-        Ok(store) => store,
-        Err(NoStore::Because(text)) => return report(rt, text.as_str()),
-        Err(NoStore::Fault(fault)) => return Err(fault),
-    };
-    let folders = read_folders(rt, threads, roots, wishes.reading)?;
-    track_by(rt, &mut store, folders.as_slice(), wishes)
-}
-
-/// Reads the folders, and reports to the daemon on this port. The session begins before they are read, so a daemon that isn't
-/// there is reported at once.
-fn track_to_daemon<T: Threads + Sync>(
-    rt: &HostRuntime,
-    threads: &T,
-    port: u16,
-    roots: &[Root<'_>],
-    wishes: TrackWishes<'_>,
-) -> Result<ExitCode, ProgramFault> {
-    let Ok(mut client) = connect(rt, port) else {
-        let refusal = format!(in rt.alloc(); "cannot connect to port {port}")?;
-        return report(rt, refusal.as_str());
-    };
-    let folders = read_folders(rt, threads, roots, wishes.reading)?;
-    track_by(rt, &mut client, folders.as_slice(), wishes)
+/// Prints why there is no store, and returns the status.
+fn report_refusal(rt: &HostRuntime, refusal: NoStore) -> Result<ExitCode, ProgramFault> {
+    match refusal {
+        NoStore::Because(text) => report(rt, text.as_str()),
+        NoStore::Fault(fault) => Err(fault),
+    }
 }
 
 /// What is printed where the file that was named for sums is another one, which would be lost. That beside the journal is the
@@ -107,7 +78,8 @@ fn fault_of_sums(rt: &HostRuntime, wishes: TrackWishes<'_>) -> Result<Option<Str
     }
 }
 
-/// Reads the folders, reports what was noticed in them to whoever keeps the reports, and prints what is obsolete or in conflict.
+/// Reads the folders, reports what was noticed in them to whoever keeps the reports, and prints what is obsolete or in conflict. The
+/// session begins before they are read, so one that can't be had is reported at once.
 pub fn track<T: Threads + Sync>(
     rt: &HostRuntime,
     threads: &T,
@@ -118,7 +90,17 @@ pub fn track<T: Threads + Sync>(
         return report(rt, text.as_str());
     }
     match wishes.reading.keeper {
-        Keeper::Journal(name) => track_to_journal(rt, threads, name, roots, wishes),
-        Keeper::Daemon(port) => track_to_daemon(rt, threads, port, roots, wishes),
+        Keeper::Journal(name) => match open_store(rt, name) {
+            Ok(mut store) => track_by(rt, threads, &mut store, roots, wishes),
+            Err(refusal) => report_refusal(rt, refusal),
+        },
+        Keeper::Log(address) => match open_shared(rt, address) {
+            Ok(mut store) => track_by(rt, threads, &mut store, roots, wishes),
+            Err(refusal) => report_refusal(rt, refusal),
+        },
+        Keeper::Daemon(port) => match connect(rt, port) {
+            Ok(mut client) => track_by(rt, threads, &mut client, roots, wishes),
+            Err(_) => report_no_daemon(rt, port),
+        },
     }
 }

@@ -1,0 +1,11 @@
+use Rattle.std.proofs.Common.{◌∙◌, map}
+use Rattle.std.proofs.lemmas.Result.{IfOk-weaker}
+use Rattle.pana_etcd.proofs.Requests.{append_pieces}
+use Rattle.pana_etcd.proofs.request.append_text.Goals as goal
+
+pub returns : goal.returns
+returns c = IfOk-weaker c.format.result _ _
+    (λ text is. is ∙ append_pieces c.args.name.now c.args.number (map (λ value. value.items) c.args.values.now) c.as_str-key.result.now c.as_str-puts.result.now
+    (c.as_str-key.ensures.value ∙ c.in_ok-key.ensures)
+    (c.as_str-puts.ensures.value ∙ c.in_ok-puts.ensures))
+    c.format.ensures.ok

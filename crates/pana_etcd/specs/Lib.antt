@@ -1,0 +1,9 @@
+pub mod Says
+pub mod Value
+pub mod Key
+pub mod Request
+pub mod Answer
+pub mod Member
+pub mod Address
+pub mod Log
+pub mod Exchange

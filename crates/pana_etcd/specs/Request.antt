@@ -1,0 +1,29 @@
+-- The bodies of requests, in JSON.
+use Rattle.std.specs.Prelude.{◌≡◌, ℕ, ◌+◌, List, [], ◌∷◌, ◌++◌, codes}
+use Rattle.pana_etcd.specs.Key.{end_of, in_base64, key_of}
+
+-- what puts a value under the key of a number
+unfoldable pub put_text : List ℕ → ℕ → List ℕ → List ℕ
+put_text name number value =
+    codes "{\"requestPut\":{\"key\":\"" ++ (in_base64 (key_of name number) ++ (codes "\",\"value\":\"" ++ (in_base64 value ++ codes "\"}}")))
+
+-- what puts the values that come behind others, from this number on
+abbrev pub later_puts : List ℕ → ℕ → List (List ℕ) → List ℕ
+later_puts name number [] = []
+later_puts name number (value ∷ values) = codes "," ++ (put_text name number value ++ later_puts name (number + 1) values)
+
+-- what puts values from this number on
+abbrev pub puts_text : List ℕ → ℕ → List (List ℕ) → List ℕ
+puts_text name number [] = []
+puts_text name number (value ∷ values) = put_text name number value ++ later_puts name (number + 1) values
+
+-- the body of a transaction: if the first key was never made, put all of the values, and else return what stands there
+unfoldable pub append_text : List ℕ → ℕ → List (List ℕ) → List ℕ
+append_text name number values = let key = in_base64 (key_of name number) in
+    codes "{\"compare\":[{\"key\":\"" ++ (key ++ (codes "\",\"target\":\"CREATE\",\"result\":\"EQUAL\",\"createRevision\":\"0\"}],\"success\":["
+    ++ (puts_text name number values ++ (codes "],\"failure\":[{\"requestRange\":{\"key\":\"" ++ (key ++ codes "\"}}]}")))))
+
+-- the body of a question for the keys from a number on, 1,000 at most, in order
+unfoldable pub range_text : List ℕ → ℕ → List ℕ
+range_text name number =
+    codes "{\"key\":\"" ++ (in_base64 (key_of name number) ++ (codes "\",\"range_end\":\"" ++ (in_base64 (end_of name) ++ codes "\",\"limit\":\"1000\"}")))

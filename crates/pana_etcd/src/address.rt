@@ -1,0 +1,171 @@
+//! Addresses of logs.
+ghost use Rattle.std.specs.Prelude.{◌≡◌, ◌++◌, IfOk, IsTrue, OnOk, string_bytes};
+ghost use Rattle.std.specs.List.{list_all};
+ghost use Rattle.pana_etcd.specs.Address.{IsAddress, address_text, are_hosts, have_names, is_name, is_plain, later_members, members_text};
+
+use crate::address_fault::AddressFault;
+use crate::member::{Member, member_text};
+use std::alloc::{AllocError, Global};
+
+/// How an address begins.
+const SCHEME: &str = "etcd://";
+
+/// How many members a cluster has at most.
+const MOST_MEMBERS: usize = 9;
+
+/// How long a name of a log, or of a host, is at most.
+const LONGEST_NAME: usize = 100;
+
+/// Where a log is kept: the members of a cluster, and the log's name there.
+#[derive(Debug, PartialEq, Eq, Drop)]
+pub struct EtcdAddress {
+    pub members: Vec<Member>,
+    pub name: String,
+}
+
+impl EtcdAddress {
+    /// The address that is written as `etcd://HOST:PORT[,HOST:PORT..]/NAME`: one to nine members, each a host's name or IPv4
+    /// address and a port, and the log's name. Names are of 1 to 100 letters, digits, `-`, `_` and `.`. It takes memory for the
+    /// address, and for its text, by which it is checked.
+    ///
+    /// # Errors
+    ///
+    /// `BadMember` also where the port has a zero before its digits.
+    pub fn parse(alloc: Global, text: &str) -> Result<EtcdAddress, AddressFault>
+        ensures { IfOk result (λ address. IsAddress address text.now) }
+    {
+        let address = address_in(alloc, text)?;
+        if !has_names(&address) {
+            return Err(AddressFault::BadName);
+        }
+        match address_text(alloc, &address) {
+            Ok(written) if written.as_str() == text => Ok(address),
+            Ok(_) => Err(AddressFault::BadMember { number: 1 }),
+            Err(_) => Err(AddressFault::OutOfMemory),
+        }
+    }
+}
+
+/// What the text may be the address of; `parse` finds what it says beside.
+fn address_in(alloc: Global, text: &str) -> Result<EtcdAddress, AddressFault> {
+    let Some(rest) = text.strip_prefix(SCHEME) else {
+        return Err(AddressFault::NotEtcd);
+    };
+    let Some((list, name)) = rest.split_once('/') else {
+        return Err(AddressFault::BadName);
+    };
+    let members = members_in(alloc, list)?;
+    Ok(EtcdAddress {
+        members,
+        name: owned(alloc, name)?,
+    })
+}
+
+fn members_in(alloc: Global, list: &str) -> Result<Vec<Member>, AddressFault> {
+    let mut members = Vec::new(alloc);
+    for word in list.split(',') {
+        if members.len() >= MOST_MEMBERS {
+            return Err(AddressFault::TooManyMembers);
+        }
+        let number = members.len() as u64 + 1;
+        let member = member_in(alloc, word, number)?;
+        if members.push(member).is_err() {
+            return Err(AddressFault::OutOfMemory);
+        }
+    }
+    Ok(members)
+}
+
+fn member_in(alloc: Global, word: &str, number: u64) -> Result<Member, AddressFault> {
+    let Some((host, port)) = word.split_once(':') else {
+        return Err(AddressFault::BadMember { number });
+    };
+    let Ok(value) = port.parse::<u16>() else {
+        return Err(AddressFault::BadMember { number });
+    };
+    if !is_name(host) || port.starts_with('0') || port.starts_with('+') {
+        return Err(AddressFault::BadMember { number });
+    }
+    Ok(Member {
+        host: owned(alloc, host)?,
+        port: value,
+    })
+}
+
+fn owned(alloc: Global, text: &str) -> Result<String, AddressFault> {
+    match String::from_str(alloc, text) {
+        Ok(text) => Ok(text),
+        Err(_) => Err(AddressFault::OutOfMemory),
+    }
+}
+
+/// Whether the log has a name, and each member a host.
+fn has_names(address: &EtcdAddress) -> bool
+    ensures { IsTrue result → IsTrue (is_name (string_bytes address.now.name)) × IsTrue (are_hosts address.now.members.items) }
+{
+    is_name(address.name.as_str()) && are_hosts(address.members.as_slice())
+}
+
+fn are_hosts(members: &[Member]) -> bool
+    ensures { result ≡ are_hosts members.now }
+{
+    !members.is_empty() && members.len() <= MOST_MEMBERS && have_names(members)
+}
+
+fn have_names(members: &[Member]) -> bool
+    ensures { result ≡ have_names members.now }
+{
+    members.iter().all(|member| is_name(member.host.as_str()))
+}
+
+fn is_name(text: &str) -> bool
+    ensures { result ≡ is_name text.now }
+{
+    !text.is_empty() && text.len() <= LONGEST_NAME && is_plain(text.as_bytes())
+}
+
+fn is_plain(text: &[u8]) -> bool
+    ensures { result ≡ list_all is_plain text.now }
+{
+    text.iter().all(|byte| is_plain_byte(*byte))
+}
+
+fn is_plain_byte(byte: u8) -> bool
+    ensures { result ≡ is_plain byte }
+{
+    matches!(byte, b'a'..=b'z' | b'A'..=b'Z' | b'0'..=b'9' | b'-' | b'_' | b'.')
+}
+
+/// The text of an address. Fails only where memory runs out.
+fn address_text(alloc: Global, address: &EtcdAddress) -> Result<String, AllocError>
+    ensures { IfOk result (λ text. string_bytes text ≡ address_text address.now) }
+{
+    let members = members_text(alloc, address.members.as_slice())?;
+    let members = members.as_str();
+    let name = address.name.as_str();
+    format!(in alloc; "etcd://{members}/{name}")
+}
+
+fn members_text(alloc: Global, members: &[Member]) -> Result<String, AllocError>
+    ensures { IfOk result (λ text. string_bytes text ≡ members_text members.now) }
+{
+    let [first, later @ ..] = members else {
+        return Ok(String::new(alloc));
+    };
+    let mut text = member_text(alloc, first)?;
+    push_members(alloc, &mut text, later)?;
+    Ok(text)
+}
+
+/// Adds members that stand behind others.
+fn push_members(alloc: Global, text: &mut String, members: &[Member]) -> Result<(), AllocError>
+    ensures { OnOk result (string_bytes text.new ≡ string_bytes text.old ++ later_members members.now) }
+{
+    let [member, later @ ..] = members else {
+        return Ok(());
+    };
+    let written = member_text(alloc, member)?;
+    text.push(',')?;
+    text.push_str(written.as_str())?;
+    push_members(alloc, text, later)
+}

@@ -1,0 +1,35 @@
+use std::error::Error;
+use std::fmt;
+
+/// Why a text is no address of a log in etcd.
+#[derive(Clone, Copy, Debug, PartialEq, Eq)]
+pub enum AddressFault {
+    /// It doesn't begin with `etcd://`.
+    NotEtcd,
+    /// It has no name of a log behind its members, or one that isn't 1 to 100 letters, digits, `-`, `_` and `.`.
+    BadName,
+    /// It has more than nine members.
+    TooManyMembers,
+    /// The member with this number, from 1, isn't a host, `:` and a port.
+    BadMember { number: u64 },
+    /// Memory ran out.
+    OutOfMemory,
+}
+
+impl fmt::Display for AddressFault {
+    fn fmt<W: fmt::Write>(&self, f: &mut fmt::Formatter<W>) -> fmt::Result {
+        match self {
+            AddressFault::NotEtcd => f.write_str("no address: etcd://HOST:PORT[,HOST:PORT..]/NAME"),
+            AddressFault::BadName => f.write_str(
+                "no name of a log: 1 to 100 letters, digits, '-', '_' and '.' behind the last '/'",
+            ),
+            AddressFault::TooManyMembers => f.write_str("more than nine members"),
+            AddressFault::BadMember { number } => {
+                write!(f, "member {number} isn't a host, ':' and a port")
+            }
+            AddressFault::OutOfMemory => f.write_str("out of memory"),
+        }
+    }
+}
+
+impl Error for AddressFault {}

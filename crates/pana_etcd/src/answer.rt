@@ -1,0 +1,190 @@
+//! What the bodies of answers say.
+ghost use Rattle.std.specs.Prelude.{◌≡◌, ◌<◌, ◌+◌, ◌^◌, IfOk, IfSome, Option, length, map, option_map, option_copied};
+ghost use Rattle.serde_json.specs.View.{view};
+ghost use Rattle.pana_etcd.specs.Answer.{FindsPage, FindsRecords, answer_said, bytes_in, flag_of, has_flag, has_header, has_list, has_none, is_answer, list_of, outcome_in, page_in, record_at, records_from, says_full};
+ghost use Rattle.pana_etcd.specs.Says.{Gives, Shows};
+
+use crate::key::key_text;
+use crate::text_fault::TextFault;
+use crate::value::{decode_value, text_in, value_said};
+use base64::DecodeAllocError;
+use base64::engine::general_purpose::STANDARD;
+use pana_shared::{ReadFault, Record};
+use serde_json::Value;
+use std::alloc::Global;
+
+/// What a refusal says where etcd has no room for more.
+const NO_SPACE: &str = "etcdserver: mvcc: database space exceeded";
+
+/// The answer that a body is.
+///
+/// # Errors
+///
+/// `Other` where the body is no answer: no object in JSON with a header, or one whose flag or list is something else;
+/// `OutOfMemory`.
+#[tactic(auto, unfolding(crate::specs::Answer::answer_said))]
+pub(crate) fn read_answer(alloc: Global, body: &[u8]) -> Result<Value, TextFault>
+    ensures { Shows view result (answer_said body.now) }
+{
+    let answer = value_said(alloc, body)?;
+    if is_answer(&answer) {
+        Ok(answer)
+    } else {
+        Err(TextFault::Other)
+    }
+}
+
+fn is_answer(value: &Value) -> bool
+    ensures { result ≡ is_answer (view value.now) }
+{
+    has_header(value) && has_flag(value) && has_list(value)
+}
+
+fn has_flag(value: &Value) -> bool
+    ensures { result ≡ has_flag (view value.now) }
+{
+    flag_of(value.get("succeeded")).is_some()
+}
+
+fn has_list(value: &Value) -> bool
+    ensures { result ≡ has_list (view value.now) }
+{
+    list_of(value.get("kvs")).is_some()
+}
+
+fn has_header(answer: &Value) -> bool
+    ensures { result ≡ has_header (view answer.now) }
+{
+    answer.get("header").and_then(Value::as_object).is_some()
+}
+
+/// Whether a refusal says that etcd has no room for more.
+pub(crate) fn says_full(refusal: &Value) -> bool
+    ensures { result ≡ says_full (view refusal.now) }
+{
+    match text_in(refusal, "message") {
+        Some(message) => message == NO_SPACE,
+        None => false,
+    }
+}
+
+/// Whether an answer has no key.
+pub(crate) fn has_none(answer: &Value) -> bool
+    ensures { result ≡ has_none (view answer.now) }
+{
+    match list_of(answer.get("kvs")) {
+        Some(kvs) => kvs.is_empty(),
+        None => false,
+    }
+}
+
+/// Whether a transaction did what it was to do, if its answer says so or says nothing of it.
+pub(crate) fn read_outcome(answer: &Value) -> Option<bool>
+    ensures { result ≡ outcome_in (view answer.now) }
+{
+    flag_of(answer.get("succeeded"))
+}
+
+fn flag_of(member: Option<&Value>) -> Option<bool>
+    ensures { result ≡ flag_of (option_map (λ value. view value.now) member.entry) }
+{
+    match member {
+        Some(value) => value.as_bool(),
+        None => Some(false),
+    }
+}
+
+/// The records that an answer has, of keys from this number on.
+///
+/// # Errors
+///
+/// `NoAnswer` where its keys are no list; `Foreign` with the first number under whose key no record with this number stands;
+/// `OutOfMemory`.
+pub(crate) fn read_page(
+    alloc: Global,
+    name: &str,
+    number: u64,
+    answer: &Value,
+) -> Result<Vec<Record>, ReadFault>
+    requires { number < 2 ^ 62 }
+    ensures { FindsPage (λ records. records.items) result (page_in name.now number (view answer.now)) }
+{
+    let Some(kvs) = list_of(answer.get("kvs")) else {
+        return Err(ReadFault::NoAnswer);
+    };
+    records_from(alloc, name, number, kvs)
+}
+
+fn list_of(member: Option<&Value>) -> Option<&[Value]>
+    ensures { option_map (λ list. map view list.now) result ≡ list_of (option_map (λ value. view value.now) member.entry) }
+{
+    match member {
+        Some(value) => match value.as_array() {
+            Some(list) => Some(list.as_slice()),
+            None => None,
+        },
+        None => {
+            let none: &[Value] = &[];
+            Some(none)
+        }
+    }
+}
+
+fn records_from(
+    alloc: Global,
+    name: &str,
+    number: u64,
+    kvs: &[Value],
+) -> Result<Vec<Record>, ReadFault>
+    requires { number < 2 ^ 62 }
+    ensures { FindsRecords (λ records. records.items) result (records_from name.now number (map view kvs.now)) }
+{
+    let mut records = Vec::new(alloc);
+    for (index, kv) in kvs.iter().enumerate() {
+        let number = number + index as u64;
+        match record_at(alloc, name, number, kv) {
+            Ok(record) => {
+                if records.push(record).is_err() {
+                    return Err(ReadFault::OutOfMemory);
+                }
+            }
+            Err(TextFault::Other) => return Err(ReadFault::Foreign { number }),
+            Err(TextFault::OutOfMemory) => return Err(ReadFault::OutOfMemory),
+        }
+    }
+    Ok(records)
+}
+
+/// The record under the key of a number.
+#[tactic(auto, unfolding(crate::specs::Answer::record_at))]
+fn record_at(alloc: Global, name: &str, number: u64, kv: &Value) -> Result<Record, TextFault>
+    ensures { Gives result (record_at name.now number (view kv.now)) }
+{
+    let Some(key) = text_in(kv, "key") else {
+        return Err(TextFault::Other);
+    };
+    let value = bytes_in(alloc, kv, "value")?;
+    let record = decode_value(alloc, value.as_slice())?;
+    let Ok(wanted) = key_text(alloc, name, number) else {
+        return Err(TextFault::OutOfMemory);
+    };
+    if key == wanted.as_str() && record.entry.number == number {
+        Ok(record)
+    } else {
+        Err(TextFault::Other)
+    }
+}
+
+/// The bytes that a member has in base64.
+fn bytes_in(alloc: Global, kv: &Value, name: &str) -> Result<Vec<u8>, TextFault>
+    ensures { Shows (λ bytes. bytes.items) result (bytes_in name.now (view kv.now)) }
+{
+    let Some(text) = text_in(kv, name) else {
+        return Err(TextFault::Other);
+    };
+    match STANDARD.decode(alloc, text.as_bytes()) {
+        Ok(bytes) => Ok(bytes),
+        Err(DecodeAllocError::OutOfMemory) => Err(TextFault::OutOfMemory),
+        Err(_) => Err(TextFault::Other),
+    }
+}

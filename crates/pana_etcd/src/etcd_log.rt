@@ -1,0 +1,251 @@
+//! A log in etcd.
+ghost use Rattle.std.specs.Prelude.{◌≡◌, ◌≤◌};
+ghost use Rattle.serde_json.specs.View.{view};
+ghost use Rattle.pana_etcd.specs.Answer.{outcome_in};
+ghost use Rattle.pana_etcd.specs.Log.{appended_by};
+
+use crate::address::EtcdAddress;
+use crate::answer::{has_none, read_answer, read_outcome, read_page, says_full};
+use crate::connect::Connect;
+use crate::exchange::{Link, Reply, Request};
+use crate::key::LAST;
+use crate::member::{Member, member_text};
+use crate::request::{append_body, range_body};
+use crate::value::value_said;
+use pana_shared::{Appended, ReadFault, Record, SharedLog};
+use serde_json::Value;
+use std::alloc::Global;
+
+/// For how many milliseconds a connection to a member is waited for.
+const CONNECT: u64 = 1000;
+
+/// For how many milliseconds an answer is waited for at least, before another member is asked.
+const ANSWER: u64 = 1000;
+
+/// How many milliseconds lie between two rounds of the members.
+const PAUSE: u64 = 100;
+
+/// How many rounds there are at most.
+const MOST_ROUNDS: u64 = 1 << 32;
+
+/// The path of transactions, and that of questions.
+const TXN: &str = "/v3/kv/txn";
+
+const RANGE: &str = "/v3/kv/range";
+
+/// Why a request has no usable answer.
+#[derive(Clone, Copy, PartialEq, Eq)]
+enum Miss {
+    /// It wasn't sent.
+    NotSent,
+    /// A member may have taken it.
+    Unanswered,
+    /// A member has refused it for want of room.
+    Full,
+}
+
+/// A log whose records are values in etcd, each under a key of its own that is written once.
+///
+/// It keeps one connection, to the member that answered last. A member that fails is tried last in the next round.
+#[derive(Drop)]
+pub struct EtcdLog<C: Connect> {
+    alloc: Global,
+    connect: C,
+    members: Vec<Member>,
+    name: String,
+    writer: u64,
+    patience: u64,
+    /// The index of the member that is asked first.
+    first: usize,
+    link: Option<Link<C::Stream>>,
+}
+
+impl<C: Connect> EtcdLog<C> {
+    /// A log at this address, for a writer with this number. Each of its calls returns within so many milliseconds of patience, and
+    /// a second. Takes no memory, and connects to no member.
+    pub fn new(
+        alloc: Global,
+        connect: C,
+        address: EtcdAddress,
+        writer: u64,
+        patience: u64,
+    ) -> EtcdLog<C> {
+        let EtcdAddress { members, name } = address;
+        EtcdLog {
+            alloc,
+            connect,
+            members,
+            name,
+            writer,
+            patience,
+            first: 0,
+            link: None,
+        }
+    }
+
+    /// The answer of a member to a request. The members are asked in turn, round after round, until one answers or patience is over.
+    ///
+    /// # Errors
+    ///
+    /// `Full` where a member has refused it for want of room, and no other may have taken it; else `Unanswered`.
+    fn ask(&mut self, path: &str, body: &str) -> Result<Value, Miss> {
+        let until = self.connect.milliseconds().saturating_add(self.patience);
+        let mut may_be_taken = false;
+        for _ in 0..MOST_ROUNDS {
+            for _ in 0..self.members.len() {
+                match self.ask_first(until, path, body) {
+                    Ok(answer) => return Ok(answer),
+                    Err(Miss::Full) if !may_be_taken => return Err(Miss::Full),
+                    Err(miss) => may_be_taken = may_be_taken || miss == Miss::Unanswered,
+                }
+                self.move_on();
+            }
+            if self.connect.milliseconds() >= until {
+                return Err(Miss::Unanswered);
+            }
+            self.connect.pause(PAUSE);
+        }
+        Err(Miss::Unanswered)
+    }
+
+    /// The answer of the member whose turn it is. Its connection is kept only where it has answered.
+    fn ask_first(&mut self, until: u64, path: &str, body: &str) -> Result<Value, Miss> {
+        let until = until.min(self.turn_ends());
+        let mut link = self.take_link(until)?;
+        let Some(member) = self.members.get(self.first) else {
+            return Err(Miss::NotSent);
+        };
+        let Ok(host) = member_text(self.alloc, member) else {
+            return Err(Miss::NotSent);
+        };
+        let request = Request {
+            host: host.as_str(),
+            path,
+            body,
+        };
+        let Ok(reply) = link.post(self.alloc, &self.connect, until, &request) else {
+            return Err(Miss::Unanswered);
+        };
+        let answer = answer_in(self.alloc, &reply)?;
+        if link.is_kept() {
+            self.link = Some(link);
+        }
+        Ok(answer)
+    }
+
+    /// What has come of a transaction that was refused for want of room: etcd may have carried it out all the same.
+    fn settle(&mut self, at: u64) -> Appended {
+        let Ok(body) = range_body(self.alloc, self.name.as_str(), at.saturating_add(1)) else {
+            return Appended::Unknown;
+        };
+        match self.ask(RANGE, body.as_str()) {
+            Ok(answer) if has_none(&answer) => Appended::Full,
+            Ok(_) => Appended::Taken,
+            Err(_) => Appended::Unknown,
+        }
+    }
+
+    /// When the turn of a member ends that is asked now: each has its share of patience, and a second at least.
+    fn turn_ends(&self) -> u64 {
+        let share = self.patience / (self.members.len() as u64).max(1);
+        self.connect
+            .milliseconds()
+            .saturating_add(share.max(ANSWER))
+    }
+
+    /// The connection to the member whose turn it is: the one that is kept, or a new one.
+    fn take_link(&mut self, until: u64) -> Result<Link<C::Stream>, Miss> {
+        if let Some(link) = self.link.take() {
+            return Ok(link);
+        }
+        let Some(member) = self.members.get(self.first) else {
+            return Err(Miss::NotSent);
+        };
+        let left = until.saturating_sub(self.connect.milliseconds());
+        match self.connect.connect(member, left.min(CONNECT).max(1)) {
+            Ok(stream) => Ok(Link::new(self.alloc, stream)),
+            Err(_) => Err(Miss::NotSent),
+        }
+    }
+
+    /// The turn of the next member.
+    fn move_on(&mut self) {
+        self.first = next_index(self.first, self.members.len());
+    }
+}
+
+/// The answer in a reply with status 200; any other is a refusal.
+fn answer_in(alloc: Global, reply: &Reply) -> Result<Value, Miss> {
+    if reply.status == 200 {
+        return match read_answer(alloc, reply.body.as_slice()) {
+            Ok(answer) => Ok(answer),
+            Err(_) => Err(Miss::Unanswered),
+        };
+    }
+    match value_said(alloc, reply.body.as_slice()) {
+        Ok(refusal) if says_full(&refusal) => Err(Miss::Full),
+        _ => Err(Miss::Unanswered),
+    }
+}
+
+/// The index behind another, round so many.
+fn next_index(index: usize, len: usize) -> usize
+    ensures { result ≤ len }
+{
+    if index < len.saturating_sub(1) {
+        index + 1
+    } else {
+        0
+    }
+}
+
+impl<C: Connect> SharedLog for EtcdLog<C> {
+    ghost use Rattle.std.specs.Prelude.{false};
+    ghost use Rattle.pana_etcd.specs.Log.{nothing_seen};
+
+    // Nothing is claimed of what a system keeps.
+    ghost is_known = { false };
+
+    ghost seen = { λ _. nothing_seen };
+
+    fn writer(&self) -> u64 {
+        self.writer
+    }
+
+    /// Appends at most 100 records. `Unknown` also where the request couldn't be made: memory ran out, or there are more.
+    fn append(&mut self, at: u64, group: &[Record]) -> Appended {
+        let Ok(body) = append_body(self.alloc, self.name.as_str(), at, group) else {
+            return Appended::Unknown;
+        };
+        match self.ask(TXN, body.as_str()) {
+            Ok(answer) => outcome_of(&answer),
+            Err(Miss::Full) => self.settle(at),
+            Err(_) => Appended::Unknown,
+        }
+    }
+
+    /// Reads at most 1,000 records, as they stand at a majority of the members.
+    fn read(&mut self, from: u64) -> Result<Vec<Record>, ReadFault> {
+        if from >= LAST {
+            return Err(ReadFault::NoAnswer);
+        }
+        let Ok(body) = range_body(self.alloc, self.name.as_str(), from + 1) else {
+            return Err(ReadFault::OutOfMemory);
+        };
+        let Ok(answer) = self.ask(RANGE, body.as_str()) else {
+            return Err(ReadFault::NoAnswer);
+        };
+        read_page(self.alloc, self.name.as_str(), from + 1, &answer)
+    }
+}
+
+/// What has come of an append, by the answer to its transaction.
+fn outcome_of(answer: &Value) -> Appended
+    ensures { result ≡ appended_by (outcome_in (view answer.now)) }
+{
+    match read_outcome(answer) {
+        Some(true) => Appended::Put,
+        Some(false) => Appended::Taken,
+        None => Appended::Unknown,
+    }
+}

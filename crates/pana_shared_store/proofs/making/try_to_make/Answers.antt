@@ -1,0 +1,21 @@
+use Rattle.std.proofs.Common.{List, sym, ap, subst, ◌∙◌}
+use Rattle.pana_journal.specs.declared.entry.Entry.{Entry}
+use Rattle.pana_hall.specs.Permit.{Permits, journal_after}
+use Rattle.pana_shared_store.specs.inner.{IsReady}
+use Rattle.pana_shared_store.proofs.Followed.{reads_none}
+use Rattle.pana_shared_store.proofs.making.try_to_make.Goals as goal
+
+pub put-requires-clause-ready : goal.put-requires-clause-ready
+put-requires-clause-ready g c known = subst (λ (l : List Entry). IsReady c.args.turn l (g.L.SharedLog.seen c.args.log.now)) (sym (c.in-Ok.ensures.ok.journal ∙ c.take_all.ensures.taken)) (c.requires.ready known)
+
+pub returns-in-Err-clause-ok : goal.returns-in-Err-clause-ok
+returns-in-Err-clause-ok g c =
+    let here = c.in-Err.ensures.hall ∙ c.take_all.ensures.taken in
+    let reply = c.in-Err.ensures.reply in (
+      here,
+      (
+        subst (λ (l : List Entry). Permits l c.args.by.now c.args.call c.in-Err.field-0.reply) c.take_all.ensures.taken reply.permitted,
+        c.in-Err.ensures.hall ∙ sym reply.same ∙ ap (λ (l : List Entry). journal_after l c.args.by.now c.args.call c.in-Err.field-0.reply) c.take_all.ensures.taken,
+      ),
+      λ known. reads_none _,
+    )

@@ -1,0 +1,121 @@
+-- What calls do to a store whose journal is a log that others append to as well.
+use Rattle.std.specs.Prelude.{◌≡◌, ◌≢◌, ◌⊎◌, ◌<◌, ◌≤◌, ℕ, Bool, true, false, IsTrue, List, [], ◌++◌, length, map, None}
+use Rattle.pana_journal.specs.declared.entry.Entry.{Entry}
+use Rattle.pana_calls.specs.declared.answer.Answer.{Answer}
+use Rattle.pana_calls.specs.declared.answer.Answer.TheVariants.{Given, NotKept}
+use Rattle.pana_calls.specs.declared.call.Call.{Call}
+use Rattle.pana_calls.specs.declared.reply.Reply.{Reply}
+use Rattle.pana_hall.specs.Permit.{Permits, journal_after}
+use Rattle.pana_hall.specs.Refusal.{refusal}
+use Rattle.pana_hall.specs.Step.{Steps}
+use Rattle.pana_shared.specs.declared.record.Record.{Record}
+use Rattle.pana_shared.specs.Log.{Follows, Grows, IsAt, IsOneOf, LogView, ours}
+
+-- what contracts see of a store: the entries of its hall's journal, the log, how many of its calls may have made entries, and
+-- whether something that is no entry stands in the log
+pub record StoreView (L : Type 0) : Type 0 where
+  pub entries : List Entry
+  pub log : L
+  pub turn : ℕ
+  pub broken : Bool
+
+-- the entries of records
+abbrev pub entries_in : List Record → List Entry
+entries_in records = map (λ r. r.entry) records
+
+-- entries as the records of a writer's call
+abbrev pub recorded : ℕ → ℕ → List Entry → List Record
+recorded writer turn entries = map (λ entry. record { entry = entry; writer = writer; turn = turn }) entries
+
+-- the entries are those of the log's first records
+abbrev pub AreFirst : List Entry → List Record → Type 0
+AreFirst entries records = (rest : List Entry) × (entries_in records ≡ entries ++ rest)
+
+-- the journal goes on from the old one
+abbrev pub GoesOn : List Entry → List Entry → Type 0
+GoesOn old new = (others : List Entry) × (new ≡ old ++ others)
+
+-- the writer has put nothing into the log, and has asked for nothing
+pub record IsFresh (view : LogView) : Type 0 where
+  pub put : ours view.writer view.records ≡ []
+  pub asked : view.loose ≡ []
+  pub at : view.at ≡ 0
+
+-- a hall alone may make entries of the call
+abbrev pub MayMake : List Entry → List ℕ → Call → Type 0
+MayMake at by call = (reply : Reply) × Permits at by call reply × (length at < length (journal_after at by call reply))
+
+-- what becomes of a call on a journal: the same as by a hall alone; or the log takes no more, nothing stands against the call, which
+-- may make entries, and nothing has changed
+abbrev pub Becomes : List Entry → List ℕ → Call → Answer → List Entry → Type 0
+Becomes at by call (Given reply) new = Steps at by call reply new
+Becomes at by call NotKept new = (refusal at by call ≡ None) × MayMake at by call × (new ≡ at)
+
+-- A call that is answered. It is made on a journal that goes on from the old one by what others have put since, and has all that
+-- the log had when the call began. What it makes stands in the log then, right behind that journal, as records of the writer's turn, and
+-- nothing else is new of the writer but what was loose; and nothing is loose that wasn't.
+pub record MakesOn (is_known : Bool) (turn : ℕ) (old : List Entry) (seen_old : LogView) (by : List ℕ) (call : Call) (answer : Answer) (new : List Entry) (seen_new : LogView) : Type 0 where
+  pub at : List Entry
+  pub goes_on : GoesOn old at
+  pub becomes : Becomes at by call answer new
+  pub made : List Entry
+  pub makes : new ≡ at ++ made
+  pub all : IsTrue is_known → length seen_old.records ≤ length at
+  pub first : IsTrue is_known → AreFirst new seen_new.records
+  pub own : IsTrue is_known → Grows seen_old (recorded seen_old.writer turn made) seen_new.records
+  pub stands : IsTrue is_known → made ≢ [] → IsAt (length at) (recorded seen_old.writer turn made) seen_new.records
+  pub follows : IsTrue is_known → Follows seen_old seen_new
+
+-- A call of which nothing was asked of the log, but to be read.
+pub record StaysOn (is_known : Bool) (old : List Entry) (seen_old : LogView) (new : List Entry) (seen_new : LogView) : Type 0 where
+  pub goes_on : GoesOn old new
+  pub first : IsTrue is_known → AreFirst new seen_new.records
+  pub own : IsTrue is_known → Grows seen_old [] seen_new.records
+  pub follows : IsTrue is_known → Follows seen_old seen_new
+
+-- A call that was asked for, behind what the store knows then, and of which it isn't known whether it was made: if it was, or ever
+-- will be, it is as by a hall alone, and right behind what the store knows.
+pub record TriesOn (is_known : Bool) (turn : ℕ) (old : List Entry) (seen_old : LogView) (by : List ℕ) (call : Call) (new : List Entry) (seen_new : LogView) : Type 0 where
+  pub goes_on : GoesOn old new
+  pub reply : Reply
+  pub asked : List Entry
+  pub steps : Steps new by call reply (new ++ asked)
+  pub first : IsTrue is_known → AreFirst new seen_new.records
+  pub own : IsTrue is_known → Grows seen_old [] seen_new.records ⊎ (Grows seen_old (recorded seen_old.writer turn asked) seen_new.records × IsAt (length new) (recorded seen_old.writer turn asked) seen_new.records)
+  pub place : IsTrue is_known → seen_new.at ≡ length new
+  pub writer : IsTrue is_known → seen_new.writer ≡ seen_old.writer
+  -- what may still be put is what might have been before, or what the call makes
+  pub loose : IsTrue is_known → length seen_new.records ≤ seen_new.at → (group : List Record) → IsOneOf group seen_new.loose → ((seen_new.at ≡ seen_old.at) × IsOneOf group seen_old.loose) ⊎ (group ≡ recorded seen_old.writer turn asked)
+
+-- The same, by a turn that is behind the one before, if it makes entries: so no record is another call's.
+pub record MakesBy (is_known : Bool) (before turn : ℕ) (old : List Entry) (seen_old : LogView) (by : List ℕ) (call : Call) (answer : Answer) (new : List Entry) (seen_new : LogView) : Type 0 where
+  pub on : MakesOn is_known turn old seen_old by call answer new seen_new
+  pub later : (on.made ≡ []) ⊎ (before < turn)
+
+pub record TriesBy (is_known : Bool) (before turn : ℕ) (old : List Entry) (seen_old : LogView) (by : List ℕ) (call : Call) (new : List Entry) (seen_new : LogView) : Type 0 where
+  pub on : TriesOn is_known turn old seen_old by call new seen_new
+  pub later : before < turn
+
+-- the same of a store
+pub record Makes {L : Type 0} (is_known : Bool) (seen : L → LogView) (old : StoreView L) (by : List ℕ) (call : Call) (answer : Answer) (new : StoreView L) : Type 0 where
+  pub on : MakesBy is_known old.turn new.turn old.entries (seen old.log) by call answer new.entries (seen new.log)
+  pub turn : old.turn ≤ new.turn
+  pub whole : old.broken ≡ false
+  pub same : new.broken ≡ false
+
+-- a store that was opened by a log, all of which it has read: nothing was asked of the log, but to be read
+pub record Opens {L : Type 0} (is_known : Bool) (seen : L → LogView) (log : L) (store : StoreView L) : Type 0 where
+  pub on : StaysOn is_known [] (seen log) store.entries (seen store.log)
+  pub all : IsTrue is_known → length (seen log).records ≤ length store.entries
+  pub turn : store.turn ≡ 0
+  pub whole : store.broken ≡ false
+
+-- a call that has no answer, by a store that isn't broken
+pub record MakesNone {L : Type 0} (is_known : Bool) (seen : L → LogView) (old : StoreView L) (by : List ℕ) (call : Call) (new : StoreView L) : Type 0 where
+  pub on : StaysOn is_known old.entries (seen old.log) new.entries (seen new.log) ⊎ TriesBy is_known old.turn new.turn old.entries (seen old.log) by call new.entries (seen new.log)
+  pub turn : old.turn ≤ new.turn
+  pub whole : old.broken ≡ false
+
+-- a call that has no answer: of a store that is broken nothing changes any more
+abbrev pub Fails : {L : Type 0} → Bool → (L → LogView) → StoreView L → List ℕ → Call → StoreView L → Type 0
+Fails is_known seen old by call new = ((old.broken ≡ true) × (new ≡ old)) ⊎ MakesNone is_known seen old by call new

@@ -1,0 +1,86 @@
+-- Words that only inner functions and proofs need: nobody has to believe them.
+use Rattle.std.specs.Prelude.{◌≡◌, ◌≢◌, ◌⊎◌, ◌<◌, ◌≤◌, ◌+◌, ℕ, Bool, true, false, IsTrue, List, [], ◌∷◌, ◌++◌, length}
+use Rattle.std.specs.List.{AllByRecursion}
+use Rattle.pana_journal.specs.declared.entry.Entry.{Entry}
+use Rattle.pana_shared.specs.declared.record.Record.{Record}
+use Rattle.pana_calls.specs.declared.call.Call.{Call}
+use Rattle.pana_calls.specs.declared.reply.Reply.{Reply}
+use Rattle.pana_hall.specs.Step.{Steps}
+use Rattle.pana_shared.specs.Log.{Grows, HaveSome, IsAt, IsOneOf, LogView, Reads, loose_at, ours}
+use Rattle.pana_shared_store.specs.declared.placing.Placed.{Placed}
+use Rattle.pana_shared_store.specs.declared.placing.Placed.TheVariants.{Ours, Others, Full}
+use Rattle.pana_shared_store.specs.declared.making.Tried.{Tried}
+use Rattle.pana_shared_store.specs.declared.making.Tried.TheVariants.{Made, Behind, Not}
+use Rattle.pana_shared_store.specs.declared.trying.Attempt.{Attempt}
+use Rattle.pana_shared_store.specs.declared.trying.Attempt.TheVariants as attempts
+use Rattle.pana_shared_store.specs.Store.{MakesOn, StaysOn, AreFirst, Becomes, GoesOn, recorded}
+
+-- the records are of earlier turns
+abbrev pub AreBefore : ℕ → List Record → Type 0
+AreBefore turn records = AllByRecursion (λ r. r.turn < turn) records
+
+-- a group of the turn may be put behind the entries: what the writer has put, and what is loose there, is of earlier turns
+pub record IsReady (turn : ℕ) (entries : List Entry) (view : LogView) : Type 0 where
+  pub put : AreBefore turn (ours view.writer view.records)
+  pub loose : (view.at < length entries) ⊎ ((group : List Record) → IsOneOf group view.loose → AreBefore turn group)
+
+-- the hall's entries are the log's first ones; and what is loose was made by earlier calls, behind no more than these entries
+pub record IsStore (entries : List Entry) (turn : ℕ) (view : LogView) : Type 0 where
+  pub first : AreFirst entries view.records
+  pub at : view.at ≤ length entries
+  pub some : HaveSome view.loose
+  pub ready : IsReady (turn + 1) entries view
+
+-- none of the groups that are loose begins as this one
+abbrev pub IsNew : List Record → List (List Record) → Type 0
+IsNew group groups = (r s : Record) (rest others : List Record) → group ≡ r ∷ rest → IsOneOf (s ∷ others) groups → s ≢ r
+
+-- nor do the writer's records have its first one
+abbrev pub IsUnusedGroup : List Record → List Record → Type 0
+IsUnusedGroup group records = (r : Record) (rest front back : List Record) → group ≡ r ∷ rest → records ≢ front ++ (r ∷ back)
+
+-- a hall has gone on to the log's first entries, and nothing was asked of the log but to be read
+pub record LooksOn (is_known : Bool) (old : List Entry) (seen_old : LogView) (new : List Entry) (seen_new : LogView) : Type 0 where
+  pub goes_on : GoesOn old new
+  pub first : IsTrue is_known → AreFirst new seen_new.records
+  pub reads : IsTrue is_known → Reads seen_old seen_new
+
+-- whether it is this record that stands behind so many, or another
+abbrev pub Stands : Bool → ℕ → Record → List Record → Type 0
+Stands true at first records = (page : List Record) × IsAt at (first ∷ page) records
+Stands false at first records = (other : Record) × (page : List Record) × IsAt at (other ∷ page) records × (other ≢ first)
+
+-- a group was asked for: no other is loose that wasn't
+pub record Loosens (old : LogView) (at : ℕ) (group : List Record) (new : LogView) : Type 0 where
+  pub writer : new.writer ≡ old.writer
+  pub place : new.at ≡ at
+  pub loose : (g : List Record) → IsOneOf g new.loose → IsOneOf g (loose_at at old) ⊎ (g ≡ group)
+
+-- what has come of a group that was to be put behind so many records
+abbrev pub Places : LogView → ℕ → List Record → Placed → LogView → Type 0
+Places old at group Ours new = Loosens old at group new × Grows old group new.records × IsAt at group new.records × (length old.records ≤ at) × (at < length new.records)
+Places old at group Others new = Loosens old at group new × Grows old [] new.records × (at < length new.records)
+Places old at group Full new = Reads old new
+
+-- nothing is known of it
+abbrev pub PlacesNone : LogView → ℕ → List Record → LogView → Type 0
+PlacesNone old at group new = Loosens old at group new × (Grows old [] new.records ⊎ (Grows old group new.records × IsAt at group new.records))
+
+-- what has come of a call that a hall was to make behind its entries
+abbrev pub TriesTo : Bool → ℕ → List Entry → LogView → List ℕ → Call → Tried → List Entry → LogView → Type 0
+TriesTo is_known turn old seen_old by call (Made reply) new seen_new = (made : List Entry) × (new ≡ old ++ made) × Steps old by call reply new × (IsTrue is_known → Places seen_old (length old) (recorded seen_old.writer turn made) Ours seen_new)
+TriesTo is_known turn old seen_old by call Behind new seen_new = (group : List Record) × (new ≡ old) × (IsTrue is_known → Places seen_old (length old) group Others seen_new)
+TriesTo is_known turn old seen_old by call (Not answer) new seen_new = (new ≡ old) × Becomes old by call answer new × (IsTrue is_known → Reads seen_old seen_new)
+
+-- nothing is known of it
+pub record TriesNone (is_known : Bool) (turn : ℕ) (old : List Entry) (seen_old : LogView) (by : List ℕ) (call : Call) (new : List Entry) (seen_new : LogView) : Type 0 where
+  pub same : new ≡ old
+  pub reply : Reply
+  pub asked : List Entry
+  pub steps : Steps old by call reply (old ++ asked)
+  pub places : IsTrue is_known → PlacesNone seen_old (length old) (recorded seen_old.writer turn asked) seen_new
+
+-- what has come of one try: the call has its answer; or others' entries have come, and it may be tried again
+abbrev pub Attempts : Bool → ℕ → List Entry → LogView → List ℕ → Call → Attempt → List Entry → LogView → Type 0
+Attempts is_known turn old seen_old by call (attempts.Answered answer) new seen_new = MakesOn is_known turn old seen_old by call answer new seen_new
+Attempts is_known turn old seen_old by call attempts.Behind new seen_new = StaysOn is_known old seen_old new seen_new × (IsTrue is_known → IsReady turn new seen_new)

@@ -1,0 +1,30 @@
+//! What is prepared, made in the hall or taken back.
+ghost use Rattle.std.specs.Prelude.{◌≡◌, ◌++◌};
+ghost use Rattle.pana_hall.specs.Prepared.{entries_of};
+
+use pana_calls::Reply;
+use pana_hall::{Hall, Prepared};
+
+/// Makes the entries that are prepared the next ones of their hall, and returns the reply.
+pub(crate) fn commit_into(hall: &mut Hall, prepared: Prepared) -> Reply
+    ensures hall { hall.new ≡ prepared.journal ++ entries_of prepared }
+    ensures reply { result ≡ prepared.reply }
+{
+    let (made, reply) = prepared.commit();
+    *hall = made;
+    reply
+}
+
+/// The same, where nobody asks for the reply.
+pub(crate) fn commit_all(hall: &mut Hall, prepared: Prepared)
+    ensures { hall.new ≡ prepared.journal ++ entries_of prepared }
+{
+    let _ = commit_into(hall, prepared);
+}
+
+/// Leaves the hall without the entries that are prepared.
+pub(crate) fn cancel_into(hall: &mut Hall, prepared: Prepared)
+    ensures { hall.new ≡ prepared.journal }
+{
+    *hall = prepared.cancel();
+}

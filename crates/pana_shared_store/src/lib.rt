@@ -1,0 +1,13 @@
+//! A hall whose journal is a log that others append to as well: each store answers as if it were the only one.
+#![tactic(auto)]
+
+mod committing;
+mod copying;
+mod following;
+mod making;
+mod placing;
+mod same;
+mod store;
+mod trying;
+
+pub use crate::store::SharedStore;

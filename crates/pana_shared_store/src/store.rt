@@ -1,0 +1,191 @@
+ghost use Rattle.std.specs.Prelude.{◌≡◌, ◌≤◌, ◌⊎◌, IsTrue, IfOk, OnErr, is_some};
+ghost use Rattle.pana_calls.specs.declared.call.Call.TheVariants as calls;
+ghost use Rattle.pana_shared_store.specs.Store.{IsFresh, MakesBy, Opens, StaysOn, TriesBy};
+ghost use Rattle.pana_shared_store.specs.inner.{IsStore};
+
+use crate::following::read_on;
+use crate::trying::make;
+use pana_calls::{Answer, Call, NoAnswer, Query, Session};
+use pana_copies::DeviceName;
+use pana_hall::Hall;
+use pana_shared::{ReadFault, SharedLog};
+use std::alloc::Global;
+use std::marker::Model;
+
+/// How many times a call is tried at most while others' entries come before it.
+const MOST_TRIES: u32 = 100;
+
+/// A hall, and a log that others append to as well, which has the hall's journal: an entry is put into the log before its call is
+/// answered, and each call is made behind all that the log had when it began. To contracts it is the entries that are followed so far,
+/// the log, and how many calls may have made some.
+#[derive(Drop)]
+pub struct SharedStore<L: SharedLog> {
+    alloc: Global,
+    hall: Hall,
+    log: L,
+    turn: u64,
+    /// The number of what stands in the log and is no entry, once it is met.
+    foreign: Option<u64>,
+}
+
+impl<L: SharedLog> Model for SharedStore<L> {
+    ghost use Rattle.std.specs.Prelude.{IsTrue, is_some};
+    ghost use Rattle.pana_shared_store.specs.Store.{StoreView};
+    ghost use Rattle.pana_shared_store.specs.inner.{IsStore};
+
+    ghost Value = { StoreView L };
+
+    ghost view = { λ store. record { entries = store.hall; log = store.log; turn = store.turn; broken = is_some store.foreign } };
+
+    ghost invariant = { λ store. IsTrue L.is_known → IsStore store.hall store.turn (L.seen store.log) };
+}
+
+impl<L: SharedLog + Drop> SharedStore<L> {
+    /// The store of a log, all of which is read. Nothing has been put into it by this writer.
+    ///
+    /// # Errors
+    ///
+    /// Those of reading; `Foreign` also where an entry isn't the next one of a journal.
+    pub fn open(alloc: Global, mut log: L) -> Result<SharedStore<L>, ReadFault>
+        requires { IsTrue L.is_known → IsFresh (L.seen log) }
+        ensures { IfOk result (λ store. Opens L.is_known L.seen log store) }
+    {
+        let Ok(mut hall) = Hall::new(alloc) else {
+            return Err(ReadFault::OutOfMemory);
+        };
+        read_on(alloc, &mut hall, &mut log)?;
+        Ok(SharedStore {
+            alloc,
+            hall,
+            log,
+            turn: 0,
+            foreign: None,
+        })
+    }
+}
+
+/// Makes a call that may make entries, as the next turn.
+fn make_next<L: SharedLog>(
+    alloc: Global,
+    hall: &mut Hall,
+    log: &mut L,
+    turn: &mut u64,
+    by: &DeviceName,
+    call: &Call,
+) -> Result<Answer, ReadFault>
+    requires store { IsTrue L.is_known → IsStore hall.old turn.old (L.seen log.old) }
+    ensures store { IsTrue L.is_known → IsStore hall.new turn.new (L.seen log.new) }
+    ensures turn { turn.old ≤ turn.new }
+    ensures ok { IfOk result (λ answer. MakesBy L.is_known turn.old turn.new hall.old (L.seen log.old) by.now call.now answer hall.new (L.seen log.new)) }
+    ensures err { OnErr result (StaysOn L.is_known hall.old (L.seen log.old) hall.new (L.seen log.new) ⊎ TriesBy L.is_known turn.old turn.new hall.old (L.seen log.old) by.now call.now hall.new (L.seen log.new)) }
+{
+    let Some(next) = turn.checked_add(1) else {
+        return Err(ReadFault::NoAnswer);
+    };
+    *turn = next;
+    make(alloc, hall, log, next, by, call, MOST_TRIES)
+}
+
+/// Answers a question behind all that the log has. So many turns were taken.
+fn ask<L: SharedLog>(
+    alloc: Global,
+    hall: &mut Hall,
+    log: &mut L,
+    turn: u64,
+    by: &DeviceName,
+    query: Query,
+) -> Result<Answer, ReadFault>
+    requires store { IsTrue L.is_known → IsStore hall.old turn (L.seen log.old) }
+    ensures store { IsTrue L.is_known → IsStore hall.new turn (L.seen log.new) }
+    ensures ok { IfOk result (λ answer. MakesBy L.is_known turn turn hall.old (L.seen log.old) by.now (calls.Query query) answer hall.new (L.seen log.new)) }
+    ensures err { OnErr result (StaysOn L.is_known hall.old (L.seen log.old) hall.new (L.seen log.new)) }
+{
+    read_on(alloc, hall, log)?;
+    Ok(Answer::Given(hall.apply(by, Call::Query(query))))
+}
+
+/// Makes one call of a device.
+fn answer<L: SharedLog>(
+    alloc: Global,
+    hall: &mut Hall,
+    log: &mut L,
+    turn: &mut u64,
+    by: &DeviceName,
+    call: Call,
+) -> Result<Answer, ReadFault>
+    requires store { IsTrue L.is_known → IsStore hall.old turn.old (L.seen log.old) }
+    ensures store { IsTrue L.is_known → IsStore hall.new turn.new (L.seen log.new) }
+    ensures turn { turn.old ≤ turn.new }
+    ensures ok { IfOk result (λ answer. MakesBy L.is_known turn.old turn.new hall.old (L.seen log.old) by.now call answer hall.new (L.seen log.new)) }
+    ensures err { OnErr result (StaysOn L.is_known hall.old (L.seen log.old) hall.new (L.seen log.new) ⊎ TriesBy L.is_known turn.old turn.new hall.old (L.seen log.old) by.now call hall.new (L.seen log.new)) }
+{
+    match call {
+        Call::Query(query) => ask(alloc, hall, log, *turn, by, query),
+        call => make_next(alloc, hall, log, turn, by, &call),
+    }
+}
+
+impl<L: SharedLog> SharedStore<L> {
+    /// The number of what stands in the log and is no entry, if that was met: no call is answered any more. Takes no memory.
+    pub fn foreign(&self) -> Option<u64>
+        ensures { is_some result ≡ self.now.broken }
+    {
+        self.foreign
+    }
+
+    /// Makes one call of a device, by a store that isn't broken.
+    fn make(&mut self, by: &DeviceName, call: Call) -> Result<Answer, ReadFault>
+        ensures ok { IfOk result (λ answer. MakesBy L.is_known self.old.turn self.new.turn self.old.entries (L.seen self.old.log) by.now call answer self.new.entries (L.seen self.new.log)) }
+        ensures err { OnErr result (StaysOn L.is_known self.old.entries (L.seen self.old.log) self.new.entries (L.seen self.new.log) ⊎ TriesBy L.is_known self.old.turn self.new.turn self.old.entries (L.seen self.old.log) by.now call self.new.entries (L.seen self.new.log)) }
+        ensures turn { self.old.turn ≤ self.new.turn }
+        ensures broken { self.new.broken ≡ self.old.broken }
+    {
+        let SharedStore {
+            alloc,
+            hall,
+            log,
+            turn,
+            foreign: _,
+        } = self;
+        answer(*alloc, hall, log, turn, by, call)
+    }
+}
+
+impl<L: SharedLog> Session for SharedStore<L> {
+    ghost use Rattle.pana_shared_store.specs.Store.{Fails, Makes};
+
+    ghost step = { λ old by call answer new. Makes L.is_known L.seen old by call answer new };
+
+    ghost fails = { λ old by call new. Fails L.is_known L.seen old by call new };
+
+    /// Makes one call of a device, behind all that the log had when it began. What it makes is in the log when it is answered.
+    ///
+    /// # Errors
+    ///
+    /// `NoAnswer` where the log gives none, where others were faster a hundred times, where memory runs out, or where something stands
+    /// in the log that is no entry. It isn't known then whether the call was made.
+    fn call(&mut self, by: &DeviceName, call: Call) -> Result<Answer, NoAnswer> {
+        if self.foreign.is_some() {
+            return Err(NoAnswer);
+        }
+        match self.make(by, call) {
+            Ok(answer) => Ok(answer),
+            Err(fault) => {
+                if let ReadFault::Foreign { number } = fault {
+                    self.foreign = Some(number);
+                }
+                Err(NoAnswer)
+            }
+        }
+    }
+
+    /// Does nothing: what a call makes is kept before it is answered.
+    fn settle(&mut self) -> Result<(), NoAnswer> {
+        Ok(())
+    }
+
+    /// How many entries the journal has, as far as it was read.
+    fn entries(&self) -> u64 {
+        self.hall.length()
+    }
+}
