@@ -1,5 +1,8 @@
+ghost use Rattle.std.specs.Prelude.{◌≡◌, IfOk};
+
 use pana_copies::{DeviceName, Place, Sum};
 use pana_journal::Report;
+use std::alloc::{AllocError, Global};
 
 /// What is asked of a hall. No query changes it.
 #[derive(Debug, PartialEq, Eq, Drop)]
@@ -62,4 +65,72 @@ pub enum Call {
     Report(Report),
     Sighting(Sighting),
     Query(Query),
+}
+
+impl Sighting {
+    /// The same sighting once more. Fails only where memory runs out.
+    pub fn copy_of(&self, alloc: Global) -> Result<Sighting, AllocError>
+        ensures { IfOk result (λ copy. copy ≡ self.now) }
+    {
+        Ok(match self {
+            Sighting::Found { place, sum } => Sighting::Found {
+                place: place.copy_of()?,
+                sum: sum.copy_of(alloc)?,
+            },
+            Sighting::Missing { place } => Sighting::Missing {
+                place: place.copy_of()?,
+            },
+        })
+    }
+}
+
+impl Query {
+    /// The same question once more. Fails only where memory runs out.
+    pub fn copy_of(&self) -> Result<Query, AllocError>
+        ensures { IfOk result (λ copy. copy ≡ self.now) }
+    {
+        Ok(match self {
+            Query::Families => Query::Families,
+            Query::Board { family } => Query::Board { family: *family },
+            Query::Stamps { family } => Query::Stamps { family: *family },
+            Query::Pair { a, b } => Query::Pair { a: *a, b: *b },
+            Query::Holdings { device, from } => Query::Holdings {
+                device: device.copy_of(),
+                from: *from,
+            },
+            Query::At { place } => Query::At {
+                place: place.copy_of()?,
+            },
+            Query::Status {
+                device: Some(device),
+                from,
+            } => Query::Status {
+                device: Some(device.copy_of()),
+                from: *from,
+            },
+            Query::Status { device: None, from } => Query::Status {
+                device: None,
+                from: *from,
+            },
+            Query::JournalFrom { entry } => Query::JournalFrom { entry: *entry },
+            Query::JournalAwaited { entry, seconds } => Query::JournalAwaited {
+                entry: *entry,
+                seconds: *seconds,
+            },
+            Query::Counts => Query::Counts,
+        })
+    }
+}
+
+impl Call {
+    /// The same call once more. Fails only where memory runs out.
+    pub fn copy_of(&self, alloc: Global) -> Result<Call, AllocError>
+        ensures { IfOk result (λ copy. copy ≡ self.now) }
+    {
+        Ok(match self {
+            Call::Report(report) => Call::Report(report.copy_of(alloc)?),
+            Call::Sighting(sighting) => Call::Sighting(sighting.copy_of(alloc)?),
+            Call::Query(query) => Call::Query(query.copy_of()?),
+        })
+    }
 }

@@ -47,4 +47,14 @@ pub trait Session {
     fn is_slow(&self) -> bool {
         false
     }
+
+    /// Whether its journal grows by others' calls too, of which it learns only when it is called.
+    fn is_shared(&self) -> bool {
+        false
+    }
+
+    /// Whether calls may have answers again, though one had none.
+    fn may_recover(&self) -> bool {
+        false
+    }
 }

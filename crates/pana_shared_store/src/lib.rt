@@ -2,7 +2,6 @@
 #![tactic(auto)]
 
 mod committing;
-mod copying;
 mod following;
 mod making;
 mod placing;

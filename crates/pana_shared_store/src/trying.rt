@@ -3,7 +3,6 @@ ghost use Rattle.std.specs.Prelude.{◌≡◌, ◌≤◌, ◌+◌, ◌⊎◌, �
 ghost use Rattle.pana_shared_store.specs.Store.{MakesOn, StaysOn, TriesOn};
 ghost use Rattle.pana_shared_store.specs.inner.{Attempts, IsReady, IsStore};
 
-use crate::copying::call_copy;
 use crate::following::read_on;
 use crate::making::{Tried, try_to_make};
 use pana_calls::{Answer, Call};
@@ -81,7 +80,7 @@ pub(crate) fn make<L: SharedLog>(
     let Some(left) = tries.checked_sub(1) else {
         return Err(ReadFault::NoAnswer);
     };
-    let Ok(copy) = call_copy(alloc, call) else {
+    let Ok(copy) = call.copy_of(alloc) else {
         return Err(ReadFault::OutOfMemory);
     };
     match attempt_once(alloc, hall, log, turn, by, copy)? {
