@@ -183,11 +183,12 @@ def words_refused(setting, room):
     addresses = ("", "etcd", "http://127.0.0.1:2379/a", f"etcd://127.0.0.1:{port}", f"etcd://127.0.0.1:{port}/", f"etcd://127.0.0.1:{port}/a/b", "etcd:///a", "etcd://127.0.0.1/a")
     addresses += ("etcd://127.0.0.1:x/a", "etcd://127.0.0.1:65536/a", "etcd://127.0.0.1:02379/a", f"etcd://127.0.0.1:{port},/a", f"etcd://a:b@127.0.0.1:{port}/a", f"etcd://127.0.0.1:{port}/{'a' * 101}")
     addresses += (f"etcd://{','.join([f'127.0.0.1:{port}'] * 10)}/a", f"etcd://127.0.0.1:{port}/a b")
-    for address, (words, status) in itertools.product(addresses, ((("run",), 1), (("status",), 3))):
-        got, out, err = setting.run(*words, "--log", address)
-        yield from differs((address, words, got, out, is_line(err, re.escape(f"log {address}: ")) or err), (address, words, status, "", True))
+    for address, word in itertools.product(addresses, ("run", "status", "serve")):
+        got, out, err = setting.run(word, *(("--port", "0") if word == "serve" else ()), "--log", address)
+        yield from differs((address, word, got, out, err.startswith(f"error: log {address}: ") or err), (address, word, 2, "", True))
     address = setting.one.address("words")
-    for words in (("run", "--journal", room / "a"), ("status", "--journal", room / "a"), ("status", "--port", "7"), ("report", "edit", USB, "--port", "7"), ("show", "--port", "7")):
+    rows = (("run", "--journal", room / "a"), ("status", "--journal", room / "a"), ("status", "--port", "7"), ("report", "edit", USB, "--port", "7"), ("show", "--port", "7"), ("serve", "--port", "0", "--journal", room / "a"))
+    for words in (*rows, ("run", "--patience", "x")):
         status, out, err = setting.run(*words, "--log", address)
         yield from differs((words, status, out, err[:7]), (words, 2, "", "error: "))
     yield from differs((setting.one.values("words"), (room / "a").exists()), ({}, False))
@@ -337,10 +338,10 @@ def full(setting, room):
 
 def unanswered(setting, words, address):
     """What differs from a run that gets no answer: one line, after the patience for one, and no more."""
-    status, begun = 1 if words[0] in ("run", "show") else 3, time.monotonic()
+    begun = time.monotonic()
     got, out, err = setting.run(*words, "--log", address, given=LINES[0])
     took = time.monotonic() - begun
-    return [*differs((words, address, got, out, is_line(err) or err, PATIENCE < took < LONGEST or took), (words, address, status, "", True, True))]
+    return [*differs((words, address, got, out, is_line(err) or err, PATIENCE < took < LONGEST or took), (words, address, 3, "", True, True))]
 
 
 def by_made_up(setting, way, is_alone):
@@ -364,7 +365,9 @@ def no_majority(setting, room):
     with Members(room, 3) as members, contextlib.ExitStack() as open_:
         address = members.address("three")
         sessions = [open_.enter_context(setting.session(address)) for _ in lines]
+        # Each has read the log before the members are killed.
         yield from differs(sessions[0].ask("laptop", "register", device="laptop", path="plan.txt"), {"done": 1})
+        yield from differs(len(sessions[1].ask("a", "families")["families"]), 1)
         for at in (0, 1):
             members.kill(at)
         begun = time.monotonic()

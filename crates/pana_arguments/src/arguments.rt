@@ -5,6 +5,7 @@ use crate::compare::CompareArguments;
 use crate::history::HistoryArguments;
 use crate::load::LoadArguments;
 use crate::may_overwrite::OverwriteArguments;
+use crate::options::KeptBy;
 use crate::report::ReportArguments;
 use crate::run::RunArguments;
 use crate::scan::ScanArguments;
@@ -32,6 +33,28 @@ pub enum Arguments<'a> {
     Report(ReportArguments<'a>),
     Watch(WatchArguments),
     Serve(ServeArguments<'a>),
+}
+
+impl<'a> Arguments<'a> {
+    /// Who is to keep the reports, if the words name anyone.
+    pub fn kept_by(self) -> Option<KeptBy<'a>> {
+        match self {
+            Arguments::Run(arguments) => arguments.kept_by,
+            Arguments::Serve(arguments) => arguments.kept_by,
+            Arguments::Show(ShowArguments::Kept(kept_by, _)) => Some(kept_by),
+            Arguments::Track(arguments) => Some(arguments.kept_by),
+            Arguments::Status(arguments) => Some(arguments.kept_by),
+            Arguments::MayOverwrite(arguments) => Some(arguments.kept_by),
+            Arguments::Why(arguments) => Some(arguments.kept_by),
+            Arguments::History(arguments) => Some(arguments.kept_by),
+            Arguments::Report(arguments) => Some(arguments.kept_by),
+            Arguments::Show(ShowArguments::OfLines(_))
+            | Arguments::Load(_)
+            | Arguments::Scan(_)
+            | Arguments::Compare(_)
+            | Arguments::Watch(_) => None,
+        }
+    }
 }
 
 /// What the words of this command ask for, or why they are refused.

@@ -1,7 +1,7 @@
 //! The words of `panad history`.
 
 use crate::item::{Item, Kind, Need, with_items};
-use crate::options::{ASKED_PORT, KeptBy, PLACE, PLACE_WORD, READ_JOURNAL, SHARED_LOG, value_of};
+use crate::options::{ASKED_PORT, KeptBy, LOG_PATIENCE, PLACE, PLACE_WORD, READ_JOURNAL, SHARED_LOG, value_of};
 use clap::{ArgMatches, Command};
 use std::alloc::{AllocError, Global};
 
@@ -39,7 +39,7 @@ pub struct HistoryArguments<'a> {
 }
 
 /// The words and options of the command.
-const ITEMS: [Item; 5] = [
+const ITEMS: [Item; 6] = [
     PLACE_WORD,
     Item {
         name: SVG,
@@ -49,6 +49,7 @@ const ITEMS: [Item; 5] = [
     },
     READ_JOURNAL,
     SHARED_LOG,
+    LOG_PATIENCE,
     ASKED_PORT,
 ];
 

@@ -29,6 +29,8 @@ pub enum Kind {
 pub enum Need {
     Optional,
     Required,
+    /// It may stand only beside this one.
+    With(&'static str),
     /// It may not stand beside this one.
     Without(&'static str),
     /// It may stand beside none of these two.
@@ -81,6 +83,7 @@ fn arg_of<'a>(alloc: Global, item: Item) -> Result<Arg<'a>, AllocError> {
     match item.need {
         Need::Optional => Ok(arg),
         Need::Required => Ok(arg.required(true)),
+        Need::With(other) => arg.requires_arg(other),
         Need::Without(other) => arg.conflicts_with(other),
         Need::WithoutEither(first, second) => arg.conflicts_with(first)?.conflicts_with(second),
         Need::WithoutAny(first, second, third) => arg

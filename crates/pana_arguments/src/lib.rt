@@ -30,7 +30,7 @@ pub use crate::explanation::{Explanation, Unread, refusal};
 pub use crate::history::HistoryArguments;
 pub use crate::load::LoadArguments;
 pub use crate::may_overwrite::OverwriteArguments;
-pub use crate::options::{KeptBy, ShownAs};
+pub use crate::options::{KeptBy, KeptLog, ShownAs};
 pub use crate::report::ReportArguments;
 pub use crate::run::RunArguments;
 pub use crate::scan::ScanArguments;

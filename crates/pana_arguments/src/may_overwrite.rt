@@ -1,7 +1,7 @@
 //! The words of `panad may-overwrite`.
 
 use crate::item::{Item, Kind, Need, with_items};
-use crate::options::{ASKED_PORT, KeptBy, PLACE, READ_JOURNAL, SHARED_LOG, value_of};
+use crate::options::{ASKED_PORT, KeptBy, LOG_PATIENCE, PLACE, READ_JOURNAL, SHARED_LOG, value_of};
 use clap::{ArgMatches, Command};
 use std::alloc::{AllocError, Global};
 
@@ -34,9 +34,10 @@ pub struct OverwriteArguments<'a> {
 }
 
 /// The words and options of the command.
-const ITEMS: [Item; 5] = [
+const ITEMS: [Item; 6] = [
     READ_JOURNAL,
     SHARED_LOG,
+    LOG_PATIENCE,
     ASKED_PORT,
     Item {
         name: BY,

@@ -32,6 +32,11 @@ pub const JSON: &str = "json";
 
 const QUIET: &str = "quiet";
 
+/// The name of the time for an answer of a log, and the seconds where it isn't given.
+const PATIENCE: &str = "patience";
+
+const PATIENCE_SECONDS: u32 = 10;
+
 /// The option that names the file of a journal that is only read.
 pub const READ_JOURNAL: Item = Item {
     name: JOURNAL,
@@ -54,6 +59,14 @@ pub const OWN_LOG: Item = Item {
     kind: Kind::Text("URL"),
     need: Need::Without(JOURNAL),
     help: "A journal in etcd that other machines share, etcd://HOST:PORT/NAME",
+};
+
+/// The option for the time that an answer of a log may take.
+pub const LOG_PATIENCE: Item = Item {
+    name: PATIENCE,
+    kind: Kind::Seconds,
+    need: Need::With(LOG),
+    help: "Time for an answer of the journal in etcd; 10 by default",
 };
 
 /// The option for a daemon that is asked.
@@ -124,13 +137,21 @@ pub const AS_JSON: Item = Item {
     help: "Print a line of JSON for each copy in place of the table",
 };
 
+/// A log that keeps the reports.
+#[derive(Clone, Copy)]
+pub struct KeptLog<'a> {
+    pub address: &'a str,
+    /// For how many seconds an answer is waited for.
+    pub patience: u32,
+}
+
 /// Who keeps the reports.
 #[derive(Clone, Copy)]
 pub enum KeptBy<'a> {
     /// The journal in the file with this name.
     Journal(&'a str),
-    /// The log at this address.
-    Log(&'a str),
+    /// This log.
+    Log(KeptLog<'a>),
     /// The daemon on this port of 127.0.0.1.
     Daemon(u16),
 }
@@ -147,7 +168,10 @@ impl<'a> KeptBy<'a> {
     /// The journal or the log that the words name, if they do.
     pub fn own(words: &'a ArgMatches) -> Option<KeptBy<'a>> {
         if let Some(address) = words.get_str(LOG) {
-            return Some(KeptBy::Log(address));
+            return Some(KeptBy::Log(KeptLog {
+                address,
+                patience: words.get_one(PATIENCE).unwrap_or(PATIENCE_SECONDS),
+            }));
         }
         match words.get_str(JOURNAL) {
             Some(name) => Some(KeptBy::Journal(name)),

@@ -1,9 +1,7 @@
 //! The words of `panad report`.
 
 use crate::item::{Item, Kind, Need, with_items};
-use crate::options::{
-    KeptBy, PLACE, REPORTED_JOURNAL, REPORTED_PORT, SHARED_LOG, value_of, values_of,
-};
+use crate::options::{KeptBy, LOG_PATIENCE, PLACE, REPORTED_JOURNAL, REPORTED_PORT, SHARED_LOG, value_of, values_of};
 use clap::{ArgMatches, Command};
 use std::alloc::{AllocError, Global};
 
@@ -63,9 +61,10 @@ pub struct ReportArguments<'a> {
 }
 
 /// The words and options of the command.
-const ITEMS: [Item; 8] = [
+const ITEMS: [Item; 9] = [
     REPORTED_JOURNAL,
     SHARED_LOG,
+    LOG_PATIENCE,
     REPORTED_PORT,
     Item {
         name: BY,

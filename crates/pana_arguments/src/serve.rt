@@ -1,9 +1,7 @@
 //! The words of `panad serve`.
 
 use crate::item::{Item, Kind, Need, with_items};
-use crate::options::{
-    IGNORE, JOURNAL, ONE_FILE_SYSTEM, OWN_JOURNAL, PORT, ROOT, ROOTS_HELP, STAY, values_of,
-};
+use crate::options::{IGNORE, KeptBy, LOG_PATIENCE, ONE_FILE_SYSTEM, OWN_JOURNAL, OWN_LOG, PORT, ROOT, ROOTS_HELP, STAY, values_of};
 use clap::{ArgMatches, Command};
 use std::alloc::{AllocError, Global};
 
@@ -46,8 +44,8 @@ const EVERY: &str = "every";
 pub struct ServeArguments<'a> {
     /// The port of 127.0.0.1 to listen on.
     pub port: u16,
-    /// The name of the journal's file, if there is to be one.
-    pub journal: Option<&'a str>,
+    /// The journal or the log, if there is to be one.
+    pub kept_by: Option<KeptBy<'a>>,
     /// The words that name devices and their folders.
     pub roots: &'a [&'a str],
     /// Whether the folders are tracked by contents.
@@ -67,7 +65,7 @@ pub struct ServeArguments<'a> {
 }
 
 /// The words and options of the command.
-const ITEMS: [Item; 10] = [
+const ITEMS: [Item; 12] = [
     Item {
         name: PORT,
         kind: Kind::Port,
@@ -81,6 +79,8 @@ const ITEMS: [Item; 10] = [
         help: "End after S sessions, and with a folder the end of standard input",
     },
     OWN_JOURNAL,
+    OWN_LOG,
+    LOG_PATIENCE,
     Item {
         name: ROOT,
         kind: Kind::Words,
@@ -134,7 +134,7 @@ impl<'a> ServeArguments<'a> {
         ServeArguments {
             // The port is required, so it is there.
             port: words.get_one(PORT).unwrap_or(0),
-            journal: words.get_str(JOURNAL),
+            kept_by: KeptBy::own(words),
             roots: values_of(words, ROOT),
             is_tracked: words.get_flag(TRACKED),
             every: words.get_one(EVERY),

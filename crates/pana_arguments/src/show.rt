@@ -1,7 +1,7 @@
 //! The words of `panad show`.
 
 use crate::item::{Item, Kind, Need, with_items};
-use crate::options::{FILE, JOURNAL, KeptBy, LOG, PORT};
+use crate::options::{FILE, JOURNAL, KeptBy, LOG, LOG_PATIENCE, PORT};
 use clap::{ArgMatches, Command};
 use std::alloc::{AllocError, Global};
 
@@ -50,7 +50,7 @@ pub enum ShowArguments<'a> {
 }
 
 /// The words and options of the command.
-const ITEMS: [Item; 6] = [
+const ITEMS: [Item; 7] = [
     Item {
         name: FILE,
         kind: Kind::Word,
@@ -69,6 +69,7 @@ const ITEMS: [Item; 6] = [
         need: Need::WithoutEither(FILE, JOURNAL),
         help: "Print the tables of this journal in etcd, and take no lines",
     },
+    LOG_PATIENCE,
     Item {
         name: PORT,
         kind: Kind::Port,

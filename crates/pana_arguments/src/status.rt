@@ -1,10 +1,7 @@
 //! The words of `panad status`.
 
 use crate::item::{Item, Kind, Need, with_items};
-use crate::options::{
-    AS_JSON, ASKED_PORT, JSON, KeptBy, NO_TABLE, PLACE, READ_JOURNAL, SHARED_LOG, ShownAs,
-    values_of,
-};
+use crate::options::{ASKED_PORT, AS_JSON, JSON, KeptBy, LOG_PATIENCE, NO_TABLE, PLACE, READ_JOURNAL, SHARED_LOG, ShownAs, values_of};
 use clap::{ArgMatches, Command};
 use std::alloc::{AllocError, Global};
 
@@ -40,9 +37,10 @@ pub struct StatusArguments<'a> {
 }
 
 /// The words and options of the command.
-const ITEMS: [Item; 7] = [
+const ITEMS: [Item; 8] = [
     READ_JOURNAL,
     SHARED_LOG,
+    LOG_PATIENCE,
     ASKED_PORT,
     NO_TABLE,
     AS_JSON,

@@ -1,10 +1,7 @@
 //! The words of `panad track`.
 
 use crate::item::{Item, Kind, Need, with_items};
-use crate::options::{
-    AS_JSON, IGNORE, KeptBy, NO_TABLE, ONE_FILE_SYSTEM, REPORTED_JOURNAL, REPORTED_PORT, ROOT,
-    ROOTS_HELP, SHARED_LOG, STAY, ShownAs, values_of,
-};
+use crate::options::{AS_JSON, IGNORE, KeptBy, LOG_PATIENCE, NO_TABLE, ONE_FILE_SYSTEM, REPORTED_JOURNAL, REPORTED_PORT, ROOT, ROOTS_HELP, SHARED_LOG, STAY, ShownAs, values_of};
 use clap::{ArgMatches, Command};
 use std::alloc::{AllocError, Global};
 
@@ -53,9 +50,10 @@ pub struct TrackArguments<'a> {
 }
 
 /// The words and options of the command.
-const ITEMS: [Item; 11] = [
+const ITEMS: [Item; 12] = [
     REPORTED_JOURNAL,
     SHARED_LOG,
+    LOG_PATIENCE,
     REPORTED_PORT,
     Item {
         name: SUMS,

@@ -1,7 +1,7 @@
 //! The words of `panad why`.
 
 use crate::item::{Item, Kind, Need, with_items};
-use crate::options::{ASKED_PORT, KeptBy, PLACE, PLACE_WORD, READ_JOURNAL, SHARED_LOG, value_of};
+use crate::options::{ASKED_PORT, KeptBy, LOG_PATIENCE, PLACE, PLACE_WORD, READ_JOURNAL, SHARED_LOG, value_of};
 use clap::{ArgMatches, Command};
 use std::alloc::{AllocError, Global};
 
@@ -34,7 +34,7 @@ pub struct WhyArguments<'a> {
 }
 
 /// The words and options of the command.
-const ITEMS: [Item; 5] = [
+const ITEMS: [Item; 6] = [
     PLACE_WORD,
     Item {
         name: OTHER,
@@ -44,6 +44,7 @@ const ITEMS: [Item; 5] = [
     },
     READ_JOURNAL,
     SHARED_LOG,
+    LOG_PATIENCE,
     ASKED_PORT,
 ];
 

@@ -1,12 +1,19 @@
 -- Texts of requests, of their parts.
 use Rattle.std.specs.Prelude.{◌≡◌, ℕ, List, ◌++◌, codes}
 use Rattle.std.proofs.Common.{refl}
-use Rattle.pana_etcd.specs.Key.{in_base64, key_of}
-use Rattle.pana_etcd.specs.Request.{append_text, puts_text}
+use Rattle.pana_etcd.specs.Key.{end_of, in_base64, key_of}
+use Rattle.pana_etcd.specs.Request.{append_text, free_text, next_text, puts_text}
 
-pub append_pieces : (name : List ℕ) (number : ℕ) (values : List (List ℕ)) (key puts : List ℕ)
-    → key ≡ in_base64 (key_of name number) → puts ≡ puts_text name number values
-    → codes "{\"compare\":[{\"key\":\"" ++ (key ++ (codes "\",\"target\":\"CREATE\",\"result\":\"EQUAL\",\"createRevision\":\"0\"}],\"success\":[" ++ (puts ++ (codes "],\"failure\":[{\"requestRange\":{\"key\":\"" ++ (key ++ codes "\"}}]}")))))
+pub append_pieces : (name : List ℕ) (number : ℕ) (values : List (List ℕ)) (next puts key : List ℕ)
+    → next ≡ next_text name number → puts ≡ puts_text name number values → key ≡ in_base64 (key_of name number)
+    → codes "{\"compare\":[" ++ (next ++ (codes "],\"success\":[" ++ (puts ++ (codes "],\"failure\":[{\"requestRange\":{\"key\":\"" ++ (key ++ codes "\"}}]}")))))
     ≡ append_text name number values
 unfolding append_text
-append_pieces name number values key puts first second = rw (first, second) refl
+append_pieces name number values next puts key first second third = rw (first, second, third) refl
+
+pub free_pieces : (name : List ℕ) (number : ℕ) (key end : List ℕ)
+    → key ≡ in_base64 (key_of name number) → end ≡ in_base64 (end_of name)
+    → codes "{\"key\":\"" ++ (key ++ (codes "\",\"range_end\":\"" ++ (end ++ codes "\",\"target\":\"CREATE\",\"result\":\"EQUAL\",\"createRevision\":\"0\"}")))
+    ≡ free_text name number
+unfolding free_text
+free_pieces name number key end first second = rw (first, second) refl

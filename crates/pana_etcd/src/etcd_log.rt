@@ -19,7 +19,8 @@ use std::alloc::Global;
 /// For how many milliseconds a connection to a member is waited for.
 const CONNECT: u64 = 1000;
 
-/// For how many milliseconds an answer is waited for at least, before another member is asked.
+/// For how many milliseconds an answer is waited for at least, before another member is asked; and in all, right behind a request
+/// that had none.
 const ANSWER: u64 = 1000;
 
 /// How many milliseconds lie between two rounds of the members.
@@ -55,6 +56,8 @@ pub struct EtcdLog<C: Connect> {
     name: String,
     writer: u64,
     patience: u64,
+    /// When the last request ended, if it had no answer.
+    missed_at: Option<u64>,
     /// The index of the member that is asked first.
     first: usize,
     link: Option<Link<C::Stream>>,
@@ -62,7 +65,7 @@ pub struct EtcdLog<C: Connect> {
 
 impl<C: Connect> EtcdLog<C> {
     /// A log at this address, for a writer with this number. Each of its calls returns within so many milliseconds of patience, and
-    /// a second. Takes no memory, and connects to no member.
+    /// a second; within two seconds right behind one that had no answer. Takes no memory, and connects to no member.
     pub fn new(
         alloc: Global,
         connect: C,
@@ -78,18 +81,42 @@ impl<C: Connect> EtcdLog<C> {
             name,
             writer,
             patience,
+            missed_at: None,
             first: 0,
             link: None,
         }
     }
 
-    /// The answer of a member to a request. The members are asked in turn, round after round, until one answers or patience is over.
+    /// The answer of a member to a request, within all of patience; or, right behind a request that had no answer, within a second.
+    ///
+    /// # Errors
+    ///
+    /// As `ask_until`.
+    fn ask(&mut self, path: &str, body: &str) -> Result<Value, Miss> {
+        let now = self.connect.milliseconds();
+        let until = now.saturating_add(self.patience_at(now));
+        let answer = self.ask_until(until, path, body);
+        self.missed_at = match answer {
+            Ok(_) | Err(Miss::Full) => None,
+            Err(_) => Some(self.connect.milliseconds()),
+        };
+        answer
+    }
+
+    /// How many milliseconds a request has that is made at this time.
+    fn patience_at(&self, now: u64) -> u64 {
+        match self.missed_at {
+            Some(missed_at) if now.saturating_sub(missed_at) <= ANSWER => self.patience.min(ANSWER),
+            _ => self.patience,
+        }
+    }
+
+    /// The answer of a member to a request. The members are asked in turn, round after round, until one answers or this time has come.
     ///
     /// # Errors
     ///
     /// `Full` where a member has refused it for want of room, and no other may have taken it; else `Unanswered`.
-    fn ask(&mut self, path: &str, body: &str) -> Result<Value, Miss> {
-        let until = self.connect.milliseconds().saturating_add(self.patience);
+    fn ask_until(&mut self, until: u64, path: &str, body: &str) -> Result<Value, Miss> {
         let mut may_be_taken = false;
         for _ in 0..MOST_ROUNDS {
             for _ in 0..self.members.len() {

@@ -1,7 +1,7 @@
 //! The bodies of requests.
 ghost use Rattle.std.specs.Prelude.{◌≡◌, ◌+◌, ◌≤◌, ◌++◌, List, ℕ, IfOk, OnOk, Some, length, map, string_bytes};
 ghost use Rattle.pana_etcd.specs.Key.{in_base64};
-ghost use Rattle.pana_etcd.specs.Request.{append_text, later_puts, put_text, puts_text, range_text};
+ghost use Rattle.pana_etcd.specs.Request.{append_text, free_text, later_puts, made_text, next_text, put_text, puts_text, range_text};
 ghost use Rattle.pana_etcd.specs.Value.{value_says};
 
 use crate::base64_text::in_base64;
@@ -63,12 +63,51 @@ fn append_text(
     requires { number + length values.now ≤ 10_000_000_000 }
     ensures { IfOk result (λ text. string_bytes text ≡ append_text name.now number (map (λ value. value.items) values.now)) }
 {
-    let key = key_text(alloc, name, number)?;
+    let next = next_text(alloc, name, number)?;
     let puts = puts_text(alloc, name, number, values)?;
-    let key = key.as_str();
+    let key = key_text(alloc, name, number)?;
+    let next = next.as_str();
     let puts = puts.as_str();
+    let key = key.as_str();
     format!(in alloc;
-        "{{\"compare\":[{{\"key\":\"{key}\",\"target\":\"CREATE\",\"result\":\"EQUAL\",\"createRevision\":\"0\"}}],\"success\":[{puts}],\"failure\":[{{\"requestRange\":{{\"key\":\"{key}\"}}}}]}}"
+        "{{\"compare\":[{next}],\"success\":[{puts}],\"failure\":[{{\"requestRange\":{{\"key\":\"{key}\"}}}}]}}"
+    )
+}
+
+/// What asks whether the number is that of the next record.
+fn next_text(alloc: Global, name: &str, number: u64) -> Result<String, AllocError>
+    ensures { IfOk result (λ text. string_bytes text ≡ next_text name.now number) }
+{
+    if number <= 1 {
+        return free_text(alloc, name, number);
+    }
+    let mut text = made_text(alloc, name, number - 1)?;
+    let free = free_text(alloc, name, number)?;
+    text.push(',')?;
+    text.push_str(free.as_str())?;
+    Ok(text)
+}
+
+#[tactic(auto, unfolding(crate::specs::Request::made_text))]
+fn made_text(alloc: Global, name: &str, number: u64) -> Result<String, AllocError>
+    ensures { IfOk result (λ text. string_bytes text ≡ made_text name.now number) }
+{
+    let key = key_text(alloc, name, number)?;
+    let key = key.as_str();
+    format!(in alloc;
+        "{{\"key\":\"{key}\",\"target\":\"CREATE\",\"result\":\"GREATER\",\"createRevision\":\"0\"}}"
+    )
+}
+
+fn free_text(alloc: Global, name: &str, number: u64) -> Result<String, AllocError>
+    ensures { IfOk result (λ text. string_bytes text ≡ free_text name.now number) }
+{
+    let key = key_text(alloc, name, number)?;
+    let end = end_text(alloc, name)?;
+    let key = key.as_str();
+    let end = end.as_str();
+    format!(in alloc;
+        "{{\"key\":\"{key}\",\"range_end\":\"{end}\",\"target\":\"CREATE\",\"result\":\"EQUAL\",\"createRevision\":\"0\"}}"
     )
 }
 

@@ -1,10 +1,18 @@
+/// A log that others append to as well.
+#[derive(Clone, Copy)]
+pub struct LogPlace<'a> {
+    pub address: &'a str,
+    /// For how many seconds an answer is waited for.
+    pub patience: u32,
+}
+
 /// Who keeps the reports.
 #[derive(Clone, Copy)]
 pub enum Keeper<'a> {
     /// The journal in the file with this name.
     Journal(&'a str),
-    /// The log at this address.
-    Log(&'a str),
+    /// The log at this place.
+    Log(LogPlace<'a>),
     /// The daemon on this port of 127.0.0.1.
     Daemon(u16),
 }

@@ -21,7 +21,7 @@ pub use crate::colour::Tables;
 pub use crate::descriptors::take_standard_descriptors;
 pub use crate::fault::ProgramFault;
 pub use crate::folders::{ReadingWishes, fault_of_roots, read_folders};
-pub use crate::keeper::Keeper;
+pub use crate::keeper::{Keeper, LogPlace};
 pub use crate::patterns::{OwnFile, RootPatterns, passed_over, root_patterns, slices_of};
 pub use crate::picture_file::{may_write_picture, write_picture};
 pub use crate::printing::{Output, complain, output, print_tables, print_text};

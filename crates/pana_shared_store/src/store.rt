@@ -188,4 +188,19 @@ impl<L: SharedLog> Session for SharedStore<L> {
     fn entries(&self) -> u64 {
         self.hall.length()
     }
+
+    /// Yes: a call takes as long as the log does.
+    fn is_slow(&self) -> bool {
+        true
+    }
+
+    /// Yes: others append to the log.
+    fn is_shared(&self) -> bool {
+        true
+    }
+
+    /// Whether nothing was met in the log that is no entry.
+    fn may_recover(&self) -> bool {
+        self.foreign.is_none()
+    }
 }

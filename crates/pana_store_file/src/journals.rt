@@ -9,11 +9,13 @@ use std::alloc::AllocError;
 use std::fmt;
 use std::fs::File;
 
-/// Why a journal's file can't be used.
+/// Why a journal can't be used.
 #[derive(Drop)]
 pub enum NoStore {
     /// For this reason, as a text.
     Because(String),
+    /// What keeps it gives no answer, as this text says.
+    NoAnswer(String),
     /// The program can't go on.
     Fault(ProgramFault),
 }
@@ -33,7 +35,7 @@ impl From<AllocError> for NoStore {
 impl fmt::Display for NoStore {
     fn fmt<W: fmt::Write>(&self, f: &mut fmt::Formatter<W>) -> fmt::Result {
         match self {
-            NoStore::Because(text) => f.write_str(text.as_str()),
+            NoStore::Because(text) | NoStore::NoAnswer(text) => f.write_str(text.as_str()),
             NoStore::Fault(fault) => write!(f, "{fault}"),
         }
     }

@@ -3,7 +3,9 @@
 
 mod journal_file;
 mod journals;
+mod log_store;
 mod shared;
 
 pub use crate::journals::{NoStore, open_hall, open_store};
-pub use crate::shared::{EtcdStore, open_shared};
+pub use crate::log_store::LogStore;
+pub use crate::shared::{fault_of_address, open_shared};

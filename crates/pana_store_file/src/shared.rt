@@ -1,52 +1,64 @@
-//! The stores of logs in etcd.
+//! Logs in etcd, found by their addresses.
 
 use crate::journals::NoStore;
+use crate::log_store::LogStore;
 use pana_etcd::{AddressFault, EtcdAddress, EtcdLog, TcpConnect, random_writer};
-use pana_files::ProgramFault;
+use pana_files::{LogPlace, ProgramFault};
 use pana_shared::ReadFault;
-use pana_shared_store::SharedStore;
 use std::alloc::AllocError;
 
-/// The store of a log in etcd.
-pub type EtcdStore = SharedStore<EtcdLog<TcpConnect>>;
+/// How many milliseconds a second has.
+const SECOND: u64 = 1000;
 
-/// How long a call waits for an answer of a log, in milliseconds.
-const PATIENCE: u64 = 10_000;
+/// What is printed of an address that is none.
+fn text_of(
+    rt: &HostRuntime,
+    address: &str,
+    fault: AddressFault,
+) -> Result<String, ProgramFault> {
+    match fault {
+        AddressFault::OutOfMemory => Err(ProgramFault::OutOfMemory),
+        fault => Ok(format!(in rt.alloc(); "log {address}: {fault}")?),
+    }
+}
 
-/// Why there is no store, where the words are no address of a log.
-fn no_address(rt: &HostRuntime, address: &str, fault: AddressFault) -> Result<NoStore, AllocError> {
-    Ok(match fault {
-        AddressFault::OutOfMemory => NoStore::Fault(ProgramFault::OutOfMemory),
-        fault => NoStore::Because(format!(in rt.alloc(); "log {address}: {fault}")?),
-    })
+/// What is wrong with the words for the address of a log, if something is.
+pub fn fault_of_address(rt: &HostRuntime, address: &str) -> Result<Option<String>, ProgramFault> {
+    match EtcdAddress::parse(rt.alloc(), address) {
+        Ok(_) => Ok(None),
+        Err(fault) => Ok(Some(text_of(rt, address, fault)?)),
+    }
 }
 
 /// Why there is no store, where the log can't be read, or is none of a journal.
 fn no_log(rt: &HostRuntime, address: &str, fault: ReadFault) -> Result<NoStore, AllocError> {
+    let text = format!(in rt.alloc(); "log {address}: {fault}")?;
     Ok(match fault {
+        ReadFault::NoAnswer => NoStore::NoAnswer(text),
+        ReadFault::Foreign { .. } => NoStore::Because(text),
         ReadFault::OutOfMemory => NoStore::Fault(ProgramFault::OutOfMemory),
-        fault => NoStore::Because(format!(in rt.alloc(); "log {address}: {fault}")?),
     })
 }
 
-/// The log at an address, for a writer that is new.
-fn log_at(rt: &HostRuntime, address: &str) -> Result<EtcdLog<TcpConnect>, NoStore> {
-    let found = match EtcdAddress::parse(rt.alloc(), address) {
+/// The log at a place, for a writer that is new.
+fn log_at(rt: &HostRuntime, place: LogPlace<'_>) -> Result<EtcdLog<TcpConnect>, NoStore> {
+    let found = match EtcdAddress::parse(rt.alloc(), place.address) {
         Ok(found) => found,
-        Err(fault) => return Err(no_address(rt, address, fault)?),
+        Err(fault) => return Err(NoStore::Because(text_of(rt, place.address, fault)?)),
     };
     let Ok(writer) = random_writer(rt) else {
         return Err(NoStore::Fault(ProgramFault::Read));
     };
     let connect = TcpConnect::new(rt.clone()?);
-    Ok(EtcdLog::new(rt.alloc(), connect, found, writer, PATIENCE))
+    let patience = u64::from(place.patience) * SECOND;
+    Ok(EtcdLog::new(rt.alloc(), connect, found, writer, patience))
 }
 
-/// The store of the log at this address, all of which is read; or why there is none.
-pub fn open_shared(rt: &HostRuntime, address: &str) -> Result<EtcdStore, NoStore> {
-    let log = log_at(rt, address)?;
-    match SharedStore::open(rt.alloc(), log) {
+/// The store of the log at this place, all of which is read; or why there is none.
+pub fn open_shared(rt: &HostRuntime, place: LogPlace<'_>) -> Result<LogStore, NoStore> {
+    let log = log_at(rt, place)?;
+    match LogStore::open(rt.alloc(), log) {
         Ok(store) => Ok(store),
-        Err(fault) => Err(no_log(rt, address, fault)?),
+        Err(fault) => Err(no_log(rt, place.address, fault)?),
     }
 }

@@ -1,7 +1,7 @@
 //! What the commands of the command line do.
 
 use crate::keeping::{run_kept, run_shared};
-use crate::options::keeper_of;
+use crate::options::{keeper_of, place_of};
 use crate::printing::{print_out, print_out_tables};
 use crate::show_command::show_tables;
 use crate::track::FAULT;
@@ -21,6 +21,7 @@ use pana_files::{
 use pana_log::ends_journal;
 use pana_scan::SystemDisk;
 use pana_store::before_end;
+use pana_store_file::fault_of_address;
 use pana_wire::Tap;
 use std::io::Read;
 use std::marker::Sync;
@@ -36,7 +37,7 @@ pub const READS: u64 = 4_294_967_296;
 fn run(rt: &HostRuntime, arguments: RunArguments<'_>) -> Result<ExitCode, ProgramFault> {
     match arguments.kept_by {
         Some(KeptBy::Journal(name)) => return run_kept(rt, name),
-        Some(KeptBy::Log(address)) => return run_shared(rt, address),
+        Some(KeptBy::Log(log)) => return run_shared(rt, place_of(log)),
         _ => {}
     }
     let mut reader = Tap::new(rt.reader());
@@ -192,6 +193,17 @@ fn obey_arguments<T: Threads + Wait + Clock + Sync>(
     Ok(status_of(rt, end, FAULT))
 }
 
+/// What is wrong with the words for a log, if something is.
+fn fault_of_log(
+    rt: &HostRuntime,
+    kept_by: Option<KeptBy<'_>>,
+) -> Result<Option<String>, ProgramFault> {
+    match kept_by {
+        Some(KeptBy::Log(log)) => fault_of_address(rt, log.address),
+        _ => Ok(None),
+    }
+}
+
 fn obey_words<T: Threads + Wait + Clock + Sync>(
     rt: &HostRuntime,
     threads: &T,
@@ -203,7 +215,10 @@ fn obey_words<T: Threads + Wait + Clock + Sync>(
         Err(Unread::OutOfMemory) => return Err(ProgramFault::OutOfMemory),
     };
     match line.arguments() {
-        Ok(arguments) => obey_arguments(rt, threads, arguments),
+        Ok(arguments) => match fault_of_log(rt, arguments.kept_by())? {
+            Some(reason) => refuse(rt, reason.as_str()),
+            None => obey_arguments(rt, threads, arguments),
+        },
         Err(reason) => refuse(rt, reason),
     }
 }

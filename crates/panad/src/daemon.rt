@@ -1,13 +1,14 @@
 //! `panad serve`.
 
 use crate::printing::print_out;
+use crate::track::FAULT;
 use pana_commands::Printout;
 use pana_daemon::{PassedOver, SystemDisks};
-use pana_files::ProgramFault;
+use pana_files::{LogPlace, ProgramFault};
 use pana_log::FileDevice;
-use pana_serve::{System, Wishes, serve_on};
+use pana_serve::{Outcome, System, Wishes, serve_on};
 use pana_store::Store;
-use pana_store_file::{NoStore, open_store};
+use pana_store_file::{LogStore, NoStore, open_shared, open_store};
 use std::io;
 use std::marker::Sync;
 use std::net::{Ipv4Addr, SocketAddr, TcpListener};
@@ -16,21 +17,26 @@ use std::sync::Wait;
 use std::thread::Threads;
 use std::time::Clock;
 
+/// A listener on a port of the host, and its address.
+fn listen(rt: &HostRuntime, host: Ipv4Addr, port: u16) -> io::Result<(TcpListener, SocketAddr)> {
+    let listener = TcpListener::bind(rt, (host, port))?;
+    let address = listener.local_addr()?;
+    Ok((listener, address))
+}
+
 /// The system's ports, and journals in its files.
 #[derive(Drop)]
-struct Machine<'a> {
+struct FileMachine<'a> {
     rt: &'a HostRuntime,
 }
 
-impl System for Machine<'_> {
+impl System for FileMachine<'_> {
     type Store = Store<FileDevice>;
 
     type Refusal = NoStore;
 
     fn bind(&mut self, host: Ipv4Addr, port: u16) -> io::Result<(TcpListener, SocketAddr)> {
-        let listener = TcpListener::bind(self.rt, (host, port))?;
-        let address = listener.local_addr()?;
-        Ok((listener, address))
+        listen(self.rt, host, port)
     }
 
     fn open(&mut self, journal: &str) -> Result<Store<FileDevice>, NoStore> {
@@ -38,13 +44,43 @@ impl System for Machine<'_> {
     }
 }
 
-/// Has the daemon do what the words ask for, on folders that are entered also where they are of another file system, or not,
-/// prints what went wrong, where it hasn't been, and returns the status.
+/// The system's ports, and the log in etcd at this place.
+#[derive(Drop)]
+struct LogMachine<'a> {
+    rt: &'a HostRuntime,
+    place: LogPlace<'a>,
+}
+
+impl System for LogMachine<'_> {
+    type Store = LogStore;
+
+    type Refusal = NoStore;
+
+    fn bind(&mut self, host: Ipv4Addr, port: u16) -> io::Result<(TcpListener, SocketAddr)> {
+        listen(self.rt, host, port)
+    }
+
+    fn open(&mut self, _journal: &str) -> Result<LogStore, NoStore> {
+        open_shared(self.rt, self.place)
+    }
+}
+
+/// The status: that of a fault where what keeps the journal gives no answer, and else that of the outcome.
+fn status_of(outcome: &Outcome<'_, NoStore>) -> u8 {
+    match outcome {
+        Outcome::NoStore(NoStore::NoAnswer(_)) => FAULT,
+        outcome => outcome.status(),
+    }
+}
+
+/// Has the daemon do what the words ask for, by the log at this place, or else by a journal's file, on folders that are entered also
+/// where they are of another file system, or not, prints what went wrong, where it hasn't been, and returns the status.
 pub fn serve<T: Threads + Wait + Clock + Sync>(
     rt: &HostRuntime,
     threads: &T,
     passed_over: &[PassedOver<'_, '_>],
     stays: bool,
+    log: Option<LogPlace<'_>>,
     wishes: Wishes<'_>,
 ) -> Result<ExitCode, ProgramFault> {
     let port = wishes.port;
@@ -53,11 +89,14 @@ pub fn serve<T: Threads + Wait + Clock + Sync>(
         stays,
         passed_over,
     };
-    let outcome = serve_on(rt, threads, &disks, &mut Machine { rt }, wishes);
+    let outcome = match log {
+        Some(place) => serve_on(rt, threads, &disks, &mut LogMachine { rt, place }, wishes),
+        None => serve_on(rt, threads, &disks, &mut FileMachine { rt }, wishes),
+    };
     let printout = Printout {
         out: String::new(rt.alloc()),
         err: outcome.line(rt.alloc(), port)?,
-        status: outcome.status(),
+        status: status_of(&outcome),
     };
     print_out(rt, &printout)
 }

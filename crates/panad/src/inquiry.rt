@@ -2,7 +2,7 @@
 
 use crate::track::report;
 use pana_calls::Session;
-use pana_files::{Keeper, ProgramFault, connect};
+use pana_files::{Keeper, LogPlace, ProgramFault, connect};
 use pana_store_file::{NoStore, open_hall, open_shared, open_store};
 use std::process::ExitCode;
 
@@ -26,6 +26,7 @@ pub trait Inquiry {
 fn refuse_store<I: Inquiry>(rt: &HostRuntime, refusal: NoStore) -> Result<ExitCode, ProgramFault> {
     match refusal {
         NoStore::Because(text) => I::refuse(rt, text.as_str()),
+        NoStore::NoAnswer(text) => report(rt, text.as_str()),
         NoStore::Fault(fault) => Err(fault),
     }
 }
@@ -33,11 +34,11 @@ fn refuse_store<I: Inquiry>(rt: &HostRuntime, refusal: NoStore) -> Result<ExitCo
 /// Asks a log in etcd, or reports to it.
 fn make_at_log<I: Inquiry + Drop>(
     rt: &HostRuntime,
-    address: &str,
+    place: LogPlace<'_>,
     inquiry: I,
 ) -> Result<ExitCode, ProgramFault> {
-    match open_shared(rt, address) {
-        Ok(mut store) => inquiry.make(rt, &mut store, Keeper::Log(address)),
+    match open_shared(rt, place) {
+        Ok(mut store) => inquiry.make(rt, &mut store, Keeper::Log(place)),
         Err(refusal) => refuse_store::<I>(rt, refusal),
     }
 }
@@ -68,7 +69,7 @@ pub fn ask_keeper<I: Inquiry + Drop>(
             Ok(mut hall) => inquiry.make(rt, &mut hall, keeper),
             Err(refusal) => refuse_store::<I>(rt, refusal),
         },
-        Keeper::Log(address) => make_at_log(rt, address, inquiry),
+        Keeper::Log(place) => make_at_log(rt, place, inquiry),
         Keeper::Daemon(port) => make_at_daemon(rt, port, inquiry),
     }
 }
@@ -84,7 +85,7 @@ pub fn report_to_keeper<I: Inquiry + Drop>(
             Ok(mut store) => inquiry.make(rt, &mut store, keeper),
             Err(refusal) => refuse_store::<I>(rt, refusal),
         },
-        Keeper::Log(address) => make_at_log(rt, address, inquiry),
+        Keeper::Log(place) => make_at_log(rt, place, inquiry),
         Keeper::Daemon(port) => make_at_daemon(rt, port, inquiry),
     }
 }

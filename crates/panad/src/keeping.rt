@@ -2,18 +2,20 @@
 
 use crate::command::READS;
 use crate::printing::print_out;
+use crate::track::report as report_fault;
 use pana_commands::Printout;
-use pana_files::{ProgramFault, output};
+use pana_files::{LogPlace, ProgramFault, output};
 use pana_log::FileDevice;
 use pana_store::{Store, serve_kept};
-use pana_store_file::{EtcdStore, NoStore, open_shared, open_store};
+use pana_store_file::{LogStore, NoStore, open_shared, open_store};
 use pana_wire::{ServeFault, Tap, serve_groups};
 use std::process::ExitCode;
 
-/// Prints why there is no store, and returns the status.
+/// Prints why there is no store, and returns the status: that of a fault where what keeps it gives no answer, and else 1.
 fn report(rt: &HostRuntime, refusal: NoStore) -> Result<ExitCode, ProgramFault> {
     match refusal {
         NoStore::Because(text) => print_out(rt, &Printout::reported(rt.alloc(), &text)?),
+        NoStore::NoAnswer(text) => report_fault(rt, text.as_str()),
         NoStore::Fault(fault) => Err(fault),
     }
 }
@@ -41,7 +43,7 @@ pub fn run_kept(rt: &HostRuntime, name: &str) -> Result<ExitCode, ProgramFault> 
 }
 
 /// Prints why a log has given no answer, and returns the status.
-fn report_log(rt: &HostRuntime, store: &EtcdStore) -> Result<ExitCode, ProgramFault> {
+fn report_log(rt: &HostRuntime, store: &LogStore) -> Result<ExitCode, ProgramFault> {
     let alloc = rt.alloc();
     let printout = match store.foreign() {
         Some(number) => {
@@ -53,7 +55,7 @@ fn report_log(rt: &HostRuntime, store: &EtcdStore) -> Result<ExitCode, ProgramFa
     print_out(rt, &printout)
 }
 
-fn serve_input_shared(rt: &HostRuntime, mut store: EtcdStore) -> Result<ExitCode, ProgramFault> {
+fn serve_input_shared(rt: &HostRuntime, mut store: LogStore) -> Result<ExitCode, ProgramFault> {
     let mut reader = Tap::new(rt.reader());
     let mut writer = Tap::new(output(rt)?);
     match serve_groups(rt.alloc(), &mut reader, &mut writer, &mut store, READS) {
@@ -64,8 +66,8 @@ fn serve_input_shared(rt: &HostRuntime, mut store: EtcdStore) -> Result<ExitCode
 }
 
 /// Serves standard input as `run` does, on the store of a log in etcd, into which each entry is put before its `Done` is printed.
-pub fn run_shared(rt: &HostRuntime, address: &str) -> Result<ExitCode, ProgramFault> {
-    match open_shared(rt, address) {
+pub fn run_shared(rt: &HostRuntime, place: LogPlace<'_>) -> Result<ExitCode, ProgramFault> {
+    match open_shared(rt, place) {
         Ok(store) => serve_input_shared(rt, store),
         Err(refusal) => report(rt, refusal),
     }

@@ -1,14 +1,22 @@
 //! What options that several commands have come to.
 
-use pana_arguments::{KeptBy, ShownAs};
+use pana_arguments::{KeptBy, KeptLog, ShownAs};
 use pana_commands::StatusForm;
-use pana_files::{Keeper, ProgramFault, terminal_width};
+use pana_files::{Keeper, LogPlace, ProgramFault, terminal_width};
+
+/// Where a log is, and how long it has for an answer.
+pub fn place_of(log: KeptLog<'_>) -> LogPlace<'_> {
+    LogPlace {
+        address: log.address,
+        patience: log.patience,
+    }
+}
 
 /// Who keeps the reports.
 pub fn keeper_of<'a>(kept_by: KeptBy<'a>) -> Keeper<'a> {
     match kept_by {
         KeptBy::Journal(name) => Keeper::Journal(name),
-        KeptBy::Log(address) => Keeper::Log(address),
+        KeptBy::Log(log) => Keeper::Log(place_of(log)),
         KeptBy::Daemon(port) => Keeper::Daemon(port),
     }
 }

@@ -2,9 +2,10 @@
 
 use crate::command::refuse;
 use crate::daemon;
-use pana_arguments::ServeArguments;
+use crate::options::place_of;
+use pana_arguments::{KeptBy, ServeArguments};
 use pana_daemon::{Looks, Patience, Root, roots_of};
-use pana_files::{OwnFile, ProgramFault, fault_of_roots, passed_over, root_patterns, slices_of};
+use pana_files::{LogPlace, OwnFile, ProgramFault, fault_of_roots, passed_over, root_patterns, slices_of};
 use pana_serve::Wishes;
 use std::alloc::AllocError;
 use std::marker::Sync;
@@ -28,19 +29,39 @@ fn obey<T: Threads + Wait + Clock + Sync>(
     wishes: Wishes<'_>,
     ignored: &[&str],
     stays: bool,
+    kept_by: Option<KeptBy<'_>>,
 ) -> Result<ExitCode, ProgramFault> {
     let roots = tracked_roots(rt, &wishes)?;
     if let Some(reason) = fault_of_roots(rt, roots.as_slice())? {
         return refuse(rt, reason.as_str());
     }
-    let patterns = match wishes.journal {
-        Some(name) => root_patterns(rt, roots.as_slice(), &[OwnFile::journal(name)], ignored)?,
-        None => root_patterns(rt, roots.as_slice(), &[], ignored)?,
+    let patterns = match kept_by {
+        Some(KeptBy::Journal(name)) => {
+            root_patterns(rt, roots.as_slice(), &[OwnFile::journal(name)], ignored)?
+        }
+        _ => root_patterns(rt, roots.as_slice(), &[], ignored)?,
     };
     let all = patterns.as_slice();
     let slices = slices_of(rt, all)?;
     let passed = passed_over(rt, all, slices.as_slice())?;
-    daemon::serve(rt, threads, passed.as_slice(), stays, wishes)
+    daemon::serve(rt, threads, passed.as_slice(), stays, log_of(kept_by), wishes)
+}
+
+/// The log, if it is one.
+fn log_of(kept_by: Option<KeptBy<'_>>) -> Option<LogPlace<'_>> {
+    match kept_by {
+        Some(KeptBy::Log(log)) => Some(place_of(log)),
+        _ => None,
+    }
+}
+
+/// The name of the journal's file, or the address of the log.
+fn journal_of(kept_by: Option<KeptBy<'_>>) -> Option<&str> {
+    match kept_by {
+        Some(KeptBy::Journal(name)) => Some(name),
+        Some(KeptBy::Log(log)) => Some(log.address),
+        _ => None,
+    }
 }
 
 /// Serves as the words ask for.
@@ -51,7 +72,7 @@ pub fn run<T: Threads + Wait + Clock + Sync>(
 ) -> Result<ExitCode, ProgramFault> {
     let wishes = Wishes {
         port: arguments.port,
-        journal: arguments.journal,
+        journal: journal_of(arguments.kept_by),
         roots: arguments.roots,
         looks: Looks {
             is_tracked: arguments.is_tracked,
@@ -63,5 +84,12 @@ pub fn run<T: Threads + Wait + Clock + Sync>(
             idle: arguments.idle,
         },
     };
-    obey(rt, threads, wishes, arguments.ignored, arguments.stays)
+    obey(
+        rt,
+        threads,
+        wishes,
+        arguments.ignored,
+        arguments.stays,
+        arguments.kept_by,
+    )
 }

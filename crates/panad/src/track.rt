@@ -62,7 +62,7 @@ fn track_by<T: Threads + Sync, S: Session>(
 /// Prints why there is no store, and returns the status.
 fn report_refusal(rt: &HostRuntime, refusal: NoStore) -> Result<ExitCode, ProgramFault> {
     match refusal {
-        NoStore::Because(text) => report(rt, text.as_str()),
+        NoStore::Because(text) | NoStore::NoAnswer(text) => report(rt, text.as_str()),
         NoStore::Fault(fault) => Err(fault),
     }
 }
@@ -94,7 +94,7 @@ pub fn track<T: Threads + Sync>(
             Ok(mut store) => track_by(rt, threads, &mut store, roots, wishes),
             Err(refusal) => report_refusal(rt, refusal),
         },
-        Keeper::Log(address) => match open_shared(rt, address) {
+        Keeper::Log(place) => match open_shared(rt, place) {
             Ok(mut store) => track_by(rt, threads, &mut store, roots, wishes),
             Err(refusal) => report_refusal(rt, refusal),
         },
