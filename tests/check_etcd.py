@@ -177,6 +177,28 @@ def as_a_file(setting, room):
     yield from differs(setting.run("load", room / "dump"), setting.run("show", "--journal", file))
 
 
+def copied(setting, room):
+    """A journal is copied from a file into etcd, and back, entry by entry; a target that isn't empty is refused, and stays as it is."""
+    file, back, other = room / "journal", room / "back", room / "other"
+    address, empty = setting.one.address("copied"), setting.one.address("never")
+    setting.run("run", "--journal", file, given=b"".join((*LINES, *LATER, line_of("usb", "withdraw", entry=4))))
+    setting.run("run", "--journal", other, given=LINES[0])
+    dump = lambda *keeper: setting.run("run", *keeper, given=LATER[-1])
+    count = len(json.loads(dump("--journal", file)[1])["entries"])
+    copy = lambda source, target: setting.run("log", "copy", "--from", source, "--to", target)
+    for source, target, keeper in ((file, address, "--log"), (address, back, "--journal")):
+        yield from differs(copy(source, target), (0, f"copied {count} entries\n", ""))
+        yield from differs(dump(keeper, target), dump("--journal", file))
+        yield from differs(setting.run("show", keeper, target), setting.run("show", "--journal", file))
+    for source, target in ((other, address), (address, other), (file, file), (address, address)):
+        yield from differs((source, target, *copy(source, target)), (source, target, 3, "", "panad: the target isn't empty\n"))
+    yield from differs((dump("--log", address), len(setting.one.values("copied"))), (dump("--journal", file), count))
+    yield from differs(copy(empty, room / "none"), (0, "copied 0 entries\n", ""))
+    for words in (("--from", file), ("--to", address), ("--from", file, "--to", "etcd://a"), ("--from", "etcd://", "--to", file)):
+        status, out, err = setting.run("log", "copy", *words)
+        yield from differs((words, status, out, err[:7]), (words, 2, "", "error: "))
+
+
 def words_refused(setting, room):
     """What is no address of a log is refused with a line, and so is a log beside a journal or a daemon."""
     port = setting.one.ports[0]
@@ -188,7 +210,7 @@ def words_refused(setting, room):
         yield from differs((address, word, got, out, err.startswith(f"error: log {address}: ") or err), (address, word, 2, "", True))
     address = setting.one.address("words")
     rows = (("run", "--journal", room / "a"), ("status", "--journal", room / "a"), ("status", "--port", "7"), ("report", "edit", USB, "--port", "7"), ("show", "--port", "7"), ("serve", "--port", "0", "--journal", room / "a"))
-    for words in (*rows, ("run", "--patience", "x")):
+    for words in (*rows, ("run", "--patience", "x"), ("run", "--patience", "3", "--journal", room / "a")):
         status, out, err = setting.run(*words, "--log", address)
         yield from differs((words, status, out, err[:7]), (words, 2, "", "error: "))
     yield from differs((setting.one.values("words"), (room / "a").exists()), ({}, False))
@@ -408,7 +430,7 @@ def waited(setting, room):
     yield from setting.waiting.result()
 
 
-CHECKS = (as_a_file, words_refused, sessions_at_once, killed, other_values, other_value_later, full, waited)
+CHECKS = (as_a_file, copied, words_refused, sessions_at_once, killed, other_values, other_value_later, full, waited)
 
 
 def main(words):

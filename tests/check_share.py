@@ -21,7 +21,7 @@ from harness import differs, run_checks
 
 TOP = Path(__file__).resolve().parent.parent
 SHARE = TOP / "share"
-COMMANDS = ("run", "show", "load", "scan", "compare", "track", "status", "may-overwrite", "why", "history", "report", "watch", "serve")
+COMMANDS = ("run", "show", "load", "scan", "compare", "track", "status", "may-overwrite", "why", "history", "report", "watch", "serve", "log")
 OPTION = re.compile(r"^ +(?:-\w, )?(--[a-z-]+)", re.MULTILINE)
 ZSH_OPTION = re.compile(r"--[a-z-]+(?=\[)")
 

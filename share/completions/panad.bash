@@ -2,18 +2,19 @@
 
 _panad_options() {
   case $1 in
-    run) printf '%s\n' --journal --log --help ;;
-    show) printf '%s\n' --journal --log --port --family --split --help ;;
-    status) printf '%s\n' --journal --log --port --all --quiet --json --help ;;
-    may-overwrite) printf '%s\n' --journal --log --port --by --help ;;
-    why) printf '%s\n' --journal --log --port --help ;;
-    history) printf '%s\n' --journal --log --port --svg --help ;;
+    run) printf '%s\n' --journal --log --patience --help ;;
+    show) printf '%s\n' --journal --log --patience --port --family --split --help ;;
+    status) printf '%s\n' --journal --log --patience --port --all --quiet --json --help ;;
+    may-overwrite) printf '%s\n' --journal --log --patience --port --by --help ;;
+    why) printf '%s\n' --journal --log --patience --port --help ;;
+    history) printf '%s\n' --journal --log --patience --port --svg --help ;;
     watch) printf '%s\n' --port --from --help ;;
-    report) printf '%s\n' --journal --log --port --by --sum --heir --help ;;
+    report) printf '%s\n' --journal --log --patience --port --by --sum --heir --help ;;
+    log) printf '%s\n' --from --to --patience --help ;;
     load | scan | compare) printf '%s\n' --help ;;
-    track) printf '%s\n' --journal --log --port --sums --empty --ignore --read-all --one-file-system --quiet --json --help ;;
+    track) printf '%s\n' --journal --log --patience --port --sums --empty --ignore --read-all --one-file-system --quiet --json --help ;;
     serve)
-      printf '%s\n' --port --sessions --journal --track --every --ignore --one-file-system --hurry --idle --help
+      printf '%s\n' --port --sessions --journal --log --patience --track --every --ignore --one-file-system --hurry --idle --help
       ;;
   esac
 }
@@ -26,11 +27,11 @@ _panad() {
   # Of DEVICE=DIR bash makes three words.
   [ "$word" != = ] || before== word=
   if [ "$COMP_CWORD" -eq 1 ]; then
-    mapfile -t COMPREPLY < <(compgen -W 'run show load scan compare track status may-overwrite why history report watch serve --help --version' -- "$word")
+    mapfile -t COMPREPLY < <(compgen -W 'run show load scan compare track status may-overwrite why history report watch serve log --help --version' -- "$word")
     return
   fi
   case $before in
-    --journal | --sums | --svg)
+    --journal | --sums | --svg | --to)
       mapfile -t COMPREPLY < <(compgen -f -- "$word")
       return
       ;;
@@ -38,12 +39,14 @@ _panad() {
       mapfile -t COMPREPLY < <(compgen -d -- "$word")
       return
       ;;
-    --port | --sessions | --every | --ignore | --hurry | --idle | --by | --sum | --heir | --family | --from) return ;;
+    --log | --patience | --port | --sessions | --every | --ignore | --hurry | --idle | --by | --sum | --heir | --family | --from) return ;;
   esac
   if [[ $word == -* ]]; then
     mapfile -t COMPREPLY < <(compgen -W "$(_panad_options "$command")" -- "$word")
   elif [ "$command" = show ] || [ "$command" = load ]; then
     mapfile -t COMPREPLY < <(compgen -f -- "$word")
+  elif [ "$command" = log ] && [ "$COMP_CWORD" -eq 2 ]; then
+    mapfile -t COMPREPLY < <(compgen -W copy -- "$word")
   elif [ "$command" = report ] && [ "$COMP_CWORD" -eq 2 ]; then
     mapfile -t COMPREPLY < <(compgen -W "$_panad_reports" -- "$word")
   elif [ "$command" = scan ] && [ "$COMP_CWORD" -eq 3 ]; then

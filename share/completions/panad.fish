@@ -29,8 +29,13 @@ complete -c panad -n __fish_use_subcommand -a history -d 'Print all that was rep
 complete -c panad -n __fish_use_subcommand -a report -d 'Report one change of copies that are named by their places'
 complete -c panad -n __fish_use_subcommand -a watch -d 'Print each entry of a daemon as it comes'
 complete -c panad -n __fish_use_subcommand -a serve -d 'Answer lines over TCP, and look at folders'
+complete -c panad -n __fish_use_subcommand -a log -d 'Move a journal between a file and etcd'
 complete -c panad -n '__panad_after run show track status may-overwrite why history report serve' -l journal -r -F -d 'The file that keeps the reports'
-complete -c panad -n '__panad_after run show track status may-overwrite why history report' -l log -x -d 'A journal in etcd'
+complete -c panad -n '__panad_after run show track status may-overwrite why history report serve' -l log -x -d 'A journal in etcd'
+complete -c panad -n '__panad_after run show track status may-overwrite why history report serve log' -l patience -x -d 'Time for an answer of the journal in etcd'
+complete -c panad -n '__panad_after log' -a copy
+complete -c panad -n '__panad_after log' -l from -r -F -d 'The journal that is read'
+complete -c panad -n '__panad_after log' -l to -r -F -d 'The journal that is made'
 complete -c panad -n '__panad_after show load' -F
 complete -c panad -n '__panad_after scan' -a '(__fish_complete_directories)'
 complete -c panad -n '__panad_after show track status may-overwrite why history report watch' -l port -x -d 'Speak to the daemon on this port'

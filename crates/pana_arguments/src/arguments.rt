@@ -4,6 +4,7 @@ use crate::command_name::{CommandName, command_named};
 use crate::compare::CompareArguments;
 use crate::history::HistoryArguments;
 use crate::load::LoadArguments;
+use crate::log_copy::CopyArguments;
 use crate::may_overwrite::OverwriteArguments;
 use crate::options::KeptBy;
 use crate::report::ReportArguments;
@@ -33,10 +34,11 @@ pub enum Arguments<'a> {
     Report(ReportArguments<'a>),
     Watch(WatchArguments),
     Serve(ServeArguments<'a>),
+    LogCopy(CopyArguments<'a>),
 }
 
 impl<'a> Arguments<'a> {
-    /// Who is to keep the reports, if the words name anyone.
+    /// Who is to keep the reports, or keeps them, if the words name one alone.
     pub fn kept_by(self) -> Option<KeptBy<'a>> {
         match self {
             Arguments::Run(arguments) => arguments.kept_by,
@@ -52,7 +54,8 @@ impl<'a> Arguments<'a> {
             | Arguments::Load(_)
             | Arguments::Scan(_)
             | Arguments::Compare(_)
-            | Arguments::Watch(_) => None,
+            | Arguments::Watch(_)
+            | Arguments::LogCopy(_) => None,
         }
     }
 }
@@ -76,6 +79,7 @@ fn arguments_to<'a>(
         CommandName::Report => Arguments::Report(ReportArguments::of(words)),
         CommandName::Watch => Arguments::Watch(WatchArguments::of(words)),
         CommandName::Serve => Arguments::Serve(ServeArguments::of(words)),
+        CommandName::Log => Arguments::LogCopy(CopyArguments::of(words)?),
     })
 }
 

@@ -4,6 +4,7 @@ use crate::command_name::{COMMANDS, CommandName};
 use crate::compare::compare_command;
 use crate::history::history_command;
 use crate::load::load_command;
+use crate::log_copy::log_command;
 use crate::may_overwrite::overwrite_command;
 use crate::report::report_command;
 use crate::run::run_command;
@@ -37,7 +38,7 @@ obsolete or in conflict. `panad may-overwrite` says whether a copy may be replac
 `panad why` what each of two copies knows that the other lacks, `panad history` all
 that was reported of a file, as a graph, and `panad report` makes one report of
 copies that are named by their places. `panad watch` prints what is reported to a
-daemon, as it comes.
+daemon, as it comes, and `panad log copy` moves a journal into etcd or out.
 `panad COMMAND --help` shows an example. docs/PROTOCOL.md has all answers, and
 docs/PROMISES.md what is proved of them, and what isn't.";
 
@@ -57,6 +58,7 @@ fn command_of<'a>(alloc: Global, name: CommandName) -> Result<Command<'a>, Alloc
         CommandName::Report => report_command(alloc),
         CommandName::Watch => watch_command(alloc),
         CommandName::Serve => serve_command(alloc),
+        CommandName::Log => log_command(alloc),
     }
 }
 

@@ -3,6 +3,7 @@
 use crate::compare::COMPARE;
 use crate::history::HISTORY;
 use crate::load::LOAD;
+use crate::log_copy::LOG;
 use crate::may_overwrite::MAY_OVERWRITE;
 use crate::report::REPORT;
 use crate::run::RUN;
@@ -30,10 +31,11 @@ pub enum CommandName {
     Report,
     Watch,
     Serve,
+    Log,
 }
 
 /// All of them, in the order of the help.
-pub const COMMANDS: [CommandName; 13] = [
+pub const COMMANDS: [CommandName; 14] = [
     CommandName::Run,
     CommandName::Show,
     CommandName::Load,
@@ -47,6 +49,7 @@ pub const COMMANDS: [CommandName; 13] = [
     CommandName::Report,
     CommandName::Watch,
     CommandName::Serve,
+    CommandName::Log,
 ];
 
 /// The command with this name.
@@ -65,6 +68,7 @@ pub fn command_named(name: &str) -> Option<CommandName> {
         REPORT => Some(CommandName::Report),
         WATCH => Some(CommandName::Watch),
         SERVE => Some(CommandName::Serve),
+        LOG => Some(CommandName::Log),
         _ => None,
     }
 }

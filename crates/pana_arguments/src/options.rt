@@ -33,7 +33,7 @@ pub const JSON: &str = "json";
 const QUIET: &str = "quiet";
 
 /// The name of the time for an answer of a log, and the seconds where it isn't given.
-const PATIENCE: &str = "patience";
+pub const PATIENCE: &str = "patience";
 
 const PATIENCE_SECONDS: u32 = 10;
 
@@ -145,6 +145,14 @@ pub struct KeptLog<'a> {
     pub patience: u32,
 }
 
+/// For how many seconds an answer of a log is waited for.
+pub fn patience_of(words: &ArgMatches) -> u32 {
+    words.get_one(PATIENCE).unwrap_or(PATIENCE_SECONDS)
+}
+
+/// How the address of a log begins, which no name of a journal's file needs to.
+const SCHEME: &str = "etcd://";
+
 /// Who keeps the reports.
 #[derive(Clone, Copy)]
 pub enum KeptBy<'a> {
@@ -165,12 +173,24 @@ impl<'a> KeptBy<'a> {
         KeptBy::own(words)
     }
 
+    /// The log at this address, where it begins as one, or else the journal in the file with this name.
+    pub fn named_so(name: &'a str, patience: u32) -> KeptBy<'a> {
+        if name.starts_with(SCHEME) {
+            KeptBy::Log(KeptLog {
+                address: name,
+                patience,
+            })
+        } else {
+            KeptBy::Journal(name)
+        }
+    }
+
     /// The journal or the log that the words name, if they do.
     pub fn own(words: &'a ArgMatches) -> Option<KeptBy<'a>> {
         if let Some(address) = words.get_str(LOG) {
             return Some(KeptBy::Log(KeptLog {
                 address,
-                patience: words.get_one(PATIENCE).unwrap_or(PATIENCE_SECONDS),
+                patience: patience_of(words),
             }));
         }
         match words.get_str(JOURNAL) {

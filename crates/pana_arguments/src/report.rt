@@ -1,7 +1,9 @@
 //! The words of `panad report`.
 
 use crate::item::{Item, Kind, Need, with_items};
-use crate::options::{KeptBy, LOG_PATIENCE, PLACE, REPORTED_JOURNAL, REPORTED_PORT, SHARED_LOG, value_of, values_of};
+use crate::options::{
+    KeptBy, LOG_PATIENCE, PLACE, REPORTED_JOURNAL, REPORTED_PORT, SHARED_LOG, value_of, values_of,
+};
 use clap::{ArgMatches, Command};
 use std::alloc::{AllocError, Global};
 

@@ -1,7 +1,10 @@
 //! The words of `panad serve`.
 
 use crate::item::{Item, Kind, Need, with_items};
-use crate::options::{IGNORE, KeptBy, LOG_PATIENCE, ONE_FILE_SYSTEM, OWN_JOURNAL, OWN_LOG, PORT, ROOT, ROOTS_HELP, STAY, values_of};
+use crate::options::{
+    IGNORE, KeptBy, LOG_PATIENCE, ONE_FILE_SYSTEM, OWN_JOURNAL, OWN_LOG, PORT, ROOT, ROOTS_HELP,
+    STAY, values_of,
+};
 use clap::{ArgMatches, Command};
 use std::alloc::{AllocError, Global};
 

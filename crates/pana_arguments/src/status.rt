@@ -1,7 +1,10 @@
 //! The words of `panad status`.
 
 use crate::item::{Item, Kind, Need, with_items};
-use crate::options::{ASKED_PORT, AS_JSON, JSON, KeptBy, LOG_PATIENCE, NO_TABLE, PLACE, READ_JOURNAL, SHARED_LOG, ShownAs, values_of};
+use crate::options::{
+    AS_JSON, ASKED_PORT, JSON, KeptBy, LOG_PATIENCE, NO_TABLE, PLACE, READ_JOURNAL, SHARED_LOG,
+    ShownAs, values_of,
+};
 use clap::{ArgMatches, Command};
 use std::alloc::{AllocError, Global};
 

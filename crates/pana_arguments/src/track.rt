@@ -1,7 +1,10 @@
 //! The words of `panad track`.
 
 use crate::item::{Item, Kind, Need, with_items};
-use crate::options::{AS_JSON, IGNORE, KeptBy, LOG_PATIENCE, NO_TABLE, ONE_FILE_SYSTEM, REPORTED_JOURNAL, REPORTED_PORT, ROOT, ROOTS_HELP, SHARED_LOG, STAY, ShownAs, values_of};
+use crate::options::{
+    AS_JSON, IGNORE, KeptBy, LOG_PATIENCE, NO_TABLE, ONE_FILE_SYSTEM, REPORTED_JOURNAL,
+    REPORTED_PORT, ROOT, ROOTS_HELP, SHARED_LOG, STAY, ShownAs, values_of,
+};
 use clap::{ArgMatches, Command};
 use std::alloc::{AllocError, Global};
 

@@ -1,7 +1,9 @@
 //! The words of `panad why`.
 
 use crate::item::{Item, Kind, Need, with_items};
-use crate::options::{ASKED_PORT, KeptBy, LOG_PATIENCE, PLACE, PLACE_WORD, READ_JOURNAL, SHARED_LOG, value_of};
+use crate::options::{
+    ASKED_PORT, KeptBy, LOG_PATIENCE, PLACE, PLACE_WORD, READ_JOURNAL, SHARED_LOG, value_of,
+};
 use clap::{ArgMatches, Command};
 use std::alloc::{AllocError, Global};
 

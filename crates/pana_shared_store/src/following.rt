@@ -25,6 +25,7 @@ fn follow(alloc: Global, hall: &mut Hall, entry: &Entry) -> Result<(), ReadFault
     ensures ok { OnOk result (hall.new ≡ hall.old ++ entry.now ∷ []) }
     ensures err { OnErr result (hall.new ≡ hall.old) }
 {
+    let number = hall.length().saturating_add(1);
     let Ok(report) = entry.report.copy_of(alloc) else {
         return Err(ReadFault::OutOfMemory);
     };
@@ -35,19 +36,17 @@ fn follow(alloc: Global, hall: &mut Hall, entry: &Entry) -> Result<(), ReadFault
                 Ok(())
             } else {
                 cancel_into(hall, prepared);
-                Err(ReadFault::Foreign {
-                    number: entry.number,
-                })
+                Err(ReadFault::Foreign { number })
             }
         }
         Err(Unprepared { hall: same, reply }) => {
             *hall = same;
-            Err(why_not(reply, entry.number))
+            Err(why_not(reply, number))
         }
     }
 }
 
-/// Why an entry can't be followed, from the reply that its report gets.
+/// Why the entry with this number can't be followed, from the reply that its report gets.
 fn why_not(reply: Reply, number: u64) -> ReadFault {
     match reply {
         Reply::Refused(Cause::OutOfMemory) => ReadFault::OutOfMemory,

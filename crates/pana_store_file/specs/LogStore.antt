@@ -1,5 +1,5 @@
 -- What calls do to a store of a log of which nothing is known.
-use Rattle.std.specs.Prelude.{◌≡◌, ◌×◌, ℕ, Bool, false, List}
+use Rattle.std.specs.Prelude.{◌≡◌, ℕ, Bool, false, List}
 use Rattle.pana_journal.specs.declared.entry.Entry.{Entry}
 use Rattle.pana_calls.specs.declared.answer.Answer.{Answer}
 use Rattle.pana_calls.specs.declared.call.Call.{Call}

@@ -6,7 +6,7 @@ use crate::printing::{print_out, print_out_tables};
 use crate::show_command::show_tables;
 use crate::track::FAULT;
 use crate::{
-    history_command, overwrite_command, report_command, serve_command, status_command,
+    history_command, log_copy, overwrite_command, report_command, serve_command, status_command,
     track_command, watch_command, why_command,
 };
 use pana_arguments::{
@@ -189,12 +189,13 @@ fn obey_arguments<T: Threads + Wait + Clock + Sync>(
         Arguments::History(arguments) => history_command::run(rt, arguments),
         Arguments::Report(arguments) => report_command::run(rt, arguments),
         Arguments::Watch(arguments) => watch_command::run(rt, arguments),
+        Arguments::LogCopy(arguments) => log_copy::run(rt, arguments),
     };
     Ok(status_of(rt, end, FAULT))
 }
 
 /// What is wrong with the words for a log, if something is.
-fn fault_of_log(
+pub fn fault_of_log(
     rt: &HostRuntime,
     kept_by: Option<KeptBy<'_>>,
 ) -> Result<Option<String>, ProgramFault> {

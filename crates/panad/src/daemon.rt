@@ -46,12 +46,12 @@ impl System for FileMachine<'_> {
 
 /// The system's ports, and the log in etcd at this place.
 #[derive(Drop)]
-struct LogMachine<'a> {
+struct LogMachine<'a, 'b> {
     rt: &'a HostRuntime,
-    place: LogPlace<'a>,
+    place: LogPlace<'b>,
 }
 
-impl System for LogMachine<'_> {
+impl System for LogMachine<'_, '_> {
     type Store = LogStore;
 
     type Refusal = NoStore;

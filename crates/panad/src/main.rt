@@ -7,6 +7,7 @@ mod daemon;
 mod history_command;
 mod inquiry;
 mod keeping;
+mod log_copy;
 mod options;
 mod overwrite_command;
 mod printing;

@@ -5,7 +5,9 @@ use crate::daemon;
 use crate::options::place_of;
 use pana_arguments::{KeptBy, ServeArguments};
 use pana_daemon::{Looks, Patience, Root, roots_of};
-use pana_files::{LogPlace, OwnFile, ProgramFault, fault_of_roots, passed_over, root_patterns, slices_of};
+use pana_files::{
+    LogPlace, OwnFile, ProgramFault, fault_of_roots, passed_over, root_patterns, slices_of,
+};
 use pana_serve::Wishes;
 use std::alloc::AllocError;
 use std::marker::Sync;
@@ -44,7 +46,14 @@ fn obey<T: Threads + Wait + Clock + Sync>(
     let all = patterns.as_slice();
     let slices = slices_of(rt, all)?;
     let passed = passed_over(rt, all, slices.as_slice())?;
-    daemon::serve(rt, threads, passed.as_slice(), stays, log_of(kept_by), wishes)
+    daemon::serve(
+        rt,
+        threads,
+        passed.as_slice(),
+        stays,
+        log_of(kept_by),
+        wishes,
+    )
 }
 
 /// The log, if it is one.

@@ -17,8 +17,8 @@ on_err (Err e) f p = f p
 pub returns-in_default-clause-err : goal.returns-in_default-clause-err
 returns-in_default-clause-err g t c = inl (stays_none g.L.SharedLog.is_known c.args.hall.now (g.L.SharedLog.seen c.args.log.now) (λ known. (c.requires.store known).first))
 
-pub returns-in_default-call_copy-clause-err : goal.returns-in_default-call_copy-clause-err
-returns-in_default-call_copy-clause-err g t c = inl (stays_none g.L.SharedLog.is_known c.args.hall.now (g.L.SharedLog.seen c.args.log.now) (λ known. (c.requires.store known).first))
+pub returns-in_default-copy_of-clause-err : goal.returns-in_default-copy_of-clause-err
+returns-in_default-copy_of-clause-err g t c = inl (stays_none g.L.SharedLog.is_known c.args.hall.now (g.L.SharedLog.seen c.args.log.now) (λ known. (c.requires.store known).first))
 
 pub returns-in-Behind-clause-ok : goal.returns-in-Behind-clause-ok
 returns-in-Behind-clause-ok g t c =
