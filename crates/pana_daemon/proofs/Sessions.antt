@@ -50,21 +50,22 @@ module _ {S : Type 0} (steps : S → Request → Response → S → Type 0) wher
   pub request_grows : (old new : PassView S) (request : Request) (response : Response) → Requests steps old request response new → GrowsTo old new
   request_grows old new request response m = added_grows old new _ _ m.same m.adds
 
-  either_grows : (old new : PassView S) (request : Request) (response : Response) → Requests steps old request response new ⊎ RequestsNone steps old new → GrowsTo old new
-  either_grows old new request response (inl m) = request_grows old new request response m
-  either_grows old new request response (inr m) = record { same = m.same; seen = m.seen }
+  none_made : (old new : PassView S) → RequestsNone steps old new → GrowsTo old new
+  none_made old new m = record { same = m.same; seen = m.seen }
 
   pub call_grows : (old new : PassView S) (by : List ℕ) (call : Call) (answer : Answer) → MakesCall steps old by call answer new → GrowsTo old new
   call_grows old new by call answer m = request_grows old new _ _ m
 
   pub none_grows : (old new : PassView S) (by : List ℕ) (call : Call) → GetsNone steps old by call new → GrowsTo old new
-  none_grows old new by call m = either_grows old new _ _ m
+  none_grows old new by call (inl m) = request_grows old new _ _ m.1
+  none_grows old new by call (inr m) = none_made old new m
 
   pub settled_grows : (old new : PassView S) → Settles steps old new → GrowsTo old new
   settled_grows old new m = request_grows old new _ _ m
 
   pub broken_grows : (old new : PassView S) → BreaksOff steps old new → GrowsTo old new
-  broken_grows old new m = either_grows old new _ _ m
+  broken_grows old new (inl m) = request_grows old new _ _ m.1
+  broken_grows old new (inr m) = none_made old new m
 
   said_grows : (old new : PassView S) (said : Result Message WireFault) (text : List ℕ) (n : ℕ) → AnswersSaid (MakesCall steps) old said text new n → GrowsTo old new
   said_grows old new (Err fault) text n a = grows_same old new a.1
