@@ -1,5 +1,5 @@
 -- Looks of a scanner, one after another.
-use Rattle.std.proofs.Common.{◌≡◌, ◌⊎◌, inl, inr, ℕ, List, [], ◌∷◌, ◌++◌, Option, Some, refl, subst}
+use Rattle.std.proofs.Common.{◌≡◌, ◌⊎◌, inl, inr, ℕ, List, [], ◌∷◌, ◌++◌, Option, None, Some, refl, subst}
 use Rattle.pana_calls.specs.declared.call.Call.{Call}
 use Rattle.pana_calls.specs.declared.answer.Answer.{Answer}
 use Rattle.pana_scan.specs.declared.baseline.BaselineRow.{BaselineRow}
@@ -31,6 +31,19 @@ module _ {F S : Type 0} (gives : F → Option Look → F → Type 0) (step : S �
     pub given : List Look
     pub folder : Gives gives folder_old given folder_new
     pub takes : TakesLooks step device fails settles breaks_off may_recover given old new [] marks
+
+  -- the folder gives no more
+  pub no_more : (folder_old : F) (old : S) (folder_mid folder_new : F) (new : S) (marks : List BaselineRow) → LookedSoFar folder_old folder_mid old new marks → gives folder_mid None folder_new
+      → Scans gives step fails settles breaks_off may_recover device folder_old folder_new old new
+  no_more folder_old old folder_mid folder_new new marks far gave = record {
+    given = far.given;
+    baseline = marks;
+    folder_mid = folder_mid;
+    mid = new;
+    folder = far.folder;
+    takes = far.takes;
+    ends = inl (gave, refl);
+  }
 
   module _ (folder_old : F) (old : S) (folder_mid folder_new : F) (mid : S) (marks : List BaselineRow) (next : Look) (far : LookedSoFar folder_old folder_mid old mid marks) (gave : gives folder_mid (Some next) folder_new) where
     -- one look more

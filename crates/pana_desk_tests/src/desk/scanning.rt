@@ -8,6 +8,7 @@ use pana_journal::{EntryList, Report};
 use pana_scan::{Found, Listing, ScanFault};
 use pana_turn::Desk;
 use std::alloc::{AllocError, Global};
+use std::sync::Wait;
 use std::test::Fail;
 
 /// The SHA-256 of `abc`.
@@ -103,8 +104,12 @@ impl Session for Faltering {
 }
 
 /// What a scanner of such a folder has reported to a session of which one call has no answer.
-fn reported(rt: &HostRuntime, fails_at: u64, recovers: bool) -> Result<EntryList, Fail> {
-    let alloc = rt.alloc();
+fn reported<T: Wait>(
+    rt: &T,
+    alloc: Global,
+    fails_at: u64,
+    recovers: bool,
+) -> Result<EntryList, Fail> {
     let hall = Hall::new(alloc)?;
     let session = Faltering {
         hall,
@@ -130,7 +135,7 @@ fn reported(rt: &HostRuntime, fails_at: u64, recovers: bool) -> Result<EntryList
 #[test]
 fn scanner_goes_on(rt: HostRuntime) -> Result<(), Fail> {
     for fails_at in 1..4 {
-        let entries = reported(&rt, fails_at, true)?;
+        let entries = reported(&rt, rt.alloc(), fails_at, true)?;
         let entries = entries.as_slice();
         assert_eq!(rt; entries.len(), 2);
         assert!(rt; matches!(entries[0].report, Report::Register { .. }));
@@ -141,7 +146,7 @@ fn scanner_goes_on(rt: HostRuntime) -> Result<(), Fail> {
 
 #[test]
 fn scanner_ends(rt: HostRuntime) -> Result<(), Fail> {
-    let entries = reported(&rt, 3, false)?;
+    let entries = reported(&rt, rt.alloc(), 3, false)?;
     assert_eq!(rt; entries.as_slice().len(), 1);
     Ok(())
 }

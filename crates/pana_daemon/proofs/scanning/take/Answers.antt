@@ -1,4 +1,4 @@
-use Rattle.std.proofs.Common.{subst, sym}
+use Rattle.std.proofs.Common.{refl, subst, sym}
 use Rattle.pana_daemon.specs.declared.folder.Look.{Look}
 use Rattle.pana_daemon.specs.Scan.{StopsLook}
 use Rattle.pana_daemon.proofs.Scans.{on_err, on_err_then, scan_stops_look, tracking_stops_look}
