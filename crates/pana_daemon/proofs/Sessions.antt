@@ -1,5 +1,5 @@
 -- What a session leaves of its pass.
-use Rattle.std.proofs.Common.{◌≡◌, ℕ, List, [], ◌∷◌, ◌++◌, ◌⊎◌, inl, inr, Bool, Option, Result, Ok, Err, refl, sym, ap, subst, ◌∙◌, append_assoc, append-nil, ◌^◌, IfOk, IfErr}
+use Rattle.std.proofs.Common.{◌≡◌, ℕ, List, [], ◌∷◌, ◌++◌, ◌⊎◌, inl, inr, Bool, true, Option, Result, Ok, Err, refl, sym, ap, subst, ◌∙◌, append_assoc, append-nil, ◌^◌, IfOk, IfErr}
 use Rattle.pana_calls.specs.declared.call.Call.{Call}
 use Rattle.pana_calls.specs.declared.answer.Answer.{Answer}
 use Rattle.pana_wire.specs.declared.fault.WireFault.{WireFault}
@@ -14,13 +14,13 @@ use Rattle.pana_wire.specs.Lines.{ended}
 use Rattle.pana_wire.specs.Tap.{Note}
 use Rattle.pana_turn.specs.History.{IsHistory}
 use Rattle.pana_turn.specs.Passes.{AddsCall, IsSamePass}
-use Rattle.pana_daemon.specs.Desk.{Finished, PassView, RequestSteps}
+use Rattle.pana_daemon.specs.Desk.{Finished, PassView, RequestSteps, is_passing}
 use Rattle.pana_daemon.specs.declared.request.Request.{Request}
 use Rattle.pana_daemon.specs.declared.request.Request.TheVariants.{Make, Settle}
 use Rattle.pana_daemon.specs.declared.request.Response.{Response}
 use Rattle.pana_daemon.specs.declared.request.Response.TheVariants.{Answer as Answered, Settled}
 use Rattle.pana_daemon.specs.Served.{EndsWith, IsServed}
-use Rattle.pana_daemon.specs.Session.{BreaksOff, GetsNone, GrowsTo, MakesCall, Requests, RequestsNone, Settles, requests_seen}
+use Rattle.pana_daemon.specs.Session.{BreaksOff, GetsNone, GrowsTo, MakesCall, MayRecover, Requests, RequestsNone, Settles, requests_seen}
 
 module _ {S : Type 0} where
   pub grows_same : (old new : PassView S) → new ≡ old → GrowsTo old new
@@ -35,8 +35,12 @@ module _ {S : Type 0} where
   added_grows : (old new : PassView S) (request : Request) (response : Response) → IsSamePass old new → AddsCall old new request response → GrowsTo old new
   added_grows old new request response same adds = record { same = same; seen = (adds.between ++ _ ∷ [], sym (append_assoc old.seen adds.between _) ∙ sym adds.seen) }
 
+  -- nothing has come of the request, for now
+  pub passing_so : (old new : PassView S) (request : Request) (response : Response) → IsSamePass old new → AddsCall old new request response → is_passing response ≡ true → MayRecover new
+  passing_so old new request response same adds passing = record { before = old.seen ++ adds.between; last = _; seen = adds.seen; own = sym same.1; passing = passing }
+
   -- the last request of a history does what it did
-  last_step : (steps : S → Request → Response → S → Type 0) (begun : S) (before : List (Finished S)) (last : Finished S) → IsHistory steps begun (before ++ last ∷ []) → (old : S) × steps old last.call last.reply last.left
+  pub last_step : (steps : S → Request → Response → S → Type 0) (begun : S) (before : List (Finished S)) (last : Finished S) → IsHistory steps begun (before ++ last ∷ []) → (old : S) × steps old last.call last.reply last.left
   last_step steps begun [] last run = (begun, run.0)
   last_step steps begun (finished ∷ before) last run = last_step steps finished.left before last run.1
 

@@ -1,12 +1,12 @@
 -- What a session at a desk does to its pass.
-use Rattle.std.specs.Prelude.{◌≡◌, ◌⊎◌, ◌^◌, ◌≤◌, ℕ, Bool, true, List, length}
+use Rattle.std.specs.Prelude.{◌≡◌, ◌⊎◌, ◌^◌, ◌≤◌, ℕ, Bool, true, List, [], ◌∷◌, ◌++◌, length}
 use Rattle.std.specs.List.{list_any}
 use mathlib.Core.List.{IsPrefix}
 use Rattle.pana_calls.specs.declared.call.Call.{Call}
 use Rattle.pana_calls.specs.declared.answer.Answer.{Answer}
 use Rattle.pana_turn.specs.History.{IsHistory}
 use Rattle.pana_turn.specs.Passes.{AddsCall, IsSamePass, own_calls}
-use Rattle.pana_daemon.specs.Desk.{PassView, is_nothing, is_passing}
+use Rattle.pana_daemon.specs.Desk.{Finished, PassView, is_nothing, is_passing}
 use Rattle.pana_daemon.specs.declared.request.Request.{Request}
 use Rattle.pana_daemon.specs.declared.request.Request.TheVariants.{Make, Settle}
 use Rattle.pana_daemon.specs.declared.request.Response.{Response}
@@ -52,9 +52,14 @@ requests_seen pass = length pass.seen
 abbrev pub lacks_answer : {S : Type 0} → PassView S → Bool
 lacks_answer pass = list_any (λ finished. is_nothing finished.reply) (own_calls pass)
 
--- nothing has come of a request that the pass made, and the session said then that later ones may have answers
-abbrev pub MayRecover : {S : Type 0} → PassView S → Type 0
-MayRecover pass = list_any (λ finished. is_passing finished.reply) (own_calls pass) ≡ true
+-- The last request that the pass has seen is its own, and nothing has come of it; but the session said then that later ones may
+-- have answers.
+pub record MayRecover {S : Type 0} (pass : PassView S) : Type 0 where
+  pub before : List (Finished S)
+  pub last : Finished S
+  pub seen : pass.seen ≡ before ++ last ∷ []
+  pub own : last.pass ≡ pass.number
+  pub passing : is_passing last.reply ≡ true
 
 -- the pass before and after a session: the same, and it has seen what it had seen, and maybe more
 pub record GrowsTo {S : Type 0} (old new : PassView S) : Type 0 where

@@ -21,7 +21,7 @@ pub struct DeskSession<'a, S: Session + Drop, T, G> {
     calls: u64,
     /// Whether nothing has come of a request that it made.
     unanswered: bool,
-    /// Whether later requests may have answers, as the last one said that has none.
+    /// Whether nothing has come of its last request, though later ones may have answers.
     may_recover: bool,
     pass: Pass<Shared<S>>,
 }
@@ -119,9 +119,9 @@ impl<S: Session + Drop, T: Wait, G: Supervisor> DeskSession<'_, S, T, G> {
             self.may_recover = false;
             return Err(NoAnswer);
         };
+        self.may_recover = response.is_passing();
         if response.is_nothing() {
             self.unanswered = true;
-            self.may_recover = response.is_passing();
             self.supervisor
                 .unanswered(self.caller, self.calls, self.may_recover);
         }
@@ -180,7 +180,7 @@ impl<S: Session + Drop, T: Wait, G: Supervisor> Session for DeskSession<'_, S, T
         }
     }
 
-    /// Whether calls may have answers again, as the last one said that has none; not where the pass may make no further one.
+    /// Whether calls may have answers again, where nothing has come of the last request; not where no further one may be made.
     fn may_recover(&self) -> bool
         ensures { result ≡ true → MayRecover self.now }
     {

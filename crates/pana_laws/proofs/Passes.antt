@@ -1,6 +1,5 @@
 -- What a request adds to the calls that a pass of a hall's desk has made.
-use Rattle.std.specs.List.{list_any}
-use Rattle.std.proofs.Common.{◌≡◌, ◌==◌, ◌||◌, cond, inl, inr, ℕ, Bool, true, false, true≢false, List, [], ◌∷◌, ◌++◌, Option, refl, sym, ap, subst, ◌∙◌, append-nil, append_assoc}
+use Rattle.std.proofs.Common.{◌≡◌, ◌==◌, cond, inl, inr, ℕ, Bool, true, false, true≢false, List, [], ◌∷◌, ◌++◌, Option, refl, sym, ap, subst, ◌∙◌, append-nil, append_assoc}
 use Rattle.std.proofs.lemmas.Bool.{eq-eqb}
 use Rattle.std.proofs.lemmas.List.Elements.{filter-append}
 use Rattle.pana_journal.specs.declared.entry.Entry.{Entry}
@@ -22,7 +21,7 @@ use Rattle.pana_daemon.specs.declared.request.Request.{Request}
 use Rattle.pana_daemon.specs.declared.request.Request.TheVariants.{Make, Settle}
 use Rattle.pana_daemon.specs.declared.request.Response.{Response}
 use Rattle.pana_daemon.specs.declared.request.Response.TheVariants as responses
-use Rattle.pana_daemon.proofs.Sessions.{request_steps}
+use Rattle.pana_daemon.proofs.Sessions.{last_step, request_steps}
 
 abbrev pub Pass : Type 0
 Pass = PassView (List Entry)
@@ -100,25 +99,17 @@ pub broken_none : (old new : Pass) → BreaksOff Steps old new → Goes old [] n
 broken_none old new (inl (recovers, p)) = requested old _ _ new p
 broken_none old new (inr p) = none_requested old new p
 
--- a hall's desk has no pass of which nothing has come of a request
+-- of each request something has come
 not_passing : (old : List Entry) (request : Request) (response : Response) (new : List Entry) → Steps old request response new → is_passing response ≡ false
 not_passing old request (responses.Answer answer) new step = refl
 not_passing old request responses.Settled new step = refl
 not_passing old (Make m) (responses.Nothing recovers) new step = absurd step
 not_passing old Settle (responses.Nothing recovers) new step = absurd step
 
-either_passes : (b : Bool) (x : Finished (List Entry)) (rest : List (Finished (List Entry))) → is_passing x.reply ≡ false → list_any (λ f. is_passing f.reply) rest ≡ false
-    → list_any (λ f. is_passing f.reply) (cond b (x ∷ rest) rest) ≡ false
-either_passes true x rest first others = ap (λ (b : Bool). b || list_any (λ f. is_passing f.reply) rest) first ∙ others
-either_passes false x rest first others = others
-
-none_passes : (number : ℕ) (begun : List Entry) (history : List (Finished (List Entry))) → IsHistory Steps begun history → list_any (λ f. is_passing f.reply) (calls_of number history) ≡ false
-none_passes number begun [] run = refl
-none_passes number begun (x ∷ history) run =
-    either_passes (x.pass == number) x (calls_of number history) (not_passing begun x.call x.reply x.left run.0) (none_passes number x.left history run.1)
-
 never_recovers : (pass : Pass) → IsHistory Steps pass.desk.begun pass.seen → MayRecover pass → ⊥
-never_recovers pass run may = true≢false (sym may ∙ none_passes pass.number pass.desk.begun pass.seen run)
+never_recovers pass run may =
+    let (old, step) = last_step Steps pass.desk.begun may.before may.last (subst (λ (seen : List (Finished (List Entry))). IsHistory Steps pass.desk.begun seen) may.seen run) in
+    true≢false (sym may.passing ∙ not_passing old may.last.call may.last.reply may.last.left step)
 
 -- so a look that is cut short there is the last one
 pub none_cut : (device : List ℕ) (look : Look) (old new : Pass) (marks_old marks_new : List BaselineRow) → BreaksLook (MakesCall Steps) device (GetsNone Steps) (BreaksOff Steps) look old new marks_old marks_new → MayRecover new → ⊥
