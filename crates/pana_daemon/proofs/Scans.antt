@@ -1,5 +1,5 @@
 -- Calls of a scanner, one after another.
-use Rattle.std.proofs.Common.{◌≡◌, ◌≢◌, ℕ, ◌+◌, ◌<◌, ◌≤◌, suc, take, drop, drop-cons, List, [], ◌∷◌, ◌++◌, length, Option, None, Result, Ok, Err, ◌⊎◌, inl, inr, Bool, true, false, true≢false, refl, IfOk, IfErr, OnErr, OnOk, is_ok, sym, ap, subst, ◌∙◌, slice_index_or, append-nil, arith}
+use Rattle.std.proofs.Common.{◌≡◌, ℕ, ◌+◌, ◌<◌, ◌≤◌, suc, take, drop, drop-cons, List, [], ◌∷◌, ◌++◌, length, Option, None, Result, Ok, Err, ◌⊎◌, inl, inr, Bool, true, false, true≢false, refl, IfOk, IfErr, OnErr, OnOk, is_ok, sym, ap, subst, ◌∙◌, slice_index_or, append-nil, arith}
 use Rattle.pana_calls.specs.declared.call.Call.{Call}
 use Rattle.pana_calls.specs.declared.call.Call.TheVariants as calls
 use Rattle.pana_calls.specs.declared.answer.Answer.{Answer}
@@ -17,15 +17,14 @@ use Rattle.std.proofs.lemmas.List.{take-append-drop, take_all, take_more}
 use Rattle.pana_scan.specs.declared.scan_fault.ScanFault.{ScanFault}
 use Rattle.pana_scan.specs.Baseline.{settled}
 use Rattle.pana_track.specs.Calls.{Asked, Makes}
-use Rattle.pana_track.specs.Folder.{BreaksFolder, TracksFolder}
+use Rattle.pana_track.specs.Folder.{BreaksFolder}
 use Rattle.pana_track.specs.Track.{IsTrack}
 use Rattle.pana_track.specs.declared.fault.TrackFault.{TrackFault}
-use Rattle.pana_track.specs.declared.folder_end.FolderEnd.{FolderEnd}
 use Rattle.pana_track.specs.declared.read_fault.ReadFault.{ReadFault}
 use Rattle.pana_track.specs.declared.reading.TrackedListing.{TrackedListing}
 use Rattle.pana_track.proofs.Reported.{makes_on}
 use Rattle.pana_daemon.specs.declared.folder.Look.TheVariants.{Scanned, Tracked}
-use Rattle.pana_daemon.specs.Scan.{Follow, Reports, StopsLook, done_as, left_by_scan, settled_all, settled_as}
+use Rattle.pana_daemon.specs.Scan.{Follow, Reports, StopsLook, done_as, settled_all, settled_as}
 use Rattle.pana_daemon.specs.inner.Scan.{Asks, IsOwn, ReportsOne, ReportsSteps, ScansOnce, StopsReporting, StopsScan, StopsTracking, TracksOnce, reporting}
 
 module _ {S : Type 0} (step : S → List ℕ → Call → Answer → S → Type 0) where

@@ -10,7 +10,6 @@ use Rattle.pana_wire.specs.declared.serving.ServeFault.{ServeFault}
 use Rattle.pana_wire.specs.declared.serving.ServeFault.TheVariants.{Read, Write, OutOfMemory, NoAnswer as Unanswered, Turns}
 use Rattle.pana_wire.specs.Session.{AnswersSaid, AnswersLine, AnswersLines, LosesNext, FailsNext, Made, MayCallNext, NeverBegins, lines_come}
 use Rattle.pana_wire.specs.Groups.{AnswersGroups, BreaksAmong, BreaksGroup, EndsGroupsBy, ServesGroups, StopsGroups}
-use Rattle.pana_wire.specs.Lines.{ended}
 use Rattle.pana_wire.specs.Tap.{Note}
 use Rattle.pana_turn.specs.History.{IsHistory}
 use Rattle.pana_turn.specs.Passes.{AddsCall, IsSamePass}

@@ -1,5 +1,5 @@
 -- What a history of a store's requests has kept.
-use Rattle.std.proofs.Common.{◌≡◌, ◌≢◌, ◌⊎◌, inl, inr, ⊎_elim, ℕ, ◌<◌, ◌≤◌, Bool, IsTrue, List, [], ◌∷◌, ◌++◌, length, refl, sym, ap, subst, ◌∙◌, append-nil, arith}
+use Rattle.std.proofs.Common.{◌≡◌, ◌≢◌, ◌⊎◌, inl, inr, ⊎_elim, ℕ, ◌<◌, ◌≤◌, Bool, IsTrue, List, [], ◌∷◌, ◌++◌, length, sym, ap, subst, ◌∙◌, append-nil, arith}
 use Rattle.pana_calls.specs.declared.answer.Answer.{Answer}
 use Rattle.pana_calls.specs.declared.answer.Answer.TheVariants.{Given}
 use Rattle.pana_calls.specs.declared.call.Call.{Call}

@@ -1,5 +1,5 @@
 -- What a request adds to the calls that a pass of a hall's desk has made.
-use Rattle.std.proofs.Common.{◌≡◌, ◌==◌, cond, inl, inr, ℕ, Bool, true, false, true≢false, List, [], ◌∷◌, ◌++◌, Option, refl, sym, ap, subst, ◌∙◌, append-nil, append_assoc}
+use Rattle.std.proofs.Common.{◌≡◌, ◌==◌, cond, inl, inr, ℕ, false, true≢false, List, [], ◌∷◌, ◌++◌, refl, sym, ap, subst, ◌∙◌, append-nil, append_assoc}
 use Rattle.std.proofs.lemmas.Bool.{eq-eqb}
 use Rattle.std.proofs.lemmas.List.Elements.{filter-append}
 use Rattle.pana_journal.specs.declared.entry.Entry.{Entry}
@@ -12,7 +12,6 @@ use Rattle.pana_turn.specs.History.{IsHistory, calls_of}
 use Rattle.pana_turn.specs.Passes.{own_calls}
 use Rattle.pana_calls.specs.declared.answer.Answer.{Answer}
 use Rattle.pana_calls.specs.declared.answer.Answer.TheVariants.{Given, NotKept}
-use Rattle.pana_wire.specs.declared.message.Message.{Message}
 use Rattle.pana_daemon.specs.Desk.{AnsweredSteps, Finished, PassView, is_passing}
 use Rattle.pana_daemon.specs.Scan.{BreaksLook}
 use Rattle.pana_daemon.specs.Session.{BreaksOff, GetsNone, MakesCall, MayRecover, Requests, RequestsNone, Settles}
