@@ -1,5 +1,5 @@
 -- What is left of a desk whose callers have done their work.
-use Rattle.std.proofs.Common.{◌≡◌, ℕ, All, Bool, ◌||◌, List, [], ◌∷◌, length, Option, Result, map, refl, sym, ap, subst, ◌∙◌}
+use Rattle.std.proofs.Common.{◌≡◌, ℕ, All, Bool, ◌||◌, List, [], ◌∷◌, length, Option, map, refl, sym, ap, subst, ◌∙◌}
 use Rattle.std.specs.List.{list_any}
 use Rattle.pana_turn.specs.Closing.{Closes, LacksOne}
 use Rattle.pana_turn.specs.Passes.{DeskId, new_passes}

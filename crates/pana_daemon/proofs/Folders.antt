@@ -23,7 +23,7 @@ use Rattle.pana_daemon.specs.Post.{HaveDone, folders_in, posts_of}
 use Rattle.pana_daemon.specs.Root.{AwaitsScan, FolderView, IsLast, IsLookOf, IsMore, IsReadOf, IsReadingOf, RootView, ScansRoot, knowing, folders_of, has_folders, new_folders}
 use Rattle.pana_daemon.specs.Scan.{Gives, Scans}
 use Rattle.pana_daemon.specs.Serve.{Ends}
-use Rattle.pana_daemon.specs.Session.{BreaksOff, GetsNone, MakesCall, Settles}
+use Rattle.pana_daemon.specs.Session.{BreaksOff, GetsNone, MakesCall, MayRecover, Settles}
 use Rattle.pana_daemon.specs.inner.Folders.{AreOf, HaveAsked, IsTimed}
 
 module _ {K : Type 0} where
@@ -145,11 +145,11 @@ module _ {S D R W K : Type 0} (steps : S → Request → Response → S → Type
 
   -- a folder waits for the same after it was scanned, and has asked whether the start has come
   scanning_same : (device : List ℕ) (folder_old folder_new : FolderView K) (old new : PassView S)
-      → Scans Finds (MakesCall steps) (GetsNone steps) (Settles steps) (BreaksOff steps) device folder_old folder_new old new → (folder_new.ticks ≡ folder_old.ticks) × (folder_new.start ≡ folder_old.start) × IsSome folder_new.begins
+      → Scans Finds (MakesCall steps) (GetsNone steps) (Settles steps) (BreaksOff steps) MayRecover device folder_old folder_new old new → (folder_new.ticks ≡ folder_old.ticks) × (folder_new.start ≡ folder_old.start) × IsSome folder_new.begins
   scanning_same device folder_old folder_new old new s =
       let first = giving_same folder_old s.folder_mid s.given s.folder in
       ⊎_elim (λ t. let last = last_asked s.folder_mid.begins s.folder_mid folder_new refl t.0 in (last.0 ∙ first.0, last.1 ∙ first.1, last.2))
-      (λ t. let gave = t.1.0.1 in (ap (λ (f : FolderView K). f.ticks) gave ∙ first.0, ap (λ (f : FolderView K). f.start) gave ∙ first.1, ap (λ (f : FolderView K). is_some f.begins) gave)) s.ends
+      (λ t. let gave = t.2.0.1 in (ap (λ (f : FolderView K). f.ticks) gave ∙ first.0, ap (λ (f : FolderView K). f.start) gave ∙ first.1, ap (λ (f : FolderView K). is_some f.begins) gave)) s.ends
 
   done_same : (ticks : TableId) (start : ℕ) (olds news : List (Post D (FolderView K) × PassView S)) → HaveDone steps gives remaining contents Finds olds news
       → AreOf ticks start (folders_in (posts_of olds)) → HaveAsked ticks start (folders_in (posts_of news))

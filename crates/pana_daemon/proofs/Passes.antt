@@ -1,6 +1,6 @@
 -- Passes of one desk, and scanners of roots.
 use Rattle.std.specs.List.{range_with_len}
-use Rattle.std.proofs.Common.{◌≡◌, ◌==◌, ◌<◌, ◌||◌, ◌⊎◌, inl, inr, ℕ, zero, suc, ◌+◌, Bool, true, false, All, List, [], ◌∷◌, ◌++◌, map, length, take, drop, get_or, Option, Result, Ok, arith, refl, sym, subst, ap, ◌∙◌, append_assoc}
+use Rattle.std.proofs.Common.{◌≡◌, ◌==◌, ◌<◌, ◌||◌, ◌⊎◌, inl, inr, ℕ, zero, suc, ◌+◌, Bool, true, false, All, List, [], ◌∷◌, ◌++◌, map, length, take, drop, get_or, Option, arith, refl, sym, subst, ap, ◌∙◌, append_assoc}
 use Rattle.std.proofs.lemmas.List.{map-append}
 use Rattle.std.proofs.lemmas.List.FromFn.{length-map-range_with_len}
 use Rattle.std.proofs.Math.Seq.{take-append_seam}
@@ -15,8 +15,8 @@ use Rattle.pana_daemon.specs.Desk.{PassView}
 use Rattle.pana_daemon.specs.declared.request.Request.{Request}
 use Rattle.pana_daemon.specs.declared.request.Response.{Response}
 use Rattle.pana_daemon.specs.inner.Passes.{AreOf, AreOpen, HaveGrown}
-use Rattle.pana_daemon.specs.Scan.{BreaksLook, KeepsLooks, Scans}
-use Rattle.pana_daemon.specs.Session.{BreaksOff, GetsNone, GrowsTo, MakesCall, Settles}
+use Rattle.pana_daemon.specs.Scan.{BreaksLook, Scans, TakesLook, TakesLooks}
+use Rattle.pana_daemon.specs.Session.{BreaksOff, GetsNone, GrowsTo, MakesCall, MayRecover, Settles}
 use Rattle.pana_daemon.proofs.Sessions.{grows_on, grows_same, call_grows, none_grows, settled_grows, broken_grows}
 
 -- new passes with these numbers
@@ -98,20 +98,26 @@ module _ {S : Type 0} (steps : S → Request → Response → S → Type 0) wher
   made_grow old new [] so = grows_same old new so
   made_grow old new (one ∷ more) (mid, first, others) = grows_on old mid new (call_grows steps old mid one.by one.call one.answer first) (made_grow mid new more others)
 
-  looks_grow : (device : List ℕ) (given : List Look) (old new : PassView S) (marks_old marks_new : List BaselineRow) → KeepsLooks (MakesCall steps) device (Settles steps) given old new marks_old marks_new → GrowsTo old new
-  looks_grow device [] old new marks_old marks_new so = grows_same old new so.0
-  looks_grow device (look ∷ given) old new marks_old marks_new (made, kept, marks, looks, settled, more) =
-      grows_on old kept new (grows_on old made kept (made_grow old made looks.made looks.calls) (settled_grows steps made kept settled)) (looks_grow device given kept new marks marks_new more)
+  breaks_grow : (device : List ℕ) (look : Look) (old new : PassView S) (marks_old marks_new : List BaselineRow) → BreaksLook (MakesCall steps) device (GetsNone steps) (BreaksOff steps) look old new marks_old marks_new → GrowsTo old new
+  breaks_grow device look old new marks_old marks_new (inl stops) = grows_on old stops.mid new (made_grow old stops.mid stops.made stops.calls) (none_grows steps stops.mid new device stops.call stops.ends)
+  breaks_grow device look old new marks_old marks_new (inr (made, looks, broken)) = grows_on old made new (made_grow old made looks.made looks.calls) (broken_grows steps made new broken)
 
-  breaks_grow : (device : List ℕ) (look : Look) (old new : PassView S) (marks : List BaselineRow) → BreaksLook (MakesCall steps) device (GetsNone steps) (BreaksOff steps) look old new marks → GrowsTo old new
-  breaks_grow device look old new marks (inl stops) = grows_on old stops.mid new (made_grow old stops.mid stops.made stops.calls) (none_grows steps stops.mid new device stops.call stops.ends)
-  breaks_grow device look old new marks (inr (made, left, looks, broken)) = grows_on old made new (made_grow old made looks.made looks.calls) (broken_grows steps made new broken)
+  look_grows : (device : List ℕ) (look : Look) (old new : PassView S) (marks_old marks_new : List BaselineRow)
+      → TakesLook (MakesCall steps) device (GetsNone steps) (Settles steps) (BreaksOff steps) MayRecover look old new marks_old marks_new → GrowsTo old new
+  look_grows device look old new marks_old marks_new (inl kept) = grows_on old kept.mid new (made_grow old kept.mid kept.looks.made kept.looks.calls) (settled_grows steps kept.mid new kept.settled)
+  look_grows device look old new marks_old marks_new (inr (breaks, may)) = breaks_grow device look old new marks_old marks_new breaks
+
+  looks_grow : (device : List ℕ) (given : List Look) (old new : PassView S) (marks_old marks_new : List BaselineRow)
+      → TakesLooks (MakesCall steps) device (GetsNone steps) (Settles steps) (BreaksOff steps) MayRecover given old new marks_old marks_new → GrowsTo old new
+  looks_grow device [] old new marks_old marks_new so = grows_same old new so.0
+  looks_grow device (look ∷ given) old new marks_old marks_new (mid, marks, took, more) =
+      grows_on old mid new (look_grows device look old mid marks_old marks took) (looks_grow device given mid new marks marks_new more)
 
   pub scanning_grows : {F : Type 0} (gives : F → Option Look → F → Type 0) (device : List ℕ) (folder_old folder_new : F) (old new : PassView S)
-      → Scans gives (MakesCall steps) (GetsNone steps) (Settles steps) (BreaksOff steps) device folder_old folder_new old new → GrowsTo old new
+      → Scans gives (MakesCall steps) (GetsNone steps) (Settles steps) (BreaksOff steps) MayRecover device folder_old folder_new old new → GrowsTo old new
   scanning_grows gives device folder_old folder_new old new s =
-      grows_on old s.mid new (looks_grow device s.given old s.mid [] s.baseline s.keeps)
-      (from_either s.ends (λ e. grows_same s.mid new e.1) (λ e. breaks_grow device e.0 s.mid new s.baseline e.2))
+      grows_on old s.mid new (looks_grow device s.given old s.mid [] s.baseline s.takes)
+      (from_either s.ends (λ e. grows_same s.mid new e.1) (λ e. breaks_grow device e.0 s.mid new s.baseline e.1 e.3))
 
 -- a vector whose first `n` places are written again has what was written, where it had so many items
 pub as_left : {X : Type 0} (n : ℕ) (new old : List X) → length new ≡ length old → length old ≡ n → take n (new ++ drop (length new) old) ≡ new

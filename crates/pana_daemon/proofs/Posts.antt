@@ -1,5 +1,5 @@
 -- Callers that have done their work, each by itself.
-use Rattle.std.proofs.Common.{◌≡◌, ◌<◌, ℕ, suc, arith, length, slice_index_or, List, [], ◌∷◌, Option, Result, map}
+use Rattle.std.proofs.Common.{◌≡◌, ◌<◌, ℕ, suc, arith, length, slice_index_or, List, [], ◌∷◌, Option, map}
 use Rattle.pana_daemon.specs.declared.folder.Look.{Look}
 use Rattle.pana_daemon.specs.declared.connection.Connection.{Connection}
 use Rattle.pana_daemon.specs.declared.post.Caller.{Caller}

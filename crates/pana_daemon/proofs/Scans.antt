@@ -1,5 +1,5 @@
 -- Calls of a scanner, one after another.
-use Rattle.std.proofs.Common.{◌≡◌, ◌≢◌, ℕ, ◌+◌, ◌<◌, ◌≤◌, suc, take, drop, drop-cons, List, [], ◌∷◌, ◌++◌, length, Option, None, Result, Ok, Err, ◌⊎◌, inl, inr, Bool, true, false, true≢false, refl, IfOk, IfErr, OnErr, OnOk, is_ok, sym, ap, subst, ◌∙◌, slice_index_or, append-nil, arith}
+use Rattle.std.proofs.Common.{◌≡◌, ℕ, ◌+◌, ◌<◌, ◌≤◌, suc, take, drop, drop-cons, List, [], ◌∷◌, ◌++◌, length, Option, None, Result, Ok, Err, ◌⊎◌, inl, inr, Bool, true, false, true≢false, refl, IfOk, IfErr, OnErr, OnOk, is_ok, sym, ap, subst, ◌∙◌, slice_index_or, append-nil, arith}
 use Rattle.pana_calls.specs.declared.call.Call.{Call}
 use Rattle.pana_calls.specs.declared.call.Call.TheVariants as calls
 use Rattle.pana_calls.specs.declared.answer.Answer.{Answer}
@@ -17,15 +17,14 @@ use Rattle.std.proofs.lemmas.List.{take-append-drop, take_all, take_more}
 use Rattle.pana_scan.specs.declared.scan_fault.ScanFault.{ScanFault}
 use Rattle.pana_scan.specs.Baseline.{settled}
 use Rattle.pana_track.specs.Calls.{Asked, Makes}
-use Rattle.pana_track.specs.Folder.{BreaksFolder, TracksFolder}
+use Rattle.pana_track.specs.Folder.{BreaksFolder}
 use Rattle.pana_track.specs.Track.{IsTrack}
 use Rattle.pana_track.specs.declared.fault.TrackFault.{TrackFault}
-use Rattle.pana_track.specs.declared.folder_end.FolderEnd.{FolderEnd}
 use Rattle.pana_track.specs.declared.read_fault.ReadFault.{ReadFault}
 use Rattle.pana_track.specs.declared.reading.TrackedListing.{TrackedListing}
 use Rattle.pana_track.proofs.Reported.{makes_on}
 use Rattle.pana_daemon.specs.declared.folder.Look.TheVariants.{Scanned, Tracked}
-use Rattle.pana_daemon.specs.Scan.{Follow, Reports, StopsLook, done_as, settled_as}
+use Rattle.pana_daemon.specs.Scan.{Follow, Reports, StopsLook, done_as, settled_all, settled_as}
 use Rattle.pana_daemon.specs.inner.Scan.{Asks, IsOwn, ReportsOne, ReportsSteps, ScansOnce, StopsReporting, StopsScan, StopsTracking, TracksOnce, reporting}
 
 module _ {S : Type 0} (step : S → List ℕ → Call → Answer → S → Type 0) where
@@ -44,6 +43,16 @@ module _ (device : List ℕ) where
         goes : {A : Type 0} → Reports device (settled_as old s m.answer) steps made 0 mid ⊎ ((done_as m.answer ≡ 1) × (made ≡ []) × ◌≡◌ {A = ℕ} 0 1 × (mid ≡ old)) → (Reports device (settled_as old s m.answer) steps made 0 mid → A) → A
         goes (inl so) then = then so
         goes (inr odd) then = absurd (omega (arith, odd.2))
+
+  -- what was reported of the first steps is settled
+  pub reports_settled : (old new : List BaselineRow) (steps more : List Step) (made : List Asked) → Reports device old steps made 0 new → new ≡ settled_all old (steps ++ more) made
+  reports_settled old new [] more [] are = are.1
+  reports_settled old new [] more (m ∷ made) are = absurd are
+  reports_settled old new (s ∷ steps) more [] are = absurd (omega (arith, are.0))
+  reports_settled old new (s ∷ steps) more (m ∷ made) are = settles are.2 (λ so. reports_settled (settled_as old s m.answer) new steps more made so) where
+    settles : {A : Type 0} → Reports device (settled_as old s m.answer) steps made 0 new ⊎ ((done_as m.answer ≡ 1) × (made ≡ []) × ◌≡◌ {A = ℕ} 0 1 × (new ≡ old)) → (Reports device (settled_as old s m.answer) steps made 0 new → A) → A
+    settles (inl so) then = then so
+    settles (inr odd) then = absurd (omega (arith, odd.2))
 
 pub on_err : {T E : Type 0} → (r : Result T E) (P : Type 0) → P → OnErr r P
 on_err (Ok x) P p = tt
@@ -120,14 +129,15 @@ module _ {S : Type 0} (step : S → List ℕ → Call → Answer → S → Type 
     just_one more on (inr (last, same, marks)) = absurd (true≢false (sym on ∙ last))
 
     -- the next report has no answer
-    pub stops_at : (fails : S → List ℕ → Call → S → Type 0) → fails mid device (calls.Report s.report) new → StopsReporting step fails device steps old new marks_old
-    stops_at fails failed = record {
+    pub stops_at : (fails : S → List ℕ → Call → S → Type 0) → fails mid device (calls.Report s.report) new → marks_new ≡ marks_mid → StopsReporting step fails device steps old new marks_old marks_new
+    stops_at fails failed same = record {
       mid = mid;
       made = far.made;
       calls = far.calls;
       call = calls.Report s.report;
       are = λ answer. next_of answer (reported answer (drop (suc index) steps));
       ends = failed;
+      left = same ∙ reports_settled device marks_old marks_mid (take index steps) (s ∷ drop (suc index) steps) far.made far.are ∙ ap (λ (ss : List Step). settled_all marks_old ss far.made) parts;
     } where
       reported : (answer : Answer) (rest : List Step) → (faults : ℕ) × (left : List BaselineRow) × Reports device marks_mid (s ∷ rest) (reporting device s answer ∷ []) faults left
       reported answer [] = (0, settled_as marks_mid s answer, (refl, refl, inl (refl, refl)))
@@ -173,14 +183,15 @@ module _ {S : Type 0} (step : S → List ℕ → Call → Answer → S → Type 
   none_held listing old new marks_old marks_new own marks (answer, one) = asked listing answer old new marks_old marks_new own one marks
 
   -- the question for the holdings has no answer
-  pub none_asked : (fails : S → List ℕ → Call → S → Type 0) (listing : Contents) (old new : S) (marks : List BaselineRow) → listing.device ≡ device → fails old device (calls.Query (queries.Holdings device None)) new → StopsScan step fails device (Ok listing) old new marks
-  none_asked fails listing old new marks own failed = record {
+  pub none_asked : (fails : S → List ℕ → Call → S → Type 0) (listing : Contents) (old new : S) (marks_old marks_new : List BaselineRow) → listing.device ≡ device → fails old device (calls.Query (queries.Holdings device None)) new → marks_new ≡ marks_old → StopsScan step fails device (Ok listing) old new marks_old marks_new
+  none_asked fails listing old new marks_old marks_new own failed same = record {
     mid = old;
     made = [];
     calls = refl;
     call = calls.Query (queries.Holdings device None);
-    is = λ answer. (1, marks, (own, refl, refl, no_reports device listing marks marks answer refl));
+    is = λ answer. (1, marks_old, (own, refl, refl, no_reports device listing marks_old marks_old answer refl));
     ends = failed;
+    left = same;
   }
 
   module _ (listing : Contents) (holdings : List Holding) (marks_old : List BaselineRow) (old mid : S) (own : listing.device ≡ device) (one : step old device (calls.Query (queries.Holdings device None)) (Given (Holdings holdings)) mid)
@@ -194,8 +205,8 @@ module _ {S : Type 0} (step : S → List ℕ → Call → Answer → S → Type 
       is = (own, refl, refl, inl (subst (λ (p : Plan). Reports device p.baseline p.steps reports.made reports.faults marks_new) is (subst (λ (s : List Step). Reports device plan.baseline s reports.made reports.faults marks_new) are reports.are)));
     }
 
-    stopped : (fails : S → List ℕ → Call → S → Type 0) (new : S) (steps : List Step) → steps ≡ plan.steps → StopsReporting step fails device steps mid new plan.baseline → StopsScan step fails device (Ok listing) old new marks_old
-    stopped fails new steps are stops = record {
+    stopped : (fails : S → List ℕ → Call → S → Type 0) (new : S) (marks_new : List BaselineRow) (steps : List Step) → steps ≡ plan.steps → StopsReporting step fails device steps mid new plan.baseline marks_new → StopsScan step fails device (Ok listing) old new marks_old marks_new
+    stopped fails new marks_new steps are stops = record {
       mid = stops.mid;
       made = asking (Given (Holdings holdings)) ∷ stops.made;
       calls = (mid, one, stops.calls);
@@ -205,15 +216,17 @@ module _ {S : Type 0} (step : S → List ℕ → Call → Answer → S → Type 
           let more = stops.made ++ record { by = device; call = stops.call; answer = answer } ∷ [] in
           (so.0, so.1, (own, refl, refl, inl (subst (λ (p : Plan). Reports device p.baseline p.steps more so.0 so.1) is (subst (λ (s : List Step). Reports device plan.baseline s more so.0 so.1) are so.2))));
       ends = stops.ends;
+      left = stops.left ∙ ap (λ (s : List Step). settled_all plan.baseline s stops.made) are ∙ ap (λ (p : Plan). settled_all p.baseline p.steps stops.made) is;
     }
 
     pub planned_all : (result : Result (Unit {0}) NoAnswer) (new : S) (marks_new : List BaselineRow) (steps : List Step) → steps ≡ plan.steps → IfOk result (λ _. ReportsSteps step device steps mid new plan.baseline marks_new) → IfOk result (λ _. ScansOnce step device (Ok listing) old new marks_old marks_new)
     planned_all (Ok done) new marks_new steps are reports = planned new marks_new steps are reports
     planned_all (Err failed) new marks_new steps are reports = tt
 
-    pub planned_spent : (fails : S → List ℕ → Call → S → Type 0) (result : Result (Unit {0}) NoAnswer) (new : S) (steps : List Step) → steps ≡ plan.steps → IfErr result (λ _. StopsReporting step fails device steps mid new plan.baseline) → IfErr result (λ _. StopsScan step fails device (Ok listing) old new marks_old)
-    planned_spent fails (Ok done) new steps are stops = tt
-    planned_spent fails (Err failed) new steps are stops = stopped fails new steps are stops
+    pub planned_spent : (fails : S → List ℕ → Call → S → Type 0) (result : Result (Unit {0}) NoAnswer) (new : S) (marks_new : List BaselineRow) (steps : List Step) → steps ≡ plan.steps → IfErr result (λ _. StopsReporting step fails device steps mid new plan.baseline marks_new)
+        → IfErr result (λ _. StopsScan step fails device (Ok listing) old new marks_old marks_new)
+    planned_spent fails (Ok done) new marks_new steps are stops = tt
+    planned_spent fails (Err failed) new marks_new steps are stops = stopped fails new marks_new steps are stops
 
 module _ {S : Type 0} (step : S → List ℕ → Call → Answer → S → Type 0) (device : List ℕ) (s : Step) (old new : S) (marks_old marks_new : List BaselineRow) where
   -- the report was done, and is settled, or memory ran out before that
@@ -246,16 +259,17 @@ module _ {S : Type 0} (step : S → List ℕ → Call → Answer → S → Type 
     none_of (Err fault) odd = absurd odd
 
   -- a scan that was broken off is a look that was
-  pub scan_stops_look : (given : Result Contents ScanFault) (old new : S) (marks : List BaselineRow) → StopsScan step fails device given old new marks → StopsLook step device fails (Scanned given) old new marks
-  scan_stops_look given old new marks s = record {
+  pub scan_stops_look : (given : Result Contents ScanFault) (old new : S) (marks_old marks_new : List BaselineRow) → StopsScan step fails device given old new marks_old marks_new → StopsLook step device fails (Scanned given) old new marks_old marks_new
+  scan_stops_look given old new marks_old marks_new s = record {
     mid = s.mid;
     made = s.made;
     calls = s.calls;
     call = s.call;
     is = λ answer. let so = s.is answer in (so.1, (so.0, so.2));
     ends = s.ends;
+    left = s.left;
   }
 
   -- and so is tracking
-  pub tracking_stops_look : (given : Result TrackedListing ReadFault) (old new : S) (marks : List BaselineRow) → StopsTracking step fails device given old new → StopsLook step device fails (Tracked given) old new marks
-  tracking_stops_look given old new marks s = record { mid = s.mid; made = s.made; calls = s.calls; call = s.call; is = λ answer. (marks, (s.is answer, refl)); ends = s.ends }
+  pub tracking_stops_look : (given : Result TrackedListing ReadFault) (old new : S) (marks_old marks_new : List BaselineRow) → StopsTracking step fails device given old new → marks_new ≡ marks_old → StopsLook step device fails (Tracked given) old new marks_old marks_new
+  tracking_stops_look given old new marks_old marks_new s same = record { mid = s.mid; made = s.made; calls = s.calls; call = s.call; is = λ answer. (marks_old, (s.is answer, refl)); ends = s.ends; left = same }

@@ -1,5 +1,5 @@
 -- What a session leaves of its pass.
-use Rattle.std.proofs.Common.{◌≡◌, ℕ, List, [], ◌∷◌, ◌++◌, ◌⊎◌, inl, inr, Bool, Option, Result, Ok, Err, refl, sym, ap, subst, ◌∙◌, append_assoc, append-nil, ◌^◌, IfOk, IfErr}
+use Rattle.std.proofs.Common.{◌≡◌, ℕ, List, [], ◌∷◌, ◌++◌, ◌⊎◌, inl, inr, Bool, true, Option, Result, Ok, Err, refl, sym, ap, subst, ◌∙◌, append_assoc, append-nil, ◌^◌, IfOk, IfErr}
 use Rattle.pana_calls.specs.declared.call.Call.{Call}
 use Rattle.pana_calls.specs.declared.answer.Answer.{Answer}
 use Rattle.pana_wire.specs.declared.fault.WireFault.{WireFault}
@@ -10,17 +10,16 @@ use Rattle.pana_wire.specs.declared.serving.ServeFault.{ServeFault}
 use Rattle.pana_wire.specs.declared.serving.ServeFault.TheVariants.{Read, Write, OutOfMemory, NoAnswer as Unanswered, Turns}
 use Rattle.pana_wire.specs.Session.{AnswersSaid, AnswersLine, AnswersLines, LosesNext, FailsNext, Made, MayCallNext, NeverBegins, lines_come}
 use Rattle.pana_wire.specs.Groups.{AnswersGroups, BreaksAmong, BreaksGroup, EndsGroupsBy, ServesGroups, StopsGroups}
-use Rattle.pana_wire.specs.Lines.{ended}
 use Rattle.pana_wire.specs.Tap.{Note}
 use Rattle.pana_turn.specs.History.{IsHistory}
 use Rattle.pana_turn.specs.Passes.{AddsCall, IsSamePass}
-use Rattle.pana_daemon.specs.Desk.{Finished, PassView, RequestSteps}
+use Rattle.pana_daemon.specs.Desk.{Finished, PassView, RequestSteps, is_passing}
 use Rattle.pana_daemon.specs.declared.request.Request.{Request}
 use Rattle.pana_daemon.specs.declared.request.Request.TheVariants.{Make, Settle}
 use Rattle.pana_daemon.specs.declared.request.Response.{Response}
 use Rattle.pana_daemon.specs.declared.request.Response.TheVariants.{Answer as Answered, Settled}
 use Rattle.pana_daemon.specs.Served.{EndsWith, IsServed}
-use Rattle.pana_daemon.specs.Session.{BreaksOff, GetsNone, GrowsTo, MakesCall, Requests, RequestsNone, Settles, requests_seen}
+use Rattle.pana_daemon.specs.Session.{BreaksOff, GetsNone, GrowsTo, MakesCall, MayRecover, Requests, RequestsNone, Settles, requests_seen}
 
 module _ {S : Type 0} where
   pub grows_same : (old new : PassView S) → new ≡ old → GrowsTo old new
@@ -35,8 +34,12 @@ module _ {S : Type 0} where
   added_grows : (old new : PassView S) (request : Request) (response : Response) → IsSamePass old new → AddsCall old new request response → GrowsTo old new
   added_grows old new request response same adds = record { same = same; seen = (adds.between ++ _ ∷ [], sym (append_assoc old.seen adds.between _) ∙ sym adds.seen) }
 
+  -- nothing has come of the request, for now
+  pub passing_so : (old new : PassView S) (request : Request) (response : Response) → IsSamePass old new → AddsCall old new request response → is_passing response ≡ true → MayRecover new
+  passing_so old new request response same adds passing = record { before = old.seen ++ adds.between; last = _; seen = adds.seen; own = sym same.1; passing = passing }
+
   -- the last request of a history does what it did
-  last_step : (steps : S → Request → Response → S → Type 0) (begun : S) (before : List (Finished S)) (last : Finished S) → IsHistory steps begun (before ++ last ∷ []) → (old : S) × steps old last.call last.reply last.left
+  pub last_step : (steps : S → Request → Response → S → Type 0) (begun : S) (before : List (Finished S)) (last : Finished S) → IsHistory steps begun (before ++ last ∷ []) → (old : S) × steps old last.call last.reply last.left
   last_step steps begun [] last run = (begun, run.0)
   last_step steps begun (finished ∷ before) last run = last_step steps finished.left before last run.1
 
@@ -50,21 +53,22 @@ module _ {S : Type 0} (steps : S → Request → Response → S → Type 0) wher
   pub request_grows : (old new : PassView S) (request : Request) (response : Response) → Requests steps old request response new → GrowsTo old new
   request_grows old new request response m = added_grows old new _ _ m.same m.adds
 
-  either_grows : (old new : PassView S) (request : Request) (response : Response) → Requests steps old request response new ⊎ RequestsNone steps old new → GrowsTo old new
-  either_grows old new request response (inl m) = request_grows old new request response m
-  either_grows old new request response (inr m) = record { same = m.same; seen = m.seen }
+  none_made : (old new : PassView S) → RequestsNone steps old new → GrowsTo old new
+  none_made old new m = record { same = m.same; seen = m.seen }
 
   pub call_grows : (old new : PassView S) (by : List ℕ) (call : Call) (answer : Answer) → MakesCall steps old by call answer new → GrowsTo old new
   call_grows old new by call answer m = request_grows old new _ _ m
 
   pub none_grows : (old new : PassView S) (by : List ℕ) (call : Call) → GetsNone steps old by call new → GrowsTo old new
-  none_grows old new by call m = either_grows old new _ _ m
+  none_grows old new by call (inl m) = request_grows old new _ _ m.1
+  none_grows old new by call (inr m) = none_made old new m
 
   pub settled_grows : (old new : PassView S) → Settles steps old new → GrowsTo old new
   settled_grows old new m = request_grows old new _ _ m
 
   pub broken_grows : (old new : PassView S) → BreaksOff steps old new → GrowsTo old new
-  broken_grows old new m = either_grows old new _ _ m
+  broken_grows old new (inl m) = request_grows old new _ _ m.1
+  broken_grows old new (inr m) = none_made old new m
 
   said_grows : (old new : PassView S) (said : Result Message WireFault) (text : List ℕ) (n : ℕ) → AnswersSaid (MakesCall steps) old said text new n → GrowsTo old new
   said_grows old new (Err fault) text n a = grows_same old new a.1

@@ -15,10 +15,10 @@ module _ {S : Type 0} (step : S → List ℕ → Call → AnswerOf → S → Typ
   abbrev pub RequestSteps : S → Request → Response → S → Type 0
   RequestSteps old (Make message) (Answer answer) new = step old message.by message.call answer new
   RequestSteps old (Make message) Settled new = ⊥
-  RequestSteps old (Make message) Nothing new = fails old message.by message.call new
+  RequestSteps old (Make message) (Nothing recovers) new = fails old message.by message.call new
   RequestSteps old Settle (Answer answer) new = ⊥
   RequestSteps old Settle Settled new = settles old new
-  RequestSteps old Settle Nothing new = breaks_off old new
+  RequestSteps old Settle (Nothing recovers) new = breaks_off old new
 
 -- so does a session that answers every call, and keeps it once it is made
 abbrev pub AnsweredSteps : {S : Type 0} → (S → List ℕ → Call → AnswerOf → S → Type 0) → S → Request → Response → S → Type 0
@@ -28,7 +28,13 @@ AnsweredSteps step = RequestSteps step (λ old by call new. ⊥) (λ old new. ne
 abbrev pub is_nothing : Response → Bool
 is_nothing (Answer answer) = false
 is_nothing Settled = false
-is_nothing Nothing = true
+is_nothing (Nothing recovers) = true
+
+-- whether nothing has come of a request, though later ones may have answers
+abbrev pub is_passing : Response → Bool
+is_passing (Answer answer) = false
+is_passing Settled = false
+is_passing (Nothing recovers) = recovers
 
 -- a pass: its desk, its number there, and the history that it has seen
 abbrev pub PassView : Type 0 → Type 0

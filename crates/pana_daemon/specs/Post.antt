@@ -1,5 +1,5 @@
 -- Callers before and after their work.
-use Rattle.std.specs.Prelude.{◌≡◌, ℕ, List, [], ◌∷◌, Option, Result, map}
+use Rattle.std.specs.Prelude.{◌≡◌, ℕ, List, [], ◌∷◌, Option, map}
 use Rattle.pana_daemon.specs.declared.folder.Look.{Look}
 use Rattle.pana_daemon.specs.declared.connection.Connection.{Connection}
 use Rattle.pana_daemon.specs.declared.post.Caller.{Caller}
@@ -10,7 +10,7 @@ use Rattle.pana_daemon.specs.declared.request.Response.{Response}
 use Rattle.pana_daemon.specs.Connection.{Works}
 use Rattle.pana_daemon.specs.Desk.{PassView}
 use Rattle.pana_daemon.specs.Scan.{Scans}
-use Rattle.pana_daemon.specs.Session.{BreaksOff, GetsNone, MakesCall, Settles}
+use Rattle.pana_daemon.specs.Session.{BreaksOff, GetsNone, MakesCall, MayRecover, Settles}
 
 module _ {S D R W F : Type 0} (steps : S → Request → Response → S → Type 0)
     (gives : D → Option (Connection R W) → D → Type 0) (remaining : R → Option (List ℕ)) (contents : W → Option (List ℕ)) (finds : F → Option Look → F → Type 0) where
@@ -18,7 +18,7 @@ module _ {S D R W F : Type 0} (steps : S → Request → Response → S → Type
   abbrev pub HasDone : Post D F → Post D F → PassView S → PassView S → Type 0
   HasDone (Door door_old) (Door door_new) old new = Works steps gives remaining contents door_old door_new old new
   HasDone (Folder device_old folder_old) (Folder device_new folder_new) old new =
-      (device_new ≡ device_old) × Scans finds (MakesCall steps) (GetsNone steps) (Settles steps) (BreaksOff steps) device_old.now folder_old folder_new old new
+      (device_new ≡ device_old) × Scans finds (MakesCall steps) (GetsNone steps) (Settles steps) (BreaksOff steps) MayRecover device_old.now folder_old folder_new old new
   HasDone (Door door) (Folder device folder) old new = ⊥
   HasDone (Folder device folder) (Door door) old new = ⊥
 

@@ -1,5 +1,5 @@
 -- What a scanner asks and reports.
-use Rattle.std.specs.Prelude.{◌≡◌, ◌≢◌, ◌⊎◌, ℕ, false, List, [], ◌∷◌, ◌++◌, ◌+◌, Option, Some, None, Result, Ok, Err}
+use Rattle.std.specs.Prelude.{◌≡◌, ◌≢◌, ◌⊎◌, ℕ, false, List, [], ◌∷◌, ◌++◌, Option, Some, None, Result, Ok, Err}
 use Rattle.pana_calls.specs.declared.call.Call.{Call}
 use Rattle.pana_calls.specs.declared.call.Call.TheVariants as calls
 use Rattle.pana_calls.specs.declared.call.Query.TheVariants as queries
@@ -46,6 +46,12 @@ Reports device old (step ∷ steps) [] faults new = (faults ≡ 1) × (new ≡ o
 Reports device old (step ∷ steps) (made ∷ more) faults new = (made.by ≡ device) × (made.call ≡ calls.Report step.report)
     × (Reports device (settled_as old step made.answer) steps more faults new ⊎ ((done_as made.answer ≡ 1) × (more ≡ []) × (faults ≡ 1) × (new ≡ old)))
 
+-- the baseline once the first of these steps were reported with these answers: each that was done is settled in it
+abbrev pub settled_all : List BaselineRow → List Step → List Asked → List BaselineRow
+settled_all baseline steps [] = baseline
+settled_all baseline [] (made ∷ more) = baseline
+settled_all baseline (step ∷ steps) (made ∷ more) = settled_all (settled_as baseline step made.answer) steps more
+
 -- nothing is reported, and that is a fault
 abbrev pub NoReports : List BaselineRow → List Asked → ℕ → List BaselineRow → Type 0
 NoReports old reports faults new = (reports ≡ []) × (faults ≡ 1) × (new ≡ old)
@@ -70,6 +76,19 @@ IsScan device (Err fault) old (asked ∷ reports) faults new = ⊥
 IsScan device (Ok listing) old (asked ∷ reports) faults new =
     (listing.device ≡ device) × (asked.by ≡ device) × (asked.call ≡ calls.Query (queries.Holdings device None)) × Follow device listing old asked.answer reports faults new
 
+-- what is left of the plan's baseline, where the holdings are known and a report has no answer
+abbrev pub left_by_plan : Contents → List BaselineRow → Answer → List Asked → List BaselineRow
+left_by_plan listing old (Given (Holdings holdings)) reports = settled_all (plan_of old holdings listing).baseline (plan_of old holdings listing).steps reports
+left_by_plan listing old answer reports = old
+
+-- The baseline that a scan leaves where the call after these has no answer. It is as it was where that is the question for the
+-- holdings. Else it is the plan's, in which each report is settled that was done, so that none of them is made again, and no other
+-- one is settled.
+abbrev pub left_by_scan : Result Contents ScanFault → List BaselineRow → List Asked → List BaselineRow
+left_by_scan given old [] = old
+left_by_scan (Err fault) old (asked ∷ reports) = old
+left_by_scan (Ok listing) old (asked ∷ reports) = left_by_plan listing old asked.answer reports
+
 -- ---- a folder that is tracked
 
 -- the calls of tracking what was read, by its device, where an empty folder is a fault; none where it couldn't be read, or is
@@ -89,6 +108,11 @@ IsLook device (Tracked given) old made new = IsTracking device given made × (ne
 abbrev pub IsNext : List ℕ → Look → List BaselineRow → List Asked → Call → Type 0
 IsNext device look old made call = (answer : Answer) → (new : List BaselineRow) × IsLook device look old (made ++ record { by = device; call = call; answer = answer } ∷ []) new
 
+-- the baseline that a look leaves where the call after these has no answer
+abbrev pub left_by_look : Look → List BaselineRow → List Asked → List BaselineRow
+left_by_look (Scanned given) old made = left_by_scan given old made
+left_by_look (Tracked given) old made = old
+
 -- ---- a session
 
 module _ {S : Type 0} (step : S → List ℕ → Call → Answer → S → Type 0) (device : List ℕ) where
@@ -99,33 +123,47 @@ module _ {S : Type 0} (step : S → List ℕ → Call → Answer → S → Type 
     pub is : IsLook device look marks_old made marks_new
 
   -- the session makes the first calls of a look, and then one has no answer
-  pub record StopsLook (fails : S → List ℕ → Call → S → Type 0) (look : Look) (old new : S) (marks : List BaselineRow) : Type 0 where
+  pub record StopsLook (fails : S → List ℕ → Call → S → Type 0) (look : Look) (old new : S) (marks_old marks_new : List BaselineRow) : Type 0 where
     pub mid : S
     pub made : List Asked
     pub calls : Makes step old made mid
     pub call : Call
-    pub is : IsNext device look marks made call
+    pub is : IsNext device look marks_old made call
     pub ends : fails mid device call new
+    pub left : marks_new ≡ left_by_look look marks_old made
 
-  -- the session makes the calls of looks, one after another, each of which begins with the baseline that the one before has left,
-  -- and settles behind each
-  abbrev pub KeepsLooks : (S → S → Type 0) → List Look → S → S → List BaselineRow → List BaselineRow → Type 0
-  KeepsLooks settles [] old new marks_old marks_new = (new ≡ old) × (marks_new ≡ marks_old)
-  KeepsLooks settles (look ∷ more) old new marks_old marks_new =
-      (made : S) × (kept : S) × (marks : List BaselineRow) × LooksOnce look old made marks_old marks × settles made kept × KeepsLooks settles more kept new marks marks_new
+  -- a look is kept: the session makes its calls, and settles behind them
+  pub record KeepsLook (settles : S → S → Type 0) (look : Look) (old new : S) (marks_old marks_new : List BaselineRow) : Type 0 where
+    pub mid : S
+    pub looks : LooksOnce look old mid marks_old marks_new
+    pub settled : settles mid new
 
   -- a look is cut short: one of its calls has no answer, or all were made, and the session couldn't settle behind them
-  abbrev pub BreaksLook : (S → List ℕ → Call → S → Type 0) → (S → S → Type 0) → Look → S → S → List BaselineRow → Type 0
-  BreaksLook fails breaks_off look old new marks =
-      StopsLook fails look old new marks ⊎ ((made : S) × (left : List BaselineRow) × LooksOnce look old made marks left × breaks_off made new)
+  abbrev pub BreaksLook : (S → List ℕ → Call → S → Type 0) → (S → S → Type 0) → Look → S → S → List BaselineRow → List BaselineRow → Type 0
+  BreaksLook fails breaks_off look old new marks_old marks_new =
+      StopsLook fails look old new marks_old marks_new ⊎ ((made : S) × LooksOnce look old made marks_old marks_new × breaks_off made new)
+
+  module _ (fails : S → List ℕ → Call → S → Type 0) (settles breaks_off : S → S → Type 0) (may_recover : S → Type 0) where
+    -- a look is kept, or it is cut short, and later calls may have answers
+    abbrev pub TakesLook : Look → S → S → List BaselineRow → List BaselineRow → Type 0
+    TakesLook look old new marks_old marks_new =
+        KeepsLook settles look old new marks_old marks_new ⊎ (BreaksLook fails breaks_off look old new marks_old marks_new × may_recover new)
+
+    -- looks are taken so, one after another, each of which begins with the baseline that the one before has left
+    abbrev pub TakesLooks : List Look → S → S → List BaselineRow → List BaselineRow → Type 0
+    TakesLooks [] old new marks_old marks_new = (new ≡ old) × (marks_new ≡ marks_old)
+    TakesLooks (look ∷ more) old new marks_old marks_new =
+        (mid : S) × (marks : List BaselineRow) × TakesLook look old mid marks_old marks × TakesLooks more mid new marks marks_new
 
 -- A scanner's work: it takes what the folder gives until that gives no more, or a look is cut short, from an empty baseline on.
-pub record Scans {F S : Type 0} (gives : F → Option Look → F → Type 0) (step : S → List ℕ → Call → Answer → S → Type 0) (fails : S → List ℕ → Call → S → Type 0) (settles breaks_off : S → S → Type 0)
+-- It goes on behind a look that was cut short only where later calls may have answers.
+pub record Scans {F S : Type 0} (gives : F → Option Look → F → Type 0) (step : S → List ℕ → Call → Answer → S → Type 0) (fails : S → List ℕ → Call → S → Type 0) (settles breaks_off : S → S → Type 0) (may_recover : S → Type 0)
     (device : List ℕ) (folder_old folder_new : F) (old new : S) : Type 0 where
   pub given : List Look
   pub baseline : List BaselineRow
   pub folder_mid : F
   pub mid : S
   pub folder : Gives gives folder_old given folder_mid
-  pub keeps : KeepsLooks step device settles given old mid [] baseline
-  pub ends : (gives folder_mid None folder_new × (new ≡ mid)) ⊎ ((next : Look) × gives folder_mid (Some next) folder_new × BreaksLook step device fails breaks_off next mid new baseline)
+  pub takes : TakesLooks step device fails settles breaks_off may_recover given old mid [] baseline
+  pub ends : (gives folder_mid None folder_new × (new ≡ mid))
+      ⊎ ((next : Look) × (left : List BaselineRow) × gives folder_mid (Some next) folder_new × BreaksLook step device fails breaks_off next mid new baseline left)

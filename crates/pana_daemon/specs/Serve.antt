@@ -1,5 +1,5 @@
 -- What callers leave of the session that all share.
-use Rattle.std.specs.Prelude.{◌≡◌, ◌&&◌, ℕ, Bool, true, false, List, length, replicate, Option, Some, None, Result}
+use Rattle.std.specs.Prelude.{◌≡◌, ◌&&◌, ℕ, Bool, true, false, List, length, replicate, Option, Some, None}
 use Rattle.std.specs.List.{list_any}
 use Rattle.pana_turn.specs.Closing.{Closes}
 use Rattle.pana_turn.specs.Passes.{DeskId, new_passes}

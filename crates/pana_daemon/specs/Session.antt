@@ -1,12 +1,12 @@
 -- What a session at a desk does to its pass.
-use Rattle.std.specs.Prelude.{◌≡◌, ◌⊎◌, ◌^◌, ◌≤◌, ℕ, Bool, List, length}
+use Rattle.std.specs.Prelude.{◌≡◌, ◌⊎◌, ◌^◌, ◌≤◌, ℕ, Bool, true, List, [], ◌∷◌, ◌++◌, length}
 use Rattle.std.specs.List.{list_any}
 use mathlib.Core.List.{IsPrefix}
 use Rattle.pana_calls.specs.declared.call.Call.{Call}
 use Rattle.pana_calls.specs.declared.answer.Answer.{Answer}
 use Rattle.pana_turn.specs.History.{IsHistory}
 use Rattle.pana_turn.specs.Passes.{AddsCall, IsSamePass, own_calls}
-use Rattle.pana_daemon.specs.Desk.{PassView, is_nothing}
+use Rattle.pana_daemon.specs.Desk.{Finished, PassView, is_nothing, is_passing}
 use Rattle.pana_daemon.specs.declared.request.Request.{Request}
 use Rattle.pana_daemon.specs.declared.request.Request.TheVariants.{Make, Settle}
 use Rattle.pana_daemon.specs.declared.request.Response.{Response}
@@ -34,7 +34,7 @@ module _ {S : Type 0} (steps : S → Request → Response → S → Type 0) wher
 
   -- the call has no answer: the pass made it, and the session that all share gave none; or the pass made no call
   abbrev pub GetsNone : PassView S → List ℕ → Call → PassView S → Type 0
-  GetsNone old by call new = Requests old (Make (record { by = by; call = call })) responses.Nothing new ⊎ RequestsNone old new
+  GetsNone old by call new = ((recovers : Bool) × Requests old (Make (record { by = by; call = call })) (responses.Nothing recovers) new) ⊎ RequestsNone old new
 
   -- the pass had the session that all share settle
   abbrev pub Settles : PassView S → PassView S → Type 0
@@ -42,7 +42,7 @@ module _ {S : Type 0} (steps : S → Request → Response → S → Type 0) wher
 
   -- the session couldn't settle, or the pass didn't ask for it
   abbrev pub BreaksOff : PassView S → PassView S → Type 0
-  BreaksOff old new = Requests old Settle responses.Nothing new ⊎ RequestsNone old new
+  BreaksOff old new = ((recovers : Bool) × Requests old Settle (responses.Nothing recovers) new) ⊎ RequestsNone old new
 
 -- how many requests the pass has seen finished: the moment of a session at a desk
 abbrev pub requests_seen : {S : Type 0} → PassView S → ℕ
@@ -51,6 +51,15 @@ requests_seen pass = length pass.seen
 -- whether nothing has come of a request that the pass made
 abbrev pub lacks_answer : {S : Type 0} → PassView S → Bool
 lacks_answer pass = list_any (λ finished. is_nothing finished.reply) (own_calls pass)
+
+-- The last request that the pass has seen is its own, and nothing has come of it; but the session said then that later ones may
+-- have answers.
+pub record MayRecover {S : Type 0} (pass : PassView S) : Type 0 where
+  pub before : List (Finished S)
+  pub last : Finished S
+  pub seen : pass.seen ≡ before ++ last ∷ []
+  pub own : last.pass ≡ pass.number
+  pub passing : is_passing last.reply ≡ true
 
 -- the pass before and after a session: the same, and it has seen what it had seen, and maybe more
 pub record GrowsTo {S : Type 0} (old new : PassView S) : Type 0 where

@@ -20,14 +20,17 @@ const STEP: u64 = 100;
 /// For how many seconds a wait for an entry may keep others waiting.
 const HOLD: u64 = 1;
 
-/// A supervisor that opens with the start, and lets all pass. It prints one line on standard error at the first call that has no
-/// answer, and one where a connection can't be taken for the first time.
+/// A supervisor that opens with the start, and lets all pass. It prints one line on standard error where a call has no answer for
+/// good, one where a call has none for now and one once a call has an answer again, and one where a connection can't be taken for
+/// the first time.
 #[derive(Drop)]
 pub struct Alarm<'a> {
     rt: &'a HostRuntime,
     start: &'a Start,
     listener: &'a Mutex<CountedListener>,
     has_rung: AtomicBool,
+    /// Whether a call had no answer for now, and none has had one since.
+    is_silent: AtomicBool,
     is_deaf: AtomicBool,
     closer: Option<Closer>,
     /// The second of the clock when it rang; the greatest number before.
@@ -51,28 +54,29 @@ impl Closer {
 }
 
 impl<'a> Alarm<'a> {
-    /// A supervisor before the first call, where the journal has so many entries; once it has rung all is to end where a closer of
-    /// the listener is given.
+    /// A supervisor before the first call, and what it knows of the journal; once it has rung all is to end where a closer of the
+    /// listener is given.
     pub fn new(
         rt: &'a HostRuntime,
         start: &'a Start,
         listener: &'a Mutex<CountedListener>,
         closer: Option<Closer>,
-        entries: u64,
+        waiting: Waiting,
     ) -> Alarm<'a> {
         Alarm {
             rt,
             start,
             listener,
             has_rung: AtomicBool::new(false),
+            is_silent: AtomicBool::new(false),
             is_deaf: AtomicBool::new(false),
             closer,
             rung_at: AtomicU64::new(u64::MAX),
-            waiting: Waiting::new(entries),
+            waiting,
         }
     }
 
-    /// Whether a call had no answer.
+    /// Whether a call had no answer for good.
     fn has_rung(&self) -> bool {
         self.has_rung.load(Ordering::SeqCst)
     }
@@ -134,9 +138,19 @@ impl<'a> Alarm<'a> {
 impl Supervisor for Alarm<'_> {
     fn before(&self, _caller: u32, _nth: u64) {}
 
-    fn after(&self, _caller: u32, _nth: u64) {}
+    fn after(&self, _caller: u32, _nth: u64) {
+        if self.is_silent.load(Ordering::SeqCst) && self.is_silent.swap(false, Ordering::SeqCst) {
+            self.say("panad: the log answers again\n");
+        }
+    }
 
-    fn unanswered(&self, _caller: u32, _nth: u64) {
+    fn unanswered(&self, _caller: u32, _nth: u64, may_recover: bool) {
+        if may_recover {
+            if !self.is_silent.swap(true, Ordering::SeqCst) {
+                self.say("panad: the log gives no answer; trying again\n");
+            }
+            return;
+        }
         if !self.has_rung.swap(true, Ordering::SeqCst) {
             let _ = eprintln!(self.rt; "panad: journal failed");
             self.close();
@@ -147,7 +161,7 @@ impl Supervisor for Alarm<'_> {
         let Ok(begun) = self.rt.monotonic() else {
             return;
         };
-        let time = Duration::from_secs(seconds);
+        let time = self.waiting.time_of(seconds);
         for _ in threads.forever() {
             if !self.wait_on(threads, caller, entry, begun, time) {
                 return;

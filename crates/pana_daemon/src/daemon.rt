@@ -29,6 +29,7 @@ use crate::signals::Signals;
 use crate::socket_door::SocketDoor;
 use crate::standard_input::StandardInput;
 use crate::start::Verdict;
+use crate::waiting::Waiting;
 use pana_calls::Session;
 use pana_tickets::{Share, Tickets};
 use pana_ticks::Counter;
@@ -280,9 +281,10 @@ fn serve_posts<'a, S: Session + Send + Drop, T: Threads + Wait + Clock + Sync, K
 /// Prints where it listens, and then serves the listener's connections at a desk with this session, 16 at a time, and
 /// looks at the roots: each by a thread of its own, at the start and after newlines on standard input, and each so many
 /// seconds too where that is wanted. It ends once as many connections were taken as are wanted, these have ended and, where
-/// there is a root, standard input has ended too; where no number is given, only where nothing has come of a request: it takes
-/// no further connection then, closes those that are open still after 5 to 10 seconds, and doesn't wait for standard input. Then it closes the desk, and
-/// returns the session, with the number of requests that were made, and what has gone wrong.
+/// there is a root, standard input has ended too; where no number is given, only where nothing has come of a request and
+/// later ones won't have answers: it takes no further connection then, closes those that are open still after 5 to 10
+/// seconds, and doesn't wait for standard input. Then it closes the desk, and returns the session, with the number of
+/// requests that were made, and what has gone wrong.
 ///
 /// # Errors
 ///
@@ -311,7 +313,8 @@ pub fn serve<'a, S: Session + Send + Drop, T: Threads + Wait + Clock + Sync, K: 
     } = listener;
     let (tickets, mut whole) = Tickets::new(rt.alloc(), limit_of(wanted))?;
     let counted = Mutex::new(CountedListener::new(listener, wanted));
-    let alarm = Alarm::new(rt, &signals.start, &counted, closer, session.entries());
+    let waiting = Waiting::new(&session);
+    let alarm = Alarm::new(rt, &signals.start, &counted, closer, waiting);
     let posts = posts_of(
         rt.alloc(),
         &*threads,

@@ -21,19 +21,21 @@ pub struct DeskSession<'a, S: Session + Drop, T, G> {
     calls: u64,
     /// Whether nothing has come of a request that it made.
     unanswered: bool,
+    /// Whether nothing has come of its last request, though later ones may have answers.
+    may_recover: bool,
     pass: Pass<Shared<S>>,
 }
 
 impl<'a, S: Session + Drop, T, G> Model for DeskSession<'a, S, T, G> {
-    ghost use Rattle.std.specs.Prelude.{◌≡◌};
+    ghost use Rattle.std.specs.Prelude.{◌≡◌, true};
     ghost use Rattle.pana_daemon.specs.Desk.{PassView};
-    ghost use Rattle.pana_daemon.specs.Session.{lacks_answer};
+    ghost use Rattle.pana_daemon.specs.Session.{MayRecover, lacks_answer};
 
     ghost Value = { PassView S };
 
     ghost view = { λ session. session.pass };
 
-    ghost invariant = { λ session. (session.pass.desk ≡ session.desk.now.id) × (session.unanswered ≡ lacks_answer session.pass) };
+    ghost invariant = { λ session. (session.pass.desk ≡ session.desk.now.id) × (session.unanswered ≡ lacks_answer session.pass) × (session.may_recover ≡ true → MayRecover session.pass) };
 }
 
 impl<'a, S: Session + Drop, T, G> DeskSession<'a, S, T, G> {
@@ -59,6 +61,7 @@ impl<'a, S: Session + Drop, T, G> DeskSession<'a, S, T, G> {
             caller,
             calls: 0,
             unanswered: false,
+            may_recover: false,
             pass,
         }
     }
@@ -81,6 +84,7 @@ impl<'a, S: Session + Drop, T, G> DeskSession<'a, S, T, G> {
             caller: _,
             calls: _,
             unanswered: _,
+            may_recover: _,
             pass,
         } = self;
         pass
@@ -112,20 +116,23 @@ impl<S: Session + Drop, T: Wait, G: Supervisor> DeskSession<'_, S, T, G> {
         ensures none { OnErr result (RequestsNone (RequestSteps S.step S.fails S.settles S.breaks_off) self.old self.new) }
     {
         let Ok(response) = self.desk.call(self.rt, &mut self.pass, request) else {
+            self.may_recover = false;
             return Err(NoAnswer);
         };
+        self.may_recover = response.is_passing();
         if response.is_nothing() {
             self.unanswered = true;
-            self.supervisor.unanswered(self.caller, self.calls);
+            self.supervisor
+                .unanswered(self.caller, self.calls, self.may_recover);
         }
         Ok(response)
     }
 }
 
 impl<S: Session + Drop, T: Wait, G: Supervisor> Session for DeskSession<'_, S, T, G> {
-    ghost use Rattle.std.specs.Prelude.{IfOk, OnOk, OnErr};
+    ghost use Rattle.std.specs.Prelude.{◌≡◌, true, IfOk, OnOk, OnErr};
     ghost use Rattle.pana_daemon.specs.Desk.{RequestSteps};
-    ghost use Rattle.pana_daemon.specs.Session.{BreaksOff, GetsNone, MakesCall, Settles, requests_seen};
+    ghost use Rattle.pana_daemon.specs.Session.{BreaksOff, GetsNone, MakesCall, MayRecover, Settles, requests_seen};
 
     ghost step = { MakesCall (RequestSteps S.step S.fails S.settles S.breaks_off) };
 
@@ -156,7 +163,7 @@ impl<S: Session + Drop, T: Wait, G: Supervisor> Session for DeskSession<'_, S, T
                 note(self.supervisor, &answer);
                 Ok(answer)
             }
-            Response::Nothing => Err(NoAnswer),
+            Response::Nothing { .. } => Err(NoAnswer),
             Response::Settled => unreachable!(),
         }
     }
@@ -168,8 +175,15 @@ impl<S: Session + Drop, T: Wait, G: Supervisor> Session for DeskSession<'_, S, T
     {
         match self.request(Request::Settle)? {
             Response::Settled => Ok(()),
-            Response::Nothing => Err(NoAnswer),
+            Response::Nothing { .. } => Err(NoAnswer),
             Response::Answer(_) => unreachable!(),
         }
+    }
+
+    /// Whether calls may have answers again, where nothing has come of the last request; not where no further one may be made.
+    fn may_recover(&self) -> bool
+        ensures { result ≡ true → MayRecover self.now }
+    {
+        self.may_recover
     }
 }

@@ -19,18 +19,28 @@ pub enum Response {
     Answer(Answer),
     /// All is kept.
     Settled,
-    /// The call has no answer, or what waits can't be kept.
-    Nothing,
+    /// The call has no answer, or what waits can't be kept; and whether later requests may have answers.
+    Nothing { recovers: bool },
 }
 
 impl Response {
     ghost use Rattle.std.specs.Prelude.{◌≡◌};
-    ghost use Rattle.pana_daemon.specs.Desk.{is_nothing};
+    ghost use Rattle.pana_daemon.specs.Desk.{is_nothing, is_passing};
 
     /// Whether nothing has come of it.
     pub(crate) fn is_nothing(&self) -> bool
         ensures { result ≡ is_nothing self.now }
     {
-        matches!(self, Response::Nothing)
+        matches!(self, Response::Nothing { .. })
+    }
+
+    /// Whether nothing has come of it, though later requests may have answers.
+    pub(crate) fn is_passing(&self) -> bool
+        ensures { result ≡ is_passing self.now }
+    {
+        match self {
+            Response::Nothing { recovers } => *recovers,
+            _ => false,
+        }
     }
 }

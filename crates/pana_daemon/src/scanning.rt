@@ -1,10 +1,14 @@
 //! Looks at a folder, one after another, and what a session reports of them.
 ghost use Rattle.std.specs.Prelude.{◌≡◌, Ok, IfOk, IfErr, OnErr, MatchOption, false};
 ghost use Rattle.pana_track.specs.Folder.{BreaksFolder, TracksFolder};
-ghost use Rattle.pana_daemon.specs.Scan.{BreaksLook, LooksOnce, Scans, StopsLook, done_as};
-ghost use Rattle.pana_daemon.specs.inner.Scan.{Asks, IsOwn, KeepsLook, ReportsOne, ReportsSteps, ScansOnce, StopsReporting, StopsScan, TracksOnce, StopsTracking};
+ghost use Rattle.pana_daemon.specs.Desk.{RequestSteps};
+ghost use Rattle.pana_daemon.specs.Scan.{BreaksLook, KeepsLook, LooksOnce, Scans, StopsLook, done_as};
+ghost use Rattle.pana_daemon.specs.Session.{BreaksOff, GetsNone, MakesCall, MayRecover, Settles};
+ghost use Rattle.pana_daemon.specs.inner.Scan.{Asks, IsOwn, ReportsOne, ReportsSteps, ScansOnce, StopsReporting, StopsScan, TracksOnce, StopsTracking};
 
+use crate::desk_session::DeskSession;
 use crate::folder::{Folder, Look};
+use crate::supervisor::Supervisor;
 use pana_calls::{Answer, Call, HoldingList, NoAnswer, Query, Reply, Session};
 use pana_copies::DeviceName;
 use pana_scan::{Baseline, Listing, Plan, ScanFault, Step, plan};
@@ -31,7 +35,7 @@ fn report<S: Session>(
     baseline: &mut Baseline,
 ) -> Result<bool, NoAnswer>
     ensures ok { IfOk result (λ more. ReportsOne S.step device.now step.now session.old session.new more baseline.old baseline.new) }
-    ensures fails { IfErr result (λ _. S.fails session.old device.now (Call.Report step.now.report) session.new) }
+    ensures fails { IfErr result (λ _. S.fails session.old device.now (Call.Report step.now.report) session.new × (baseline.new ≡ baseline.old)) }
 {
     let Ok(report) = step.report.copy_of(alloc) else {
         return Ok(false);
@@ -52,7 +56,7 @@ fn report_all<S: Session>(
     baseline: &mut Baseline,
 ) -> Result<(), NoAnswer>
     ensures ok { IfOk result (λ _. ReportsSteps S.step device.now steps.now session.old session.new baseline.old baseline.new) }
-    ensures fails { IfErr result (λ _. StopsReporting S.step S.fails device.now steps.now session.old session.new baseline.old) }
+    ensures fails { IfErr result (λ _. StopsReporting S.step S.fails device.now steps.now session.old session.new baseline.old baseline.new) }
 {
     for step in steps {
         if !report(alloc, session, device, step, baseline)? {
@@ -90,7 +94,7 @@ fn scan<S: Session>(
 ) -> Result<(), NoAnswer>
     requires { listing.now.device ≡ device.now }
     ensures ok { IfOk result (λ _. ScansOnce S.step device.now (Ok listing.now) session.old session.new baseline.old baseline.new) }
-    ensures fails { IfErr result (λ _. StopsScan S.step S.fails device.now (Ok listing.now) session.old session.new baseline.old) }
+    ensures fails { IfErr result (λ _. StopsScan S.step S.fails device.now (Ok listing.now) session.old session.new baseline.old baseline.new) }
 {
     let Some(holdings) = holdings_of(session, device)? else {
         return Ok(());
@@ -117,7 +121,7 @@ fn take_scan<S: Session>(
     baseline: &mut Baseline,
 ) -> Result<(), NoAnswer>
     ensures ok { IfOk result (λ _. ScansOnce S.step device.now given session.old session.new baseline.old baseline.new) }
-    ensures fails { IfErr result (λ _. StopsScan S.step S.fails device.now given session.old session.new baseline.old) }
+    ensures fails { IfErr result (λ _. StopsScan S.step S.fails device.now given session.old session.new baseline.old baseline.new) }
 {
     let Ok(listing) = given else {
         return Ok(());
@@ -163,7 +167,7 @@ fn take<S: Session>(
     baseline: &mut Baseline,
 ) -> Result<Option<FolderEnd>, NoAnswer>
     ensures ok { IfOk result (λ _. LooksOnce S.step device.now look session.old session.new baseline.old baseline.new) }
-    ensures fails { OnErr result (StopsLook S.step device.now S.fails look session.old session.new baseline.old) }
+    ensures fails { OnErr result (StopsLook S.step device.now S.fails look session.old session.new baseline.old baseline.new) }
 {
     match look {
         Look::Scanned(given) => {
@@ -183,7 +187,7 @@ fn keep<S: Session>(
     baseline: &mut Baseline,
 ) -> Result<Option<FolderEnd>, NoAnswer>
     ensures ok { IfOk result (λ _. KeepsLook S.step device.now S.settles look session.old session.new baseline.old baseline.new) }
-    ensures fails { OnErr result (BreaksLook S.step device.now S.fails S.breaks_off look session.old session.new baseline.old) }
+    ensures fails { OnErr result (BreaksLook S.step device.now S.fails S.breaks_off look session.old session.new baseline.old baseline.new) }
 {
     let end = take(alloc, session, device, look, baseline)?;
     session.settle()?;
@@ -194,16 +198,19 @@ fn keep<S: Session>(
 /// and makes the report of each step; a step that was done is settled in the baseline, and one that was refused isn't. Of one
 /// that is tracked it reports what was noticed, as `track_folder` of `pana_track` does. Behind the calls of each look the
 /// session settles, and then the folder learns what became of one that is tracked. A look is passed over from where a fault
-/// comes: a listing that failed or is of another device, holdings that were refused, memory that ran out. It ends where the
-/// folder gives no more, at the first call that has no answer, or where the session can't settle.
-pub fn scanner<T: Wait, S: Session, F: Folder>(
+/// comes: a listing that failed or is of another device, holdings that were refused, memory that ran out. It is cut short at the
+/// first call that has no answer, or where the session can't settle. Then what was done stays settled in the baseline, and the
+/// next look plans the rest anew. It ends where the folder gives no more, or at a look that was cut short where no later call
+/// will have an answer.
+pub fn scanner<T: Wait, S: Session + Drop, G: Supervisor, F: Folder>(
     rt: &T,
     alloc: Global,
-    session: &mut S,
+    session: &mut DeskSession<'_, S, T, G>,
     device: &DeviceName,
     folder: &mut F,
 )
-    ensures { Scans F.gives S.step S.fails S.settles S.breaks_off device.now folder.old folder.new session.old session.new }
+    ensures { Scans F.gives (MakesCall (RequestSteps S.step S.fails S.settles S.breaks_off)) (GetsNone (RequestSteps S.step S.fails S.settles S.breaks_off)) (Settles (RequestSteps S.step S.fails S.settles S.breaks_off)) (BreaksOff (RequestSteps S.step S.fails S.settles S.breaks_off))
+        MayRecover device.now folder.old folder.new session.old session.new }
 {
     let mut baseline = Baseline::new(alloc);
     for _ in rt.forever() {
@@ -213,7 +220,11 @@ pub fn scanner<T: Wait, S: Session, F: Folder>(
         match keep(alloc, session, device, look, &mut baseline) {
             Ok(Some(end)) => folder.note_end(&end),
             Ok(None) => {}
-            Err(NoAnswer) => return,
+            Err(NoAnswer) => {
+                if !session.may_recover() {
+                    return;
+                }
+            }
         }
     }
     unreachable!()

@@ -50,11 +50,15 @@ impl<S: Session + Drop> Machine for Shared<S> {
         match request {
             Request::Make(Message { by, call }) => match self.session.call(&by, call) {
                 Ok(answer) => Response::Answer(answer),
-                Err(NoAnswer) => Response::Nothing,
+                Err(NoAnswer) => Response::Nothing {
+                    recovers: self.session.may_recover(),
+                },
             },
             Request::Settle => match self.session.settle() {
                 Ok(()) => Response::Settled,
-                Err(NoAnswer) => Response::Nothing,
+                Err(NoAnswer) => Response::Nothing {
+                    recovers: self.session.may_recover(),
+                },
             },
         }
     }

@@ -12,8 +12,8 @@ pub trait Supervisor {
     /// After the answer to the caller's nth call.
     fn after(&self, caller: u32, nth: u64);
 
-    /// After the caller's nth call was made and has no answer.
-    fn unanswered(&self, _caller: u32, _nth: u64) {}
+    /// After the caller's nth call was made and has no answer, and whether later calls may have answers.
+    fn unanswered(&self, _caller: u32, _nth: u64, _may_recover: bool) {}
 
     /// Before a call of the caller that waits for this entry: comes back once the journal is known to have it, at the latest after
     /// so many seconds, and sooner where all sessions are to end or where the wait keeps others waiting.

@@ -2,7 +2,7 @@
 ghost use Rattle.std.specs.Prelude.{◌≡◌};
 ghost use Rattle.pana_daemon.specs.Waiting.{awaited_by, made_by};
 
-use pana_calls::{Answer, Call, Query, Reply};
+use pana_calls::{Answer, Call, Query, Reply, Session};
 use std::sync::Wait;
 use std::sync::atomic::{AtomicU64, Ordering};
 use std::time::Duration;
@@ -27,12 +27,17 @@ pub(crate) fn made_by(answer: &Answer) -> Option<u64>
     }
 }
 
+/// For how many seconds a wait lasts at most where the journal grows by others' calls too: these are seen only once a call is made.
+const LOOK: u64 = 1;
+
 /// How many entries the journal is known to have, and which callers' connections are to end.
 ///
 /// The number says when a question that waits is asked. No answer comes from it.
 #[derive(Drop)]
-pub(crate) struct Waiting {
+pub struct Waiting {
     entries: AtomicU64,
+    /// Whether the journal grows by others' calls too.
+    is_shared: bool,
     /// A bit for each caller.
     leaving: AtomicU64,
 }
@@ -43,12 +48,21 @@ fn bit_of(caller: u32) -> u64 {
 }
 
 impl Waiting {
-    /// A journal that has so many entries, and no connection that is to end.
-    pub(crate) fn new(entries: u64) -> Waiting {
+    /// The journal of this session, and no connection that is to end.
+    pub(crate) fn new<S: Session>(session: &S) -> Waiting {
         Waiting {
-            entries: AtomicU64::new(entries),
+            entries: AtomicU64::new(session.entries()),
+            is_shared: session.is_shared(),
             leaving: AtomicU64::new(0),
         }
+    }
+
+    /// How long a wait may last that is to last so many seconds at most.
+    pub(crate) fn time_of(&self, seconds: u64) -> Duration {
+        if self.is_shared {
+            return Duration::from_secs(seconds.min(LOOK));
+        }
+        Duration::from_secs(seconds)
     }
 
     /// How many entries the journal is known to have.

@@ -1,5 +1,5 @@
 -- What a history of a store's requests has kept.
-use Rattle.std.proofs.Common.{◌≡◌, ◌≢◌, ◌⊎◌, inl, inr, ⊎_elim, ℕ, ◌<◌, ◌≤◌, Bool, IsTrue, List, [], ◌∷◌, ◌++◌, length, refl, sym, ap, subst, ◌∙◌, append-nil, arith}
+use Rattle.std.proofs.Common.{◌≡◌, ◌≢◌, ◌⊎◌, inl, inr, ⊎_elim, ℕ, ◌<◌, ◌≤◌, Bool, IsTrue, List, [], ◌∷◌, ◌++◌, length, sym, ap, subst, ◌∙◌, append-nil, arith}
 use Rattle.pana_calls.specs.declared.answer.Answer.{Answer}
 use Rattle.pana_calls.specs.declared.answer.Answer.TheVariants.{Given}
 use Rattle.pana_calls.specs.declared.call.Call.{Call}
@@ -72,21 +72,21 @@ module _ {V : Type 0} (is_known : Bool) (seen : V → List ℕ) (may_leave : V �
   next_state old (Make m) (responses.Answer answer) new (inl good) step = inl (groups.good_step is_known seen may_leave is_usable moment left_since has_failed known only_now old m.by m.call answer new good step)
   next_state old (Make m) (responses.Answer answer) new (inr lost) step = inr (lost_answers old m.by m.call answer new lost step)
   next_state old (Make m) responses.Settled new state step = absurd step
-  next_state old (Make m) responses.Nothing new (inl good) (makes, inl (shut, same)) = absurd (shut good.works)
-  next_state old (Make m) responses.Nothing new (inr lost) (makes, inl (shut, same)) = inr (subst Lost (sym same) lost)
-  next_state old (Make m) responses.Nothing new state (makes, inr off) = inr (lost_off old new off)
+  next_state old (Make m) (responses.Nothing recovers) new (inl good) (makes, inl (shut, same)) = absurd (shut good.works)
+  next_state old (Make m) (responses.Nothing recovers) new (inr lost) (makes, inl (shut, same)) = inr (subst Lost (sym same) lost)
+  next_state old (Make m) (responses.Nothing recovers) new state (makes, inr off) = inr (lost_off old new off)
   next_state old Settle (responses.Answer answer) new state step = absurd step
   next_state old Settle responses.Settled new (inl good) step = inl (groups.good_settle is_known seen may_leave is_usable moment left_since has_failed known only_now old new good step)
   next_state old Settle responses.Settled new (inr lost) step = not_settled old new lost step
-  next_state old Settle responses.Nothing new state step = inr (lost_off old new step)
+  next_state old Settle (responses.Nothing recovers) new state step = inr (lost_off old new step)
 
   next_run : (first old : StoreView V) (request : Request) (response : Response) (new : StoreView V) → Runs first old → One old request response new → Runs first new
   next_run first old (Make m) (responses.Answer answer) new run step = groups.runs_step is_known seen may_leave is_usable moment left_since has_failed known only_now first old m.by m.call answer new run step
   next_run first old (Make m) responses.Settled new run step = absurd step
-  next_run first old (Make m) responses.Nothing new run step = groups.runs_fail is_known seen may_leave is_usable moment left_since has_failed known only_now first old m.by m.call new run step
+  next_run first old (Make m) (responses.Nothing recovers) new run step = groups.runs_fail is_known seen may_leave is_usable moment left_since has_failed known only_now first old m.by m.call new run step
   next_run first old Settle (responses.Answer answer) new run step = absurd step
   next_run first old Settle responses.Settled new run step = groups.runs_settle is_known seen may_leave is_usable moment left_since has_failed known only_now first old new run step
-  next_run first old Settle responses.Nothing new run step = groups.runs_off is_known seen may_leave is_usable moment left_since has_failed known only_now first old new run step
+  next_run first old Settle (responses.Nothing recovers) new run step = groups.runs_off is_known seen may_leave is_usable moment left_since has_failed known only_now first old new run step
 
   all_run : (first old : StoreView V) (history : List (Finished (StoreView V))) → Runs first old → Steps old history → Runs first (left_by old history)
   all_run first old [] run steps = run
@@ -96,11 +96,11 @@ module _ {V : Type 0} (is_known : Bool) (seen : V → List ℕ) (may_leave : V �
   next_grows : (old : StoreView V) (request : Request) (response : Response) (new : StoreView V) → One old request response new → length old.entries ≤ length new.entries
   next_grows old (Make m) (responses.Answer answer) new step = groups.grows is_known seen may_leave is_usable moment left_since has_failed known only_now old m.by m.call answer new step
   next_grows old (Make m) responses.Settled new step = absurd step
-  next_grows old (Make m) responses.Nothing new (makes, inl (shut, same)) = omega (arith, ap (λ (g : StoreView V). length g.entries) same)
-  next_grows old (Make m) responses.Nothing new (makes, inr off) = omega (arith, ap length off.entries)
+  next_grows old (Make m) (responses.Nothing recovers) new (makes, inl (shut, same)) = omega (arith, ap (λ (g : StoreView V). length g.entries) same)
+  next_grows old (Make m) (responses.Nothing recovers) new (makes, inr off) = omega (arith, ap length off.entries)
   next_grows old Settle (responses.Answer answer) new step = absurd step
   next_grows old Settle responses.Settled new step = omega (arith, ap length step.entries)
-  next_grows old Settle responses.Nothing new step = omega (arith, ap length step.entries)
+  next_grows old Settle (responses.Nothing recovers) new step = omega (arith, ap length step.entries)
 
   pub keeps_all : (old : StoreView V) (history : List (Finished (StoreView V))) → old.log.state ≡ Open → IsKept seen may_leave is_usable (stored old) → old.entries ≡ old.kept → Steps old history → KeepsFirst moment left_since old (left_by old history)
   keeps_all old history works kept all steps =

@@ -1,12 +1,11 @@
 -- The calls of callers at a desk of a hall are one run of the hall.
-use Rattle.std.proofs.Common.{◌≡◌, ◌⊎◌, ◌<◌, ◌==◌, ◌+◌, inl, inr, zero, suc, ℕ, Bool, true, false, cond, All, List, [], ◌∷◌, ◌++◌, length, get_or, filter, map, Option, Some, None, Result, Ok, Err, refl, sym, ap, subst, ◌∙◌, append-nil, arith}
+use Rattle.std.proofs.Common.{◌≡◌, ◌⊎◌, ◌<◌, ◌==◌, ◌+◌, inl, inr, zero, suc, ℕ, Bool, true, false, cond, All, List, [], ◌∷◌, ◌++◌, length, filter, map, Option, Some, None, Result, Ok, Err, refl, sym, ap, subst, ◌∙◌, arith}
 use Rattle.std.specs.List.{range_with_len}
 use Rattle.std.proofs.lemmas.List.{length-map, map-append}
 use Rattle.std.proofs.lemmas.List.Elements.{filter-append}
 use Rattle.std.proofs.KnownBytes.{Appends-nil, Consumes-nil}
 use Rattle.std.specs.Io.KnownBytes.{Consumes, Appends}
 use Rattle.pana_journal.specs.declared.entry.Entry.{Entry}
-use Rattle.pana_calls.specs.declared.call.Call.{Call}
 use Rattle.pana_hall.specs.Run.{Exchange, IsRunFrom, journal_from}
 use Rattle.pana_scan.specs.declared.baseline.BaselineRow.{BaselineRow}
 use Rattle.pana_track.specs.Calls.{Asked, Makes}
@@ -22,19 +21,19 @@ use Rattle.pana_daemon.specs.declared.connection.Connection.{Connection}
 use Rattle.pana_daemon.specs.declared.folder.Look.{Look}
 use Rattle.pana_daemon.specs.declared.post.Post.{Post}
 use Rattle.pana_daemon.specs.declared.post.Post.TheVariants.{Door, Folder}
-use Rattle.pana_daemon.specs.Connection.{ServesAll, ServesConnection, Works, given_by}
+use Rattle.pana_daemon.specs.Connection.{ServesAll, ServesConnection, given_by}
 use Rattle.pana_daemon.specs.Desk.{Finished}
 use Rattle.pana_daemon.specs.declared.request.Request.{Request}
 use Rattle.pana_daemon.specs.declared.request.Request.TheVariants.{Make, Settle}
 use Rattle.pana_daemon.specs.declared.request.Response.{Response}
 use Rattle.pana_daemon.specs.declared.request.Response.TheVariants as responses
 use Rattle.pana_daemon.specs.Post.{HasDone, HaveDone, passes_of, posts_of}
-use Rattle.pana_daemon.specs.Scan.{BreaksLook, IsLook, IsNext, KeepsLooks}
+use Rattle.pana_daemon.specs.Scan.{BreaksLook, IsLook, IsNext, TakesLook, TakesLooks}
 use Rattle.pana_daemon.specs.Serve.{Ends}
 use Rattle.pana_daemon.specs.Served.{EndsWith}
-use Rattle.pana_daemon.specs.Session.{BreaksOff, GetsNone, MakesCall, Settles}
+use Rattle.pana_daemon.specs.Session.{BreaksOff, GetsNone, MakesCall, MayRecover, Settles}
 use Rattle.pana_laws.specs.OneRun.{AreLooks, AreTold, HasMade, HaveMade, IsOneRun, IsRest, IsTold, Turn, asked_of, calls_by, exchanges}
-use Rattle.pana_laws.proofs.Passes.{Goes, Pass, Steps, broken_none, exchange_in, exchanges_in, goes_no_more, goes_on, made_by, made_none, made_one, settled_none, stays}
+use Rattle.pana_laws.proofs.Passes.{Goes, Pass, Steps, broken_none, exchange_in, exchanges_in, goes_no_more, goes_on, made_by, made_none, made_one, none_cut, settled_none, stays}
 use Rattle.pana_laws.proofs.Sessions.{Told, told_early, told_nothing, told_whole}
 
 -- the history as turns
@@ -94,10 +93,10 @@ step_runs old (Make m) (responses.Answer (Given reply)) left rest steps run =
     ((steps.0, subst (λ (j : List Entry). IsRunFrom j rest) steps.1 run), ap (λ (j : List Entry). journal_from j rest) (sym steps.1))
 step_runs old (Make m) (responses.Answer NotKept) left rest steps run = absurd steps
 step_runs old (Make m) responses.Settled left rest steps run = absurd steps
-step_runs old (Make m) responses.Nothing left rest steps run = absurd steps
+step_runs old (Make m) (responses.Nothing recovers) left rest steps run = absurd steps
 step_runs old Settle (responses.Answer answer) left rest steps run = absurd steps
 step_runs old Settle responses.Settled left rest steps run = (subst (λ (j : List Entry). IsRunFrom j rest) steps run, ap (λ (j : List Entry). journal_from j rest) (sym steps))
-step_runs old Settle responses.Nothing left rest steps run = absurd steps
+step_runs old Settle (responses.Nothing recovers) left rest steps run = absurd steps
 
 history_runs : (begun : List Entry) (history : List (Finished (List Entry))) → IsHistory Steps begun history
     → IsRunFrom begun (exchanges_in history) × (left_by begun history ≡ journal_from begun (exchanges_in history))
@@ -112,7 +111,7 @@ more_by : (number : ℕ) (request : Request) (response : Response) (rest : List 
 more_by number (Make m) (responses.Answer (Given reply)) rest n k is = (n, omega (arith, is))
 more_by number (Make m) (responses.Answer NotKept) rest n k is = (n + 1, omega (arith, is))
 more_by number (Make m) responses.Settled rest n k is = (n + 1, omega (arith, is))
-more_by number (Make m) responses.Nothing rest n k is = (n + 1, omega (arith, is))
+more_by number (Make m) (responses.Nothing recovers) rest n k is = (n + 1, omega (arith, is))
 more_by number Settle response rest n k is = (n + 1, omega (arith, is))
 
 counted_so : (history : List (Finished (List Entry))) → (settled : ℕ) × (length history ≡ length (turns_in history) + settled)
@@ -132,17 +131,22 @@ made_so (asked ∷ made) old new (mid, step, makes) =
     let x : Exchange = record { by = asked.by; call = asked.call; reply = reply } in
     (x ∷ run, ap (λ (a : Answer). record { by = asked.by; call = asked.call; answer = a } ∷ made) given ∙ ap (λ (l : List Asked). asked_of x ∷ l) are, goes_on old mid new (x ∷ []) run goes on)
 
--- the calls of a look at a folder
-looks_so : (device : List ℕ) (given : List Look) (old new : Pass) (marks_old marks_new : List BaselineRow) → KeepsLooks (MakesCall Steps) device (Settles Steps) given old new marks_old marks_new
+-- the calls of a look at a folder, behind which there is another one
+look_so : (device : List ℕ) (look : Look) (old new : Pass) (marks_old marks_new : List BaselineRow) → TakesLook (MakesCall Steps) device (GetsNone Steps) (Settles Steps) (BreaksOff Steps) MayRecover look old new marks_old marks_new
+    → (run : List Exchange) × IsLook device look marks_old (map asked_of run) marks_new × Goes old run new
+look_so device look old new marks_old marks_new (inl kept) =
+    let (run, are, goes) = made_so kept.looks.made old kept.mid kept.looks.calls in
+    (run, subst (λ (made : List Asked). IsLook device look marks_old made marks_new) are kept.looks.is, goes_no_more old kept.mid new run goes (settled_none kept.mid new kept.settled))
+look_so device look old new marks_old marks_new (inr (breaks, may)) = absurd (none_cut device look old new marks_old marks_new breaks may)
+
+looks_so : (device : List ℕ) (given : List Look) (old new : Pass) (marks_old marks_new : List BaselineRow)
+    → TakesLooks (MakesCall Steps) device (GetsNone Steps) (Settles Steps) (BreaksOff Steps) MayRecover given old new marks_old marks_new
     → (run : List Exchange) × AreLooks device marks_old given (map asked_of run) marks_new × Goes old run new
 looks_so device [] old new marks_old marks_new so = ([], (refl, so.1), subst (Goes old []) (sym so.0) (stays old))
-looks_so device (look ∷ given) old new marks_old marks_new (made, kept, marks, looks, settled, more) =
-    let (first, are, goes) = made_so looks.made old made looks.calls in
-    let (others, later, on) = looks_so device given kept new marks marks_new more in (
-      first ++ others,
-      (map asked_of first, map asked_of others, marks, subst (λ (made : List Asked). IsLook device look marks_old made marks) are looks.is, later, map-append asked_of first others),
-      goes_on old kept new first others (goes_no_more old made kept first goes (settled_none made kept settled)) on,
-    )
+looks_so device (look ∷ given) old new marks_old marks_new (mid, marks, took, more) =
+    let (first, is, goes) = look_so device look old mid marks_old marks took in
+    let (others, later, on) = looks_so device given mid new marks marks_new more in
+    (first ++ others, (map asked_of first, map asked_of others, marks, is, later, map-append asked_of first others), goes_on old mid new first others goes on)
 
 module _ {O W : Type 0} (given : O → Option (List ℕ)) (contents : W → Option (List ℕ)) where
   -- a session's bytes
@@ -194,20 +198,20 @@ module _ {D R W F : Type 0} (gives : D → Option (Connection R W) → D → Typ
       (first ++ others, (next, first, others, gave, told, are, refl), goes_on old mid new first others goes on)
 
   -- a look that was cut short
-  cut_so : (device : List ℕ) (folder_old folder_new : F) (old new : Pass) (marks : List BaselineRow) (next : Look) → finds folder_old (Some next) folder_new → BreaksLook (MakesCall Steps) device (GetsNone Steps) (BreaksOff Steps) next old new marks
+  cut_so : (device : List ℕ) (folder_old folder_new : F) (old new : Pass) (marks left : List BaselineRow) (next : Look) → finds folder_old (Some next) folder_new → BreaksLook (MakesCall Steps) device (GetsNone Steps) (BreaksOff Steps) next old new marks left
       → (rest : List Exchange) × IsRest gives remaining contents finds device marks folder_old rest × Goes old rest new
-  cut_so device folder_old folder_new old new marks next gave (inl stops) =
+  cut_so device folder_old folder_new old new marks left next gave (inl stops) =
       let (rest, its, goes) = made_so stops.made old stops.mid stops.calls in
       (rest, inr (next, folder_new, gave, inr (stops.call, subst (λ (part : List Asked). IsNext device next marks part stops.call) its stops.is)), goes_no_more old stops.mid new rest goes (made_none stops.mid device stops.call new stops.ends))
-  cut_so device folder_old folder_new old new marks next gave (inr (made, left, looks, broken)) =
+  cut_so device folder_old folder_new old new marks left next gave (inr (made, looks, broken)) =
       let (rest, its, goes) = made_so looks.made old made looks.calls in
       (rest, inr (next, folder_new, gave, inl (left, subst (λ (whole : List Asked). IsLook device next marks whole left) its looks.is)), goes_no_more old made new rest goes (broken_none made new broken))
 
   -- how a scanner's work ends
-  rest_so : (device : List ℕ) (folder_old folder_new : F) (old new : Pass) (marks : List BaselineRow) → ((finds folder_old None folder_new × (new ≡ old)) ⊎ ((next : Look) × finds folder_old (Some next) folder_new × BreaksLook (MakesCall Steps) device (GetsNone Steps) (BreaksOff Steps) next old new marks))
+  rest_so : (device : List ℕ) (folder_old folder_new : F) (old new : Pass) (marks : List BaselineRow) → ((finds folder_old None folder_new × (new ≡ old)) ⊎ ((next : Look) × (left : List BaselineRow) × finds folder_old (Some next) folder_new × BreaksLook (MakesCall Steps) device (GetsNone Steps) (BreaksOff Steps) next old new marks left))
       → (rest : List Exchange) × IsRest gives remaining contents finds device marks folder_old rest × Goes old rest new
   rest_so device folder_old folder_new old new marks (inl ended) = ([], inl refl, subst (Goes old []) (sym ended.1) (stays old))
-  rest_so device folder_old folder_new old new marks (inr (next, gave, breaks)) = cut_so device folder_old folder_new old new marks next gave breaks
+  rest_so device folder_old folder_new old new marks (inr (next, left, gave, breaks)) = cut_so device folder_old folder_new old new marks left next gave breaks
 
   -- what a caller has made
   has_made : (post_old post_new : Post D F) (old new : Pass) → HasDone Steps gives remaining contents finds post_old post_new old new
@@ -218,7 +222,7 @@ module _ {D R W F : Type 0} (gives : D → Option (Connection R W) → D → Typ
   has_made (Door door) (Folder device folder) old new odd = absurd odd
   has_made (Folder device folder) (Door door) old new odd = absurd odd
   has_made (Folder device folder) (Folder device_new folder_new) old new (same, s) =
-      let (whole, are, goes) = looks_so device.now s.given old s.mid [] s.baseline s.keeps in
+      let (whole, are, goes) = looks_so device.now s.given old s.mid [] s.baseline s.takes in
       let (rest, is, on) = rest_so device.now s.folder_mid folder_new s.mid new s.baseline s.ends in
       (whole ++ rest, (s.given, s.baseline, s.folder_mid, whole, rest, s.folder, are, is, refl), goes_on old s.mid new whole rest goes on)
 

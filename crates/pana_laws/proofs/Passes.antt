@@ -1,5 +1,5 @@
 -- What a request adds to the calls that a pass of a hall's desk has made.
-use Rattle.std.proofs.Common.{◌≡◌, ◌==◌, cond, inl, inr, ℕ, List, [], ◌∷◌, ◌++◌, Option, refl, sym, ap, subst, ◌∙◌, append-nil, append_assoc}
+use Rattle.std.proofs.Common.{◌≡◌, ◌==◌, cond, inl, inr, ℕ, false, true≢false, List, [], ◌∷◌, ◌++◌, refl, sym, ap, subst, ◌∙◌, append-nil, append_assoc}
 use Rattle.std.proofs.lemmas.Bool.{eq-eqb}
 use Rattle.std.proofs.lemmas.List.Elements.{filter-append}
 use Rattle.pana_journal.specs.declared.entry.Entry.{Entry}
@@ -7,18 +7,20 @@ use Rattle.pana_calls.specs.declared.call.Call.{Call}
 use Rattle.pana_calls.specs.declared.reply.Reply.{Reply}
 use Rattle.pana_hall.specs.Run.{Exchange}
 use Rattle.pana_hall.specs.Step.{Replies}
-use Rattle.pana_turn.specs.History.{calls_of}
+use Rattle.pana_scan.specs.declared.baseline.BaselineRow.{BaselineRow}
+use Rattle.pana_turn.specs.History.{IsHistory, calls_of}
 use Rattle.pana_turn.specs.Passes.{own_calls}
 use Rattle.pana_calls.specs.declared.answer.Answer.{Answer}
 use Rattle.pana_calls.specs.declared.answer.Answer.TheVariants.{Given, NotKept}
-use Rattle.pana_wire.specs.declared.message.Message.{Message}
-use Rattle.pana_daemon.specs.Desk.{AnsweredSteps, Finished, PassView}
-use Rattle.pana_daemon.specs.Session.{BreaksOff, GetsNone, MakesCall, Requests, RequestsNone, Settles}
+use Rattle.pana_daemon.specs.Desk.{AnsweredSteps, Finished, PassView, is_passing}
+use Rattle.pana_daemon.specs.Scan.{BreaksLook}
+use Rattle.pana_daemon.specs.Session.{BreaksOff, GetsNone, MakesCall, MayRecover, Requests, RequestsNone, Settles}
+use Rattle.pana_daemon.specs.declared.folder.Look.{Look}
 use Rattle.pana_daemon.specs.declared.request.Request.{Request}
 use Rattle.pana_daemon.specs.declared.request.Request.TheVariants.{Make, Settle}
 use Rattle.pana_daemon.specs.declared.request.Response.{Response}
 use Rattle.pana_daemon.specs.declared.request.Response.TheVariants as responses
-use Rattle.pana_daemon.proofs.Sessions.{request_steps}
+use Rattle.pana_daemon.proofs.Sessions.{last_step, request_steps}
 
 abbrev pub Pass : Type 0
 Pass = PassView (List Entry)
@@ -31,7 +33,7 @@ abbrev pub exchange_in : Request → Response → List Exchange
 exchange_in (Make m) (responses.Answer (Given reply)) = record { by = m.by; call = m.call; reply = reply } ∷ []
 exchange_in (Make m) (responses.Answer NotKept) = []
 exchange_in (Make m) responses.Settled = []
-exchange_in (Make m) responses.Nothing = []
+exchange_in (Make m) (responses.Nothing recovers) = []
 exchange_in Settle response = []
 
 abbrev pub exchanges_in : List (Finished (List Entry)) → List Exchange
@@ -85,7 +87,7 @@ made_one old by call NotKept new p = absurd (request_steps Steps old new _ _ p).
 
 -- one that isn't answered wasn't made
 pub made_none : (old : Pass) (by : List ℕ) (call : Call) (new : Pass) → GetsNone Steps old by call new → Goes old [] new
-made_none old by call new (inl p) = requested old _ _ new p
+made_none old by call new (inl (recovers, p)) = requested old _ _ new p
 made_none old by call new (inr p) = none_requested old new p
 
 -- to settle is no call
@@ -93,5 +95,28 @@ pub settled_none : (old new : Pass) → Settles Steps old new → Goes old [] ne
 settled_none old new p = requested old _ _ new p
 
 pub broken_none : (old new : Pass) → BreaksOff Steps old new → Goes old [] new
-broken_none old new (inl p) = requested old _ _ new p
+broken_none old new (inl (recovers, p)) = requested old _ _ new p
 broken_none old new (inr p) = none_requested old new p
+
+-- of each request something has come
+not_passing : (old : List Entry) (request : Request) (response : Response) (new : List Entry) → Steps old request response new → is_passing response ≡ false
+not_passing old request (responses.Answer answer) new step = refl
+not_passing old request responses.Settled new step = refl
+not_passing old (Make m) (responses.Nothing recovers) new step = absurd step
+not_passing old Settle (responses.Nothing recovers) new step = absurd step
+
+never_recovers : (pass : Pass) → IsHistory Steps pass.desk.begun pass.seen → MayRecover pass → ⊥
+never_recovers pass run may =
+    let (old, step) = last_step Steps pass.desk.begun may.before may.last (subst (λ (seen : List (Finished (List Entry))). IsHistory Steps pass.desk.begun seen) may.seen run) in
+    true≢false (sym may.passing ∙ not_passing old may.last.call may.last.reply may.last.left step)
+
+-- so a look that is cut short there is the last one
+pub none_cut : (device : List ℕ) (look : Look) (old new : Pass) (marks_old marks_new : List BaselineRow) → BreaksLook (MakesCall Steps) device (GetsNone Steps) (BreaksOff Steps) look old new marks_old marks_new → MayRecover new → ⊥
+none_cut device look old new marks_old marks_new (inl stops) may = never_recovers new (run_of stops.ends) may where
+  run_of : GetsNone Steps stops.mid device stops.call new → IsHistory Steps new.desk.begun new.seen
+  run_of (inl (recovers, p)) = p.run
+  run_of (inr p) = p.run
+none_cut device look old new marks_old marks_new (inr (made, looks, broken)) may = never_recovers new (run_of broken) may where
+  run_of : BreaksOff Steps made new → IsHistory Steps new.desk.begun new.seen
+  run_of (inl (recovers, p)) = p.run
+  run_of (inr p) = p.run

@@ -1,7 +1,6 @@
 -- The calls by which a session's lines were answered.
 use Rattle.std.proofs.Common.{◌≡◌, ◌⊎◌, inl, inr, ℕ, Bool, true, false, List, [], ◌∷◌, ◌++◌, Result, Ok, Err, refl, sym, ap, subst, ◌∙◌, append-nil, append_assoc}
 use mathlib.Core.List.{IsPrefix}
-use Rattle.pana_journal.specs.declared.entry.Entry.{Entry}
 use Rattle.pana_calls.specs.declared.call.Call.{Call}
 use Rattle.pana_hall.specs.Run.{Exchange}
 use Rattle.pana_calls.specs.declared.answer.Answer.{Answer}
@@ -13,7 +12,7 @@ use Rattle.pana_wire.specs.declared.serving.ServeFault.TheVariants.{Read, Write,
 use Rattle.pana_wire.specs.Answer.{answer_text}
 use Rattle.pana_wire.specs.Fault.{fault_text}
 use Rattle.pana_wire.specs.Line.{line_says}
-use Rattle.pana_wire.specs.Lines.{ended, last_line, lines_of, unended}
+use Rattle.pana_wire.specs.Lines.{last_line, lines_of, unended}
 use Rattle.pana_wire.specs.Reply.{reply_text}
 use Rattle.pana_wire.specs.Groups.{joined as lines_in, AnswersGroups, BreaksAmong, BreaksGroup, EndsGroupsBy}
 use Rattle.pana_wire.specs.Session.{AnswersSaid, AnswersLine, AnswersLines, Made, MayCallNext, lines_come}

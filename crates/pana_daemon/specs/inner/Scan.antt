@@ -14,8 +14,7 @@ use Rattle.pana_scan.specs.Listing.{Contents}
 use Rattle.pana_track.specs.Calls.{Asked, Makes}
 use Rattle.pana_track.specs.declared.read_fault.ReadFault.{ReadFault}
 use Rattle.pana_track.specs.declared.reading.TrackedListing.{TrackedListing}
-use Rattle.pana_daemon.specs.declared.folder.Look.{Look}
-use Rattle.pana_daemon.specs.Scan.{IsScan, IsTracking, LooksOnce, Reports, done_as, settled_as}
+use Rattle.pana_daemon.specs.Scan.{IsScan, IsTracking, Reports, done_as, left_by_scan, settled_all, settled_as}
 
 -- the device's report of the step, with its answer
 abbrev pub reporting : List ℕ → Step → Answer → Asked
@@ -42,13 +41,14 @@ pub record ReportsSteps {S : Type 0} (step : S → List ℕ → Call → Answer 
   pub are : Reports device marks_old steps made faults marks_new
 
 -- the session makes reports of the first steps, and then one has no answer
-pub record StopsReporting {S : Type 0} (step : S → List ℕ → Call → Answer → S → Type 0) (fails : S → List ℕ → Call → S → Type 0) (device : List ℕ) (steps : List Step) (old new : S) (marks_old : List BaselineRow) : Type 0 where
+pub record StopsReporting {S : Type 0} (step : S → List ℕ → Call → Answer → S → Type 0) (fails : S → List ℕ → Call → S → Type 0) (device : List ℕ) (steps : List Step) (old new : S) (marks_old marks_new : List BaselineRow) : Type 0 where
   pub mid : S
   pub made : List Asked
   pub calls : Makes step old made mid
   pub call : Call
   pub are : (answer : Answer) → (faults : ℕ) × (left : List BaselineRow) × Reports device marks_old steps (made ++ record { by = device; call = call; answer = answer } ∷ []) faults left
   pub ends : fails mid device call new
+  pub left : marks_new ≡ settled_all marks_old steps made
 
 -- the session asks for the device's holdings, and gets them or another answer
 abbrev pub Asks : {S : Type 0} → (S → List ℕ → Call → Answer → S → Type 0) → List ℕ → S → S → Option (List Holding) → Type 0
@@ -67,13 +67,14 @@ abbrev pub IsNextScan : List ℕ → Result Contents ScanFault → List Baseline
 IsNextScan device given old made call = (answer : Answer) → (faults : ℕ) × (new : List BaselineRow) × IsScan device given old (made ++ record { by = device; call = call; answer = answer } ∷ []) faults new
 
 -- the session makes the first calls of a scan, and then one has no answer
-pub record StopsScan {S : Type 0} (step : S → List ℕ → Call → Answer → S → Type 0) (fails : S → List ℕ → Call → S → Type 0) (device : List ℕ) (given : Result Contents ScanFault) (old new : S) (marks : List BaselineRow) : Type 0 where
+pub record StopsScan {S : Type 0} (step : S → List ℕ → Call → Answer → S → Type 0) (fails : S → List ℕ → Call → S → Type 0) (device : List ℕ) (given : Result Contents ScanFault) (old new : S) (marks_old marks_new : List BaselineRow) : Type 0 where
   pub mid : S
   pub made : List Asked
   pub calls : Makes step old made mid
   pub call : Call
-  pub is : IsNextScan device given marks made call
+  pub is : IsNextScan device given marks_old made call
   pub ends : fails mid device call new
+  pub left : marks_new ≡ left_by_scan given marks_old made
 
 -- what was read to be tracked is the device's, or nothing could be read; or it isn't
 abbrev pub IsOwn : Bool → List ℕ → Result TrackedListing ReadFault → Type 0
@@ -95,9 +96,3 @@ pub record StopsTracking {S : Type 0} (step : S → List ℕ → Call → Answer
   pub call : Call
   pub is : (answer : Answer) → IsTracking device given (made ++ record { by = device; call = call; answer = answer } ∷ [])
   pub ends : fails mid device call new
-
--- the session makes the calls of a look, and settles behind them
-pub record KeepsLook {S : Type 0} (step : S → List ℕ → Call → Answer → S → Type 0) (device : List ℕ) (settles : S → S → Type 0) (look : Look) (old new : S) (marks_old marks_new : List BaselineRow) : Type 0 where
-  pub mid : S
-  pub looks : LooksOnce step device look old mid marks_old marks_new
-  pub settled : settles mid new

@@ -1,13 +1,14 @@
-//! What no clause says of a scanner: that reports are made where memory is there.
+//! What no clause says of a scanner: that reports are made where memory is there, and that it goes on where a call had no answer.
 
-use pana_calls::{Answer, Call, Query, Reply, Session};
+use pana_calls::{Answer, Call, NoAnswer, Query, Reply, Session};
 use pana_copies::{CopyPath, DeviceName};
 use pana_daemon::{DeskSession, Folder, IdleSupervisor, Look, Shared, scanner};
 use pana_hall::Hall;
-use pana_journal::Report;
+use pana_journal::{EntryList, Report};
 use pana_scan::{Found, Listing, ScanFault};
 use pana_turn::Desk;
 use std::alloc::{AllocError, Global};
+use std::sync::Wait;
 use std::test::Fail;
 
 /// The SHA-256 of `abc`.
@@ -23,13 +24,13 @@ struct Fading {
     scans: u64,
 }
 
-fn listing(alloc: Global, has_file: bool) -> Result<Listing, AllocError> {
+fn listing(alloc: Global, paths: &[&str]) -> Result<Listing, AllocError> {
     let Ok(device) = DeviceName::new("usb") else {
         return Err(AllocError);
     };
     let mut listing = Listing::new(alloc, device);
-    if has_file {
-        let Ok(path) = CopyPath::new(alloc, "a") else {
+    for path in paths {
+        let Ok(path) = CopyPath::new(alloc, path) else {
             return Err(AllocError);
         };
         if listing.is_above(&path) {
@@ -39,18 +40,115 @@ fn listing(alloc: Global, has_file: bool) -> Result<Listing, AllocError> {
     Ok(listing)
 }
 
+/// A look at a folder that has files at these paths.
+fn look_at(alloc: Global, paths: &[&str]) -> Look {
+    Look::Scanned(listing(alloc, paths).map_err(|_| ScanFault::OutOfMemory))
+}
+
 impl Folder for Fading {
     fn next(&mut self) -> Option<Look> {
         self.scans = self.scans.saturating_add(1);
         match self.scans {
-            1 => Some(Look::Scanned(listing(self.alloc, true).map_err(|_| ScanFault::OutOfMemory))),
+            1 => Some(look_at(self.alloc, &["a"])),
             2 => Some(Look::Scanned(Err(ScanFault::Folder))),
-            3 => Some(Look::Scanned(listing(self.alloc, false).map_err(
-                |_| ScanFault::OutOfMemory,
-            ))),
+            3 => Some(look_at(self.alloc, &[])),
             _ => None,
         }
     }
+}
+
+/// A folder that has the files `a` and `b`, and is scanned three times.
+#[derive(Drop)]
+struct Lasting {
+    alloc: Global,
+    scans: u64,
+}
+
+impl Folder for Lasting {
+    fn next(&mut self) -> Option<Look> {
+        self.scans = self.scans.saturating_add(1);
+        if self.scans > 3 {
+            return None;
+        }
+        Some(look_at(self.alloc, &["a", "b"]))
+    }
+}
+
+/// A hall of whose calls one has no answer.
+#[derive(Drop)]
+struct Faltering {
+    hall: Hall,
+    calls: u64,
+    fails_at: u64,
+    recovers: bool,
+}
+
+impl Session for Faltering {
+    ghost step = { λ old by call answer new. Unit {0} };
+
+    fn call(&mut self, by: &DeviceName, call: Call) -> Result<Answer, NoAnswer> {
+        self.calls = self.calls.saturating_add(1);
+        if self.calls == self.fails_at {
+            return Err(NoAnswer);
+        }
+        self.hall.call(by, call)
+    }
+
+    fn settle(&mut self) -> Result<(), NoAnswer> {
+        Ok(())
+    }
+
+    fn may_recover(&self) -> bool {
+        self.recovers
+    }
+}
+
+/// What a scanner of such a folder has reported to a session of which one call has no answer.
+fn reported<T: Wait>(
+    rt: &T,
+    alloc: Global,
+    fails_at: u64,
+    recovers: bool,
+) -> Result<EntryList, Fail> {
+    let hall = Hall::new(alloc)?;
+    let session = Faltering {
+        hall,
+        calls: 0,
+        fails_at,
+        recovers,
+    };
+    let (desk, mut passes) = Desk::open(alloc, 1, Shared::new(session))?;
+    let Some(pass) = passes.pop() else {
+        return Ok(EntryList::new(alloc));
+    };
+    let usb = DeviceName::new("usb")?;
+    let mut folder = Lasting { alloc, scans: 0 };
+    let mut session = DeskSession::new(rt, &desk, &IdleSupervisor, 0, pass);
+    scanner(rt, alloc, &mut session, &usb, &mut folder);
+    let answer = session.call(&usb, Call::Query(Query::JournalFrom { entry: 1 }))?;
+    let Answer::Given(Reply::Journal(entries)) = answer else {
+        return Ok(EntryList::new(alloc));
+    };
+    Ok(entries)
+}
+
+#[test]
+fn scanner_goes_on(rt: HostRuntime) -> Result<(), Fail> {
+    for fails_at in 1..4 {
+        let entries = reported(&rt, rt.alloc(), fails_at, true)?;
+        let entries = entries.as_slice();
+        assert_eq!(rt; entries.len(), 2);
+        assert!(rt; matches!(entries[0].report, Report::Register { .. }));
+        assert!(rt; matches!(entries[1].report, Report::Register { .. }));
+    }
+    Ok(())
+}
+
+#[test]
+fn scanner_ends(rt: HostRuntime) -> Result<(), Fail> {
+    let entries = reported(&rt, rt.alloc(), 3, false)?;
+    assert_eq!(rt; entries.as_slice().len(), 1);
+    Ok(())
 }
 
 #[test]

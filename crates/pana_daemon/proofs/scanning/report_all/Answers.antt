@@ -19,4 +19,4 @@ pub returns-in_err-report-clause-fails : goal.returns-in_err-report-clause-fails
 returns-in_err-report-clause-fails g c =
     if_err c.from_residual.result _
     (stops_at g.S.Session.step c.args.device.now c.args.steps.now c.loop-step.step-index c.args.session.now c.loop-step.session c.report.new.session c.step-item.result c.args.baseline.now c.loop-step.baseline c.report.new.baseline
-    c.loop-step.invariant c.loop-step-test.true c.step-item.is g.S.Session.fails c.in_err-report.ensures.fails)
+    c.loop-step.invariant c.loop-step-test.true c.step-item.is g.S.Session.fails c.in_err-report.ensures.fails.0 c.in_err-report.ensures.fails.1)

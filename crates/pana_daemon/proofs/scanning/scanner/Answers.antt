@@ -1,17 +1,40 @@
 use Rattle.std.proofs.Common.{Some, subst, sym}
-use Rattle.pana_daemon.proofs.Scanned.{one_look}
+use Rattle.pana_daemon.specs.Desk.{RequestSteps}
+use Rattle.pana_daemon.specs.Session.{BreaksOff, GetsNone, MakesCall, MayRecover, Settles}
+use Rattle.pana_daemon.proofs.Scanned.{no_more, none_left, one_cut, one_kept}
 use Rattle.pana_daemon.proofs.scanning.scanner.Goals as goal
 
 pub loop-preserved-in-Ok-Some : goal.loop-preserved-in-Ok-Some
-loop-preserved-in-Ok-Some g c = (
-  tt,
-  one_look g.F.Folder.gives g.S.Session.step g.S.Session.fails g.S.Session.settles g.S.Session.breaks_off c.args.device.now c.args.folder.now c.args.session.now c.loop.folder c.note_end.new.self c.loop.session c.loop.baseline c.in-Some-next.look c.loop.invariant.1
-      (subst (λ folder. g.F.Folder.gives c.loop.folder (Some c.in-Some-next.look) folder) (sym c.note_end.ensures) c.in-Some-next.ensures) c.keep.new.session c.keep.new.baseline c.in-Ok-Some.ensures.ok,
-)
+loop-preserved-in-Ok-Some g c =
+    let steps = RequestSteps g.S.Session.step g.S.Session.fails g.S.Session.settles g.S.Session.breaks_off in (
+      tt,
+      one_kept g.F.Folder.gives (MakesCall steps) (GetsNone steps) (Settles steps) (BreaksOff steps) MayRecover c.args.device.now c.args.folder.now c.args.session.now c.loop.folder c.note_end.new.self c.loop.session c.loop.baseline c.in-Some-next.look c.loop.invariant.1
+          (subst (λ folder. g.F.Folder.gives c.loop.folder (Some c.in-Some-next.look) folder) (sym c.note_end.ensures) c.in-Some-next.ensures) c.keep.new.session c.keep.new.baseline c.in-Ok-Some.ensures.ok,
+    )
+
+pub loop-preserved-in-Ok-None : goal.loop-preserved-in-Ok-None
+loop-preserved-in-Ok-None g c =
+    let steps = RequestSteps g.S.Session.step g.S.Session.fails g.S.Session.settles g.S.Session.breaks_off in (
+      tt,
+      one_kept g.F.Folder.gives (MakesCall steps) (GetsNone steps) (Settles steps) (BreaksOff steps) MayRecover c.args.device.now c.args.folder.now c.args.session.now c.loop.folder c.next-in-loop.new.self c.loop.session c.loop.baseline c.in-Some-next.look c.loop.invariant.1
+          c.in-Some-next.ensures c.keep.new.session c.keep.new.baseline c.in-Ok-None.ensures.ok,
+    )
 
 pub loop-preserved : goal.loop-preserved
-loop-preserved g c = (
-  tt,
-  one_look g.F.Folder.gives g.S.Session.step g.S.Session.fails g.S.Session.settles g.S.Session.breaks_off c.args.device.now c.args.folder.now c.args.session.now c.loop.folder c.next-in-loop.new.self c.loop.session c.loop.baseline c.in-Some-next.look c.loop.invariant.1
-      c.in-Some-next.ensures c.keep.new.session c.keep.new.baseline c.in-Ok-None.ensures.ok,
-)
+loop-preserved g c =
+    let steps = RequestSteps g.S.Session.step g.S.Session.fails g.S.Session.settles g.S.Session.breaks_off in (
+      tt,
+      one_cut g.F.Folder.gives (MakesCall steps) (GetsNone steps) (Settles steps) (BreaksOff steps) MayRecover c.args.device.now c.args.folder.now c.args.session.now c.loop.folder c.next-in-loop.new.self c.loop.session c.loop.baseline c.in-Some-next.look c.loop.invariant.1
+          c.in-Some-next.ensures c.keep.new.session c.keep.new.baseline c.in-Err.ensures.fails (c.may_recover.ensures c.if-not-may_recover.false),
+    )
+
+pub returns-then-not-may_recover : goal.returns-then-not-may_recover
+returns-then-not-may_recover g c =
+    let steps = RequestSteps g.S.Session.step g.S.Session.fails g.S.Session.settles g.S.Session.breaks_off in
+    none_left g.F.Folder.gives (MakesCall steps) (GetsNone steps) (Settles steps) (BreaksOff steps) MayRecover c.args.device.now c.args.folder.now c.args.session.now c.loop.folder c.next-in-loop.new.self c.loop.session c.loop.baseline c.in-Some-next.look c.loop.invariant.1
+    c.in-Some-next.ensures c.keep.new.session c.keep.new.baseline c.in-Err.ensures.fails
+
+pub returns-in_default : goal.returns-in_default
+returns-in_default g c =
+    let steps = RequestSteps g.S.Session.step g.S.Session.fails g.S.Session.settles g.S.Session.breaks_off in
+    no_more g.F.Folder.gives (MakesCall steps) (GetsNone steps) (Settles steps) (BreaksOff steps) MayRecover c.args.device.now c.args.folder.now c.args.session.now c.loop.folder c.next-in-loop.new.self c.loop.session c.loop.baseline c.loop.invariant.1 c.in_default.ensures
