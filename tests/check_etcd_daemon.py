@@ -132,7 +132,7 @@ def silence(setting, room):
         yield from differs(until(["plan.txt", "later.txt"], held), ["plan.txt", "later.txt"])
         with daemon.client() as client:
             entries = entries_of(client)
-        told = [(it["report"]["do"], it["by"]) for it in entries]
+        told = [(it["do"], it["by"]) for it in entries]
         # The client's edit may have been made, once.
         yield from differs(told[:1] + told[-2:] if len(told) == 4 else told, [("register", "usb"), ("edit", "usb"), ("register", "usb")])
         daemon.run.kill()

@@ -44,14 +44,14 @@ impl System for FileMachine<'_> {
     }
 }
 
-/// The system's ports, and the log in etcd at this place.
+/// The system's ports, and logs in etcd, which have so many seconds for an answer.
 #[derive(Drop)]
-struct LogMachine<'a, 'b> {
+struct LogMachine<'a> {
     rt: &'a HostRuntime,
-    place: LogPlace<'b>,
+    patience: u32,
 }
 
-impl System for LogMachine<'_, '_> {
+impl System for LogMachine<'_> {
     type Store = LogStore;
 
     type Refusal = NoStore;
@@ -60,8 +60,12 @@ impl System for LogMachine<'_, '_> {
         listen(self.rt, host, port)
     }
 
-    fn open(&mut self, _journal: &str) -> Result<LogStore, NoStore> {
-        open_shared(self.rt, self.place)
+    fn open(&mut self, journal: &str) -> Result<LogStore, NoStore> {
+        let place = LogPlace {
+            address: journal,
+            patience: self.patience,
+        };
+        open_shared(self.rt, place)
     }
 }
 
@@ -73,14 +77,15 @@ fn status_of(outcome: &Outcome<'_, NoStore>) -> u8 {
     }
 }
 
-/// Has the daemon do what the words ask for, by the log at this place, or else by a journal's file, on folders that are entered also
-/// where they are of another file system, or not, prints what went wrong, where it hasn't been, and returns the status.
+/// Has the daemon do what the words ask for, by a journal's file, or by a log in etcd, which has so many seconds for an answer, on
+/// folders that are entered also where they are of another file system, or not, prints what went wrong, where it hasn't been, and
+/// returns the status.
 pub fn serve<T: Threads + Wait + Clock + Sync>(
     rt: &HostRuntime,
     threads: &T,
     passed_over: &[PassedOver<'_, '_>],
     stays: bool,
-    log: Option<LogPlace<'_>>,
+    log_patience: Option<u32>,
     wishes: Wishes<'_>,
 ) -> Result<ExitCode, ProgramFault> {
     let port = wishes.port;
@@ -89,8 +94,14 @@ pub fn serve<T: Threads + Wait + Clock + Sync>(
         stays,
         passed_over,
     };
-    let outcome = match log {
-        Some(place) => serve_on(rt, threads, &disks, &mut LogMachine { rt, place }, wishes),
+    let outcome = match log_patience {
+        Some(patience) => serve_on(
+            rt,
+            threads,
+            &disks,
+            &mut LogMachine { rt, patience },
+            wishes,
+        ),
         None => serve_on(rt, threads, &disks, &mut FileMachine { rt }, wishes),
     };
     let printout = Printout {

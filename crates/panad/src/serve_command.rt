@@ -2,12 +2,9 @@
 
 use crate::command::refuse;
 use crate::daemon;
-use crate::options::place_of;
 use pana_arguments::{KeptBy, ServeArguments};
 use pana_daemon::{Looks, Patience, Root, roots_of};
-use pana_files::{
-    LogPlace, OwnFile, ProgramFault, fault_of_roots, passed_over, root_patterns, slices_of,
-};
+use pana_files::{OwnFile, ProgramFault, fault_of_roots, passed_over, root_patterns, slices_of};
 use pana_serve::Wishes;
 use std::alloc::AllocError;
 use std::marker::Sync;
@@ -51,15 +48,15 @@ fn obey<T: Threads + Wait + Clock + Sync>(
         threads,
         passed.as_slice(),
         stays,
-        log_of(kept_by),
+        log_patience(kept_by),
         wishes,
     )
 }
 
-/// The log, if it is one.
-fn log_of(kept_by: Option<KeptBy<'_>>) -> Option<LogPlace<'_>> {
+/// For how many seconds an answer of the log is waited for, if it is one.
+fn log_patience(kept_by: Option<KeptBy<'_>>) -> Option<u32> {
     match kept_by {
-        Some(KeptBy::Log(log)) => Some(place_of(log)),
+        Some(KeptBy::Log(log)) => Some(log.patience),
         _ => None,
     }
 }

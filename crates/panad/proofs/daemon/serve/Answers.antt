@@ -1,7 +1,8 @@
--- The store of a file may go to another thread.
+-- The stores of a file and of a log may go to another thread.
 use denote.Exit.{no}
 use denote.Param.Send.{arg_send, param_send}
 use Rattle.pana_store.proofs.Sending.{store_send}
+use Rattle.pana_store_file.proofs.Sending.{log_store_send}
 use Rattle.panad.proofs.daemon.serve.Goals as goal
 
 pub serve_on-outcome-requires-send-Y-Store : goal.serve_on-outcome-requires-send-Y-Store
