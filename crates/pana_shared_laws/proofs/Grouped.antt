@@ -36,13 +36,14 @@ module _ (w : ℕ) where
   pub groups_behind : (from : ℕ) (front xs : List Record) (gs : List (ℕ × List Record)) → ours w front ≡ [] → AreGroups (from + length front) w xs gs → AreGroups from w (front ++ xs) gs
   groups_behind from front xs [] none groups = ours_both w front xs ∙ ap (λ (l : List Record). l ++ ours w xs) none ∙ groups
   groups_behind from front xs ((at, []) ∷ gs) none groups = groups_behind from front xs gs none groups
-  groups_behind from front xs ((at, r ∷ rest) ∷ gs) none (before, after, whole, place, nothing, others) =
-      (front ++ before,
-       after,
-       ap (λ (l : List Record). front ++ l) whole ∙ sym (append_assoc front before ((r ∷ rest) ++ after)),
-       (let l = length-append front before in omega (arith, l, place)),
-       ours_both w front before ∙ ap (λ (l : List Record). l ++ ours w before) none ∙ nothing,
-       others)
+  groups_behind from front xs ((at, r ∷ rest) ∷ gs) none (before, after, whole, place, nothing, others) = (
+    front ++ before,
+    after,
+    ap (λ (l : List Record). front ++ l) whole ∙ sym (append_assoc front before ((r ∷ rest) ++ after)),
+    (let l = length-append front before in omega (arith, l, place)),
+    ours_both w front before ∙ ap (λ (l : List Record). l ++ ours w before) none ∙ nothing,
+    others,
+  )
 
   -- groups, and others behind them
   pub groups_both : (from : ℕ) (xs ys : List Record) (gs hs : List (ℕ × List Record)) → AreGroups from w xs gs → AreGroups (from + length xs) w ys hs → AreGroups from w (xs ++ ys) (gs ++ hs)
@@ -52,13 +53,14 @@ module _ (w : ℕ) where
       let l : length xs ≡ length (before ++ ((r ∷ rest) ++ after)) = ap length whole in
       let p : length (before ++ ((r ∷ rest) ++ after)) ≡ length before + length ((r ∷ rest) ++ after) = length-append before ((r ∷ rest) ++ after) in
       let q : length ((r ∷ rest) ++ after) ≡ length (r ∷ rest) + length after = length-append (r ∷ rest) after in
-      let even : from + length xs ≡ (at + length (r ∷ rest)) + length after = omega (arith, l, p, q, place) in
-      (before,
-       after ++ ys,
-       ap (λ (m : List Record). m ++ ys) whole ∙ append_assoc before ((r ∷ rest) ++ after) ys ∙ ap (λ (m : List Record). before ++ m) (append_assoc (r ∷ rest) after ys),
-       place,
-       nothing,
-       groups_both (at + length (r ∷ rest)) after ys gs hs others (subst (λ (n : ℕ). AreGroups n w ys hs) even second))
+      let even : from + length xs ≡ (at + length (r ∷ rest)) + length after = omega (arith, l, p, q, place) in (
+        before,
+        after ++ ys,
+        ap (λ (m : List Record). m ++ ys) whole ∙ append_assoc before ((r ∷ rest) ++ after) ys ∙ ap (λ (m : List Record). before ++ m) (append_assoc (r ∷ rest) after ys),
+        place,
+        nothing,
+        groups_both (at + length (r ∷ rest)) after ys gs hs others (subst (λ (n : ℕ). AreGroups n w ys hs) even second),
+      )
 
 -- ---- what has come meanwhile
 
@@ -114,9 +116,14 @@ two_groups w old more records (r ∷ rest) (s ∷ others) at next is first secon
     let l5 = length-append (ours w m2) ((s ∷ others) ++ ours w after2) in
     let l6 = length-append (s ∷ others) (ours w after2) in
     let l7 : length (ours w more) ≡ length ((r ∷ rest) ++ (s ∷ others)) = ap length own in
-    let l8 = length-append (r ∷ rest) (s ∷ others) in
-    (m, after, parts, place, none_of_length (ours w m) (omega (arith, l1, l2, l3, l4, l5, l6, l7, l8)),
-     (m2, after2, parts2, (omega (arith, long, place2)), none_of_length (ours w m2) (omega (arith, l1, l2, l3, l4, l5, l6, l7, l8)), none_of_length (ours w after2) (omega (arith, l1, l2, l3, l4, l5, l6, l7, l8))))
+    let l8 = length-append (r ∷ rest) (s ∷ others) in (
+      m,
+      after,
+      parts,
+      place,
+      none_of_length (ours w m) (omega (arith, l1, l2, l3, l4, l5, l6, l7, l8)),
+      (m2, after2, parts2, (omega (arith, long, place2)), none_of_length (ours w m2) (omega (arith, l1, l2, l3, l4, l5, l6, l7, l8)), none_of_length (ours w after2) (omega (arith, l1, l2, l3, l4, l5, l6, l7, l8))),
+    )
 
 -- a list of earlier turns has no record of this turn
 pub no_turn : (turn : ℕ) (m : List Record) (r : Record) (rest : List Record) → AllByRecursion (λ x. x.turn < turn) (m ++ (r ∷ rest)) → r.turn < turn

@@ -5,3 +5,5 @@ pub mod Stayed
 pub mod Called
 pub mod Asked
 pub mod Lived
+pub mod Merged
+pub mod Shared

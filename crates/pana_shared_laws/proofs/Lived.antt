@@ -187,8 +187,10 @@ module _ {L : Type 0} (is_known : Bool) (known : IsTrue is_known) (seen : L → 
         calls = here.call ∷ later.calls;
         are = ap (λ (x : Step L). x ∷ map (λ (call : Standing L). call.step) later.calls) here.is ∙ ap (λ (l : List (Step L)). step ∷ l) later.are;
         stand = (here.stands, later.stand);
-        order = ((let e = here.early in let t : step.begun.entries ≡ s.entries = waits.entries in let l : length step.begun.entries ≡ length s.entries = ap length t in omega (arith, e, l, within)),
-            subst (λ (n : ℕ). InOrder n later.calls) (sym (place_same here.call here.is here.until)) later.order);
+        order = (
+          (let e = here.early in let t : step.begun.entries ≡ s.entries = waits.entries in let l : length step.begun.entries ≡ length s.entries = ap length t in omega (arith, e, l, within)),
+          subst (λ (n : ℕ). InOrder n later.calls) (sym (place_same here.call here.is here.until)) later.order,
+        );
         rest = rest_waits records (group_of w here.call ∷ map (λ (call : Standing L). group_of w call) later.calls) s step.begun fine waits here.rest;
       }
     where
