@@ -1,30 +1,17 @@
 -- Where a call without an answer stands, which has asked for something.
-use Rattle.std.proofs.Common.{◌≡◌, ◌≢◌, ◌⊎◌, inl, inr, ◌<◌, ◌≤◌, ℕ, ◌+◌, Bool, IsTrue, List, [], ◌∷◌, ◌++◌, length, Option, Some, None, refl, sym, ap, subst, ◌∙◌, append-nil, length-append}
+use Rattle.std.proofs.Common.{◌≡◌, ◌⊎◌, inl, inr, ◌≤◌, ℕ, ◌+◌, Bool, IsTrue, List, [], ◌∷◌, ◌++◌, length, refl, sym, subst, ◌∙◌, append-nil}
 use native.Mathlib.Omega.{arith}
-use Rattle.std.specs.Prelude.{MatchOption}
 use Rattle.pana_journal.specs.declared.entry.Entry.{Entry}
-use Rattle.pana_calls.specs.declared.answer.Answer.{Answer}
-use Rattle.pana_calls.specs.declared.answer.Answer.TheVariants.{Given, NotKept}
 use Rattle.pana_calls.specs.declared.call.Call.{Call}
-use Rattle.pana_calls.specs.declared.call.Call.TheVariants as calls
-use Rattle.pana_calls.specs.declared.call.Query.{Query}
-use Rattle.pana_calls.specs.declared.cause.Cause.{Cause}
-use Rattle.pana_calls.specs.declared.cause.Cause.TheVariants.{OutOfMemory}
-use Rattle.pana_calls.specs.declared.reply.Reply.{Reply}
-use Rattle.pana_calls.specs.declared.reply.Reply.TheVariants.{Refused}
-use Rattle.pana_hall.specs.Permit.{Permits, journal_after}
-use Rattle.pana_hall.specs.Step.{Steps}
 use Rattle.pana_shared.specs.declared.record.Record.{Record}
-use Rattle.pana_shared.specs.Log.{Follows, Grows, IsAt, IsOneOf, Lands, LogView, ours}
+use Rattle.pana_shared.specs.Log.{Grows, IsAt, IsOneOf, Lands, LogView, ours}
 use Rattle.pana_shared.proofs.Grown.{at_more}
-use Rattle.pana_shared_store.specs.Store.{AreFirst, Becomes, Fails, GoesOn, Makes, MakesBy, MakesNone, MakesOn, StaysOn, StoreView, TriesBy, TriesOn, entries_in, recorded}
+use Rattle.pana_shared_store.specs.Store.{AreFirst, TriesBy, recorded}
 use Rattle.pana_shared_store.specs.inner.{AreBefore}
-use Rattle.pana_shared_store.proofs.Followed.{first_within, page_first, still_first}
+use Rattle.pana_shared_store.proofs.Followed.{page_first}
 use Rattle.pana_shared_store.proofs.Readied.{recorded_before, recorded_entries}
 use Rattle.pana_shared_laws.specs.Groups.{AreGroups}
-use Rattle.pana_shared_laws.specs.Lives.{Does, Step}
-use Rattle.pana_shared_laws.specs.OneHistory.{IsAnswered, IsUnanswered, Standing, StandsIn, group_of}
-use Rattle.pana_shared_laws.proofs.Fine.{IsAsked, IsFine, at_within_some, before_later, came, first_more, goes_within, grown_length, is_behind, some_entries, still_loose, still_turns}
+use Rattle.pana_shared_laws.proofs.Fine.{IsAsked, IsFine, at_within_some, before_later, came, first_more, goes_within, grown_length, is_behind, still_turns}
 use Rattle.pana_shared_laws.proofs.Rested.{Rest, rest_early, rest_late, rest_loud, rest_quiet, rest_slip}
 
 module _ (is_known : Bool) (known : IsTrue is_known) (w : ℕ) (old : List Entry) (before turn : ℕ) (seen_old : LogView) (fine : IsFine w old before seen_old) (by : List ℕ) (call : Call) (new : List Entry) (seen_new : LogView) (tries : TriesBy is_known before turn old seen_old by call new seen_new) where

@@ -1,5 +1,5 @@
 -- What is known of a store between its calls.
-use Rattle.std.proofs.Common.{◌≡◌, ◌≢◌, ◌⊎◌, inl, inr, ◌<◌, ◌≤◌, ℕ, ◌+◌, ◌==◌, Bool, true, false, List, [], ◌∷◌, ◌++◌, length, refl, sym, ap, subst, ◌∙◌, append_assoc, append-nil, length-append}
+use Rattle.std.proofs.Common.{◌≡◌, ◌≢◌, ◌⊎◌, inl, inr, ◌<◌, ◌≤◌, ℕ, ◌+◌, true, false, List, [], ◌∷◌, ◌++◌, length, refl, sym, ap, subst, ◌∙◌, append_assoc, length-append}
 use native.Mathlib.Omega.{arith}
 use Rattle.std.proofs.Math.Dec.{leb}
 use Rattle.std.proofs.lemmas.Bool.Decides.{leb_tells}
@@ -11,7 +11,7 @@ use Rattle.pana_shared.proofs.Grown.{at_within, ours_both}
 use Rattle.pana_shared.proofs.Splits.{splits}
 use Rattle.pana_shared_store.specs.Store.{AreFirst, GoesOn, entries_in, recorded}
 use Rattle.pana_shared_store.specs.inner.{AreBefore}
-use Rattle.pana_shared_store.proofs.Followed.{entries_both, first_within}
+use Rattle.pana_shared_store.proofs.Followed.{entries_both}
 use Rattle.pana_shared_store.proofs.Readied.{before_both, recorded_before}
 use Rattle.pana_shared_laws.specs.Groups.{AreGroups}
 use Rattle.pana_shared_laws.proofs.Grouped.{apart, no_turn, ours_own, two_groups}

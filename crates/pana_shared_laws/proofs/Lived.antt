@@ -9,7 +9,7 @@ use Rattle.pana_calls.specs.declared.answer.Answer.TheVariants.{NotKept}
 use Rattle.pana_hall.specs.Step.{Steps}
 use Rattle.pana_shared.specs.declared.record.Record.{Record}
 use Rattle.pana_shared.specs.Log.{IsOneOf, Lands, LogView, ours}
-use Rattle.pana_shared_store.specs.Store.{AreFirst, Becomes, Fails, IsFresh, Makes, MakesNone, Opens, StaysOn, StoreView, TriesBy, entries_in}
+use Rattle.pana_shared_store.specs.Store.{AreFirst, Becomes, Fails, Makes, StaysOn, StoreView, TriesBy, entries_in}
 use Rattle.pana_shared_store.specs.inner.{AreBefore}
 use Rattle.pana_shared_store.proofs.Followed.{first_within, still_first}
 use Rattle.pana_shared_store.proofs.Placed.{looked_on}

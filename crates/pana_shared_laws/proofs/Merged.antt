@@ -7,8 +7,8 @@ use Rattle.std.specs.Prelude.{MatchOption}
 use Rattle.std.specs.List.{AllByRecursion}
 use Rattle.pana_journal.specs.declared.entry.Entry.{Entry}
 use Rattle.pana_calls.specs.declared.answer.Answer.{Answer}
-use Rattle.pana_hall.specs.Permit.{Permits, journal_after}
-use Rattle.pana_hall.specs.Run.{Exchange, IsRunFrom, journal_from}
+use Rattle.pana_hall.specs.Permit.{journal_after}
+use Rattle.pana_hall.specs.Run.{IsRunFrom, journal_from}
 use Rattle.pana_hall.specs.Step.{Steps}
 use Rattle.pana_shared.specs.declared.record.Record.{Record}
 use Rattle.pana_shared.specs.Log.{LogView, ours}

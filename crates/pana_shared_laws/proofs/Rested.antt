@@ -1,5 +1,5 @@
 -- What is left of a log behind what a store sees of it.
-use Rattle.std.proofs.Common.{◌≡◌, ◌≢◌, ◌⊎◌, inl, inr, ◌<◌, ◌≤◌, ℕ, ◌+◌, List, [], ◌∷◌, ◌++◌, length, refl, sym, ap, subst, ◌∙◌, append_assoc, append-nil, length-append}
+use Rattle.std.proofs.Common.{◌≡◌, inl, inr, ◌≤◌, ℕ, List, [], ◌∷◌, ◌++◌, length, sym, ap, subst, ◌∙◌, append_assoc}
 use native.Mathlib.Omega.{arith}
 use Rattle.pana_shared.specs.declared.record.Record.{Record}
 use Rattle.pana_shared.specs.Log.{Grows, IsAt, IsOneOf, Lands, LogView}

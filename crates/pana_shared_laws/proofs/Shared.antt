@@ -1,5 +1,5 @@
 -- Stores that share a log have one history.
-use Rattle.std.proofs.Common.{◌≡◌, ◌≤◌, ℕ, Bool, IsTrue, List, [], ◌++◌, length, map, Option, Some, None, refl, sym, ap, subst, ◌∙◌}
+use Rattle.std.proofs.Common.{◌≡◌, ℕ, Bool, IsTrue, List, [], length, map, Option, Some, None, refl}
 use native.Mathlib.Omega.{arith}
 use Rattle.std.specs.Prelude.{MatchOption}
 use Rattle.std.specs.List.{AllByRecursion}
@@ -9,7 +9,7 @@ use Rattle.pana_shared_laws.specs.Groups.{AreGroups}
 use Rattle.pana_shared_laws.specs.Lives.{IsLife, Life, Share}
 use Rattle.pana_shared_laws.specs.OneHistory.{AreOf, IsOneHistory, Standing, StandsIn, group_of}
 use Rattle.pana_shared_laws.proofs.Lived.{lived}
-use Rattle.pana_shared_laws.proofs.Merged.{Merged, merge}
+use Rattle.pana_shared_laws.proofs.Merged.{merge}
 
 module _ {L : Type 0} (is_known : Bool) (known : IsTrue is_known) (seen : L → LogView) (records : List Record) where
   -- what is known of one writer's calls

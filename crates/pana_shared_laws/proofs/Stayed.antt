@@ -1,31 +1,13 @@
 -- Where a call stands that has asked for nothing.
-use Rattle.std.proofs.Common.{◌≡◌, ◌≢◌, ◌⊎◌, inl, inr, ◌<◌, ◌≤◌, ℕ, ◌+◌, Bool, IsTrue, List, [], ◌∷◌, ◌++◌, length, Option, Some, None, refl, sym, ap, subst, ◌∙◌, append-nil, length-append}
+use Rattle.std.proofs.Common.{◌≡◌, ◌≢◌, ◌≤◌, ℕ, Bool, IsTrue, List, [], ◌∷◌, length, refl, ◌∙◌}
 use native.Mathlib.Omega.{arith}
-use Rattle.std.specs.Prelude.{MatchOption}
 use Rattle.pana_journal.specs.declared.entry.Entry.{Entry}
-use Rattle.pana_calls.specs.declared.answer.Answer.{Answer}
-use Rattle.pana_calls.specs.declared.answer.Answer.TheVariants.{Given, NotKept}
-use Rattle.pana_calls.specs.declared.call.Call.{Call}
-use Rattle.pana_calls.specs.declared.call.Call.TheVariants as calls
-use Rattle.pana_calls.specs.declared.call.Query.{Query}
-use Rattle.pana_calls.specs.declared.cause.Cause.{Cause}
-use Rattle.pana_calls.specs.declared.cause.Cause.TheVariants.{OutOfMemory}
-use Rattle.pana_calls.specs.declared.reply.Reply.{Reply}
-use Rattle.pana_calls.specs.declared.reply.Reply.TheVariants.{Refused}
-use Rattle.pana_hall.specs.Permit.{Permits, journal_after}
-use Rattle.pana_hall.specs.Step.{Steps}
 use Rattle.pana_shared.specs.declared.record.Record.{Record}
-use Rattle.pana_shared.specs.Log.{Follows, Grows, IsAt, IsOneOf, Lands, LogView, ours}
-use Rattle.pana_shared.proofs.Grown.{at_more}
-use Rattle.pana_shared_store.specs.Store.{AreFirst, Becomes, Fails, GoesOn, Makes, MakesBy, MakesNone, MakesOn, StaysOn, StoreView, TriesBy, TriesOn, entries_in, recorded}
-use Rattle.pana_shared_store.specs.inner.{AreBefore}
-use Rattle.pana_shared_store.proofs.Followed.{first_within, page_first, still_first}
-use Rattle.pana_shared_store.proofs.Readied.{recorded_before, recorded_entries}
+use Rattle.pana_shared.specs.Log.{Grows, IsOneOf, LogView}
+use Rattle.pana_shared_store.specs.Store.{StaysOn, recorded}
 use Rattle.pana_shared_laws.specs.Groups.{AreGroups}
-use Rattle.pana_shared_laws.specs.Lives.{Does, Step}
-use Rattle.pana_shared_laws.specs.OneHistory.{IsAnswered, IsUnanswered, Standing, StandsIn, group_of}
-use Rattle.pana_shared_laws.proofs.Fine.{IsAsked, IsFine, at_within_some, before_later, came, first_more, goes_within, grown_length, is_behind, some_entries, still_loose, still_turns}
-use Rattle.pana_shared_laws.proofs.Rested.{Rest, rest_early, rest_late, rest_loud, rest_quiet, rest_slip}
+use Rattle.pana_shared_laws.proofs.Fine.{IsFine, came, grown_length, still_loose, still_turns}
+use Rattle.pana_shared_laws.proofs.Rested.{Rest, rest_loud, rest_quiet, rest_slip}
 
 pub rest_call : (w turn : ℕ) (records : List Record) (old new : LogView) (at : ℕ) (groups : List (ℕ × List Record)) (rest : Rest w records new groups) → (length new.records ≤ new.at → IsOneOf rest.landed new.loose → (new.at ≡ old.at) × IsOneOf rest.landed old.loose)
     → (made : List Entry) (grows : Grows old (recorded w turn made) new.records) → AreGroups (length old.records) w grows.more ((old.at, grows.landed) ∷ (at, recorded w turn made) ∷ []) → (made ≢ [] → length new.records ≤ new.at → (g : List Record) → IsOneOf g new.loose → ⊥)
