@@ -10,6 +10,7 @@ use Rattle.std.proofs.lemmas.List.{take-append-drop, length-take-le}
 use Rattle.pana_shared.specs.declared.record.Record.{Record}
 use Rattle.pana_shared.specs.Log.{Asks, Grows, IsAt, IsOneOf, Lands, LogView, MayAppend, Reads, asked, loose_at, ours}
 use Rattle.pana_shared.proofs.Grown.{at_within, ours_both}
+use Rattle.pana_shared_store.specs.Store.{IsFresh}
 use Rattle.pana_shared_tests.specs.Memory.{ComeOf, LandsOf}
 
 -- one more record of the writer, and one more of another
@@ -160,18 +161,26 @@ module _ (old mid now : LogView) (at : ℕ) (group : List Record) (may : MayAppe
     early = omega (arith, long, grown)
 
     pub asks_put : Asks old at group (record { records = records; writer = now.writer; at = now.at; loose = now.loose }) × IsAt at group records × (length old.records ≤ at)
-    asks_put = (record {
-      same = ap (λ (v : LogView). record { records = records; writer = v.writer; at = v.at; loose = v.loose }) asked_now;
-      grows = record {
-        more = reads.grows.more ++ group;
-        longer = put ∙ ap (λ (l : List Record). l ++ group) (records_now ∙ reads.grows.longer) ∙ append_assoc old.records reads.grows.more group;
-        landed = group;
-        lands = inr (inl refl, early, stands);
-        own = ours_both old.writer reads.grows.more group ∙ ap (λ (l : List Record). l ++ ours old.writer group) (reads.grows.own ∙ append-nil reads.grows.landed ∙ none_landed reads.grows.landed reads.grows.lands free) ∙ own_all old.writer group may.own ∙ sym (append-nil group);
-      };
-    }, stands, early)
+    asks_put = (
+      record {
+        same = ap (λ (v : LogView). record { records = records; writer = v.writer; at = v.at; loose = v.loose }) asked_now;
+        grows = record {
+          more = reads.grows.more ++ group;
+          longer = put ∙ ap (λ (l : List Record). l ++ group) (records_now ∙ reads.grows.longer) ∙ append_assoc old.records reads.grows.more group;
+          landed = group;
+          lands = inr (inl refl, early, stands);
+          own = ours_both old.writer reads.grows.more group ∙ ap (λ (l : List Record). l ++ ours old.writer group) (reads.grows.own ∙ append-nil reads.grows.landed ∙ none_landed reads.grows.landed reads.grows.lands free) ∙ own_all old.writer group may.own ∙ sym (append-nil group);
+        };
+      },
+      stands,
+      early,
+    )
 
   -- it was put, or there was no memory for it
   pub asks_maybe : (records copy : List Record) (b : Bool) → copy ≡ group → records ≡ (if b then now.records ++ copy else now.records) → length now.records ≡ at → Asks old at group (record { records = records; writer = now.writer; at = now.at; loose = now.loose })
   asks_maybe records copy true is put even = (asks_put records (put ∙ ap (λ (l : List Record). now.records ++ l) is) even).0
   asks_maybe records copy false is put even = subst (λ (l : List Record). Asks old at group (record { records = l; writer = now.writer; at = now.at; loose = now.loose })) (sym put) asks_only
+
+-- a log in which there are others' records alone
+pub fresh : (w : ℕ) (records : List Record) (loose : List (List Record)) → ComeOf w [] records → loose ≡ [] → IsFresh (record { records = records; writer = w; at = 0; loose = loose })
+fresh w records loose (more, whole, none) nothing = record { put = ap (ours w) whole ∙ none; asked = nothing; at = refl }

@@ -2,3 +2,5 @@
 #![tactic(auto)]
 
 pub mod memory;
+#[cfg(test)]
+mod stores;

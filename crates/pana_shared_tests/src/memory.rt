@@ -105,6 +105,34 @@ fn land(alloc: Global, records: &mut Vec<Record>, writer: u64, at: u64, loose: &
 }
 
 impl MemoryShared {
+    ghost use Rattle.pana_shared_store.specs.Store.{IsFresh};
+
+    /// The log of a writer that has put nothing, in which others' records stand already, as it goes on by this plan. A page has so many
+    /// records at most, and one at least.
+    pub fn new(
+        alloc: Global,
+        writer: u64,
+        others: Vec<Record>,
+        moments: VecDeque<Moment>,
+        fates: VecDeque<Fate>,
+        most: usize,
+    ) -> MemoryShared
+        ensures { IsFresh (seen_of result) }
+    {
+        let mut records = Vec::new(alloc);
+        come(&mut records, writer, others);
+        MemoryShared {
+            alloc,
+            records,
+            writer,
+            at: 0,
+            loose: Vec::new(alloc),
+            moments,
+            fates,
+            most,
+        }
+    }
+
     /// What happens before a call.
     fn wait(&mut self)
         ensures { Reads (seen_of self.old) (seen_of self.new) }
