@@ -26,11 +26,6 @@ own_at : (w : ℕ) (front m : List Record) (x : Record) → AllByRecursion (λ r
 own_at w [] m x all = all.0
 own_at w (y ∷ front) m x all = own_at w front m x all.1
 
--- what one writer has put isn't another's
-none_of_others : (w other turn : ℕ) (made : List Entry) → (other ≡ w → ⊥) → ours w (recorded other turn made) ≡ []
-none_of_others w other turn [] differs = refl
-none_of_others w other turn (e ∷ made) differs = let rest = none_of_others w other turn made differs in grind (arith, rest, differs)
-
 module _ {L : Type 0} (seen : L → LogView) (records : List Record) where
   abbrev Some_of : List (Standing L) → List (Standing L)
   Some_of calls = filter (λ call. are_some call.made) calls

@@ -13,20 +13,6 @@ use Rattle.pana_shared.proofs.Grown.{at_within, ours_both}
 use Rattle.pana_shared_store.specs.Store.{IsFresh}
 use Rattle.pana_shared_tests.specs.Memory.{ComeOf, LandsOf}
 
--- one more record of the writer, and one more of another
-pub own_more : (w : ℕ) (xs : List Record) (r : Record) → ours w xs ≡ xs → r.writer ≡ w → ours w (xs ++ (r ∷ [])) ≡ xs ++ (r ∷ [])
-own_more w xs r own is = ours_both w xs (r ∷ []) ∙ ap (λ (l : List Record). l ++ ours w (r ∷ [])) own ∙ ap (λ (l : List Record). xs ++ l) (let e : ours w (r ∷ []) ≡ r ∷ [] = grind (arith, is) in e)
-
-pub come_more : (w : ℕ) (old new later : List Record) (r : Record) → ComeOf w old new → (r.writer ≡ w → ⊥) → later ≡ new ++ (r ∷ []) → ComeOf w old later
-come_more w old new later r (more, whole, none) differs is = (
-  more ++ (r ∷ []),
-  is ∙ ap (λ (l : List Record). l ++ (r ∷ [])) whole ∙ append_assoc old more (r ∷ []),
-  ours_both w more (r ∷ []) ∙ ap (λ (l : List Record). l ++ ours w (r ∷ [])) none ∙ (let e : ours w (r ∷ []) ≡ [] = grind (arith, differs) in e),
-)
-
-pub come_none : (w : ℕ) (old : List Record) → ComeOf w old old
-come_none w old = ([], sym (append-nil old), refl)
-
 abbrev view : List Record → ℕ → ℕ → List (List Record) → LogView
 view records w at loose = record { records = records; writer = w; at = at; loose = loose }
 
