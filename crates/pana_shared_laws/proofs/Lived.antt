@@ -99,11 +99,14 @@ module _ {L : Type 0} (is_known : Bool) (known : IsTrue is_known) (seen : L → 
         let on = makes.on.on in
         let here : Becomes on.at step.by step.call answer (on.at ++ on.made) = subst (λ (l : List Entry). Becomes on.at step.by step.call answer l) on.makes on.becomes in
         let first : AreFirst (on.at ++ on.made) (seen step.ended.log).records = subst (λ (l : List Entry). AreFirst l (seen step.ended.log).records) on.makes (on.first known) in
+        let left = rest_made is_known known w step.begun.entries step.begun.turn step.ended.turn (seen step.begun.log) fine step.by step.call step.ended.entries (seen step.ended.log) answer makes.on makes.turn records groups rest in
         record {
           call = record { step = step; before = on.at; made = on.made; reply = reply_of answer };
           is = refl;
           stands = record {
             first = first_more (on.at ++ on.made) (seen step.ended.log).records rest.more records first rest.is;
+            begun = (left.more, sym left.is);
+            ended = (rest.more, sym rest.is);
             comes = subst (λ (o : Option Answer). MatchOption o (IsUnanswered seen (record { step = step; before = on.at; made = on.made; reply = reply_of answer })) (λ a. IsAnswered seen (record { step = step; before = on.at; made = on.made; reply = reply_of answer }) a)) (sym is) (record {
               becomes = here;
               replied = replied on.at on.made step.by step.call answer here;
@@ -115,21 +118,25 @@ module _ {L : Type 0} (is_known : Bool) (known : IsTrue is_known) (seen : L → 
           };
           early = goes_within step.begun.entries on.at on.goes_on;
           until = λ a e. sym on.makes;
-          rest = rest_made is_known known w step.begun.entries step.begun.turn step.ended.turn (seen step.begun.log) fine step.by step.call step.ended.entries (seen step.ended.log) answer makes.on makes.turn records groups rest;
+          rest = left;
         }
 
     by_stay : step.answer ≡ None → Stay step.begun step.ended → step.begun.turn ≤ step.ended.turn → Stands seen w records step groups
-    by_stay is stay later = record {
-      call = record { step = step; before = step.ended.entries; made = []; reply = reply_of NotKept };
-      is = refl;
-      stands = record {
-        first = subst (λ (l : List Entry). AreFirst l records) (sym (append-nil step.ended.entries)) (first_more step.ended.entries (seen step.ended.log).records rest.more records (stay.first known) rest.is);
-        comes = subst (λ (o : Option Answer). MatchOption o (IsUnanswered seen (record { step = step; before = step.ended.entries; made = []; reply = reply_of NotKept })) (λ a. IsAnswered seen (record { step = step; before = step.ended.entries; made = []; reply = reply_of NotKept }) a)) (sym is) (inl refl);
-      };
-      early = goes_within step.begun.entries step.ended.entries stay.goes_on;
-      until = λ a e. absurd (let f : None ≡ Some a = sym is ∙ e in cc);
-      rest = rest_stay records groups step.begun step.ended fine stay later rest;
-    }
+    by_stay is stay later =
+        let left = rest_stay records groups step.begun step.ended fine stay later rest in
+        record {
+          call = record { step = step; before = step.ended.entries; made = []; reply = reply_of NotKept };
+          is = refl;
+          stands = record {
+            first = subst (λ (l : List Entry). AreFirst l records) (sym (append-nil step.ended.entries)) (first_more step.ended.entries (seen step.ended.log).records rest.more records (stay.first known) rest.is);
+            begun = (left.more, sym left.is);
+            ended = (rest.more, sym rest.is);
+            comes = subst (λ (o : Option Answer). MatchOption o (IsUnanswered seen (record { step = step; before = step.ended.entries; made = []; reply = reply_of NotKept })) (λ a. IsAnswered seen (record { step = step; before = step.ended.entries; made = []; reply = reply_of NotKept }) a)) (sym is) (inl refl);
+          };
+          early = goes_within step.begun.entries step.ended.entries stay.goes_on;
+          until = λ a e. absurd (let f : None ≡ Some a = sym is ∙ e in cc);
+          rest = left;
+        }
 
     by_tries : step.answer ≡ None → TriesBy is_known step.begun.turn step.ended.turn step.begun.entries (seen step.begun.log) step.by step.call step.ended.entries (seen step.ended.log) → Stands seen w records step groups
     by_tries is tries =
@@ -139,6 +146,8 @@ module _ {L : Type 0} (is_known : Bool) (known : IsTrue is_known) (seen : L → 
           is = refl;
           stands = record {
             first = has.first;
+            begun = (has.rest.more, sym has.rest.is);
+            ended = (rest.more, sym rest.is);
             comes = subst (λ (o : Option Answer). MatchOption o (IsUnanswered seen (record { step = step; before = step.ended.entries; made = has.made; reply = tries.on.reply })) (λ a. IsAnswered seen (record { step = step; before = step.ended.entries; made = has.made; reply = tries.on.reply }) a)) (sym is)
                 (so_far has.made has.is);
           };

@@ -1,6 +1,7 @@
 -- The headline: stores that share a log have one history.
 use Rattle.std.specs.Prelude.{◌≡◌, ◌≢◌, ◌⊎◌, ◌≤◌, ◌==◌, ℕ, Bool, true, false, List, [], ◌∷◌, ◌++◌, length, map, filter, Option, Some, None, MatchOption}
 use Rattle.std.specs.List.{AllByRecursion}
+use mathlib.Core.List.{IsPrefix}
 use Rattle.pana_journal.specs.declared.entry.Entry.{Entry}
 use Rattle.pana_calls.specs.declared.answer.Answer.{Answer}
 use Rattle.pana_calls.specs.declared.answer.Answer.TheVariants.{Given}
@@ -78,9 +79,12 @@ module _ {L : Type 0} (seen : L → LogView) where
   abbrev pub IsUnanswered : Standing L → Type 0
   IsUnanswered call = (call.made ≡ []) ⊎ (Steps call.before call.step.by call.step.call call.reply (call.before ++ call.made) × (length (seen call.step.begun.log).records ≤ length call.before))
 
-  -- a call stands so in the journal of the log
+  -- A call stands so in the journal of the log, which has these records in the end. What its store has seen of the log when it began,
+  -- and when it ended, are the first of them.
   pub record StandsIn (records : List Record) (call : Standing L) : Type 0 where
     pub first : AreFirst (call.before ++ call.made) records
+    pub begun : IsPrefix (seen call.step.begun.log).records records
+    pub ended : IsPrefix (seen call.step.ended.log).records records
     pub comes : MatchOption call.step.answer (IsUnanswered call) (λ answer. IsAnswered call answer)
 
   -- These are the calls of a store's life: they stand in the log's journal, in the order made, and the writer's records are just those
