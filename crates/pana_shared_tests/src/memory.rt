@@ -1,0 +1,233 @@
+//! A log in memory.
+ghost use Rattle.std.specs.Prelude.{◌≡◌, ◌≢◌, ◌≤◌, [], false, length, IsTrue, IfOk, map};
+ghost use Rattle.pana_shared.specs.Log.{IsAt, Reads, asked, ours};
+ghost use Rattle.pana_shared_tests.specs.Memory.{ComeOf, LandsOf, seen_of};
+
+use pana_shared::{Appended, ReadFault, Record, SharedLog};
+use std::alloc::{AllocError, Global};
+use std::collections::VecDeque;
+
+/// What happens before one call of a log.
+#[derive(Debug, Drop)]
+pub struct Moment {
+    /// Others append these. Records of the log's own writer are left out.
+    pub others: Vec<Record>,
+    /// Behind them the group that was asked for last lands, if its place is free.
+    pub lands: bool,
+}
+
+/// What comes of one append.
+#[derive(Clone, Copy, Debug, PartialEq, Eq)]
+pub enum Fate {
+    /// It is answered.
+    Answered,
+    /// The records are put, where their place is free, and the answer is lost.
+    PutUnanswered,
+    /// They aren't put now, and there is no answer.
+    NotPut,
+    /// The log takes no more.
+    Full,
+}
+
+/// A log in memory, as one of its writers sees it: what others append, and what comes of its own appends, goes by a plan. Behind the
+/// plan nobody else appends, and each append is answered.
+#[derive(Drop)]
+pub struct MemoryShared {
+    pub alloc: Global,
+    pub records: Vec<Record>,
+    pub writer: u64,
+    /// The place of the last append, and the groups that were asked for there, the last one first.
+    pub at: u64,
+    pub loose: Vec<Vec<Record>>,
+    pub moments: VecDeque<Moment>,
+    pub fates: VecDeque<Fate>,
+    /// How many records a page has at most.
+    pub most: usize,
+}
+
+/// The records once more. Fails only where memory runs out.
+pub fn copy_group(alloc: Global, group: &[Record]) -> Result<Vec<Record>, AllocError>
+    ensures { IfOk result (λ copy. copy.items ≡ group.now) }
+{
+    let mut copy = Vec::new(alloc);
+    for record in group {
+        copy.push(Record {
+            entry: record.entry.copy_of(alloc)?,
+            writer: record.writer,
+            turn: record.turn,
+        })?;
+    }
+    Ok(copy)
+}
+
+/// Whether all records are the writer's.
+fn is_own(group: &[Record], writer: u64) -> bool
+    ensures { IsTrue result → ours writer group.now ≡ group.now }
+{
+    for record in group {
+        if record.writer != writer {
+            return false;
+        }
+    }
+    true
+}
+
+/// Appends a record, if it isn't the writer's, and memory is there.
+fn add(records: &mut Vec<Record>, writer: u64, record: Record)
+    ensures { ComeOf writer records.old.items records.new.items }
+{
+    if record.writer == writer || records.reserve(1).is_err() {
+        return;
+    }
+    records.push_reserved(record);
+}
+
+/// Appends the records that aren't the writer's, as many as there is memory for.
+fn come(records: &mut Vec<Record>, writer: u64, others: Vec<Record>)
+    ensures { ComeOf writer records.old.items records.new.items }
+{
+    for record in others {
+        add(records, writer, record);
+    }
+}
+
+/// Appends the first of these groups, if the place is free, and memory is there.
+fn land(alloc: Global, records: &mut Vec<Record>, writer: u64, at: u64, loose: &[Vec<Record>])
+    ensures { LandsOf writer at (map (λ g. g.items) loose.now) records.old.items records.new.items }
+{
+    if loose.is_empty() || records.len() as u64 != at || !is_own(&loose[0], writer) {
+        return;
+    }
+    let Ok(mut copy) = copy_group(alloc, &loose[0]) else {
+        return;
+    };
+    let _ = records.append(&mut copy);
+}
+
+impl MemoryShared {
+    ghost use Rattle.pana_shared_store.specs.Store.{IsFresh};
+
+    /// The log of a writer that has put nothing, in which others' records stand already, as it goes on by this plan. A page has so many
+    /// records at most, and one at least.
+    pub fn new(
+        alloc: Global,
+        writer: u64,
+        others: Vec<Record>,
+        moments: VecDeque<Moment>,
+        fates: VecDeque<Fate>,
+        most: usize,
+    ) -> MemoryShared
+        ensures { IsFresh (seen_of result) }
+    {
+        let mut records = Vec::new(alloc);
+        come(&mut records, writer, others);
+        MemoryShared {
+            alloc,
+            records,
+            writer,
+            at: 0,
+            loose: Vec::new(alloc),
+            moments,
+            fates,
+            most,
+        }
+    }
+
+    /// What happens before a call.
+    fn wait(&mut self)
+        ensures { Reads (seen_of self.old) (seen_of self.new) }
+    {
+        let Some(moment) = self.moments.pop_front() else {
+            return;
+        };
+        come(&mut self.records, self.writer, moment.others);
+        if moment.lands {
+            land(
+                self.alloc,
+                &mut self.records,
+                self.writer,
+                self.at,
+                self.loose.as_slice(),
+            );
+        }
+    }
+
+    /// Remembers that a group was asked for at this place, and forgets those that were at another. Returns whether memory is there for
+    /// it; else nothing changes.
+    fn ask(&mut self, at: u64, group: &[Record]) -> bool
+        ensures asked { IsTrue result → seen_of self.new ≡ asked (seen_of self.old) at group.now }
+        ensures same { result ≡ false → seen_of self.new ≡ seen_of self.old }
+    {
+        let Ok(copy) = copy_group(self.alloc, group) else {
+            return false;
+        };
+        if self.loose.insert(0, copy).is_err() {
+            return false;
+        }
+        if self.at != at {
+            self.loose.truncate(1);
+            self.at = at;
+        }
+        true
+    }
+}
+
+/// Some of the records behind the first so many, copied; none where there is none. Fails only where memory runs out.
+fn page(
+    alloc: Global,
+    records: &[Record],
+    from: u64,
+    most: usize,
+) -> Result<Vec<Record>, AllocError>
+    ensures part { IfOk result (λ page. page.items ≢ [] → IsAt from page.items records.now) }
+    ensures all { IfOk result (λ page. page.items ≡ [] → length records.now ≤ from) }
+{
+    let start = (from as usize).min(records.len());
+    let end = start.saturating_add(most.max(1)).min(records.len());
+    copy_group(alloc, &records[start..end])
+}
+
+impl SharedLog for MemoryShared {
+    ghost use Rattle.std.specs.Prelude.{true};
+    ghost use Rattle.pana_shared_tests.specs.Memory.{seen_of};
+
+    ghost is_known = { true };
+
+    ghost seen = { seen_of };
+
+    fn writer(&self) -> u64 {
+        self.writer
+    }
+
+    fn append(&mut self, at: u64, group: &[Record]) -> Appended {
+        self.wait();
+        let fate = self.fates.pop_front().unwrap_or(Fate::Answered);
+        if fate == Fate::Full {
+            return Appended::Full;
+        }
+        let Ok(mut copy) = copy_group(self.alloc, group) else {
+            return Appended::Full;
+        };
+        if !self.ask(at, group) {
+            return Appended::Full;
+        }
+        if self.records.len() as u64 > at {
+            return Appended::Taken;
+        }
+        if self.records.len() as u64 != at || fate == Fate::NotPut {
+            return Appended::Unknown;
+        }
+        if self.records.append(&mut copy).is_ok() && fate == Fate::Answered {
+            return Appended::Put;
+        }
+        Appended::Unknown
+    }
+
+    fn read(&mut self, from: u64) -> Result<Vec<Record>, ReadFault> {
+        self.wait();
+        match page(self.alloc, self.records.as_slice(), from, self.most) {
+            Ok(page) => Ok(page),
+            Err(_) => Err(ReadFault::OutOfMemory),
+        }
+    }
+}
