@@ -37,6 +37,10 @@ append_text name number values =
     codes "{\"compare\":[" ++ (next_text name number ++ (codes "],\"success\":["
     ++ (puts_text name number values ++ (codes "],\"failure\":[{\"requestRange\":{\"key\":\"" ++ (in_base64 (key_of name number) ++ codes "\"}}]}")))))
 
+-- the body of a question for a token, by which who logs in is known
+unfoldable pub login_text : List ℕ → List ℕ → List ℕ
+login_text user password = codes "{\"name\":\"" ++ (user ++ (codes "\",\"password\":\"" ++ (password ++ codes "\"}")))
+
 -- the body of a question for the keys from a number on, 1,000 at most, in order
 unfoldable pub range_text : List ℕ → ℕ → List ℕ
 range_text name number =

@@ -1,9 +1,10 @@
 //! Addresses of logs.
 ghost use Rattle.std.specs.Prelude.{◌≡◌, ◌++◌, IfOk, IsTrue, OnOk, string_bytes};
 ghost use Rattle.std.specs.List.{list_all};
-ghost use Rattle.pana_etcd.specs.Address.{IsAddress, address_text, are_hosts, have_names, is_name, is_plain, later_members, members_text};
+ghost use Rattle.pana_etcd.specs.Address.{IsAddress, address_text, are_hosts, have_names, is_login, is_name, is_password, is_plain, is_secret, later_members, login_text, members_text};
 
 use crate::address_fault::AddressFault;
+use crate::login::Login;
 use crate::member::{Member, member_text};
 use std::alloc::{AllocError, Global};
 
@@ -16,17 +17,18 @@ const MOST_MEMBERS: usize = 9;
 /// How long a name of a log, or of a host, is at most.
 const LONGEST_NAME: usize = 100;
 
-/// Where a log is kept: the members of a cluster, and the log's name there.
-#[derive(Debug, PartialEq, Eq, Drop)]
+/// Where a log is kept: who logs in there, the members of a cluster, and the log's name.
+#[derive(PartialEq, Eq, Drop)]
 pub struct EtcdAddress {
+    pub login: Option<Login>,
     pub members: Vec<Member>,
     pub name: String,
 }
 
 impl EtcdAddress {
-    /// The address that is written as `etcd://HOST:PORT[,HOST:PORT..]/NAME`: one to nine members, each a host's name or IPv4
-    /// address and a port, and the log's name. Names are of 1 to 100 letters, digits, `-`, `_` and `.`. It takes memory for the
-    /// address, and for its text, by which it is checked.
+    /// The address that is written as `etcd://[USER:PASSWORD@]HOST:PORT[,HOST:PORT..]/NAME`: who logs in, if anybody does; one to nine
+    /// members, each a host's name or IPv4 address and a port; and the log's name. Names are of 1 to 100 letters, digits, `-`, `_` and
+    /// `.`. It takes memory for the address, and for its text, by which it is checked.
     ///
     /// # Errors
     ///
@@ -37,6 +39,9 @@ impl EtcdAddress {
         let address = address_in(alloc, text)?;
         if !has_names(&address) {
             return Err(AddressFault::BadName);
+        }
+        if !is_login(&address.login) {
+            return Err(AddressFault::BadLogin);
         }
         match address_text(alloc, &address) {
             Ok(written) if written.as_str() == text => Ok(address),
@@ -54,11 +59,28 @@ fn address_in(alloc: Global, text: &str) -> Result<EtcdAddress, AddressFault> {
     let Some((list, name)) = rest.split_once('/') else {
         return Err(AddressFault::BadName);
     };
+    let (login, list) = login_in(alloc, list)?;
     let members = members_in(alloc, list)?;
     Ok(EtcdAddress {
+        login,
         members,
         name: owned(alloc, name)?,
     })
+}
+
+/// Who logs in, and what stands behind that.
+fn login_in(alloc: Global, list: &str) -> Result<(Option<Login>, &str), AddressFault> {
+    let Some((before, behind)) = list.split_once('@') else {
+        return Ok((None, list));
+    };
+    let Some((user, password)) = before.split_once(':') else {
+        return Err(AddressFault::BadLogin);
+    };
+    let login = Login {
+        user: owned(alloc, user)?,
+        password: owned(alloc, password)?,
+    };
+    Ok((Some(login), behind))
 }
 
 fn members_in(alloc: Global, list: &str) -> Result<Vec<Member>, AddressFault> {
@@ -124,6 +146,34 @@ fn is_name(text: &str) -> bool
     !text.is_empty() && text.len() <= LONGEST_NAME && is_plain(text.as_bytes())
 }
 
+/// Whether who logs in has a name and a password, if anybody does.
+fn is_login(login: &Option<Login>) -> bool
+    ensures { result ≡ is_login login.now }
+{
+    match login {
+        Some(login) => is_name(login.user.as_str()) && is_password(login.password.as_str()),
+        None => true,
+    }
+}
+
+fn is_password(text: &str) -> bool
+    ensures { result ≡ is_password text.now }
+{
+    !text.is_empty() && text.len() <= LONGEST_NAME && is_secret(text.as_bytes())
+}
+
+fn is_secret(text: &[u8]) -> bool
+    ensures { result ≡ list_all is_secret text.now }
+{
+    text.iter().all(|byte| is_secret_byte(*byte))
+}
+
+fn is_secret_byte(byte: u8) -> bool
+    ensures { result ≡ is_secret byte }
+{
+    matches!(byte, 33..=126) && !matches!(byte, b'"' | b'/' | b'@' | b'\\')
+}
+
 fn is_plain(text: &[u8]) -> bool
     ensures { result ≡ list_all is_plain text.now }
 {
@@ -140,10 +190,23 @@ fn is_plain_byte(byte: u8) -> bool
 fn address_text(alloc: Global, address: &EtcdAddress) -> Result<String, AllocError>
     ensures { IfOk result (λ text. string_bytes text ≡ address_text address.now) }
 {
+    let login = login_text(alloc, &address.login)?;
     let members = members_text(alloc, address.members.as_slice())?;
+    let login = login.as_str();
     let members = members.as_str();
     let name = address.name.as_str();
-    format!(in alloc; "etcd://{members}/{name}")
+    format!(in alloc; "etcd://{login}{members}/{name}")
+}
+
+fn login_text(alloc: Global, login: &Option<Login>) -> Result<String, AllocError>
+    ensures { IfOk result (λ text. string_bytes text ≡ login_text login.now) }
+{
+    let Some(login) = login else {
+        return Ok(String::new(alloc));
+    };
+    let user = login.user.as_str();
+    let password = login.password.as_str();
+    format!(in alloc; "{user}:{password}@")
 }
 
 fn members_text(alloc: Global, members: &[Member]) -> Result<String, AllocError>

@@ -9,9 +9,10 @@ use crate::answer::{has_none, read_answer, read_outcome, read_page, says_full};
 use crate::connect::Connect;
 use crate::exchange::{Link, Reply, Request};
 use crate::key::LAST;
+use crate::login::Login;
 use crate::member::{Member, member_text};
-use crate::request::{append_body, range_body};
-use crate::value::value_said;
+use crate::request::{append_body, login_body, range_body};
+use crate::value::{text_in, value_said};
 use pana_shared::{Appended, ReadFault, Record, SharedLog};
 use serde_json::Value;
 use std::alloc::Global;
@@ -29,10 +30,15 @@ const PAUSE: u64 = 100;
 /// How many rounds there are at most.
 const MOST_ROUNDS: u64 = 1 << 32;
 
-/// The path of transactions, and that of questions.
+/// The path of transactions, that of questions, and that by which one logs in.
 const TXN: &str = "/v3/kv/txn";
 
 const RANGE: &str = "/v3/kv/range";
+
+const LOGIN: &str = "/v3/auth/authenticate";
+
+/// The status of an answer to who isn't known, or not any more.
+const UNKNOWN: u16 = 401;
 
 /// Why a request has no usable answer.
 #[derive(Clone, Copy, PartialEq, Eq)]
@@ -52,6 +58,7 @@ enum Miss {
 pub struct EtcdLog<C: Connect> {
     alloc: Global,
     connect: C,
+    login: Option<Login>,
     members: Vec<Member>,
     name: String,
     writer: u64,
@@ -61,6 +68,8 @@ pub struct EtcdLog<C: Connect> {
     /// The index of the member that is asked first.
     first: usize,
     link: Option<Link<C::Stream>>,
+    /// What a member has given to who has logged in.
+    token: Option<String>,
 }
 
 impl<C: Connect> EtcdLog<C> {
@@ -73,10 +82,15 @@ impl<C: Connect> EtcdLog<C> {
         writer: u64,
         patience: u64,
     ) -> EtcdLog<C> {
-        let EtcdAddress { members, name } = address;
+        let EtcdAddress {
+            login,
+            members,
+            name,
+        } = address;
         EtcdLog {
             alloc,
             connect,
+            login,
             members,
             name,
             writer,
@@ -84,6 +98,7 @@ impl<C: Connect> EtcdLog<C> {
             missed_at: None,
             first: 0,
             link: None,
+            token: None,
         }
     }
 
@@ -145,19 +160,53 @@ impl<C: Connect> EtcdLog<C> {
         let Ok(host) = member_text(self.alloc, member) else {
             return Err(Miss::NotSent);
         };
+        self.log_in(until, &mut link, host.as_str())?;
+        let known = copy_of(self.alloc, &self.token)?;
+        let token = text_of(&known);
         let request = Request {
             host: host.as_str(),
             path,
+            token,
             body,
         };
         let Ok(reply) = link.post(self.alloc, &self.connect, until, &request) else {
             return Err(Miss::Unanswered);
         };
+        if reply.status == UNKNOWN {
+            self.token = None;
+        }
         let answer = answer_in(self.alloc, &reply)?;
         if link.is_kept() {
             self.link = Some(link);
         }
         Ok(answer)
+    }
+
+    /// Asks the member for a token, where somebody is to log in who hasn't.
+    fn log_in(&mut self, until: u64, link: &mut Link<C::Stream>, host: &str) -> Result<(), Miss> {
+        let Some(login) = &self.login else {
+            return Ok(());
+        };
+        if self.token.is_some() {
+            return Ok(());
+        }
+        let (user, password) = (login.user.as_str(), login.password.as_str());
+        let Ok(body) = login_body(self.alloc, user, password) else {
+            return Err(Miss::NotSent);
+        };
+        let unknown: Option<String> = None;
+        let token = text_of(&unknown);
+        let request = Request {
+            host,
+            path: LOGIN,
+            token,
+            body: body.as_str(),
+        };
+        let Ok(reply) = link.post(self.alloc, &self.connect, until, &request) else {
+            return Err(Miss::NotSent);
+        };
+        self.token = Some(token_in(self.alloc, &reply)?);
+        Ok(())
     }
 
     /// What has come of a transaction that was refused for want of room: etcd may have carried it out all the same.
@@ -212,6 +261,41 @@ fn answer_in(alloc: Global, reply: &Reply) -> Result<Value, Miss> {
     match value_said(alloc, reply.body.as_slice()) {
         Ok(refusal) if says_full(&refusal) => Err(Miss::Full),
         _ => Err(Miss::Unanswered),
+    }
+}
+
+/// The same token once more.
+fn copy_of(alloc: Global, token: &Option<String>) -> Result<Option<String>, Miss> {
+    let Some(token) = token else {
+        return Ok(None);
+    };
+    match String::from_str(alloc, token.as_str()) {
+        Ok(copy) => Ok(Some(copy)),
+        Err(_) => Err(Miss::NotSent),
+    }
+}
+
+fn text_of(token: &Option<String>) -> Option<&str> {
+    match token {
+        Some(token) => Some(token.as_str()),
+        None => None,
+    }
+}
+
+/// The token in the answer to who logs in.
+fn token_in(alloc: Global, reply: &Reply) -> Result<String, Miss> {
+    if reply.status != 200 {
+        return Err(Miss::NotSent);
+    }
+    let Ok(answer) = read_answer(alloc, reply.body.as_slice()) else {
+        return Err(Miss::NotSent);
+    };
+    let Some(token) = text_in(&answer, "token") else {
+        return Err(Miss::NotSent);
+    };
+    match String::from_str(alloc, token) {
+        Ok(token) => Ok(token),
+        Err(_) => Err(Miss::NotSent),
     }
 }
 

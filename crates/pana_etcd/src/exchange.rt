@@ -1,8 +1,8 @@
 //! Exchanges over one connection: a request is written, and its answer is read.
-ghost use Rattle.std.specs.Prelude.{◌≡◌, ◌≤◌, IfOk, OnErr, OnOk, length, string_bytes, take};
+ghost use Rattle.std.specs.Prelude.{◌≡◌, ◌≤◌, IfOk, OnErr, OnOk, length, option_copied, string_bytes, take};
 ghost use Rattle.std.specs.Io.KnownBytes.{Appends, Keeps};
 ghost use Rattle.pana_wire.specs.Tap.{AppendsPrefix};
-ghost use Rattle.pana_etcd.specs.Exchange.{request_text};
+ghost use Rattle.pana_etcd.specs.Exchange.{request_text, token_line};
 
 use crate::connect::Connect;
 use bytes::BytesMut;
@@ -177,6 +177,8 @@ fn take_piece(reply: &mut Reply, piece: &[u8]) -> Next {
 pub(crate) struct Request<'a> {
     pub(crate) host: &'a str,
     pub(crate) path: &'a str,
+    /// What a member has given to who has logged in.
+    pub(crate) token: Option<&'a str>,
     pub(crate) body: &'a str,
 }
 
@@ -187,7 +189,7 @@ fn request_bytes(
     client: &mut Client,
     request: &Request<'_>,
 ) -> Result<Vec<u8>, NoReply>
-    ensures { IfOk result (λ bytes. bytes.items ≡ request_text request.now.host.now request.now.path.now request.now.body.now) }
+    ensures { IfOk result (λ bytes. bytes.items ≡ request_text request.now.host.now request.now.path.now (option_copied request.now.token) request.now.body.now) }
 {
     let bytes = written(alloc, client, request)?;
     let Ok(text) = request_text(alloc, request) else {
@@ -210,14 +212,25 @@ fn written(alloc: Global, client: &mut Client, request: &Request<'_>) -> Result<
         name: b"content-type",
         value: b"application/json",
     };
-    let headers = [host, content_type];
     let path = request.path.as_bytes();
     let body = request.body.as_bytes();
     let size = BodySize::Known(body.len() as u64);
     let mut bytes = Vec::new(alloc);
-    if client
-        .write_request(&mut bytes, b"POST", path, &headers, size)
-        .is_err()
+    let begun = match request.token {
+        Some(token) => {
+            let authorization = Header {
+                name: b"authorization",
+                value: token.as_bytes(),
+            };
+            let headers = [host, authorization, content_type];
+            client.write_request(&mut bytes, b"POST", path, &headers, size)
+        }
+        None => {
+            let headers = [host, content_type];
+            client.write_request(&mut bytes, b"POST", path, &headers, size)
+        }
+    };
+    if begun.is_err()
         || client.write_data(&mut bytes, body).is_err()
         || client.write_end(&mut bytes, &[]).is_err()
     {
@@ -227,17 +240,28 @@ fn written(alloc: Global, client: &mut Client, request: &Request<'_>) -> Result<
 }
 
 /// The text of a request. Fails only where memory runs out.
-#[tactic(auto, unfolding(crate::specs::Exchange::request_text))]
 fn request_text(alloc: Global, request: &Request<'_>) -> Result<String, AllocError>
-    ensures { IfOk result (λ text. string_bytes text ≡ request_text request.now.host.now request.now.path.now request.now.body.now) }
+    ensures { IfOk result (λ text. string_bytes text ≡ request_text request.now.host.now request.now.path.now (option_copied request.now.token) request.now.body.now) }
 {
+    let line = token_line(alloc, request.token)?;
+    let line = line.as_str();
     let host = request.host;
     let path = request.path;
     let body = request.body;
     let len = body.len();
     format!(in alloc;
-        "POST {path} HTTP/1.1\r\nhost: {host}\r\ncontent-type: application/json\r\ncontent-length: {len}\r\n\r\n{body}"
+        "POST {path} HTTP/1.1\r\nhost: {host}\r\n{line}content-type: application/json\r\ncontent-length: {len}\r\n\r\n{body}"
     )
+}
+
+/// The line by which who has logged in is known.
+fn token_line(alloc: Global, token: Option<&str>) -> Result<String, AllocError>
+    ensures { IfOk result (λ text. string_bytes text ≡ token_line (option_copied token.entry)) }
+{
+    match token {
+        Some(token) => format!(in alloc; "authorization: {token}\r\n"),
+        None => Ok(String::new(alloc)),
+    }
 }
 
 /// Writes all of the bytes.

@@ -1,7 +1,7 @@
 //! The bodies of requests.
 ghost use Rattle.std.specs.Prelude.{◌≡◌, ◌+◌, ◌≤◌, ◌++◌, List, ℕ, IfOk, OnOk, Some, length, map, string_bytes};
 ghost use Rattle.pana_etcd.specs.Key.{in_base64};
-ghost use Rattle.pana_etcd.specs.Request.{append_text, free_text, later_puts, made_text, next_text, put_text, puts_text, range_text};
+ghost use Rattle.pana_etcd.specs.Request.{append_text, free_text, later_puts, login_text, made_text, next_text, put_text, puts_text, range_text};
 ghost use Rattle.pana_etcd.specs.Value.{value_says};
 
 use crate::base64_text::in_base64;
@@ -157,6 +157,14 @@ fn put_text(alloc: Global, name: &str, number: u64, value: &[u8]) -> Result<Stri
     let key = key.as_str();
     let value = value.as_str();
     format!(in alloc; "{{\"requestPut\":{{\"key\":\"{key}\",\"value\":\"{value}\"}}}}")
+}
+
+/// The body of the question for a token, by which who logs in is known. Fails only where memory runs out.
+#[tactic(auto, unfolding(crate::specs::Request::login_text))]
+pub(crate) fn login_body(alloc: Global, user: &str, password: &str) -> Result<String, AllocError>
+    ensures { IfOk result (λ body. string_bytes body ≡ login_text user.now password.now) }
+{
+    format!(in alloc; "{{\"name\":\"{user}\",\"password\":\"{password}\"}}")
 }
 
 /// The body of the question for the records from this number on, 1,000 at most. Fails only where memory runs out.
