@@ -203,11 +203,11 @@ def words_refused(setting, room):
     """What is no address of a log is refused with a line, and so is a log beside a journal or a daemon."""
     port = setting.one.ports[0]
     addresses = ("", "etcd", "http://127.0.0.1:2379/a", f"etcd://127.0.0.1:{port}", f"etcd://127.0.0.1:{port}/", f"etcd://127.0.0.1:{port}/a/b", "etcd:///a", "etcd://127.0.0.1/a")
-    addresses += ("etcd://127.0.0.1:x/a", "etcd://127.0.0.1:65536/a", "etcd://127.0.0.1:02379/a", f"etcd://127.0.0.1:{port},/a", f"etcd://a:b@127.0.0.1:{port}/a", f"etcd://127.0.0.1:{port}/{'a' * 101}")
+    addresses += ("etcd://127.0.0.1:x/a", "etcd://127.0.0.1:65536/a", "etcd://127.0.0.1:02379/a", f"etcd://127.0.0.1:{port},/a", f"etcd://a@127.0.0.1:{port}/a", f"etcd://:b@127.0.0.1:{port}/a", f"etcd://a:@127.0.0.1:{port}/a", f"etcd://a:b@c@127.0.0.1:{port}/a", f"etcd://127.0.0.1:{port}/{'a' * 101}")
     addresses += (f"etcd://{','.join([f'127.0.0.1:{port}'] * 10)}/a", f"etcd://127.0.0.1:{port}/a b")
     for address, word in itertools.product(addresses, ("run", "status", "serve")):
         got, out, err = setting.run(word, *(("--port", "0") if word == "serve" else ()), "--log", address)
-        yield from differs((address, word, got, out, err.startswith(f"error: log {address}: ") or err), (address, word, 2, "", True))
+        yield from differs((address, word, got, out, err.startswith(f"error: log {address.rpartition('@')[2]}: ") or err), (address, word, 2, "", True))
     address = setting.one.address("words")
     rows = (("run", "--journal", room / "a"), ("status", "--journal", room / "a"), ("status", "--port", "7"), ("report", "edit", USB, "--port", "7"), ("show", "--port", "7"), ("serve", "--port", "0", "--journal", room / "a"))
     for words in (*rows, ("run", "--patience", "x"), ("run", "--patience", "3", "--journal", room / "a")):
@@ -358,6 +358,24 @@ def full(setting, room):
         yield from differs((len(entries_of(client)), len(one.values("full"))), (1, 1))
 
 
+def logged_in(setting, room):
+    """Where etcd wants a password the one in the address counts, also for a member that has forgotten who logged in; without it nothing is answered, and it is never printed."""
+    with Members(room, 1) as one:
+        for path, body in (("user/add", {"name": "root", "password": "se:cret"}), ("user/grant", {"user": "root", "role": "root"}), ("enable", {})):
+            one.ask(f"/v3/auth/{path}", **body)
+        plain = one.address("inside")
+        address = plain.replace("//", "//root:se:cret@")
+        with setting.session(address) as client:
+            yield from differs(client.ask("a", "register", device="a", path="f"), {"done": 1})
+            one.kill(0)
+            one.start(0)
+            yield from differs(client.ask("a", "edit", copy=1), {"done": 2})
+        yield from differs(setting.run("run", "--log", address, given=line_of("a", "edit", copy=1)), (0, '{"done":3}\n', ""))
+        for it in (plain, plain.replace("//", "//root:other@"), plain.replace("//", "//none:se:cret@")):
+            status, out, err = setting.run("run", "--log", it, "--patience", "1")
+            yield from differs((it, status, out, is_line(err, plain.partition("//")[2]) or err), (it, 3, "", True))
+
+
 def unanswered(setting, words, address):
     """What differs from a run that gets no answer: one line, after the patience for one, and no more."""
     begun = time.monotonic()
@@ -430,7 +448,7 @@ def waited(setting, room):
     yield from setting.waiting.result()
 
 
-CHECKS = (as_a_file, copied, words_refused, sessions_at_once, killed, other_values, other_value_later, full, waited)
+CHECKS = (as_a_file, copied, logged_in, words_refused, sessions_at_once, killed, other_values, other_value_later, full, waited)
 
 
 def main(words):

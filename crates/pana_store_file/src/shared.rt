@@ -10,12 +10,17 @@ use std::alloc::AllocError;
 /// How many milliseconds a second has.
 const SECOND: u64 = 1000;
 
+/// What is shown of an address: all but who logs in, and the password.
+fn shown(address: &str) -> &str {
+    match address.rsplit_once('@') {
+        Some((_, behind)) => behind,
+        None => address,
+    }
+}
+
 /// What is printed of an address that is none.
-fn text_of(
-    rt: &HostRuntime,
-    address: &str,
-    fault: AddressFault,
-) -> Result<String, ProgramFault> {
+fn text_of(rt: &HostRuntime, address: &str, fault: AddressFault) -> Result<String, ProgramFault> {
+    let address = shown(address);
     match fault {
         AddressFault::OutOfMemory => Err(ProgramFault::OutOfMemory),
         fault => Ok(format!(in rt.alloc(); "log {address}: {fault}")?),
@@ -32,6 +37,7 @@ pub fn fault_of_address(rt: &HostRuntime, address: &str) -> Result<Option<String
 
 /// Why there is no store, where the log can't be read, or is none of a journal.
 fn no_log(rt: &HostRuntime, address: &str, fault: ReadFault) -> Result<NoStore, AllocError> {
+    let address = shown(address);
     let text = format!(in rt.alloc(); "log {address}: {fault}")?;
     Ok(match fault {
         ReadFault::NoAnswer => NoStore::NoAnswer(text),
