@@ -1,5 +1,5 @@
 -- A log in memory.
-use Rattle.std.specs.Prelude.{◌≡◌, ◌⊎◌, ℕ, List, [], ◌∷◌, ◌++◌, length, map}
+use Rattle.std.specs.Prelude.{◌≡◌, ◌⊎◌, ℕ, List, [], ◌++◌, length, map}
 use Rattle.pana_shared.specs.declared.record.Record.{Record}
 use Rattle.pana_shared.specs.Log.{IsOneOf, LogView, ours}
 use Rattle.pana_shared_tests.specs.declared.memory.MemoryShared.{MemoryShared}

@@ -4,6 +4,7 @@ ghost use Rattle.std.specs.Prelude.{IfOk};
 ghost use Rattle.pana_shared_store.specs.Store.{IsFresh};
 ghost use Rattle.pana_shared_tests.specs.Memory.{seen_of};
 
+use crate::life::live;
 use crate::memory::{Fate, MemoryShared, Moment};
 use pana_calls::{NoAnswer, Session};
 use pana_shared::{ReadFault, Record};
@@ -247,5 +248,23 @@ fn two_stores_have_one_journal(rt: HostRuntime) -> Result<(), Fail> {
     assert_eq!(rt; first, of_first);
     let of_second = format!(in alloc; "{{\"done\":2}}\n{journal}\n")?;
     assert_eq!(rt; second, of_second);
+    Ok(())
+}
+
+/// How many entries a store has that is opened on a log and makes the call of a line.
+fn entries_after(alloc: Global, log: MemoryShared, line: &str) -> Result<u64, Fail>
+    requires { IsFresh (seen_of log) }
+{
+    let Message { by, call } = decode(alloc, line.as_bytes())?;
+    let mut calls = Vec::new(alloc);
+    calls.push((by, call))?;
+    let store = live(alloc, log, calls)?;
+    Ok(store.entries())
+}
+
+#[test]
+fn a_store_lives(rt: HostRuntime) -> Result<(), Fail> {
+    let log = log_of(rt.alloc(), DUMP_Q, &[], &[Fate::PutUnanswered])?;
+    assert_eq!(rt; entries_after(rt.alloc(), log, REGISTER_P)?, 2);
     Ok(())
 }

@@ -1,4 +1,4 @@
-use Rattle.std.proofs.Common.{rules, ◌≡◌, Bool, true, List, refl, is_ok}
+use Rattle.std.proofs.Common.{rules, ◌≡◌, true, refl, is_ok}
 use Rattle.pana_shared_tests.specs.Memory.{seen_of}
 use Rattle.pana_shared_tests.proofs.Remembered.{ask_other, ask_same}
 use Rattle.pana_shared_tests.proofs.memory.MemoryShared.ask.Goals as goal

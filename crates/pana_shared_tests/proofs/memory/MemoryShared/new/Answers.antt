@@ -1,6 +1,6 @@
-use Rattle.std.proofs.Common.{List, Vec, map, ap, subst}
+use Rattle.std.proofs.Common.{List, map, ap, subst}
 use Rattle.pana_shared.specs.declared.record.Record.{Record}
-use Rattle.pana_shared_tests.specs.Memory.{ComeOf, seen_of}
+use Rattle.pana_shared_tests.specs.Memory.{ComeOf}
 use Rattle.pana_shared_tests.proofs.Remembered.{fresh}
 use Rattle.pana_shared_tests.proofs.memory.MemoryShared.new.Goals as goal
 

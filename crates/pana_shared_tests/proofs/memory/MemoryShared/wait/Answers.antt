@@ -1,5 +1,4 @@
 use Rattle.pana_shared_store.proofs.Followed.{reads_none}
-use Rattle.pana_shared_tests.proofs.Remembered
 use Rattle.pana_shared_tests.proofs.memory.MemoryShared.wait.Goals as goal
 
 pub returns-in_default : goal.returns-in_default

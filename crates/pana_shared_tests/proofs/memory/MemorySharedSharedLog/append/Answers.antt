@@ -1,4 +1,4 @@
-use Rattle.std.proofs.Common.{rules, ◌≡◌, ◌≤◌, Bool, true, List, length, refl, is_ok, ap, ◌∙◌}
+use Rattle.std.proofs.Common.{rules, ◌≡◌, Bool, true, List, length, is_ok, ap, ◌∙◌}
 use native.Mathlib.Omega.{arith}
 use Rattle.std.specs.Prelude.{if◌then◌else◌, ◌++◌}
 use Rattle.pana_shared.specs.declared.record.Record.{Record}

@@ -1,0 +1,53 @@
+//! Calls of a store, one after another: what the law of stores that share a log supposes of each of them.
+ghost use Rattle.std.specs.Prelude.{◌≡◌, List, IfOk, IsTrue, map};
+ghost use Rattle.pana_shared_store.specs.Store.{IsFresh};
+ghost use Rattle.pana_shared_laws.specs.Lives.{IsLife, Life, Lives, Step};
+ghost use Rattle.pana_shared_tests.specs.Life.{Made, asked_in};
+
+use pana_calls::{Answer, Call, NoAnswer, Session};
+use pana_copies::DeviceName;
+use pana_shared::{ReadFault, SharedLog};
+use pana_shared_store::SharedStore;
+use std::alloc::Global;
+
+/// Makes one call of a device.
+fn call_one<L: SharedLog>(
+    store: &mut SharedStore<L>,
+    by: DeviceName,
+    call: Call,
+) -> Result<Answer, NoAnswer>
+    ensures { Made L.is_known L.seen store.old by call store.new }
+{
+    store.call(&by, call)
+}
+
+/// Makes calls of devices, and goes on where one has no answer. Returns how many had one.
+pub fn call_all<L: SharedLog>(store: &mut SharedStore<L>, calls: Vec<(DeviceName, Call)>) -> u64
+    ensures { (steps : List (Step L)) × Lives L.is_known L.seen store.old steps store.new × (asked_in steps ≡ calls.items) }
+{
+    let mut answers: u64 = 0;
+    for (by, call) in calls {
+        if call_one(store, by, call).is_ok() {
+            answers = answers.saturating_add(1);
+        }
+    }
+    answers
+}
+
+/// Opens a store of a log, and makes calls.
+///
+/// # Errors
+///
+/// As `SharedStore::open`.
+pub fn live<L: SharedLog + Drop>(
+    alloc: Global,
+    log: L,
+    calls: Vec<(DeviceName, Call)>,
+) -> Result<SharedStore<L>, ReadFault>
+    requires { IsTrue L.is_known → IsFresh (L.seen log) }
+    ensures { IfOk result (λ store. IsTrue L.is_known → (life : Life L) × IsLife L.is_known L.seen (L.seen log).writer (L.seen store.log).records life × (asked_in life.steps ≡ calls.items) × (life.last ≡ store)) }
+{
+    let mut store = SharedStore::open(alloc, log)?;
+    call_all(&mut store, calls);
+    Ok(store)
+}
