@@ -132,9 +132,9 @@ def silence(setting, room):
         yield from differs(until(["plan.txt", "later.txt"], held), ["plan.txt", "later.txt"])
         with daemon.client() as client:
             entries = entries_of(client)
-        told = [(it["do"], it["by"]) for it in entries]
+        made = [(it["do"], it["by"]) for it in entries]
         # The client's edit may have been made, once.
-        yield from differs(told[:1] + told[-2:] if len(told) == 4 else told, [("register", "usb"), ("edit", "usb"), ("register", "usb")])
+        yield from differs(made[:1] + made[-2:] if len(made) == 4 else made, [("register", "usb"), ("edit", "usb"), ("register", "usb")])
         daemon.run.kill()
         said = daemon.run.stderr.read()
         yield from differs((said[: len(SILENT)], said.count(SILENT), said.count(AGAIN)), (SILENT, 1, 1))
