@@ -74,8 +74,8 @@ module _ {L : Type 0} (seen : L → LogView) where
     pub refused : (cause : Cause) → answer ≡ Given (Refused cause) → call.made ≡ []
     pub asked : (query : Query) → call.step.call ≡ calls.Query query → call.made ≡ []
 
-  -- A call without an answer has made nothing, and never will; or it has made, by now, just what a hall alone would have made there,
-  -- behind all that the log had when it began.
+  -- A call without an answer has made nothing by then, or just what a hall alone would have made there, behind all that the log had
+  -- when it began.
   abbrev pub IsUnanswered : Standing L → Type 0
   IsUnanswered call = (call.made ≡ []) ⊎ (Steps call.before call.step.by call.step.call call.reply (call.before ++ call.made) × (length (seen call.step.begun.log).records ≤ length call.before))
 

@@ -1,5 +1,5 @@
 //! Calls of a store, one after another: what the law of stores that share a log supposes of each of them.
-ghost use Rattle.std.specs.Prelude.{◌≡◌, List, IfOk, IsTrue, map};
+ghost use Rattle.std.specs.Prelude.{◌≡◌, List, IfOk, IsTrue};
 ghost use Rattle.pana_shared_store.specs.Store.{IsFresh};
 ghost use Rattle.pana_shared_laws.specs.Lives.{IsLife, Life, Lives, Step};
 ghost use Rattle.pana_shared_tests.specs.Life.{Made, asked_in};
