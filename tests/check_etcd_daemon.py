@@ -137,7 +137,8 @@ def silence(setting, room):
         yield from differs(made[:1] + made[-2:] if len(made) == 4 else made, [("register", "usb"), ("edit", "usb"), ("register", "usb")])
         daemon.run.kill()
         said = daemon.run.stderr.read()
-        yield from differs((said[: len(SILENT)], said.count(SILENT), said.count(AGAIN)), (SILENT, 1, 1))
+        # An election may take an answer more than one time.
+        yield from differs((said.startswith(SILENT), said.endswith(AGAIN), said.replace(SILENT, b"").replace(AGAIN, b""), said.count(SILENT)), (True, True, b"", said.count(AGAIN)))
 
 
 def foreign(setting, room):
