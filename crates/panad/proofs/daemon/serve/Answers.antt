@@ -7,3 +7,6 @@ use Rattle.panad.proofs.daemon.serve.Goals as goal
 
 pub serve_on-outcome-requires-send-Y-Store : goal.serve_on-outcome-requires-send-Y-Store
 serve_on-outcome-requires-send-Y-Store g c κs within = param_send 3 _ (arg_send _ no _ log_store_send)
+
+pub serve_on-outcome-requires-in-None-send-Y-Store : goal.serve_on-outcome-requires-in-None-send-Y-Store
+serve_on-outcome-requires-in-None-send-Y-Store g c κs within = param_send 3 _ (arg_send _ no _ store_send)
