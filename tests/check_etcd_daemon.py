@@ -134,7 +134,7 @@ def silence(setting, room):
             entries = entries_of(client)
         made = [(it["do"], it["by"]) for it in entries]
         # The client's edit may have been made, once.
-        yield from differs(made[:1] + made[-2:] if len(made) == 4 else made, [("register", "usb"), ("edit", "usb"), ("register", "usb")])
+        yield from differs(made[:1] + made[-2:] if len(made) == 4 else made, [("register", "usb"), ("register", "usb"), ("edit", "usb")])
         daemon.run.kill()
         said = daemon.run.stderr.read()
         # An election may take an answer more than one time.
@@ -168,17 +168,17 @@ def begins(setting, room):
 
 
 class Reporter(threading.Thread):
-    """A client of daemons in turn that reports edits of a copy of its own until it is to end, and asks for it, and notes what comes of each."""
+    """A client that reports edits of a copy of its own until it is to end, and asks for it, and notes what comes of each. Where it loses its daemon it goes to the next one, or, one client of two, waits for it: so no daemon has more clients than it serves."""
 
     def __init__(self, ports, at, over):
         super().__init__()
         self.ports, self.turn, self.by, self.over = ports, at, f"c{at}", over
+        self.moves = at // DAEMONS % 2
         self.steps, self.client, self.copy = [], None, 0
 
     def connect(self):
         while not self.over.is_set():
             with contextlib.suppress(OSError):
-                self.turn += 1
                 self.client = Client(self.ports[self.turn % len(self.ports)])
                 return
             time.sleep(WAIT)
@@ -196,7 +196,9 @@ class Reporter(threading.Thread):
             except (OSError, Broken):
                 self.steps.append(("lost", 0))
                 self.client.close()
+                self.turn += self.moves
                 self.connect()
+        self.client.close()
 
     def faults(self, own):
         """What differs from: the entries of its own are those that were answered as done, and at most one for each call without an answer."""
