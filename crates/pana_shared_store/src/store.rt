@@ -13,7 +13,7 @@ use std::alloc::Global;
 use std::marker::Model;
 
 /// How many times a call is tried at most while others' entries come before it.
-const MOST_TRIES: u32 = 100;
+const MOST_TRIES: u32 = 1000;
 
 /// A hall, and a log that others append to as well, which has the hall's journal: an entry is put into the log before its call is
 /// answered, and each call is made behind all that the log had when it began. To contracts it is the entries that are followed so far,
@@ -162,7 +162,7 @@ impl<L: SharedLog> Session for SharedStore<L> {
     ///
     /// # Errors
     ///
-    /// `NoAnswer` where the log gives none, where others were faster a hundred times, where memory runs out, or where something stands
+    /// `NoAnswer` where the log gives none, where others were faster a thousand times, where memory runs out, or where something stands
     /// in the log that is no entry. It isn't known then whether the call was made.
     fn call(&mut self, by: &DeviceName, call: Call) -> Result<Answer, NoAnswer> {
         if self.foreign.is_some() {
