@@ -199,6 +199,16 @@ def copied(setting, room):
         yield from differs((words, status, out, err[:7]), (words, 2, "", "error: "))
 
 
+def copied_in_groups(setting, room):
+    """A longer journal is put into etcd 100 entries at once, in order, each once."""
+    file, address = room / "journal", setting.one.address("groups")
+    setting.run("run", "--journal", file, given=b"".join(line_of("a", "register", device="a", path=f"f{it}") for it in range(250)))
+    yield from differs(setting.run("log", "copy", "--from", file, "--to", address), (0, "copied 250 entries\n", ""))
+    revisions = setting.one.revisions("groups")
+    yield from differs(([revisions.count(it) for it in sorted({*revisions})], revisions), ([100, 100, 50], sorted(revisions)))
+    yield from differs(setting.run("show", "--log", address), setting.run("show", "--journal", file))
+
+
 def words_refused(setting, room):
     """What is no address of a log is refused with a line, and so is a log beside a journal or a daemon."""
     port = setting.one.ports[0]
@@ -448,7 +458,7 @@ def waited(setting, room):
     yield from setting.waiting.result()
 
 
-CHECKS = (as_a_file, copied, logged_in, words_refused, sessions_at_once, killed, other_values, other_value_later, full, waited)
+CHECKS = (as_a_file, copied, copied_in_groups, logged_in, words_refused, sessions_at_once, killed, other_values, other_value_later, full, waited)
 
 
 def main(words):

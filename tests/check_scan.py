@@ -26,9 +26,9 @@ NESTED = 64
 NOBODY = 65534
 
 
-def scanned(program, folder, **how):
+def scanned(program, folder, *options, **how):
     """The status of a scan, its lines and what it wrote on standard error."""
-    words = [program, "scan", "usb", str(folder)]
+    words = [program, "scan", *options, "usb", str(folder)]
     done = subprocess.run(words, stdin=subprocess.DEVNULL, capture_output=True, timeout=SECONDS, **how)
     return done.returncode, done.stdout.decode(), done.stderr.decode()
 
@@ -47,6 +47,9 @@ def kinds(program, room):
     for name, to in (("inner/up", ".."), ("file_link", "inner/a"), ("nowhere", "missing")):
         (room / name).symlink_to(to)
     yield from differs(scanned(program, room), (0, lines_for("inner/a"), ""))
+    status, out, err = scanned(program, room, "--verbose")
+    said = [f"panad: {it}: a symbolic link" for it in ("file_link", "inner/up", "nowhere")]
+    yield from differs((status, out, sorted(err.splitlines())), (0, lines_for("inner/a"), ["panad: fifo: a pipe", *said]))
 
 
 def names(program, room):
@@ -103,6 +106,8 @@ def permissions(program, room):
     copy.chmod(0o755)
     user = {"user": NOBODY, "group": NOBODY, "extra_groups": []} if os.geteuid() == 0 else {}
     yield from differs(scanned(str(copy), folder, **user), (0, lines_for("open"), ""))
+    named = "panad: secret: cannot be read: permission denied\n"
+    yield from differs(scanned(str(copy), folder, "--verbose", **user), (0, lines_for("open"), named))
     (folder / "closed").chmod(0)
     yield from differs(scanned(str(copy), folder, **user), (1, "", "panad: cannot list folder\n"))
     (folder / "closed").chmod(0o700)

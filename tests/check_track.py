@@ -12,6 +12,7 @@ import os
 import resource
 import shutil
 import signal
+import socket
 import stat
 import struct
 import subprocess
@@ -386,6 +387,53 @@ def one_file_system(room):
     yield from differs(paths(), ["plan.txt", "inner/other.txt"])
 
 
+def named(room):
+    """With --verbose what is passed over is named, each name once and with the reason, and without it it is counted at most."""
+    folder, roots = room.laptop / "in", [f"laptop={room.laptop}"]
+    for inner in (folder, folder / "more", room.laptop / "left"):
+        inner.mkdir()
+    (room.laptop / "plan.txt").write_text("one")
+    for name in (b"caf\xe9.txt", b"\xff", b"in/more/\xc3\xa9\xc3.txt", b"in/more/line\nbreak", b"in/" + b"n" * 250):
+        Path(os.fsdecode(os.fsencode(room.laptop) + b"/" + name)).touch()
+    long = folder / "more"
+    while len(os.fsencode(long.relative_to(room.laptop))) < 1000:
+        long /= "f" * 100
+    long.mkdir(parents=True)
+    (long / ("n" * 40)).touch()
+    (room.laptop / "link").symlink_to("plan.txt")
+    os.mkfifo(folder / "run")
+    (room.laptop / "left" / "o.txt").touch()
+    with socket.socket(socket.AF_UNIX) as bound:
+        bound.bind(os.path.relpath(folder / "bound"))
+        counted = "panad: laptop: 5 names skipped\n"
+        yield from differs(room.track("--ignore", "left", roots=roots), (0, ALL_WELL, counted))
+        status, out, err = room.track("--verbose", "--ignore", "left", roots=roots)
+    rows = (
+        "caf\\xe9.txt: the name isn't UTF-8",
+        "\\xff: the name isn't UTF-8",
+        "in/more/\u00e9\\xc3.txt: the name isn't UTF-8",
+        "in/more/line\\nbreak: its path has a control character",
+        f"{long.relative_to(room.laptop)}/{'n' * 40}: its path is longer than 1,024 bytes",
+        "link: a symbolic link",
+        "in/run: a pipe",
+        "in/bound: a socket",
+    )
+    yield from differs((status, out), (0, ALL_WELL))
+    yield from differs(sorted(err.splitlines()), sorted([*(f"panad: laptop: {it}" for it in rows), counted.rstrip()]))
+
+
+def named_elsewhere(room):
+    """So is a folder of another file system, where none is entered."""
+    inner, roots = room.laptop / "inner", [f"laptop={room.laptop}"]
+    inner.mkdir()
+    (room.laptop / "plan.txt").write_text("one")
+    mounting = 'mount -t tmpfs none "$0" && exec "$@"'
+    mounted = ["unshare", "-m", "sh", "-c", mounting, str(inner)]
+    named = "panad: laptop: inner: of another file system\n"
+    yield from differs(room.track("--verbose", "--one-file-system", roots=roots, within=mounted), (0, ALL_WELL, named))
+    yield from differs(room.track("--verbose", roots=roots, within=mounted), (0, ALL_WELL, ""))
+
+
 def wrong_words(room):
     """Two roots of a device, a root within another, a file as a root, and a word that is none are refused before anything is made."""
     (room.laptop / "inner").mkdir()
@@ -480,6 +528,8 @@ CHECKS = (
     no_files,
     hard_links,
     one_file_system,
+    named,
+    named_elsewhere,
     wrong_words,
     interrupted,
     full_disk,

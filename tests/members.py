@@ -117,6 +117,11 @@ class Members:
         text = lambda data: base64.b64decode(data).decode()
         return {text(it["key"]): text(it.get("value", "")) for it in answer.get("kvs", ())}
 
+    def revisions(self, name):
+        """The revision of each thing that stands below a name, by key: those of one transaction have one."""
+        answer = self.ask("/v3/kv/range", key=in_base64(f"{name}/"), range_end=in_base64(f"{name}0"))
+        return [it["mod_revision"] for it in answer.get("kvs", ())]
+
     def put(self, key, text):
         self.ask("/v3/kv/put", key=in_base64(key), value=in_base64(text))
 

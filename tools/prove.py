@@ -74,6 +74,10 @@ class Waiting:
         """Those that use nothing that isn't done."""
         return [it for it in self.left if self.below[it] <= self.done]
 
+    def leads(self, name):
+        """Whether no crate that isn't done has a longer chain behind it."""
+        return all(self.behind[name] >= chain for it, chain in self.behind.items() if it not in self.done)
+
     def begin(self, name):
         self.left.remove(name)
 
@@ -167,12 +171,13 @@ class Builds:
 
     def begin(self):
         """Begins as many as may run, so that there are as many provers as processors: one prover for each crate, since two
-        of a crate take more time together, and those that no other crate could have for that with the longest chain."""
+        of a crate take more time together, and those that no other crate could have for that with the longest chain. It has
+        two in any case, since it decides when the last is proved."""
         while (free := self.lanes.free()) and (ready := self.waiting.ready()):
             idle = os.cpu_count() - sum(it.jobs for it in self.all())
             if idle <= 0 and self.all():
                 return
-            jobs = max(idle - min(len(ready), len(free)) + 1, 1)
+            jobs = max(idle - min(len(ready), len(free)) + 1, 2 if self.waiting.leads(ready[0]) else 1)
             self.waiting.begin(ready[0])
             self.lanes.take(free[0], ready[0])
             self.running.register(Build(self.rt, ready[0], jobs, free[0]), selectors.EVENT_READ)

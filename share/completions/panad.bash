@@ -11,8 +11,9 @@ _panad_options() {
     watch) printf '%s\n' --port --from --help ;;
     report) printf '%s\n' --journal --log --patience --port --by --sum --heir --help ;;
     log) printf '%s\n' --from --to --patience --help ;;
-    load | scan | compare) printf '%s\n' --help ;;
-    track) printf '%s\n' --journal --log --patience --port --sums --empty --ignore --read-all --one-file-system --quiet --json --help ;;
+    load | compare) printf '%s\n' --help ;;
+    scan) printf '%s\n' --verbose --help ;;
+    track) printf '%s\n' --journal --log --patience --port --sums --empty --ignore --read-all --one-file-system --verbose --quiet --json --help ;;
     serve)
       printf '%s\n' --port --sessions --journal --log --patience --track --every --ignore --one-file-system --hurry --idle --help
       ;;

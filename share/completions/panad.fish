@@ -43,6 +43,7 @@ complete -c panad -n '__panad_after history' -l svg -r -F -d 'Draw a picture to 
 complete -c panad -n '__panad_after track' -l sums -r -F -d 'The file that keeps sums of files'
 complete -c panad -n '__panad_after track' -l empty -d 'Take an empty folder as meant'
 complete -c panad -n '__panad_after track' -l read-all -d 'Read all files'
+complete -c panad -n '__panad_after scan track' -l verbose -d 'Name what is passed over'
 complete -c panad -n '__panad_after status' -l all -d 'List the newest copies too'
 complete -c panad -n '__panad_after track status' -l quiet -d 'Print no table'
 complete -c panad -n '__panad_after track status' -l json -d 'Print a line of JSON for each copy'

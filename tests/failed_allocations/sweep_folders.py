@@ -4,9 +4,9 @@ first look at two folders, a second look after a change, and a question by each 
 
 usage: sweep_folders.py PROGRAM
 
-A run gives what it gives without a failed allocation, or says on standard error that memory ran out, with status 3, or 1
-where that was before the command line was read. A look or a question after it, with all its memory, gives what it gives
-after a run with none failing: what wasn't reported is reported then.
+A run gives what it gives without a failed allocation, or says on standard error that memory ran out, with status 3. A look
+or a question after it, with all its memory, gives what it gives after a run with none failing: what wasn't reported is
+reported then.
 The last line is 'N passed, M failed', one for each of them.
 """
 from __future__ import annotations
@@ -35,7 +35,6 @@ QUESTIONS = (
     ("history", "usb:a", "--svg", "/dev/stdout", "--journal", "j"),
     ("may-overwrite", "usb:a", "--by", "laptop:a", "--journal", "j"),
 )
-EARLY = (1, b"", b"panad: out of memory\n")
 
 
 def run(program, words, folder, environment=None, descriptors=()):
@@ -56,7 +55,7 @@ def failing_run(program, library, before, words, at):
 def is_said(ended):
     """Whether the run says that memory ran out."""
     status, _, error = ended
-    return ended == EARLY or (status == 3 and b"emory" in error)
+    return status == 3 and b"emory" in error
 
 
 def faults_of(program, library, before, words):

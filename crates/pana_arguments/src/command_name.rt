@@ -52,7 +52,29 @@ pub const COMMANDS: [CommandName; 14] = [
     CommandName::Log,
 ];
 
-/// The command with this name.
+impl CommandName {
+    /// Whether the command answers by its status, 0 or 1, so that a fault has another one.
+    pub fn answers_by_status(self) -> bool {
+        match self {
+            CommandName::Track
+            | CommandName::Status
+            | CommandName::MayOverwrite
+            | CommandName::Why
+            | CommandName::History
+            | CommandName::Report
+            | CommandName::Watch
+            | CommandName::Log => true,
+            CommandName::Run
+            | CommandName::Show
+            | CommandName::Load
+            | CommandName::Scan
+            | CommandName::Compare
+            | CommandName::Serve => false,
+        }
+    }
+}
+
+/// The command with this name. Takes no memory.
 pub fn command_named(name: &str) -> Option<CommandName> {
     match name {
         RUN => Some(CommandName::Run),

@@ -26,6 +26,7 @@ mod why;
 
 pub use crate::arguments::Arguments;
 pub use crate::command_line::CommandLine;
+pub use crate::command_name::{CommandName, command_named};
 pub use crate::compare::CompareArguments;
 pub use crate::explanation::{Explanation, Unread, refusal};
 pub use crate::history::HistoryArguments;

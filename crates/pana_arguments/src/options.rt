@@ -30,6 +30,9 @@ pub const ONE_FILE_SYSTEM: &str = "one-file-system";
 /// The name of the wish for a line of JSON.
 pub const JSON: &str = "json";
 
+/// The name of the wish that what is passed over is named.
+pub const VERBOSE: &str = "verbose";
+
 const QUIET: &str = "quiet";
 
 /// The name of the time for an answer of a log, and the seconds where it isn't given.
@@ -120,6 +123,14 @@ pub const STAY: Item = Item {
     kind: Kind::Flag,
     need: Need::Optional,
     help: "Enter no folder that is of another file system than DIR",
+};
+
+/// The option that what is passed over is named.
+pub const NAMES_PASSED: Item = Item {
+    name: VERBOSE,
+    kind: Kind::Flag,
+    need: Need::Optional,
+    help: "Name on standard error what is passed over, and why",
 };
 
 /// The options for how copies are shown.

@@ -1,7 +1,7 @@
 //! The words of `panad scan`.
 
 use crate::item::{Item, Kind, Need, with_items};
-use crate::options::value_of;
+use crate::options::{NAMES_PASSED, VERBOSE, value_of};
 use clap::{ArgMatches, Command};
 use std::alloc::{AllocError, Global};
 
@@ -16,7 +16,7 @@ DIR. Example:
     $ panad show usb.lines
 
 Symbolic links are passed over. Names that can't be reported are counted on
-standard error.";
+standard error, and with --verbose named.";
 
 /// The names of the device and the folder on the command line.
 const DEVICE: &str = "DEVICE";
@@ -30,10 +30,13 @@ pub struct ScanArguments<'a> {
     pub device: &'a str,
     /// The folder with its copies.
     pub folder: &'a str,
+    /// Whether what is passed over is named on standard error.
+    pub is_verbose: bool,
 }
 
 /// The words and options of the command.
-const ITEMS: [Item; 2] = [
+const ITEMS: [Item; 3] = [
+    NAMES_PASSED,
     Item {
         name: DEVICE,
         kind: Kind::Word,
@@ -62,6 +65,7 @@ impl<'a> ScanArguments<'a> {
         ScanArguments {
             device: value_of(words, DEVICE),
             folder: value_of(words, DIR),
+            is_verbose: words.get_flag(VERBOSE),
         }
     }
 }

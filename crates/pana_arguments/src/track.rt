@@ -2,8 +2,9 @@
 
 use crate::item::{Item, Kind, Need, with_items};
 use crate::options::{
-    AS_JSON, IGNORE, KeptBy, LOG_PATIENCE, NO_TABLE, ONE_FILE_SYSTEM, REPORTED_JOURNAL,
-    REPORTED_PORT, ROOT, ROOTS_HELP, SHARED_LOG, STAY, ShownAs, values_of,
+    AS_JSON, IGNORE, KeptBy, LOG_PATIENCE, NAMES_PASSED, NO_TABLE, ONE_FILE_SYSTEM,
+    REPORTED_JOURNAL, REPORTED_PORT, ROOT, ROOTS_HELP, SHARED_LOG, STAY, ShownAs, VERBOSE,
+    values_of,
 };
 use clap::{ArgMatches, Command};
 use std::alloc::{AllocError, Global};
@@ -49,11 +50,13 @@ pub struct TrackArguments<'a> {
     pub reads_all: bool,
     /// Whether folders of other file systems than a root's are passed over.
     pub stays: bool,
+    /// Whether what is passed over is named on standard error.
+    pub is_verbose: bool,
     pub shown_as: ShownAs,
 }
 
 /// The words and options of the command.
-const ITEMS: [Item; 12] = [
+const ITEMS: [Item; 13] = [
     REPORTED_JOURNAL,
     SHARED_LOG,
     LOG_PATIENCE,
@@ -83,6 +86,7 @@ const ITEMS: [Item; 12] = [
         help: "Read all files, also those whose size, times and inode are as at the last run",
     },
     STAY,
+    NAMES_PASSED,
     NO_TABLE,
     AS_JSON,
     Item {
@@ -112,6 +116,7 @@ impl<'a> TrackArguments<'a> {
             ignored: values_of(words, IGNORE),
             reads_all: words.get_flag(READ_ALL),
             stays: words.get_flag(ONE_FILE_SYSTEM),
+            is_verbose: words.get_flag(VERBOSE),
             shown_as: ShownAs::of(words),
         }
     }

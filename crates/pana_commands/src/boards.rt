@@ -1,7 +1,8 @@
 //! The tables of families, asked of a session.
-ghost use Rattle.std.specs.Prelude.{◌≡◌, IfOk, IfSome, IsErrOf, MatchResult, map, string_bytes};
+ghost use Rattle.std.specs.Prelude.{◌≡◌, IfOk, IsErrOf, MatchResult, map, string_bytes};
 ghost use Rattle.pana_calls.specs.declared.answer.Answer.TheVariants.{Given};
 ghost use Rattle.pana_calls.specs.declared.reply.Reply.TheVariants as replies;
+ghost use Rattle.pana_report.specs.Table.{table_text};
 ghost use Rattle.pana_commands.specs.Boards.{HasTables, PrintsFamilies, PrintsFamily, board, families, shown_families};
 ghost use Rattle.pana_commands.specs.Track.{IsCut};
 
@@ -13,27 +14,6 @@ use pana_list::PlainList;
 use pana_report::print;
 use std::alloc::{AllocError, Global};
 
-/// The families that an answer has, where it has them.
-fn families_in(answer: Answer) -> Option<PlainList<FamilyRow>>
-    ensures { IfSome result (λ rows. answer ≡ Given (replies.Families rows)) }
-{
-    match answer {
-        Answer::Given(Reply::Families(rows)) => Some(rows),
-        _ => None,
-    }
-}
-
-/// The board that an answer has, or why there is none, where it says one of them.
-fn board_in(answer: Answer) -> Option<Result<BoardView, Cause>>
-    ensures { IfSome result (λ said. MatchResult said (λ view. answer ≡ Given (replies.Board view)) (λ cause. answer ≡ Given (replies.Refused cause))) }
-{
-    match answer {
-        Answer::Given(Reply::Board(view)) => Some(Ok(view)),
-        Answer::Given(Reply::Refused(cause)) => Some(Err(cause)),
-        _ => None,
-    }
-}
-
 /// Asks for the families.
 pub(crate) fn families_of<S: Session>(
     session: &mut S,
@@ -42,10 +22,9 @@ pub(crate) fn families_of<S: Session>(
     ensures ok { IfOk result (λ rows. S.step session.old by.now families (Given (replies.Families rows)) session.new) }
     ensures fails { IsErrOf result Untracked.NoAnswer → S.fails session.old by.now families session.new }
 {
-    let answer = session.call(by, Call::Query(Query::Families))?;
-    match families_in(answer) {
-        Some(rows) => Ok(rows),
-        None => Err(Untracked::OutOfMemory),
+    match session.call(by, Call::Query(Query::Families))? {
+        Answer::Given(Reply::Families(rows)) => Ok(rows),
+        _ => Err(Untracked::OutOfMemory),
     }
 }
 
@@ -60,10 +39,25 @@ pub(crate) fn board_of<S: Session>(
         (λ cause. S.step session.old by.now (board family) (Given (replies.Refused cause)) session.new)) }
     ensures fails { IsErrOf result Untracked.NoAnswer → S.fails session.old by.now (board family) session.new }
 {
-    let answer = session.call(by, Call::Query(Query::Board { family }))?;
-    match board_in(answer) {
-        Some(said) => Ok(said),
-        None => Err(Untracked::OutOfMemory),
+    match session.call(by, Call::Query(Query::Board { family }))? {
+        Answer::Given(Reply::Board(view)) => Ok(Ok(view)),
+        Answer::Given(Reply::Refused(cause)) => Ok(Err(cause)),
+        _ => Err(Untracked::OutOfMemory),
+    }
+}
+
+/// Asks for the board of a family that has one.
+pub(crate) fn view_of<S: Session>(
+    session: &mut S,
+    by: &DeviceName,
+    family: u64,
+) -> Result<BoardView, Untracked>
+    ensures ok { IfOk result (λ view. S.step session.old by.now (board family) (Given (replies.Board view)) session.new) }
+    ensures fails { IsErrOf result Untracked.NoAnswer → S.fails session.old by.now (board family) session.new }
+{
+    match board_of(session, by, family)? {
+        Ok(view) => Ok(view),
+        Err(_) => Err(Untracked::OutOfMemory),
     }
 }
 
@@ -81,6 +75,17 @@ pub(crate) fn shown_families(
         .collect(alloc)
 }
 
+/// The table of a board, which is let go.
+pub(crate) fn print_board(
+    alloc: Global,
+    terminal: Option<usize>,
+    view: BoardView,
+) -> Result<String, AllocError>
+    ensures { IfOk result (λ text. string_bytes text ≡ table_text terminal view) }
+{
+    print(alloc, terminal, &view)
+}
+
 /// Asks for the boards of these families, one after another, and returns their tables.
 fn tables_of_each<S: Session>(
     alloc: Global,
@@ -94,10 +99,8 @@ fn tables_of_each<S: Session>(
 {
     let mut tables = Vec::new(alloc);
     for family in families {
-        let Ok(view) = board_of(session, by, *family)? else {
-            return Err(Untracked::OutOfMemory);
-        };
-        if tables.push(print(alloc, terminal, &view)?).is_err() {
+        let view = view_of(session, by, *family)?;
+        if tables.push(print_board(alloc, terminal, view)?).is_err() {
             return Err(Untracked::OutOfMemory);
         }
     }
@@ -146,7 +149,7 @@ pub fn table_on<S: Session>(
 {
     match board_of(session, by, family)? {
         Ok(view) => {
-            let table = print(alloc, terminal, &view)?;
+            let table = print_board(alloc, terminal, view)?;
             Ok(Printout::printed(alloc, table))
         }
         Err(cause) => Ok(Printout::reported(alloc, &cause)?),

@@ -26,9 +26,10 @@ impl Printout {
     fn of_fault(alloc: Global, name: &str, fault: TextFault) -> Result<Printout, AllocError>
         ensures { IfOk result (SaysFault name.now fault) }
     {
+        let err = format!(in alloc; "panad: {name} stamp: {fault}\n")?;
         Ok(Printout {
             out: String::new(alloc),
-            err: format!(in alloc; "panad: {name} stamp: {fault}\n")?,
+            err,
             status: 1,
         })
     }

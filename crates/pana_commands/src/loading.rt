@@ -1,6 +1,8 @@
 //! A dump read, loaded and printed as tables.
-ghost use Rattle.std.specs.Prelude.{◌≡◌, IfOk};
+ghost use Rattle.std.specs.Prelude.{◌≡◌, ℕ, List, Option, IfOk, string_bytes};
+ghost use Rattle.pana_journal.specs.declared.entry.Entry.{Entry};
 ghost use Rattle.pana_hall.specs.Accepted.{IsAccepted};
+ghost use Rattle.pana_hall.specs.Load.{IsLoadFault};
 ghost use Rattle.pana_wire.specs.Lines.{texts};
 ghost use Rattle.pana_commands.specs.Answered.{Prints, Reports};
 ghost use Rattle.pana_commands.specs.Load.{AnswersDump, AnswersEntries, AnswersLines};
@@ -8,11 +10,33 @@ ghost use Rattle.pana_commands.specs.Tables.{tables_text};
 
 use crate::printout::Printout;
 use crate::tables::tables_of;
-use pana_hall::Hall;
+use pana_hall::{Hall, LoadFault};
 use pana_journal::EntryList;
 use pana_seal::{SealFault, read_seals};
 use pana_wire::{decode_dump_lines, split_lines};
 use std::alloc::{AllocError, Global};
+
+/// The tables of a hall.
+fn tables_in(alloc: Global, terminal: Option<usize>, mut hall: Hall) -> Result<String, AllocError>
+    ensures accepted { IsAccepted 8 hall }
+    ensures text { IfOk result (λ text. string_bytes text ≡ tables_text terminal hall) }
+{
+    // The contract of this call has that the hall refuses none of its entries.
+    let _ = hall.length();
+    let text = tables_of(alloc, terminal, &mut hall);
+    drop(hall);
+    text
+}
+
+/// Why entries are none of a journal. Fails also where memory ran out for the hall itself.
+fn answer_fault(alloc: Global, fault: &LoadFault) -> Result<Printout, AllocError>
+    ensures { IfOk result (λ answer. (terminal : Option ℕ) → (entries : List Entry) → IsLoadFault entries fault.now → AnswersEntries terminal entries answer) }
+{
+    if fault.at == 0 {
+        return Err(AllocError);
+    }
+    Printout::reported(alloc, fault)
+}
 
 /// The tables of the journal that these entries are, or why they are none.
 fn answer_entries(
@@ -23,12 +47,8 @@ fn answer_entries(
     ensures { IfOk result (AnswersEntries terminal entries) }
 {
     match Hall::load(alloc, entries) {
-        Ok(mut hall) => {
-            let _ = hall.length();
-            Ok(Printout::printed(alloc, tables_of(alloc, terminal, &mut hall)?))
-        }
-        Err(fault) if fault.at == 0 => Err(AllocError),
-        Err(fault) => Printout::reported(alloc, &fault),
+        Ok(hall) => Ok(Printout::printed(alloc, tables_in(alloc, terminal, hall)?)),
+        Err(fault) => answer_fault(alloc, &fault),
     }
 }
 

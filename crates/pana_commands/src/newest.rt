@@ -3,7 +3,7 @@ ghost use Rattle.std.specs.Prelude.{◌≡◌, IfOk, IsErrOf};
 ghost use Rattle.pana_commands.specs.Newest.{AsksNewest, HasNewest, HasNewestOf, is_newest, newest_in, placed};
 ghost use Rattle.pana_commands.specs.Track.{IsCut};
 
-use crate::boards::{board_of, families_of, shown_families};
+use crate::boards::{families_of, shown_families, view_of};
 use crate::untracked::Untracked;
 use pana_calls::{BoardRow, BoardView, CopyState, PlacedCopy, Session};
 use pana_copies::DeviceName;
@@ -35,12 +35,13 @@ fn placed(row: BoardRow) -> PlacedCopy
 fn newest_in(alloc: Global, view: BoardView) -> Result<PlainList<PlacedCopy>, AllocError>
     ensures { IfOk result (λ newest. newest ≡ newest_in view) }
 {
-    let mut newest = Vec::new(alloc);
-    for row in view.rows.into_vec() {
-        if is_newest(state_of(&row)) {
-            newest.push(placed(row))?;
-        }
-    }
+    let newest = view
+        .rows
+        .into_vec()
+        .into_iter()
+        .filter(|row| is_newest(state_of(row)))
+        .map(placed)
+        .collect(alloc)?;
     Ok(PlainList::from_vec(newest))
 }
 
@@ -56,9 +57,7 @@ fn newest_of_each<S: Session>(
 {
     let mut newest = PlainList::new(alloc);
     for family in families {
-        let Ok(view) = board_of(session, by, *family)? else {
-            return Err(Untracked::OutOfMemory);
-        };
+        let view = view_of(session, by, *family)?;
         let own = newest_in(alloc, view)?;
         if newest.append(own).is_err() {
             return Err(Untracked::OutOfMemory);

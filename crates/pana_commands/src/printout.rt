@@ -31,9 +31,10 @@ impl Printout {
     pub fn reported<D: fmt::Display>(alloc: Global, what: &D) -> Result<Printout, AllocError>
         ensures { IfOk result (λ answer. (text : List ℕ) → D.output what.now ≡ Some text → Reports text answer) }
     {
+        let err = format!(in alloc; "panad: {what}\n")?;
         Ok(Printout {
             out: String::new(alloc),
-            err: format!(in alloc; "panad: {what}\n")?,
+            err,
             status: 1,
         })
     }

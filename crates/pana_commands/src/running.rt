@@ -34,7 +34,11 @@ pub fn run_on<R: Read, W: Write>(
     ensures reads { MadeAtMost reads reader.old reader.new }
 {
     match Hall::new(alloc) {
-        Ok(mut hall) => serve(alloc, reader, writer, &mut hall, reads),
+        Ok(mut hall) => {
+            let served = serve(alloc, reader, writer, &mut hall, reads);
+            drop(hall);
+            served
+        }
         Err(_) => Err(ServeFault::OutOfMemory),
     }
 }

@@ -2,6 +2,7 @@
 ghost use Rattle.std.specs.Prelude.{◌≡◌, ◌++◌, [], IfOk, OnOk, option_map, string_bytes};
 ghost use Rattle.pana_wire.specs.Lines.{texts};
 ghost use Rattle.pana_commands.specs.Show.{AnswersLines, status_of, TakesLine, TakesLines, report_of, shown_reason, why_not};
+ghost use Rattle.pana_commands.specs.Tables.{tables_text};
 
 use crate::printout::Printout;
 use crate::tables::tables_of;
@@ -12,7 +13,7 @@ use std::alloc::{AllocError, Global};
 use std::fmt;
 
 /// Why a line wasn't done.
-#[derive(Clone, Copy, Debug, PartialEq, Eq)]
+#[derive(Clone, Copy)]
 pub enum Reason {
     /// It makes no call.
     Fault(WireFault),
@@ -94,6 +95,23 @@ fn status_of(err: &str) -> u8
     if err.is_empty() { 0 } else { 1 }
 }
 
+/// Makes the calls of all lines on the hall, and returns its tables and the reports.
+fn show_lines(
+    alloc: Global,
+    terminal: Option<usize>,
+    hall: &mut Hall,
+    lines: &[&[u8]],
+) -> Result<Printout, AllocError>
+    ensures takes { IfOk result (λ answer. TakesLines 1 hall.old (texts lines.now) (string_bytes answer.err) hall.new) }
+    ensures out { IfOk result (λ answer. string_bytes answer.out ≡ tables_text terminal hall.new) }
+    ensures status { IfOk result (λ answer. answer.status ≡ status_of (string_bytes answer.err)) }
+{
+    let err = take_lines(alloc, hall, lines)?;
+    let out = tables_of(alloc, terminal, hall)?;
+    let status = status_of(err.as_str());
+    Ok(Printout { out, err, status })
+}
+
 /// Takes lines as a session does, and returns the tables of the families that they leave, for standard output, and for
 /// standard error a report about each line that was faulty or refused, with its number from 1; the status is 1 where
 /// there is one. The tables are for a terminal of this width, where one is given.
@@ -105,10 +123,9 @@ fn status_of(err: &str) -> u8
 pub fn show_on(alloc: Global, terminal: Option<usize>, bytes: &[u8]) -> Result<Printout, AllocError>
     ensures { IfOk result (AnswersLines terminal bytes.now) }
 {
-    let mut hall = Hall::new(alloc)?;
     let lines = split_lines(alloc, bytes)?;
-    let err = take_lines(alloc, &mut hall, lines.as_slice())?;
-    let out = tables_of(alloc, terminal, &mut hall)?;
-    let status = status_of(err.as_str());
-    Ok(Printout { out, err, status })
+    let mut hall = Hall::new(alloc)?;
+    let shown = show_lines(alloc, terminal, &mut hall, lines.as_slice());
+    drop(hall);
+    shown
 }

@@ -5,11 +5,11 @@ ghost use Rattle.pana_hall.specs.Living.{living};
 ghost use Rattle.pana_hall.specs.Queries.{family_rows};
 ghost use Rattle.pana_commands.specs.Tables.{table_of, tables_text};
 
+use crate::boards::print_board;
 use pana_calls::{BoardView, Call, FamilyRow, Query, Reply};
 use pana_copies::DeviceName;
 use pana_hall::Hall;
 use pana_list::PlainList;
-use pana_report::print;
 use std::alloc::{AllocError, Global};
 
 /// The device in whose name the program asks; a question has the same answer for each.
@@ -49,7 +49,7 @@ fn each_table(
     let mut tables = Vec::new(alloc);
     for row in rows {
         let board = board_of(hall, by, row.family)?;
-        tables.push(print(alloc, terminal, &board)?)?;
+        tables.push(print_board(alloc, terminal, board)?)?;
     }
     Ok(tables)
 }

@@ -17,7 +17,7 @@ use pana_wire::encode;
 use std::alloc::{AllocError, Global};
 
 /// How copies are shown.
-#[derive(Clone, Copy, Debug, PartialEq, Eq)]
+#[derive(Clone, Copy)]
 pub enum StatusForm {
     /// As a table for people, in a terminal of this width, or where none is given in any.
     Table(Option<usize>),
@@ -88,12 +88,11 @@ fn shown_of(
 ) -> Result<PlainList<StatusRow>, AllocError>
     ensures { IfOk result (λ shown. shown ≡ shown_of folders.now rows) }
 {
-    let mut shown = Vec::new(alloc);
-    for row in rows.into_vec() {
-        if is_shown(folders, &row) {
-            shown.push(row)?;
-        }
-    }
+    let shown = rows
+        .into_vec()
+        .into_iter()
+        .filter(|row| is_shown(folders, row))
+        .collect(alloc)?;
     Ok(PlainList::from_vec(shown))
 }
 

@@ -4,7 +4,7 @@ use std::error::Error;
 use std::fmt;
 
 /// Why nothing is answered to folders that are tracked. What was reported before stays.
-#[derive(Clone, Copy, Debug, PartialEq, Eq)]
+#[derive(Clone, Copy, Debug)]
 pub enum Untracked {
     /// A call has no answer.
     NoAnswer,

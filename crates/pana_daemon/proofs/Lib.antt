@@ -7,6 +7,7 @@ pub mod Connections
 pub mod Rooted
 pub mod Passes
 pub mod Posts
+pub mod Moving
 pub mod Attended
 pub mod Tasks
 pub mod Doors

@@ -17,7 +17,7 @@ use crate::shared::Shared;
 use crate::supervisor::Supervisor;
 use pana_calls::Session;
 use pana_turn::{Closed, Desk, Pass};
-use std::alloc::Global;
+use std::alloc::{AllocError, Global};
 use std::marker::{Send, Sync};
 use std::sync::Wait;
 use std::thread;
@@ -31,6 +31,21 @@ pub struct Ended<'a, S, D, F> {
     pub posts: Vec<Post<'a, D, F>>,
     pub requests: u64,
     pub unanswered: bool,
+}
+
+/// Room for so many callers, passes and posts. Fails only where memory runs out.
+fn rooms<C: Drop, P: Drop, Q>(
+    alloc: Global,
+    count: usize,
+) -> Result<(Vec<C>, Vec<P>, Vec<Q>), AllocError>
+    ensures callers { IfOk result (λ rooms. (length rooms.0.items ≡ 0) × (count ≤ vec_capacity rooms.0)) }
+    ensures passes { IfOk result (λ rooms. (length rooms.1.items ≡ 0) × (count ≤ vec_capacity rooms.1)) }
+    ensures posts { IfOk result (λ rooms. (length rooms.2.items ≡ 0) × (count ≤ vec_capacity rooms.2)) }
+{
+    let callers = Vec::with_capacity(alloc, count)?;
+    let passes = Vec::with_capacity(alloc, count)?;
+    let posts = Vec::with_capacity(alloc, count)?;
+    Ok((callers, passes, posts))
 }
 
 /// A caller for each post, in order, by the pass at its place; they are numbered from 1. Takes no memory where there is
@@ -139,22 +154,20 @@ pub fn attend<
     ensures { IfOk result (λ ended. Ends (RequestSteps S.step S.fails S.settles S.breaks_off) D.gives D.Reader.remaining D.Writer.contents F.gives session posts.entry.items ended.session ended.posts.items ended.requests ended.unanswered) }
 {
     let count = posts.len();
+    let (room, mut back, mut left) = rooms(alloc, count)?;
     let (desk, passes) = Desk::open(alloc, count as u32, Shared::new(session))?;
-    let room = Vec::with_capacity(alloc, count)?;
-    let mut back = Vec::with_capacity(alloc, count)?;
-    let mut left = Vec::with_capacity(alloc, count)?;
     begin()?;
     let mut callers = open_callers(&*rt, &desk, &*supervisor, posts, passes, room);
     run_all(&*rt, alloc, callers.as_mut_slice());
     let unanswered = lack_answer(callers.as_slice());
     take_apart(callers, &mut back, &mut left);
-    let Ok(Closed { machine, calls }) = desk.close(back) else {
-        unreachable!()
-    };
-    Ok(Ended {
-        session: machine.into_session(),
-        posts: left,
-        requests: calls,
-        unanswered,
-    })
+    match desk.close(back) {
+        Ok(Closed { machine, calls }) => Ok(Ended {
+            session: machine.into_session(),
+            posts: left,
+            requests: calls,
+            unanswered,
+        }),
+        Err(_) => unreachable!(),
+    }
 }

@@ -1,14 +1,13 @@
 //! Sessions and scanners, until both have ended.
-ghost use Rattle.std.specs.Prelude.{◌≡◌, ◌+◌, ◌<◌, ◌≤◌, IfOk, OnOk, length, replicate};
+ghost use Rattle.std.specs.Prelude.{◌≡◌, ℕ, ◌+◌, ◌<◌, ◌≤◌, Option, IfOk, OnOk, length, replicate};
 ghost use Rattle.pana_tickets.specs.Hands.{hand};
 ghost use Rattle.pana_ticks.specs.Hands.{none_yet};
 ghost use Rattle.pana_daemon.specs.Desk.{RequestSteps};
-ghost use Rattle.pana_daemon.specs.Door.{GivesDrawn, new_door};
+ghost use Rattle.pana_daemon.specs.Door.{GivesDrawn, limit_of, new_door};
 ghost use Rattle.pana_daemon.specs.Post.{doors_in, folders_in};
-ghost use Rattle.pana_daemon.specs.inner.Folders.{AreOf};
 ghost use Rattle.pana_daemon.specs.inner.Newlines.{EndsInput};
-ghost use Rattle.pana_daemon.specs.Root.{folders_of, has_folders, new_folders};
-ghost use Rattle.pana_daemon.specs.Serve.{Ends, EndsDaemon, EndsDrawn};
+ghost use Rattle.pana_daemon.specs.Root.{folders_of, new_folders};
+ghost use Rattle.pana_daemon.specs.Serve.{Ends, EndsDaemon};
 
 use crate::alarm::{Alarm, Closer};
 use crate::attending::{Ended, attend};
@@ -69,6 +68,23 @@ fn closer_of(listener: &Listener) -> Result<Option<Closer>, DaemonFault> {
         Ok(closer) => Ok(Some(closer)),
         Err(_) => Err(DaemonFault::NoDescriptor),
     }
+}
+
+/// What the daemon's threads wait for and share: the newlines and the start, with what counts newlines; what ends all; and a
+/// ticket for each connection that is wanted, with the share that is the whole.
+fn means(
+    alloc: Global,
+    listener: &Listener,
+    roots: usize,
+) -> Result<(Signals, Counter, Option<Closer>, Tickets, Share), DaemonFault>
+    ensures counter { IfOk result (λ means. means.1 ≡ record { id = means.0.ticks; count = none_yet }) }
+    ensures most { IfOk result (λ means. means.3.most ≡ limit_of listener.now.wanted) }
+    ensures whole { IfOk result (λ means. means.4 ≡ record { id = means.3.id; hand = hand means.3.most 64 0 0 }) }
+{
+    let (signals, counter) = Signals::new(alloc, roots, listener.wanted.is_none())?;
+    let closer = closer_of(listener)?;
+    let (tickets, whole) = Tickets::new(alloc, limit_of(listener.wanted))?;
+    Ok((signals, counter, closer, tickets, whole))
 }
 
 /// The posts of 16 workers, each with a part of the whole of the tickets, and then those of the roots, in order, each of
@@ -227,30 +243,44 @@ fn attend_and_count<
     Ok((ended?, counter, asked))
 }
 
-/// Has the posts done, with a session that all share, while it counts the newlines of standard input, and says how that
-/// has ended.
+/// Has the posts of workers and of roots done, with a session that all share, while it counts the newlines of standard
+/// input, and says how that has ended.
 fn serve_posts<'a, S: Session + Send + Drop, T: Threads + Wait + Clock + Sync, K: Disks + Sync>(
     rt: &'a HostRuntime,
     threads: &'a T,
+    disks: &'a K,
     address: &'a SocketAddr,
     signals: &'a Signals,
     alarm: &'a Alarm<'a>,
+    listener: &'a Mutex<CountedListener>,
+    patience: Patience,
     tickets: &'a Tickets,
     mut whole: Share,
-    counter: Counter,
-    has_roots: bool,
-    posts: Vec<DaemonPost<'a, T, K>>,
+    mut counter: Counter,
+    looks: Looks,
+    roots: &'a [Root<'a>],
     session: S,
 ) -> Result<DaemonEnd<S>, DaemonFault>
-    requires few { length posts.items ≤ 24 }
-    requires workers { doors_in posts.items ≡ replicate 16 (new_door tickets.now) }
-    requires whole { whole ≡ record { id = tickets.now.id; hand = hand tickets.now.most 48 0 0 } }
-    requires some { 0 < length posts.items }
+    requires few { length roots.now ≤ 8 }
+    requires whole { whole ≡ record { id = tickets.now.id; hand = hand tickets.now.most 64 0 0 } }
     requires counter { counter ≡ record { id = signals.now.ticks; count = none_yet } }
-    requires scanners { AreOf signals.now.ticks signals.now.start.all.id (folders_in posts.items) }
-    requires roots { has_roots ≡ has_folders (folders_in posts.items) }
-    ensures { IfOk result (λ ended. EndsDrawn (RequestSteps S.step S.fails S.settles S.breaks_off) ⟦<PatientReader<'a, T, Alarm<'a>> as Read>⟧.remaining ⟦<BufWriter<PatientWriter<'a, T, Alarm<'a>>, Global> as Write>⟧.contents ⟦<StandardInput<'a, 'a, T> as Read>⟧.remaining ⟦<RootFolder<'a, T, K> as Folder>⟧.gives session tickets.now posts.entry.items ended.session ended.requests ended.fault) }
+    ensures { IfOk result (λ ended. (wanted : Option ℕ) → tickets.now.most ≡ limit_of wanted → EndsDaemon (RequestSteps S.step S.fails S.settles S.breaks_off) ⟦<PatientReader<'a, T, Alarm<'a>> as Read>⟧.remaining ⟦<BufWriter<PatientWriter<'a, T, Alarm<'a>>, Global> as Write>⟧.contents ⟦<StandardInput<'a, 'a, T> as Read>⟧.remaining ⟦<RootFolder<'a, T, K> as Folder>⟧.gives session wanted looks (folders_of disks.now roots.now) ended.session ended.requests ended.fault) }
 {
+    let posts = posts_of(
+        rt.alloc(),
+        threads,
+        disks,
+        alarm,
+        listener,
+        patience,
+        signals,
+        tickets,
+        &mut whole,
+        &mut counter,
+        looks,
+        roots,
+    )?;
+    let has_roots = !roots.is_empty();
     let input = StandardInput { rt, threads, alarm };
     let (ended, mut counter, asked) = attend_and_count(
         rt, threads, address, signals, alarm, input, has_roots, counter, posts, session,
@@ -303,34 +333,17 @@ pub fn serve<'a, S: Session + Send + Drop, T: Threads + Wait + Clock + Sync, K: 
     requires few { length roots.now ≤ 8 }
     ensures { IfOk result (λ ended. EndsDaemon (RequestSteps S.step S.fails S.settles S.breaks_off) ⟦<PatientReader<'a, T, Alarm<'a>> as Read>⟧.remaining ⟦<BufWriter<PatientWriter<'a, T, Alarm<'a>>, Global> as Write>⟧.contents ⟦<StandardInput<'a, 'a, T> as Read>⟧.remaining ⟦<RootFolder<'a, T, K> as Folder>⟧.gives session listener.wanted looks (folders_of disks.now roots.now) ended.session ended.requests ended.fault) }
 {
-    let lasts = listener.wanted.is_none();
-    let (signals, mut counter) = Signals::new(rt.alloc(), roots.len(), lasts)?;
-    let closer = closer_of(&listener)?;
+    let (signals, counter, closer, tickets, whole) = means(rt.alloc(), &listener, roots.len())?;
     let Listener {
         listener,
         wanted,
         patience,
     } = listener;
-    let (tickets, mut whole) = Tickets::new(rt.alloc(), limit_of(wanted))?;
     let counted = Mutex::new(CountedListener::new(listener, wanted));
     let waiting = Waiting::new(&session);
     let alarm = Alarm::new(rt, &signals.start, &counted, closer, waiting);
-    let posts = posts_of(
-        rt.alloc(),
-        &*threads,
-        &*disks,
-        &alarm,
-        &counted,
-        patience,
-        &signals,
-        &tickets,
-        &mut whole,
-        &mut counter,
-        looks,
-        &*roots,
-    )?;
-    let has_roots = !roots.is_empty();
     serve_posts(
-        rt, threads, address, &signals, &alarm, &tickets, whole, counter, has_roots, posts, session,
+        rt, threads, disks, address, &signals, &alarm, &counted, patience, &tickets, whole,
+        counter, looks, roots, session,
     )
 }

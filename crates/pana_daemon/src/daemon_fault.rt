@@ -1,7 +1,7 @@
 use std::alloc::AllocError;
 
 /// Why the daemon hasn't begun.
-#[derive(Clone, Copy, Debug, PartialEq, Eq)]
+#[derive(Clone, Copy)]
 pub enum DaemonFault {
     /// An allocation failed.
     OutOfMemory,
@@ -20,7 +20,7 @@ impl From<AllocError> for DaemonFault {
 }
 
 /// What has gone wrong while the daemon ran.
-#[derive(Clone, Copy, Debug, PartialEq, Eq)]
+#[derive(Clone, Copy)]
 pub enum LateFault {
     /// Threads can't be made after all: not all began within ten seconds that are to run at once, and no connection was
     /// taken, and no folder read.

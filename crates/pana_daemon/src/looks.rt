@@ -1,5 +1,5 @@
 /// How folders are looked at.
-#[derive(Clone, Copy, Debug, PartialEq, Eq)]
+#[derive(Clone, Copy)]
 pub struct Looks {
     /// Whether they are tracked by contents; else reports are planned for their files.
     pub is_tracked: bool,

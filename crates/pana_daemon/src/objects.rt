@@ -8,7 +8,7 @@ use std::io;
 use std::io::{Error, ErrorKind, Read};
 
 /// What the first bytes of a stream have shown.
-#[derive(Clone, Copy, Debug, PartialEq, Eq)]
+#[derive(Clone, Copy)]
 pub(crate) enum Opening {
     /// Nothing yet: there are blanks alone.
     Blank,

@@ -14,7 +14,7 @@ use std::time::{Clock, Duration};
 const PERIOD: u32 = 5;
 
 /// For how many seconds a client may keep others waiting.
-#[derive(Clone, Copy, Debug, PartialEq, Eq)]
+#[derive(Clone, Copy)]
 pub struct Patience {
     /// Until its first whole line has come, and with a write of an answer.
     pub hurry: u32,
@@ -25,6 +25,15 @@ pub struct Patience {
 /// This many seconds, but one at least: a socket takes 0 for no limit.
 fn seconds(count: u32) -> Duration {
     Duration::from_secs(u64::from(count.max(1)))
+}
+
+/// Whether the socket takes these limits, and sends each answer at once: without that, a client that sends several lines at
+/// once would wait for each answer.
+pub(crate) fn takes_limits(stream: &TcpStream, patience: Patience) -> bool {
+    let period = seconds(patience.hurry.min(patience.idle).min(PERIOD));
+    stream.set_nodelay(true).is_ok()
+        && stream.set_read_timeout(Some(period)).is_ok()
+        && stream.set_write_timeout(Some(period)).is_ok()
 }
 
 /// Whether a call on a socket came back since its time has passed; it may be made again where a signal cut it short.
@@ -48,7 +57,7 @@ pub struct Visit<'a, T, G> {
 }
 
 impl<'a, T: Clock, G: Supervisor> Visit<'a, T, G> {
-    /// The visit of a connection that the caller is to serve. Fails where the socket takes no limits.
+    /// The visit of a connection that the caller is to serve.
     pub(crate) fn new(
         rt: &'a T,
         supervisor: &'a G,
@@ -56,24 +65,25 @@ impl<'a, T: Clock, G: Supervisor> Visit<'a, T, G> {
         listener: &'a Mutex<CountedListener>,
         stream: TcpStream,
         patience: Patience,
-    ) -> io::Result<Visit<'a, T, G>> {
-        let period = seconds(patience.hurry.min(patience.idle).min(PERIOD));
-        stream.set_read_timeout(Some(period))?;
-        stream.set_write_timeout(Some(period))?;
+    ) -> Visit<'a, T, G> {
         supervisor.begin(caller);
-        Ok(Visit {
+        Visit {
             rt,
             supervisor,
             caller,
             listener,
             stream,
             patience,
-        })
+        }
     }
 
+    /// Reads, where it isn't to end.
     fn read(&self, buffer: &mut [u8]) -> io::Result<usize>
         ensures { ReadsAtMost result buffer.new }
     {
+        if self.supervisor.is_over() || self.supervisor.makes_way(self.caller) {
+            return Err(Error::from(ErrorKind::TimedOut));
+        }
         let mut stream = &self.stream;
         stream.read(buffer)
     }
@@ -85,25 +95,16 @@ impl<'a, T: Clock, G: Supervisor> Visit<'a, T, G> {
         stream.write(bytes)
     }
 
-    /// Fails where all sessions are to end.
-    fn stay(&self) -> io::Result<()> {
-        if self.supervisor.is_over() {
-            return Err(Error::from(ErrorKind::TimedOut));
-        }
-        Ok(())
-    }
-
-    /// Whether it is to end, since a question of its client has waited and kept others waiting.
-    fn makes_way(&self) -> bool {
-        self.supervisor.makes_way(self.caller)
+    /// Whether others wait, and this one has waited for its client since then for as long as it may.
+    fn is_late(&self, since: Duration, limit: u32) -> io::Result<bool> {
+        let now = self.rt.monotonic()?;
+        Ok(now >= since.saturating_add(seconds(limit)) && is_awaited(self.listener))
     }
 
     /// Fails where all sessions are to end, and where others wait and this one has waited for its client since then for
     /// as long as it may.
     fn go_on(&self, since: Duration, limit: u32) -> io::Result<()> {
-        self.stay()?;
-        let is_late = self.rt.monotonic()? >= since.saturating_add(seconds(limit));
-        if is_late && is_awaited(self.listener) {
+        if self.supervisor.is_over() || self.is_late(since, limit)? {
             return Err(Error::from(ErrorKind::TimedOut));
         }
         Ok(())
@@ -157,26 +158,26 @@ impl<'a, T: Clock, G: Supervisor> PatientReader<'a, T, G> {
         }
         self.wait_on()
     }
+
+    /// Goes on after a read that gave nothing, where that says no more than that its time has passed.
+    fn read_on(&mut self, error: Error) -> io::Result<()> {
+        if has_passed(error)? {
+            return self.wait_on();
+        }
+        Ok(())
+    }
 }
 
 impl<T: Wait + Clock, G: Supervisor> Read for PatientReader<'_, T, G> {
     fn read(&mut self, buffer: &mut [u8]) -> io::Result<usize> {
         let rt = self.visit.rt;
         for _ in rt.forever() {
-            self.visit.stay()?;
-            if self.visit.makes_way() {
-                return Err(Error::from(ErrorKind::TimedOut));
-            }
             match self.visit.read(buffer) {
                 Ok(count) => {
                     self.note(&buffer[..count])?;
                     return Ok(count);
                 }
-                Err(error) => {
-                    if has_passed(error)? {
-                        self.wait_on()?;
-                    }
-                }
+                Err(error) => self.read_on(error)?,
             }
         }
         unreachable!()

@@ -19,7 +19,7 @@ pub struct Root<'a> {
 }
 
 /// Why there are no roots.
-#[derive(Clone, Copy, Debug, PartialEq, Eq)]
+#[derive(Clone, Copy)]
 pub enum RootFault<'a> {
     /// This word names none.
     Bad(&'a str),

@@ -5,7 +5,7 @@ ghost use Rattle.pana_daemon.specs.Door.{TakesDrawn, new_door, new_hand};
 use crate::connection::Connection;
 use crate::door::Door;
 use crate::listener::CountedListener;
-use crate::patience::{Patience, PatientReader, PatientWriter, Visit};
+use crate::patience::{Patience, PatientReader, PatientWriter, Visit, takes_limits};
 use crate::supervisor::Supervisor;
 use pana_tickets::{Share, Tickets};
 use std::alloc::Global;
@@ -119,20 +119,17 @@ impl<'a, T: Wait + Clock, G: Supervisor> SocketDoor<'a, T, G> {
 
     /// The connection over this socket; none where the socket takes no limits, or an allocation fails.
     fn connection(&self, stream: TcpStream) -> Option<SocketConnection<'a, T, G>> {
-        // Without this, a client that sends several lines at once would wait for each answer.
-        let Ok(()) = stream.set_nodelay(true) else {
+        if !takes_limits(&stream, self.patience) {
             return None;
-        };
-        let Ok(visit) = Visit::new(
+        }
+        let visit = Visit::new(
             self.rt,
             self.supervisor,
             self.caller,
             self.listener,
             stream,
             self.patience,
-        ) else {
-            return None;
-        };
+        );
         let Ok(visit) = Arc::new(self.alloc, visit) else {
             return None;
         };

@@ -28,19 +28,26 @@ fn await_input(milliseconds: i32) -> bool {
     libc::net::poll(&mut asked, milliseconds) > 0
 }
 
-impl<T: Wait> Read for StandardInput<'_, '_, T> {
-    fn read(&mut self, buffer: &mut [u8]) -> io::Result<usize> {
-        if !self.alarm.ends_all() {
-            return self.rt.reader().read(buffer);
-        }
+impl<T: Wait> StandardInput<'_, '_, T> {
+    /// Waits until there may be input, and returns true; false once all is to end.
+    fn goes_on(&self) -> bool {
         for _ in self.threads.forever() {
             if self.alarm.is_closing() {
-                return Ok(0);
+                return false;
             }
             if await_input(PERIOD) {
-                return self.rt.reader().read(buffer);
+                return true;
             }
         }
         unreachable!()
+    }
+}
+
+impl<T: Wait> Read for StandardInput<'_, '_, T> {
+    fn read(&mut self, buffer: &mut [u8]) -> io::Result<usize> {
+        if self.alarm.ends_all() && !self.goes_on() {
+            return Ok(0);
+        }
+        self.rt.reader().read(buffer)
     }
 }

@@ -50,7 +50,7 @@ pub trait Supervisor {
 }
 
 /// A supervisor that lets all pass.
-#[derive(Clone, Copy, Debug, PartialEq, Eq)]
+#[derive(Clone, Copy)]
 pub struct IdleSupervisor;
 
 impl Supervisor for IdleSupervisor {

@@ -10,7 +10,7 @@ use std::thread;
 use std::time::{Clock, Duration};
 
 /// What a nap has shown.
-#[derive(Clone, Copy, PartialEq, Eq)]
+#[derive(Clone, Copy)]
 pub(crate) enum Nap {
     /// There are more ticks.
     More,

@@ -3,14 +3,14 @@ use Rattle.std.specs.Prelude.{◌≡◌, ℕ, List, ◌++◌, codes, decimal, le
 use Rattle.std.proofs.Common.{refl}
 use Rattle.pana_etcd.specs.Exchange.{request_text, token_line}
 use Rattle.pana_etcd.specs.Key.{end_of, in_base64, key_of}
-use Rattle.pana_etcd.specs.Request.{append_text, free_text, next_text, puts_text}
+use Rattle.pana_etcd.specs.Request.{append_text, free_text, next_text, puts_text, range_text}
 
-pub append_pieces : (name : List ℕ) (number : ℕ) (values : List (List ℕ)) (next puts key : List ℕ)
-    → next ≡ next_text name number → puts ≡ puts_text name number values → key ≡ in_base64 (key_of name number)
-    → codes "{\"compare\":[" ++ (next ++ (codes "],\"success\":[" ++ (puts ++ (codes "],\"failure\":[{\"requestRange\":{\"key\":\"" ++ (key ++ codes "\"}}]}")))))
+pub append_pieces : (name : List ℕ) (number : ℕ) (values : List (List ℕ)) (next puts range : List ℕ)
+    → next ≡ next_text name number → puts ≡ puts_text name number values → range ≡ range_text name number
+    → codes "{\"compare\":[" ++ (next ++ (codes "],\"success\":[" ++ (puts ++ (codes "],\"failure\":[{\"requestRange\":" ++ (range ++ codes "}]}")))))
     ≡ append_text name number values
 unfolding append_text
-append_pieces name number values next puts key first second third = rw (first, second, third) refl
+append_pieces name number values next puts range first second third = rw (first, second, third) refl
 
 pub free_pieces : (name : List ℕ) (number : ℕ) (key end : List ℕ)
     → key ≡ in_base64 (key_of name number) → end ≡ in_base64 (end_of name)

@@ -1,10 +1,10 @@
 -- What the bodies of answers say.
-use Rattle.std.specs.Prelude.{◌≡◌, ℕ, ◌+◌, ◌==◌, ◌&&◌, Bool, true, false, List, [], ◌∷◌, codes, length, Option, Some, None, is_some, option_and_then, option_map, Result, Ok, Err, if◌then◌else◌}
+use Rattle.std.specs.Prelude.{◌≡◌, ℕ, ◌+◌, ◌==◌, ◌&&◌, Bool, false, List, [], ◌∷◌, codes, length, Option, Some, None, is_some, option_and_then, option_map, Result, Ok, Err, if◌then◌else◌}
 use Rattle.std.specs.Str.{bytes_eq}
 use Rattle.base64.specs.GeneralPurpose.{decode_of}
 use Rattle.base64.specs.Engines.{standard}
 use Rattle.serde_json.specs.Data.{Data}
-use Rattle.serde_json.specs.Find.{get, as_array, as_bool, as_object}
+use Rattle.serde_json.specs.Find.{at, get, as_array, as_bool, as_object}
 use Rattle.pana_shared.specs.declared.read_fault.ReadFault.{ReadFault}
 use Rattle.pana_shared.specs.declared.read_fault.ReadFault.TheVariants.{NoAnswer, Foreign, OutOfMemory}
 use Rattle.pana_shared.specs.declared.record.Record.{Record}
@@ -45,6 +45,10 @@ answer_said body = do
 -- whether a transaction did what it was to do
 abbrev pub outcome_in : Data → Option Bool
 outcome_in d = flag_of (get (codes "succeeded") d)
+
+-- what the question in a transaction was answered: there is one where the transaction didn't do what it was to do
+abbrev pub found_in : Data → Option Data
+found_in d = option_and_then (get (codes "response_range")) (option_and_then (at 0) (get (codes "responses") d))
 
 -- a refusal says that there is no room for more
 abbrev pub is_full : Option (List ℕ) → Bool

@@ -1,5 +1,5 @@
 -- What is sent to a member.
-use Rattle.std.specs.Prelude.{◌≡◌, ℕ, List, ◌++◌, codes, decimal, length, Option, Some, None, []}
+use Rattle.std.specs.Prelude.{ℕ, List, ◌++◌, codes, decimal, length, Option, Some, None, []}
 
 -- the line by which who has logged in is known, if anybody has
 abbrev pub token_line : Option (List ℕ) → List ℕ

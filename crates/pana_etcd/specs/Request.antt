@@ -1,5 +1,5 @@
 -- The bodies of requests, in JSON.
-use Rattle.std.specs.Prelude.{◌≡◌, ℕ, ◌+◌, ◌-◌, nat_le, List, [], ◌∷◌, ◌++◌, if◌then◌else◌, codes}
+use Rattle.std.specs.Prelude.{ℕ, ◌+◌, ◌-◌, nat_le, List, [], ◌∷◌, ◌++◌, if◌then◌else◌, codes}
 use Rattle.pana_etcd.specs.Key.{end_of, in_base64, key_of}
 
 -- what puts a value under the key of a number
@@ -31,12 +31,6 @@ free_text name number =
 abbrev pub next_text : List ℕ → ℕ → List ℕ
 next_text name number = if nat_le number 1 then free_text name number else made_text name (number - 1) ++ (codes "," ++ free_text name number)
 
--- the body of a transaction: if the first number is that of the next record, put all of the values, and else return what stands there
-unfoldable pub append_text : List ℕ → ℕ → List (List ℕ) → List ℕ
-append_text name number values =
-    codes "{\"compare\":[" ++ (next_text name number ++ (codes "],\"success\":["
-    ++ (puts_text name number values ++ (codes "],\"failure\":[{\"requestRange\":{\"key\":\"" ++ (in_base64 (key_of name number) ++ codes "\"}}]}")))))
-
 -- the body of a question for a token, by which who logs in is known
 unfoldable pub login_text : List ℕ → List ℕ → List ℕ
 login_text user password = codes "{\"name\":\"" ++ (user ++ (codes "\",\"password\":\"" ++ (password ++ codes "\"}")))
@@ -45,3 +39,10 @@ login_text user password = codes "{\"name\":\"" ++ (user ++ (codes "\",\"passwor
 unfoldable pub range_text : List ℕ → ℕ → List ℕ
 range_text name number =
     codes "{\"key\":\"" ++ (in_base64 (key_of name number) ++ (codes "\",\"range_end\":\"" ++ (in_base64 (end_of name) ++ codes "\",\"limit\":\"1000\"}")))
+
+-- the body of a transaction: if the first number is that of the next record, put all of the values, and else answer the question for
+-- what stands there
+unfoldable pub append_text : List ℕ → ℕ → List (List ℕ) → List ℕ
+append_text name number values =
+    codes "{\"compare\":[" ++ (next_text name number ++ (codes "],\"success\":["
+    ++ (puts_text name number values ++ (codes "],\"failure\":[{\"requestRange\":" ++ (range_text name number ++ codes "}]}")))))

@@ -1,7 +1,7 @@
 //! What the bodies of answers say.
 ghost use Rattle.std.specs.Prelude.{◌≡◌, ◌<◌, ◌+◌, ◌^◌, IfOk, IfSome, Option, length, map, option_map, option_copied};
 ghost use Rattle.serde_json.specs.View.{view};
-ghost use Rattle.pana_etcd.specs.Answer.{FindsPage, FindsRecords, answer_said, bytes_in, flag_of, has_flag, has_header, has_list, has_none, is_answer, list_of, outcome_in, page_in, record_at, records_from, says_full};
+ghost use Rattle.pana_etcd.specs.Answer.{FindsPage, FindsRecords, answer_said, bytes_in, flag_of, found_in, has_flag, has_header, has_list, has_none, is_answer, list_of, outcome_in, page_in, record_at, records_from, says_full};
 ghost use Rattle.pana_etcd.specs.Says.{Gives, Shows};
 
 use crate::key::key_text;
@@ -83,6 +83,15 @@ pub(crate) fn read_outcome(answer: &Value) -> Option<bool>
     ensures { result ≡ outcome_in (view answer.now) }
 {
     flag_of(answer.get("succeeded"))
+}
+
+/// What the question in a transaction was answered, if it was asked.
+pub(crate) fn found_in(answer: &Value) -> Option<&Value>
+    ensures { option_map (λ value. view value.now) result ≡ found_in (view answer.now) }
+{
+    let responses = answer.get("responses")?;
+    let first = responses.get(0usize)?;
+    first.get("response_range")
 }
 
 fn flag_of(member: Option<&Value>) -> Option<bool>

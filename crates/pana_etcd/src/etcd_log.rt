@@ -1,11 +1,11 @@
 //! A log in etcd.
-ghost use Rattle.std.specs.Prelude.{◌≡◌, ◌≤◌};
+ghost use Rattle.std.specs.Prelude.{◌<◌, ◌≤◌, ◌^◌, Some};
 ghost use Rattle.serde_json.specs.View.{view};
-ghost use Rattle.pana_etcd.specs.Answer.{outcome_in};
-ghost use Rattle.pana_etcd.specs.Log.{appended_by};
+ghost use Rattle.pana_shared.specs.Log.{HasSome};
+ghost use Rattle.pana_etcd.specs.Log.{Comes, Stands};
 
 use crate::address::EtcdAddress;
-use crate::answer::{has_none, read_answer, read_outcome, read_page, says_full};
+use crate::answer::{found_in, has_none, read_answer, read_outcome, read_page, says_full};
 use crate::connect::Connect;
 use crate::exchange::{Link, Reply, Request};
 use crate::key::LAST;
@@ -210,13 +210,16 @@ impl<C: Connect> EtcdLog<C> {
     }
 
     /// What has come of a transaction that was refused for want of room: etcd may have carried it out all the same.
-    fn settle(&mut self, at: u64) -> Appended {
-        let Ok(body) = range_body(self.alloc, self.name.as_str(), at.saturating_add(1)) else {
+    fn settle(&mut self, number: u64) -> Appended
+        requires { number < 2 ^ 62 }
+        ensures { HasSome result }
+    {
+        let Ok(body) = range_body(self.alloc, self.name.as_str(), number) else {
             return Appended::Unknown;
         };
         match self.ask(RANGE, body.as_str()) {
             Ok(answer) if has_none(&answer) => Appended::Full,
-            Ok(_) => Appended::Taken,
+            Ok(answer) => what_stands(self.alloc, self.name.as_str(), number, &answer),
             Err(_) => Appended::Unknown,
         }
     }
@@ -323,14 +326,18 @@ impl<C: Connect> SharedLog for EtcdLog<C> {
         self.writer
     }
 
-    /// Appends at most 100 records. `Unknown` also where the request couldn't be made: memory ran out, or there are more.
+    /// Appends at most 100 records. `Unknown` also where the request couldn't be made: memory ran out, or there are more; and where
+    /// something stands there that couldn't be read.
     fn append(&mut self, at: u64, group: &[Record]) -> Appended {
+        if at >= LAST {
+            return Appended::Unknown;
+        }
         let Ok(body) = append_body(self.alloc, self.name.as_str(), at, group) else {
             return Appended::Unknown;
         };
         match self.ask(TXN, body.as_str()) {
-            Ok(answer) => outcome_of(&answer),
-            Err(Miss::Full) => self.settle(at),
+            Ok(answer) => outcome_of(self.alloc, self.name.as_str(), at + 1, &answer),
+            Err(Miss::Full) => self.settle(at + 1),
             Err(_) => Appended::Unknown,
         }
     }
@@ -350,13 +357,31 @@ impl<C: Connect> SharedLog for EtcdLog<C> {
     }
 }
 
-/// What has come of an append, by the answer to its transaction.
-fn outcome_of(answer: &Value) -> Appended
-    ensures { result ≡ appended_by (outcome_in (view answer.now)) }
+/// What has come of an append from this number on, by the answer to its transaction. Where it says that something stands there, and
+/// shows no records, nothing is known: who reads them finds out.
+fn outcome_of(alloc: Global, name: &str, number: u64, answer: &Value) -> Appended
+    requires { number < 2 ^ 62 }
+    ensures comes { Comes name.now number (view answer.now) result }
+    ensures some { HasSome result }
 {
     match read_outcome(answer) {
         Some(true) => Appended::Put,
-        Some(false) => Appended::Taken,
+        Some(false) => match found_in(answer) {
+            Some(found) => what_stands(alloc, name, number, found),
+            None => Appended::Unknown,
+        },
         None => Appended::Unknown,
+    }
+}
+
+/// What stands from this number on, by an answer to the question for it.
+fn what_stands(alloc: Global, name: &str, number: u64, answer: &Value) -> Appended
+    requires { number < 2 ^ 62 }
+    ensures stands { Stands name.now number (Some (view answer.now)) result }
+    ensures some { HasSome result }
+{
+    match read_page(alloc, name, number, answer) {
+        Ok(page) if !page.is_empty() => Appended::Taken(page),
+        _ => Appended::Unknown,
     }
 }

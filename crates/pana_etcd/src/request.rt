@@ -65,12 +65,12 @@ fn append_text(
 {
     let next = next_text(alloc, name, number)?;
     let puts = puts_text(alloc, name, number, values)?;
-    let key = key_text(alloc, name, number)?;
+    let range = range_body(alloc, name, number)?;
     let next = next.as_str();
     let puts = puts.as_str();
-    let key = key.as_str();
+    let range = range.as_str();
     format!(in alloc;
-        "{{\"compare\":[{next}],\"success\":[{puts}],\"failure\":[{{\"requestRange\":{{\"key\":\"{key}\"}}}}]}}"
+        "{{\"compare\":[{next}],\"success\":[{puts}],\"failure\":[{{\"requestRange\":{range}}}]}}"
     )
 }
 

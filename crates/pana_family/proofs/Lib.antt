@@ -23,6 +23,8 @@ pub mod Keeps
 pub mod Planned
 pub mod Exacts
 pub mod Followed
+pub mod United
+pub mod Removed
 pub mod Following
 pub mod Texts
 pub mod Able

@@ -5,22 +5,23 @@ ghost use Rattle.pana_family.specs.{Change.after, Change.number_of, Rows.IsRisin
 ghost use Rattle.pana_family.specs.inner.Comparing.{AreCompared, HasCopies, IsFollowed, is_other, most, relations, row_relation};
 
 use crate::change::{Change, Exchange, number_of};
+use crate::ordering::compare;
 use crate::report::FamilyReport;
 use crate::row::StampRow;
 use crate::searching::{index_of, is_copy, lives};
 use crate::stamps::all_valid;
+use crate::uniting::follow_union;
 use pana_event::Rel;
 use pana_rel::PairTable;
-use pana_stamp::Stamp;
 
 /// How the first row's copy relates to the second's.
 fn row_relation(first: &StampRow, second: &StampRow) -> Rel
     ensures { result ≡ row_relation first.now second.now }
 {
-    Stamp::compare(&first.stamp, &second.stamp)
+    compare(&first.stamp, &second.stamp)
 }
 
-fn is_other(row: &StampRow, copy: u64) -> bool
+pub fn is_other(row: &StampRow, copy: u64) -> bool
     ensures { result ≡ is_other copy row.now }
 {
     is_copy(row) && row.copy != copy
@@ -170,8 +171,8 @@ fn follow_back(rows: &[StampRow], pairs: &mut PairTable, back: &Change)
     }
 }
 
-/// Makes the table that of the rows, which this change would take back, where a report made them. Takes no memory; for an
-/// Edit, a Duplicate and a Touch it compares no stamps.
+/// Makes the table that of the rows, which this change would take back, where a report made them. Takes no memory; for a
+/// Reconcile and a Merge it compares stamps at most once for each other copy, one way, and for all else none.
 fn follow_report(
     rows: &[StampRow],
     pairs: &mut PairTable,
@@ -191,7 +192,10 @@ fn follow_report(
     match report {
         FamilyReport::Edit(copy) => pairs.edited(copy),
         FamilyReport::Duplicate(source) => pairs.insert_like(source, entry),
-        _ => follow_back(rows, pairs, back),
+        FamilyReport::Reconcile(a, b) => follow_union(rows, pairs, a, b, false),
+        FamilyReport::Merge(a, b) => follow_union(rows, pairs, a, b, true),
+        FamilyReport::Remove(copy, _) => pairs.drop_copy(copy),
+        FamilyReport::Touch(_) => follow_back(rows, pairs, back),
     }
 }
 

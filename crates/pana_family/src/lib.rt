@@ -18,12 +18,14 @@ mod family;
 mod fault;
 pub mod laws;
 mod making;
+mod ordering;
 mod report;
 mod reporting;
 mod row;
 mod searching;
 mod settling;
 mod stamps;
+mod uniting;
 
 pub use crate::board::{CopyCounts, FamilyBoard};
 pub use crate::change::Change;

@@ -2,9 +2,11 @@
 ghost use Rattle.std.specs.Prelude.{◌<◌, IfOk, length};
 
 use crate::fault::ProgramFault;
+use crate::folder_watch::FolderWatch;
 use crate::keeper::Keeper;
+use crate::naming::NamedFolder;
+use crate::naming_disk::NamingDisk;
 use crate::patterns::{OwnFile, is_within, passed_over, root_patterns, slices_of};
-use crate::progress::Progress;
 use crate::sums_file::{keep_sums, read_sums, sums_name};
 use pana_daemon::{Disks, PassedOver, Root, SystemDisks};
 use pana_scan::{KnownSums, QuickDisk, Sums};
@@ -31,6 +33,8 @@ pub struct ReadingWishes<'a> {
     pub reads_all: bool,
     /// Whether folders of other file systems than a root's are passed over.
     pub stays: bool,
+    /// Whether what is passed over is named on standard error.
+    pub is_verbose: bool,
 }
 
 /// What stands against the folders, if something does: one is no folder, or lies within another. A folder that isn't there is
@@ -89,52 +93,80 @@ fn disk_count<T: Threads>(threads: &T) -> usize {
     }
 }
 
-/// Disks by which files are looked at, each with these sums.
-fn many_disks<'a>(
+/// Disks by which files are looked at, each with these sums, on which the watch names what is passed over, where there is one.
+fn many_disks<'a, 'b, 'c>(
     rt: &HostRuntime,
     disks: &SystemDisks<'a, '_, '_, '_>,
     sums: &Sums,
+    watch: Option<&'b FolderWatch<'c>>,
     count: usize,
-) -> Result<Vec<QuickDisk<'a, HostRuntime>>, AllocError>
+) -> Result<Vec<NamingDisk<'b, 'c, QuickDisk<'a, HostRuntime>>>, AllocError>
     ensures { IfOk result (λ many. 0 < length many.items) }
 {
     let alloc = rt.alloc();
     let mut many = Vec::new(alloc);
     for _ in 1..count {
-        many.push(disks.disk(sums.share(alloc)?))?;
+        let disk = disks.disk(sums.share(alloc)?);
+        many.push(NamingDisk::new(alloc, disk, watch))?;
     }
-    many.push(disks.disk(sums.share(alloc)?))?;
+    let disk = disks.disk(sums.share(alloc)?);
+    many.push(NamingDisk::new(alloc, disk, watch))?;
     Ok(many)
 }
 
-/// Reads a folder on all processors, and keeps the sums of its files.
+/// The folder of a root, where what is passed over in it is to be named.
+fn named_folder<'a>(root: &'a Root<'_>, wishes: ReadingWishes<'_>) -> Option<NamedFolder<'a>> {
+    if !wishes.is_verbose {
+        return None;
+    }
+    Some(NamedFolder {
+        folder: root.folder,
+        device: Some(root.device.as_str()),
+    })
+}
+
+/// Reads a folder on all processors, and keeps the sums of its files. The watch follows.
+fn read_watched<T: Threads + Sync>(
+    rt: &HostRuntime,
+    threads: &T,
+    disks: &SystemDisks<'_, '_, '_, '_>,
+    root: &Root<'_>,
+    watch: &FolderWatch<'_>,
+    sums: &mut Sums,
+) -> Result<ReadFolder, AllocError> {
+    let alloc = rt.alloc();
+    let mut others = many_disks(rt, disks, sums, watch.naming(), disk_count(threads))?;
+    let given = read_tracked_in_threads(
+        threads,
+        alloc,
+        &mut NamingDisk::new(alloc, disks.disk(Sums::none(alloc)), None),
+        &mut NamingDisk::new(alloc, disks.disk(Sums::none(alloc)), watch.naming()),
+        &mut others,
+        &root.device,
+        root.folder,
+        disks.passed_over(root.folder),
+        watch,
+    );
+    for disk in others {
+        sums.take_in(&disks.sums_of(disk.into_disk()))?;
+    }
+    let device = root.device.copy_of();
+    Ok(ReadFolder { device, given })
+}
+
+/// Reads a folder, and shows meanwhile how far that is and, where it is wanted, what is passed over.
 fn read<T: Threads + Sync>(
     rt: &HostRuntime,
     threads: &T,
     disks: &SystemDisks<'_, '_, '_, '_>,
     root: &Root<'_>,
+    wishes: ReadingWishes<'_>,
     sums: &mut Sums,
 ) -> Result<ReadFolder, AllocError> {
-    let alloc = rt.alloc();
-    let progress = Progress::new(rt);
-    let mut others = many_disks(rt, disks, sums, disk_count(threads))?;
-    let given = read_tracked_in_threads(
-        threads,
-        alloc,
-        &mut disks.disk(Sums::none(alloc)),
-        &mut disks.disk(Sums::none(alloc)),
-        &mut others,
-        &root.device,
-        root.folder,
-        disks.passed_over(root.folder),
-        &progress,
-    );
-    progress.end();
-    for disk in others {
-        sums.take_in(&disks.sums_of(disk))?;
-    }
-    let device = root.device.copy_of();
-    Ok(ReadFolder { device, given })
+    let watch = FolderWatch::new(rt, named_folder(root, wishes));
+    let folder = read_watched(rt, threads, disks, root, &watch, sums);
+    watch.end()?;
+    folder
 }
 
 /// Reads the folders, one after another, without what is passed over there. Files that haven't changed since an earlier run
@@ -156,7 +188,7 @@ fn read_without<T: Threads + Sync>(
     let name = name.as_ref().map(|name| name.as_str());
     let mut sums = known_sums(rt, name, wishes.reads_all)?;
     for root in roots {
-        let folder = read(rt, threads, &disks, root, &mut sums)?;
+        let folder = read(rt, threads, &disks, root, wishes, &mut sums)?;
         if folders.push(folder).is_err() {
             return Err(ProgramFault::OutOfMemory);
         }

@@ -48,7 +48,12 @@ impl<'a> Progress<'a> {
 
     /// Takes the line away.
     pub fn end(self) {
-        if self.is_shown.load(Ordering::SeqCst) {
+        self.clear();
+    }
+
+    /// Takes the line away until it is shown again.
+    pub fn clear(&self) {
+        if self.is_shown.swap(false, Ordering::SeqCst) {
             let _ = eprint!(self.rt; "\r\x1b[K");
         }
     }

@@ -5,7 +5,7 @@ use Rattle.pana_hall.proofs.Words.{reverse-append, map-append, length-filter, ma
 use Rattle.pana_hall.proofs.Words.{TooDeep, KeptRows, ends_in, last_place, families, Copy, copies_of, copy_in, living, known_to, pending, is_last, displaced, taken, taken_from, taken_since}
 use Rattle.pana_hall.proofs.Words.{family_full, too_deep, pending_with, unknown, other_family, first, is_of, IsAccepted, layer, of_each, AreSpots, family_of, undone_of, families_of, rows_of}
 use Rattle.pana_hall.proofs.Words.{stamp_rows, spot_of, IsThere, other_there, filter-append, nat_tests, set_in, StandsFor, all_listed, listed, ListedFamily, begun, family_row, sets_at, StampRow}
-use Rattle.pana_hall.proofs.Words.{or_comm, cases_Bool, map-id, reverse-reverse, unknown_family, touch_in, of_known}
+use Rattle.pana_hall.proofs.Words.{seed_row, eq-eqb, or_comm, cases_Bool, map-id, reverse-reverse, unknown_family, touch_in, of_known}
 use Rattle.pana_copies.proofs.Kept.{one_place}
 use Rattle.pana_hall.proofs.Lists.{is_last_push, each_map, each_of, each_unmap, each_weaker, any_push, is_last-push, entry_at_place, slice_get-each, found_by}
 use Rattle.pana_hall.proofs.Sound.{accepted_is_sound, all_none, beside, living_fit, none_false}
@@ -15,6 +15,7 @@ use Rattle.pana_hall.proofs.Stood.{count_rows, copies_sets, layers_stand, lives_
 use Rattle.pana_hall.proofs.Ready.{place_spots, at_spots, family_of as family_of_copy, given_back}
 use Rattle.pana_hall.proofs.{Listed.entry_within, Moves.found_number, Knowns.IsCopyIn, Knowns.found_there, Knowns.set_known}
 use Rattle.pana_family.specs.Table as table
+use Rattle.pana_family.specs.{Board.board_newest, Board.board_split, Stands.AreSame, Table.Known}
 use Rattle.pana_family.specs.{Stamps.AreStamps, Stamps.stamps_in, Stamps.text_of}
 use Rattle.pana_calls.specs.{declared.copy_stamp.CopyStamp.CopyStamp}
 use Rattle.pana_hall.specs.{Stamps.AreStampsOf}
@@ -229,3 +230,13 @@ pub stamps_are : (journal : List Entry) (family : ℕ) (rows : List StampRow) (s
     → AreStamps (map text_of stamps) (table.copies_of (sets_at 0 family journal)) → AreStampsOf family journal stamps
 unfolding AreStampsOf
 stamps_are journal family rows stamps accepted rows_is texts are = grind (arith, nat_tests, copies_sets)
+
+-- the one copy of a new family is newest
+pub new_heads : (n : ℕ) (table : List Known) → StandsFor (seed_row n ∷ []) table → (1 ≡ length (board_newest table)) × (false ≡ board_split table)
+unfolding board_newest board_split
+new_heads n table stands = of_one table stands.same
+  where
+    of_one : (table : List Known) → AreSame (seed_row n ∷ []) table → (1 ≡ length (board_newest table)) × (false ≡ board_split table)
+    of_one [] same = absurd same
+    of_one (t ∷ []) same = grind (arith, nat_tests, eq-eqb)
+    of_one (t ∷ u ∷ table) same = absurd same.3

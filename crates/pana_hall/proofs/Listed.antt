@@ -1,10 +1,10 @@
 -- The families that have begun, as a hall keeps them.
-use Rattle.pana_hall.proofs.Words.{AreContents, Option, ◌≡◌, ℕ, ◌<◌, ◌≤◌, Bool, false, cond, ◌==◌, List, [], ◌∷◌, ◌++◌, map, filter, Some, None, option_map, option_and_then, ◌≢◌, zero, suc, ◌+◌, length, slice_get}
+use Rattle.pana_hall.proofs.Words.{IsStep, IsStepOf, Takes, AreContents, Option, ◌≡◌, ℕ, ◌<◌, ◌≤◌, Bool, false, cond, ◌==◌, List, [], ◌∷◌, ◌++◌, map, filter, Some, None, option_map, option_and_then, ◌≢◌, zero, suc, ◌+◌, length, slice_get}
 use Rattle.pana_hall.proofs.Words.{slice_index_or, is_none, then_some, bytes_eq, refl, sym, ap, ◌∙◌, subst, inl, inr, arith, append-nil, eqb-true, eq-eqb, cases_lt, slice_get_within, map-append}
 use Rattle.pana_hall.proofs.Words.{length-append, length-map, Entry, is_register, families, begun_or_joined, subject, Copy, copy_in, living, begun, holding, holdings, AreRising, family_of_next}
-use Rattle.pana_hall.proofs.Words.{AllByRecursion, nat_tests, Place, Table, kept, Report, Register, report_refusal, KeptRows, new_kept, IsFree, all_listed, listed, IsStepOf, ListedFamily, next_entry}
+use Rattle.pana_hall.proofs.Words.{AllByRecursion, nat_tests, Place, Table, kept, Report, Register, report_refusal, KeptRows, new_kept, IsFree, all_listed, listed, ListedFamily, next_entry}
 use Rattle.pana_hall.proofs.Words.{AreSpots, IsReady, IsReadyAt, families_of, family_of, position_for, entry_at, IsAccepted, slice_set, cases_order, get_or_from_slice_get, slice_get-map, map-set}
-use Rattle.pana_hall.proofs.Words.{set-get_or, IsStep, Takes, ArePlaced, position_of_subject, IsWithin}
+use Rattle.pana_hall.proofs.Words.{set-get_or, ArePlaced, position_of_subject, IsWithin}
 use Rattle.pana_hall.specs.{inner.Kept.IsKept, declared.next.Step.Step, declared.next.Step.TheVariants.Begin, declared.next.Step.TheVariants.Change, declared.next.Step.TheVariants.Settle, inner.Families.family_at, inner.Families.position_at}
 use Rattle.circular_buffer.proofs.Places.{slice_get-set_same}
 use Rattle.pana_hall.proofs.Lists.{rises_filter, each_filter, each_map, each_weaker, map_same, slice_get-each, entry_at_place, slice_get-append, slice_get-push, under, rises_map, found_by, at-append, none_under, rises_each, at-push}
@@ -94,6 +94,11 @@ pub step_takes : (entry : Entry) (len capacity : ℕ) (list : List ListedFamily)
     → IsStep entry len capacity list position copies step → Takes entry list position copies step
 step_takes entry len capacity list position copies step never is = grind (arith, nat_tests)
 
+pub takes_step : (entry : Entry) (len capacity : ℕ) (list : List ListedFamily) (position : ℕ) (copies : List Copy) (step : Step) → Takes entry list position copies step → IsStep entry len capacity list position copies step
+takes_step entry len capacity list position copies (Begin place) takes = absurd takes.is
+takes_step entry len capacity list position copies (Change change place before) takes = takes
+takes_step entry len capacity list position copies Settle takes = takes
+
 step_later : (entry : Entry) (it : ListedFamily) (copies : List Copy) (step : Step) → IsStepOf entry it copies step → is_register entry.report ≡ false
 step_later entry it copies step is = grind (arith, nat_tests)
 
@@ -152,9 +157,7 @@ module _ (list : List ListedFamily) {journal : List Entry} {by : List ℕ} {repo
 
   pub step_set : IsReadyAt journal by report (all_listed list) position copies → is_register report ≡ false → (entry : Entry) (lives : List Copy) (len capacity : ℕ) (after_it : ListedFamily) (step : Step) → IsStepOf entry after_it lives step
       → IsStep entry len capacity (slice_set list position after_it) position lives step
-  step_set ready later entry lives len capacity after_it (Begin place) is = absurd is
-  step_set ready later entry lives len capacity after_it (Change change place before) is = takes_set ready later entry lives after_it (Change change place before) is
-  step_set ready later entry lives len capacity after_it Settle is = takes_set ready later entry lives after_it Settle is
+  step_set ready later entry lives len capacity after_it step is = takes_step entry len capacity (slice_set list position after_it) position lives step (takes_set ready later entry lives after_it step is)
 
   pub position_within : IsReadyAt journal by report (all_listed list) position copies → is_register report ≡ false → position < length list
   position_within ready later = let there = found_there ready later in slice_get_within list position there.0 there.1
@@ -235,11 +238,6 @@ pub found_at : (journal : List Entry) (list : List KeptRows) (positions : List �
 found_at journal list positions n listed placed some within =
     let at = placed.at n some within in
     grind (arith, nat_tests, get_map)
-
--- with the copies in another table
-pub ready_same : {journal : List Entry} {by : List ℕ} {report : Report} {list : List KeptRows} {position : ℕ} {copies : Table} → IsReadyAt journal by report list position copies → (copies' : Table)
-    → ((number : ℕ) → kept copies' number ≡ kept copies number) → IsReadyAt journal by report list position copies'
-ready_same ready copies' same = grind (arith, nat_tests)
 
 module _ (journal : List Entry) (by : List ℕ) (report : Report) (list : List KeptRows) (positions : List ℕ) (copies : Table) (said : List (Option ℕ)) where
   -- a report has a position for its family

@@ -1,12 +1,11 @@
 -- Runs, and the journals that refuse none of their entries.
-use Rattle.pana_hall.proofs.Words.{nat_tests, arith, ◌≡◌, ℕ, ◌+◌, List, [], ◌∷◌, ◌++◌, length, None, ◌≤◌, refl, sym, ap, ◌∙◌, subst, inl, append-nil, append_assoc, Entry, Call}
+use Rattle.pana_hall.proofs.Words.{nat_tests, arith, ◌≡◌, ℕ, List, [], ◌∷◌, ◌++◌, length, None, ◌≤◌, refl, sym, ap, ◌∙◌, subst, inl, append-nil, append_assoc, Entry, Call}
 use Rattle.pana_hall.proofs.Words.{Cause, living, report_refusal, journal_from, RunsTo, Accepts, AcceptsAll, IsAccepted, map-append, AllByRecursion, families, AreRising, Exchange, IsRun, IsRunFrom}
 use Rattle.pana_hall.proofs.Words.{IsNumbered, IsOrderly, OutOfMemory}
 use Rattle.pana_calls.specs.declared.call.Call.TheVariants as calls
 use Rattle.pana_hall.specs.{Refusal.refusal, Permit.Permits, Permit.PermitsBy, Permit.journal_after}
 use Rattle.pana_calls.specs.{declared.reply.Reply.Reply, declared.reply.Reply.TheVariants.Done}
 use Rattle.pana_hall.specs.{declared.load_fault.LoadFault.LoadFault, Load.IsLoadFault}
-use Rattle.pana_calls.specs.{declared.reply.Reply.TheVariants.Refused}
 use Rattle.pana_calls.specs.declared.reply.Reply.TheVariants as replies
 use Rattle.pana_hall.proofs.{Lists.each_weaker, Sound.accepted_is_sound, Tables.merged, Places.accepted_is_apart}
 use Rattle.pana_hall.specs.declared.load_fault.LoadCause.TheVariants.{Refused as LoadRefused}
@@ -97,14 +96,6 @@ pub orderly : (most : ℕ) (journal : List Entry) → IsAccepted most journal �
 orderly most journal accepted =
     let all = merged most journal (accepted_is_sound most journal accepted) in
     grind (arith, nat_tests, accepted_is_apart, rising, numbers, each_weaker)
-
--- What a permitted reply to a report leaves.
-
--- an entry with the next number, whose report isn't refused, is the next entry
-pub entry_taken : (journal : List Entry) (entry : Entry) (reply : Reply) → entry.number ≡ length journal + 1 → Permits journal entry.by (calls.Report entry.report) reply
-    → ((c : Cause) → reply ≡ Refused c → ⊥) → journal_after journal entry.by (calls.Report entry.report) reply ≡ journal ++ entry ∷ []
-unfolding Permits journal_after
-entry_taken journal entry reply number permitted other = grind (arith, nat_tests)
 
 -- Entries that a hall recorded load again.
 

@@ -1,9 +1,9 @@
 -- Edits of two copies of one family, one behind the other.
-use Rattle.pana_hall.proofs.Words.{◌≡◌, ℕ, ◌+◌, ◌<◌, ◌≤◌, false, List, [], ◌∷◌, ◌++◌, length, Option, Some, None, IfSome, IsSome, option_and_then, option_map, cond}
-use Rattle.pana_hall.proofs.Words.{refl, sym, ap, ◌∙◌, subst, inl, inr, arith, nat_tests, ne_eqb, length-append, slice_get, slice_set, slice_index_or, map, map-set}
+use Rattle.pana_hall.proofs.Words.{AreSayings, IsStep, IsStepOf, Takes, ◌≡◌, ℕ, ◌+◌, ◌<◌, ◌≤◌, List, [], ◌∷◌, ◌++◌, length, Option, Some, None, IfSome, IsSome, option_and_then, option_map, cond}
+use Rattle.pana_hall.proofs.Words.{refl, sym, ap, ◌∙◌, subst, inl, inr, arith, nat_tests, ne_eqb, length-append, slice_get, slice_index_or}
 use Rattle.pana_hall.proofs.Words.{Entry, Report, Edit, Copy, copy_in, living, families, report_refusal, subject, family_report, FamilyReport, begun, next_entry, AreSpots, AreBefore, CanReport, Table, kept, is_register, is_of_copies}
-use Rattle.pana_hall.proofs.Words.{IsAccepted, IsReady, IsReadyAt, KeptRows, reported_kept, families_of, all_listed, listed, ListedFamily, family_of_next, AreRising, AreContents, AreSayings, content_at, said_in, first_said, second_said}
-use Rattle.pana_hall.proofs.Words.{zero, suc, cases_lt, spot_in, spot_of, vec_capacity, before_of, earlier, get_or_from_slice_get, Earlier, position_for, spot_after, begun_or_joined, say, all_written, IsWithin}
+use Rattle.pana_hall.proofs.Words.{IsAccepted, IsReady, KeptRows, reported_kept, families_of, all_listed, ListedFamily, AreRising, AreContents, content_at, said_in, first_said, second_said}
+use Rattle.pana_hall.proofs.Words.{true, zero, suc, cases_lt, spot_in, spot_of, vec_capacity, before_of, earlier, get_or_from_slice_get, Earlier, position_for, spot_after, begun_or_joined, say, all_written, IsWithin}
 use Rattle.pana_hall.specs.Living.{content_by}
 use Rattle.std.specs.Prelude.{vec_len}
 use Rattle.std.specs.Option.{option_or}
@@ -18,18 +18,18 @@ use Rattle.pana_hall.specs.declared.contents.Sayings.{Sayings}
 use Rattle.pana_hall.specs.inner.Contents.{said_by_sum, entry_of}
 use Rattle.pana_hall.specs.inner.Families.{position_at}
 use Rattle.pana_hall.specs.inner.Kept.{family_of as family_kept, IsKept as IsKeptOf}
-use Rattle.pana_hall.specs.inner.Listed.{IsPreparedAfter}
+use Rattle.pana_hall.specs.inner.Listed.{IsPreparedAfter, IsPreparedFor}
 use Rattle.pana_family.specs.declared.change.Change.{Change}
-use Rattle.pana_hall.specs.inner.Next.{AreTwo, IsSecond, IsStepAfter, TakesAfter}
+use Rattle.pana_hall.specs.inner.Next.{AreTwo, HasRoom, IsNext, IsSecond, IsStepAfter, TakesAfter, is_edit}
+use Rattle.pana_hall.specs.inner.State.{IsHeld}
+use Rattle.pana_hall.specs.declared.next.Step.TheVariants as steps
 use Rattle.pana_family.specs.After.{reported_rows}
-use Rattle.pana_family.specs.declared.report.FamilyReport.TheVariants as family
 use Rattle.pana_hall.proofs.Sound.{accepted_is_sound, family_new, family_old}
 use Rattle.pana_hall.proofs.Ready.{able_there, accepts_next, family_reported, new_there, own_is, spots_reported}
 use Rattle.pana_hall.proofs.Runs.{next_accepted}
-use Rattle.pana_hall.proofs.Histories.{family_other}
 use Rattle.pana_hall.proofs.Lists.{at-append, rises_each, slice_get-each}
 use Rattle.pana_hall.proofs.Places.{spots_next}
-use Rattle.pana_hall.proofs.Listed.{begun_later, begun_rises, found_entry, map_set, ready_at}
+use Rattle.pana_hall.proofs.Listed.{begun_rises, found_entry, takes_step}
 use Rattle.pana_hall.proofs.Said.{said_next}
 use Rattle.pana_hall.proofs.NextSaid.{next_sayings}
 
@@ -37,6 +37,20 @@ use Rattle.pana_hall.proofs.NextSaid.{next_sayings}
 pub after_at : {entry next : Entry} {list : List ListedFamily} {position : ℕ} {copies : List Copy} {step : Step} → TakesAfter entry next list position copies step → (it d : ListedFamily) → it ≡ slice_index_or list position d
     → IsStepAfter entry next it copies step
 after_at {entry} {next} {list} {position} {copies} {step} takes it d is = grind (arith, nat_tests, get_or_from_slice_get)
+
+-- what was prepared behind an entry is what the next one makes of the family, once the entry is made
+pub after_step : (entry next : Entry) (it made : ListedFamily) (lives : List Copy) (step : Step)
+    → ((of second : FamilyReport) (change : Change) → family_report entry.report ≡ Some of → IsPreparedAfter entry.number of next.number second change it → IsPreparedFor next.number second change made)
+    → IsStepAfter entry next it lives step → IsStepOf next made lives step
+after_step entry next it made lives (steps.Begin place) goes is = absurd is
+after_step entry next it made lives (steps.Change change place before) goes is = (is.2, is.3, goes is.0 is.2 change is.1 is.4, is.5, is.6)
+after_step entry next it made lives steps.Settle goes is = absurd is
+
+-- nothing is prepared behind an entry that says nothing of a family's copies
+pub never_after : (entry next : Entry) (it : ListedFamily) (lives : List Copy) (step : Step) → ((of : FamilyReport) → family_report entry.report ≡ Some of → ⊥) → IsStepAfter entry next it lives step → ⊥
+never_after entry next it lives (steps.Begin place) none is = is
+never_after entry next it lives (steps.Change change place before) none is = none is.0 is.1
+never_after entry next it lives steps.Settle none is = is
 
 abbrev pub entry_with : ℕ → List ℕ → Report → Entry
 entry_with n by report = record { number = n; by = by; report = report }
@@ -59,9 +73,6 @@ module _ (journal : List Entry) (by : List ℕ) (first second : Report) (accepte
 
   pub second_within : IsWithin journal two.b
   second_within = let there = has_copy (copy_in (living journal) two.b) two.second_lives in found_entry journal two.b there.0 accepted there.1
-
-  pub first_within : IsWithin journal two.a
-  first_within = let there = has_copy (copy_in (living journal) two.a) two.first_lives in found_entry journal two.a there.0 accepted there.1
 
   -- the second is of the first's family
   same_family : families next two.b ≡ families journal two.a
@@ -104,16 +115,6 @@ module _ (journal : List Entry) (by : List ℕ) (first second : Report) (accepte
         let before = before_of (Some (next_entry journal by first)) (living journal) in
         new_there (next_ready (reported_kept (n + 1) of before it) (first_made n n_is of about _ before refl refl)) (n + 1) (ap (λ k. k + 1) n_is ∙ sym longer)
 
-    -- the family, once both are made
-    pub both_made : (n : ℕ) → n ≡ length journal → (of second_of : FamilyReport) → family_report first ≡ Some of → family_report second ≡ Some second_of → (made last : KeptRows) (before then : Earlier)
-        → before ≡ before_of (Some (next_entry journal by first)) (living journal) → then ≡ before_of (Some (next_entry next by second)) (living next)
-        → made ≡ reported_kept (n + 1) of before it → last ≡ reported_kept (n + 1 + 1) second_of then made → last ≡ family_kept (with_report next by second) it.number
-    both_made n n_is of second_of about second_about made last before then before_is then_is made_is last_is =
-        let one = first_made n n_is of about made before before_is made_is in
-        family_reported (next_ready made one) second_about (n + 1) (ap (λ k. k + 1) n_is ∙ sym longer) last then then_is
-        (subst (λ o. IfSome o (λ f. last ≡ reported_kept (n + 1 + 1) f then made)) (sym second_about) last_is) (ap is_of_copies two.second_is)
-        ∙ ap (family_kept (with_report next by second)) (ap (λ k. k.number) made_is)
-
   -- what is said of the second's copy stays as it is
   pub said_other : (contents : List (Option ℕ)) → AreContents journal contents → content_at contents two.b ≡ said_in (living next) two.b
   said_other contents are =
@@ -121,48 +122,11 @@ module _ (journal : List Entry) (by : List ℕ) (first second : Report) (accepte
       sym (ap (λ r. say (second_said r) x (say (first_said (length journal + 1) r) x (content_at contents)) two.b) two.first_is ∙ ap (λ t. cond t x (content_at contents two.b)) (ne_eqb two.b two.a (λ h. two.other (sym h))))
       ∙ said_next journal by first contents x accepted free are (ap is_of_copies two.first_is) refl two.b
 
-  -- what is before each
-  pub before_first : (contents : List (Option ℕ)) (n : ℕ) → AreContents journal contents → earlier None (option_and_then (content_at contents) (first_said n first)) None ≡ before_of (Some (next_entry journal by first)) (living journal)
-  before_first contents n are =
-      ap (λ r. earlier None (option_and_then (content_at contents) (first_said n r)) None) two.first_is ∙ ap (λ x. earlier None x None) (are.at two.a)
-      ∙ ap (λ r. before_of (Some (next_entry journal by r)) (living journal)) (sym two.first_is)
-
+  -- what is before it
   pub before_second : (contents : List (Option ℕ)) (n : ℕ) → AreContents journal contents → earlier None (option_and_then (content_at contents) (first_said n second)) None ≡ before_of (Some (next_entry next by second)) (living next)
   before_second contents n are =
       ap (λ r. earlier None (option_and_then (content_at contents) (first_said n r)) None) two.second_is ∙ ap (λ x. earlier None x None) (said_other contents are)
       ∙ ap (λ r. before_of (Some (next_entry next by r)) (living next)) (sym two.second_is)
-
-  -- what is prepared for the second, at these numbers and reports
-  pub after_is : (it : ListedFamily) (change : Change) (n : ℕ) (of second_of a b : FamilyReport) → n ≡ length journal → family_report first ≡ Some of → family_report second ≡ Some second_of → family_report first ≡ Some a
-      → family_report second ≡ Some b → IsPreparedAfter (length journal + 1) a (length next + 1) b change it → IsPreparedAfter (n + 1) of (n + 1 + 1) second_of change it
-  after_is it change n of second_of a b n_is about second_about first_is second_is after =
-      let one : a ≡ of = cc in
-      let other : b ≡ second_of = cc in
-      subst (λ k. IsPreparedAfter (k + 1) of (k + 1 + 1) second_of change it) (sym n_is)
-      (subst (λ k. IsPreparedAfter (length journal + 1) of (k + 1) second_of change it) longer
-      (subst (λ f. IsPreparedAfter (length journal + 1) of (length next + 1) f change it) other (subst (λ f. IsPreparedAfter (length journal + 1) f (length next + 1) b change it) one after)))
-
-  -- the families, with theirs changed
-  pub both_set : (list : List ListedFamily) {position : ℕ} {copies : Table} → IsReadyAt journal by first (all_listed list) position copies → (it d last : ListedFamily) → it ≡ slice_index_or list position d
-      → listed last ≡ family_kept (with_report next by second) (listed it).number → all_listed (slice_set list position last) ≡ families_of (with_report next by second)
-  both_set list {position} {copies} ready it d last is made =
-      let entry = next_entry journal by first in
-      let more = next_entry next by second in
-      let own = family_of_next journal entry in
-      let later : is_register first ≡ false = ap is_register two.first_is in
-      let next_later : is_register second ≡ false = ap is_register two.second_is in
-      let sound = accepted_is_sound 8 journal accepted in
-      let next_sound = accepted_is_sound 8 next next_is_accepted in
-      let there = ready_at list ready later it d is in
-      let number : (listed it).number ≡ own = ap (λ (k : KeptRows). k.number) there.kept in
-      let same : family_of_next next more ≡ own = sym (ap (λ (k : KeptRows). k.number) (next_ready there (family_kept next (listed it).number) refl).kept) ∙ number in
-      map-set listed list position last
-      ∙ ap (λ (l : List KeptRows). slice_set l position (listed last)) ready.listed
-      ∙ ap (slice_set (families_of journal) position) (made ∙ ap (family_kept (with_report next by second)) number)
-      ∙ map_set (family_kept journal) (family_kept (with_report next by second)) 0 (begun journal) position own (begun_rises journal sound.rising) (ready.at later)
-      (λ k other. family_other k next more next_sound (accepts_next next by second behind) (λ h. other (sym h ∙ same)) ∙ family_other k journal entry sound (accepts_next journal by first free) (λ h. other (sym h)))
-      ∙ ap (map (family_kept (with_report next by second))) (sym (begun_later journal entry later))
-      ∙ ap (map (family_kept (with_report next by second))) (sym (begun_later next more next_later))
 
 -- Nothing stands against an Edit of a living copy, but that the journal is full.
 
@@ -180,10 +144,6 @@ edit_spots : (journal : List Entry) (by : List ℕ) (report : Report) (c : ℕ) 
 edit_spots journal by report c sum is accepted free number =
     spots_next 8 journal (next_entry journal by report) (accepted_is_sound 8 journal accepted) (accepts_next journal by report free) (ap is_of_copies is) number
     ∙ ap (λ r. spot_after (length journal + 1) r (spot_in (living journal)) number) is
-
-pub same_table : (journal : List Entry) (by : List ℕ) (report : Report) (c : ℕ) (sum : Option (List ℕ)) (copies : Table) → report ≡ Edit c sum → IsAccepted 8 journal → report_refusal 8 journal (living journal) by report ≡ None
-    → AreSpots journal copies → AreSpots (with_report journal by report) copies
-same_table journal by report c sum copies is accepted free spots number = spots number ∙ sym (edit_spots journal by report c sum is accepted free number)
 
 spot_lives : (copies : List Copy) (n : ℕ) → IsSome (spot_in copies n) → IsSome (copy_in copies n)
 spot_lives copies n some = by_copy (copy_in copies n) some
@@ -290,20 +250,42 @@ module _ (state : State) (first second : Next) (journal : List Entry) (by : List
       (subst (λ b. P journal b first.entry.report second.entry.report) (ap (λ (e : Entry). e.by) (sym first_is))
       (subst (λ r. P journal by r second.entry.report) (ap (λ (e : Entry). e.report) (sym first_is)) (subst (λ r. P journal by one r) (ap (λ (e : Entry). e.report) (sym second_is)) p)))
 
-  pub next_two : AreTwo journal one other → report_refusal 8 (with_report journal by one) (living (with_report journal by one)) by other ≡ None → 2 ≤ state.journal.room
-      → vec_len state.families.positions + 2 ≤ vec_capacity state.families.positions → vec_len state.contents.entries + 2 ≤ vec_capacity state.contents.entries
+  pub next_two : AreTwo journal one other → report_refusal 8 (with_report journal by one) (living (with_report journal by one)) by other ≡ None → second.position ≡ first.position → HasRoom 2 state
       → ((said : List (Option ℕ)) → AreContents (with_report journal by one) said → AreSayings (with_report journal by one) (next_entry (with_report journal by one) by other) said second.sayings)
       → TakesAfter (next_entry journal by one) (next_entry (with_report journal by one) by other) state.families.list.items first.position (living (with_report journal by one)) second.step → IsSecond state first second
-  next_two two free entries positions contents sayings step = record {
+  next_two two free position room sayings step = record {
     two = at_these (λ j b r s. AreTwo j r s) two;
     entry = at_these (λ j b r s. second.entry ≡ next_entry (with_report j b r) b s) second_is;
     free = at_these (λ j b r s. report_refusal 8 (with_report j b r) (living (with_report j b r)) b s ≡ None) free;
-    entries = entries;
-    positions = positions;
-    contents = contents;
+    position = position;
+    room = room;
     sayings = at_these (λ j b r s. (said : List (Option ℕ)) → AreContents (with_report j b r) said → AreSayings (with_report j b r) second.entry said second.sayings)
         (subst (λ e. (said : List (Option ℕ)) → AreContents (with_report journal by one) said → AreSayings (with_report journal by one) e said second.sayings) (sym second_is) sayings);
     step = at_these (λ j b r s. TakesAfter first.entry second.entry state.families.list.items first.position (living (with_report j b r)) second.step)
         (subst (λ e. TakesAfter e second.entry state.families.list.items first.position (living (with_report journal by one)) second.step) (sym first_is)
         (subst (λ e. TakesAfter (next_entry journal by one) e state.families.list.items first.position (living (with_report journal by one)) second.step) (sym second_is) step));
   }
+
+-- once the first is made, the second is the next
+pub second_next : (old new : State) (first second : Next) → IsHeld old → IsNext old first → IsSecond old first second → IsHeld new → new.journal.entries ≡ with_report old.journal.entries first.entry.by first.entry.report
+    → new.families.positions.items ≡ old.families.positions.items ++ first.position ∷ [] → HasRoom 1 new
+    → ((lives : List Copy) → TakesAfter first.entry second.entry old.families.list.items first.position lives second.step → Takes second.entry new.families.list.items first.position lives second.step) → IsNext new second
+second_next old new first second held is behind kept entries positions room goes =
+    let next = with_report old.journal.entries first.entry.by first.entry.report in
+    let list = new.families.list in
+    record {
+      number = ap (λ (e : Entry). e.number) behind.entry ∙ ap (λ j. length j + 1) (sym entries);
+      free = subst (λ j. report_refusal 8 j (living j) second.entry.by second.entry.report ≡ None) (sym entries)
+          (subst (λ b. report_refusal 8 next (living next) b second.entry.report ≡ None) (sym (ap (λ (e : Entry). e.by) behind.entry)) behind.free);
+      position = ap (λ l. position_for l new.families.positions.items second.entry.report) (kept.listed ∙ ap families_of entries)
+          ∙ ap (λ p. position_for (families_of next) p second.entry.report) positions
+          ∙ second_placed old.journal.entries first.entry.by first.entry.report second.entry.report (all_listed old.families.list.items) old.families.positions.items old.copies old.contents.entries.items first.position held behind.two is.position
+          ∙ ap (λ p. Some p) (sym behind.position);
+      room = room;
+      copies = λ no. absurd (let yes : is_edit second.entry.report ≡ true = ap is_edit behind.two.second_is in cc);
+      sayings = subst (λ j. AreSayings j second.entry new.contents.entries.items second.sayings) (sym entries)
+          (behind.sayings new.contents.entries.items (subst (λ j. AreContents j new.contents.entries.items) entries kept.contents));
+      step = subst (λ p. IsStep second.entry (vec_len list) (vec_capacity list) list.items p (living new.journal.entries) second.step) (sym behind.position)
+          (subst (λ j. IsStep second.entry (vec_len list) (vec_capacity list) list.items first.position (living j) second.step) (sym entries)
+          (takes_step second.entry (vec_len list) (vec_capacity list) list.items first.position (living next) second.step (goes (living next) behind.step)));
+    }

@@ -80,7 +80,7 @@ impl State {
         let mut rows = Vec::new(alloc);
         for it in self.families.as_slice() {
             if it.has_copies() {
-                rows.push(family_row(alloc, it)?)?;
+                rows.push(family_row(it)?)?;
             }
         }
         Ok(rows)
@@ -211,17 +211,17 @@ impl State {
     }
 }
 
-/// A family's row, read off its board.
+/// A family's row.
 #[tactic(auto, using(pana_family::proofs::Members::same_length, pana_family::proofs::BySets::same_copies))]
-fn family_row(alloc: Global, it: &ListedFamily) -> Result<FamilyRow, AllocError>
+fn family_row(it: &ListedFamily) -> Result<FamilyRow, AllocError>
     ensures { IfOk result (λ row. (table : List Known) → StandsFor (listed it.now).rows table → row ≡ row_of_sets (listed it.now).number table) }
 {
-    let board = it.board(alloc)?;
+    let (newest, split) = it.heads()?;
     Ok(FamilyRow {
         family: it.number(),
         copies: it.count() as u64,
-        newest: board.newest.as_slice().len() as u64,
-        split: board.split,
+        newest: newest as u64,
+        split,
     })
 }
 

@@ -4,9 +4,10 @@ ghost use Rattle.pana_copies.specs.Spots.{kept, place_of};
 ghost use Rattle.pana_family.specs.{Rows.AreBefore, Report.CanReport};
 ghost use Rattle.pana_family.specs.declared.report.FamilyReport.{FamilyReport as OfFamily};
 ghost use Rattle.pana_hall.specs.{Family.family_report, Refusal.displaced, inner.Undo.earlier_of, inner.Undo.last_place, inner.Undo.reported_kept, inner.Undo.withdrawn};
-ghost use Rattle.pana_hall.specs.{inner.Listed.IsGrown, inner.Listed.IsPreparedFor, inner.Listed.listed};
+ghost use Rattle.pana_hall.specs.{inner.Listed.IsGrown, inner.Listed.IsPreparedAfter, inner.Listed.IsPreparedFor, inner.Listed.listed};
 ghost use Rattle.pana_hall.specs.inner.Contents.{content_at, first_said, second_said};
 ghost use Rattle.pana_hall.specs.inner.Spots.{CanPlace, CanUndo, place_in, spot_after, undone_spot};
+ghost use Rattle.pana_hall.specs.inner.Next.{HasRoomFor};
 
 use crate::contents::{Contents, first_said, second_said};
 use crate::families::family_report;
@@ -84,7 +85,7 @@ fn place_copy(
     report: &Report,
     place: Option<Place>,
 )
-    requires room { 0 < copies.old.room }
+    requires room { HasRoomFor report.now copies.old }
     requires can { CanPlace entry report.now family copies.old }
     requires place { place ≡ place_in report.now }
     ensures { (number : ℕ) → kept copies.new number ≡ spot_after entry report.now (kept copies.old) number }
@@ -136,9 +137,10 @@ pub fn apply_change(
     requires change { (of : OfFamily) × (family_report report.now ≡ Some of) × IsPreparedFor entry of change it.old }
     requires place { place ≡ place_in report.now }
     requires can { CanPlace entry report.now (listed it.old).number copies.old }
-    requires room { 0 < copies.old.room }
+    requires room { HasRoomFor report.now copies.old }
     ensures family { IfSome (family_report report.now)
         (λ of. listed it.new ≡ reported_kept entry of (earlier_of before) (listed it.old)) }
+    ensures behind { (of second : OfFamily) (next : ℕ) (other : Change) → family_report report.now ≡ Some of → IsPreparedAfter entry of next second other it.old → IsPreparedFor next second other it.new }
     ensures spots { (number : ℕ) → kept copies.new number ≡ spot_after entry report.now (kept copies.old) number }
 {
     let family = it.number();

@@ -1,9 +1,8 @@
 ghost use Rattle.std.specs.Prelude.{◌≡◌, ◌≤◌, [], length, IfOk, OnErr};
 ghost use Rattle.pana_hall.specs.{Accepted.IsAccepted, Permit.Permits, Permit.journal_after, Refusal.refusal, Run.RunsTo};
 
-use crate::planning::Plan;
 use crate::state::State;
-use pana_calls::{Call, Cause, Query, Reply, Sighting};
+use pana_calls::{Call, Cause, Reply};
 use pana_copies::DeviceName;
 use pana_journal::Report;
 use std::alloc::{AllocError, Global};
@@ -33,7 +32,6 @@ impl Model for Hall {
 
 impl Hall {
     ghost use Rattle.pana_calls.specs.declared.call.Call.TheVariants as calls;
-    ghost use Rattle.pana_calls.specs.declared.reply.Reply.TheVariants as replies;
 
     /// A hall with no copy and the empty journal. Fails only where memory runs out.
     pub fn new(alloc: Global) -> Result<Hall, AllocError>
@@ -52,10 +50,9 @@ impl Hall {
         ensures permitted { Permits self.old by.now call result }
         ensures journal { self.new ≡ journal_after self.old by.now call result }
     {
-        match call {
-            Call::Report(report) => self.report(by, report),
-            Call::Sighting(sighting) => self.sighting(by, sighting),
-            Call::Query(query) => self.query(by, query),
+        match self.state.plan(self.alloc, by, call) {
+            Ok(plan) => self.state.commit_all(plan),
+            Err(reply) => reply,
         }
     }
 
@@ -91,51 +88,5 @@ impl Hall {
             replies.push_reserved(self.apply(&by, call));
         }
         Ok(replies)
-    }
-
-    #[tactic(auto, unfolding(crate::specs::Permit::Permits, crate::specs::Permit::journal_after, crate::specs::Refusal::refusal))]
-    fn report(&mut self, by: &DeviceName, report: Report) -> Reply
-        ensures permitted { Permits self.old by.now (calls.Report report) result }
-        ensures journal { self.new ≡ journal_after self.old by.now (calls.Report report) result }
-    {
-        match self.state.prepare(self.alloc, by, report) {
-            Ok(next) => Reply::Done {
-                entry: self.state.commit(next),
-            },
-            Err(cause) => Reply::Refused(cause),
-        }
-    }
-
-    fn sighting(&mut self, by: &DeviceName, sighting: Sighting) -> Reply
-        ensures permitted { Permits self.old by.now (calls.Sighting sighting) result }
-        ensures journal { self.new ≡ journal_after self.old by.now (calls.Sighting sighting) result }
-    {
-        match self.state.plan(self.alloc, by, sighting) {
-            Ok(
-                Plan {
-                    next,
-                    second,
-                    reply,
-                },
-            ) => {
-                self.state.commit_all(next, second);
-                reply
-            }
-            Err(reply) => reply,
-        }
-    }
-
-    #[tactic(auto, unfolding(crate::specs::Permit::Permits, crate::specs::Permit::journal_after, crate::specs::Refusal::refusal))]
-    pub(crate) fn query(&self, by: &DeviceName, query: Query) -> Reply
-        ensures permitted { Permits self.now by.now (calls.Query query) result }
-        ensures journal { self.now ≡ journal_after self.now by.now (calls.Query query) result }
-    {
-        if let Some(cause) = self.state.query_refusal(&query) {
-            return Reply::Refused(cause);
-        }
-        match self.state.answer(self.alloc, query) {
-            Ok(reply) => reply,
-            Err(_) => Reply::Refused(Cause::OutOfMemory),
-        }
     }
 }

@@ -102,6 +102,21 @@ impl ListedFamily {
         }
     }
 
+    /// How many copies are newest, and whether two of these are in conflict. Fails only where memory runs out.
+    #[tactic(auto, using(crate::proofs::Answered::new_heads))]
+    pub fn heads(&self) -> Result<(usize, bool), AllocError>
+        ensures newest { IfOk result (λ heads. (table : List Known) → StandsFor (listed self.now).rows table → heads.0 ≡ length (board_newest table)) }
+        ensures split { IfOk result (λ heads. (table : List Known) → StandsFor (listed self.now).rows table → heads.1 ≡ board_split table) }
+    {
+        match self {
+            ListedFamily::New(_) => Ok((1, false)),
+            ListedFamily::Changed(it) => {
+                let board = it.family().board()?;
+                Ok((board.newest.as_slice().len(), board.split))
+            }
+        }
+    }
+
     /// The text of each living copy's stamp, by rising number. Fails only where memory runs out.
     pub fn stamps(&self, alloc: Global) -> Result<PlainList<CopyStamp>, AllocError>
         ensures stands { IfOk result (λ stamps. (table : List Known) → StandsFor (listed self.now).rows table → AreStamps (map text_of stamps) (copies_of table)) }

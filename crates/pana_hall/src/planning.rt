@@ -1,16 +1,15 @@
-//! What a sighting's entries are to be: checked, with all memory that they take, before they are made.
-ghost use Rattle.std.specs.Prelude.{◌≡◌, ◌++◌, ◌∷◌, Option, None, IfOk, IfErr, option_map};
-ghost use Rattle.std.specs.Option.{option_to_list};
+//! What a call's entries are to be: checked, with all memory that they take, before they are made.
+ghost use Rattle.std.specs.Prelude.{◌≡◌, ◌++◌, IfOk, IfErr};
 ghost use Rattle.pana_calls.specs.declared.call.Call.TheVariants as calls;
 ghost use Rattle.pana_hall.specs.declared.decision.Decision.TheVariants.{Both, One};
-ghost use Rattle.pana_hall.specs.{Prepared.AnswersAt, Prepared.Prepares, inner.State.IsHeld};
+ghost use Rattle.pana_hall.specs.{Prepared.AnswersAt, Prepared.Prepares, Prepared.entries_of, inner.State.IsHeld};
 ghost use Rattle.pana_hall.specs.inner.Next.{ArePlanned, AreTwo, IsNext, IsSecond};
 ghost use Rattle.pana_hall.specs.inner.Plan.{IsPlanOf, Refuses, plan_view};
 
 use crate::decision::Decision;
 use crate::next::Next;
 use crate::state::State;
-use pana_calls::{Cause, Reply, Sighting};
+use pana_calls::{Call, Cause, Query, Reply, Sighting};
 use pana_copies::DeviceName;
 use pana_journal::Report;
 use std::alloc::Global;
@@ -75,12 +74,7 @@ impl State {
         }
     }
 
-    /// What is to be done of a device's sighting, with all memory that it takes. The journal stays as it is.
-    ///
-    /// # Errors
-    ///
-    /// The reply, where it makes no entry: it is known, or refused.
-    pub fn plan(
+    fn plan_sighting(
         &mut self,
         alloc: Global,
         by: &DeviceName,
@@ -101,20 +95,79 @@ impl State {
         }
     }
 
-    /// Makes the entries that were planned the next ones of the journal. Takes no memory.
-    pub fn commit_all(&mut self, next: Next, second: Option<Next>)
-        requires kept { IsHeld self.old }
-        requires planned { ArePlanned self.old next second }
-        ensures journal { self.new.journal.entries ≡ self.old.journal.entries ++ (next.entry ∷ option_to_list (option_map (λ it. it.entry) second)) }
+    #[tactic(auto, unfolding(crate::specs::Permit::Permits, crate::specs::Permit::journal_after, crate::specs::Refusal::refusal))]
+    fn plan_report(&mut self, alloc: Global, by: &DeviceName, report: Report) -> Result<Plan, Reply>
+        requires { IsHeld self.old }
+        ensures journal { self.new.journal.entries ≡ self.old.journal.entries }
         ensures kept { IsHeld self.new }
+        ensures planned { IfOk result (λ plan. ArePlanned self.new plan.next plan.second) }
+        ensures prepares { IfOk result (λ plan. Prepares self.old.journal.entries by.now (calls.Report report) (plan_view self.old.journal.entries plan)) }
+        ensures reply { IfErr result (λ reply. AnswersAt self.old.journal.entries by.now (calls.Report report) reply) }
     {
-        match second {
-            Some(second) => {
-                let _ = self.commit_two(next, second);
+        match self.prepare(alloc, by, report) {
+            Ok(next) => {
+                let entry = next.entry.number;
+                Ok(Plan {
+                    next,
+                    second: None,
+                    reply: Reply::Done { entry },
+                })
             }
-            None => {
-                let _ = self.commit(next);
-            }
+            Err(cause) => Err(Reply::Refused(cause)),
         }
+    }
+
+    #[tactic(auto, unfolding(crate::specs::Permit::Permits, crate::specs::Permit::journal_after, crate::specs::Refusal::refusal))]
+    fn reply_to(&self, alloc: Global, by: &DeviceName, query: Query) -> Reply
+        requires { IsHeld self.now }
+        ensures { AnswersAt self.now.journal.entries by.now (calls.Query query) result }
+    {
+        if let Some(cause) = self.query_refusal(&query) {
+            return Reply::Refused(cause);
+        }
+        match self.answer(alloc, query) {
+            Ok(reply) => reply,
+            Err(_) => Reply::Refused(Cause::OutOfMemory),
+        }
+    }
+
+    /// What is to be done of a device's call, with all memory that it takes. The journal stays as it is.
+    ///
+    /// # Errors
+    ///
+    /// The reply, where the call makes no entry: it is refused, or known, or a query that is answered.
+    pub fn plan(&mut self, alloc: Global, by: &DeviceName, call: Call) -> Result<Plan, Reply>
+        requires { IsHeld self.old }
+        ensures journal { self.new.journal.entries ≡ self.old.journal.entries }
+        ensures kept { IsHeld self.new }
+        ensures planned { IfOk result (λ plan. ArePlanned self.new plan.next plan.second) }
+        ensures prepares { IfOk result (λ plan. Prepares self.old.journal.entries by.now call (plan_view self.old.journal.entries plan)) }
+        ensures reply { IfErr result (λ reply. AnswersAt self.old.journal.entries by.now call reply) }
+    {
+        match call {
+            Call::Report(report) => self.plan_report(alloc, by, report),
+            Call::Sighting(sighting) => self.plan_sighting(alloc, by, sighting),
+            Call::Query(query) => Err(self.reply_to(alloc, by, query)),
+        }
+    }
+
+    /// Makes the entries that were planned the next ones of the journal, and returns the reply. Takes no memory.
+    pub fn commit_all(&mut self, plan: Plan) -> Reply
+        requires kept { IsHeld self.old }
+        requires planned { ArePlanned self.old plan.next plan.second }
+        ensures journal { self.new.journal.entries ≡ self.old.journal.entries ++ entries_of (plan_view self.old.journal.entries plan) }
+        ensures kept { IsHeld self.new }
+        ensures reply { result ≡ plan.reply }
+    {
+        let Plan {
+            next,
+            second,
+            reply,
+        } = plan;
+        let _ = self.commit(next);
+        if let Some(second) = second {
+            let _ = self.commit(second);
+        }
+        reply
     }
 }

@@ -2,12 +2,11 @@
 ghost use Rattle.std.specs.Prelude.{◌≡◌, [], ◌++◌, IfErr, IfOk, option_copied};
 
 use crate::hall::Hall;
-use crate::next::Next;
 use crate::planning::Plan;
 use crate::state::State;
-use pana_calls::{Call, Reply, Sighting};
+use pana_calls::{Call, Reply};
 use pana_copies::DeviceName;
-use pana_journal::{Entry, Report};
+use pana_journal::Entry;
 use std::alloc::Global;
 use std::marker::Model;
 use std::mem;
@@ -19,22 +18,20 @@ use std::mem;
 pub struct Prepared {
     alloc: Global,
     state: State,
-    next: Next,
-    second: Option<Next>,
-    reply: Reply,
+    plan: Plan,
 }
 
 impl Model for Prepared {
-    ghost use Rattle.std.specs.Prelude.{option_map};
     ghost use Rattle.pana_hall.specs.Prepared.{PreparedView};
+    ghost use Rattle.pana_hall.specs.inner.Plan.{plan_view};
     ghost use Rattle.pana_hall.specs.inner.State.{IsHeld};
     ghost use Rattle.pana_hall.specs.inner.Next.{ArePlanned};
 
     ghost Value = { PreparedView };
 
-    ghost view = { λ it. record { journal = it.state.journal.entries; entry = it.next.entry; second = option_map (λ next. next.entry) it.second; reply = it.reply } };
+    ghost view = { λ it. plan_view it.state.journal.entries it.plan };
 
-    ghost invariant = { λ it. IsHeld it.state × ArePlanned it.state it.next it.second };
+    ghost invariant = { λ it. IsHeld it.state × ArePlanned it.state it.plan.next it.plan.second };
 }
 
 /// A hall, and the reply that a call gets without an entry: it is refused, or known, or a query that is answered.
@@ -45,7 +42,6 @@ pub struct Unprepared {
 }
 
 impl Hall {
-    ghost use Rattle.pana_calls.specs.declared.call.Call.TheVariants as calls;
     ghost use Rattle.pana_hall.specs.Prepared.{AnswersAt, Prepares};
 
     /// Takes the hall, and leaves a new one with the empty journal. Takes no memory.
@@ -70,61 +66,11 @@ impl Hall {
         ensures hall { IfErr result (λ it. it.hall ≡ self) }
         ensures reply { IfErr result (λ it. AnswersAt self by.now call it.reply) }
     {
-        match call {
-            Call::Report(report) => self.prepare_report(by, report),
-            Call::Sighting(sighting) => self.prepare_sighting(by, sighting),
-            Call::Query(query) => {
-                let reply = self.query(by, query);
-                Err(Unprepared { hall: self, reply })
-            }
-        }
-    }
-
-    #[tactic(auto, unfolding(crate::specs::Permit::Permits, crate::specs::Permit::journal_after, crate::specs::Refusal::refusal))]
-    fn prepare_report(mut self, by: &DeviceName, report: Report) -> Result<Prepared, Unprepared>
-        ensures ok { IfOk result (Prepares self by.now (calls.Report report)) }
-        ensures hall { IfErr result (λ it. it.hall ≡ self) }
-        ensures reply { IfErr result (λ it. AnswersAt self by.now (calls.Report report) it.reply) }
-    {
-        match self.state.prepare(self.alloc, by, report) {
-            Ok(next) => Ok(Prepared {
+        match self.state.plan(self.alloc, by, call) {
+            Ok(plan) => Ok(Prepared {
                 alloc: self.alloc,
                 state: self.state,
-                reply: Reply::Done {
-                    entry: next.entry.number,
-                },
-                next,
-                second: None,
-            }),
-            Err(cause) => Err(Unprepared {
-                hall: self,
-                reply: Reply::Refused(cause),
-            }),
-        }
-    }
-
-    fn prepare_sighting(
-        mut self,
-        by: &DeviceName,
-        sighting: Sighting,
-    ) -> Result<Prepared, Unprepared>
-        ensures ok { IfOk result (Prepares self by.now (calls.Sighting sighting)) }
-        ensures hall { IfErr result (λ it. it.hall ≡ self) }
-        ensures reply { IfErr result (λ it. AnswersAt self by.now (calls.Sighting sighting) it.reply) }
-    {
-        match self.state.plan(self.alloc, by, sighting) {
-            Ok(
-                Plan {
-                    next,
-                    second,
-                    reply,
-                },
-            ) => Ok(Prepared {
-                alloc: self.alloc,
-                state: self.state,
-                next,
-                second,
-                reply,
+                plan,
             }),
             Err(reply) => Err(Unprepared { hall: self, reply }),
         }
@@ -138,14 +84,14 @@ impl Prepared {
     pub fn entry(&self) -> &Entry
         ensures { result.now ≡ self.now.entry }
     {
-        &self.next.entry
+        &self.plan.next.entry
     }
 
     /// The entry behind it, if there are two. Takes no memory.
     pub fn second(&self) -> Option<&Entry>
         ensures { option_copied result ≡ self.now.second }
     {
-        match &self.second {
+        match &self.plan.second {
             Some(next) => Some(&next.entry),
             None => None,
         }
@@ -159,11 +105,9 @@ impl Prepared {
         let Prepared {
             alloc,
             mut state,
-            next,
-            second,
-            reply,
+            plan,
         } = self;
-        state.commit_all(next, second);
+        let reply = state.commit_all(plan);
         (Hall { alloc, state }, reply)
     }
 

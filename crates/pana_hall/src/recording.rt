@@ -1,13 +1,15 @@
 //! What an accepted report makes of a journal, and of what is kept of it: the memory for it first, and then the entry, which can't
 //! fail.
-ghost use Rattle.std.specs.Prelude.{◌≡◌, ℕ, ◌+◌, ◌<◌, [], ◌∷◌, ◌++◌, length, ◌==◌, if◌then◌else◌, Some, None, false, IfOk, IfErr, vec_len, vec_capacity};
+ghost use Rattle.std.specs.Prelude.{◌≡◌, ℕ, ◌+◌, ◌<◌, [], ◌∷◌, ◌++◌, List, length, ◌==◌, if◌then◌else◌, Some, None, false, IfOk, IfErr, OnOk, vec_len, vec_capacity};
 ghost use Rattle.pana_copies.specs.Spots.{kept};
 ghost use Rattle.pana_hall.specs.{inner.Spots.IsFree, inner.Undo.new_kept, inner.Listed.IsGrown, inner.Listed.all_listed, inner.Listed.listed};
-ghost use Rattle.pana_hall.specs.{inner.State.IsHeld, inner.State.IsRefused, inner.State.Records, Effective.is_of_copies, Living.living};
+ghost use Rattle.pana_hall.specs.{inner.State.IsHeld, inner.State.IsRefused, inner.State.Records, Effective.is_of_copies, Living.Copy, Living.living};
 ghost use Rattle.pana_hall.specs.{Refusal.report_refusal};
-ghost use Rattle.pana_hall.specs.inner.Kept.{next_entry, AreSpots, IsReady, IsReadyAt, families_of, family_of};
+ghost use Rattle.pana_hall.specs.inner.Kept.{next_entry, AreSpots, IsReady, IsReadyAt, families_of, family_of, position_for};
 ghost use Rattle.pana_hall.specs.inner.Contents.{AreContents};
-ghost use Rattle.pana_hall.specs.inner.Next.{IsNext, IsStep, IsStepOf, Takes};
+ghost use Rattle.pana_hall.specs.inner.Next.{HasRoom, HasRoomFor, IsNext, IsSecond, IsStep, IsStepAfter, IsStepOf, Takes, TakesAfter};
+ghost use Rattle.pana_hall.specs.declared.{next.Next.Next as OneNext, next.Step.Step as OneStep};
+ghost use Rattle.pana_journal.specs.declared.entry.Entry.{Entry as OfJournal};
 
 use crate::changing::{apply_change, before, prepare_change, withdraw};
 use crate::contents::Contents;
@@ -90,7 +92,7 @@ fn settle(
     requires ready { IsReady journal.now.entries by.now report.now (listed it.old) copies.old }
     requires settles { is_of_copies report.now ≡ false }
     requires grown { IsGrown it.old }
-    requires room { 0 < copies.old.room }
+    requires room { HasRoomFor report.now copies.old }
     ensures family { listed it.new ≡ family_of (journal.now.entries ++ next_entry journal.now.entries by.now report.now ∷ []) (listed it.old).number }
     ensures spots { AreSpots (journal.now.entries ++ next_entry journal.now.entries by.now report.now ∷ []) copies.new }
 {
@@ -114,8 +116,9 @@ fn change_family(
 )
     requires ready { IsReady journal.now.entries by.now report.now (listed it.old) copies.old }
     requires step { IsStepOf (next_entry journal.now.entries by.now report.now) it.old (living journal.now.entries) step }
-    requires room { 0 < copies.old.room }
+    requires room { HasRoomFor report.now copies.old }
     ensures family { listed it.new ≡ family_of (journal.now.entries ++ next_entry journal.now.entries by.now report.now ∷ []) (listed it.old).number }
+    ensures behind { (entry : OfJournal) (lives : List Copy) (later : OneStep) → IsStepAfter (next_entry journal.now.entries by.now report.now) entry it.old lives later → IsStepOf entry it.new lives later }
     ensures spots { AreSpots (journal.now.entries ++ next_entry journal.now.entries by.now report.now ∷ []) copies.new }
 {
     match step {
@@ -161,8 +164,9 @@ fn make_step(
 )
     requires ready { IsReadyAt journal.now.entries by.now report.now (all_listed list.old.items) position copies.old }
     requires step { IsStep (next_entry journal.now.entries by.now report.now) (vec_len list.old) (vec_capacity list.old) list.old.items position (living journal.now.entries) step }
-    requires room { 0 < copies.old.room }
+    requires room { HasRoomFor report.now copies.old }
     ensures list { all_listed list.new.items ≡ families_of (journal.now.entries ++ next_entry journal.now.entries by.now report.now ∷ []) }
+    ensures behind { (entry : OfJournal) (lives : List Copy) (later : OneStep) → TakesAfter (next_entry journal.now.entries by.now report.now) entry list.old.items position lives later → Takes entry list.new.items position lives later }
     ensures spots { AreSpots (journal.now.entries ++ next_entry journal.now.entries by.now report.now ∷ []) copies.new }
 {
     match step {
@@ -176,6 +180,30 @@ fn make_step(
 }
 
 impl State {
+    /// Takes the memory for so many more entries, and for a copy more. Fails only where memory runs out.
+    pub fn reserve(&mut self, count: usize) -> Result<(), AllocError>
+        requires { IsHeld self.old }
+        ensures journal { self.new.journal.entries ≡ self.old.journal.entries }
+        ensures kept { IsHeld self.new }
+        ensures room { OnOk result (HasRoom count self.new) }
+        ensures copies { OnOk result (0 < self.new.copies.room) }
+    {
+        self.journal.reserve(count).map_err(|_| AllocError)?;
+        self.copies.reserve()?;
+        self.contents.reserve(count)?;
+        self.families.positions.reserve(count)
+    }
+
+    /// The position of the family of a report that nothing stands against. Takes no memory.
+    pub fn position_of_next(&self, by: &DeviceName, report: &Report) -> usize
+        requires kept { IsHeld self.now }
+        requires free { report_refusal 8 self.now.journal.entries (living self.now.journal.entries) by.now report.now ≡ None }
+        ensures at { position_for (all_listed self.now.families.list.items) self.now.families.positions.items report.now ≡ Some result }
+        ensures ready { IsReadyAt self.now.journal.entries by.now report.now (all_listed self.now.families.list.items) result self.now.copies }
+    {
+        self.families.position_for(report).unwrap()
+    }
+
     /// Takes the memory for a report that nothing stands against. Fails only where memory runs out.
     fn prepare_free(
         &mut self,
@@ -190,11 +218,8 @@ impl State {
         ensures entry { IfOk result (λ next. next.entry ≡ next_entry self.old.journal.entries by.now report) }
         ensures next { IfOk result (IsNext self.new) }
     {
-        self.journal.reserve(1).map_err(|_| AllocError)?;
-        self.copies.reserve()?;
-        self.contents.reserve(1)?;
-        self.families.positions.reserve(1)?;
-        let position = self.families.position_for(&report).unwrap();
+        self.reserve(1)?;
+        let position = self.position_of_next(by, &report);
         let list = &mut self.families.list;
         let step = prepare_step(
             alloc,
@@ -207,13 +232,8 @@ impl State {
             &report,
         )?;
         let sayings = self.sayings(by, &report);
-        let entry = Entry {
-            number: self.journal.length() + 1,
-            by: by.copy_of(),
-            report,
-        };
         Ok(Next {
-            entry,
+            entry: entry_of(self.journal.length() + 1, by, report),
             position,
             sayings,
             step,
@@ -242,7 +262,8 @@ impl State {
     pub fn commit(&mut self, next: Next) -> u64
         requires kept { IsHeld self.old }
         requires next { IsNext self.old next }
-        ensures { Records self.old.journal.entries next.entry.by next.entry.report result self.new }
+        ensures records { Records self.old.journal.entries next.entry.by next.entry.report result self.new }
+        ensures behind { (second : OneNext) → IsSecond self.old next second → IsNext self.new second }
     {
         let Next {
             entry: Entry { by, report, .. },
@@ -263,5 +284,16 @@ impl State {
         self.contents.push(sayings);
         self.families.positions.push_reserved(position);
         self.journal.append(by, report)
+    }
+}
+
+/// The entry with this number. Takes no memory.
+pub fn entry_of(number: u64, by: &DeviceName, report: Report) -> Entry
+    ensures { result ≡ record { number = number; by = by.now; report = report } }
+{
+    Entry {
+        number,
+        by: by.copy_of(),
+        report,
     }
 }

@@ -1,13 +1,12 @@
-//! Edits of two copies of one family, made as the next two entries of a journal, or neither: the memory for both first, and then
-//! the entries, which can't fail.
+//! Edits of two copies of one family that are to be the next two entries of a journal, or neither: the memory for both.
 ghost use Rattle.std.specs.Prelude.{◌≡◌, ◌⊎◌, ◌≤◌, ℕ, Option, Some, None, IfOk, IfErr, OnOk, option_and_then, option_map};
 ghost use Rattle.pana_hall.specs.{Living.living, Refusal.decision_refusal, Refusal.report_refusal, Refusal.with_report};
 ghost use Rattle.pana_hall.specs.declared.decision.Decision.TheVariants.{Both};
 ghost use Rattle.pana_calls.specs.declared.cause.Cause.TheVariants as causes;
-ghost use Rattle.pana_hall.specs.{inner.Listed.all_listed, inner.Listed.listed, inner.State.IsHeld, inner.State.Records};
+ghost use Rattle.pana_hall.specs.{inner.Listed.all_listed, inner.Listed.listed, inner.State.IsHeld};
 ghost use Rattle.pana_hall.specs.inner.Contents.{AreContents, all_written, content_at, first_said, said_by_sum, second_said};
 ghost use Rattle.pana_hall.specs.inner.Undo.{earlier, earlier_of};
-ghost use Rattle.pana_hall.specs.inner.Kept.{AreSpots, IsReady, IsReadyAt, families_of, family_of, next_entry};
+ghost use Rattle.pana_hall.specs.inner.Kept.{IsReady, IsReadyAt, next_entry};
 ghost use Rattle.pana_hall.specs.inner.Next.{AreTwo, IsNext, IsSecond, IsStepAfter, IsStepOf, Takes, TakesAfter};
 
 use crate::changing::said_by;
@@ -15,11 +14,12 @@ use crate::contents::{Contents, Sayings, first_said, sayings_of};
 use crate::families::family_report;
 use crate::listed_family::ListedFamily;
 use crate::next::{Next, Step};
+use crate::recording::entry_of;
 use crate::state::State;
 use crate::undo::Before;
 use pana_calls::Cause;
 use pana_copies::{CopyTable, DeviceName};
-use pana_journal::{Entry, Journal, Report};
+use pana_journal::{Journal, Report};
 use std::alloc::{AllocError, Global};
 
 /// How many entries a journal takes.
@@ -112,69 +112,6 @@ fn prepare_steps(
     prepare_edits(alloc, journal, by, it, copies, contents, first, second)
 }
 
-/// Makes both Edits of their family. Takes no memory.
-fn edit_twice(
-    journal: &Journal,
-    by: &DeviceName,
-    it: &mut ListedFamily,
-    copies: &CopyTable,
-    first: &Report,
-    change: Step,
-    second: &Report,
-    behind: Step,
-)
-    requires ready { IsReady journal.now.entries by.now first.now (listed it.old) copies.now }
-    requires two { AreTwo journal.now.entries first.now second.now }
-    requires free { report_refusal 8 (with_report journal.now.entries by.now first.now) (living (with_report journal.now.entries by.now first.now)) by.now second.now ≡ None }
-    requires change { IsStepOf (next_entry journal.now.entries by.now first.now) it.old (living journal.now.entries) change }
-    requires behind { IsStepAfter (next_entry journal.now.entries by.now first.now) (next_entry (with_report journal.now.entries by.now first.now) by.now second.now) it.old
-        (living (with_report journal.now.entries by.now first.now)) behind }
-    ensures { listed it.new ≡ family_of (with_report (with_report journal.now.entries by.now first.now) by.now second.now) (listed it.old).number }
-{
-    match (change, behind) {
-        (Step::Change(change, _, before), Step::Change(behind, _, later)) => {
-            let entry = journal.length() + 1;
-            it.apply(entry, family_report(first).unwrap(), change, before);
-            it.apply(entry + 1, family_report(second).unwrap(), behind, later);
-        }
-        _ => unreachable!(),
-    }
-}
-
-/// Makes both Edits of the families, of which theirs is at this position. Takes no memory.
-fn make_steps(
-    journal: &Journal,
-    by: &DeviceName,
-    list: &mut Vec<ListedFamily>,
-    position: usize,
-    copies: &CopyTable,
-    first: &Report,
-    change: Step,
-    second: &Report,
-    behind: Step,
-)
-    requires ready { IsReadyAt journal.now.entries by.now first.now (all_listed list.old.items) position copies.now }
-    requires two { AreTwo journal.now.entries first.now second.now }
-    requires free { report_refusal 8 (with_report journal.now.entries by.now first.now) (living (with_report journal.now.entries by.now first.now)) by.now second.now ≡ None }
-    requires change { Takes (next_entry journal.now.entries by.now first.now) list.old.items position (living journal.now.entries) change }
-    requires behind { TakesAfter (next_entry journal.now.entries by.now first.now) (next_entry (with_report journal.now.entries by.now first.now) by.now second.now) list.old.items
-        position (living (with_report journal.now.entries by.now first.now)) behind }
-    ensures { all_listed list.new.items ≡ families_of (with_report (with_report journal.now.entries by.now first.now) by.now second.now) }
-{
-    // whose contract says that the position is within the list
-    let _ = list.as_slice();
-    edit_twice(
-        journal,
-        by,
-        &mut list[position],
-        copies,
-        first,
-        change,
-        second,
-        behind,
-    )
-}
-
 impl State {
     /// Takes the memory for two Edits that nothing stands against. Fails only where memory runs out.
     fn prepare_free_two(
@@ -195,11 +132,8 @@ impl State {
         ensures next { IfOk result (λ made. IsNext self.new made.0) }
         ensures behind { IfOk result (λ made. IsSecond self.new made.0 made.1) }
     {
-        self.journal.reserve(2).map_err(|_| AllocError)?;
-        self.copies.reserve()?;
-        self.contents.reserve(2)?;
-        self.families.positions.reserve(2)?;
-        let position = self.families.position_for(&first).unwrap();
+        self.reserve(2)?;
+        let position = self.position_of_next(by, &first);
         let list = &mut self.families.list;
         let (change, behind) = prepare_steps(
             alloc,
@@ -258,55 +192,5 @@ impl State {
             Ok(next) => Ok(next),
             Err(_) => Err(Cause::OutOfMemory),
         }
-    }
-
-    /// Makes two Edits that were prepared the next entries of the journal, and returns the second's number. Takes no memory.
-    pub fn commit_two(&mut self, first: Next, second: Next) -> u64
-        requires kept { IsHeld self.old }
-        requires next { IsNext self.old first }
-        requires behind { IsSecond self.old first second }
-        ensures { Records (with_report self.old.journal.entries first.entry.by first.entry.report) first.entry.by second.entry.report result self.new }
-    {
-        let Next {
-            entry: Entry { by, report, .. },
-            position,
-            sayings,
-            step,
-        } = first;
-        let Next {
-            entry: Entry { report: later, .. },
-            sayings: behind,
-            step: last,
-            ..
-        } = second;
-        let list = &mut self.families.list;
-        make_steps(
-            &self.journal,
-            &by,
-            list,
-            position,
-            &self.copies,
-            &report,
-            step,
-            &later,
-            last,
-        );
-        self.contents.push(sayings);
-        self.contents.push(behind);
-        self.families.positions.push_reserved(position);
-        self.families.positions.push_reserved(position);
-        let same = by.copy_of();
-        let _ = self.journal.append(by, report);
-        self.journal.append(same, later)
-    }
-}
-
-fn entry_of(number: u64, by: &DeviceName, report: Report) -> Entry
-    ensures { result ≡ record { number = number; by = by.now; report = report } }
-{
-    Entry {
-        number,
-        by: by.copy_of(),
-        report,
     }
 }

@@ -3,7 +3,7 @@ ghost use Rattle.std.specs.Prelude.{◌≡◌, ◌+◌, [], ◌∷◌, ◌++◌,
 
 use crate::hall::Hall;
 use crate::load_fault::{LoadCause, LoadFault};
-use pana_calls::{Call, Cause, Reply};
+use pana_calls::Cause;
 use pana_journal::{Entry, EntryList};
 use std::alloc::Global;
 
@@ -35,6 +35,7 @@ impl Hall {
     }
 
     /// Takes the next entry of a journal. An entry that isn't the next one changes nothing.
+    #[tactic(auto, unfolding(crate::specs::Permit::Permits, crate::specs::Refusal::refusal))]
     fn take(&mut self, entry: Entry) -> Result<(), LoadFault>
         ensures ok { OnOk result (self.new ≡ self.old ++ entry ∷ []) }
         ensures accepted { IsAccepted 8 self.old }
@@ -48,12 +49,15 @@ impl Hall {
             });
         }
         let Entry { by, report, .. } = entry;
-        match self.apply(&by, Call::Report(report)) {
-            Reply::Refused(cause) => Err(LoadFault {
+        match self.state.prepare(self.alloc, &by, report) {
+            Ok(next) => {
+                let _ = self.state.commit(next);
+                Ok(())
+            }
+            Err(cause) => Err(LoadFault {
                 at,
                 cause: LoadCause::Refused(cause),
             }),
-            _ => Ok(()),
         }
     }
 }

@@ -1,5 +1,5 @@
 -- What the reply to a question says of the copy at a place.
-use Rattle.std.proofs.Common.{◌≡◌, ℕ, List, Option, Some, None, Result, Ok, Err, IfOk, refl, inl, inr}
+use Rattle.std.proofs.Common.{◌≡◌, ℕ, List, Option, Some, None, Result, Ok, Err, IfOk, IfErr, refl, sym, subst, inl, inr}
 use Rattle.pana_copies.specs.declared.place.Place.{Place}
 use Rattle.pana_journal.specs.declared.entry.Entry.{Entry}
 use Rattle.pana_calls.specs.declared.call.Call.TheVariants as calls
@@ -12,6 +12,9 @@ use Rattle.pana_hall.specs.Living.{living}
 use Rattle.pana_hall.specs.Permit.{Permits, PermitsBy, journal_after}
 use Rattle.pana_hall.specs.Refusal.{refusal}
 use Rattle.pana_hall.specs.Status.{standing_at}
+use Rattle.pana_history.specs.Why.{IsDamage}
+use Rattle.pana_history.specs.declared.why.Unexplained.{Unexplained}
+use Rattle.pana_history.specs.declared.why.Unexplained.TheVariants.{OutOfMemory}
 
 -- what follows for each result that is no error
 pub if_ok : {T E : Type 0} (P Q : T → Type 0) → ((x : T) → P x → Q x) → (r : Result T E) → IfOk r P → IfOk r Q
@@ -50,3 +53,8 @@ at_asked journal by place standing permits = at_by (refusal journal by (calls.Qu
 pub if_ok_both : {T E : Type 0} (P Q R : T → Type 0) → ((x : T) → P x → Q x → R x) → (r : Result T E) → IfOk r P → IfOk r Q → IfOk r R
 if_ok_both P Q R follows (Ok x) p q = follows x p q
 if_ok_both P Q R follows (Err e) p q = tt
+
+-- where memory runs out, nothing is said of the journal
+pub no_damage : {T : Type 0} (journal : List Entry) (r : Result T Unexplained) (fault : Unexplained) → r ≡ Err fault → fault ≡ OutOfMemory → IfErr r (IsDamage journal)
+no_damage {T} journal r fault is out =
+    subst (λ (r : Result T Unexplained). IfErr r (IsDamage journal)) (sym is) (subst (λ (e : Unexplained). IsDamage journal e) (sym out) tt)

@@ -20,7 +20,11 @@ groups_push y (first ∷ rows) row k at = ap (λ l. row_group y first ++ l) (gro
 behind : (new old text rest : List ℕ) → new ≡ old ++ text → new ++ rest ≡ old ++ (text ++ rest)
 behind new old text rest is = ap (λ l. l ++ rest) is ∙ append_assoc old text rest
 
--- six texts put one behind the other
+-- three texts put one behind the other
+pub three : (r0 r1 r2 r3 a b c : List ℕ) → r1 ≡ r0 ++ a → r2 ≡ r1 ++ b → r3 ≡ r2 ++ c → r3 ≡ r0 ++ (a ++ (b ++ c))
+three r0 r1 r2 r3 a b c e1 e2 e3 = e3 ∙ behind r2 r1 b c e2 ∙ behind r1 r0 a (b ++ c) e1
+
+-- and six
 pub six : (r0 r1 r2 r3 r4 r5 r6 a b c d e f : List ℕ) → r1 ≡ r0 ++ a → r2 ≡ r1 ++ b → r3 ≡ r2 ++ c → r4 ≡ r3 ++ d → r5 ≡ r4 ++ e → r6 ≡ r5 ++ f → r6 ≡ r0 ++ (a ++ (b ++ (c ++ (d ++ (e ++ f)))))
 six r0 r1 r2 r3 r4 r5 r6 a b c d e f e1 e2 e3 e4 e5 e6 =
     e6 ∙ behind r5 r4 e f e5 ∙ behind r4 r3 d (e ++ f) e4 ∙ behind r3 r2 c (d ++ (e ++ f)) e3 ∙ behind r2 r1 b (c ++ (d ++ (e ++ f))) e2 ∙ behind r1 r0 a (b ++ (c ++ (d ++ (e ++ f)))) e1

@@ -60,26 +60,30 @@ fn subject(report: &Report) -> Option<u64>
 fn without(alloc: Global, entries: Vec<Entry>, number: u64) -> Result<Vec<Entry>, AllocError>
     ensures { IfOk result (λ left. left.items ≡ filter (λ entry. not (number == entry.number)) entries.items) }
 {
-    let mut left = Vec::new(alloc);
-    for entry in entries {
-        if number != entry.number {
-            left.push(entry)?;
-        }
+    entries
+        .into_iter()
+        .filter(|entry| number != entry.number)
+        .collect(alloc)
+}
+
+/// The entries, and this one behind them, if it is one of them.
+fn with_entry(mut entries: Vec<Entry>, entry: Entry, is_own: bool) -> Result<Vec<Entry>, AllocError>
+    ensures { IfOk result (λ more. more.items ≡ (if is_own then entries.items ++ entry ∷ [] else entries.items)) }
+{
+    if is_own {
+        entries.push(entry)?;
     }
-    Ok(left)
+    Ok(entries)
 }
 
 /// The family's entries that count, once it has one entry more.
-fn with_next(alloc: Global, mut entries: Vec<Entry>, entry: Entry) -> Result<Vec<Entry>, AllocError>
+fn with_next(alloc: Global, entries: Vec<Entry>, entry: Entry) -> Result<Vec<Entry>, AllocError>
     ensures { IfOk result (λ more. more.items ≡ with_next entry entries.items) }
 {
-    match entry.report {
+    match &entry.report {
         Report::Confirm { .. } => Ok(entries),
-        Report::Withdraw { entry: number } => without(alloc, entries, number),
-        _ => {
-            entries.push(entry)?;
-            Ok(entries)
-        }
+        Report::Withdraw { entry: number } => without(alloc, entries, *number),
+        _ => with_entry(entries, entry, true),
     }
 }
 
@@ -118,16 +122,6 @@ pub fn family_entries(
     for entry in journal.into_vec() {
         let is_own = table.take(&entry)? == family;
         entries = with_own(alloc, entries, entry, is_own)?;
-    }
-    Ok(entries)
-}
-
-/// The entries, and this one behind them, if it is one of them.
-fn with_entry(mut entries: Vec<Entry>, entry: Entry, is_own: bool) -> Result<Vec<Entry>, AllocError>
-    ensures { IfOk result (λ more. more.items ≡ (if is_own then entries.items ++ entry ∷ [] else entries.items)) }
-{
-    if is_own {
-        entries.push(entry)?;
     }
     Ok(entries)
 }

@@ -12,15 +12,15 @@ use crate::row::Row;
 use crate::rows::rows_of;
 use crate::svg::svg_text;
 use crate::text::graph_text;
-use crate::why::{Unexplained, copy_of, load, standing_at};
+use crate::why::{Unexplained, hall_of, standing_at};
 use pana_ask::unknown_line;
 use pana_calls::{CopyStanding, Session};
 use pana_copies::{DeviceName, Place};
-use pana_journal::EntryList;
+use pana_journal::{Entry, EntryList};
 use std::alloc::{AllocError, Global};
 
 /// How a history is drawn.
-#[derive(Clone, Copy, Debug, PartialEq, Eq)]
+#[derive(Clone, Copy)]
 pub enum Form {
     /// As lines of text.
     Text,
@@ -29,7 +29,7 @@ pub enum Form {
 }
 
 /// What is said of a place.
-#[derive(Debug, Drop)]
+#[derive(Drop)]
 pub struct History {
     /// The history of the file whose copy is there, or that no copy is there.
     pub text: String,
@@ -80,6 +80,22 @@ fn history_at(
     }
 }
 
+/// How the copy at a place stands by a journal, if one is there.
+fn standing_by(
+    alloc: Global,
+    journal: &[Entry],
+    place: &Place,
+) -> Result<Option<CopyStanding>, Unexplained>
+    ensures standing { IfOk result (λ standing. standing ≡ standing_at (living journal.now) place.now) }
+    ensures accepted { IfOk result (λ standing. IsAccepted 8 journal.now) }
+    ensures damaged { IfErr result (IsDamage journal.now) }
+{
+    let mut hall = hall_of(alloc, journal)?;
+    let standing = standing_at(&mut hall, place);
+    drop(hall);
+    standing
+}
+
 /// What is said of a place by a journal.
 ///
 /// It takes memory for the journal twice, for its hall, and for a mark in each lane of each row.
@@ -96,12 +112,8 @@ pub fn draw(
     ensures ok { IfOk result (IsDrawn journal place.now form) }
     ensures damaged { IfErr result (IsDamage journal) }
 {
-    let entries = copy_of(alloc, journal.as_slice())?;
-    let mut hall = load(alloc, journal)?;
-    let standing = standing_at(&mut hall, &place.device, place)?;
-    // The contract of this call has that the hall refuses none of its entries.
-    let _ = hall.length();
-    Ok(history_at(alloc, entries, standing, place, form)?)
+    let standing = standing_by(alloc, journal.as_slice(), place)?;
+    Ok(history_at(alloc, journal, standing, place, form)?)
 }
 
 /// Asks a session for its journal, as the device `by`, and draws the history of the file whose copy is at the place: first a row

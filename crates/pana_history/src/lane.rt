@@ -9,7 +9,7 @@ use pana_journal::{Entry, Report};
 use std::alloc::{AllocError, Global};
 
 /// A copy of the file, and where it is, if it lives.
-#[derive(Debug, Drop)]
+#[derive(Drop)]
 pub(crate) struct Lane {
     pub(crate) copy: u64,
     pub(crate) place: Option<Place>,

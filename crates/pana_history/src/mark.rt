@@ -1,7 +1,7 @@
 //! What stands in a lane of a row.
 
 /// What is drawn over a lane's line.
-#[derive(Clone, Copy, Debug, PartialEq, Eq)]
+#[derive(Clone, Copy)]
 pub enum Sign {
     /// Nothing.
     Plain,
@@ -14,7 +14,7 @@ pub enum Sign {
 }
 
 /// What stands in a lane of a row.
-#[derive(Clone, Copy, Debug, PartialEq, Eq)]
+#[derive(Clone, Copy)]
 pub struct Mark {
     /// Whether the lane's copy lives before the row's entry.
     pub lives_before: bool,

@@ -5,7 +5,7 @@ use crate::mark::Mark;
 use std::marker::Model;
 
 /// A mark for each lane, a text, and whether the text is struck.
-#[derive(Debug, Drop)]
+#[derive(Drop)]
 pub(crate) struct Row {
     marks: Vec<Mark>,
     text: String,

@@ -102,11 +102,10 @@ fn marks_of(
 ) -> Result<Vec<Mark>, AllocError>
     ensures { IfOk result (λ marks. marks.items ≡ map (mark_of is_withdrawn entry.now) lanes.now) }
 {
-    let mut marks = Vec::with_capacity(alloc, lanes.len())?;
-    for lane in lanes {
-        marks.push(mark_of(is_withdrawn, entry, lane))?;
-    }
-    Ok(marks)
+    lanes
+        .iter()
+        .map(|lane| mark_of(is_withdrawn, entry, lane))
+        .collect(alloc)
 }
 
 /// The row of an entry, by the lanes before it and the entry that withdraws it.
@@ -124,24 +123,29 @@ fn entry_row(
     Ok(Row::new(marks, text, is_withdrawn))
 }
 
+/// The mark in a lane of the row that names the lane of this copy.
+fn head_mark(number: u64, lane: &Lane) -> Mark
+    ensures { result ≡ head_mark number lane.now }
+{
+    Mark {
+        lives_before: false,
+        lives_after: false,
+        sign: if lane.copy == number {
+            Sign::Named
+        } else {
+            Sign::Plain
+        },
+    }
+}
+
 /// The marks of the row that names a lane.
 fn head_marks(alloc: Global, number: u64, lanes: &[Lane]) -> Result<Vec<Mark>, AllocError>
     ensures { IfOk result (λ marks. marks.items ≡ map (head_mark number) lanes.now) }
 {
-    let mut marks = Vec::with_capacity(alloc, lanes.len())?;
-    for lane in lanes {
-        let sign = if lane.copy == number {
-            Sign::Named
-        } else {
-            Sign::Plain
-        };
-        marks.push(Mark {
-            lives_before: false,
-            lives_after: false,
-            sign,
-        })?;
-    }
-    Ok(marks)
+    lanes
+        .iter()
+        .map(|lane| head_mark(number, lane))
+        .collect(alloc)
 }
 
 /// The row that names a lane.

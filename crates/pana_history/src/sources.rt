@@ -31,13 +31,10 @@ pub(crate) fn reaches(report: &Report, sources: &[u64]) -> bool
 fn without(alloc: Global, sources: Vec<u64>, copy: u64) -> Result<Vec<u64>, AllocError>
     ensures { IfOk result (λ left. left.items ≡ without copy sources.items) }
 {
-    let mut left = Vec::new(alloc);
-    for source in sources {
-        if source != copy {
-            left.push(source)?;
-        }
-    }
-    Ok(left)
+    sources
+        .into_iter()
+        .filter(|source| *source != copy)
+        .collect(alloc)
 }
 
 /// The sources and this copy.

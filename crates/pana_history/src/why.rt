@@ -20,7 +20,7 @@ use pana_list::PlainList;
 use std::alloc::{AllocError, Global};
 
 /// What is said of two places.
-#[derive(Debug, Drop)]
+#[derive(Drop)]
 pub struct Explanation {
     /// A line for each update that one copy knows and the other lacks, or why there is none.
     pub text: String,
@@ -28,8 +28,15 @@ pub struct Explanation {
     pub is_of_one_file: bool,
 }
 
+/// How the copies at two places stand, where they are there.
+#[derive(Drop)]
+struct Standings {
+    ours: Option<CopyStanding>,
+    theirs: Option<CopyStanding>,
+}
+
 /// Why nothing is said.
-#[derive(Clone, Copy, Debug, PartialEq, Eq)]
+#[derive(Clone, Copy)]
 pub enum Unexplained {
     /// A question has no answer.
     NoAnswer,
@@ -129,7 +136,7 @@ fn unrelated(alloc: Global, first: &Place, second: &Place) -> Result<Explanation
 }
 
 /// The entries once more.
-pub(crate) fn copy_of(alloc: Global, entries: &[Entry]) -> Result<EntryList, AllocError>
+fn copy_of(alloc: Global, entries: &[Entry]) -> Result<EntryList, AllocError>
     ensures { IfOk result (λ copies. copies ≡ entries.now) }
 {
     let mut copies = Vec::new(alloc);
@@ -139,24 +146,8 @@ pub(crate) fn copy_of(alloc: Global, entries: &[Entry]) -> Result<EntryList, All
     Ok(PlainList::from_vec(copies))
 }
 
-/// How the copy at a place stands, if one is there.
-pub(crate) fn standing_at(
-    hall: &mut Hall,
-    by: &DeviceName,
-    place: &Place,
-) -> Result<Option<CopyStanding>, AllocError>
-    ensures standing { IfOk result (λ standing. standing ≡ standing_at (living hall.old) place.now) }
-    ensures hall { hall.new ≡ hall.old }
-{
-    let place = place.copy_of()?;
-    match hall.apply(by, Call::Query(Query::At { place })) {
-        Reply::At(standing) => Ok(standing),
-        _ => Err(AllocError),
-    }
-}
-
 /// The hall of a journal.
-pub(crate) fn load(alloc: Global, journal: EntryList) -> Result<Hall, Unexplained>
+fn load(alloc: Global, journal: EntryList) -> Result<Hall, Unexplained>
     ensures ok { IfOk result (λ hall. hall ≡ journal) }
     ensures damaged { IfErr result (IsDamage journal) }
 {
@@ -167,6 +158,64 @@ pub(crate) fn load(alloc: Global, journal: EntryList) -> Result<Hall, Unexplaine
         }
         Err(fault) => Err(Unexplained::Damaged(fault)),
     }
+}
+
+/// The hall of a journal, whose entries are made once more.
+pub(crate) fn hall_of(alloc: Global, journal: &[Entry]) -> Result<Hall, Unexplained>
+    ensures ok { IfOk result (λ hall. hall ≡ journal.now) }
+    ensures damaged { IfErr result (IsDamage journal.now) }
+{
+    let entries = copy_of(alloc, journal)?;
+    load(alloc, entries)
+}
+
+/// How the copy at a place stands, if one is there.
+pub(crate) fn standing_at(
+    hall: &mut Hall,
+    place: &Place,
+) -> Result<Option<CopyStanding>, Unexplained>
+    ensures standing { IfOk result (λ standing. standing ≡ standing_at (living hall.old) place.now) }
+    ensures accepted { IsAccepted 8 hall.old }
+    ensures hall { hall.new ≡ hall.old }
+    ensures err { IfErr result (λ fault. fault ≡ Unexplained.OutOfMemory) }
+{
+    // The contract of this call has that the hall refuses none of its entries.
+    let _ = hall.length();
+    let copy = place.copy_of()?;
+    match hall.apply(&place.device, Call::Query(Query::At { place: copy })) {
+        Reply::At(standing) => Ok(standing),
+        _ => Err(Unexplained::OutOfMemory),
+    }
+}
+
+/// How the copies at two places stand in a hall.
+fn standings_at(hall: &mut Hall, first: &Place, second: &Place) -> Result<Standings, Unexplained>
+    ensures ours { IfOk result (λ standings. standings.ours ≡ standing_at (living hall.old) first.now) }
+    ensures theirs { IfOk result (λ standings. standings.theirs ≡ standing_at (living hall.old) second.now) }
+    ensures accepted { IsAccepted 8 hall.old }
+    ensures err { IfErr result (λ fault. fault ≡ Unexplained.OutOfMemory) }
+{
+    let ours = standing_at(hall, first)?;
+    let theirs = standing_at(hall, second)?;
+    Ok(Standings { ours, theirs })
+}
+
+/// How the copies at two places stand by a journal.
+fn standings_by(
+    alloc: Global,
+    journal: &[Entry],
+    first: &Place,
+    second: &Place,
+) -> Result<Standings, Unexplained>
+    ensures ours { IfOk result (λ standings. standings.ours ≡ standing_at (living journal.now) first.now) }
+    ensures theirs { IfOk result (λ standings. standings.theirs ≡ standing_at (living journal.now) second.now) }
+    ensures accepted { IfOk result (λ standings. IsAccepted 8 journal.now) }
+    ensures damaged { IfErr result (IsDamage journal.now) }
+{
+    let mut hall = hall_of(alloc, journal)?;
+    let standings = standings_at(&mut hall, first, second);
+    drop(hall);
+    standings
 }
 
 /// What is said of two copies of one file.
@@ -259,13 +308,8 @@ pub fn explain(
     ensures ok { IfOk result (IsExplained journal first.now second.now) }
     ensures damaged { IfErr result (IsDamage journal) }
 {
-    let entries = copy_of(alloc, journal.as_slice())?;
-    let mut hall = load(alloc, journal)?;
-    let ours = standing_at(&mut hall, &first.device, first)?;
-    let theirs = standing_at(&mut hall, &first.device, second)?;
-    // The contract of this call has that the hall refuses none of its entries.
-    let _ = hall.length();
-    Ok(told(alloc, entries, ours, theirs, first, second)?)
+    let Standings { ours, theirs } = standings_by(alloc, journal.as_slice(), first, second)?;
+    Ok(told(alloc, journal, ours, theirs, first, second)?)
 }
 
 /// Asks a session for its journal, as the device `by`, and says what each of the copies at two places knows that the other lacks: a

@@ -73,9 +73,17 @@ pub record Asks (old : LogView) (at : ℕ) (group : List Record) (new : LogView)
   pub grows : Grows (asked old at group) [] new.records
   pub same : new ≡ record { records = new.records; writer = old.writer; at = at; loose = group ∷ loose_at at old }
 
--- what has come of it: the group stands there; or something does; or there is no room for more, and it never will; or nothing is known
+-- what has come of it: the group stands there; or a page of what does; or there is no room for more, and it never will; or nothing is
+-- known
 abbrev pub Appends : LogView → ℕ → List Record → Appended → LogView → Type 0
 Appends old at group Put new = Asks old at group new × IsAt at group new.records × (length old.records ≤ at)
-Appends old at group Taken new = Asks old at group new × (at < length new.records)
+Appends old at group (Taken page) new = Asks old at group new × IsAt at page.items new.records
 Appends old at group Full new = Reads old new
 Appends old at group Unknown new = Asks old at group new
+
+-- a page that is returned has a record
+abbrev pub HasSome : Appended → Type 0
+HasSome (Taken page) = page.items ≢ []
+HasSome Put = Unit {0}
+HasSome Full = Unit {0}
+HasSome Unknown = Unit {0}

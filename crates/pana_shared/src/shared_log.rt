@@ -1,16 +1,16 @@
 ghost use Rattle.std.specs.Prelude.{◌≡◌, ◌≢◌, ◌≤◌, Bool, IsTrue, [], length, IfOk, OnErr};
-ghost use Rattle.pana_shared.specs.Log.{LogView, IsAt, MayAppend, Appends, Reads};
+ghost use Rattle.pana_shared.specs.Log.{LogView, HasSome, IsAt, MayAppend, Appends, Reads};
 
 use crate::read_fault::ReadFault;
 use crate::record::Record;
 
 /// What has come of an append.
-#[derive(Clone, Copy, Debug, PartialEq, Eq)]
+#[derive(Debug, PartialEq, Eq, Drop)]
 pub enum Appended {
     /// The records were put.
     Put,
-    /// Something stands there.
-    Taken,
+    /// These stand there, or these and more behind them. They may be the group's own, where an answer was lost on the way.
+    Taken(Vec<Record>),
     /// What keeps the log takes no more, and the records won't be put.
     Full,
     /// Nothing is known of it: they may have been put, or be put later.
@@ -33,7 +33,8 @@ pub trait SharedLog {
     /// Appends records, all or none, where the log has just so many.
     fn append(&mut self, at: u64, group: &[Record]) -> Appended
         requires { IsTrue is_known → MayAppend (seen self.old) at group.now }
-        ensures { IsTrue is_known → Appends (seen self.old) at group.now result (seen self.new) };
+        ensures came { IsTrue is_known → Appends (seen self.old) at group.now result (seen self.new) }
+        ensures some { HasSome result };
 
     /// The records behind the first so many, or some of the next of them; none where there is none.
     fn read(&mut self, from: u64) -> Result<Vec<Record>, ReadFault>

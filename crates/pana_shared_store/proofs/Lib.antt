@@ -5,3 +5,4 @@ pub mod Readied
 pub mod Shortage
 pub mod Made
 pub mod Tried
+pub mod Filled

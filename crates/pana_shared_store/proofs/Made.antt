@@ -1,6 +1,7 @@
 -- A group that is put, and what stands in the log then.
 use Rattle.std.proofs.Common.{◌≡◌, ◌≢◌, ◌⊎◌, ℕ, ◌+◌, List, [], ◌∷◌, ◌++◌, length, Option, inl, inr, sym, ap, subst, ◌∙◌, append-nil}
 use Rattle.std.specs.Option.{option_to_list}
+use Rattle.std.specs.Global.{Vec}
 use Rattle.pana_journal.specs.declared.entry.Entry.{Entry}
 use Rattle.pana_hall.specs.Prepared.{PreparedView, entries_of}
 use Rattle.pana_shared.specs.declared.record.Record.{Record}
@@ -34,8 +35,8 @@ module _ (turn writer : ℕ) (old : List Entry) (before after : LogView) (store 
       (subst (λ (l : List Entry). AreFirst l after.records) (sym made) (page_first old (entries_of prepared) [] group after.records (still_first old before group after.records store.first grows) there (entries_are ∙ sym (append-nil (entries_of prepared)))))
 
   -- others stand there
-  pub store_others : (new : List Entry) → new ≡ old → Places before (length old) group Others after → IsStore new turn after
-  store_others new same (loosens, grows, within) =
+  pub store_others : (page : Vec Record) (new : List Entry) → new ≡ old → Places before (length old) group (Others page) after → IsStore new turn after
+  store_others page new same (loosens, grows, some_there, there) =
       store_asked turn old before after store ready group some of_turn loosens [] new grows tt ([], same ∙ sym (append-nil old)) (subst (λ (l : List Entry). AreFirst l after.records) (sym same) (still_first old before [] after.records store.first grows))
 
   -- nothing is known of it

@@ -86,7 +86,7 @@ put_before turn entries old made records first ready grows of_made =
     subst (λ (l : List Record). AreBefore turn l) (sym (ap (ours old.writer) grows.longer ∙ ours_both old.writer old.records grows.more ∙ ap (λ (l : List Record). ours old.writer old.records ++ l) grows.own))
     (before_both turn (ours old.writer old.records) (grows.landed ++ made) ready.put (before_both turn grows.landed made (landed_before turn entries old grows.landed records first ready.loose grows.lands) of_made))
 
-goes_on_within : (old new : List Entry) → GoesOn old new → length old ≤ length new
+pub goes_on_within : (old new : List Entry) → GoesOn old new → length old ≤ length new
 goes_on_within old new (others, is) = let l : length new ≡ length (old ++ others) = ap length is in let p : length (old ++ others) ≡ length old + length others = length-append old others in omega (arith, l, p)
 
 -- once the log was looked at

@@ -1,7 +1,8 @@
 -- What has come of one try, and of the tries behind it.
-use Rattle.std.proofs.Common.{◌≡◌, ◌⊎◌, ◌<◌, ◌≤◌, ℕ, ◌+◌, ◌==◌, Bool, List, [], ◌∷◌, ◌++◌, length, inl, inr, refl, sym, ap, subst, ◌∙◌, append-nil, append_assoc, length-append}
+use Rattle.std.proofs.Common.{◌≡◌, ◌≢◌, ◌⊎◌, ◌<◌, ◌≤◌, ℕ, ◌+◌, ◌==◌, Bool, List, [], ◌∷◌, ◌++◌, length, inl, inr, refl, sym, ap, subst, ◌∙◌, append-nil, append_assoc, length-append}
 use native.Mathlib.Omega.{arith}
 use Rattle.std.specs.Prelude.{IsTrue, IfOk, OnErr}
+use Rattle.std.specs.Global.{Vec}
 use Rattle.std.proofs.Common.{Result, Ok, Err}
 use Rattle.pana_shared.specs.declared.read_fault.ReadFault.{ReadFault}
 use Rattle.pana_journal.specs.declared.entry.Entry.{Entry}
@@ -15,13 +16,14 @@ use Rattle.pana_hall.specs.Permit.{Permits, journal_after}
 use Rattle.pana_hall.specs.Step.{Steps}
 use Rattle.pana_shared.specs.declared.record.Record.{Record}
 use Rattle.pana_shared.specs.Log.{Follows, Grows, HaveSome, IsAt, IsOneOf, LogView, loose_at, ours}
-use Rattle.pana_shared.proofs.Grown.{grows_on, one_of_kept}
+use Rattle.pana_shared.proofs.Grown.{at_within, grows_on, one_of_kept}
 use Rattle.pana_shared_store.specs.declared.making.Tried.TheVariants.{Made, Behind, Not}
-use Rattle.pana_shared_store.specs.Store.{AreFirst, Becomes, GoesOn, MakesBy, MakesOn, StaysOn, TriesBy, TriesOn, recorded}
-use Rattle.pana_shared_store.specs.inner.{AreBefore, IsReady, IsStore, LooksOn, TriesNone, TriesTo}
-use Rattle.pana_shared_store.proofs.Followed.{reads_none, reads_on}
+use Rattle.pana_shared_store.specs.declared.trying.Attempt.TheVariants.{Answered}
+use Rattle.pana_shared_store.specs.Store.{AreFirst, Becomes, GoesOn, MakesBy, MakesOn, StaysOn, TriesBy, TriesOn, entries_in, recorded}
+use Rattle.pana_shared_store.specs.inner.{AreBefore, Attempts, IsReady, IsStore, LooksOn, TriesNone, TriesTo}
+use Rattle.pana_shared_store.proofs.Followed.{looks_none, looks_page, reads_none, reads_on}
 use Rattle.pana_shared_store.proofs.Placed.{looked_on}
-use Rattle.pana_shared_store.proofs.Readied.{put_before, ready_looked}
+use Rattle.pana_shared_store.proofs.Readied.{goes_on_within, put_before, ready_looked}
 
 same_goes_on : (old new : List Entry) → new ≡ old → GoesOn old new
 same_goes_on old new same = ([], same ∙ sym (append-nil old))
@@ -50,19 +52,34 @@ module _ (is_known : Bool) (turn : ℕ) (old new : List Entry) (before after : L
     by_one group place (inr is) = inr is
 
   -- it was made
-  pub tried_made : (reply : Reply) → TriesTo is_known turn old before by call (Made reply) new after → MakesOn is_known turn old before by call (Given reply) new after
-  tried_made reply (made, is, steps, places) = record {
-    at = old;
-    goes_on = same_goes_on old old refl;
-    becomes = steps;
-    made = made;
-    makes = is;
-    all = λ known. (places known).3;
-    first = λ known. (store known).first;
-    own = λ known. (places known).1;
-    stands = λ known some. (places known).2;
-    follows = λ known. (((places known).0).writer, inl (let p = ((places known).0).place in let w = (places known).4 in omega (arith, p, w)));
-  }
+  pub tried_made : (reply : Reply) → (is_read : Bool) → TriesTo is_known turn old before by call (Made reply) new after → Attempts is_known turn is_read old before by call (Answered (Given reply)) new after
+  tried_made reply is_read (made, is, steps, places) = (
+    record {
+      at = old;
+      goes_on = same_goes_on old old refl;
+      becomes = steps;
+      made = made;
+      makes = is;
+      first = λ known. (store known).first;
+      own = λ known. (places known).1;
+      stands = λ known some. (places known).2;
+      follows = λ known. (((places known).0).writer, inl (let p = ((places known).0).place in let w = (places known).4 in omega (arith, p, w)));
+    },
+    λ known. inr (places known).3,
+  )
+
+pub at_some : (at : ℕ) (page records : List Record) → page ≢ [] → IsAt at page records → at < length records
+at_some at [] records some there = absurd (some refl)
+at_some at (r ∷ rest) records some there = at_within at r rest records there
+
+-- a page that isn't empty has entries to follow
+followed_some : (old mid new : List Entry) (page : List Record) → mid ≡ old → new ≡ mid ++ entries_in page → page ≢ [] → length old < length new
+followed_some old mid new [] same is some = absurd (some refl)
+followed_some old mid new (r ∷ page) same is some =
+    let l : length new ≡ length (mid ++ entries_in (r ∷ page)) = ap length is in
+    let p : length (mid ++ entries_in (r ∷ page)) ≡ length mid + length (entries_in (r ∷ page)) = length-append mid (entries_in (r ∷ page)) in
+    let s : length mid ≡ length old = ap length same in
+    omega (arith, l, p, s)
 
 within : (old : LogView) (made records : List Record) → Grows old made records → length old.records ≤ length records
 within old made records grows =
@@ -75,30 +92,30 @@ goes_from old mid new same (others, is) = (others, is ∙ ap (λ (l : List Entry
 
 module _ (is_known : Bool) (turn : ℕ) (old mid new : List Entry) (before between after : LogView) (by : List ℕ) (call : Call) (store : IsTrue is_known → IsStore old turn before) (ready : IsTrue is_known → IsReady turn old before) (looks : LooksOn is_known mid between new after) where
   -- others' entries stand there
-  pub behind_stays : TriesTo is_known turn old before by call Behind mid between → StaysOn is_known old before new after
-  behind_stays (group, same, places) = record {
-    goes_on = goes_from old mid new same looks.goes_on;
-    first = looks.first;
-    own = λ known. grows_on before between after.records (((places known).0).writer, inl (early known)) (places known).1 [] (store known).some (looks.reads known).grows;
-    follows = λ known. (
-      ap (λ (v : LogView). v.writer) (looks.reads known).same ∙ ((places known).0).writer,
-      inl (let e = early known in let w = within between [] after.records (looks.reads known).grows in let p : after.at ≡ between.at = ap (λ (v : LogView). v.at) (looks.reads known).same in omega (arith, e, w, p)),
-    );
-  } where
+  module _ (page : Vec Record) (tries : TriesTo is_known turn old before by call (Behind page) mid between) where
     early : IsTrue is_known → between.at < length between.records
-    early known = let p = ((places known).0).place in let w = (places known).2 in omega (arith, p, w)
+    early known = let places = tries.2 known in let p = (places.0).place in let w = at_some (length old) page.items between.records places.2 places.3 in omega (arith, p, w)
 
-  -- and once all of them are followed, it may be tried again
-  pub behind_ready : TriesTo is_known turn old before by call Behind mid between → (IsTrue is_known → length between.records ≤ length new) → IsTrue is_known → IsReady turn new after
-  behind_ready (group, same, places) all known =
-      let grows = grows_on before between after.records (((places known).0).writer, inl early) (places known).1 [] (store known).some (looks.reads known).grows in
-      record {
-        put = subst (λ (w : ℕ). AreBefore turn (ours w after.records)) (sym (ap (λ (v : LogView). v.writer) (looks.reads known).same ∙ ((places known).0).writer)) (put_before turn old before [] after.records (store known).first (ready known) grows tt);
-        loose = inl (let p : after.at ≡ between.at = ap (λ (v : LogView). v.at) (looks.reads known).same in let e = early in let a = all known in omega (arith, p, e, a));
-      }
-    where
-      early : between.at < length between.records
-      early = let p = ((places known).0).place in let w = (places known).2 in omega (arith, p, w)
+    pub behind_stays : StaysOn is_known old before new after
+    behind_stays = record {
+      goes_on = goes_from old mid new tries.1 looks.goes_on;
+      first = looks.first;
+      own = λ known. grows_on before between after.records (((tries.2 known).0).writer, inl (early known)) (tries.2 known).1 [] (store known).some (looks.reads known).grows;
+      follows = λ known. (
+        ap (λ (v : LogView). v.writer) (looks.reads known).same ∙ ((tries.2 known).0).writer,
+        inl (let e = early known in let w = within between [] after.records (looks.reads known).grows in let p : after.at ≡ between.at = ap (λ (v : LogView). v.at) (looks.reads known).same in omega (arith, e, w, p)),
+      );
+    }
+
+    -- and once one of them is followed, it may be tried again
+    pub behind_ready : new ≡ mid ++ entries_in page.items → IsTrue is_known → IsReady turn new after
+    behind_ready is known =
+        let places = tries.2 known in
+        let grows = grows_on before between after.records ((places.0).writer, inl (early known)) places.1 [] (store known).some (looks.reads known).grows in
+        record {
+          put = subst (λ (w : ℕ). AreBefore turn (ours w after.records)) (sym (ap (λ (v : LogView). v.writer) (looks.reads known).same ∙ (places.0).writer)) (put_before turn old before [] after.records (store known).first (ready known) grows tt);
+          loose = inl (let p : after.at ≡ between.at = ap (λ (v : LogView). v.at) (looks.reads known).same in let a = (places.0).place in let s = followed_some old mid new page.items tries.1 is places.2 in omega (arith, p, a, s));
+        }
 
   -- nothing was asked for
   pub not_stays : (answer : Answer) → TriesTo is_known turn old before by call (Not answer) mid between → StaysOn is_known old before new after
@@ -113,25 +130,42 @@ module _ (is_known : Bool) (turn : ℕ) (old mid new : List Entry) (before betwe
   not_ready answer (same, becomes, reads) known =
       ready_looked turn old new before after (store known).first (ready known) (reads_on before between after (store known).some (reads known) (looks.reads known)) (goes_from old mid new same looks.goes_on)
 
-  -- and nothing stands behind, so it has its answer
-  pub not_made : (answer : Answer) → TriesTo is_known turn old before by call (Not answer) mid between → (IsTrue is_known → length between.records ≤ length new) → length new ≡ length old → MakesOn is_known turn old before by call answer new after
-  not_made answer (same, becomes, reads) all even = record {
-    at = old;
-    goes_on = same_goes_on old old refl;
-    becomes = subst (λ (l : List Entry). Becomes old by call answer l) (same ∙ sym is_old) becomes;
-    made = [];
-    makes = is_old ∙ sym (append-nil old);
-    all = λ known. (let w = within before [] between.records (reads known).grows in let a = all known in omega (arith, w, a, even));
-    first = looks.first;
-    own = λ known. (reads_on before between after (store known).some (reads known) (looks.reads known)).grows;
-    stands = λ known some. absurd (some refl);
-    follows = λ known. looked_on before after (reads_on before between after (store known).some (reads known) (looks.reads known));
-  } where
+  -- and nothing stands behind, or all that was asked for was read before: it has its answer
+  pub not_made : (answer : Answer) → (is_read : Bool) → TriesTo is_known turn old before by call (Not answer) mid between → (IsTrue is_known → IsTrue is_read ⊎ (length between.records ≤ length new)) → length new ≡ length old → Attempts is_known turn is_read old before by call (Answered answer) new after
+  not_made answer is_read (same, becomes, reads) all even = (
+    record {
+      at = old;
+      goes_on = same_goes_on old old refl;
+      becomes = subst (λ (l : List Entry). Becomes old by call answer l) (same ∙ sym is_old) becomes;
+      made = [];
+      makes = is_old ∙ sym (append-nil old);
+      first = looks.first;
+      own = λ known. (reads_on before between after (store known).some (reads known) (looks.reads known)).grows;
+      stands = λ known some. absurd (some refl);
+      follows = λ known. looked_on before after (reads_on before between after (store known).some (reads known) (looks.reads known));
+    },
+    λ known. by_all known (all known),
+  ) where
+    by_all : IsTrue is_known → IsTrue is_read ⊎ (length between.records ≤ length new) → IsTrue is_read ⊎ (length before.records ≤ length old)
+    by_all known (inl read) = inl read
+    by_all known (inr a) = inr (let w = within before [] between.records (reads known).grows in omega (arith, w, a, even))
+
     is_old : new ≡ old
     is_old = by_others (looks.goes_on.0) (looks.goes_on.1) where
       by_others : (others : List Entry) → new ≡ mid ++ others → new ≡ old
       by_others [] is = is ∙ append-nil mid ∙ same
       by_others (x ∷ others) is = absurd (let l : length new ≡ length (mid ++ (x ∷ others)) = ap length is in let p : length (mid ++ (x ∷ others)) ≡ length mid + length (x ∷ others) = length-append mid (x ∷ others) in let s : length mid ≡ length old = ap length same in omega (arith, l, p, s, even))
+
+  -- or something does, and all of it that was there is followed
+  pub not_read : (answer : Answer) → TriesTo is_known turn old before by call (Not answer) mid between → (IsTrue is_known → length between.records ≤ length new) → IsTrue is_known → length before.records ≤ length new
+  not_read answer (same, becomes, reads) all known = let w = within before [] between.records (reads known).grows in let a = all known in omega (arith, w, a)
+
+-- what a page has that stands there is followed, or the first of it
+pub behind_looks : (is_known : Bool) (turn : ℕ) (old mid new : List Entry) (before between : LogView) (by : List ℕ) (call : Call) (page : Vec Record) (taken left : List Entry) → (IsTrue is_known → IsStore mid turn between)
+    → TriesTo is_known turn old before by call (Behind page) mid between → new ≡ mid ++ taken → entries_in page.items ≡ taken ++ left → LooksOn is_known mid between new between
+behind_looks is_known turn old mid new before between by call page taken left store (group, same, places) made parts =
+    looks_page is_known mid mid new between between between page.items taken left (λ known. (store known).some) (looks_none is_known mid between (λ known. (store known).first)) (λ known. reads_none between)
+    (λ known some. subst (λ (l : List Entry). IsAt (length l) page.items between.records) (sym same) (places known).3) made parts
 
 -- ---- the tries behind
 
@@ -147,19 +181,27 @@ goes_both : (old mid new : List Entry) → GoesOn old mid → GoesOn mid new →
 goes_both old mid new (first, is) (second, is_later) = (first ++ second, is_later ∙ ap (λ (l : List Entry). l ++ second) is ∙ append_assoc old first second)
 
 module _ (is_known : Bool) (turn : ℕ) (old mid new : List Entry) (before between after : LogView) (by : List ℕ) (call : Call) (some : IsTrue is_known → HaveSome before.loose) (stays : StaysOn is_known old before mid between) where
-  pub makes_on : (answer : Answer) → MakesOn is_known turn mid between by call answer new after → MakesOn is_known turn old before by call answer new after
-  makes_on answer makes = record {
+  pub makes_on : (answer : Answer) (is_read : Bool) → Attempts is_known turn is_read mid between by call (Answered answer) new after → (IsTrue is_read → IsTrue is_known → length before.records ≤ length mid) → MakesOn is_known turn old before by call answer new after
+  makes_on answer is_read (makes, all) read = record {
     at = makes.at;
     goes_on = goes_both old mid makes.at stays.goes_on makes.goes_on;
     becomes = makes.becomes;
     made = makes.made;
     makes = makes.makes;
-    all = λ known. (let w = within before [] between.records (stays.own known) in let a = makes.all known in omega (arith, w, a));
+    all = λ known. by_all known (all known);
     first = makes.first;
     own = λ known. grows_on before between after.records (stays.follows known) (stays.own known) (recorded before.writer turn makes.made) (some known) (subst (λ (w : ℕ). Grows between (recorded w turn makes.made) after.records) (stays.follows known).0 (makes.own known));
     stands = λ known some. subst (λ (w : ℕ). IsAt (length makes.at) (recorded w turn makes.made) after.records) (stays.follows known).0 (makes.stands known some);
     follows = λ known. follows_on before between after (within between (recorded between.writer turn makes.made) after.records (makes.own known)) (stays.follows known) (makes.follows known);
-  }
+  } where
+    by_all : IsTrue is_known → IsTrue is_read ⊎ (length between.records ≤ length makes.at) → length before.records ≤ length makes.at
+    by_all known (inl is) = let w = goes_on_within mid makes.at makes.goes_on in let r = read is known in omega (arith, w, r)
+    by_all known (inr a) = let w = within before [] between.records (stays.own known) in omega (arith, w, a)
+
+  -- what was read before is still followed, and what is read now has all that was there
+  pub read_again : (is_read : Bool) → StaysOn is_known mid between new after → IsTrue is_known → IsTrue is_read ⊎ (length between.records ≤ length new) → (IsTrue is_read → length before.records ≤ length mid) → length before.records ≤ length new
+  read_again is_read later known (inl was) read = let w = goes_on_within mid new later.goes_on in let r = read was in omega (arith, w, r)
+  read_again is_read later known (inr all) read = let w = within before [] between.records (stays.own known) in omega (arith, w, all)
 
   pub stays_on : StaysOn is_known mid between new after → StaysOn is_known old before new after
   stays_on later = record {

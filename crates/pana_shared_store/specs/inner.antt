@@ -1,19 +1,21 @@
 -- Words that only inner functions and proofs need: nobody has to believe them.
-use Rattle.std.specs.Prelude.{◌≡◌, ◌≢◌, ◌⊎◌, ◌<◌, ◌≤◌, ◌+◌, ℕ, Bool, true, false, IsTrue, List, [], ◌∷◌, ◌++◌, length}
+use Rattle.std.specs.Prelude.{◌≡◌, ◌≢◌, ◌⊎◌, ◌<◌, ◌≤◌, ◌+◌, ℕ, Bool, IsTrue, List, [], ◌∷◌, ◌++◌, length}
 use Rattle.std.specs.List.{AllByRecursion}
 use Rattle.pana_journal.specs.declared.entry.Entry.{Entry}
 use Rattle.pana_shared.specs.declared.record.Record.{Record}
+use Rattle.pana_calls.specs.declared.answer.Answer.{Answer}
 use Rattle.pana_calls.specs.declared.call.Call.{Call}
 use Rattle.pana_calls.specs.declared.reply.Reply.{Reply}
 use Rattle.pana_hall.specs.Step.{Steps}
-use Rattle.pana_shared.specs.Log.{Grows, HaveSome, IsAt, IsOneOf, LogView, Reads, loose_at, ours}
+use Rattle.pana_shared.specs.Log.{Follows, Grows, HaveSome, IsAt, IsOneOf, LogView, Reads, loose_at, ours}
 use Rattle.pana_shared_store.specs.declared.placing.Placed.{Placed}
 use Rattle.pana_shared_store.specs.declared.placing.Placed.TheVariants.{Ours, Others, Full}
 use Rattle.pana_shared_store.specs.declared.making.Tried.{Tried}
 use Rattle.pana_shared_store.specs.declared.making.Tried.TheVariants.{Made, Behind, Not}
 use Rattle.pana_shared_store.specs.declared.trying.Attempt.{Attempt}
 use Rattle.pana_shared_store.specs.declared.trying.Attempt.TheVariants as attempts
-use Rattle.pana_shared_store.specs.Store.{MakesOn, StaysOn, AreFirst, Becomes, GoesOn, recorded}
+use Rattle.pana_shared_store.specs.Store.{StaysOn, AreFirst, Becomes, GoesOn, recorded}
+use Rattle.pana_shared_store.specs.Fill.{Fills}
 
 -- the records are of earlier turns
 abbrev pub AreBefore : ℕ → List Record → Type 0
@@ -45,10 +47,11 @@ pub record LooksOn (is_known : Bool) (old : List Entry) (seen_old : LogView) (ne
   pub first : IsTrue is_known → AreFirst new seen_new.records
   pub reads : IsTrue is_known → Reads seen_old seen_new
 
--- whether it is this record that stands behind so many, or another
-abbrev pub Stands : Bool → ℕ → Record → List Record → Type 0
-Stands true at first records = (page : List Record) × IsAt at (first ∷ page) records
-Stands false at first records = (other : Record) × (page : List Record) × IsAt at (other ∷ page) records × (other ≢ first)
+-- whether a page, which stands where a group was to be put, is of the group: it begins with the same record, or with another
+abbrev pub IsPlaced : List Record → List Record → Placed → Type 0
+IsPlaced page group Ours = (r : Record) × (rest others : List Record) × (group ≡ r ∷ rest) × (page ≡ r ∷ others)
+IsPlaced page group (Others stand) = (r s : Record) × (rest others : List Record) × (group ≡ r ∷ rest) × (page ≡ s ∷ others) × (s ≢ r) × (stand.items ≡ page)
+IsPlaced page group Full = ⊥
 
 -- a group was asked for: no other is loose that wasn't
 pub record Loosens (old : LogView) (at : ℕ) (group : List Record) (new : LogView) : Type 0 where
@@ -59,7 +62,7 @@ pub record Loosens (old : LogView) (at : ℕ) (group : List Record) (new : LogVi
 -- what has come of a group that was to be put behind so many records
 abbrev pub Places : LogView → ℕ → List Record → Placed → LogView → Type 0
 Places old at group Ours new = Loosens old at group new × Grows old group new.records × IsAt at group new.records × (length old.records ≤ at) × (at < length new.records)
-Places old at group Others new = Loosens old at group new × Grows old [] new.records × (at < length new.records)
+Places old at group (Others page) new = Loosens old at group new × Grows old [] new.records × (page.items ≢ []) × IsAt at page.items new.records
 Places old at group Full new = Reads old new
 
 -- nothing is known of it
@@ -69,7 +72,7 @@ PlacesNone old at group new = Loosens old at group new × (Grows old [] new.reco
 -- what has come of a call that a hall was to make behind its entries
 abbrev pub TriesTo : Bool → ℕ → List Entry → LogView → List ℕ → Call → Tried → List Entry → LogView → Type 0
 TriesTo is_known turn old seen_old by call (Made reply) new seen_new = (made : List Entry) × (new ≡ old ++ made) × Steps old by call reply new × (IsTrue is_known → Places seen_old (length old) (recorded seen_old.writer turn made) Ours seen_new)
-TriesTo is_known turn old seen_old by call Behind new seen_new = (group : List Record) × (new ≡ old) × (IsTrue is_known → Places seen_old (length old) group Others seen_new)
+TriesTo is_known turn old seen_old by call (Behind page) new seen_new = (group : List Record) × (new ≡ old) × (IsTrue is_known → Places seen_old (length old) group (Others page) seen_new)
 TriesTo is_known turn old seen_old by call (Not answer) new seen_new = (new ≡ old) × Becomes old by call answer new × (IsTrue is_known → Reads seen_old seen_new)
 
 -- nothing is known of it
@@ -80,7 +83,27 @@ pub record TriesNone (is_known : Bool) (turn : ℕ) (old : List Entry) (seen_old
   pub steps : Steps old by call reply (old ++ asked)
   pub places : IsTrue is_known → PlacesNone seen_old (length old) (recorded seen_old.writer turn asked) seen_new
 
--- what has come of one try: the call has its answer; or others' entries have come, and it may be tried again
-abbrev pub Attempts : Bool → ℕ → List Entry → LogView → List ℕ → Call → Attempt → List Entry → LogView → Type 0
-Attempts is_known turn old seen_old by call (attempts.Answered answer) new seen_new = MakesOn is_known turn old seen_old by call answer new seen_new
-Attempts is_known turn old seen_old by call attempts.Behind new seen_new = StaysOn is_known old seen_old new seen_new × (IsTrue is_known → IsReady turn new seen_new)
+-- A call that is answered, as a call of a store is; but nothing is said of whether the journal that it is made on has all that the log had
+-- when the call began.
+pub record MakesLate (is_known : Bool) (turn : ℕ) (old : List Entry) (seen_old : LogView) (by : List ℕ) (call : Call) (answer : Answer) (new : List Entry) (seen_new : LogView) : Type 0 where
+  pub at : List Entry
+  pub goes_on : GoesOn old at
+  pub becomes : Becomes at by call answer new
+  pub made : List Entry
+  pub makes : new ≡ at ++ made
+  pub first : IsTrue is_known → AreFirst new seen_new.records
+  pub own : IsTrue is_known → Grows seen_old (recorded seen_old.writer turn made) seen_new.records
+  pub stands : IsTrue is_known → made ≢ [] → IsAt (length at) (recorded seen_old.writer turn made) seen_new.records
+  pub follows : IsTrue is_known → Follows seen_old seen_new
+
+-- What has come of one try: the call has its answer, behind all that the log had when the try began, unless enough was read before it;
+-- or others' entries have come and are followed, so it may be tried again, and enough is read then, or maybe not.
+abbrev pub Attempts : Bool → ℕ → Bool → List Entry → LogView → List ℕ → Call → Attempt → List Entry → LogView → Type 0
+Attempts is_known turn is_read old seen_old by call (attempts.Answered answer) new seen_new = (makes : MakesLate is_known turn old seen_old by call answer new seen_new) × (IsTrue is_known → IsTrue is_read ⊎ (length seen_old.records ≤ length makes.at))
+Attempts is_known turn is_read old seen_old by call (attempts.Again is_now) new seen_new = StaysOn is_known old seen_old new seen_new × (IsTrue is_known → IsReady turn new seen_new) × (IsTrue is_now → IsTrue is_known → IsTrue is_read ⊎ (length seen_old.records ≤ length new))
+
+-- these entries are in a log that had none when the writer began, put by so many turns, and nothing else may come of the writer
+pub record HasFilled (start : LogView) (done : List Entry) (turn : ℕ) (view : LogView) : Type 0 where
+  pub fills : Fills start done view
+  pub store : IsStore done turn view
+  pub idle : (view.at < length view.records) ⊎ (view.loose ≡ [])

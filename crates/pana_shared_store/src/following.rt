@@ -59,7 +59,11 @@ fn why_not(reply: Reply, number: u64) -> ReadFault {
 /// # Errors
 ///
 /// As `follow`, at the first that can't be followed. Those before it are the next ones.
-fn follow_page(alloc: Global, hall: &mut Hall, page: Vec<Record>) -> Result<(), ReadFault>
+pub(crate) fn follow_page(
+    alloc: Global,
+    hall: &mut Hall,
+    page: Vec<Record>,
+) -> Result<(), ReadFault>
     ensures ok { OnOk result (hall.new ≡ hall.old ++ entries_in page.items) }
     ensures err { OnErr result ((taken : List Entry) × (left : List Entry) × (hall.new ≡ hall.old ++ taken) × (entries_in page.items ≡ taken ++ left)) }
 {

@@ -2,6 +2,8 @@
 #![tactic(auto)]
 
 mod committing;
+mod fill_fault;
+mod filling;
 mod following;
 mod making;
 mod placing;
@@ -9,4 +11,6 @@ mod same;
 mod store;
 mod trying;
 
+pub use crate::fill_fault::FillFault;
+pub use crate::filling::fill;
 pub use crate::store::SharedStore;

@@ -19,8 +19,8 @@ use std::alloc::{AllocError, Global};
 pub(crate) enum Tried {
     /// It was made, and this is its reply.
     Made(Reply),
-    /// Others' entries stand behind these, so the call is yet to be made.
-    Behind,
+    /// Others' records stand behind these entries, so the call is yet to be made. These are the first of them.
+    Behind(Vec<Record>),
     /// It makes no entry, and this is the answer, if nothing stands behind these entries.
     Not(Answer),
 }
@@ -103,9 +103,9 @@ fn put<L: SharedLog>(
     };
     match place(log, at, group.as_slice()) {
         Ok(Placed::Ours) => Ok(Tried::Made(commit_into(hall, prepared))),
-        Ok(Placed::Others) => {
+        Ok(Placed::Others(page)) => {
             cancel_into(hall, prepared);
-            Ok(Tried::Behind)
+            Ok(Tried::Behind(page))
         }
         Ok(Placed::Full) => {
             cancel_into(hall, prepared);

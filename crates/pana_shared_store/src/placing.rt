@@ -1,36 +1,50 @@
 //! Records that are put into a log at one place, or not.
-ghost use Rattle.std.specs.Prelude.{◌<◌, IsTrue, IfOk, OnErr, length};
-ghost use Rattle.pana_shared.specs.Log.{HaveSome, MayAppend, Reads, loose_at, ours};
-ghost use Rattle.pana_shared_store.specs.inner.{IsNew, IsUnusedGroup, Places, PlacesNone, Stands};
+ghost use Rattle.std.specs.Prelude.{◌≢◌, ◌<◌, [], IsTrue, IfOk, OnErr, length};
+ghost use Rattle.pana_shared.specs.Log.{HaveSome, IsAt, MayAppend, Reads, loose_at, ours};
+ghost use Rattle.pana_shared_store.specs.inner.{IsNew, IsPlaced, IsUnusedGroup, Places, PlacesNone};
 
 use crate::same::is_record;
 use pana_shared::{Appended, ReadFault, Record, SharedLog};
 
 /// What stands where a group was to be put.
-#[derive(Clone, Copy, Debug, PartialEq, Eq)]
+#[derive(Debug, Drop)]
 pub(crate) enum Placed {
     /// The group.
     Ours,
-    /// Others' records.
-    Others,
+    /// Others' records, these and maybe more behind them.
+    Others(Vec<Record>),
     /// Nothing: the log takes no more.
     Full,
 }
 
-/// Whether it is this record that stands behind so many.
+/// The records that stand behind so many, or some of them.
 ///
 /// # Errors
 ///
 /// Those of reading; `NoAnswer` where nothing stands there.
-fn look<L: SharedLog>(log: &mut L, at: u64, first: &Record) -> Result<bool, ReadFault>
+fn look<L: SharedLog>(log: &mut L, at: u64) -> Result<Vec<Record>, ReadFault>
     ensures reads { IsTrue L.is_known → Reads (L.seen log.old) (L.seen log.new) }
-    ensures found { IfOk result (λ is_it. IsTrue L.is_known → Stands is_it at first.now (L.seen log.new).records) }
+    ensures some { IfOk result (λ page. page.items ≢ []) }
+    ensures part { IfOk result (λ page. IsTrue L.is_known → IsAt at page.items (L.seen log.new).records) }
 {
     let page = log.read(at)?;
     if page.is_empty() {
         return Err(ReadFault::NoAnswer);
     }
-    Ok(is_record(&page[0], first))
+    Ok(page)
+}
+
+/// Whether a page that stands where a group was to be put is the group, or begins with it.
+fn placed_from(page: Vec<Record>, group: &[Record]) -> Placed
+    requires some { page.items ≢ [] }
+    requires one { group.now ≢ [] }
+    ensures { IsPlaced page.items group.now result }
+{
+    if is_record(&page[0], &group[0]) {
+        Placed::Ours
+    } else {
+        Placed::Others(page)
+    }
 }
 
 /// Puts a group where the log has just so many records. What stands there is looked at, where the log doesn't say that it was put:
@@ -44,7 +58,7 @@ pub(crate) fn place<L: SharedLog>(
     at: u64,
     group: &[Record],
 ) -> Result<Placed, ReadFault>
-    requires one { 0 < length group.now }
+    requires one { group.now ≢ [] }
     requires may { IsTrue L.is_known → MayAppend (L.seen log.old) at group.now }
     requires some { IsTrue L.is_known → HaveSome (L.seen log.old).loose }
     requires other { IsTrue L.is_known → IsNew group.now (loose_at at (L.seen log.old)) }
@@ -53,13 +67,9 @@ pub(crate) fn place<L: SharedLog>(
     ensures err { OnErr result (IsTrue L.is_known → PlacesNone (L.seen log.old) at group.now (L.seen log.new)) }
 {
     match log.append(at, group) {
-        Appended::Put => return Ok(Placed::Ours),
-        Appended::Full => return Ok(Placed::Full),
-        Appended::Taken | Appended::Unknown => {}
-    }
-    if look(log, at, &group[0])? {
-        Ok(Placed::Ours)
-    } else {
-        Ok(Placed::Others)
+        Appended::Put => Ok(Placed::Ours),
+        Appended::Full => Ok(Placed::Full),
+        Appended::Taken(page) => Ok(placed_from(page, group)),
+        Appended::Unknown => Ok(placed_from(look(log, at)?, group)),
     }
 }

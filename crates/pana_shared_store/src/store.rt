@@ -12,9 +12,6 @@ use pana_shared::{ReadFault, SharedLog};
 use std::alloc::Global;
 use std::marker::Model;
 
-/// How many times a call is tried at most while others' entries come before it.
-const MOST_TRIES: u32 = 1000;
-
 /// A hall, and a log that others append to as well, which has the hall's journal: an entry is put into the log before its call is
 /// answered, and each call is made behind all that the log had when it began. To contracts it is the entries that are followed so far,
 /// the log, and how many calls may have made some.
@@ -62,6 +59,13 @@ impl<L: SharedLog + Drop> SharedStore<L> {
             foreign: None,
         })
     }
+
+    /// The hall, which goes on to nothing further that others put: for who asks many questions of one moment. Takes no memory.
+    pub fn into_hall(self) -> Hall
+        ensures { result ≡ self.entries }
+    {
+        self.hall
+    }
 }
 
 /// Makes a call that may make entries, as the next turn.
@@ -83,7 +87,7 @@ fn make_next<L: SharedLog>(
         return Err(ReadFault::NoAnswer);
     };
     *turn = next;
-    make(alloc, hall, log, next, by, call, MOST_TRIES)
+    make(alloc, hall, log, next, by, call)
 }
 
 /// Answers a question behind all that the log has. So many turns were taken.
@@ -162,7 +166,7 @@ impl<L: SharedLog> Session for SharedStore<L> {
     ///
     /// # Errors
     ///
-    /// `NoAnswer` where the log gives none, where others were faster a thousand times, where memory runs out, or where something stands
+    /// `NoAnswer` where the log gives none, where others were faster four thousand times, where memory runs out, or where something stands
     /// in the log that is no entry. It isn't known then whether the call was made.
     fn call(&mut self, by: &DeviceName, call: Call) -> Result<Answer, NoAnswer> {
         if self.foreign.is_some() {

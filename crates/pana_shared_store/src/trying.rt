@@ -1,9 +1,9 @@
 //! A call that is made behind all that the log has, try after try.
-ghost use Rattle.std.specs.Prelude.{◌≡◌, ◌≤◌, ◌+◌, ◌⊎◌, ℕ, IsTrue, IfOk, OnErr, length};
+ghost use Rattle.std.specs.Prelude.{◌≤◌, ◌⊎◌, IsTrue, IfOk, OnErr, length};
 ghost use Rattle.pana_shared_store.specs.Store.{MakesOn, StaysOn, TriesOn};
 ghost use Rattle.pana_shared_store.specs.inner.{Attempts, IsReady, IsStore};
 
-use crate::following::read_on;
+use crate::following::{follow_page, read_on};
 use crate::making::{Tried, try_to_make};
 use pana_calls::{Answer, Call};
 use pana_copies::DeviceName;
@@ -11,20 +11,24 @@ use pana_hall::Hall;
 use pana_shared::{ReadFault, SharedLog};
 use std::alloc::Global;
 
+/// How many times a call is tried at most while others' entries come before it.
+const MOST_TRIES: u32 = 4_000;
+
 /// What has come of one try.
 #[derive(Drop)]
 pub(crate) enum Attempt {
     /// The call has this answer.
     Answered(Answer),
-    /// Others' entries have come before it.
-    Behind,
+    /// Others' entries have come before it, and some of them are followed: all that the log had when the call began, or maybe not yet.
+    Again { is_read: bool },
 }
 
-/// Tries once to make a call, and has the hall follow what others have put before it.
+/// Tries once to make a call, and has the hall follow what others have put before it. What makes no entry is answered at once where all
+/// that the log had when the call began is read, and else once nothing stands behind it.
 ///
 /// # Errors
 ///
-/// As `try_to_make`, and `read_on`.
+/// As `try_to_make`, `follow_page` and `read_on`.
 fn attempt_once<L: SharedLog>(
     alloc: Global,
     hall: &mut Hall,
@@ -32,32 +36,36 @@ fn attempt_once<L: SharedLog>(
     turn: u64,
     by: &DeviceName,
     call: Call,
+    is_read: bool,
 ) -> Result<Attempt, ReadFault>
     requires store { IsTrue L.is_known → IsStore hall.old turn (L.seen log.old) }
     requires ready { IsTrue L.is_known → IsReady turn hall.old (L.seen log.old) }
     ensures store { IsTrue L.is_known → IsStore hall.new turn (L.seen log.new) }
-    ensures ok { IfOk result (λ done. Attempts L.is_known turn hall.old (L.seen log.old) by.now call done hall.new (L.seen log.new)) }
+    ensures ok { IfOk result (λ done. Attempts L.is_known turn is_read hall.old (L.seen log.old) by.now call done hall.new (L.seen log.new)) }
     ensures err { OnErr result (StaysOn L.is_known hall.old (L.seen log.old) hall.new (L.seen log.new) ⊎ TriesOn L.is_known turn hall.old (L.seen log.old) by.now call hall.new (L.seen log.new)) }
 {
     let at = hall.length();
     match try_to_make(alloc, hall, log, turn, by, call)? {
         Tried::Made(reply) => Ok(Attempt::Answered(Answer::Given(reply))),
-        Tried::Behind => {
-            read_on(alloc, hall, log)?;
-            Ok(Attempt::Behind)
+        Tried::Behind(page) => {
+            follow_page(alloc, hall, page)?;
+            Ok(Attempt::Again { is_read })
         }
         Tried::Not(answer) => {
+            if is_read {
+                return Ok(Attempt::Answered(answer));
+            }
             read_on(alloc, hall, log)?;
             if hall.length() == at {
                 Ok(Attempt::Answered(answer))
             } else {
-                Ok(Attempt::Behind)
+                Ok(Attempt::Again { is_read: true })
             }
         }
     }
 }
 
-/// Makes a call, by so many tries at most.
+/// Makes a call, by four thousand tries at most. Each but the first comes right behind what others have put.
 ///
 /// # Errors
 ///
@@ -69,7 +77,6 @@ pub(crate) fn make<L: SharedLog>(
     turn: u64,
     by: &DeviceName,
     call: &Call,
-    tries: u32,
 ) -> Result<Answer, ReadFault>
     requires store { IsTrue L.is_known → IsStore hall.old turn (L.seen log.old) }
     requires ready { IsTrue L.is_known → IsReady turn hall.old (L.seen log.old) }
@@ -77,14 +84,15 @@ pub(crate) fn make<L: SharedLog>(
     ensures ok { IfOk result (λ answer. MakesOn L.is_known turn hall.old (L.seen log.old) by.now call.now answer hall.new (L.seen log.new)) }
     ensures err { OnErr result (StaysOn L.is_known hall.old (L.seen log.old) hall.new (L.seen log.new) ⊎ TriesOn L.is_known turn hall.old (L.seen log.old) by.now call.now hall.new (L.seen log.new)) }
 {
-    let Some(left) = tries.checked_sub(1) else {
-        return Err(ReadFault::NoAnswer);
-    };
-    let Ok(copy) = call.copy_of(alloc) else {
-        return Err(ReadFault::OutOfMemory);
-    };
-    match attempt_once(alloc, hall, log, turn, by, copy)? {
-        Attempt::Answered(answer) => Ok(answer),
-        Attempt::Behind => make(alloc, hall, log, turn, by, call, left),
+    let mut is_read = false;
+    for _ in 0..MOST_TRIES {
+        let Ok(copy) = call.copy_of(alloc) else {
+            return Err(ReadFault::OutOfMemory);
+        };
+        match attempt_once(alloc, hall, log, turn, by, copy, is_read)? {
+            Attempt::Answered(answer) => return Ok(answer),
+            Attempt::Again { is_read: is_now } => is_read = is_now,
+        }
     }
+    Err(ReadFault::NoAnswer)
 }

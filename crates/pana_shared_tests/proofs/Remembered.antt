@@ -8,10 +8,12 @@ use Rattle.std.specs.Prelude.{if◌then◌else◌}
 use Rattle.std.proofs.lemmas.Bool.Decides.{leb_tells}
 use Rattle.std.proofs.lemmas.List.{take-append-drop, length-take-le}
 use Rattle.pana_shared.specs.declared.record.Record.{Record}
-use Rattle.pana_shared.specs.Log.{Asks, Grows, IsAt, IsOneOf, Lands, LogView, MayAppend, Reads, asked, loose_at, ours}
+use Rattle.pana_shared.specs.declared.shared_log.Appended.{Appended}
+use Rattle.pana_shared.specs.declared.shared_log.Appended.TheVariants.{Put, Taken, Full, Unknown}
+use Rattle.pana_shared.specs.Log.{Appends, Asks, Grows, IsAt, IsOneOf, Lands, LogView, MayAppend, Reads, asked, loose_at, ours}
 use Rattle.pana_shared.proofs.Grown.{at_within, ours_both}
 use Rattle.pana_shared_store.specs.Store.{IsFresh}
-use Rattle.pana_shared_tests.specs.Memory.{ComeOf, LandsOf}
+use Rattle.pana_shared_tests.specs.Memory.{ComeOf, LandsOf, StandsIn}
 
 abbrev view : List Record → ℕ → ℕ → List (List Record) → LogView
 view records w at loose = record { records = records; writer = w; at = at; loose = loose }
@@ -166,6 +168,13 @@ module _ (old mid now : LogView) (at : ℕ) (group : List Record) (may : MayAppe
   pub asks_maybe : (records copy : List Record) (b : Bool) → copy ≡ group → records ≡ (if b then now.records ++ copy else now.records) → length now.records ≡ at → Asks old at group (record { records = records; writer = now.writer; at = now.at; loose = now.loose })
   asks_maybe records copy true is put even = (asks_put records (put ∙ ap (λ (l : List Record). now.records ++ l) is) even).0
   asks_maybe records copy false is put even = subst (λ (l : List Record). Asks old at group (record { records = l; writer = now.writer; at = now.at; loose = now.loose })) (sym put) asks_only
+
+-- something stands there
+pub stands_asked : (old now : LogView) (at : ℕ) (group : List Record) → Asks old at group now → (end : Appended) → StandsIn now.records at end → Appends old at group end now
+stands_asked old now at group asks (Taken page) there = (asks, there)
+stands_asked old now at group asks Unknown there = asks
+stands_asked old now at group asks Put there = absurd there
+stands_asked old now at group asks Full there = absurd there
 
 -- a log in which there are others' records alone
 pub fresh : (w : ℕ) (records : List Record) (loose : List (List Record)) → ComeOf w [] records → loose ≡ [] → IsFresh (record { records = records; writer = w; at = 0; loose = loose })

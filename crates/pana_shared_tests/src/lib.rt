@@ -3,5 +3,8 @@
 
 pub mod life;
 pub mod memory;
+pub mod one_list;
 #[cfg(test)]
 mod stores;
+#[cfg(test)]
+mod two_stores;

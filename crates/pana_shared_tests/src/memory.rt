@@ -1,7 +1,7 @@
 //! A log in memory.
-ghost use Rattle.std.specs.Prelude.{◌≡◌, ◌≢◌, ◌≤◌, [], false, length, IsTrue, IfOk, map};
-ghost use Rattle.pana_shared.specs.Log.{IsAt, Reads, asked, ours};
-ghost use Rattle.pana_shared_tests.specs.Memory.{ComeOf, LandsOf, seen_of};
+ghost use Rattle.std.specs.Prelude.{◌≡◌, ◌≢◌, ◌<◌, ◌≤◌, [], false, length, IsTrue, IfOk, map};
+ghost use Rattle.pana_shared.specs.Log.{HasSome, IsAt, Reads, asked, ours};
+ghost use Rattle.pana_shared_tests.specs.Memory.{ComeOf, LandsOf, StandsIn, seen_of};
 
 use pana_shared::{Appended, ReadFault, Record, SharedLog};
 use std::alloc::{AllocError, Global};
@@ -23,6 +23,8 @@ pub enum Fate {
     Answered,
     /// The records are put, where their place is free, and the answer is lost.
     PutUnanswered,
+    /// The same, and what keeps the log is asked once more before it answers: so it finds the records themselves.
+    PutTwice,
     /// They aren't put now, and there is no answer.
     NotPut,
     /// The log takes no more.
@@ -187,6 +189,18 @@ fn page(
     copy_group(alloc, &records[start..end])
 }
 
+/// What comes of an append where records stand already: a page of them. Nothing is known where memory runs out.
+fn what_stands(alloc: Global, records: &[Record], at: u64, most: usize) -> Appended
+    requires { at < length records.now }
+    ensures stands { StandsIn records.now at result }
+    ensures some { HasSome result }
+{
+    match page(alloc, records, at, most) {
+        Ok(page) => Appended::Taken(page),
+        Err(_) => Appended::Unknown,
+    }
+}
+
 impl SharedLog for MemoryShared {
     ghost use Rattle.std.specs.Prelude.{true};
     ghost use Rattle.pana_shared_tests.specs.Memory.{seen_of};
@@ -212,13 +226,19 @@ impl SharedLog for MemoryShared {
             return Appended::Full;
         }
         if self.records.len() as u64 > at {
-            return Appended::Taken;
+            return what_stands(self.alloc, self.records.as_slice(), at, self.most);
         }
         if self.records.len() as u64 != at || fate == Fate::NotPut {
             return Appended::Unknown;
         }
-        if self.records.append(&mut copy).is_ok() && fate == Fate::Answered {
+        if self.records.append(&mut copy).is_err() {
+            return Appended::Unknown;
+        }
+        if fate == Fate::Answered {
             return Appended::Put;
+        }
+        if fate == Fate::PutTwice {
+            return what_stands(self.alloc, self.records.as_slice(), at, self.most);
         }
         Appended::Unknown
     }

@@ -8,4 +8,4 @@ mod shared;
 
 pub use crate::journals::{NoStore, open_hall, open_store};
 pub use crate::log_store::LogStore;
-pub use crate::shared::{fault_of_address, open_shared};
+pub use crate::shared::{fault_of_address, log_at, open_shared, read_shared};

@@ -4,6 +4,7 @@ ghost use Rattle.std.specs.Prelude.{◌≡◌, IfOk, IsTrue, [], false, is_some}
 use pana_calls::{Answer, Call, NoAnswer, Session};
 use pana_copies::DeviceName;
 use pana_etcd::{EtcdLog, TcpConnect};
+use pana_hall::Hall;
 use pana_shared::ReadFault;
 use pana_shared_store::SharedStore;
 use std::alloc::Global;
@@ -34,6 +35,13 @@ impl LogStore {
     {
         let store = SharedStore::open(alloc, log)?;
         Ok(LogStore { store })
+    }
+
+    /// The hall, which goes on to nothing further that others put. Takes no memory.
+    pub(crate) fn into_hall(self) -> Hall
+        ensures { result ≡ self.entries }
+    {
+        self.store.into_hall()
     }
 
     /// The number of what stands in the log and is no entry, if that was met: no call is answered any more. Takes no memory.

@@ -4,6 +4,7 @@ use crate::journals::NoStore;
 use crate::log_store::LogStore;
 use pana_etcd::{AddressFault, EtcdAddress, EtcdLog, TcpConnect, random_writer};
 use pana_files::{LogPlace, ProgramFault};
+use pana_hall::Hall;
 use pana_shared::ReadFault;
 use std::alloc::AllocError;
 
@@ -46,8 +47,8 @@ fn no_log(rt: &HostRuntime, address: &str, fault: ReadFault) -> Result<NoStore, 
     })
 }
 
-/// The log at a place, for a writer that is new.
-fn log_at(rt: &HostRuntime, place: LogPlace<'_>) -> Result<EtcdLog<TcpConnect>, NoStore> {
+/// The log at this place, for a writer that is new; or why there is none. Nothing is asked of it yet.
+pub fn log_at(rt: &HostRuntime, place: LogPlace<'_>) -> Result<EtcdLog<TcpConnect>, NoStore> {
     let found = match EtcdAddress::parse(rt.alloc(), place.address) {
         Ok(found) => found,
         Err(fault) => return Err(NoStore::Because(text_of(rt, place.address, fault)?)),
@@ -58,6 +59,11 @@ fn log_at(rt: &HostRuntime, place: LogPlace<'_>) -> Result<EtcdLog<TcpConnect>, 
     let connect = TcpConnect::new(rt.clone()?);
     let patience = u64::from(place.patience) * SECOND;
     Ok(EtcdLog::new(rt.alloc(), connect, found, writer, patience))
+}
+
+/// The hall of the log at this place, as the log is now; or why there is none.
+pub fn read_shared(rt: &HostRuntime, place: LogPlace<'_>) -> Result<Hall, NoStore> {
+    Ok(open_shared(rt, place)?.into_hall())
 }
 
 /// The store of the log at this place, all of which is read; or why there is none.

@@ -1,5 +1,5 @@
 -- A flat object is read as its members, the last of each name.
-use Rattle.std.proofs.Common.{◌≡◌, ℕ, ◌<◌, ◌^◌, Bool, true, false, cond, ◌==◌, List, [], ◌∷◌, ◌++◌, length, get_or, Option, Some, None, IfSome, option_map, option_and_then, refl, sym, ap, ◌∙◌, arith, append-nil}
+use Rattle.std.proofs.Common.{◌≡◌, ℕ, ◌<◌, ◌≤◌, ◌^◌, Bool, true, false, cond, ◌==◌, List, [], ◌∷◌, ◌++◌, length, get_or, Option, Some, None, IfSome, option_map, option_and_then, refl, sym, ap, ◌∙◌, arith, append_assoc}
 use Rattle.std.specs.Option.{SomeIff}
 use Rattle.std.specs.Str.{bytes_eq}
 use Rattle.std.proofs.lemmas.Bool.{lt-ltb, eq-eqb, false≢true}
@@ -50,7 +50,7 @@ content_json (Text s) = json.string s.now
 content_json (Number s n) = json.number s.now
 content_json Null = json.null
 
-abbrev members_json : List Member → json.Members
+abbrev pub members_json : List Member → json.Members
 members_json [] = json.no_members
 members_json (m ∷ ms) = json.member m.name.now (content_json m.content) (members_json ms)
 
@@ -59,16 +59,18 @@ one_token (Text s) ts = refl
 one_token (Number s n) ts = refl
 one_token Null ts = refl
 
-all_tokens : (ms : List Member) → members_then ms (Token.end_object ∷ []) ≡ members_tokens (members_json ms)
-all_tokens [] = refl
-all_tokens (m ∷ ms) = ap (λ (l : List Token). Token.key m.name.now ∷ content_token m.content ∷ l) (all_tokens ms) ∙ ap (λ (l : List Token). Token.key m.name.now ∷ l) (one_token m.content _)
+pub all_tokens : (ms : List Member) (ts : List Token) → members_then ms (Token.end_object ∷ ts) ≡ members_tokens (members_json ms) ++ ts
+all_tokens [] ts = refl
+all_tokens (m ∷ ms) ts =
+    ap (λ (l : List Token). Token.key m.name.now ∷ content_token m.content ∷ l) (all_tokens ms ts)
+    ∙ ap (λ (l : List Token). Token.key m.name.now ∷ l) (one_token m.content (members_tokens (members_json ms) ++ ts) ∙ sym (append_assoc (json_tokens (content_json m.content)) (members_tokens (members_json ms)) ts))
 
 flat : (c : Content) → depth (content_json c) ≡ 0
 flat (Text s) = refl
 flat (Number s n) = refl
 flat Null = refl
 
-shallow : (ms : List Member) → members_depth (members_json ms) ≡ 0
+pub shallow : (ms : List Member) → members_depth (members_json ms) ≡ 0
 shallow [] = refl
 shallow (m ∷ ms) = omega (arith, flat m.content, shallow ms)
 
@@ -77,18 +79,22 @@ content_is (Text s) sound = refl
 content_is (Number s n) sound = ap (option_map number) sound.1
 content_is Null sound = refl
 
-members_are : (ms : List Member) (found : Members) → AreSound ms → of_members (members_json ms) found ≡ Some (put_all ms found)
+pub members_are : (ms : List Member) (found : Members) → AreSound ms → of_members (members_json ms) found ≡ Some (put_all ms found)
 members_are [] found sound = refl
 members_are (m ∷ ms) found sound =
     ap (option_and_then (λ d. of_members (members_json ms) (put m.name.now d found))) (content_is m.content sound.0) ∙ members_are ms (put m.name.now (content_data m.content) found) sound.1
+
+-- the tokens are those of a value in JSON, and no more
+pub read_json : (j : json.Json) (text : List ℕ) → tokens text ≡ json_tokens j ++ [] → depth j ≤ 127 → read text ≡ of_json j
+read_json j text is shallow =
+    let value : json.value 127 (tokens text) ≡ Some (j, []) = ap (json.value 127) is ∙ value-json_tokens j 127 [] shallow in
+    ap (λ (o : Option (json.Json × List Token)). option_and_then of_json (option_and_then (λ p. json.if_last p.0 p.1) o)) value
 
 -- the members between the braces are all of the text
 pub read_flat : (ms : List Member) (text : List ℕ) → tokens text ≡ Token.begin_object ∷ members_then ms (Token.end_object ∷ []) → AreSound ms → read text ≡ Some (object (put_all ms no_members))
 read_flat ms text is sound =
     let j : json.Json = json.object (members_json ms) in
-    let said : tokens text ≡ json_tokens j = is ∙ ap (λ (l : List Token). Token.begin_object ∷ l) (all_tokens ms) in
-    let value : json.value 127 (tokens text) ≡ Some (j, []) = ap (json.value 127) (said ∙ sym (append-nil (json_tokens j))) ∙ value-json_tokens j 127 [] (omega (arith, shallow ms)) in
-    ap (λ (o : Option (json.Json × List Token)). option_and_then of_json (option_and_then (λ p. json.if_last p.0 p.1) o)) value ∙ ap (option_map object) (members_are ms no_members sound)
+    read_json j text (is ∙ ap (λ (l : List Token). Token.begin_object ∷ l) (all_tokens ms [])) (omega (arith, shallow ms)) ∙ ap (option_map object) (members_are ms no_members sound)
 
 -- ---- what is found
 

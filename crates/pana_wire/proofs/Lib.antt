@@ -19,3 +19,4 @@ pub mod Said
 pub mod Pieces
 pub mod ReportTokens
 pub mod FlatObject
+pub mod FlatEntries

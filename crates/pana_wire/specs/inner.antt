@@ -8,3 +8,4 @@ pub mod Writing
 pub mod Pieces
 pub mod ReportTokens
 pub mod FlatObject
+pub mod FlatEntries

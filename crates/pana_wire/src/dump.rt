@@ -4,15 +4,14 @@ ghost use Rattle.serde_json.specs.View.{view};
 ghost use Rattle.pana_wire.specs.Line.{Gives, Shows};
 ghost use Rattle.pana_wire.specs.DumpLines.{Say, HasFault};
 ghost use Rattle.pana_wire.specs.Lines.{texts};
-ghost use Rattle.pana_wire.specs.Dump.{IsDumpText, are_objects, objects_in, entry_in, entries_in, dump_says};
+ghost use Rattle.pana_wire.specs.Dump.{IsDumpText, are_objects, objects_in, entries_in, dump_says};
 
+use crate::entry_reading::{entry_in, flat_entries};
 use crate::fault::WireFault;
 use crate::field::Field;
 use crate::line_fault::LineFault;
-use crate::reading::{
-    check_object, device_in, number_in, report_in, text_within, value_in, word_in,
-};
-use pana_journal::{Entry, EntryList};
+use crate::reading::{LineReader, check_object, text_within, value_in};
+use pana_journal::EntryList;
 use serde_json::Value;
 use std::alloc::{AllocError, Global};
 
@@ -24,16 +23,29 @@ const LONGEST_DUMP: usize = 1_048_576;
 /// The faults are those of `WireFault`, in its order. `entries` must be a list of objects, and the whole list is looked
 /// at before its first entry is read; then the fields of each entry are tried in the order `number`, `by`, `do`, and
 /// those of the word, which must be one for a report. It takes memory as `decode` does, and for the entries.
-#[tactic(auto, unfolding(crate::specs::Dump::dump_says))]
 pub fn decode_dump(alloc: Global, line: &[u8]) -> Result<EntryList, WireFault>
     ensures exact { Gives result (dump_says line.now) }
     ensures memory { IfErr result (λ fault. fault ≡ WireFault.OutOfMemory → IsDumpText line.now) }
 {
+    let mut reader = LineReader::new(alloc);
+    read_entries(&mut reader, line)
+}
+
+// The same, with memory that is kept from line to line.
+#[tactic(auto, unfolding(crate::specs::Dump::dump_says))]
+fn read_entries(reader: &mut LineReader, line: &[u8]) -> Result<EntryList, WireFault>
+    ensures exact { Gives result (dump_says line.now) }
+    ensures memory { IfErr result (λ fault. fault ≡ WireFault.OutOfMemory → IsDumpText line.now) }
+{
+    let LineReader { alloc, scratch } = reader;
     let text = text_within(line, LONGEST_DUMP)?;
-    let value = value_in(alloc, text)?;
+    if let Some(entries) = flat_entries(*alloc, text, scratch) {
+        return Ok(entries);
+    }
+    let value = value_in(*alloc, text)?;
     check_object(&value)?;
     let objects = objects_in(&value)?;
-    entries_in(alloc, objects)
+    entries_in(*alloc, objects)
 }
 
 /// The entries in the lines of a dump, one line after another, or the first line that has a fault.
@@ -47,9 +59,10 @@ pub fn decode_dump_lines(
 ) -> Result<Result<EntryList, LineFault>, AllocError>
     ensures { IfOk result (λ read. MatchResult read (Say (texts lines.now)) (HasFault (texts lines.now))) }
 {
+    let mut reader = LineReader::new(alloc);
     let mut entries = EntryList::new(alloc);
     for (index, line) in lines.iter().enumerate() {
-        match decode_dump(alloc, line) {
+        match read_entries(&mut reader, line) {
             Ok(more) => entries.append(more)?,
             Err(fault) => {
                 let line = index as u64 + 1;
@@ -91,15 +104,4 @@ fn entries_in(alloc: Global, objects: &[Value]) -> Result<EntryList, WireFault>
         }
     }
     Ok(EntryList::from_vec(entries))
-}
-
-#[tactic(auto, unfolding(crate::specs::Dump::entry_in))]
-fn entry_in(alloc: Global, object: &Value) -> Result<Entry, WireFault>
-    ensures { Gives result (entry_in (view object.now)) }
-{
-    let number = number_in(Field::Number, object)?;
-    let by = device_in(Field::By, object)?;
-    let word = word_in(object)?;
-    let report = report_in(alloc, word, object)?;
-    Ok(Entry { number, by, report })
 }

@@ -18,7 +18,7 @@ const MOST_MEMBERS: usize = 8;
 
 /// What a member has.
 #[derive(Clone, Copy)]
-enum Content<'a> {
+pub enum Content<'a> {
     Text(&'a str),
     /// A number of 64 bits: its digits, and the number.
     Number(&'a str, u64),
@@ -26,15 +26,15 @@ enum Content<'a> {
 }
 
 #[derive(Clone, Copy)]
-struct Member<'a> {
-    name: &'a str,
-    content: Content<'a>,
+pub struct Member<'a> {
+    pub name: &'a str,
+    pub content: Content<'a>,
 }
 
 /// An object whose members have texts, numbers of 64 bits or `null`. Its texts are borrowed.
 #[derive(Drop)]
 pub struct FlatObject<'a> {
-    members: Vec<Member<'a>>,
+    pub members: Vec<Member<'a>>,
 }
 
 /// The flat object that a text is, where it is one, and memory suffices to read it.
@@ -56,8 +56,8 @@ pub fn flat_object<'a>(
     }
 }
 
-// The members up to the brace behind the last.
-fn members_in<'a>(alloc: Global, reader: &mut Reader<'a>) -> Option<Vec<Member<'a>>>
+/// The members up to the brace behind the last.
+pub fn members_in<'a>(alloc: Global, reader: &mut Reader<'a>) -> Option<Vec<Member<'a>>>
     ensures tokens { IfSome result (λ members. reader.old ≡ members_then members.items (end_object ∷ reader.new)) }
     ensures sound { IfSome result (λ members. AreSound members.items) }
 {

@@ -5,6 +5,7 @@ mod answer_buffer;
 mod board_writing;
 mod cutting;
 mod dump;
+mod entry_reading;
 mod entry_writing;
 mod fault;
 mod field;

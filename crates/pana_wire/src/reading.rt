@@ -24,8 +24,8 @@ const LONGEST_WAIT: u64 = 3600;
 /// Reads lines, with memory that is kept from line to line.
 #[derive(Drop)]
 pub struct LineReader {
-    alloc: Global,
-    scratch: Scratch<Global>,
+    pub alloc: Global,
+    pub scratch: Scratch<Global>,
 }
 
 impl LineReader {

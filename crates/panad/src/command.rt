@@ -10,26 +10,30 @@ use crate::{
     track_command, watch_command, why_command,
 };
 use pana_arguments::{
-    Arguments, CommandLine, CompareArguments, Explanation, KeptBy, LoadArguments, RunArguments,
-    ScanArguments, ShowArguments, Unread, refusal,
+    Arguments, CommandLine, CommandName, CompareArguments, Explanation, KeptBy, LoadArguments,
+    RunArguments, ScanArguments, ShowArguments, Unread, command_named, refusal,
 };
 use pana_commands::{Printout, compare_on, load_on, run_on, scan_on, show_on};
 use pana_files::{
-    ProgramFault, Progress, Tables, complain, output, print_text, take_standard_descriptors,
-    terminal_width,
+    FolderWatch, NamedFolder, NamingDisk, ProgramFault, Tables, complain, output, print_text,
+    take_standard_descriptors, terminal_width,
 };
 use pana_log::ends_journal;
 use pana_scan::SystemDisk;
 use pana_store::before_end;
 use pana_store_file::fault_of_address;
 use pana_wire::Tap;
+use std::env::Env;
 use std::io::Read;
 use std::marker::Sync;
 use std::process::ExitCode;
 use std::sync::Wait;
 use std::thread::Threads;
 use std::time::Clock;
-use std::{fs, io};
+use std::{fs, io, str};
+
+/// How many bytes the word that names a command has at most.
+const LONGEST_WORD: usize = 16;
 
 /// How many reads a session of the program makes at most.
 pub const READS: u64 = 4_294_967_296;
@@ -48,16 +52,27 @@ fn run(rt: &HostRuntime, arguments: RunArguments<'_>) -> Result<ExitCode, Progra
     }
 }
 
+/// The folder that is scanned, where what is passed over in it is to be named.
+fn named_folder<'a>(arguments: ScanArguments<'a>) -> Option<NamedFolder<'a>> {
+    if !arguments.is_verbose {
+        return None;
+    }
+    Some(NamedFolder {
+        folder: arguments.folder,
+        device: None,
+    })
+}
+
 fn scan(rt: &HostRuntime, arguments: ScanArguments<'_>) -> Result<ExitCode, ProgramFault> {
-    let progress = Progress::new(rt);
+    let watch = FolderWatch::new(rt, named_folder(arguments));
     let printout = scan_on(
         rt.alloc(),
-        &mut SystemDisk::new(rt),
+        &mut NamingDisk::new(rt.alloc(), SystemDisk::new(rt), watch.naming()),
         arguments.device,
         arguments.folder,
-        &progress,
+        &watch,
     );
-    progress.end();
+    watch.end()?;
     print_out(rt, &printout?)
 }
 
@@ -158,30 +173,50 @@ fn words_of(rt: &HostRuntime) -> Result<Option<Vec<String>>, ProgramFault> {
     }
 }
 
+/// The command that the first word of the command line names. Takes no memory.
+fn command_of(rt: &HostRuntime) -> Option<CommandName> {
+    let mut word = [0u8; LONGEST_WORD];
+    let Ok(length) = rt.arg(1, &mut word) else {
+        return None;
+    };
+    match str::from_utf8(&word[..length]) {
+        Ok(name) => command_named(name),
+        Err(_) => None,
+    }
+}
+
+/// The status of a fault. Takes no memory.
+fn fault_status(rt: &HostRuntime) -> u8 {
+    match command_of(rt) {
+        Some(name) if name.answers_by_status() => FAULT,
+        _ => 1,
+    }
+}
+
 /// Prints the fault, where there is one, and returns the status for it, or else the status that there is.
-fn status_of(rt: &HostRuntime, end: Result<ExitCode, ProgramFault>, on_fault: u8) -> ExitCode {
+fn status_of(rt: &HostRuntime, end: Result<ExitCode, ProgramFault>) -> ExitCode {
     match end {
         Ok(status) => status,
         Err(fault) => {
             let _ = eprintln!(rt; "panad: {fault}");
-            ExitCode::from(on_fault)
+            ExitCode::from(fault_status(rt))
         }
     }
 }
 
-/// Does what is asked for. A fault of a command that asks, reports or tracks ends it with the status for that.
+/// Does what is asked for.
 fn obey_arguments<T: Threads + Wait + Clock + Sync>(
     rt: &HostRuntime,
     threads: &T,
     arguments: Arguments<'_>,
 ) -> Result<ExitCode, ProgramFault> {
-    let end = match arguments {
-        Arguments::Run(arguments) => return run(rt, arguments),
-        Arguments::Show(arguments) => return show(rt, arguments),
-        Arguments::Load(arguments) => return load(rt, arguments),
-        Arguments::Scan(arguments) => return scan(rt, arguments),
-        Arguments::Compare(arguments) => return compare(rt, arguments),
-        Arguments::Serve(arguments) => return serve_command::run(rt, threads, arguments),
+    match arguments {
+        Arguments::Run(arguments) => run(rt, arguments),
+        Arguments::Show(arguments) => show(rt, arguments),
+        Arguments::Load(arguments) => load(rt, arguments),
+        Arguments::Scan(arguments) => scan(rt, arguments),
+        Arguments::Compare(arguments) => compare(rt, arguments),
+        Arguments::Serve(arguments) => serve_command::run(rt, threads, arguments),
         Arguments::Track(arguments) => track_command::run(rt, threads, arguments),
         Arguments::Status(arguments) => status_command::run(rt, arguments),
         Arguments::MayOverwrite(arguments) => overwrite_command::run(rt, arguments),
@@ -190,8 +225,7 @@ fn obey_arguments<T: Threads + Wait + Clock + Sync>(
         Arguments::Report(arguments) => report_command::run(rt, arguments),
         Arguments::Watch(arguments) => watch_command::run(rt, arguments),
         Arguments::LogCopy(arguments) => log_copy::run(rt, arguments),
-    };
-    Ok(status_of(rt, end, FAULT))
+    }
 }
 
 /// What is wrong with the words for a log, if something is.
@@ -234,9 +268,9 @@ fn obey<T: Threads + Wait + Clock + Sync>(
     }
 }
 
-/// Does what the command line asks. The status is 0, or 1 for a fault, which is printed in one line on standard error,
-/// or 2 for a command line that is refused.
+/// Does what the command line asks. The status is 0, or for a fault, which is printed in one line on standard error, 1, and 3 of a
+/// command that answers by its status, or 2 for a command line that is refused.
 pub fn start<T: Threads + Wait + Clock + Sync>(rt: &HostRuntime, threads: &T) -> ExitCode {
     take_standard_descriptors(rt);
-    status_of(rt, obey(rt, threads), 1)
+    status_of(rt, obey(rt, threads))
 }

@@ -3,7 +3,7 @@
 use crate::track::report;
 use pana_calls::Session;
 use pana_files::{Keeper, LogPlace, ProgramFault, connect};
-use pana_store_file::{NoStore, open_hall, open_shared, open_store};
+use pana_store_file::{NoStore, open_hall, open_shared, open_store, read_shared};
 use std::process::ExitCode;
 
 /// What a command asks of a session, or reports to it.
@@ -31,8 +31,20 @@ fn refuse_store<I: Inquiry>(rt: &HostRuntime, refusal: NoStore) -> Result<ExitCo
     }
 }
 
-/// Asks a log in etcd, or reports to it.
-fn make_at_log<I: Inquiry + Drop>(
+/// Asks a log in etcd, as it is when it is read.
+fn ask_log<I: Inquiry + Drop>(
+    rt: &HostRuntime,
+    place: LogPlace<'_>,
+    inquiry: I,
+) -> Result<ExitCode, ProgramFault> {
+    match read_shared(rt, place) {
+        Ok(mut hall) => inquiry.make(rt, &mut hall, Keeper::Log(place)),
+        Err(refusal) => refuse_store::<I>(rt, refusal),
+    }
+}
+
+/// Reports to a log in etcd.
+fn report_to_log<I: Inquiry + Drop>(
     rt: &HostRuntime,
     place: LogPlace<'_>,
     inquiry: I,
@@ -58,7 +70,7 @@ fn make_at_daemon<I: Inquiry + Drop>(
     }
 }
 
-/// Asks who keeps the reports. A journal's file isn't changed.
+/// Asks who keeps the reports. A journal isn't changed.
 pub fn ask_keeper<I: Inquiry + Drop>(
     rt: &HostRuntime,
     keeper: Keeper<'_>,
@@ -69,7 +81,7 @@ pub fn ask_keeper<I: Inquiry + Drop>(
             Ok(mut hall) => inquiry.make(rt, &mut hall, keeper),
             Err(refusal) => refuse_store::<I>(rt, refusal),
         },
-        Keeper::Log(place) => make_at_log(rt, place, inquiry),
+        Keeper::Log(place) => ask_log(rt, place, inquiry),
         Keeper::Daemon(port) => make_at_daemon(rt, port, inquiry),
     }
 }
@@ -85,7 +97,7 @@ pub fn report_to_keeper<I: Inquiry + Drop>(
             Ok(mut store) => inquiry.make(rt, &mut store, keeper),
             Err(refusal) => refuse_store::<I>(rt, refusal),
         },
-        Keeper::Log(place) => make_at_log(rt, place, inquiry),
+        Keeper::Log(place) => report_to_log(rt, place, inquiry),
         Keeper::Daemon(port) => make_at_daemon(rt, port, inquiry),
     }
 }

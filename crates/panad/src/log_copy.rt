@@ -4,14 +4,36 @@ use crate::asking::{asker, print_line};
 use crate::command::{fault_of_log, refuse};
 use crate::inquiry::{Inquiry, ask_keeper, report_to_keeper};
 use crate::options::keeper_of;
-use crate::track::report;
+use crate::track::{report, report_refusal};
 use pana_arguments::{CopyArguments, KeptBy};
 use pana_calls::{NoAnswer, Session};
-use pana_files::{Keeper, ProgramFault};
+use pana_files::{Keeper, LogPlace, ProgramFault};
 use pana_history::journal_of;
-use pana_journal::EntryList;
+use pana_journal::{Entry, EntryList};
+use pana_shared::ReadFault;
+use pana_shared_store::{FillFault, fill};
+use pana_store_file::log_at;
 use pana_transfer::{TransferFault, transfer};
 use std::process::ExitCode;
+
+/// Prints how many entries were made, or why they weren't, and returns the status.
+fn report_end(
+    rt: &HostRuntime,
+    to: Keeper<'_>,
+    count: usize,
+    end: Result<(), TransferFault>,
+) -> Result<ExitCode, ProgramFault> {
+    match end {
+        Ok(()) => print_line(rt, format!(in rt.alloc(); "copied {count} entries\n")?, 0),
+        Err(TransferFault::NotEmpty) => report(rt, "the target isn't empty"),
+        Err(TransferFault::NotNext { number }) => {
+            let text = format!(in rt.alloc(); "entry {number} isn't the target's next one")?;
+            report(rt, text.as_str())
+        }
+        Err(TransferFault::NoAnswer) => report(rt, to.no_answer()),
+        Err(TransferFault::OutOfMemory) => Err(ProgramFault::OutOfMemory),
+    }
+}
 
 /// A journal that is to be made.
 #[derive(Drop)]
@@ -28,19 +50,43 @@ impl Inquiry for Target {
         keeper: Keeper<'_>,
     ) -> Result<ExitCode, ProgramFault> {
         let entries = self.entries.as_slice();
-        match transfer(rt.alloc(), session, &asker()?, entries) {
-            Ok(()) => {
-                let count = entries.len();
-                print_line(rt, format!(in rt.alloc(); "copied {count} entries\n")?, 0)
-            }
-            Err(TransferFault::NotEmpty) => report(rt, "the target isn't empty"),
-            Err(TransferFault::NotNext { number }) => {
-                let text = format!(in rt.alloc(); "entry {number} isn't the target's next one")?;
-                report(rt, text.as_str())
-            }
-            Err(TransferFault::NoAnswer) => report(rt, keeper.no_answer()),
-            Err(TransferFault::OutOfMemory) => Err(ProgramFault::OutOfMemory),
+        let end = transfer(rt.alloc(), session, &asker()?, entries);
+        report_end(rt, keeper, entries.len(), end)
+    }
+}
+
+/// The same fault, where entries are put into a log and none is made at a session.
+fn fault_of(fault: FillFault) -> TransferFault {
+    match fault {
+        FillFault::NotEmpty => TransferFault::NotEmpty,
+        FillFault::NotNext { number } | FillFault::Unread(ReadFault::Foreign { number }) => {
+            TransferFault::NotNext { number }
         }
+        FillFault::Full | FillFault::Unread(ReadFault::NoAnswer) => TransferFault::NoAnswer,
+        FillFault::Unread(ReadFault::OutOfMemory) => TransferFault::OutOfMemory,
+    }
+}
+
+/// Puts the entries into a log in etcd, many at once, and prints how many they are.
+fn fill_log(
+    rt: &HostRuntime,
+    place: LogPlace<'_>,
+    entries: &[Entry],
+) -> Result<ExitCode, ProgramFault> {
+    match log_at(rt, place) {
+        Ok(mut log) => {
+            let end = fill(rt.alloc(), &mut log, entries).map_err(fault_of);
+            report_end(rt, Keeper::Log(place), entries.len(), end)
+        }
+        Err(refusal) => report_refusal(rt, refusal),
+    }
+}
+
+/// Makes the entries of a journal where it is kept.
+fn make_at(rt: &HostRuntime, to: Keeper<'_>, entries: EntryList) -> Result<ExitCode, ProgramFault> {
+    match to {
+        Keeper::Log(place) => fill_log(rt, place, entries.as_slice()),
+        to => report_to_keeper(rt, to, Target { entries }),
     }
 }
 
@@ -59,7 +105,7 @@ impl Inquiry for Source<'_> {
         keeper: Keeper<'_>,
     ) -> Result<ExitCode, ProgramFault> {
         match journal_of(rt.alloc(), session, &asker()?) {
-            Ok(Some(entries)) => report_to_keeper(rt, self.to, Target { entries }),
+            Ok(Some(entries)) => make_at(rt, self.to, entries),
             Ok(None) => Err(ProgramFault::OutOfMemory),
             Err(NoAnswer) => report(rt, keeper.no_answer()),
         }

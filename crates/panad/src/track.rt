@@ -60,7 +60,7 @@ fn track_by<T: Threads + Sync, S: Session>(
 }
 
 /// Prints why there is no store, and returns the status.
-fn report_refusal(rt: &HostRuntime, refusal: NoStore) -> Result<ExitCode, ProgramFault> {
+pub fn report_refusal(rt: &HostRuntime, refusal: NoStore) -> Result<ExitCode, ProgramFault> {
     match refusal {
         NoStore::Because(text) | NoStore::NoAnswer(text) => report(rt, text.as_str()),
         NoStore::Fault(fault) => Err(fault),

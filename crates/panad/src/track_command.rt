@@ -21,6 +21,7 @@ fn wishes_of<'a>(
         ignored: arguments.ignored,
         reads_all: arguments.reads_all,
         stays: arguments.stays,
+        is_verbose: arguments.is_verbose,
     };
     Ok(TrackWishes {
         reading,

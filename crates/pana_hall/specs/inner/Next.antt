@@ -1,5 +1,6 @@
 -- The next entry of a journal, before it is made.
-use Rattle.std.specs.Prelude.{◌≡◌, ◌≢◌, IsSome, ℕ, ◌+◌, ◌<◌, ◌≤◌, length, List, [], ◌∷◌, ◌++◌, Option, Some, None, IfSome, false, slice_get, vec_len, vec_capacity}
+use Rattle.std.specs.Prelude.{◌≡◌, ◌≢◌, IsSome, ℕ, ◌+◌, ◌<◌, ◌≤◌, length, List, [], ◌∷◌, ◌++◌, Option, Some, None, IfSome, Bool, true, false, slice_get, vec_len, vec_capacity}
+use Rattle.pana_copies.specs.Spots.{Table}
 use Rattle.pana_journal.specs.declared.report.Report.{Report}
 use Rattle.pana_journal.specs.declared.report.Report.TheVariants.{Edit, Register}
 use Rattle.pana_family.specs.declared.report.FamilyReport.{FamilyReport}
@@ -45,15 +46,28 @@ pub record AreSayings (journal : List Entry) (entry : Entry) (contents : List (O
   pub second : IfSome sayings.second (λ s. (0 < s.copy) × (s.copy ≤ length journal + 1))
   pub at : (number : ℕ) → all_written sayings (content_at contents) number ≡ said_in (living (journal ++ entry ∷ [])) number
 
+-- an Edit leaves all copies where they are
+abbrev pub is_edit : Report → Bool
+is_edit (Edit copy sum) = true
+is_edit _ = false
+
+-- the table has room for what the report does to it
+abbrev pub HasRoomFor : Report → Table → Type 0
+HasRoomFor report table = is_edit report ≡ false → 0 < table.room
+
+-- there is room for so many entries
+pub record HasRoom (count : ℕ) (state : State) : Type 0 where
+  pub entries : count ≤ state.journal.room
+  pub positions : vec_len state.families.positions + count ≤ vec_capacity state.families.positions
+  pub contents : vec_len state.contents.entries + count ≤ vec_capacity state.contents.entries
+
 -- nothing stands against the report, and there is room for all that it changes
 pub record IsNext (state : State) (next : Next) : Type 0 where
   pub number : next.entry.number ≡ length state.journal.entries + 1
   pub free : report_refusal 8 state.journal.entries (living state.journal.entries) next.entry.by next.entry.report ≡ None
   pub position : position_for (all_listed state.families.list.items) state.families.positions.items next.entry.report ≡ Some next.position
-  pub entries : 0 < state.journal.room
-  pub positions : vec_len state.families.positions < vec_capacity state.families.positions
-  pub copies : 0 < state.copies.room
-  pub contents : vec_len state.contents.entries < vec_capacity state.contents.entries
+  pub room : HasRoom 1 state
+  pub copies : HasRoomFor next.entry.report state.copies
   pub sayings : AreSayings state.journal.entries next.entry state.contents.entries.items next.sayings
   pub step : IsStep next.entry (vec_len state.families.list) (vec_capacity state.families.list) state.families.list.items next.position (living state.journal.entries) next.step
 
@@ -61,7 +75,8 @@ pub record IsNext (state : State) (next : Next) : Type 0 where
 abbrev pub IsStepAfter : Entry → Entry → ListedFamily → List Copy → Step → Type 0
 IsStepAfter entry next it copies (Change change place before) =
     (of : FamilyReport) × (family_report entry.report ≡ Some of) × (second : FamilyReport) × (family_report next.report ≡ Some second)
-    × IsPreparedAfter entry.number of next.number second change it × (earlier_of before ≡ before_of (Some next) copies)
+    × IsPreparedAfter entry.number of next.number second change it × (place ≡ place_in next.report)
+    × (earlier_of before ≡ before_of (Some next) copies)
 IsStepAfter entry next it copies step = ⊥
 
 -- the family at the position takes the step then
@@ -88,9 +103,8 @@ pub record IsSecond (state : State) (first second : Next) : Type 0 where
   pub two : AreTwo state.journal.entries first.entry.report second.entry.report
   pub entry : second.entry ≡ next_entry (with_report state.journal.entries first.entry.by first.entry.report) first.entry.by second.entry.report
   pub free : (let journal = with_report state.journal.entries first.entry.by first.entry.report in report_refusal 8 journal (living journal) first.entry.by second.entry.report ≡ None)
-  pub entries : 2 ≤ state.journal.room
-  pub positions : vec_len state.families.positions + 2 ≤ vec_capacity state.families.positions
-  pub contents : vec_len state.contents.entries + 2 ≤ vec_capacity state.contents.entries
+  pub position : second.position ≡ first.position
+  pub room : HasRoom 2 state
   pub sayings : (said : List (Option ℕ)) → (let journal = with_report state.journal.entries first.entry.by first.entry.report in AreContents journal said → AreSayings journal second.entry said second.sayings)
   pub step : TakesAfter first.entry second.entry state.families.list.items first.position (living (with_report state.journal.entries first.entry.by first.entry.report)) second.step
 

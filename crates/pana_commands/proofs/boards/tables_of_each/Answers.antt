@@ -11,10 +11,10 @@ loop-family-init g c =
 pub loop-family-preserved : goal.loop-family-preserved
 loop-family-preserved g c =
     next_board g.S.Session.step c.args.by.now (λ view. table_text c.args.terminal view ∷ []) c.args.families.now c.loop-family.family-index c.args.session.now c.loop-family.session
-    (map string_bytes c.loop-family.tables.items) c.loop-family.invariant 0 c.loop-family-test.true c.board_of.new.session c.in-Ok.view (map string_bytes c.push.new.self.items)
-    (rw c.in-Ok.is at c.in_ok-view.ensures.ok)
+    (map string_bytes c.loop-family.tables.items) c.loop-family.invariant 0 c.loop-family-test.true c.view_of.new.session c.in_ok-view.view (map string_bytes c.push.new.self.items)
+    c.in_ok-view.ensures.ok
     (pushed string_bytes c.push.result c.loop-family.tables.items c.push.new.self.items _ (sym c.is_err.ensures.value ∙ c.if-is_err.false) c.push.ensures.items
-    ∙ ap (λ (table : List ℕ). map string_bytes c.loop-family.tables.items ++ table ∷ []) c.in_ok-print.ensures)
+    ∙ ap (λ (table : List ℕ). map string_bytes c.loop-family.tables.items ++ table ∷ []) c.in_ok-print_board.ensures)
 
 pub returns-clause-ok : goal.returns-clause-ok
 returns-clause-ok g c = (

@@ -13,7 +13,7 @@ loop-family-init g c =
 pub loop-family-preserved : goal.loop-family-preserved
 loop-family-preserved g c =
     next_board g.S.Session.step c.args.by.now newest_in c.args.families.now c.loop-family.family-index c.args.session.now c.loop-family.session c.loop-family.newest c.loop-family.invariant
-    0 c.loop-family-test.true c.board_of.new.session c.in-Ok.view c.append.new.self (rw c.in-Ok.is at c.in_ok-view.ensures.ok)
+    0 c.loop-family-test.true c.view_of.new.session c.in_ok-view.view c.append.new.self c.in_ok-view.ensures.ok
     (was_ok c.append.result _ c.append.ensures.ok (sym c.is_err.ensures.value ∙ c.if-is_err.false) ∙ ap (λ (own : List PlacedCopy). c.loop-family.newest ++ own) c.in_ok-own.ensures)
 
 pub returns-clause-ok : goal.returns-clause-ok

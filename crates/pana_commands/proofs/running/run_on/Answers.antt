@@ -8,22 +8,22 @@ use Rattle.pana_commands.proofs.AlwaysAnswered.{always_answered}
 use Rattle.pana_commands.proofs.running.run_on.Goals as goal
 
 pub returns-in-Ok-clause-ok : goal.returns-in-Ok-clause-ok
-returns-in-Ok-clause-ok g c = IfOk-weaker c.serve.result _ _
-    (λ served said. (c.serve.new.session, subst (λ old. Serves g.R.Read.remaining g.W.Write.contents Replies c.args.reader.now c.serve.new.reader c.args.writer.now c.serve.new.writer old c.serve.new.session served) c.in-Ok.ensures said))
-    c.serve.ensures.ok
+returns-in-Ok-clause-ok g c = IfOk-weaker c.serve-served.result _ _
+    (λ served said. (c.serve-served.new.session, subst (λ old. Serves g.R.Read.remaining g.W.Write.contents Replies c.args.reader.now c.serve-served.new.reader c.args.writer.now c.serve-served.new.writer old c.serve-served.new.session served) c.in-Ok.ensures said))
+    c.serve-served.ensures.ok
 
 pub returns-in-Ok-clause-fault : goal.returns-in-Ok-clause-fault
-returns-in-Ok-clause-fault g c = IfErr-weaker c.serve.result _ _
+returns-in-Ok-clause-fault g c = IfErr-weaker c.serve-served.result _ _
     (λ fault said. (
-      c.serve.new.session,
+      c.serve-served.new.session,
       elim said [
-        | inl nothing ↦ inl (subst (λ old. NeverBegins c.args.reader.now c.serve.new.reader c.args.writer.now c.serve.new.writer old c.serve.new.session fault) c.in-Ok.ensures nothing)
-        | inr stops ↦ inr (subst (λ old. Stops g.R.Read.remaining g.W.Write.contents Replies IsNever c.args.reads c.args.reader.now c.serve.new.reader c.args.writer.now c.serve.new.writer old c.serve.new.session fault) c.in-Ok.ensures stops)
+        | inl nothing ↦ inl (subst (λ old. NeverBegins c.args.reader.now c.serve-served.new.reader c.args.writer.now c.serve-served.new.writer old c.serve-served.new.session fault) c.in-Ok.ensures nothing)
+        | inr stops ↦ inr (subst (λ old. Stops g.R.Read.remaining g.W.Write.contents Replies IsNever c.args.reads c.args.reader.now c.serve-served.new.reader c.args.writer.now c.serve-served.new.writer old c.serve-served.new.session fault) c.in-Ok.ensures stops)
       ],
     ))
-    c.serve.ensures.fault
+    c.serve-served.ensures.fault
 
 pub returns-in-Ok-clause-answered : goal.returns-in-Ok-clause-answered
-returns-in-Ok-clause-answered g c = IfErr-weaker c.serve.result _ _
+returns-in-Ok-clause-answered g c = IfErr-weaker c.serve-served.result _ _
     (λ fault said. elim said [ inl nothing ↦ (λ none. absurd (cc (none, nothing.memory))) | inr stops ↦ always_answered Replies fault _ _ stops.input stops.output _ stops.ends ])
-    c.serve.ensures.fault
+    c.serve-served.ensures.fault

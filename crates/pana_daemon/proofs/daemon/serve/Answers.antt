@@ -1,15 +1,10 @@
-use Rattle.std.proofs.Common.{not, ap, subst, sym, ◌∙◌}
-use Rattle.pana_daemon.specs.Root.{folders_of, has_folders}
-use Rattle.pana_daemon.specs.inner.Folders.{AreOf}
-use Rattle.pana_daemon.proofs.Folders.{new_of, new_some}
+use Rattle.std.proofs.Common.{Result, Ok, Err, IfOk}
 use Rattle.pana_daemon.proofs.daemon.serve.Goals as goal
 
-pub serve_posts-requires-clause-scanners : goal.serve_posts-requires-clause-scanners
-serve_posts-requires-clause-scanners g c κs within =
-    let ticks = c.in_ok-signals.signals.ticks in
-    let start = c.in_ok-signals.signals.start.all.id in
-    subst (λ folders. AreOf ticks start folders) (sym c.in_ok-posts.ensures.scanners) (new_of c.args.looks ticks start (folders_of c.args.disks.now c.args.roots.now))
+-- what follows of each end
+if_ok_then : {T E : Type 0} → (r : Result T E) (P Q : T → Type 0) → ((x : T) → P x → Q x) → IfOk r P → IfOk r Q
+if_ok_then (Ok x) P Q f is = f x is
+if_ok_then (Err e) P Q f is = tt
 
-pub serve_posts-requires-clause-roots : goal.serve_posts-requires-clause-roots
-serve_posts-requires-clause-roots g c κs within =
-    ap not c.is_empty-has_roots.ensures ∙ new_some c.args.disks.now c.args.looks c.in_ok-signals.signals.ticks c.in_ok-signals.signals.start.all.id c.args.roots.now ∙ ap has_folders (sym c.in_ok-posts.ensures.scanners)
+pub returns : goal.returns
+returns g c = if_ok_then c.serve_posts.result _ _ (λ ended ends. ends c.args.listener.wanted c.in_ok-signals.ensures.most) c.serve_posts.ensures

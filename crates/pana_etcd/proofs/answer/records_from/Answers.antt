@@ -1,6 +1,6 @@
 use Rattle.std.proofs.Common.{◌≡◌, ◌+◌, ◌<◌, [], ◌∷◌, ◌++◌, length, map, take, drop, refl, ap, sym, ◌∙◌, arith, None}
 use Rattle.std.proofs.lemmas.Grind.{common_steps}
-use Rattle.std.proofs.lemmas.List.{take_more, map-append, length-map, length-take}
+use Rattle.std.proofs.lemmas.List.{take_more, map-append}
 use Rattle.serde_json.specs.View.{view}
 use Rattle.pana_wire.proofs.DumpBack.{parted}
 use Rattle.pana_etcd.specs.Answer.{record_at}

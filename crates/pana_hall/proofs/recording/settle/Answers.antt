@@ -1,4 +1,5 @@
 use Rattle.pana_hall.proofs.Words.{nat_tests, arith, ◌≡◌, Some, option_copied, sym, ap, ◌∙◌, subst, last_place, listed, CanUndo}
+use Rattle.pana_hall.specs.inner.Next.{is_edit}
 use Rattle.pana_hall.proofs.Ready.{as_is, opened, can_undo, undone_spots, family_confirmed, family_withdrawn, spots_confirm}
 use Rattle.pana_hall.proofs.recording.settle.Goals as goal
 
@@ -9,6 +10,9 @@ withdraw-requires-clause-undo c =
     let both : Some o.ends.last ≡ Some c.unwrap.result.now = sym o.ends.at ∙ sym c.entry.ensures.entry ∙ ap option_copied c.unwrap.ensures in
     let same : o.ends.last ≡ c.unwrap.result.now = cc in
     subst (λ e. CanUndo c.in-Withdraw.entry e.report (listed c.args.it.now).number (last_place (listed c.args.it.now).undo) c.args.copies.now) same (can_undo ready)
+
+pub withdraw-requires-clause-room : goal.withdraw-requires-clause-room
+withdraw-requires-clause-room c = c.requires.room (ap is_edit c.in-Withdraw.is)
 
 pub returns-in-Confirm-clause-family : goal.returns-in-Confirm-clause-family
 returns-in-Confirm-clause-family c = family_confirmed c.requires.ready c.in-Confirm.is (listed c.confirm.new.self) c.confirm.ensures

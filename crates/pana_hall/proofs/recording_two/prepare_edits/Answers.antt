@@ -1,6 +1,6 @@
-use Rattle.pana_hall.proofs.Words.{◌+◌, length, subst, sym, ◌∙◌}
+use Rattle.pana_hall.proofs.Words.{◌+◌, length, ap, subst, sym, ◌∙◌}
 use Rattle.pana_hall.specs.Refusal.{with_report}
-use Rattle.pana_hall.specs.inner.Listed.{IsPreparedAfter}
+use Rattle.pana_hall.specs.{inner.Listed.IsPreparedAfter, inner.Spots.place_in}
 use Rattle.pana_hall.proofs.Ready.{able_there, new_there}
 use Rattle.pana_hall.proofs.Twice.{able_second, before_second, longer, new_second}
 use Rattle.pana_hall.proofs.recording_two.prepare_edits.Goals as goal
@@ -34,6 +34,7 @@ returns-clause-second c =
       c.unwrap-2.result,
       sym c.family_report-2.ensures ∙ c.unwrap-2.ensures,
       after,
+      ap place_in (sym c.requires.two.second_is),
       c.before_edit-2.ensures
           ∙ before_second journal c.args.by.now c.args.first.now c.args.second.now c.requires.ready.accepted c.requires.two c.requires.ready.free c.requires.free c.args.contents.now.entries.items (c.length-entry.result + 1 + 1) c.requires.contents,
     )

@@ -1,16 +1,8 @@
-use Rattle.std.proofs.Common.{sym, subst, Result, IfErr}
 use Rattle.std.proofs.lemmas.Result.{err_from_is_err_and}
-use Rattle.pana_history.specs.Why.{IsDamage}
-use Rattle.pana_history.specs.declared.why.Explanation.{Explanation}
-use Rattle.pana_history.specs.declared.why.Unexplained.{Unexplained}
+use Rattle.pana_history.proofs.Asked.{no_damage}
 use Rattle.pana_history.proofs.why.explain.Goals as goal
-
-pub returns-in_err-theirs-clause-damaged : goal.returns-in_err-theirs-clause-damaged
-returns-in_err-theirs-clause-damaged c =
-    let p = err_from_is_err_and c.from_residual-in_err-theirs.result c.from_residual-in_err-theirs.ensures.1 in
-    subst (λ (r : Result Explanation Unexplained). IfErr r (IsDamage c.args.journal)) (sym p.1) (subst (λ (e : Unexplained). IsDamage c.args.journal e) (sym p.2) tt)
 
 pub returns-in_err-told-clause-damaged : goal.returns-in_err-told-clause-damaged
 returns-in_err-told-clause-damaged c =
     let p = err_from_is_err_and c.from_residual-in_err-told.result c.from_residual-in_err-told.ensures.1 in
-    subst (λ (r : Result Explanation Unexplained). IfErr r (IsDamage c.args.journal)) (sym p.1) (subst (λ (e : Unexplained). IsDamage c.args.journal e) (sym p.2) tt)
+    no_damage c.args.journal _ p.0 p.1 p.2

@@ -6,10 +6,10 @@ use Rattle.pana_history.proofs.why.standing_at.Goals as goal
 
 pub returns-in-At-clause-standing : goal.returns-in-At-clause-standing
 returns-in-At-clause-standing c =
-    at_asked c.args.hall.now c.args.by.now c.in_ok-place.place c.in-At.standing c.in-At.ensures.permitted ∙ ap (standing_at (living c.args.hall.now)) c.in_ok-place.ensures
+    at_asked c.args.hall.now c.args.place.now.device c.in_ok-copy.copy c.in-At.standing c.in-At.ensures.permitted ∙ ap (standing_at (living c.args.hall.now)) c.in_ok-copy.ensures
 
 pub returns-in-At-clause-hall : goal.returns-in-At-clause-hall
-returns-in-At-clause-hall c = c.apply.ensures.journal ∙ asked c.args.hall.now c.args.by.now c.in_ok-place.place c.apply.result
+returns-in-At-clause-hall c = c.apply.ensures.journal ∙ asked c.args.hall.now c.args.place.now.device c.in_ok-copy.copy c.apply.result
 
-pub returns : goal.returns
-returns c = record { standing = tt; hall = c.apply.ensures.journal ∙ asked c.args.hall.now c.args.by.now c.in_ok-place.place c.apply.result }
+pub returns-clause-hall : goal.returns-clause-hall
+returns-clause-hall c = c.apply.ensures.journal ∙ asked c.args.hall.now c.args.place.now.device c.in_ok-copy.copy c.apply.result

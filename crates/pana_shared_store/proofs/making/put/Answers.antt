@@ -62,8 +62,15 @@ returns-in-Ok-Ours-clause-ok g c by call p =
 pub returns-in-Ok-Others-clause-store : goal.returns-in-Ok-Others-clause-store
 returns-in-Ok-Others-clause-store g c known =
     let is = group_is c.writer-writer.result c.args.turn c.args.prepared c.as_slice.result.now _ _ (c.as_slice.ensures.value ∙ c.in-Ok.ensures) c.entry.ensures c.second.ensures in
-    let places = placed_at (g.L.SharedLog.seen c.args.log.now) (g.L.SharedLog.seen c.place.new.log) c.args.at _ c.as_slice.result.now Others c.requires.at (placed_as (g.L.SharedLog.seen c.args.log.now) (g.L.SharedLog.seen c.place.new.log) c.args.at c.as_slice.result.now _ Others c.in-Ok-Others.field-0-is (c.in-Ok-Others.ensures.ok known)) in
-    store_others c.args.turn c.writer-writer.result c.args.prepared.journal (g.L.SharedLog.seen c.args.log.now) (g.L.SharedLog.seen c.place.new.log) (c.requires.store known) (c.requires.ready known) c.args.prepared c.as_slice.result.now is _ c.cancel_into-in-Ok-Others.ensures places
+    let places = placed_at (g.L.SharedLog.seen c.args.log.now) (g.L.SharedLog.seen c.place.new.log) c.args.at _ c.as_slice.result.now (Others c.in-Ok-Others.page) c.requires.at (placed_as (g.L.SharedLog.seen c.args.log.now) (g.L.SharedLog.seen c.place.new.log) c.args.at c.as_slice.result.now _ (Others c.in-Ok-Others.page) c.in-Ok-Others.field-0-is (c.in-Ok-Others.ensures.ok known)) in
+    store_others c.args.turn c.writer-writer.result c.args.prepared.journal (g.L.SharedLog.seen c.args.log.now) (g.L.SharedLog.seen c.place.new.log) (c.requires.store known) (c.requires.ready known) c.args.prepared c.as_slice.result.now is c.in-Ok-Others.page _ c.cancel_into-in-Ok-Others.ensures places
+
+pub returns-in-Ok-Others-clause-ok : goal.returns-in-Ok-Others-clause-ok
+returns-in-Ok-Others-clause-ok g c by call p = (
+  c.as_slice.result.now,
+  c.cancel_into-in-Ok-Others.ensures,
+  λ known. placed_at (g.L.SharedLog.seen c.args.log.now) (g.L.SharedLog.seen c.place.new.log) c.args.at _ c.as_slice.result.now (Others c.in-Ok-Others.page) c.requires.at (placed_as (g.L.SharedLog.seen c.args.log.now) (g.L.SharedLog.seen c.place.new.log) c.args.at c.as_slice.result.now _ (Others c.in-Ok-Others.page) c.in-Ok-Others.field-0-is (c.in-Ok-Others.ensures.ok known)),
+)
 
 pub returns-in-Ok-Full-clause-store : goal.returns-in-Ok-Full-clause-store
 returns-in-Ok-Full-clause-store g c known =

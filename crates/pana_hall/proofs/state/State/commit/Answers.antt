@@ -1,6 +1,8 @@
-use Rattle.pana_hall.proofs.Words.{nat_tests, arith, all_listed}
+use Rattle.pana_hall.proofs.Words.{◌≡◌, ℕ, ap, subst, nat_tests, arith, all_listed, next_entry}
 use Rattle.pana_hall.proofs.Listed.{ready_for, kept_next}
 use Rattle.pana_hall.proofs.NextSaid.{said_kept}
+use Rattle.pana_hall.specs.inner.Next.{TakesAfter}
+use Rattle.pana_hall.proofs.Twice.{second_next}
 use Rattle.pana_hall.proofs.state.State.commit.Goals as goal
 
 pub make_step-requires-clause-ready : goal.make_step-requires-clause-ready
@@ -9,8 +11,8 @@ make_step-requires-clause-ready c =
     let families = c.args.self.now.families in
     ready_for c.args.self.now.journal.entries next.entry.by next.entry.report (all_listed families.list.items) families.positions.items c.args.self.now.copies c.args.self.now.contents.entries.items c.requires.kept c.requires.next.free next.position c.requires.next.position
 
-pub returns : goal.returns
-returns c =
+pub returns-clause-records : goal.returns-clause-records
+returns-clause-records c =
     let next = c.args.next in
     let families = c.args.self.now.families in
     let journal = c.args.self.now.journal.entries in
@@ -21,3 +23,13 @@ returns c =
     c.make_step.ensures.list
     c.make_step.ensures.spots in
     grind (arith, nat_tests, c.append.ensures.number, c.push_reserved.ensures.items)
+
+pub returns-clause-behind : goal.returns-clause-behind
+returns-clause-behind c = λ second behind.
+    let old = c.args.self.now in
+    let next = c.args.next in
+    let all = returns-clause-records c in
+    let same : next.entry ≡ next_entry old.journal.entries next.entry.by next.entry.report = ap (λ (n : ℕ). record { number = n; by = next.entry.by; report = next.entry.report }) c.requires.next.number in
+    second_next old _ next second c.requires.kept c.requires.next behind all.kept all.entries c.push_reserved.ensures.items
+    (record { entries = grind (arith, nat_tests, behind.room); positions = grind (arith, nat_tests, behind.room); contents = grind (arith, nat_tests, behind.room) })
+    (λ lives after. c.make_step.ensures.behind second.entry lives second.step (subst (λ e. TakesAfter e second.entry old.families.list.items next.position lives second.step) same after))

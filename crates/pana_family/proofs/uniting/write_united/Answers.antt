@@ -1,0 +1,57 @@
+use Rattle.pana_family.proofs.Words.{nat_tests, refl, ap, sym, ◌∙◌, ◌≡◌, ◌<◌, ◌∷◌, [], ◌++◌, ◌+◌, ℕ, Bool, true, List, take, map, filter, length, arith, length-append, map-append, Rel, StampRow, is_other}
+use Rattle.pana_family.proofs.Words.{row_relation, take_more_set}
+use Rattle.pana_family.proofs.{Copies.lives_from, Places.in_read, United.other_is}
+use Rattle.pana_family.proofs.Compared.{none_more, one_more, room_for_one}
+use Rattle.pana_family.proofs.uniting.write_united.Goals as goal
+use Rattle.pana_family.proofs.uniting.write_united.Goals.{then-is_other, else-is_other}
+
+pub bounds-rels-count : goal.bounds-rels-count
+bounds-rels-count c = grind (arith, nat_tests, room_for_one)
+
+pub loop-other-preserved : goal.loop-other-preserved
+loop-other-preserved c =
+    let row : StampRow = c.args.row.now in
+    let test : StampRow → Bool = is_other row.copy in
+    let rows : List StampRow = c.args.rows.now in
+    let i : ℕ = c.loop-other.other-index in
+    let seen : List StampRow = filter test (take i rows) in
+    let r : StampRow = c.other-item.result in
+    elim c.if-is_other.branch [
+      | then-is_other w ↦
+          let passes : test r ≡ true = sym c.is_other.ensures ∙ w.if-is_other.true in
+          let more : filter test (take (i + 1) rows) ≡ seen ++ r ∷ [] = one_more test rows i r c.loop-other-test.true c.other-item.is passes in
+          let room : c.loop-other.count < length c.loop-other.rels =
+          omega (arith, room_for_one test rows i r c.loop-other-test.true c.other-item.is passes, c.loop-other.invariant.count_is, c.loop-other.auto.rels, c.requires.room) in
+          record {
+            count_is = omega (arith, w.count-is, c.loop-other.invariant.count_is, ap length more, length-append seen (r ∷ []));
+            rels_are = ap (λ (k : ℕ). take k c.if-is_other.rels) w.count-is ∙ ap (take (c.loop-other.count + 1)) w.rels-is ∙ take_more_set c.loop-other.rels c.loop-other.count w.united_relation.result room
+                ∙ ap (λ (l : List Rel). l ++ w.united_relation.result ∷ []) c.loop-other.invariant.rels_are ∙ ap (λ (x : Rel). map (row_relation row) seen ++ x ∷ []) w.united_relation.ensures
+                ∙ sym (ap (map (row_relation row)) more ∙ map-append (row_relation row) seen (r ∷ []));
+          }
+      | else-is_other w ↦
+          let less : filter test (take (i + 1) rows) ≡ seen = none_more test rows i r c.loop-other-test.true c.other-item.is (sym c.is_other.ensures ∙ w.if-is_other.false) in
+          record {
+            count_is = w.count-is ∙ c.loop-other.invariant.count_is ∙ sym (ap length less);
+            rels_are = ap (λ (k : ℕ). take k c.if-is_other.rels) w.count-is ∙ ap (take c.loop-other.count) w.rels-is ∙ c.loop-other.invariant.rels_are ∙ sym (ap (map (row_relation row)) less);
+          }
+    ]
+
+pub united_relation-requires-clause-first : goal.united_relation-requires-clause-first
+united_relation-requires-clause-first c = (c.requires.copies c.args.row.now.copy).1 (lives_from c.args.rows.now c.args.row.now c.requires.here c.requires.free)
+
+pub united_relation-requires-clause-other : goal.united_relation-requires-clause-other
+united_relation-requires-clause-other c =
+    let r : StampRow = c.other-item.result in
+    let there = in_read c.args.rows.now c.loop-other.other-index r c.loop-other-test.true c.other-item.is in
+    (c.requires.copies r.copy).1 (lives_from c.args.rows.now r there (other_is c.args.row.now.copy r (sym c.is_other.ensures ∙ c.if-is_other.true)).0)
+
+pub united_relation-requires-clause-same : goal.united_relation-requires-clause-same
+united_relation-requires-clause-same c = λ e.
+    let r : StampRow = c.other-item.result in
+    c.requires.united.same c.args.row.now r c.requires.here (in_read c.args.rows.now c.loop-other.other-index r c.loop-other-test.true c.other-item.is) refl e
+
+pub united_relation-requires-clause-decided : goal.united_relation-requires-clause-decided
+united_relation-requires-clause-decided c = λ ne.
+    let r : StampRow = c.other-item.result in
+    let o = other_is c.args.row.now.copy r (sym c.is_other.ensures ∙ c.if-is_other.true) in
+    c.requires.united.decided c.args.row.now r c.requires.here (in_read c.args.rows.now c.loop-other.other-index r c.loop-other-test.true c.other-item.is) o.0 refl o.1 ne
