@@ -1,6 +1,8 @@
 -- A log that several writers append to, as one of them sees it.
 use Rattle.std.specs.Prelude.{◌≡◌, ◌≢◌, ◌⊎◌, ◌<◌, ◌≤◌, ℕ, ◌==◌, List, [], ◌∷◌, ◌++◌, length, filter}
 use Rattle.std.specs.List.{AllByRecursion}
+use Rattle.pana_shared.specs.declared.read_fault.ReadFault.{ReadFault}
+use Rattle.pana_shared.specs.declared.read_fault.ReadFault.TheVariants.{NoAnswer, Foreign, OutOfMemory}
 use Rattle.pana_shared.specs.declared.record.Record.{Record}
 use Rattle.pana_shared.specs.declared.shared_log.Appended.{Appended}
 use Rattle.pana_shared.specs.declared.shared_log.Appended.TheVariants.{Put, Taken, Full, Unknown}
@@ -87,3 +89,16 @@ HasSome (Taken page) = page.items ≢ []
 HasSome Put = Unit {0}
 HasSome Full = Unit {0}
 HasSome Unknown = Unit {0}
+
+-- an append has an answer, or one of the times is over at which there may be none
+abbrev pub IsHeard : Appended → ℕ → ℕ → Type 0
+IsHeard Unknown old new = new < old
+IsHeard Put old new = new ≤ old
+IsHeard (Taken page) old new = new ≤ old
+IsHeard Full old new = new ≤ old
+
+-- the same of a read that fails
+abbrev pub IsUnread : ReadFault → ℕ → ℕ → Type 0
+IsUnread NoAnswer old new = new < old
+IsUnread (Foreign number) old new = ⊥
+IsUnread OutOfMemory old new = new ≤ old

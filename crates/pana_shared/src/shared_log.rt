@@ -1,5 +1,5 @@
-ghost use Rattle.std.specs.Prelude.{◌≡◌, ◌≢◌, ◌≤◌, Bool, IsTrue, [], length, IfOk, OnErr};
-ghost use Rattle.pana_shared.specs.Log.{LogView, HasSome, IsAt, MayAppend, Appends, Reads};
+ghost use Rattle.std.specs.Prelude.{◌≡◌, ◌≢◌, ◌≤◌, ℕ, Bool, IsTrue, [], length, IfOk, IfErr};
+ghost use Rattle.pana_shared.specs.Log.{LogView, HasSome, IsAt, IsHeard, IsUnread, MayAppend, Appends, Reads};
 
 use crate::read_fault::ReadFault;
 use crate::record::Record;
@@ -26,6 +26,9 @@ pub trait SharedLog {
     /// The log's records, who writes by this handle, and what may still come of its appends.
     ghost seen: { Self → LogView };
 
+    /// How many more times it may give no answer: for a log that is known there is an end.
+    ghost silences: { Self → ℕ } = { λ s. 0 };
+
     /// The writer's number. Takes no memory.
     fn writer(&self) -> u64
         ensures { IsTrue is_known → result ≡ (seen self.now).writer };
@@ -34,11 +37,15 @@ pub trait SharedLog {
     fn append(&mut self, at: u64, group: &[Record]) -> Appended
         requires { IsTrue is_known → MayAppend (seen self.old) at group.now }
         ensures came { IsTrue is_known → Appends (seen self.old) at group.now result (seen self.new) }
-        ensures some { HasSome result };
+        ensures some { HasSome result }
+        ensures heard { IsTrue is_known → IsHeard result (silences self.old) (silences self.new) };
 
     /// The records behind the first so many, or some of the next of them; none where there is none.
     fn read(&mut self, from: u64) -> Result<Vec<Record>, ReadFault>
         ensures grows { IsTrue is_known → Reads (seen self.old) (seen self.new) }
         ensures part { IfOk result (λ page. IsTrue is_known → page.items ≢ [] → IsAt from page.items (seen self.new).records) }
-        ensures all { IfOk result (λ page. IsTrue is_known → page.items ≡ [] → length (seen self.old).records ≤ from) };
+        ensures all { IfOk result (λ page. IsTrue is_known → page.items ≡ [] → length (seen self.old).records ≤ from) }
+        ensures heard { IfOk result (λ page. IsTrue is_known → silences self.new ≤ silences self.old) }
+        // What a log has that is known are records, so nothing in it is foreign.
+        ensures unread { IfErr result (λ fault. IsTrue is_known → IsUnread fault (silences self.old) (silences self.new)) };
 }

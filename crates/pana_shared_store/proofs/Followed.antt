@@ -1,10 +1,8 @@
 -- A hall that goes on.
-use Rattle.std.proofs.Common.{◌≡◌, ◌≢◌, ◌≤◌, ◌+◌, Bool, inl, List, [], ◌∷◌, ◌++◌, length, Option, None, refl, sym, ap, subst, ◌∙◌, append_assoc, append-nil, length-append}
+use Rattle.std.proofs.Common.{◌≡◌, ◌≢◌, ◌≤◌, ◌+◌, Bool, inl, List, [], ◌∷◌, ◌++◌, length, refl, sym, ap, subst, ◌∙◌, append_assoc, append-nil, length-append}
 use native.Mathlib.Omega.{arith}
-use Rattle.std.specs.Option.{option_to_list}
 use Rattle.std.specs.Prelude.{IsTrue}
 use Rattle.pana_journal.specs.declared.entry.Entry.{Entry}
-use Rattle.pana_hall.specs.Prepared.{PreparedView, entries_of}
 use Rattle.pana_shared.specs.declared.record.Record.{Record}
 use Rattle.pana_shared.specs.Log.{Grows, HaveSome, IsAt, LogView, Reads}
 use Rattle.pana_shared.proofs.Grown.{grows_on}
@@ -12,11 +10,6 @@ use Rattle.pana_shared.proofs.Splits.{same_front}
 use Rattle.pana_shared_store.specs.Store.{AreFirst, entries_in}
 use Rattle.pana_shared_store.specs.inner.{LooksOn}
 use Rattle.pana_shared_store.proofs.Placed.{looked_on}
-
--- the one entry that was prepared is the next
-pub followed : (prepared : PreparedView) (old new : List Entry) (entry : Entry) → prepared.journal ≡ old → prepared.second ≡ None → prepared.entry ≡ entry → new ≡ prepared.journal ++ entries_of prepared → new ≡ old ++ entry ∷ []
-followed prepared old new entry journal second is made =
-    made ∙ ap (λ (l : List Entry). l ++ entries_of prepared) journal ∙ ap (λ (o : Option Entry). old ++ (prepared.entry ∷ option_to_list o)) second ∙ ap (λ (e : Entry). old ++ e ∷ []) is
 
 pub entries_both : (xs ys : List Record) → entries_in (xs ++ ys) ≡ entries_in xs ++ entries_in ys
 entries_both [] ys = refl

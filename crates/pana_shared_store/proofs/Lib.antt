@@ -6,3 +6,4 @@ pub mod Shortage
 pub mod Made
 pub mod Tried
 pub mod Filled
+pub mod Strange

@@ -73,7 +73,7 @@ at_some at [] records some there = absurd (some refl)
 at_some at (r ∷ rest) records some there = at_within at r rest records there
 
 -- a page that isn't empty has entries to follow
-followed_some : (old mid new : List Entry) (page : List Record) → mid ≡ old → new ≡ mid ++ entries_in page → page ≢ [] → length old < length new
+pub followed_some : (old mid new : List Entry) (page : List Record) → mid ≡ old → new ≡ mid ++ entries_in page → page ≢ [] → length old < length new
 followed_some old mid new [] same is some = absurd (some refl)
 followed_some old mid new (r ∷ page) same is some =
     let l : length new ≡ length (mid ++ entries_in (r ∷ page)) = ap length is in
@@ -159,6 +159,13 @@ module _ (is_known : Bool) (turn : ℕ) (old mid new : List Entry) (before betwe
   -- or something does, and all of it that was there is followed
   pub not_read : (answer : Answer) → TriesTo is_known turn old before by call (Not answer) mid between → (IsTrue is_known → length between.records ≤ length new) → IsTrue is_known → length before.records ≤ length new
   not_read answer (same, becomes, reads) all known = let w = within before [] between.records (reads known).grows in let a = all known in omega (arith, w, a)
+
+-- others' entries are followed then, one at least
+pub behind_more : (is_known : Bool) (turn : ℕ) (old mid new : List Entry) (before between : LogView) (by : List ℕ) (call : Call) (page : Vec Record) → TriesTo is_known turn old before by call (Behind page) mid between → new ≡ mid ++ entries_in page.items → IsTrue is_known → length old < length new
+behind_more is_known turn old mid new before between by call page (group, same, places) is known = followed_some old mid new page.items same is (places known).2
+
+pub not_more : (old mid new : List Entry) → mid ≡ old → GoesOn mid new → (length new ≡ length old → ⊥) → length old < length new
+not_more old mid new same goes differs = let w = goes_on_within old new (goes_from old mid new same goes) in omega (arith, w, differs)
 
 -- what a page has that stands there is followed, or the first of it
 pub behind_looks : (is_known : Bool) (turn : ℕ) (old mid new : List Entry) (before between : LogView) (by : List ℕ) (call : Call) (page : Vec Record) (taken left : List Entry) → (IsTrue is_known → IsStore mid turn between)

@@ -1,23 +1,34 @@
 -- What calls do to a store whose journal is a log that others append to as well.
-use Rattle.std.specs.Prelude.{◌≡◌, ◌≢◌, ◌⊎◌, ◌<◌, ◌≤◌, ℕ, Bool, true, false, IsTrue, List, [], ◌++◌, length, map, None}
+use Rattle.std.specs.Prelude.{◌≡◌, ◌≢◌, ◌⊎◌, ◌<◌, ◌≤◌, ℕ, ◌+◌, ◌^◌, Bool, true, false, IsTrue, List, [], ◌∷◌, ◌++◌, length, map, Option, Some, None, is_some}
 use Rattle.pana_journal.specs.declared.entry.Entry.{Entry}
 use Rattle.pana_calls.specs.declared.answer.Answer.{Answer}
 use Rattle.pana_calls.specs.declared.answer.Answer.TheVariants.{Given, NotKept}
 use Rattle.pana_calls.specs.declared.call.Call.{Call}
+use Rattle.pana_calls.specs.declared.call.Call.TheVariants as calls
 use Rattle.pana_calls.specs.declared.reply.Reply.{Reply}
 use Rattle.pana_hall.specs.Permit.{Permits, journal_after}
 use Rattle.pana_hall.specs.Refusal.{refusal}
 use Rattle.pana_hall.specs.Step.{Steps}
+use Rattle.pana_shared.specs.declared.read_fault.ReadFault.{ReadFault}
+use Rattle.pana_shared.specs.declared.read_fault.ReadFault.TheVariants.{NoAnswer, Foreign, OutOfMemory}
 use Rattle.pana_shared.specs.declared.record.Record.{Record}
 use Rattle.pana_shared.specs.Log.{Follows, Grows, IsAt, IsOneOf, LogView, ours}
 
 -- what contracts see of a store: the entries of its hall's journal, the log, how many of its calls may have made entries, and
--- whether something that is no entry stands in the log
+-- whether something that is no entry stands in the log; and why the last call without an answer had none
 pub record StoreView (L : Type 0) : Type 0 where
   pub entries : List Entry
   pub log : L
   pub turn : ℕ
   pub broken : Bool
+  pub fault : Option ReadFault
+
+-- the number of what stands in the log and is no entry, where that was why
+abbrev pub foreign_of : Option ReadFault → Option ℕ
+foreign_of (Some (Foreign number)) = Some number
+foreign_of (Some NoAnswer) = None
+foreign_of (Some OutOfMemory) = None
+foreign_of None = None
 
 -- the entries of records
 abbrev pub entries_in : List Record → List Entry
@@ -119,3 +130,28 @@ pub record MakesNone {L : Type 0} (is_known : Bool) (seen : L → LogView) (old 
 -- a call that has no answer: of a store that is broken nothing changes any more
 abbrev pub Fails : {L : Type 0} → Bool → (L → LogView) → StoreView L → List ℕ → Call → StoreView L → Type 0
 Fails is_known seen old by call new = ((old.broken ≡ true) × (new ≡ old)) ⊎ MakesNone is_known seen old by call new
+
+-- no hall alone makes the entry behind the journal
+abbrev pub IsStrange : List Entry → Entry → Type 0
+IsStrange journal entry = (reply : Reply) → Steps journal entry.by (calls.Report entry.report) reply (journal ++ entry ∷ []) → ⊥
+
+-- how many entries of others come first at least, where a call is given up for them: each try but the first follows one
+abbrev pub most_tries : ℕ
+most_tries = 4000
+
+-- Why a call has no answer, by a store that had so many turns, these entries, and a log that might give no answer so many times more, and
+-- has these and so many then: the log gave no answer; or others were faster, most_tries times; or there is no further turn. Or an entry
+-- stands in the log behind the store's that no hall makes, with this number. Memory may run out for any.
+abbrev pub Why : ReadFault → ℕ → List Entry → ℕ → List Entry → List Record → ℕ → Type 0
+Why NoAnswer turn old before new records after = (after < before) ⊎ (length old + most_tries ≤ length new) ⊎ (2 ^ 64 ≤ turn + 1)
+Why (Foreign number) turn old before new records after = (entry : Entry) × AreFirst (new ++ entry ∷ []) records × IsStrange new entry × (number ≡ length new + 1)
+Why OutOfMemory turn old before new records after = Unit {0}
+
+-- A call that has no answer has a cause, which the store knows then, unless it was broken before. It is broken then where that is foreign.
+pub record IsCause {L : Type 0} (is_known : Bool) (seen : L → LogView) (silences : L → ℕ) (old : StoreView L) (fault : ReadFault) (new : StoreView L) : Type 0 where
+  pub known : new.fault ≡ Some fault
+  pub broken : new.broken ≡ is_some (foreign_of new.fault)
+  pub why : IsTrue is_known → Why fault old.turn old.entries (silences old.log) new.entries (seen new.log).records (silences new.log)
+
+abbrev pub HasCause : {L : Type 0} → Bool → (L → LogView) → (L → ℕ) → StoreView L → StoreView L → Type 0
+HasCause is_known seen silences old new = (old.broken ≡ true) ⊎ ((fault : ReadFault) × IsCause is_known seen silences old fault new)

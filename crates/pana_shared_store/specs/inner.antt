@@ -2,10 +2,14 @@
 use Rattle.std.specs.Prelude.{◌≡◌, ◌≢◌, ◌⊎◌, ◌<◌, ◌≤◌, ◌+◌, ℕ, Bool, IsTrue, List, [], ◌∷◌, ◌++◌, length}
 use Rattle.std.specs.List.{AllByRecursion}
 use Rattle.pana_journal.specs.declared.entry.Entry.{Entry}
+use Rattle.pana_shared.specs.declared.read_fault.ReadFault.{ReadFault}
+use Rattle.pana_shared.specs.declared.read_fault.ReadFault.TheVariants.{NoAnswer, Foreign, OutOfMemory}
 use Rattle.pana_shared.specs.declared.record.Record.{Record}
 use Rattle.pana_calls.specs.declared.answer.Answer.{Answer}
 use Rattle.pana_calls.specs.declared.call.Call.{Call}
+use Rattle.pana_calls.specs.declared.cause.Cause.TheVariants as causes
 use Rattle.pana_calls.specs.declared.reply.Reply.{Reply}
+use Rattle.pana_calls.specs.declared.reply.Reply.TheVariants.{Refused}
 use Rattle.pana_hall.specs.Step.{Steps}
 use Rattle.pana_shared.specs.Log.{Follows, Grows, HaveSome, IsAt, IsOneOf, LogView, Reads, loose_at, ours}
 use Rattle.pana_shared_store.specs.declared.placing.Placed.{Placed}
@@ -14,7 +18,7 @@ use Rattle.pana_shared_store.specs.declared.making.Tried.{Tried}
 use Rattle.pana_shared_store.specs.declared.making.Tried.TheVariants.{Made, Behind, Not}
 use Rattle.pana_shared_store.specs.declared.trying.Attempt.{Attempt}
 use Rattle.pana_shared_store.specs.declared.trying.Attempt.TheVariants as attempts
-use Rattle.pana_shared_store.specs.Store.{StaysOn, AreFirst, Becomes, GoesOn, recorded}
+use Rattle.pana_shared_store.specs.Store.{StaysOn, AreFirst, Becomes, GoesOn, IsStrange, recorded}
 use Rattle.pana_shared_store.specs.Fill.{Fills}
 
 -- the records are of earlier turns
@@ -97,10 +101,32 @@ pub record MakesLate (is_known : Bool) (turn : ℕ) (old : List Entry) (seen_old
   pub follows : IsTrue is_known → Follows seen_old seen_new
 
 -- What has come of one try: the call has its answer, behind all that the log had when the try began, unless enough was read before it;
--- or others' entries have come and are followed, so it may be tried again, and enough is read then, or maybe not.
+-- or others' entries have come, one at least, and are followed, so it may be tried again, and enough is read then, or maybe not.
 abbrev pub Attempts : Bool → ℕ → Bool → List Entry → LogView → List ℕ → Call → Attempt → List Entry → LogView → Type 0
 Attempts is_known turn is_read old seen_old by call (attempts.Answered answer) new seen_new = (makes : MakesLate is_known turn old seen_old by call answer new seen_new) × (IsTrue is_known → IsTrue is_read ⊎ (length seen_old.records ≤ length makes.at))
-Attempts is_known turn is_read old seen_old by call (attempts.Again is_now) new seen_new = StaysOn is_known old seen_old new seen_new × (IsTrue is_known → IsReady turn new seen_new) × (IsTrue is_now → IsTrue is_known → IsTrue is_read ⊎ (length seen_old.records ≤ length new))
+Attempts is_known turn is_read old seen_old by call (attempts.Again is_now) new seen_new = StaysOn is_known old seen_old new seen_new × (IsTrue is_known → IsReady turn new seen_new) × (IsTrue is_known → length old < length new) × (IsTrue is_now → IsTrue is_known → IsTrue is_read ⊎ (length seen_old.records ≤ length new))
+
+-- why an entry of the log isn't followed behind a journal
+abbrev pub FollowsNot : ReadFault → List Entry → Entry → Type 0
+FollowsNot NoAnswer journal entry = ⊥
+FollowsNot (Foreign number) journal entry = IsStrange journal entry × (number ≡ length journal + 1)
+FollowsNot OutOfMemory journal entry = Unit {0}
+
+-- why it isn't, from the reply that its report gets: memory ran out, or it is foreign
+abbrev pub IsRefusal : Reply → ℕ → ReadFault → Type 0
+IsRefusal reply number NoAnswer = ⊥
+IsRefusal reply number (Foreign named) = (named ≡ number) × (reply ≢ Refused causes.OutOfMemory)
+IsRefusal reply number OutOfMemory = Unit {0}
+
+-- the first of some entries are followed, and the next one isn't
+abbrev pub StopsAt : ReadFault → List Entry → List Entry → List Entry → Type 0
+StopsAt fault old entries new = (taken : List Entry) × (entry : Entry) × (left : List Entry) × (new ≡ old ++ taken) × (entries ≡ taken ++ entry ∷ left) × FollowsNot fault new entry
+
+-- nothing in the log was found to be foreign
+abbrev pub IsNotForeign : ReadFault → Type 0
+IsNotForeign NoAnswer = Unit {0}
+IsNotForeign (Foreign number) = ⊥
+IsNotForeign OutOfMemory = Unit {0}
 
 -- these entries are in a log that had none when the writer began, put by so many turns, and nothing else may come of the writer
 pub record HasFilled (start : LogView) (done : List Entry) (turn : ℕ) (view : LogView) : Type 0 where

@@ -1,14 +1,14 @@
 //! A hall that goes on to what others have put into its log.
-ghost use Rattle.std.specs.Prelude.{◌≡◌, ◌≤◌, IsTrue, [], ◌∷◌, ◌++◌, List, length, OnOk, OnErr};
-ghost use Rattle.pana_journal.specs.declared.entry.Entry.{Entry};
+ghost use Rattle.std.specs.Prelude.{◌≡◌, ◌≢◌, ◌≤◌, IsTrue, false, [], ◌∷◌, ◌++◌, length, IfErr, OnOk, OnErr};
+ghost use Rattle.pana_hall.specs.Prepared.{entries_of};
 ghost use Rattle.pana_shared.specs.Log.{HaveSome};
-ghost use Rattle.pana_shared_store.specs.Store.{AreFirst, entries_in};
-ghost use Rattle.pana_shared_store.specs.inner.{LooksOn};
+ghost use Rattle.pana_shared_store.specs.Store.{AreFirst, Why, entries_in};
+ghost use Rattle.pana_shared_store.specs.inner.{FollowsNot, IsRefusal, LooksOn, StopsAt};
 
 use crate::committing::{cancel_into, commit_all};
 use crate::same::is_entry;
 use pana_calls::{Call, Cause, Reply};
-use pana_hall::{Hall, Unprepared};
+use pana_hall::{Hall, Prepared, Unprepared};
 use pana_journal::Entry;
 use pana_shared::{ReadFault, Record, SharedLog};
 use std::alloc::Global;
@@ -24,14 +24,15 @@ const MOST_PAGES: u32 = 1_000_000;
 fn follow(alloc: Global, hall: &mut Hall, entry: &Entry) -> Result<(), ReadFault>
     ensures ok { OnOk result (hall.new ≡ hall.old ++ entry.now ∷ []) }
     ensures err { OnErr result (hall.new ≡ hall.old) }
+    ensures why { IfErr result (λ fault. FollowsNot fault hall.old entry.now) }
 {
-    let number = hall.length().saturating_add(1);
+    let number = hall.length() + 1;
     let Ok(report) = entry.report.copy_of(alloc) else {
         return Err(ReadFault::OutOfMemory);
     };
     match hall.take_all().prepare(&entry.by, Call::Report(report)) {
         Ok(prepared) => {
-            if prepared.second().is_none() && is_entry(prepared.entry(), entry) {
+            if is_only(&prepared, entry) {
                 commit_all(hall, prepared);
                 Ok(())
             } else {
@@ -46,8 +47,18 @@ fn follow(alloc: Global, hall: &mut Hall, entry: &Entry) -> Result<(), ReadFault
     }
 }
 
+/// Whether this entry, and no other, is prepared.
+fn is_only(prepared: &Prepared, entry: &Entry) -> bool
+    ensures same { IsTrue result → entries_of prepared.now ≡ entry.now ∷ [] }
+    ensures other { result ≡ false → entries_of prepared.now ≢ entry.now ∷ [] }
+{
+    prepared.second().is_none() && is_entry(prepared.entry(), entry)
+}
+
 /// Why the entry with this number can't be followed, from the reply that its report gets.
-fn why_not(reply: Reply, number: u64) -> ReadFault {
+fn why_not(reply: Reply, number: u64) -> ReadFault
+    ensures { IsRefusal reply number result }
+{
     match reply {
         Reply::Refused(Cause::OutOfMemory) => ReadFault::OutOfMemory,
         _ => ReadFault::Foreign { number },
@@ -65,7 +76,7 @@ pub(crate) fn follow_page(
     page: Vec<Record>,
 ) -> Result<(), ReadFault>
     ensures ok { OnOk result (hall.new ≡ hall.old ++ entries_in page.items) }
-    ensures err { OnErr result ((taken : List Entry) × (left : List Entry) × (hall.new ≡ hall.old ++ taken) × (entries_in page.items ≡ taken ++ left)) }
+    ensures err { IfErr result (λ fault. StopsAt fault hall.old (entries_in page.items) hall.new) }
 {
     for found in page {
         follow(alloc, hall, &found.entry)?;
@@ -87,6 +98,8 @@ pub(crate) fn read_on<L: SharedLog>(
     requires some { IsTrue L.is_known → HaveSome (L.seen log.old).loose }
     ensures looks { LooksOn L.is_known hall.old (L.seen log.old) hall.new (L.seen log.new) }
     ensures all { OnOk result (IsTrue L.is_known → length (L.seen log.old).records ≤ length hall.new) }
+    ensures heard { IsTrue L.is_known → L.silences log.new ≤ L.silences log.old }
+    ensures why { IfErr result (λ fault. IsTrue L.is_known → Why fault 0 hall.old (L.silences log.old) hall.new (L.seen log.new).records (L.silences log.new)) }
 {
     for _ in 0..MOST_PAGES {
         let page = log.read(hall.length())?;

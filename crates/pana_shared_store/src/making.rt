@@ -1,7 +1,8 @@
 //! Calls that make entries, put into a log before the hall has them.
-ghost use Rattle.std.specs.Prelude.{◌≡◌, ◌≤◌, ◌+◌, ◌∷◌, ℕ, List, IsTrue, length, IfOk, OnErr, option_copied, option_to_list};
+ghost use Rattle.std.specs.Prelude.{◌≡◌, ◌≤◌, ◌+◌, ◌∷◌, ℕ, List, IsTrue, length, IfErr, IfOk, OnErr, option_copied, option_to_list};
 ghost use Rattle.pana_calls.specs.declared.call.Call.{Call};
 ghost use Rattle.pana_hall.specs.Prepared.{Prepares};
+ghost use Rattle.pana_shared.specs.Log.{IsUnread};
 ghost use Rattle.pana_shared_store.specs.Store.{recorded};
 ghost use Rattle.pana_shared_store.specs.inner.{IsReady, IsStore, TriesNone, TriesTo};
 
@@ -69,6 +70,8 @@ pub(crate) fn try_to_make<L: SharedLog>(
     ensures store { IsTrue L.is_known → IsStore hall.new turn (L.seen log.new) }
     ensures ok { IfOk result (λ tried. TriesTo L.is_known turn hall.old (L.seen log.old) by.now call tried hall.new (L.seen log.new)) }
     ensures err { OnErr result (TriesNone L.is_known turn hall.old (L.seen log.old) by.now call hall.new (L.seen log.new)) }
+    ensures heard { IsTrue L.is_known → L.silences log.new ≤ L.silences log.old }
+    ensures unread { IfErr result (λ fault. IsTrue L.is_known → IsUnread fault (L.silences log.old) (L.silences log.new)) }
 {
     let at = hall.length();
     match hall.take_all().prepare(by, call) {
@@ -95,6 +98,8 @@ fn put<L: SharedLog>(
     ensures store { IsTrue L.is_known → IsStore hall.new turn (L.seen log.new) }
     ensures ok { IfOk result (λ tried. (by : List ℕ) (call : Call) → Prepares prepared.journal by call prepared → TriesTo L.is_known turn prepared.journal (L.seen log.old) by call tried hall.new (L.seen log.new)) }
     ensures err { OnErr result ((by : List ℕ) (call : Call) → Prepares prepared.journal by call prepared → TriesNone L.is_known turn prepared.journal (L.seen log.old) by call hall.new (L.seen log.new)) }
+    ensures heard { IsTrue L.is_known → L.silences log.new ≤ L.silences log.old }
+    ensures unread { IfErr result (λ fault. IsTrue L.is_known → IsUnread fault (L.silences log.old) (L.silences log.new)) }
 {
     let writer = log.writer();
     let Ok(group) = group_of(alloc, writer, turn, prepared.entry(), prepared.second()) else {

@@ -1,7 +1,7 @@
 //! Records that are put into a log at one place, or not.
-ghost use Rattle.std.specs.Prelude.{◌≢◌, ◌<◌, [], IsTrue, IfOk, OnErr, length};
-ghost use Rattle.pana_shared.specs.Log.{HaveSome, IsAt, MayAppend, Reads, loose_at, ours};
-ghost use Rattle.pana_shared_store.specs.inner.{IsNew, IsPlaced, IsUnusedGroup, Places, PlacesNone};
+ghost use Rattle.std.specs.Prelude.{◌≢◌, ◌≤◌, [], IsTrue, IfErr, IfOk, OnErr};
+ghost use Rattle.pana_shared.specs.Log.{HaveSome, IsAt, IsUnread, MayAppend, Reads, loose_at, ours};
+ghost use Rattle.pana_shared_store.specs.inner.{IsNew, IsNotForeign, IsPlaced, IsUnusedGroup, Places, PlacesNone};
 
 use crate::same::is_record;
 use pana_shared::{Appended, ReadFault, Record, SharedLog};
@@ -26,6 +26,8 @@ fn look<L: SharedLog>(log: &mut L, at: u64) -> Result<Vec<Record>, ReadFault>
     ensures reads { IsTrue L.is_known → Reads (L.seen log.old) (L.seen log.new) }
     ensures some { IfOk result (λ page. page.items ≢ []) }
     ensures part { IfOk result (λ page. IsTrue L.is_known → IsAt at page.items (L.seen log.new).records) }
+    ensures heard { IsTrue L.is_known → L.silences log.new ≤ L.silences log.old }
+    ensures fault { IfErr result (λ fault. IsTrue L.is_known → IsNotForeign fault) }
 {
     let page = log.read(at)?;
     if page.is_empty() {
@@ -65,6 +67,8 @@ pub(crate) fn place<L: SharedLog>(
     requires unused { IsTrue L.is_known → IsUnusedGroup group.now (ours (L.seen log.old).writer (L.seen log.old).records) }
     ensures ok { IfOk result (λ placed. IsTrue L.is_known → Places (L.seen log.old) at group.now placed (L.seen log.new)) }
     ensures err { OnErr result (IsTrue L.is_known → PlacesNone (L.seen log.old) at group.now (L.seen log.new)) }
+    ensures heard { IsTrue L.is_known → L.silences log.new ≤ L.silences log.old }
+    ensures unread { IfErr result (λ fault. IsTrue L.is_known → IsUnread fault (L.silences log.old) (L.silences log.new)) }
 {
     match log.append(at, group) {
         Appended::Put => Ok(Placed::Ours),

@@ -1,6 +1,6 @@
-ghost use Rattle.std.specs.Prelude.{◌≡◌, ◌≤◌, ◌⊎◌, IsTrue, IfOk, OnErr, is_some};
+ghost use Rattle.std.specs.Prelude.{◌≡◌, ◌≤◌, ◌⊎◌, IsTrue, IfErr, IfOk, OnErr, is_some};
 ghost use Rattle.pana_calls.specs.declared.call.Call.TheVariants as calls;
-ghost use Rattle.pana_shared_store.specs.Store.{IsFresh, MakesBy, Opens, StaysOn, TriesBy};
+ghost use Rattle.pana_shared_store.specs.Store.{IsFresh, MakesBy, Opens, StaysOn, TriesBy, Why, foreign_of};
 ghost use Rattle.pana_shared_store.specs.inner.{IsStore};
 
 use crate::following::read_on;
@@ -21,18 +21,18 @@ pub struct SharedStore<L: SharedLog> {
     hall: Hall,
     log: L,
     turn: u64,
-    /// The number of what stands in the log and is no entry, once it is met.
-    foreign: Option<u64>,
+    /// Why the last call that had no answer had none.
+    fault: Option<ReadFault>,
 }
 
 impl<L: SharedLog> Model for SharedStore<L> {
     ghost use Rattle.std.specs.Prelude.{IsTrue, is_some};
-    ghost use Rattle.pana_shared_store.specs.Store.{StoreView};
+    ghost use Rattle.pana_shared_store.specs.Store.{StoreView, foreign_of};
     ghost use Rattle.pana_shared_store.specs.inner.{IsStore};
 
     ghost Value = { StoreView L };
 
-    ghost view = { λ store. record { entries = store.hall; log = store.log; turn = store.turn; broken = is_some store.foreign } };
+    ghost view = { λ store. record { entries = store.hall; log = store.log; turn = store.turn; broken = is_some (foreign_of store.fault); fault = store.fault } };
 
     ghost invariant = { λ store. IsTrue L.is_known → IsStore store.hall store.turn (L.seen store.log) };
 }
@@ -56,7 +56,7 @@ impl<L: SharedLog + Drop> SharedStore<L> {
             hall,
             log,
             turn: 0,
-            foreign: None,
+            fault: None,
         })
     }
 
@@ -82,6 +82,7 @@ fn make_next<L: SharedLog>(
     ensures turn { turn.old ≤ turn.new }
     ensures ok { IfOk result (λ answer. MakesBy L.is_known turn.old turn.new hall.old (L.seen log.old) by.now call.now answer hall.new (L.seen log.new)) }
     ensures err { OnErr result (StaysOn L.is_known hall.old (L.seen log.old) hall.new (L.seen log.new) ⊎ TriesBy L.is_known turn.old turn.new hall.old (L.seen log.old) by.now call.now hall.new (L.seen log.new)) }
+    ensures why { IfErr result (λ fault. IsTrue L.is_known → Why fault turn.old hall.old (L.silences log.old) hall.new (L.seen log.new).records (L.silences log.new)) }
 {
     let Some(next) = turn.checked_add(1) else {
         return Err(ReadFault::NoAnswer);
@@ -103,6 +104,7 @@ fn ask<L: SharedLog>(
     ensures store { IsTrue L.is_known → IsStore hall.new turn (L.seen log.new) }
     ensures ok { IfOk result (λ answer. MakesBy L.is_known turn turn hall.old (L.seen log.old) by.now (calls.Query query) answer hall.new (L.seen log.new)) }
     ensures err { OnErr result (StaysOn L.is_known hall.old (L.seen log.old) hall.new (L.seen log.new)) }
+    ensures why { IfErr result (λ fault. IsTrue L.is_known → Why fault turn hall.old (L.silences log.old) hall.new (L.seen log.new).records (L.silences log.new)) }
 {
     read_on(alloc, hall, log)?;
     Ok(Answer::Given(hall.apply(by, Call::Query(query))))
@@ -122,6 +124,7 @@ fn answer<L: SharedLog>(
     ensures turn { turn.old ≤ turn.new }
     ensures ok { IfOk result (λ answer. MakesBy L.is_known turn.old turn.new hall.old (L.seen log.old) by.now call answer hall.new (L.seen log.new)) }
     ensures err { OnErr result (StaysOn L.is_known hall.old (L.seen log.old) hall.new (L.seen log.new) ⊎ TriesBy L.is_known turn.old turn.new hall.old (L.seen log.old) by.now call hall.new (L.seen log.new)) }
+    ensures why { IfErr result (λ fault. IsTrue L.is_known → Why fault turn.old hall.old (L.silences log.old) hall.new (L.seen log.new).records (L.silences log.new)) }
 {
     match call {
         Call::Query(query) => ask(alloc, hall, log, *turn, by, query),
@@ -132,9 +135,13 @@ fn answer<L: SharedLog>(
 impl<L: SharedLog> SharedStore<L> {
     /// The number of what stands in the log and is no entry, if that was met: no call is answered any more. Takes no memory.
     pub fn foreign(&self) -> Option<u64>
-        ensures { is_some result ≡ self.now.broken }
+        ensures broken { is_some result ≡ self.now.broken }
+        ensures number { result ≡ foreign_of self.now.fault }
     {
-        self.foreign
+        match self.fault {
+            Some(ReadFault::Foreign { number }) => Some(number),
+            _ => None,
+        }
     }
 
     /// Makes one call of a device, by a store that isn't broken.
@@ -143,24 +150,25 @@ impl<L: SharedLog> SharedStore<L> {
         ensures err { OnErr result (StaysOn L.is_known self.old.entries (L.seen self.old.log) self.new.entries (L.seen self.new.log) ⊎ TriesBy L.is_known self.old.turn self.new.turn self.old.entries (L.seen self.old.log) by.now call self.new.entries (L.seen self.new.log)) }
         ensures turn { self.old.turn ≤ self.new.turn }
         ensures broken { self.new.broken ≡ self.old.broken }
+        ensures why { IfErr result (λ fault. IsTrue L.is_known → Why fault self.old.turn self.old.entries (L.silences self.old.log) self.new.entries (L.seen self.new.log).records (L.silences self.new.log)) }
     {
         let SharedStore {
             alloc,
             hall,
             log,
             turn,
-            foreign: _,
+            fault: _,
         } = self;
         answer(*alloc, hall, log, turn, by, call)
     }
 }
 
 impl<L: SharedLog> Session for SharedStore<L> {
-    ghost use Rattle.pana_shared_store.specs.Store.{Fails, Makes};
+    ghost use Rattle.pana_shared_store.specs.Store.{Fails, HasCause, Makes};
 
     ghost step = { λ old by call answer new. Makes L.is_known L.seen old by call answer new };
 
-    ghost fails = { λ old by call new. Fails L.is_known L.seen old by call new };
+    ghost fails = { λ old by call new. Fails L.is_known L.seen old by call new × HasCause L.is_known L.seen L.silences old new };
 
     /// Makes one call of a device, behind all that the log had when it began. What it makes is in the log when it is answered.
     ///
@@ -169,15 +177,13 @@ impl<L: SharedLog> Session for SharedStore<L> {
     /// `NoAnswer` where the log gives none, where others were faster four thousand times, where memory runs out, or where something stands
     /// in the log that is no entry. It isn't known then whether the call was made.
     fn call(&mut self, by: &DeviceName, call: Call) -> Result<Answer, NoAnswer> {
-        if self.foreign.is_some() {
+        if self.foreign().is_some() {
             return Err(NoAnswer);
         }
         match self.make(by, call) {
             Ok(answer) => Ok(answer),
             Err(fault) => {
-                if let ReadFault::Foreign { number } = fault {
-                    self.foreign = Some(number);
-                }
+                self.fault = Some(fault);
                 Err(NoAnswer)
             }
         }
@@ -205,6 +211,6 @@ impl<L: SharedLog> Session for SharedStore<L> {
 
     /// Whether nothing was met in the log that is no entry.
     fn may_recover(&self) -> bool {
-        self.foreign.is_none()
+        self.foreign().is_none()
     }
 }

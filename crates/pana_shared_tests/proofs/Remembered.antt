@@ -1,8 +1,10 @@
 -- What happens to a log in memory.
-use Rattle.std.proofs.Common.{◌≡◌, ◌≢◌, ◌⊎◌, inl, inr, ◌<◌, ◌≤◌, ℕ, ◌+◌, ◌==◌, Bool, true, false, List, [], ◌∷◌, ◌++◌, length, filter, map, take, drop, refl, sym, ap, subst, ◌∙◌, append_assoc, append-nil, length-append, min}
+use Rattle.std.proofs.Common.{◌≡◌, ◌≢◌, ◌⊎◌, inl, inr, ◌<◌, ◌≤◌, ℕ, ◌+◌, ◌==◌, Bool, true, false, List, [], ◌∷◌, ◌++◌, length, filter, map, take, drop, refl, sym, ap, subst, ◌∙◌, append_assoc, append-nil, length-append, min, Option, Some, None, unwrap_or}
 use native.Mathlib.Omega.{arith}
 use Rattle.std.proofs.Math.Dec.{leb}
 use Rattle.std.proofs.Math.Seq.{drop-length, take-nil}
+use Rattle.std.specs.Global.{Vec}
+use Rattle.std.specs.Option.{option_to_list}
 use Rattle.std.specs.List.{AllByRecursion, insert}
 use Rattle.std.specs.Prelude.{if◌then◌else◌}
 use Rattle.std.proofs.lemmas.Bool.Decides.{leb_tells}
@@ -10,10 +12,13 @@ use Rattle.std.proofs.lemmas.List.{take-append-drop, length-take-le}
 use Rattle.pana_shared.specs.declared.record.Record.{Record}
 use Rattle.pana_shared.specs.declared.shared_log.Appended.{Appended}
 use Rattle.pana_shared.specs.declared.shared_log.Appended.TheVariants.{Put, Taken, Full, Unknown}
-use Rattle.pana_shared.specs.Log.{Appends, Asks, Grows, IsAt, IsOneOf, Lands, LogView, MayAppend, Reads, asked, loose_at, ours}
+use Rattle.pana_shared.specs.Log.{Appends, Asks, Grows, HasSome, IsAt, IsHeard, IsOneOf, Lands, LogView, MayAppend, Reads, asked, loose_at, ours}
 use Rattle.pana_shared.proofs.Grown.{at_within, ours_both}
 use Rattle.pana_shared_store.specs.Store.{IsFresh}
-use Rattle.pana_shared_tests.specs.Memory.{ComeOf, LandsOf, StandsIn}
+use Rattle.pana_shared_tests.specs.declared.memory.Fate.{Fate}
+use Rattle.pana_shared_tests.specs.declared.memory.Fate.TheVariants as kinds
+use Rattle.pana_shared_tests.specs.declared.memory.Fate.TheVariants.{Answered, PutUnanswered, PutTwice, NotPut}
+use Rattle.pana_shared_tests.specs.Memory.{ComeOf, ComesTo, IsFate, IsFound, LandsOf, is_silent, put_at}
 
 abbrev view : List Record → ℕ → ℕ → List (List Record) → LogView
 view records w at loose = record { records = records; writer = w; at = at; loose = loose }
@@ -164,17 +169,27 @@ module _ (old mid now : LogView) (at : ℕ) (group : List Record) (may : MayAppe
       early,
     )
 
-  -- it was put, or there was no memory for it
-  pub asks_maybe : (records copy : List Record) (b : Bool) → copy ≡ group → records ≡ (if b then now.records ++ copy else now.records) → length now.records ≡ at → Asks old at group (record { records = records; writer = now.writer; at = now.at; loose = now.loose })
-  asks_maybe records copy true is put even = (asks_put records (put ∙ ap (λ (l : List Record). now.records ++ l) is) even).0
-  asks_maybe records copy false is put even = subst (λ (l : List Record). Asks old at group (record { records = l; writer = now.writer; at = now.at; loose = now.loose })) (sym put) asks_only
+-- what comes of an append, once others' records have come, and what has landed
+module _ (old mid new : LogView) (at : ℕ) (group : List Record) (may : MayAppend old at group) (reads : Reads old mid) where
+  asked_for : new ≡ asked mid at group → Asks old at group new
+  asked_for is = asks_only old mid new at group may reads is
 
--- something stands there
-pub stands_asked : (old now : LogView) (at : ℕ) (group : List Record) → Asks old at group now → (end : Appended) → StandsIn now.records at end → Appends old at group end now
-stands_asked old now at group asks (Taken page) there = (asks, there)
-stands_asked old now at group asks Unknown there = asks
-stands_asked old now at group asks Put there = absurd there
-stands_asked old now at group asks Full there = absurd there
+  put_there : length mid.records ≡ at → new ≡ put_at mid at group → Asks old at group new × IsAt at group new.records × (length old.records ≤ at)
+  put_there even is = subst (λ (v : LogView). Asks old at group v × IsAt at group v.records × (length old.records ≤ at)) (sym is) (asks_put old mid (asked mid at group) at group may reads refl (mid.records ++ group) refl even)
+
+  -- where records stand
+  pub came_found : (found : Option (Vec Record)) (page : Vec Record) → found ≡ Some page → IsFound mid at group found new → Appends old at group (Taken page) new × (page.items ≢ [])
+  came_found found page some is = by_some (subst (λ (o : Option (Vec Record)). IsFound mid at group o new) some is) where
+    by_some : IsFound mid at group (Some page) new → Appends old at group (Taken page) new × (page.items ≢ [])
+    by_some (has, there, asks) = ((asked_for asks, subst (λ (v : LogView). IsAt at page.items v.records) (sym asks) there), has)
+
+  -- where the place is free
+  pub came_to : (fate : Fate) (end : Appended) → length mid.records ≡ at → ComesTo fate mid at group end new → Appends old at group end new
+  came_to fate Put even is = put_there even is
+  came_to fate (Taken page) even (is, same) = let put = put_there even is in (put.0, subst (λ (l : List Record). IsAt at l new.records) (sym same) put.1)
+  came_to fate Full even is = subst (λ (v : LogView). Reads old v) (sym is) reads
+  came_to fate Unknown even (silent, inl is) = (put_there even is).0
+  came_to fate Unknown even (silent, inr is) = asked_for is
 
 -- a log in which there are others' records alone
 pub fresh : (w : ℕ) (records : List Record) (loose : List (List Record)) → ComeOf w [] records → loose ≡ [] → IsFresh (record { records = records; writer = w; at = 0; loose = loose })

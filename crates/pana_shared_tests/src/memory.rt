@@ -1,7 +1,8 @@
 //! A log in memory.
 ghost use Rattle.std.specs.Prelude.{◌≡◌, ◌≢◌, ◌<◌, ◌≤◌, [], false, length, IsTrue, IfOk, map};
-ghost use Rattle.pana_shared.specs.Log.{HasSome, IsAt, Reads, asked, ours};
-ghost use Rattle.pana_shared_tests.specs.Memory.{ComeOf, LandsOf, StandsIn, seen_of};
+ghost use Rattle.pana_shared.specs.Log.{IsAt, Reads, asked, ours};
+ghost use Rattle.pana_shared_tests.specs.declared.memory.Fate.TheVariants.{Full};
+ghost use Rattle.pana_shared_tests.specs.Memory.{ComeOf, ComesTo, IsFate, IsFound, LandsOf, is_silent, put_at, seen_of, silences_of};
 
 use pana_shared::{Appended, ReadFault, Record, SharedLog};
 use std::alloc::{AllocError, Global};
@@ -137,7 +138,8 @@ impl MemoryShared {
 
     /// What happens before a call.
     fn wait(&mut self)
-        ensures { Reads (seen_of self.old) (seen_of self.new) }
+        ensures reads { Reads (seen_of self.old) (seen_of self.new) }
+        ensures fates { self.new.fates ≡ self.old.fates }
     {
         let Some(moment) = self.moments.pop_front() else {
             return;
@@ -154,11 +156,21 @@ impl MemoryShared {
         }
     }
 
+    /// What is to come of an append, by the plan.
+    fn next_fate(&mut self) -> Fate
+        ensures seen { seen_of self.new ≡ seen_of self.old }
+        ensures left { IsFate (is_silent result) (silences_of self.old) (silences_of self.new) }
+    {
+        self.fates.pop_front().unwrap_or(Fate::Answered)
+    }
+
     /// Remembers that a group was asked for at this place, and forgets those that were at another. Returns whether memory is there for
     /// it; else nothing changes.
     fn ask(&mut self, at: u64, group: &[Record]) -> bool
         ensures asked { IsTrue result → seen_of self.new ≡ asked (seen_of self.old) at group.now }
         ensures same { result ≡ false → seen_of self.new ≡ seen_of self.old }
+        ensures records { self.new.records ≡ self.old.records }
+        ensures fates { self.new.fates ≡ self.old.fates }
     {
         let Ok(copy) = copy_group(self.alloc, group) else {
             return false;
@@ -171,6 +183,64 @@ impl MemoryShared {
             self.at = at;
         }
         true
+    }
+
+    /// Remembers that a group was asked for at this place, and appends it. Returns whether memory is there for it; else nothing changes.
+    fn put(&mut self, at: u64, group: &[Record]) -> bool
+        ensures put { IsTrue result → seen_of self.new ≡ put_at (seen_of self.old) at group.now }
+        ensures same { result ≡ false → seen_of self.new ≡ seen_of self.old }
+        ensures fates { self.new.fates ≡ self.old.fates }
+    {
+        let Ok(mut copy) = copy_group(self.alloc, group) else {
+            return false;
+        };
+        if self.records.reserve(copy.len()).is_err() || !self.ask(at, group) {
+            return false;
+        }
+        let _ = self.records.append(&mut copy);
+        true
+    }
+
+    /// Remembers that a group was asked for at this place, where records stand, and returns some of them, from the first there on; none
+    /// where memory runs out, and then nothing changes.
+    fn find(&mut self, at: u64, group: &[Record]) -> Option<Vec<Record>>
+        requires { at < length self.old.records.items }
+        ensures found { IsFound (seen_of self.old) at group.now result (seen_of self.new) }
+        ensures fates { self.new.fates ≡ self.old.fates }
+    {
+        let Ok(page) = page(self.alloc, self.records.as_slice(), at, self.most) else {
+            return None;
+        };
+        if !self.ask(at, group) {
+            return None;
+        }
+        Some(page)
+    }
+
+    /// What comes of an append at a place that is free. Where memory runs out the group won't be put.
+    fn come_to(&mut self, at: u64, group: &[Record], fate: Fate) -> Appended
+        requires { fate ≢ Full }
+        ensures comes { ComesTo fate (seen_of self.old) at group.now result (seen_of self.new) }
+        ensures fates { self.new.fates ≡ self.old.fates }
+    {
+        if fate == Fate::NotPut {
+            return if self.ask(at, group) {
+                Appended::Unknown
+            } else {
+                Appended::Full
+            };
+        }
+        let Ok(copy) = copy_group(self.alloc, group) else {
+            return Appended::Full;
+        };
+        if !self.put(at, group) {
+            return Appended::Full;
+        }
+        match fate {
+            Fate::Answered => Appended::Put,
+            Fate::PutTwice => Appended::Taken(copy),
+            _ => Appended::Unknown,
+        }
     }
 }
 
@@ -189,58 +259,38 @@ fn page(
     copy_group(alloc, &records[start..end])
 }
 
-/// What comes of an append where records stand already: a page of them. Nothing is known where memory runs out.
-fn what_stands(alloc: Global, records: &[Record], at: u64, most: usize) -> Appended
-    requires { at < length records.now }
-    ensures stands { StandsIn records.now at result }
-    ensures some { HasSome result }
-{
-    match page(alloc, records, at, most) {
-        Ok(page) => Appended::Taken(page),
-        Err(_) => Appended::Unknown,
-    }
-}
-
 impl SharedLog for MemoryShared {
     ghost use Rattle.std.specs.Prelude.{true};
-    ghost use Rattle.pana_shared_tests.specs.Memory.{seen_of};
+    ghost use Rattle.pana_shared_tests.specs.Memory.{seen_of, silences_of};
 
     ghost is_known = { true };
 
     ghost seen = { seen_of };
 
+    ghost silences = { silences_of };
+
     fn writer(&self) -> u64 {
         self.writer
     }
 
+    /// Appends as the plan has it. Memory is taken first: where it runs out, or the log has fewer records, the group won't be put.
     fn append(&mut self, at: u64, group: &[Record]) -> Appended {
         self.wait();
-        let fate = self.fates.pop_front().unwrap_or(Fate::Answered);
+        let fate = self.next_fate();
+        let len = self.records.len() as u64;
         if fate == Fate::Full {
             return Appended::Full;
         }
-        let Ok(mut copy) = copy_group(self.alloc, group) else {
-            return Appended::Full;
-        };
-        if !self.ask(at, group) {
+        if len < at {
             return Appended::Full;
         }
-        if self.records.len() as u64 > at {
-            return what_stands(self.alloc, self.records.as_slice(), at, self.most);
+        if len > at {
+            return match self.find(at, group) {
+                Some(page) => Appended::Taken(page),
+                None => Appended::Full,
+            };
         }
-        if self.records.len() as u64 != at || fate == Fate::NotPut {
-            return Appended::Unknown;
-        }
-        if self.records.append(&mut copy).is_err() {
-            return Appended::Unknown;
-        }
-        if fate == Fate::Answered {
-            return Appended::Put;
-        }
-        if fate == Fate::PutTwice {
-            return what_stands(self.alloc, self.records.as_slice(), at, self.most);
-        }
-        Appended::Unknown
+        self.come_to(at, group, fate)
     }
 
     fn read(&mut self, from: u64) -> Result<Vec<Record>, ReadFault> {

@@ -1,7 +1,9 @@
 use Rattle.std.proofs.Common.{List, sym, ap, subst, ◌∙◌}
 use Rattle.pana_journal.specs.declared.entry.Entry.{Entry}
 use Rattle.pana_hall.specs.Permit.{Permits, journal_after}
-use Rattle.pana_shared_store.specs.inner.{IsReady}
+use Rattle.pana_hall.specs.Prepared.{Prepares}
+use Rattle.std.proofs.lemmas.Result.{on_err_weaker}
+use Rattle.pana_shared_store.specs.inner.{IsReady, TriesNone}
 use Rattle.pana_shared_store.proofs.Followed.{reads_none}
 use Rattle.pana_shared_store.proofs.making.try_to_make.Goals as goal
 
@@ -19,3 +21,11 @@ returns-in-Err-clause-ok g c =
       ),
       λ known. reads_none _,
     )
+
+pub returns-in-Ok-clause-err : goal.returns-in-Ok-clause-err
+returns-in-Ok-clause-err g c =
+    let here = c.in-Ok.ensures.ok.journal ∙ c.take_all.ensures.taken in
+    on_err_weaker c.put.result
+    (λ none. subst (λ (l : List Entry). TriesNone g.L.SharedLog.is_known c.args.turn l (g.L.SharedLog.seen c.args.log.now) c.args.by.now c.args.call c.put.new.hall (g.L.SharedLog.seen c.put.new.log)) here
+    (none c.args.by.now c.args.call (subst (λ (l : List Entry). Prepares l c.args.by.now c.args.call c.in-Ok.prepared) (sym c.in-Ok.ensures.ok.journal) c.in-Ok.ensures.ok)))
+    c.put.ensures.err

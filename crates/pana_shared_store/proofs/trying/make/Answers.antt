@@ -1,4 +1,7 @@
 use Rattle.std.proofs.Common.{rules, ◌≡◌, ◌⊎◌, false, true, inl, inr, subst, ⊎_elim}
+use native.Mathlib.Omega.{arith}
+use Rattle.std.proofs.lemmas.Result.{err_from_is_err_and}
+use Rattle.pana_shared_store.proofs.Strange.{why_on}
 use Rattle.pana_calls.specs.declared.call.Call.{Call}
 use Rattle.pana_shared_store.specs.declared.trying.Attempt.{Attempt}
 use Rattle.pana_shared_store.specs.declared.trying.Attempt.TheVariants.{Again, Answered}
@@ -13,6 +16,8 @@ loop-init g c = record {
   store = c.requires.store;
   ready = c.requires.ready;
   read = λ is known. absurd (let f : false ≡ true = is in cc);
+  heard = λ known. omega arith;
+  tries = λ known. omega arith;
 }
 
 pub returns-in_default-clause-err : goal.returns-in_default-clause-err
@@ -34,8 +39,19 @@ loop-preserved g c =
       stays = stays_on g.L.SharedLog.is_known c.args.turn c.args.hall.now c.loop.hall c.attempt_once.new.hall (g.L.SharedLog.seen c.args.log.now) (g.L.SharedLog.seen c.loop.log) (g.L.SharedLog.seen c.attempt_once.new.log) c.args.by.now c.args.call.now (λ known. (c.requires.store known).some) c.loop.invariant.stays again.0;
       store = c.attempt_once.ensures.store;
       ready = again.1;
-      read = λ is known. read_again g.L.SharedLog.is_known c.args.turn c.args.hall.now c.loop.hall c.attempt_once.new.hall (g.L.SharedLog.seen c.args.log.now) (g.L.SharedLog.seen c.loop.log) (g.L.SharedLog.seen c.attempt_once.new.log) c.args.by.now c.args.call.now (λ known. (c.requires.store known).some) c.loop.invariant.stays c.loop.is_read again.0 known (again.2 is known) (λ was. c.loop.invariant.read was known);
+      read = λ is known. read_again g.L.SharedLog.is_known c.args.turn c.args.hall.now c.loop.hall c.attempt_once.new.hall (g.L.SharedLog.seen c.args.log.now) (g.L.SharedLog.seen c.loop.log) (g.L.SharedLog.seen c.attempt_once.new.log) c.args.by.now c.args.call.now (λ known. (c.requires.store known).some) c.loop.invariant.stays c.loop.is_read again.0 known (again.3 is known) (λ was. c.loop.invariant.read was known);
+      heard = λ known. (let h = c.loop.invariant.heard known in let r = c.attempt_once.ensures.heard known in omega (arith, h, r));
+      tries = λ known. (let t = c.loop.invariant.tries known in let m = again.2 known in omega (arith, t, m));
     }
 
 pub returns-clause-err : goal.returns-clause-err
 returns-clause-err g c = inl c.loop.invariant.stays
+
+pub returns-in_err-answer-clause-why : goal.returns-in_err-answer-clause-why
+returns-in_err-answer-clause-why g c =
+    let p = err_from_is_err_and c.from_residual.result c.from_residual.ensures.1 in
+    rw (p.1, p.2) λ known.
+    why_on _ 0 c.args.hall.now c.loop.hall c.attempt_once.new.hall _ _ _ _ c.loop.invariant.stays.goes_on (c.loop.invariant.heard known) (c.in_err-answer.ensures.why known)
+
+pub returns-clause-why : goal.returns-clause-why
+returns-clause-why g c = λ known. inr (inl (let t = c.loop.invariant.tries known in let e = c.loop-test.false in omega (arith, t, e)))

@@ -1,5 +1,5 @@
 use Rattle.pana_shared_store.proofs.Followed.{reads_none}
 use Rattle.pana_shared_tests.proofs.memory.MemoryShared.wait.Goals as goal
 
-pub returns-in_default : goal.returns-in_default
-returns-in_default c = reads_none _
+pub returns-in_default-clause-reads : goal.returns-in_default-clause-reads
+returns-in_default-clause-reads c = reads_none _
