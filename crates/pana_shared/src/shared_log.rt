@@ -41,4 +41,9 @@ pub trait SharedLog {
         ensures grows { IsTrue is_known → Reads (seen self.old) (seen self.new) }
         ensures part { IfOk result (λ page. IsTrue is_known → page.items ≢ [] → IsAt from page.items (seen self.new).records) }
         ensures all { IfOk result (λ page. IsTrue is_known → page.items ≡ [] → length (seen self.old).records ≤ from) };
+
+    /// Whether it is time to read on, for who does so only now and then. Takes no memory, and asks nobody.
+    fn is_due(&self) -> bool {
+        true
+    }
 }

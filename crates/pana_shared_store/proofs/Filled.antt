@@ -1,5 +1,5 @@
 -- A log that is filled, part by part.
-use Rattle.std.proofs.Common.{◌≡◌, ◌≢◌, ◌⊎◌, ◌<◌, ◌≤◌, ℕ, ◌+◌, List, [], ◌∷◌, ◌++◌, length, inl, inr, refl, sym, ap, subst, ◌∙◌, append-nil, append_assoc}
+use Rattle.std.proofs.Common.{◌≡◌, ◌≢◌, ◌⊎◌, ◌<◌, ℕ, ◌+◌, List, [], ◌∷◌, ◌++◌, length, inl, inr, refl, sym, ap, subst, ◌∙◌, append-nil, append_assoc}
 use native.Mathlib.Omega.{arith}
 use Rattle.pana_journal.specs.declared.entry.Entry.{Entry}
 use Rattle.pana_shared.specs.declared.record.Record.{Record}
@@ -9,7 +9,7 @@ use Rattle.pana_shared.proofs.Grown.{ours_both}
 use Rattle.pana_shared_store.specs.declared.placing.Placed.TheVariants.{Ours, Others}
 use Rattle.pana_shared_store.specs.declared.fill_fault.FillFault.TheVariants.{NotNext}
 use Rattle.pana_shared_store.specs.Fill.{Fills, FillsNot, FillsPart}
-use Rattle.pana_shared_store.specs.Store.{AreFirst, IsFresh, entries_in, recorded}
+use Rattle.pana_shared_store.specs.Store.{IsFresh, entries_in, recorded}
 use Rattle.pana_shared_store.specs.inner.{AreBefore, HasFilled, IsNew, IsUnusedGroup, Places, PlacesNone}
 use Rattle.pana_shared_store.proofs.Followed.{entries_both, page_first, still_first}
 use Rattle.pana_shared_store.proofs.Tried.{at_some}

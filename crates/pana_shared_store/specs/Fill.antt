@@ -1,5 +1,5 @@
 -- The entries of a journal, put into a log that has none.
-use Rattle.std.specs.Prelude.{◌≡◌, ◌≢◌, ◌+◌, ◌≤◌, ℕ, List, [], ◌++◌, length}
+use Rattle.std.specs.Prelude.{◌≡◌, ◌≢◌, ◌+◌, ◌≤◌, List, [], ◌++◌, length}
 use Rattle.pana_journal.specs.declared.entry.Entry.{Entry}
 use Rattle.pana_shared.specs.Log.{LogView, Reads, ours}
 use Rattle.pana_shared_store.specs.declared.fill_fault.FillFault.{FillFault}
