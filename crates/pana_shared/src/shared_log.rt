@@ -48,4 +48,9 @@ pub trait SharedLog {
         ensures heard { IfOk result (λ page. IsTrue is_known → silences self.new ≤ silences self.old) }
         // What a log has that is known are records, so nothing in it is foreign.
         ensures unread { IfErr result (λ fault. IsTrue is_known → IsUnread fault (silences self.old) (silences self.new)) };
+
+    /// Whether it is time to read on, for who does so only now and then. Takes no memory, and asks nobody.
+    fn is_due(&self) -> bool {
+        true
+    }
 }

@@ -1,5 +1,5 @@
 -- Where one call of a store stands.
-use Rattle.std.proofs.Common.{◌≡◌, ◌≢◌, ◌⊎◌, inl, inr, ◌<◌, ◌≤◌, ℕ, ◌+◌, Bool, IsTrue, List, [], ◌∷◌, ◌++◌, length, Option, Some, None, refl, sym, ap, subst, ◌∙◌, append-nil, length-append}
+use Rattle.std.proofs.Common.{◌≡◌, ◌≢◌, ◌⊎◌, inl, inr, ◌<◌, ◌≤◌, ℕ, ◌+◌, Bool, true, false, IsTrue, List, [], ◌∷◌, ◌++◌, length, Option, Some, None, refl, sym, ap, subst, ◌∙◌, append-nil, length-append}
 use native.Mathlib.Omega.{arith}
 use Rattle.pana_journal.specs.declared.entry.Entry.{Entry}
 use Rattle.pana_calls.specs.declared.answer.Answer.{Answer}
@@ -14,7 +14,7 @@ use Rattle.pana_calls.specs.declared.reply.Reply.TheVariants.{Refused}
 use Rattle.pana_hall.specs.Permit.{journal_after}
 use Rattle.pana_shared.specs.declared.record.Record.{Record}
 use Rattle.pana_shared.specs.Log.{Grows, IsAt, IsOneOf, LogView}
-use Rattle.pana_shared_store.specs.Store.{Becomes, GoesOn, MakesBy, recorded}
+use Rattle.pana_shared_store.specs.Store.{Becomes, GoesOn, MakesBy, asks_all, recorded}
 use Rattle.pana_shared_store.proofs.Readied.{recorded_before}
 use Rattle.pana_shared_laws.specs.Groups.{AreGroups}
 use Rattle.pana_shared_laws.proofs.Fine.{IsFine, at_within_some, came, grown_length, some_entries, still_loose, still_turns}
@@ -59,16 +59,26 @@ module _ (at made : List Entry) (by : List ℕ) (call : Call) where
   replied (Given reply) becomes some = refl
   replied NotKept becomes some = absurd (some (same_none at made becomes.2))
 
+-- what has made entries is no question, so it was made behind all that the log had
+some_asks : (at made : List Entry) (by : List ℕ) (is_stale : Bool) (call : Call) (answer : Answer) → Becomes at by call answer (at ++ made) → made ≢ [] → IsTrue (asks_all is_stale call)
+some_asks at made by false call answer becomes some = refl
+some_asks at made by true (calls.Report report) answer becomes some = refl
+some_asks at made by true (calls.Sighting sighting) answer becomes some = refl
+some_asks at made by true (calls.Query query) answer becomes some = absurd (some (asked_none at made by (calls.Query query) answer becomes query refl))
+
 -- ---- one call
 
 module _ (is_known : Bool) (known : IsTrue is_known) (w : ℕ) (old : List Entry) (before turn : ℕ) (seen_old : LogView) (fine : IsFine w old before seen_old) (by : List ℕ) (call : Call) (new : List Entry) (seen_new : LogView) where
   -- ---- with an answer
-  module _ (answer : Answer) (makes : MakesBy is_known before turn old seen_old by call answer new seen_new) (later : before ≤ turn) where
+  module _ (is_stale : Bool) (answer : Answer) (makes : MakesBy is_known is_stale before turn old seen_old by call answer new seen_new) (later : before ≤ turn) where
     own : Grows seen_old (recorded w turn makes.on.made) seen_new.records
     own = subst (λ (n : ℕ). Grows seen_old (recorded n turn makes.on.made) seen_new.records) fine.writer (makes.on.own known)
 
+    becomes : Becomes makes.on.at by call answer (makes.on.at ++ makes.on.made)
+    becomes = subst (λ (l : List Entry). Becomes makes.on.at by call answer l) makes.on.makes makes.on.becomes
+
     stands : makes.on.made ≢ [] → IsAt (length makes.on.at) (recorded w turn makes.on.made) seen_new.records × (length seen_old.records ≤ length makes.on.at)
-    stands some = (subst (λ (n : ℕ). IsAt (length makes.on.at) (recorded n turn makes.on.made) seen_new.records) fine.writer (makes.on.stands known some), makes.on.all known)
+    stands some = (subst (λ (n : ℕ). IsAt (length makes.on.at) (recorded n turn makes.on.made) seen_new.records) fine.writer (makes.on.stands known some), makes.on.all known (some_asks makes.on.at makes.on.made by is_stale call answer becomes some))
 
     late : makes.on.made ≢ [] → before < turn
     late some = by_later makes.later where
@@ -89,9 +99,6 @@ module _ (is_known : Bool) (known : IsTrue is_known) (w : ℕ) (old : List Entry
       turns = still_turns w old before seen_old fine turn (recorded w turn makes.on.made) seen_new.records own later (recorded_before w turn makes.on.made);
       loose = λ alive group one. (still_loose w old before seen_old fine new turn seen_new goes later grown (makes.on.follows known) alive group one).2;
     }
-
-    becomes : Becomes makes.on.at by call answer (makes.on.at ++ makes.on.made)
-    becomes = subst (λ (l : List Entry). Becomes makes.on.at by call answer l) makes.on.makes makes.on.becomes
 
     groups_came : AreGroups (length seen_old.records) w own.more ((seen_old.at, own.landed) ∷ (length makes.on.at, recorded w turn makes.on.made) ∷ [])
     groups_came = came w old before seen_old fine turn makes.on.at makes.on.made seen_new.records own makes.on.goes_on late stands

@@ -72,7 +72,7 @@ module _ {L : Type 0} (is_known : Bool) (known : IsTrue is_known) (seen : L → 
   fine_call : (step : Step L) → Fine step.begun → Does is_known seen step → Fine step.ended
   fine_call step fine does = by_answer step.answer does where
     by_answer : (o : Option Answer) → Outcome step o → Fine step.ended
-    by_answer (Some answer) makes = fine_made is_known known w step.begun.entries step.begun.turn step.ended.turn (seen step.begun.log) fine step.by step.call step.ended.entries (seen step.ended.log) answer makes.on makes.turn
+    by_answer (Some answer) makes = fine_made is_known known w step.begun.entries step.begun.turn step.ended.turn (seen step.begun.log) fine step.by step.call step.ended.entries (seen step.ended.log) step.begun.is_stale answer makes.on makes.turn
     by_answer None (inl (broken, same)) = subst Fine (sym same) fine
     by_answer None (inr none) = by_on none.on where
       by_on : Stay step.begun step.ended ⊎ TriesBy is_known step.begun.turn step.ended.turn step.begun.entries (seen step.begun.log) step.by step.call step.ended.entries (seen step.ended.log) → Fine step.ended
@@ -93,13 +93,20 @@ module _ {L : Type 0} (is_known : Bool) (known : IsTrue is_known) (seen : L → 
       by_on (inl stay) = goes_within step.begun.entries step.ended.entries stay.goes_on
       by_on (inr tries) = goes_within step.begun.entries step.ended.entries tries.on.goes_on
 
+  same_call : (step : Step L) → Does is_known seen step → step.ended.is_stale ≡ step.begun.is_stale
+  same_call step does = by_answer step.answer does where
+    by_answer : (o : Option Answer) → Outcome step o → step.ended.is_stale ≡ step.begun.is_stale
+    by_answer (Some answer) makes = makes.stale
+    by_answer None (inl (broken, same)) = ap (λ (s : StoreView L). s.is_stale) same
+    by_answer None (inr none) = none.stale
+
   module _ (records : List Record) (groups : List (ℕ × List Record)) (step : Step L) (fine : Fine step.begun) (rest : Rest w records (seen step.ended.log) groups) where
     by_makes : (answer : Answer) → step.answer ≡ Some answer → Makes is_known seen step.begun step.by step.call answer step.ended → Stands seen w records step groups
     by_makes answer is makes =
         let on = makes.on.on in
         let here : Becomes on.at step.by step.call answer (on.at ++ on.made) = subst (λ (l : List Entry). Becomes on.at step.by step.call answer l) on.makes on.becomes in
         let first : AreFirst (on.at ++ on.made) (seen step.ended.log).records = subst (λ (l : List Entry). AreFirst l (seen step.ended.log).records) on.makes (on.first known) in
-        let left = rest_made is_known known w step.begun.entries step.begun.turn step.ended.turn (seen step.begun.log) fine step.by step.call step.ended.entries (seen step.ended.log) answer makes.on makes.turn records groups rest in
+        let left = rest_made is_known known w step.begun.entries step.begun.turn step.ended.turn (seen step.begun.log) fine step.by step.call step.ended.entries (seen step.ended.log) step.begun.is_stale answer makes.on makes.turn records groups rest in
         record {
           call = record { step = step; before = on.at; made = on.made; reply = reply_of answer };
           is = refl;
@@ -173,24 +180,26 @@ module _ {L : Type 0} (is_known : Bool) (known : IsTrue is_known) (seen : L → 
 
   -- ---- all calls
 
-  record Told (records : List Record) (s : StoreView L) (from : ℕ) (steps : List (Step L)) : Type 0 where
+  record Told (records : List Record) (is_stale : Bool) (s : StoreView L) (from : ℕ) (steps : List (Step L)) : Type 0 where
     pub calls : List (Standing L)
     pub are : map (λ call. call.step) calls ≡ steps
     pub stand : AllByRecursion (λ call. StandsIn seen records call) calls
     pub order : InOrder from calls
+    pub stale : AllByRecursion (λ call. call.step.begun.is_stale ≡ is_stale) calls
     pub rest : Rest w records (seen s.log) (map (λ call. group_of w call) calls)
 
-  told : (records : List Record) (steps : List (Step L)) (s last : StoreView L) (from : ℕ) → from ≤ length s.entries → Fine s → Lives is_known seen s steps last → (seen last.log).records ≡ records → Told records s from steps
-  told records [] s last from within fine waits ends = record {
+  told : (records : List Record) (is_stale : Bool) (steps : List (Step L)) (s last : StoreView L) (from : ℕ) → s.is_stale ≡ is_stale → from ≤ length s.entries → Fine s → Lives is_known seen s steps last → (seen last.log).records ≡ records → Told records is_stale s from steps
+  told records is_stale [] s last from same within fine waits ends = record {
     calls = [];
     are = refl;
     stand = tt;
     order = tt;
+    stale = tt;
     rest = rest_waits records [] s last fine waits (record { more = []; is = sym ends ∙ sym (append-nil (seen last.log).records); landed = []; lands = inl refl; laid = refl });
   }
-  told records (step ∷ steps) s last from within fine (waits, does, lives) ends =
+  told records is_stale (step ∷ steps) s last from same within fine (waits, does, lives) ends =
       let begun = fine_waits s step.begun fine waits in
-      let later = told records steps step.ended last (place_behind from step.answer (length step.ended.entries)) (by_answer step.answer) (fine_call step begun does) lives ends in
+      let later = told records is_stale steps step.ended last (place_behind from step.answer (length step.ended.entries)) (same_call step does ∙ waits.stale ∙ same) (by_answer step.answer) (fine_call step begun does) lives ends in
       let here = call_stands records (map (λ (call : Standing L). group_of w call) later.calls) step begun later.rest does in
       record {
         calls = here.call ∷ later.calls;
@@ -200,6 +209,7 @@ module _ {L : Type 0} (is_known : Bool) (known : IsTrue is_known) (seen : L → 
           (let e = here.early in let t : step.begun.entries ≡ s.entries = waits.entries in let l : length step.begun.entries ≡ length s.entries = ap length t in omega (arith, e, l, within)),
           subst (λ (n : ℕ). InOrder n later.calls) (sym (place_same here.call here.is here.until)) later.order,
         );
+        stale = (ap (λ (x : Step L). x.begun.is_stale) here.is ∙ waits.stale ∙ same, later.stale);
         rest = rest_waits records (group_of w here.call ∷ map (λ (call : Standing L). group_of w call) later.calls) s step.begun fine waits here.rest;
       }
     where
@@ -236,8 +246,8 @@ module _ {L : Type 0} (is_known : Bool) (known : IsTrue is_known) (seen : L → 
   opened : Fine is_known known seen w life.opened
   opened = fine_stays is_known known w [] 0 life.opened.turn (seen life.log) fresh life.opened.entries (seen life.opened.log) is.opens.on (omega arith)
 
-  all : Told is_known known seen w records life.opened 0 life.steps
-  all = told is_known known seen w records life.steps life.opened life.last 0 (omega arith) opened is.lives is.ends
+  all : Told is_known known seen w records life.opened.is_stale life.opened 0 life.steps
+  all = told is_known known seen w records life.opened.is_stale life.steps life.opened life.last 0 refl (omega arith) opened is.lives is.ends
 
   from_start : Rest w records (seen life.log) (map (λ (call : Standing L). group_of w call) all.calls)
   from_start = rest_unslip w records (seen life.log) (length life.opened.entries) (map (λ (call : Standing L). group_of w call) all.calls)
@@ -254,4 +264,4 @@ module _ {L : Type 0} (is_known : Bool) (known : IsTrue is_known) (seen : L → 
       by_lands landed (inl none) laid = subst (λ (l : List Record). AreGroups (0 + length (seen life.log).records) w from_start.more (((seen life.log).at, l) ∷ map (λ (call : Standing L). group_of w call) all.calls)) none laid
 
   pub lived : (calls : List (Standing L)) × AreOf seen w records life calls
-  lived = (all.calls, record { steps = all.are; stand = all.stand; order = all.order; once = once })
+  lived = (all.calls, record { steps = all.are; stand = all.stand; order = all.order; once = once; stale = all.stale })

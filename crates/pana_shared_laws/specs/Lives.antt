@@ -27,6 +27,7 @@ module _ {L : Type 0} (is_known : Bool) (seen : L → LogView) where
     pub reads : Reads (seen old.log) (seen new.log)
     pub entries : new.entries ≡ old.entries
     pub turn : new.turn ≡ old.turn
+    pub stale : new.is_stale ≡ old.is_stale
 
   -- a call does what a store promises of calls: with an answer, or without
   abbrev pub Does : Step L → Type 0

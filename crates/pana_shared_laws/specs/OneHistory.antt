@@ -1,5 +1,5 @@
 -- The headline: stores that share a log have one history.
-use Rattle.std.specs.Prelude.{◌≡◌, ◌≢◌, ◌⊎◌, ◌≤◌, ◌==◌, ℕ, Bool, true, false, List, [], ◌∷◌, ◌++◌, length, map, filter, Option, Some, None, MatchOption}
+use Rattle.std.specs.Prelude.{◌≡◌, ◌≢◌, ◌⊎◌, ◌≤◌, ◌==◌, ℕ, Bool, true, false, IsTrue, List, [], ◌∷◌, ◌++◌, length, map, filter, Option, Some, None, MatchOption}
 use Rattle.std.specs.List.{AllByRecursion}
 use mathlib.Core.List.{IsPrefix}
 use Rattle.pana_journal.specs.declared.entry.Entry.{Entry}
@@ -14,7 +14,7 @@ use Rattle.pana_hall.specs.Run.{Exchange, IsRun, journal_from}
 use Rattle.pana_hall.specs.Step.{Steps}
 use Rattle.pana_shared.specs.declared.record.Record.{Record}
 use Rattle.pana_shared.specs.Log.{LogView}
-use Rattle.pana_shared_store.specs.Store.{AreFirst, Becomes, entries_in, recorded}
+use Rattle.pana_shared_store.specs.Store.{AreFirst, Becomes, asks_all, entries_in, recorded}
 use Rattle.pana_shared_laws.specs.Groups.{AreGroups}
 use Rattle.pana_shared_laws.specs.Lives.{Life, Step}
 
@@ -64,12 +64,13 @@ abbrev pub calls_by : {L : Type 0} → ℕ → List (Turn L) → List (Standing 
 calls_by writer turns = map (λ turn. turn.call) (filter (λ turn. turn.writer == writer) turns)
 
 module _ {L : Type 0} (seen : L → LogView) where
-  -- The answer is what a hall alone computes from the entries before the call. These have all that the log had when the call began,
-  -- and what it has made was there when it ended. A refused call, and a question, has made nothing.
+  -- The answer is what a hall alone computes from the entries before the call. These have all that the log had when the call began, but
+  -- where a stale store was asked a question; and what it has made was there when it ended. A refused call, and a question, has made
+  -- nothing.
   pub record IsAnswered (call : Standing L) (answer : Answer) : Type 0 where
     pub becomes : Becomes call.before call.step.by call.step.call answer (call.before ++ call.made)
     pub replied : call.made ≢ [] → answer ≡ Given call.reply
-    pub all : length (seen call.step.begun.log).records ≤ length call.before
+    pub all : IsTrue (asks_all call.step.begun.is_stale call.step.call) → length (seen call.step.begun.log).records ≤ length call.before
     pub there : length (call.before ++ call.made) ≤ length (seen call.step.ended.log).records
     pub refused : (cause : Cause) → answer ≡ Given (Refused cause) → call.made ≡ []
     pub asked : (query : Query) → call.step.call ≡ calls.Query query → call.made ≡ []
@@ -88,12 +89,13 @@ module _ {L : Type 0} (seen : L → LogView) where
     pub comes : MatchOption call.step.answer (IsUnanswered call) (λ answer. IsAnswered call answer)
 
   -- These are the calls of a store's life: they stand in the log's journal, in the order made, and the writer's records are just those
-  -- that they have made, each where its call stands, and once.
+  -- that they have made, each where its call stands, and once. The store is stale at each of them, or at none, as it was opened.
   pub record AreOf (writer : ℕ) (records : List Record) (life : Life L) (calls : List (Standing L)) : Type 0 where
     pub steps : map (λ call. call.step) calls ≡ life.steps
     pub stand : AllByRecursion (λ call. StandsIn records call) calls
     pub order : InOrder 0 calls
     pub once : AreGroups 0 writer records (map (λ call. group_of writer call) calls)
+    pub stale : AllByRecursion (λ call. call.step.begun.is_stale ≡ life.opened.is_stale) calls
 
   -- All calls of all stores stand in one journal, that of the log. It is what a hall alone has of a run of the calls that have made
   -- entries, each writer's in the order made, and no others.

@@ -1,5 +1,5 @@
 -- What has come of one try, and of the tries behind it.
-use Rattle.std.proofs.Common.{◌≡◌, ◌≢◌, ◌⊎◌, ◌<◌, ◌≤◌, ℕ, ◌+◌, ◌==◌, Bool, List, [], ◌∷◌, ◌++◌, length, inl, inr, refl, sym, ap, subst, ◌∙◌, append-nil, append_assoc, length-append}
+use Rattle.std.proofs.Common.{◌≡◌, ◌≢◌, ◌⊎◌, ◌<◌, ◌≤◌, ℕ, ◌+◌, ◌==◌, Bool, true, false, List, [], ◌∷◌, ◌++◌, length, inl, inr, refl, sym, ap, subst, ◌∙◌, append-nil, append_assoc, length-append}
 use native.Mathlib.Omega.{arith}
 use Rattle.std.specs.Prelude.{IsTrue, IfOk, OnErr}
 use Rattle.std.specs.Global.{Vec}
@@ -19,7 +19,7 @@ use Rattle.pana_shared.specs.Log.{Follows, Grows, HaveSome, IsAt, IsOneOf, LogVi
 use Rattle.pana_shared.proofs.Grown.{at_within, grows_on, one_of_kept}
 use Rattle.pana_shared_store.specs.declared.making.Tried.TheVariants.{Made, Behind, Not}
 use Rattle.pana_shared_store.specs.declared.trying.Attempt.TheVariants.{Answered}
-use Rattle.pana_shared_store.specs.Store.{AreFirst, Becomes, GoesOn, MakesBy, MakesOn, StaysOn, TriesBy, TriesOn, entries_in, recorded}
+use Rattle.pana_shared_store.specs.Store.{AreFirst, Becomes, GoesOn, MakesBy, MakesOn, StaysOn, TriesBy, TriesOn, asks_all, entries_in, recorded}
 use Rattle.pana_shared_store.specs.inner.{AreBefore, Attempts, IsReady, IsStore, LooksOn, TriesNone, TriesTo}
 use Rattle.pana_shared_store.proofs.Followed.{looks_none, looks_page, reads_none, reads_on}
 use Rattle.pana_shared_store.proofs.Placed.{looked_on}
@@ -188,14 +188,14 @@ goes_both : (old mid new : List Entry) → GoesOn old mid → GoesOn mid new →
 goes_both old mid new (first, is) (second, is_later) = (first ++ second, is_later ∙ ap (λ (l : List Entry). l ++ second) is ∙ append_assoc old first second)
 
 module _ (is_known : Bool) (turn : ℕ) (old mid new : List Entry) (before between after : LogView) (by : List ℕ) (call : Call) (some : IsTrue is_known → HaveSome before.loose) (stays : StaysOn is_known old before mid between) where
-  pub makes_on : (answer : Answer) (is_read : Bool) → Attempts is_known turn is_read mid between by call (Answered answer) new after → (IsTrue is_read → IsTrue is_known → length before.records ≤ length mid) → MakesOn is_known turn old before by call answer new after
+  pub makes_on : (answer : Answer) (is_read : Bool) → Attempts is_known turn is_read mid between by call (Answered answer) new after → (IsTrue is_read → IsTrue is_known → length before.records ≤ length mid) → MakesOn is_known false turn old before by call answer new after
   makes_on answer is_read (makes, all) read = record {
     at = makes.at;
     goes_on = goes_both old mid makes.at stays.goes_on makes.goes_on;
     becomes = makes.becomes;
     made = makes.made;
     makes = makes.makes;
-    all = λ known. by_all known (all known);
+    all = λ known asks. by_all known (all known);
     first = makes.first;
     own = λ known. grows_on before between after.records (stays.follows known) (stays.own known) (recorded before.writer turn makes.made) (some known) (subst (λ (w : ℕ). Grows between (recorded w turn makes.made) after.records) (stays.follows known).0 (makes.own known));
     stands = λ known some. subst (λ (w : ℕ). IsAt (length makes.at) (recorded w turn makes.made) after.records) (stays.follows known).0 (makes.stands known some);
@@ -258,10 +258,15 @@ pub asks_nothing : (journal : List Entry) (by : List ℕ) (query : Query) (reply
 unfolding journal_after
 asks_nothing journal by query reply = refl
 
--- a question behind all that the log had
-pub asked_made : (is_known : Bool) (turn : ℕ) (old mid new : List Entry) (before after : LogView) (by : List ℕ) (query : Query) (reply : Reply) → LooksOn is_known old before mid after → (IsTrue is_known → length before.records ≤ length mid)
-    → Permits mid by (calls.Query query) reply → new ≡ journal_after mid by (calls.Query query) reply → MakesBy is_known turn turn old before by (calls.Query query) (Given reply) new after
-asked_made is_known turn old mid new before after by query reply looks all permits is = record {
+-- a store of which a question asks all isn't stale
+not_stale : (is_stale : Bool) (query : Query) → IsTrue (asks_all is_stale (calls.Query query)) → is_stale ≡ false
+not_stale false query asks = refl
+not_stale true query asks = absurd (let f : false ≡ true = asks in cc)
+
+-- a question behind what is followed, which is all that the log had but for a stale store
+pub asked_made : (is_known is_stale : Bool) (turn : ℕ) (old mid new : List Entry) (before after : LogView) (by : List ℕ) (query : Query) (reply : Reply) → LooksOn is_known old before mid after → (IsTrue is_known → is_stale ≡ false → length before.records ≤ length mid)
+    → Permits mid by (calls.Query query) reply → new ≡ journal_after mid by (calls.Query query) reply → MakesBy is_known is_stale turn turn old before by (calls.Query query) (Given reply) new after
+asked_made is_known is_stale turn old mid new before after by query reply looks all permits is = record {
   later = inl refl;
   on = record {
     at = mid;
@@ -269,7 +274,7 @@ asked_made is_known turn old mid new before after by query reply looks all permi
     becomes = (permits, is);
     made = [];
     makes = is ∙ asks_nothing mid by query reply ∙ sym (append-nil mid);
-    all = all;
+    all = λ known asks. all known (not_stale is_stale query asks);
     first = λ known. subst (λ (l : List Entry). AreFirst l after.records) (sym (is ∙ asks_nothing mid by query reply)) (looks.first known);
     own = λ known. (looks.reads known).grows;
     stands = λ known some. absurd (some refl);
@@ -279,7 +284,7 @@ asked_made is_known turn old mid new before after by query reply looks all permi
 
 -- what a call that has a turn of its own comes to
 module _ (is_known : Bool) (before turn : ℕ) (later : before < turn) (old new : List Entry) (seen_old seen_new : LogView) (by : List ℕ) (call : Call) where
-  pub made_by : (r : Result Answer ReadFault) → IfOk r (λ answer. MakesOn is_known turn old seen_old by call answer new seen_new) → IfOk r (λ answer. MakesBy is_known before turn old seen_old by call answer new seen_new)
+  pub made_by : (r : Result Answer ReadFault) → IfOk r (λ answer. MakesOn is_known false turn old seen_old by call answer new seen_new) → IfOk r (λ answer. MakesBy is_known false before turn old seen_old by call answer new seen_new)
   made_by (Ok answer) makes = record { on = makes; later = inr later }
   made_by (Err fault) makes = tt
 
@@ -287,3 +292,25 @@ module _ (is_known : Bool) (before turn : ℕ) (later : before < turn) (old new 
   tried_by (Ok answer) on = tt
   tried_by (Err fault) (inl stays) = inl stays
   tried_by (Err fault) (inr tries) = inr (record { on = tries; later = later })
+
+-- what is made behind all that the log had is so by a stale store too
+pub made_behind : (is_known is_stale : Bool) (before turn : ℕ) (old new : List Entry) (seen_old seen_new : LogView) (by : List ℕ) (call : Call) (r : Result Answer ReadFault) → IfOk r (λ answer. MakesBy is_known false before turn old seen_old by call answer new seen_new)
+    → IfOk r (λ answer. MakesBy is_known is_stale before turn old seen_old by call answer new seen_new)
+made_behind is_known is_stale before turn old new seen_old seen_new by call (Err fault) makes = tt
+made_behind is_known is_stale before turn old new seen_old seen_new by call (Ok answer) makes =
+    let on = makes.on in
+    record {
+      on = record {
+        at = on.at;
+        goes_on = on.goes_on;
+        becomes = on.becomes;
+        made = on.made;
+        makes = on.makes;
+        all = λ known asks. on.all known refl;
+        first = on.first;
+        own = on.own;
+        stands = on.stands;
+        follows = on.follows;
+      };
+      later = makes.later;
+    }

@@ -14,14 +14,16 @@ use Rattle.pana_shared.specs.declared.read_fault.ReadFault.TheVariants.{NoAnswer
 use Rattle.pana_shared.specs.declared.record.Record.{Record}
 use Rattle.pana_shared.specs.Log.{Follows, Grows, IsAt, IsOneOf, LogView, ours}
 
--- what contracts see of a store: the entries of its hall's journal, the log, how many of its calls may have made entries, and
--- whether something that is no entry stands in the log; and why the last call without an answer had none
+-- what contracts see of a store: the entries of its hall's journal, the log, how many of its calls may have made entries, whether
+-- something that is no entry stands in the log, why the last call without an answer had none, and whether it answers questions from what
+-- it has followed so far
 pub record StoreView (L : Type 0) : Type 0 where
   pub entries : List Entry
   pub log : L
   pub turn : ℕ
   pub broken : Bool
   pub fault : Option ReadFault
+  pub is_stale : Bool
 
 -- the number of what stands in the log and is no entry, where that was why
 abbrev pub foreign_of : Option ReadFault → Option ℕ
@@ -29,6 +31,13 @@ foreign_of (Some (Foreign number)) = Some number
 foreign_of (Some NoAnswer) = None
 foreign_of (Some OutOfMemory) = None
 foreign_of None = None
+
+-- whether a call is made behind all that the log has: each is, but a question to a stale store
+abbrev pub asks_all : Bool → Call → Bool
+asks_all false call = true
+asks_all true (calls.Report report) = true
+asks_all true (calls.Sighting sighting) = true
+asks_all true (calls.Query query) = false
 
 -- the entries of records
 abbrev pub entries_in : List Record → List Entry
@@ -63,15 +72,15 @@ Becomes at by call (Given reply) new = Steps at by call reply new
 Becomes at by call NotKept new = (refusal at by call ≡ None) × MayMake at by call × (new ≡ at)
 
 -- A call that is answered. It is made on a journal that goes on from the old one by what others have put since, and has all that
--- the log had when the call began. What it makes stands in the log then, right behind that journal, as records of the writer's turn, and
--- nothing else is new of the writer but what was loose; and nothing is loose that wasn't.
-pub record MakesOn (is_known : Bool) (turn : ℕ) (old : List Entry) (seen_old : LogView) (by : List ℕ) (call : Call) (answer : Answer) (new : List Entry) (seen_new : LogView) : Type 0 where
+-- the log had when the call began, but where a stale store was asked a question. What it makes stands in the log then, right behind that
+-- journal, as records of the writer's turn, and nothing else is new of the writer but what was loose; and nothing is loose that wasn't.
+pub record MakesOn (is_known is_stale : Bool) (turn : ℕ) (old : List Entry) (seen_old : LogView) (by : List ℕ) (call : Call) (answer : Answer) (new : List Entry) (seen_new : LogView) : Type 0 where
   pub at : List Entry
   pub goes_on : GoesOn old at
   pub becomes : Becomes at by call answer new
   pub made : List Entry
   pub makes : new ≡ at ++ made
-  pub all : IsTrue is_known → length seen_old.records ≤ length at
+  pub all : IsTrue is_known → IsTrue (asks_all is_stale call) → length seen_old.records ≤ length at
   pub first : IsTrue is_known → AreFirst new seen_new.records
   pub own : IsTrue is_known → Grows seen_old (recorded seen_old.writer turn made) seen_new.records
   pub stands : IsTrue is_known → made ≢ [] → IsAt (length at) (recorded seen_old.writer turn made) seen_new.records
@@ -99,8 +108,8 @@ pub record TriesOn (is_known : Bool) (turn : ℕ) (old : List Entry) (seen_old :
   pub loose : IsTrue is_known → length seen_new.records ≤ seen_new.at → (group : List Record) → IsOneOf group seen_new.loose → ((seen_new.at ≡ seen_old.at) × IsOneOf group seen_old.loose) ⊎ (group ≡ recorded seen_old.writer turn asked)
 
 -- The same, by a turn that is behind the one before, if it makes entries: so no record is another call's.
-pub record MakesBy (is_known : Bool) (before turn : ℕ) (old : List Entry) (seen_old : LogView) (by : List ℕ) (call : Call) (answer : Answer) (new : List Entry) (seen_new : LogView) : Type 0 where
-  pub on : MakesOn is_known turn old seen_old by call answer new seen_new
+pub record MakesBy (is_known is_stale : Bool) (before turn : ℕ) (old : List Entry) (seen_old : LogView) (by : List ℕ) (call : Call) (answer : Answer) (new : List Entry) (seen_new : LogView) : Type 0 where
+  pub on : MakesOn is_known is_stale turn old seen_old by call answer new seen_new
   pub later : (on.made ≡ []) ⊎ (before < turn)
 
 pub record TriesBy (is_known : Bool) (before turn : ℕ) (old : List Entry) (seen_old : LogView) (by : List ℕ) (call : Call) (new : List Entry) (seen_new : LogView) : Type 0 where
@@ -109,10 +118,11 @@ pub record TriesBy (is_known : Bool) (before turn : ℕ) (old : List Entry) (see
 
 -- the same of a store
 pub record Makes {L : Type 0} (is_known : Bool) (seen : L → LogView) (old : StoreView L) (by : List ℕ) (call : Call) (answer : Answer) (new : StoreView L) : Type 0 where
-  pub on : MakesBy is_known old.turn new.turn old.entries (seen old.log) by call answer new.entries (seen new.log)
+  pub on : MakesBy is_known old.is_stale old.turn new.turn old.entries (seen old.log) by call answer new.entries (seen new.log)
   pub turn : old.turn ≤ new.turn
   pub whole : old.broken ≡ false
   pub same : new.broken ≡ false
+  pub stale : new.is_stale ≡ old.is_stale
 
 -- a store that was opened by a log, all of which it has read: nothing was asked of the log, but to be read
 pub record Opens {L : Type 0} (is_known : Bool) (seen : L → LogView) (log : L) (store : StoreView L) : Type 0 where
@@ -126,6 +136,7 @@ pub record MakesNone {L : Type 0} (is_known : Bool) (seen : L → LogView) (old 
   pub on : StaysOn is_known old.entries (seen old.log) new.entries (seen new.log) ⊎ TriesBy is_known old.turn new.turn old.entries (seen old.log) by call new.entries (seen new.log)
   pub turn : old.turn ≤ new.turn
   pub whole : old.broken ≡ false
+  pub stale : new.is_stale ≡ old.is_stale
 
 -- a call that has no answer: of a store that is broken nothing changes any more
 abbrev pub Fails : {L : Type 0} → Bool → (L → LogView) → StoreView L → List ℕ → Call → StoreView L → Type 0

@@ -1,7 +1,8 @@
-ghost use Rattle.std.specs.Prelude.{◌≡◌, ◌≤◌, ◌⊎◌, IsTrue, IfErr, IfOk, OnErr, is_some};
+ghost use Rattle.std.specs.Prelude.{◌≡◌, ◌≤◌, ◌⊎◌, false, IsTrue, IfErr, IfOk, OnErr, OnOk, is_some, length};
 ghost use Rattle.pana_calls.specs.declared.call.Call.TheVariants as calls;
-ghost use Rattle.pana_shared_store.specs.Store.{IsFresh, MakesBy, Opens, StaysOn, TriesBy, Why, foreign_of};
-ghost use Rattle.pana_shared_store.specs.inner.{IsStore};
+ghost use Rattle.pana_shared.specs.Log.{HaveSome};
+ghost use Rattle.pana_shared_store.specs.Store.{AreFirst, IsFresh, MakesBy, Opens, StaysOn, TriesBy, Why, foreign_of};
+ghost use Rattle.pana_shared_store.specs.inner.{IsStore, LooksOn};
 
 use crate::following::read_on;
 use crate::trying::make;
@@ -13,8 +14,8 @@ use std::alloc::Global;
 use std::marker::Model;
 
 /// A hall, and a log that others append to as well, which has the hall's journal: an entry is put into the log before its call is
-/// answered, and each call is made behind all that the log had when it began. To contracts it is the entries that are followed so far,
-/// the log, and how many calls may have made some.
+/// answered, and each call is made behind all that the log had when it began, but a question to a stale store. To contracts it is the
+/// entries that are followed so far, the log, how many calls may have made some, and whether it is stale.
 #[derive(Drop)]
 pub struct SharedStore<L: SharedLog> {
     alloc: Global,
@@ -23,6 +24,8 @@ pub struct SharedStore<L: SharedLog> {
     turn: u64,
     /// Why the last call that had no answer had none.
     fault: Option<ReadFault>,
+    /// Whether questions are answered from what is followed so far.
+    is_stale: bool,
 }
 
 impl<L: SharedLog> Model for SharedStore<L> {
@@ -32,20 +35,22 @@ impl<L: SharedLog> Model for SharedStore<L> {
 
     ghost Value = { StoreView L };
 
-    ghost view = { λ store. record { entries = store.hall; log = store.log; turn = store.turn; broken = is_some (foreign_of store.fault); fault = store.fault } };
+    ghost view = { λ store. record { entries = store.hall; log = store.log; turn = store.turn; broken = is_some (foreign_of store.fault); fault = store.fault; is_stale = store.is_stale } };
 
     ghost invariant = { λ store. IsTrue L.is_known → IsStore store.hall store.turn (L.seen store.log) };
 }
 
 impl<L: SharedLog + Drop> SharedStore<L> {
-    /// The store of a log, all of which is read. Nothing has been put into it by this writer.
+    /// The store of a log, all of which is read. Nothing has been put into it by this writer. A stale one answers questions from what
+    /// it has followed so far, and reads on for them only where the log says that it is time to.
     ///
     /// # Errors
     ///
     /// Those of reading; `Foreign` also where an entry isn't the next one of a journal.
-    pub fn open(alloc: Global, mut log: L) -> Result<SharedStore<L>, ReadFault>
+    pub fn open(alloc: Global, mut log: L, is_stale: bool) -> Result<SharedStore<L>, ReadFault>
         requires { IsTrue L.is_known → IsFresh (L.seen log) }
-        ensures { IfOk result (λ store. Opens L.is_known L.seen log store) }
+        ensures opens { IfOk result (λ store. Opens L.is_known L.seen log store) }
+        ensures stale { IfOk result (λ store. store.is_stale ≡ is_stale) }
     {
         let Ok(mut hall) = Hall::new(alloc) else {
             return Err(ReadFault::OutOfMemory);
@@ -57,6 +62,7 @@ impl<L: SharedLog + Drop> SharedStore<L> {
             log,
             turn: 0,
             fault: None,
+            is_stale,
         })
     }
 
@@ -80,7 +86,7 @@ fn make_next<L: SharedLog>(
     requires store { IsTrue L.is_known → IsStore hall.old turn.old (L.seen log.old) }
     ensures store { IsTrue L.is_known → IsStore hall.new turn.new (L.seen log.new) }
     ensures turn { turn.old ≤ turn.new }
-    ensures ok { IfOk result (λ answer. MakesBy L.is_known turn.old turn.new hall.old (L.seen log.old) by.now call.now answer hall.new (L.seen log.new)) }
+    ensures ok { IfOk result (λ answer. MakesBy L.is_known false turn.old turn.new hall.old (L.seen log.old) by.now call.now answer hall.new (L.seen log.new)) }
     ensures err { OnErr result (StaysOn L.is_known hall.old (L.seen log.old) hall.new (L.seen log.new) ⊎ TriesBy L.is_known turn.old turn.new hall.old (L.seen log.old) by.now call.now hall.new (L.seen log.new)) }
     ensures why { IfErr result (λ fault. IsTrue L.is_known → Why fault turn.old hall.old (L.silences log.old) hall.new (L.seen log.new).records (L.silences log.new)) }
 {
@@ -91,22 +97,53 @@ fn make_next<L: SharedLog>(
     make(alloc, hall, log, next, by, call)
 }
 
-/// Answers a question behind all that the log has. So many turns were taken.
+/// Reads on before a question, if it is to be answered behind all that the log has. A stale store reads on only where it is time to,
+/// and goes without what has no answer.
+///
+/// # Errors
+///
+/// As `read_on`; for a stale store all but `NoAnswer`.
+fn look<L: SharedLog>(
+    alloc: Global,
+    hall: &mut Hall,
+    log: &mut L,
+    is_stale: bool,
+) -> Result<(), ReadFault>
+    requires first { IsTrue L.is_known → AreFirst hall.old (L.seen log.old).records }
+    requires some { IsTrue L.is_known → HaveSome (L.seen log.old).loose }
+    ensures looks { LooksOn L.is_known hall.old (L.seen log.old) hall.new (L.seen log.new) }
+    ensures all { OnOk result (IsTrue L.is_known → is_stale ≡ false → length (L.seen log.old).records ≤ length hall.new) }
+    ensures why { IfErr result (λ fault. IsTrue L.is_known → Why fault 0 hall.old (L.silences log.old) hall.new (L.seen log.new).records (L.silences log.new)) }
+{
+    if !is_stale {
+        return read_on(alloc, hall, log);
+    }
+    if !log.is_due() {
+        return Ok(());
+    }
+    match read_on(alloc, hall, log) {
+        Ok(()) | Err(ReadFault::NoAnswer) => Ok(()),
+        Err(fault) => Err(fault),
+    }
+}
+
+/// Answers a question behind all that the log has, or by a stale store behind what is followed so far. So many turns were taken.
 fn ask<L: SharedLog>(
     alloc: Global,
     hall: &mut Hall,
     log: &mut L,
     turn: u64,
+    is_stale: bool,
     by: &DeviceName,
     query: Query,
 ) -> Result<Answer, ReadFault>
     requires store { IsTrue L.is_known → IsStore hall.old turn (L.seen log.old) }
     ensures store { IsTrue L.is_known → IsStore hall.new turn (L.seen log.new) }
-    ensures ok { IfOk result (λ answer. MakesBy L.is_known turn turn hall.old (L.seen log.old) by.now (calls.Query query) answer hall.new (L.seen log.new)) }
+    ensures ok { IfOk result (λ answer. MakesBy L.is_known is_stale turn turn hall.old (L.seen log.old) by.now (calls.Query query) answer hall.new (L.seen log.new)) }
     ensures err { OnErr result (StaysOn L.is_known hall.old (L.seen log.old) hall.new (L.seen log.new)) }
     ensures why { IfErr result (λ fault. IsTrue L.is_known → Why fault turn hall.old (L.silences log.old) hall.new (L.seen log.new).records (L.silences log.new)) }
 {
-    read_on(alloc, hall, log)?;
+    look(alloc, hall, log, is_stale)?;
     Ok(Answer::Given(hall.apply(by, Call::Query(query))))
 }
 
@@ -116,18 +153,19 @@ fn answer<L: SharedLog>(
     hall: &mut Hall,
     log: &mut L,
     turn: &mut u64,
+    is_stale: bool,
     by: &DeviceName,
     call: Call,
 ) -> Result<Answer, ReadFault>
     requires store { IsTrue L.is_known → IsStore hall.old turn.old (L.seen log.old) }
     ensures store { IsTrue L.is_known → IsStore hall.new turn.new (L.seen log.new) }
     ensures turn { turn.old ≤ turn.new }
-    ensures ok { IfOk result (λ answer. MakesBy L.is_known turn.old turn.new hall.old (L.seen log.old) by.now call answer hall.new (L.seen log.new)) }
+    ensures ok { IfOk result (λ answer. MakesBy L.is_known is_stale turn.old turn.new hall.old (L.seen log.old) by.now call answer hall.new (L.seen log.new)) }
     ensures err { OnErr result (StaysOn L.is_known hall.old (L.seen log.old) hall.new (L.seen log.new) ⊎ TriesBy L.is_known turn.old turn.new hall.old (L.seen log.old) by.now call hall.new (L.seen log.new)) }
     ensures why { IfErr result (λ fault. IsTrue L.is_known → Why fault turn.old hall.old (L.silences log.old) hall.new (L.seen log.new).records (L.silences log.new)) }
 {
     match call {
-        Call::Query(query) => ask(alloc, hall, log, *turn, by, query),
+        Call::Query(query) => ask(alloc, hall, log, *turn, is_stale, by, query),
         call => make_next(alloc, hall, log, turn, by, &call),
     }
 }
@@ -146,11 +184,12 @@ impl<L: SharedLog> SharedStore<L> {
 
     /// Makes one call of a device, by a store that isn't broken.
     fn make(&mut self, by: &DeviceName, call: Call) -> Result<Answer, ReadFault>
-        ensures ok { IfOk result (λ answer. MakesBy L.is_known self.old.turn self.new.turn self.old.entries (L.seen self.old.log) by.now call answer self.new.entries (L.seen self.new.log)) }
+        ensures ok { IfOk result (λ answer. MakesBy L.is_known self.old.is_stale self.old.turn self.new.turn self.old.entries (L.seen self.old.log) by.now call answer self.new.entries (L.seen self.new.log)) }
         ensures err { OnErr result (StaysOn L.is_known self.old.entries (L.seen self.old.log) self.new.entries (L.seen self.new.log) ⊎ TriesBy L.is_known self.old.turn self.new.turn self.old.entries (L.seen self.old.log) by.now call self.new.entries (L.seen self.new.log)) }
         ensures turn { self.old.turn ≤ self.new.turn }
         ensures broken { self.new.broken ≡ self.old.broken }
         ensures why { IfErr result (λ fault. IsTrue L.is_known → Why fault self.old.turn self.old.entries (L.silences self.old.log) self.new.entries (L.seen self.new.log).records (L.silences self.new.log)) }
+        ensures stale { self.new.is_stale ≡ self.old.is_stale }
     {
         let SharedStore {
             alloc,
@@ -158,8 +197,9 @@ impl<L: SharedLog> SharedStore<L> {
             log,
             turn,
             fault: _,
+            is_stale,
         } = self;
-        answer(*alloc, hall, log, turn, by, call)
+        answer(*alloc, hall, log, turn, *is_stale, by, call)
     }
 }
 
@@ -170,7 +210,8 @@ impl<L: SharedLog> Session for SharedStore<L> {
 
     ghost fails = { λ old by call new. Fails L.is_known L.seen old by call new × HasCause L.is_known L.seen L.silences old new };
 
-    /// Makes one call of a device, behind all that the log had when it began. What it makes is in the log when it is answered.
+    /// Makes one call of a device, behind all that the log had when it began, but a question to a stale store. What it makes is in the
+    /// log when it is answered.
     ///
     /// # Errors
     ///

@@ -1,5 +1,5 @@
 //! A call that is made behind all that the log has, try after try.
-ghost use Rattle.std.specs.Prelude.{◌≤◌, ◌⊎◌, IsTrue, IfErr, IfOk, OnErr, length};
+ghost use Rattle.std.specs.Prelude.{◌≤◌, ◌⊎◌, false, IsTrue, IfErr, IfOk, OnErr, length};
 ghost use Rattle.pana_shared_store.specs.Store.{MakesOn, StaysOn, TriesOn, Why};
 ghost use Rattle.pana_shared_store.specs.inner.{Attempts, IsReady, IsStore};
 
@@ -83,7 +83,7 @@ pub(crate) fn make<L: SharedLog>(
     requires store { IsTrue L.is_known → IsStore hall.old turn (L.seen log.old) }
     requires ready { IsTrue L.is_known → IsReady turn hall.old (L.seen log.old) }
     ensures store { IsTrue L.is_known → IsStore hall.new turn (L.seen log.new) }
-    ensures ok { IfOk result (λ answer. MakesOn L.is_known turn hall.old (L.seen log.old) by.now call.now answer hall.new (L.seen log.new)) }
+    ensures ok { IfOk result (λ answer. MakesOn L.is_known false turn hall.old (L.seen log.old) by.now call.now answer hall.new (L.seen log.new)) }
     ensures err { OnErr result (StaysOn L.is_known hall.old (L.seen log.old) hall.new (L.seen log.new) ⊎ TriesOn L.is_known turn hall.old (L.seen log.old) by.now call.now hall.new (L.seen log.new)) }
     ensures why { IfErr result (λ fault. IsTrue L.is_known → Why fault 0 hall.old (L.silences log.old) hall.new (L.seen log.new).records (L.silences log.new)) }
 {
