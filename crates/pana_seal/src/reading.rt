@@ -1,5 +1,5 @@
 //! The seals of a file's lines.
-ghost use Rattle.std.specs.Prelude.{◌≡◌, ◌||◌, not, List, ℕ, IfOk, IfErr, OnOk};
+ghost use Rattle.std.specs.Prelude.{◌≡◌, ◌||◌, ◌++◌, not, List, ℕ, IfOk, IfErr, OnOk};
 ghost use Rattle.pana_log.specs.Lines.{text_of};
 ghost use Rattle.pana_wire.specs.Lines.{texts};
 ghost use Rattle.pana_seal.specs.Seal.{Covers, is_marked, is_sealed, demands_seals, IsIntact, IsSealFault};
@@ -24,24 +24,30 @@ pub fn read_seals(alloc: Global, lines: &[&[u8]]) -> Result<Sealer, SealFault>
     let mut sealer = Sealer::new();
     let mut is_due = false;
     for (index, line) in lines.iter().enumerate() {
-        if !is_good(alloc, &sealer, is_due, line)? {
+        if !take_line(alloc, &mut sealer, is_due, line)? {
             let line = index as u64 + 1;
             return Err(SealFault::Damaged { line });
         }
         is_due = is_due || demands_seals(line);
-        sealer.push(line);
         sealer.push(b"\n");
     }
     Ok(sealer)
 }
 
-/// Whether a line is sealed, where it has to be: since lines before it demand it, or it looks so itself.
-fn is_good(alloc: Global, sealer: &Sealer, is_due: bool, line: &[u8]) -> Result<bool, AllocError>
-    ensures { IfOk result (λ good. (before : List ℕ) → Covers sealer.now before → good ≡ (not (is_due || is_marked line.now) || is_sealed before line.now)) }
+/// Takes up a line, and returns whether it is sealed, where it has to be: since lines before it demand it, or it looks so itself.
+fn take_line(
+    alloc: Global,
+    sealer: &mut Sealer,
+    is_due: bool,
+    line: &[u8],
+) -> Result<bool, AllocError>
+    ensures good { IfOk result (λ good. (before : List ℕ) → Covers sealer.old before → good ≡ (not (is_due || is_marked line.now) || is_sealed before line.now)) }
+    ensures covers { OnOk result ((before : List ℕ) → Covers sealer.old before → Covers sealer.new (before ++ line.now)) }
 {
     if is_due || is_marked(line) {
-        sealer.is_sealed(alloc, line)
+        sealer.push_sealed(alloc, line)
     } else {
+        sealer.push(line);
         Ok(true)
     }
 }

@@ -1,5 +1,5 @@
 //! What stands before a line, as its digest takes it up.
-ghost use Rattle.std.specs.Prelude.{◌≡◌, ◌++◌, [], List, ℕ, IfOk};
+ghost use Rattle.std.specs.Prelude.{◌≡◌, ◌++◌, [], List, ℕ, IfOk, OnOk};
 ghost use Rattle.pana_wire.specs.Seal.{seal_with};
 ghost use Rattle.pana_seal.specs.Seal.{Covers, digest_of, body_of, end_of, is_marked, is_sealed};
 
@@ -64,13 +64,16 @@ impl Sealer {
         Ok(copy.finish(body))
     }
 
-    /// Whether the line is sealed, behind the bytes. Fails only where memory runs out.
-    pub fn is_sealed(&self, alloc: Global, line: &[u8]) -> Result<bool, AllocError>
-        ensures { IfOk result (λ is. (before : List ℕ) → Covers self.now before → is ≡ is_sealed before line.now) }
+    /// Takes up a line, and returns whether it is sealed, behind the bytes before it. Fails only where memory runs out.
+    pub fn push_sealed(&mut self, alloc: Global, line: &[u8]) -> Result<bool, AllocError>
+        ensures is { IfOk result (λ is. (before : List ℕ) → Covers self.old before → is ≡ is_sealed before line.now) }
+        ensures covers { OnOk result ((before : List ℕ) → Covers self.old before → Covers self.new (before ++ line.now)) }
     {
         let (body, end) = split_seal(line);
-        let digest = self.digest(body)?;
+        self.push(body);
+        let digest = self.digest(&[])?;
         let seal = seal_with(alloc, &digest)?;
+        self.push(end);
         Ok(seal.as_slice() == end)
     }
 }

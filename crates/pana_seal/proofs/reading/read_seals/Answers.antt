@@ -21,7 +21,7 @@ returns-then-not-branch-clause-fault c =
     let lines = c.args.lines.now in
     let before = text_of (texts (take c.loop-index.index lines)) in
     let marked = is_marked (get_or lines c.loop-index.index none).now in
-    let bad = bad_due c.loop-index.is_due marked _ (sym c.if-not-branch.true ∙ c.in_ok-is_good.ensures before so_far.covers) in
+    let bad = bad_due c.loop-index.is_due marked _ (sym c.if-not-branch.true ∙ c.in_ok-take_line.ensures.good before so_far.covers) in
     damaged_at lines c.loop-index.index none (omega arith) so_far.intact (either_like c.loop-index.is_due (list_any demands_seals (texts (take c.loop-index.index lines))) marked so_far.due bad.0) bad.1
 
 pub loop-index-preserved : goal.loop-index-preserved
@@ -32,13 +32,13 @@ loop-index-preserved c =
     let index = c.loop-index.index in
     let before = text_of (texts (take index lines)) in
     let line = (get_or lines index none).now in
-    let good = sym c.if-not-branch.false ∙ c.in_ok-is_good.ensures before so_far.covers in
+    let good = sym c.if-not-branch.false ∙ c.in_ok-take_line.ensures.good before so_far.covers in
     let due : c.if-is_due.is_due ≡ (c.loop-index.is_due || demands_seals line) = elim c.if-is_due.branch [
       | then-is_due w ↦ w.is_due-is ∙ w.if-is_due.true ∙ sym (ap (λ (b : Bool). b || demands_seals line) w.if-is_due.true)
       | else-is_due w ↦ w.is_due-is ∙ w.demands_seals-is_due.ensures ∙ sym (ap (λ (b : Bool). b || demands_seals line) w.if-is_due.false)
     ] in
     record {
-      covers = covers_next lines index none c.push-in-loop-index.new.self (omega arith) (c.push-in-loop-index.ensures _ (c.push.ensures before so_far.covers));
+      covers = covers_next lines index none c.push.new.self (omega arith) (c.push.ensures _ (c.in_ok-take_line.ensures.covers before so_far.covers));
       intact = intact_next lines index none (omega arith) so_far.intact (λ is. good_sealed c.loop-index.is_due (is_marked line) _ good (either_like (list_any demands_seals (texts (take index lines))) c.loop-index.is_due (is_marked line) (sym so_far.due) is));
       due = due ∙ due_next lines index none c.loop-index.is_due (demands_seals line) (omega arith) so_far.due refl;
     }
