@@ -1,21 +1,22 @@
 //! What the words of the command line may be.
 
 use crate::command_name::{COMMANDS, CommandName};
-use crate::compare::compare_command;
-use crate::history::history_command;
-use crate::load::load_command;
-use crate::log_copy::log_command;
-use crate::may_overwrite::overwrite_command;
-use crate::report::report_command;
-use crate::run::run_command;
-use crate::scan::scan_command;
-use crate::serve::serve_command;
-use crate::show::show_command;
-use crate::status::status_command;
-use crate::track::track_command;
+use crate::command_text::CommandText;
+use crate::compare::COMPARE_COMMAND;
+use crate::history::HISTORY_COMMAND;
+use crate::load::LOAD_COMMAND;
+use crate::log_copy::{COPY_COMMAND, log_command};
+use crate::may_overwrite::MAY_OVERWRITE_COMMAND;
+use crate::report::REPORT_COMMAND;
+use crate::run::RUN_COMMAND;
+use crate::scan::SCAN_COMMAND;
+use crate::serve::SERVE_COMMAND;
+use crate::show::SHOW_COMMAND;
+use crate::status::STATUS_COMMAND;
+use crate::track::TRACK_COMMAND;
 use crate::version::VERSION;
-use crate::watch::watch_command;
-use crate::why::why_command;
+use crate::watch::WATCH_COMMAND;
+use crate::why::WHY_COMMAND;
 use clap::Command;
 use std::alloc::{AllocError, Global};
 
@@ -42,36 +43,52 @@ daemon, as it comes, and `panad log copy` moves a journal into etcd or out.
 `panad COMMAND --help` shows an example. docs/PROTOCOL.md has all answers, and
 docs/PROMISES.md what is proved of them, and what isn't.";
 
+/// What the words of this command may be, of `log` those of its only command.
+fn text_of(name: CommandName) -> CommandText {
+    match name {
+        CommandName::Run => RUN_COMMAND,
+        CommandName::Show => SHOW_COMMAND,
+        CommandName::Load => LOAD_COMMAND,
+        CommandName::Scan => SCAN_COMMAND,
+        CommandName::Compare => COMPARE_COMMAND,
+        CommandName::Track => TRACK_COMMAND,
+        CommandName::Status => STATUS_COMMAND,
+        CommandName::MayOverwrite => MAY_OVERWRITE_COMMAND,
+        CommandName::Why => WHY_COMMAND,
+        CommandName::History => HISTORY_COMMAND,
+        CommandName::Report => REPORT_COMMAND,
+        CommandName::Watch => WATCH_COMMAND,
+        CommandName::Serve => SERVE_COMMAND,
+        CommandName::Log => COPY_COMMAND,
+    }
+}
+
 /// What the words of this command may be.
 fn command_of<'a>(alloc: Global, name: CommandName) -> Result<Command<'a>, AllocError> {
-    match name {
-        CommandName::Run => run_command(alloc),
-        CommandName::Show => show_command(alloc),
-        CommandName::Load => load_command(alloc),
-        CommandName::Scan => scan_command(alloc),
-        CommandName::Compare => compare_command(alloc),
-        CommandName::Track => track_command(alloc),
-        CommandName::Status => status_command(alloc),
-        CommandName::MayOverwrite => overwrite_command(alloc),
-        CommandName::Why => why_command(alloc),
-        CommandName::History => history_command(alloc),
-        CommandName::Report => report_command(alloc),
-        CommandName::Watch => watch_command(alloc),
-        CommandName::Serve => serve_command(alloc),
-        CommandName::Log => log_command(alloc),
+    let command = text_of(name).command(alloc)?;
+    if matches!(name, CommandName::Log) {
+        return log_command(alloc, command);
     }
+    Ok(command)
+}
+
+/// All commands, in the order of the help.
+fn commands_of<'a>(alloc: Global) -> Result<Vec<Command<'a>>, AllocError> {
+    let mut commands = Vec::new(alloc);
+    for name in &COMMANDS {
+        commands.push(command_of(alloc, *name)?)?;
+    }
+    Ok(commands)
 }
 
 /// What the words of the command line may be.
 pub fn panad_command<'a>(alloc: Global) -> Result<Command<'a>, AllocError> {
-    let mut command = Command::new(alloc, "panad")
+    let commands = commands_of(alloc)?;
+    Command::new(alloc, "panad")
         .about("Answers which copies of a file are newest, obsolete or in conflict")
         .version(VERSION)
         .after_help(LINES)
         .subcommand_required(true)
-        .arg_required_else_help(true);
-    for name in COMMANDS {
-        command = command.subcommand(command_of(alloc, name)?)?;
-    }
-    Ok(command)
+        .arg_required_else_help(true)
+        .subcommands(commands)
 }

@@ -1,9 +1,9 @@
 //! The words of `panad compare`.
 
-use crate::item::{Item, Kind, Need, with_items};
+use crate::command_text::CommandText;
+use crate::item::{Item, Kind, Need};
 use crate::options::value_of;
-use clap::{ArgMatches, Command};
-use std::alloc::{AllocError, Global};
+use clap::ArgMatches;
 
 /// The name of the command.
 pub const COMPARE: &str = "compare";
@@ -45,12 +45,12 @@ const ITEMS: [Item; 2] = [
 ];
 
 /// What the words of `compare` may be.
-pub fn compare_command<'a>(alloc: Global) -> Result<Command<'a>, AllocError> {
-    let command = Command::new(alloc, COMPARE)
-        .about("Prints how two stamps relate: Equal, Older, Newer or Conflict")
-        .after_help(EXAMPLE);
-    with_items(alloc, command, &ITEMS)
-}
+pub const COMPARE_COMMAND: CommandText = CommandText {
+    name: COMPARE,
+    about: "Prints how two stamps relate: Equal, Older, Newer or Conflict",
+    example: EXAMPLE,
+    items: &ITEMS,
+};
 
 impl<'a> CompareArguments<'a> {
     /// What these words ask for.

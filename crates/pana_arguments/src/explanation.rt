@@ -60,12 +60,17 @@ impl Unread {
     }
 }
 
+/// The error by which `clap` refuses words for this reason.
+fn error_of(alloc: Global, reason: &str) -> Result<Error, AllocError> {
+    let mut command = panad_command(alloc)?;
+    command.error(ErrorKind::InvalidValue, reason)
+}
+
 /// Refuses the words for a reason that `clap` doesn't look at.
 pub fn refusal(alloc: Global, reason: &str) -> Result<Explanation, AllocError>
     ensures { IfOk result (λ explanation. explanation.is_refusal ≡ true) }
 {
-    let mut command = panad_command(alloc)?;
-    let error = command.error(ErrorKind::InvalidValue, reason)?;
+    let error = error_of(alloc, reason)?;
     let text = format!(in alloc; "{error}")?;
     Ok(Explanation {
         text,

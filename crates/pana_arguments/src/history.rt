@@ -1,11 +1,11 @@
 //! The words of `panad history`.
 
-use crate::item::{Item, Kind, Need, with_items};
+use crate::command_text::CommandText;
+use crate::item::{Item, Kind, Need};
 use crate::options::{
     ASKED_PORT, KeptBy, LOG_PATIENCE, PLACE, PLACE_WORD, READ_JOURNAL, SHARED_LOG, value_of,
 };
-use clap::{ArgMatches, Command};
-use std::alloc::{AllocError, Global};
+use clap::ArgMatches;
 
 /// The name of the command.
 pub const HISTORY: &str = "history";
@@ -56,12 +56,12 @@ const ITEMS: [Item; 6] = [
 ];
 
 /// What the words of `history` may be.
-pub fn history_command<'a>(alloc: Global) -> Result<Command<'a>, AllocError> {
-    let command = Command::new(alloc, HISTORY)
-        .about("Prints all that was reported of a file, a lane for each of its copies")
-        .after_help(EXAMPLE);
-    with_items(alloc, command, &ITEMS)
-}
+pub const HISTORY_COMMAND: CommandText = CommandText {
+    name: HISTORY,
+    about: "Prints all that was reported of a file, a lane for each of its copies",
+    example: EXAMPLE,
+    items: &ITEMS,
+};
 
 impl<'a> HistoryArguments<'a> {
     /// What these words ask for.

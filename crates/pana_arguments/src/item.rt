@@ -1,6 +1,7 @@
 //! The words and options of a command, as data.
 
-use clap::{Arg, ArgAction, Command, value_parser};
+use clap::builder::ValueParser;
+use clap::{Arg, ArgAction, value_parser};
 use std::alloc::{AllocError, Global};
 
 /// What a word or an option is, and what is read behind an option's name.
@@ -50,30 +51,47 @@ pub struct Item {
     pub help: &'static str,
 }
 
+/// What a use of a word or an option of this kind does.
+fn action_of(kind: Kind) -> ArgAction {
+    match kind {
+        Kind::Words | Kind::Texts(_) => ArgAction::Append,
+        Kind::Flag => ArgAction::SetTrue,
+        _ => ArgAction::Set,
+    }
+}
+
+/// What help calls the value of an option of this kind, if it has one.
+fn value_of_option(kind: Kind) -> Option<&'static str> {
+    match kind {
+        Kind::Text(value) | Kind::Texts(value) | Kind::Number(value) => Some(value),
+        Kind::Port => Some("N"),
+        Kind::Seconds => Some("SECONDS"),
+        Kind::Word | Kind::Words | Kind::Flag => None,
+    }
+}
+
+/// What a value of this kind has to be.
+fn parser_of<'a>(kind: Kind) -> ValueParser<'a> {
+    match kind {
+        Kind::Port => value_parser!(u16),
+        Kind::Number(_) => value_parser!(u64),
+        Kind::Seconds => value_parser!(u32),
+        _ => ValueParser::String,
+    }
+}
+
 /// An argument of this kind, which is optional.
 fn plain<'a>(alloc: Global, item: Item) -> Arg<'a> {
-    let arg = Arg::new(alloc, item.name).help(item.help);
-    match item.kind {
-        Kind::Word => arg,
-        Kind::Words => arg.action(ArgAction::Append),
-        Kind::Flag => arg.long(item.name).action(ArgAction::SetTrue),
-        Kind::Text(value) => arg.long(item.name).value_name(value),
-        Kind::Texts(value) => arg
+    let arg = Arg::new(alloc, item.name)
+        .help(item.help)
+        .action(action_of(item.kind));
+    match value_of_option(item.kind) {
+        Some(value) => arg
             .long(item.name)
             .value_name(value)
-            .action(ArgAction::Append),
-        Kind::Port => arg
-            .long(item.name)
-            .value_name("N")
-            .value_parser(value_parser!(u16)),
-        Kind::Number(value) => arg
-            .long(item.name)
-            .value_name(value)
-            .value_parser(value_parser!(u64)),
-        Kind::Seconds => arg
-            .long(item.name)
-            .value_name("SECONDS")
-            .value_parser(value_parser!(u32)),
+            .value_parser(parser_of(item.kind)),
+        None if matches!(item.kind, Kind::Flag) => arg.long(item.name),
+        None => arg,
     }
 }
 
@@ -85,28 +103,19 @@ fn arg_of<'a>(alloc: Global, item: Item) -> Result<Arg<'a>, AllocError> {
         Need::Required => Ok(arg.required(true)),
         Need::With(other) => arg.requires_arg(other),
         Need::Without(other) => arg.conflicts_with(other),
-        Need::WithoutEither(first, second) => arg.conflicts_with(first)?.conflicts_with(second),
-        Need::WithoutAny(first, second, third) => arg
-            .conflicts_with(first)?
-            .conflicts_with(second)?
-            .conflicts_with(third),
+        Need::WithoutEither(first, second) => arg.conflicts_with_all(&[first, second]),
+        Need::WithoutAny(first, second, third) => arg.conflicts_with_all(&[first, second, third]),
         Need::InPlaceOfEither(first, second) => arg
-            .required_unless_present(first)?
-            .required_unless_present(second)?
-            .conflicts_with(first)?
-            .conflicts_with(second),
+            .required_unless_present_any(&[first, second])?
+            .conflicts_with_all(&[first, second]),
     }
 }
 
-/// The command with these words and options, which help lists in this order.
-pub fn with_items<'a>(
-    alloc: Global,
-    command: Command<'a>,
-    items: &[Item],
-) -> Result<Command<'a>, AllocError> {
-    let mut command = command;
+/// The arguments that the items are, in their order.
+pub fn args_of<'a>(alloc: Global, items: &[Item]) -> Result<Vec<Arg<'a>>, AllocError> {
+    let mut args = Vec::new(alloc);
     for item in items {
-        command = command.arg(arg_of(alloc, *item)?)?;
+        args.push(arg_of(alloc, *item)?)?;
     }
-    Ok(command)
+    Ok(args)
 }

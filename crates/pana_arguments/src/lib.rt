@@ -5,6 +5,7 @@ mod arguments;
 mod command;
 mod command_line;
 mod command_name;
+mod command_text;
 mod compare;
 mod explanation;
 mod history;

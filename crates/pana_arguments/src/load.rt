@@ -1,9 +1,9 @@
 //! The words of `panad load`.
 
-use crate::item::{Item, Kind, Need, with_items};
+use crate::command_text::CommandText;
+use crate::item::{Item, Kind, Need};
 use crate::options::{FILE, value_of};
-use clap::{ArgMatches, Command};
-use std::alloc::{AllocError, Global};
+use clap::ArgMatches;
 
 /// The name of the command.
 pub const LOAD: &str = "load";
@@ -34,12 +34,12 @@ const ITEMS: [Item; 1] = [Item {
 }];
 
 /// What the words of `load` may be.
-pub fn load_command<'a>(alloc: Global) -> Result<Command<'a>, AllocError> {
-    let command = Command::new(alloc, LOAD)
-        .about("Loads a dump of a journal, and prints a table of each family's copies")
-        .after_help(EXAMPLE);
-    with_items(alloc, command, &ITEMS)
-}
+pub const LOAD_COMMAND: CommandText = CommandText {
+    name: LOAD,
+    about: "Loads a dump of a journal, and prints a table of each family's copies",
+    example: EXAMPLE,
+    items: &ITEMS,
+};
 
 impl<'a> LoadArguments<'a> {
     /// What these words ask for.

@@ -1,6 +1,7 @@
 //! The words of `panad log copy`.
 
-use crate::item::{Item, Kind, Need, with_items};
+use crate::command_text::CommandText;
+use crate::item::{Item, Kind, Need};
 use crate::options::{KeptBy, PATIENCE, patience_of, value_of};
 use clap::{ArgMatches, Command};
 use std::alloc::{AllocError, Global};
@@ -56,16 +57,21 @@ const ITEMS: [Item; 3] = [
     },
 ];
 
-/// What the words of `log` may be.
-pub fn log_command<'a>(alloc: Global) -> Result<Command<'a>, AllocError> {
-    let copy = Command::new(alloc, COPY)
-        .about("Copies a journal into one that is empty")
-        .after_help(EXAMPLE);
+/// What the words of `log copy` may be.
+pub const COPY_COMMAND: CommandText = CommandText {
+    name: COPY,
+    about: "Copies a journal into one that is empty",
+    example: EXAMPLE,
+    items: &ITEMS,
+};
+
+/// What the words of `log` may be, whose only command is this one.
+pub fn log_command<'a>(alloc: Global, copy: Command<'a>) -> Result<Command<'a>, AllocError> {
     Command::new(alloc, LOG)
         .about("Moves journals between files and etcd")
         .subcommand_required(true)
         .arg_required_else_help(true)
-        .subcommand(with_items(alloc, copy, &ITEMS)?)
+        .subcommand(copy)
 }
 
 impl<'a> CopyArguments<'a> {

@@ -1,9 +1,9 @@
 //! The words of `panad may-overwrite`.
 
-use crate::item::{Item, Kind, Need, with_items};
+use crate::command_text::CommandText;
+use crate::item::{Item, Kind, Need};
 use crate::options::{ASKED_PORT, KeptBy, LOG_PATIENCE, PLACE, READ_JOURNAL, SHARED_LOG, value_of};
-use clap::{ArgMatches, Command};
-use std::alloc::{AllocError, Global};
+use clap::ArgMatches;
 
 /// The name of the command.
 pub const MAY_OVERWRITE: &str = "may-overwrite";
@@ -54,12 +54,12 @@ const ITEMS: [Item; 6] = [
 ];
 
 /// What the words of `may-overwrite` may be.
-pub fn overwrite_command<'a>(alloc: Global) -> Result<Command<'a>, AllocError> {
-    let command = Command::new(alloc, MAY_OVERWRITE)
-        .about("Prints whether a copy may be overwritten with another one")
-        .after_help(EXAMPLE);
-    with_items(alloc, command, &ITEMS)
-}
+pub const MAY_OVERWRITE_COMMAND: CommandText = CommandText {
+    name: MAY_OVERWRITE,
+    about: "Prints whether a copy may be overwritten with another one",
+    example: EXAMPLE,
+    items: &ITEMS,
+};
 
 impl<'a> OverwriteArguments<'a> {
     /// What these words ask for.

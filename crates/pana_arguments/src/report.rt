@@ -1,11 +1,11 @@
 //! The words of `panad report`.
 
-use crate::item::{Item, Kind, Need, with_items};
+use crate::command_text::CommandText;
+use crate::item::{Item, Kind, Need};
 use crate::options::{
     KeptBy, LOG_PATIENCE, PLACE, REPORTED_JOURNAL, REPORTED_PORT, SHARED_LOG, value_of, values_of,
 };
-use clap::{ArgMatches, Command};
-use std::alloc::{AllocError, Global};
+use clap::ArgMatches;
 
 /// The name of the command.
 pub const REPORT: &str = "report";
@@ -101,12 +101,12 @@ const ITEMS: [Item; 9] = [
 ];
 
 /// What the words of `report` may be.
-pub fn report_command<'a>(alloc: Global) -> Result<Command<'a>, AllocError> {
-    let command = Command::new(alloc, REPORT)
-        .about("Reports one change of copies that are named by their places")
-        .after_help(EXAMPLE);
-    with_items(alloc, command, &ITEMS)
-}
+pub const REPORT_COMMAND: CommandText = CommandText {
+    name: REPORT,
+    about: "Reports one change of copies that are named by their places",
+    example: EXAMPLE,
+    items: &ITEMS,
+};
 
 impl<'a> ReportArguments<'a> {
     /// What these words ask for.

@@ -1,9 +1,9 @@
 //! The words of `panad run`.
 
-use crate::item::{Item, with_items};
+use crate::command_text::CommandText;
+use crate::item::Item;
 use crate::options::{KeptBy, LOG_PATIENCE, OWN_JOURNAL, OWN_LOG};
-use clap::{ArgMatches, Command};
-use std::alloc::{AllocError, Global};
+use clap::ArgMatches;
 
 /// The name of the command.
 pub const RUN: &str = "run";
@@ -29,12 +29,12 @@ pub struct RunArguments<'a> {
 const ITEMS: [Item; 3] = [OWN_JOURNAL, OWN_LOG, LOG_PATIENCE];
 
 /// What the words of `run` may be.
-pub fn run_command<'a>(alloc: Global) -> Result<Command<'a>, AllocError> {
-    let command = Command::new(alloc, RUN)
-        .about("Answers the lines on standard input, each a report or a question")
-        .after_help(EXAMPLE);
-    with_items(alloc, command, &ITEMS)
-}
+pub const RUN_COMMAND: CommandText = CommandText {
+    name: RUN,
+    about: "Answers the lines on standard input, each a report or a question",
+    example: EXAMPLE,
+    items: &ITEMS,
+};
 
 impl<'a> RunArguments<'a> {
     /// What these words ask for.

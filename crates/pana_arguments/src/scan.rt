@@ -1,9 +1,9 @@
 //! The words of `panad scan`.
 
-use crate::item::{Item, Kind, Need, with_items};
+use crate::command_text::CommandText;
+use crate::item::{Item, Kind, Need};
 use crate::options::{NAMES_PASSED, VERBOSE, value_of};
-use clap::{ArgMatches, Command};
-use std::alloc::{AllocError, Global};
+use clap::ArgMatches;
 
 /// The name of the command.
 pub const SCAN: &str = "scan";
@@ -52,12 +52,12 @@ const ITEMS: [Item; 3] = [
 ];
 
 /// What the words of `scan` may be.
-pub fn scan_command<'a>(alloc: Global) -> Result<Command<'a>, AllocError> {
-    let command = Command::new(alloc, SCAN)
-        .about("Prints the lines that register all files of a folder")
-        .after_help(EXAMPLE);
-    with_items(alloc, command, &ITEMS)
-}
+pub const SCAN_COMMAND: CommandText = CommandText {
+    name: SCAN,
+    about: "Prints the lines that register all files of a folder",
+    example: EXAMPLE,
+    items: &ITEMS,
+};
 
 impl<'a> ScanArguments<'a> {
     /// What these words ask for.

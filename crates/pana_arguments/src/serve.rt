@@ -1,12 +1,12 @@
 //! The words of `panad serve`.
 
-use crate::item::{Item, Kind, Need, with_items};
+use crate::command_text::CommandText;
+use crate::item::{Item, Kind, Need};
 use crate::options::{
     IGNORE, KeptBy, LOG_PATIENCE, ONE_FILE_SYSTEM, OWN_JOURNAL, OWN_LOG, PORT, ROOT, ROOTS_HELP,
     STAY, values_of,
 };
-use clap::{ArgMatches, Command};
-use std::alloc::{AllocError, Global};
+use clap::ArgMatches;
 
 /// The name of the command.
 pub const SERVE: &str = "serve";
@@ -124,12 +124,12 @@ const ITEMS: [Item; 12] = [
 ];
 
 /// What the words of `serve` may be.
-pub fn serve_command<'a>(alloc: Global) -> Result<Command<'a>, AllocError> {
-    let command = Command::new(alloc, SERVE)
-        .about("Answers lines over TCP, up to 16 sessions at a time, and looks at folders")
-        .after_help(EXAMPLE);
-    with_items(alloc, command, &ITEMS)
-}
+pub const SERVE_COMMAND: CommandText = CommandText {
+    name: SERVE,
+    about: "Answers lines over TCP, up to 16 sessions at a time, and looks at folders",
+    example: EXAMPLE,
+    items: &ITEMS,
+};
 
 impl<'a> ServeArguments<'a> {
     /// What these words ask for.

@@ -1,9 +1,9 @@
 //! The words of `panad show`.
 
-use crate::item::{Item, Kind, Need, with_items};
+use crate::command_text::CommandText;
+use crate::item::{Item, Kind, Need};
 use crate::options::{FILE, JOURNAL, KeptBy, LOG, LOG_PATIENCE, PORT};
-use clap::{ArgMatches, Command};
-use std::alloc::{AllocError, Global};
+use clap::ArgMatches;
 
 /// The name of the command.
 pub const SHOW: &str = "show";
@@ -91,12 +91,12 @@ const ITEMS: [Item; 7] = [
 ];
 
 /// What the words of `show` may be.
-pub fn show_command<'a>(alloc: Global) -> Result<Command<'a>, AllocError> {
-    let command = Command::new(alloc, SHOW)
-        .about("Takes lines as `run` does, and prints a table of each family's copies")
-        .after_help(EXAMPLE);
-    with_items(alloc, command, &ITEMS)
-}
+pub const SHOW_COMMAND: CommandText = CommandText {
+    name: SHOW,
+    about: "Takes lines as `run` does, and prints a table of each family's copies",
+    example: EXAMPLE,
+    items: &ITEMS,
+};
 
 impl Wanted {
     fn of(words: &ArgMatches) -> Wanted {

@@ -1,12 +1,12 @@
 //! The words of `panad status`.
 
-use crate::item::{Item, Kind, Need, with_items};
+use crate::command_text::CommandText;
+use crate::item::{Item, Kind, Need};
 use crate::options::{
     AS_JSON, ASKED_PORT, JSON, KeptBy, LOG_PATIENCE, NO_TABLE, PLACE, READ_JOURNAL, SHARED_LOG,
     ShownAs, values_of,
 };
-use clap::{ArgMatches, Command};
-use std::alloc::{AllocError, Global};
+use clap::ArgMatches;
 
 /// The name of the command.
 pub const STATUS: &str = "status";
@@ -62,12 +62,12 @@ const ITEMS: [Item; 8] = [
 ];
 
 /// What the words of `status` may be.
-pub fn status_command<'a>(alloc: Global) -> Result<Command<'a>, AllocError> {
-    let command = Command::new(alloc, STATUS)
-        .about("Prints what is obsolete or in conflict, by a journal or a daemon")
-        .after_help(EXAMPLE);
-    with_items(alloc, command, &ITEMS)
-}
+pub const STATUS_COMMAND: CommandText = CommandText {
+    name: STATUS,
+    about: "Prints what is obsolete or in conflict, by a journal or a daemon",
+    example: EXAMPLE,
+    items: &ITEMS,
+};
 
 impl<'a> StatusArguments<'a> {
     /// What these words ask for.

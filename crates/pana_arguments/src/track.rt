@@ -1,13 +1,13 @@
 //! The words of `panad track`.
 
-use crate::item::{Item, Kind, Need, with_items};
+use crate::command_text::CommandText;
+use crate::item::{Item, Kind, Need};
 use crate::options::{
     AS_JSON, IGNORE, KeptBy, LOG_PATIENCE, NAMES_PASSED, NO_TABLE, ONE_FILE_SYSTEM,
     REPORTED_JOURNAL, REPORTED_PORT, ROOT, ROOTS_HELP, SHARED_LOG, STAY, ShownAs, VERBOSE,
     values_of,
 };
-use clap::{ArgMatches, Command};
-use std::alloc::{AllocError, Global};
+use clap::ArgMatches;
 
 /// The name of the command.
 pub const TRACK: &str = "track";
@@ -98,12 +98,12 @@ const ITEMS: [Item; 13] = [
 ];
 
 /// What the words of `track` may be.
-pub fn track_command<'a>(alloc: Global) -> Result<Command<'a>, AllocError> {
-    let command = Command::new(alloc, TRACK)
-        .about("Tracks folders by contents, and prints what is obsolete or in conflict")
-        .after_help(EXAMPLE);
-    with_items(alloc, command, &ITEMS)
-}
+pub const TRACK_COMMAND: CommandText = CommandText {
+    name: TRACK,
+    about: "Tracks folders by contents, and prints what is obsolete or in conflict",
+    example: EXAMPLE,
+    items: &ITEMS,
+};
 
 impl<'a> TrackArguments<'a> {
     /// What these words ask for.

@@ -1,9 +1,9 @@
 //! The words of `panad watch`.
 
-use crate::item::{Item, Kind, Need, with_items};
+use crate::command_text::CommandText;
+use crate::item::{Item, Kind, Need};
 use crate::options::PORT;
-use clap::{ArgMatches, Command};
-use std::alloc::{AllocError, Global};
+use clap::ArgMatches;
 
 /// The name of the command.
 pub const WATCH: &str = "watch";
@@ -50,12 +50,12 @@ const ITEMS: [Item; 2] = [
 ];
 
 /// What the words of `watch` may be.
-pub fn watch_command<'a>(alloc: Global) -> Result<Command<'a>, AllocError> {
-    let command = Command::new(alloc, WATCH)
-        .about("Prints each entry of a daemon's journal as it comes, and each new conflict")
-        .after_help(EXAMPLE);
-    with_items(alloc, command, &ITEMS)
-}
+pub const WATCH_COMMAND: CommandText = CommandText {
+    name: WATCH,
+    about: "Prints each entry of a daemon's journal as it comes, and each new conflict",
+    example: EXAMPLE,
+    items: &ITEMS,
+};
 
 impl WatchArguments {
     /// What these words ask for.

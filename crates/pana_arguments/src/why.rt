@@ -1,11 +1,11 @@
 //! The words of `panad why`.
 
-use crate::item::{Item, Kind, Need, with_items};
+use crate::command_text::CommandText;
+use crate::item::{Item, Kind, Need};
 use crate::options::{
     ASKED_PORT, KeptBy, LOG_PATIENCE, PLACE, PLACE_WORD, READ_JOURNAL, SHARED_LOG, value_of,
 };
-use clap::{ArgMatches, Command};
-use std::alloc::{AllocError, Global};
+use clap::ArgMatches;
 
 /// The name of the command.
 pub const WHY: &str = "why";
@@ -51,12 +51,12 @@ const ITEMS: [Item; 6] = [
 ];
 
 /// What the words of `why` may be.
-pub fn why_command<'a>(alloc: Global) -> Result<Command<'a>, AllocError> {
-    let command = Command::new(alloc, WHY)
-        .about("Prints what each of two copies knows that the other lacks")
-        .after_help(EXAMPLE);
-    with_items(alloc, command, &ITEMS)
-}
+pub const WHY_COMMAND: CommandText = CommandText {
+    name: WHY,
+    about: "Prints what each of two copies knows that the other lacks",
+    example: EXAMPLE,
+    items: &ITEMS,
+};
 
 impl<'a> WhyArguments<'a> {
     /// What these words ask for.

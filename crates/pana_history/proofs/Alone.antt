@@ -1,5 +1,5 @@
 -- What one copy knows alone, from a family's last entry back.
-use Rattle.std.proofs.Common.{◌≡◌, ℕ, ◌<◌, ◌==◌, ◌||◌, ◌&&◌, not, Bool, true, false, cond, List, [], ◌∷◌, ◌++◌, filter, reverse, refl, sym, ap, ap₂, ◌∙◌, inl, inr, arith, append-nil}
+use Rattle.std.proofs.Common.{◌≡◌, ℕ, ◌<◌, ◌==◌, ◌||◌, ◌&&◌, not, Bool, true, false, cond, List, [], ◌∷◌, ◌++◌, filter, reverse, refl, sym, ap, ap₂, ◌∙◌, inl, inr, arith, append-nil, append_assoc, subst}
 use Rattle.std.specs.List.{AllByRecursion}
 use Rattle.std.proofs.lemmas.List.{reverse-reverse}
 use Rattle.std.proofs.lemmas.Bool.{cases_Bool}
@@ -15,7 +15,7 @@ use Rattle.pana_hall.proofs.Tables.{copies_of_none, layer_now, own_copy}
 use Rattle.pana_history.specs.Lacking.{family_entries, lacking}
 use Rattle.pana_history.specs.inner.Alone.{AreFit, IsFit, alone, known_alone}
 use Rattle.pana_history.specs.inner.Sources.{reaches, sources_before}
-use Rattle.pana_history.proofs.Fit.{each_reverse, reverse-cons}
+use Rattle.pana_history.proofs.Fit.{each_reverse, reverse-cons, reverse-push}
 use Rattle.pana_history.proofs.Knowing.{any_knows, knows, step}
 
 -- the copies that entries make, given from the last one back
@@ -131,3 +131,20 @@ IsFoundSoFar whole a b found left here there = only (reverse whole) a b ≡ foun
 pub found_all : (whole : List Entry) (a b : ℕ) (here there : List ℕ) (found : List Entry) → IsFit whole → IsFoundSoFar whole (a ∷ []) (b ∷ []) found [] here there → reverse found ≡ known_alone whole a b
 found_all whole a b here there found fit far =
     ap reverse (sym (append-nil found) ∙ sym far ∙ known_is whole a b fit) ∙ reverse-reverse (known_alone whole a b)
+
+-- at first nothing is found
+pub found_first : (whole : List Entry) (a b here there : List ℕ) (found : List Entry) → found ≡ [] → here ≡ a → there ≡ b → IsFoundSoFar whole a b found whole here there
+found_first whole a b here there found none first second = sym (ap₂ (λ (l r : List Entry). l ++ r) none (ap₂ (only (reverse whole)) first second))
+
+-- the next entry back is found where the first sources reach it and the others don't
+pub found_next : (whole entries left : List Entry) (e : Entry) (a b here there : List ℕ) (found : List Entry) → entries ≡ left ++ e ∷ [] → IsFoundSoFar whole a b found entries here there
+    → (more : List Entry) (is_here is_there : Bool) → more ≡ found ++ alone e is_here is_there → is_here ≡ reaches here e.report → is_there ≡ reaches there e.report
+    → (first second : List ℕ) → first ≡ sources_before e here → second ≡ sources_before e there → IsFoundSoFar whole a b more left first second
+found_next whole entries left e a b here there found last far more is_here is_there is reached met first second before other =
+    far ∙ ap (λ back. found ++ only back here there) (ap reverse last ∙ reverse-push left e)
+    ∙ sym (append_assoc found (alone e (reaches here e.report) (reaches there e.report)) (only (reverse left) (sources_before e here) (sources_before e there)))
+    ∙ sym (ap₂ (λ (l r : List Entry). l ++ r) (is ∙ ap₂ (λ (p q : Bool). found ++ alone e p q) reached met) (ap₂ (only (reverse left)) before other))
+
+-- the entries before the last one are fit too
+pub fit_before : (entries left : List Entry) (e : Entry) → entries ≡ left ++ e ∷ [] → IsFit entries → IsFit left
+fit_before entries left e last fit = (subst AreFit (ap reverse last ∙ reverse-push left e) fit).2

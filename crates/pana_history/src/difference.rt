@@ -1,9 +1,10 @@
 //! What each of two copies of a file knows that the other lacks.
-ghost use Rattle.std.specs.Prelude.{◌≡◌, ◌++◌, [], IfOk, OnOk};
+ghost use Rattle.std.specs.Prelude.{◌≡◌, ◌++◌, [], ◌∷◌, IfOk, OnOk};
 ghost use Rattle.pana_hall.specs.Accepted.{IsAccepted};
 ghost use Rattle.pana_hall.specs.Family.{families};
 ghost use Rattle.pana_history.specs.Lacking.{lacking};
 ghost use Rattle.pana_history.specs.inner.Alone.{IsFit, alone, known_alone};
+ghost use Rattle.pana_history.specs.inner.Sources.{sources_before};
 
 use crate::families::family_entries;
 use crate::sources::{reaches, sources_before};
@@ -50,6 +51,36 @@ impl Difference {
     }
 }
 
+/// The sources of two copies, at one moment.
+#[derive(Drop)]
+struct TwoSources {
+    first: Vec<u64>,
+    second: Vec<u64>,
+}
+
+impl TwoSources {
+    /// The copies themselves, which live at the end.
+    fn of(alloc: Global, a: u64, b: u64) -> Result<TwoSources, AllocError>
+        ensures first { IfOk result (λ sources. sources.first.items ≡ a ∷ []) }
+        ensures second { IfOk result (λ sources. sources.second.items ≡ b ∷ []) }
+    {
+        let first = vec![in alloc; a]?;
+        let second = vec![in alloc; b]?;
+        Ok(TwoSources { first, second })
+    }
+
+    /// The sources before an entry, by these after it.
+    fn before(self, alloc: Global, entry: &Entry) -> Result<TwoSources, AllocError>
+        ensures first { IfOk result (λ before. before.first.items ≡ sources_before entry.now self.first.items) }
+        ensures second { IfOk result (λ before. before.second.items ≡ sources_before entry.now self.second.items) }
+    {
+        let TwoSources { first, second } = self;
+        let first = sources_before(alloc, entry, first)?;
+        let second = sources_before(alloc, entry, second)?;
+        Ok(TwoSources { first, second })
+    }
+}
+
 /// What each of two living copies of a family knows that the other lacks, by the journal, which is one that refuses none of its
 /// entries, as that of a hall.
 ///
@@ -77,14 +108,12 @@ fn compare(alloc: Global, mut entries: Vec<Entry>, a: u64, b: u64) -> Result<Dif
     ensures first { IfOk result (λ difference. difference.first.items ≡ known_alone entries.items a b) }
     ensures second { IfOk result (λ difference. difference.second.items ≡ known_alone entries.items b a) }
 {
+    let mut sources = TwoSources::of(alloc, a, b)?;
     let mut found = Difference::none(alloc);
-    let mut first = vec![in alloc; a]?;
-    let mut second = vec![in alloc; b]?;
     while let Some(entry) = entries.pop() {
-        let is_in_first = reaches(&entry.report, first.as_slice());
-        let is_in_second = reaches(&entry.report, second.as_slice());
-        first = sources_before(alloc, &entry, first)?;
-        second = sources_before(alloc, &entry, second)?;
+        let is_in_first = reaches(&entry.report, sources.first.as_slice());
+        let is_in_second = reaches(&entry.report, sources.second.as_slice());
+        sources = sources.before(alloc, &entry)?;
         found.take(entry, is_in_first, is_in_second)?;
     }
     found.first.reverse();

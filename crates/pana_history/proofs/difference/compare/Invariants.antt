@@ -6,8 +6,8 @@ use Rattle.pana_history.proofs.difference.compare.Given as goal
 abbrev pub invariant-loop-entry : goal.invariant-loop-entry
 invariant-loop-entry l = record {
   fit : IsFit l.entries.items;
-  ours : IsFoundSoFar l.fn.entries.items (l.a ∷ []) (l.b ∷ []) l.found.first.items l.entries.items l.first.items l.second.items;
-  theirs : IsFoundSoFar l.fn.entries.items (l.b ∷ []) (l.a ∷ []) l.found.second.items l.entries.items l.second.items l.first.items;
+  ours : IsFoundSoFar l.fn.entries.items (l.a ∷ []) (l.b ∷ []) l.found.first.items l.entries.items l.sources.first.items l.sources.second.items;
+  theirs : IsFoundSoFar l.fn.entries.items (l.b ∷ []) (l.a ∷ []) l.found.second.items l.entries.items l.sources.second.items l.sources.first.items;
 }
 
 abbrev pub decreases-loop-entry : goal.decreases-loop-entry
