@@ -46,6 +46,8 @@ impl Difference {
             self.first.push(entry)?;
         } else if is_in_second && !is_in_first {
             self.second.push(entry)?;
+        } else {
+            drop(entry);
         }
         Ok(())
     }
