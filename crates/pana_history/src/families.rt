@@ -130,7 +130,13 @@ pub fn family_entries(
     };
     let mut entries = Vec::new(alloc);
     for entry in journal.into_vec() {
-        let is_own = table.take(&entry)? == family;
+        let is_own = match table.take(&entry) {
+            Ok(of) => of == family,
+            Err(fault) => {
+                drop(entry);
+                return Err(fault);
+            }
+        };
         entries = with_own(alloc, entries, entry, is_own)?;
     }
     Ok(entries)
@@ -153,7 +159,13 @@ pub(crate) fn own_entries(
     };
     let mut entries = Vec::new(alloc);
     for entry in journal.into_vec() {
-        let is_own = table.take(&entry)? == family;
+        let is_own = match table.take(&entry) {
+            Ok(of) => of == family,
+            Err(fault) => {
+                drop(entry);
+                return Err(fault);
+            }
+        };
         entries = with_entry(entries, entry, is_own)?;
     }
     Ok(entries)
