@@ -46,6 +46,8 @@ impl Difference {
             self.first.push(entry)?;
         } else if is_in_second && !is_in_first {
             self.second.push(entry)?;
+        } else {
+            drop(entry);
         }
         Ok(())
     }
@@ -113,7 +115,13 @@ fn compare(alloc: Global, mut entries: Vec<Entry>, a: u64, b: u64) -> Result<Dif
     while let Some(entry) = entries.pop() {
         let is_in_first = reaches(&entry.report, sources.first.as_slice());
         let is_in_second = reaches(&entry.report, sources.second.as_slice());
-        sources = sources.before(alloc, &entry)?;
+        sources = match sources.before(alloc, &entry) {
+            Ok(before) => before,
+            Err(fault) => {
+                drop(entry);
+                return Err(fault);
+            }
+        };
         found.take(entry, is_in_first, is_in_second)?;
     }
     found.first.reverse();

@@ -72,6 +72,8 @@ fn with_entry(mut entries: Vec<Entry>, entry: Entry, is_own: bool) -> Result<Vec
 {
     if is_own {
         entries.push(entry)?;
+    } else {
+        drop(entry);
     }
     Ok(entries)
 }
@@ -81,8 +83,15 @@ fn with_next(alloc: Global, entries: Vec<Entry>, entry: Entry) -> Result<Vec<Ent
     ensures { IfOk result (λ more. more.items ≡ with_next entry entries.items) }
 {
     match &entry.report {
-        Report::Confirm { .. } => Ok(entries),
-        Report::Withdraw { entry: number } => without(alloc, entries, *number),
+        Report::Confirm { .. } => {
+            drop(entry);
+            Ok(entries)
+        }
+        Report::Withdraw { entry: number } => {
+            let number = *number;
+            drop(entry);
+            without(alloc, entries, number)
+        }
         _ => with_entry(entries, entry, true),
     }
 }
@@ -99,6 +108,7 @@ fn with_own(
     if is_own {
         with_next(alloc, entries, entry)
     } else {
+        drop(entry);
         Ok(entries)
     }
 }
@@ -120,7 +130,13 @@ pub fn family_entries(
     };
     let mut entries = Vec::new(alloc);
     for entry in journal.into_vec() {
-        let is_own = table.take(&entry)? == family;
+        let is_own = match table.take(&entry) {
+            Ok(of) => of == family,
+            Err(fault) => {
+                drop(entry);
+                return Err(fault);
+            }
+        };
         entries = with_own(alloc, entries, entry, is_own)?;
     }
     Ok(entries)
@@ -143,7 +159,13 @@ pub(crate) fn own_entries(
     };
     let mut entries = Vec::new(alloc);
     for entry in journal.into_vec() {
-        let is_own = table.take(&entry)? == family;
+        let is_own = match table.take(&entry) {
+            Ok(of) => of == family,
+            Err(fault) => {
+                drop(entry);
+                return Err(fault);
+            }
+        };
         entries = with_entry(entries, entry, is_own)?;
     }
     Ok(entries)

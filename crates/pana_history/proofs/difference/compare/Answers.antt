@@ -25,8 +25,8 @@ loop-entry-preserved c =
     let last = c.in-Some.ensures.items in
     let far = loop.invariant in
     let now = loop.sources in
-    let then = c.in_ok-sources-2.sources in
-    let before = c.in_ok-sources-2.ensures in
+    let then = c.in-Ok.before in
+    let before = c.in-Ok.ensures in
     let first = c.reaches-is_in_first.ensures ∙ ap (λ (s : List ℕ). reaches s entry.report) c.as_slice.ensures.value in
     let second = c.reaches-is_in_second.ensures ∙ ap (λ (s : List ℕ). reaches s entry.report) c.as_slice-in-Some.ensures.value in
     record {

@@ -18,14 +18,14 @@ loop-entry-preserved c =
     let entry = c.in-Some.entry in
     let whole = loop.invariant.whole ∙ ap (λ l. so_far ++ l) c.in-Some.ensures.steps.0 in
     let parts = split_accepted so_far entry c.next.new.self.rest.items (subst (IsAccepted 8) whole c.requires) in
-    let next = families_next loop.table.families.items so_far entry c.in_ok-is_own.field-0 c.take.new.self.families.items loop.invariant.families parts.1.next c.in_ok-is_own.ensures.family c.in_ok-is_own.ensures.more in
+    let next = families_next loop.table.families.items so_far entry c.in-Ok.of c.take.new.self.families.items loop.invariant.families parts.1.next c.in-Ok.ensures.family c.in-Ok.ensures.more in
     record {
       whole = whole ∙ sym (append_assoc so_far (entry ∷ []) c.next.new.self.rest.items);
       families = next.0;
       entries =
           let own = own_entries so_far c.args.family in
           let keeps = keeps_families 8 so_far entry (accepted_is_sound 8 so_far parts.0) parts.1.next in
-          c.in_ok-entries.ensures ∙ ap (λ es. cond (c.in_ok-is_own.field-0 == c.args.family) (es ++ entry ∷ []) es) loop.invariant.entries
-          ∙ pushed (c.in_ok-is_own.field-0 == c.args.family) own entry
+          c.in_ok-entries.ensures ∙ ap (λ es. cond (c.in-Ok.of == c.args.family) (es ++ entry ∷ []) es) loop.invariant.entries
+          ∙ pushed (c.in-Ok.of == c.args.family) own entry
           ∙ ap (λ f. own ++ cond (f == c.args.family) (entry ∷ []) []) next.1 ∙ sym (own_push c.args.family so_far entry keeps);
     }
