@@ -3,7 +3,7 @@ use Rattle.std.proofs.Common.{◌≡◌, ℕ, All, Bool, ◌||◌, List, [], ◌
 use Rattle.std.specs.List.{list_any}
 use Rattle.pana_turn.specs.Closing.{Closes, LacksOne}
 use Rattle.pana_turn.specs.Passes.{DeskId, new_passes}
-use Rattle.pana_daemon.specs.declared.folder.Look.{Look}
+use Rattle.pana_daemon.specs.Folder.{Deed}
 use Rattle.pana_daemon.specs.declared.connection.Connection.{Connection}
 use Rattle.pana_daemon.specs.declared.post.Caller.{Caller}
 use Rattle.pana_daemon.specs.declared.post.Post.{Post}
@@ -38,12 +38,12 @@ module _ {S T G D F : Type 0} where
   lack_posted (caller ∷ callers) = ap (λ (b : Bool). lacks_answer caller.session || b) (lack_posted callers)
 
 module _ {S T G D R W F : Type 0} (steps : S → Request → Response → S → Type 0)
-    (gives : D → Option (Connection R W) → D → Type 0) (remaining : R → Option (List ℕ)) (contents : W → Option (List ℕ)) (finds : F → Option Look → F → Type 0)
+    (gives : D → Option (Connection R W) → D → Type 0) (remaining : R → Option (List ℕ)) (contents : W → Option (List ℕ)) (does : F → Deed → F → Type 0)
     (desk : DeskId S) (seats : ℕ) (olds news : List (Caller S T G D F)) (back : List (PassView S))
-    (fresh : sessions olds ≡ new_passes desk seats) (done : HaveDone steps gives remaining contents finds (map posted olds) (map posted news)) (is_back : back ≡ sessions news) where
+    (fresh : sessions olds ≡ new_passes desk seats) (done : HaveDone steps gives remaining contents does (map posted olds) (map posted news)) (is_back : back ≡ sessions news) where
   grown : HaveGrown (new_passes desk seats) back
   grown =
-      let whole : HaveGrown (passes_of (map posted olds)) (passes_of (map posted news)) = done_grow steps gives remaining contents finds (map posted olds) (map posted news) done in
+      let whole : HaveGrown (passes_of (map posted olds)) (passes_of (map posted news)) = done_grow steps gives remaining contents does (map posted olds) (map posted news) done in
       subst (λ (ps : List (PassView S)). HaveGrown ps back) (passes_posted olds ∙ fresh)
       (subst (λ (ps : List (PassView S)). HaveGrown (passes_of (map posted olds)) ps) (passes_posted news ∙ sym is_back) whole)
 
@@ -57,7 +57,7 @@ module _ {S T G D R W F : Type 0} (steps : S → Request → Response → S → 
 
   pub ends_so : (begun machine left : S) (posts posts_left : List (Post D F)) (requests : ℕ) (unanswered : Bool) → desk.begun ≡ begun → tasks olds ≡ posts → seats ≡ length posts
       → Closes steps seats desk.begun back machine requests → left ≡ machine → posts_left ≡ tasks news → unanswered ≡ list_any (λ caller. lacks_answer caller.session) news
-      → Ends steps gives remaining contents finds begun posts left posts_left requests unanswered
+      → Ends steps gives remaining contents does begun posts left posts_left requests unanswered
   ends_so begun machine left posts posts_left requests unanswered opened are count closed is_left are_left lack =
       let one = subst (λ (ps : List (PassView S)). Closes steps seats desk.begun ps machine requests) (is_back ∙ sym (passes_posted news)) closed in
       let two = subst (λ (b : S). Closes steps seats b (passes_of (map posted news)) machine requests) opened one in

@@ -3,7 +3,7 @@ use Rattle.std.proofs.Common.{◌≡◌, ◌<◌, ◌≤◌, ◌+◌, inl, inr, 
 use Rattle.std.proofs.lemmas.List.Sums.{sum_by-cons}
 use Rattle.pana_tickets.specs.declared.hand.Hand.{Hand}
 use Rattle.pana_tickets.specs.Hands.{TicketsView, joined}
-use Rattle.pana_daemon.specs.declared.folder.Look.{Look}
+use Rattle.pana_daemon.specs.Folder.{Deed}
 use Rattle.pana_daemon.specs.declared.connection.Connection.{Connection}
 use Rattle.pana_daemon.specs.declared.post.Post.{Post}
 use Rattle.pana_daemon.specs.declared.post.Post.TheVariants.{Door, Folder}
@@ -39,8 +39,8 @@ module _ {S R W : Type 0} (steps : S → Request → Response → S → Type 0) 
       let last = w.ends.0 in
       ((first.0 + last.0, draws_on door_old w.door door_new first.0 last.0 first.1 last.1), w.ends.1)
 
-  module _ {F : Type 0} (finds : F → Option Look → F → Type 0) where
-    done_ends : (olds news : List (Post DoorView F × PassView S)) → HaveDone steps GivesDrawn remaining contents finds olds news → AreEnded (doors_in (posts_of olds)) (doors_in (posts_of news))
+  module _ {F : Type 0} (does : F → Deed → F → Type 0) where
+    done_ends : (olds news : List (Post DoorView F × PassView S)) → HaveDone steps GivesDrawn remaining contents does olds news → AreEnded (doors_in (posts_of olds)) (doors_in (posts_of news))
     done_ends [] [] done = tt
     done_ends [] (new ∷ news) done = absurd done
     done_ends (old ∷ olds) [] done = absurd done
@@ -51,7 +51,7 @@ module _ {S R W : Type 0} (steps : S → Request → Response → S → Type 0) 
 
     -- so do all
     pub all_end : (begun : S) (posts : List (Post DoorView F)) (left : S) (posts_left : List (Post DoorView F)) (requests : ℕ) (unanswered : Bool)
-        → Ends steps GivesDrawn remaining contents finds begun posts left posts_left requests unanswered → AreEnded (doors_in posts) (doors_in posts_left)
+        → Ends steps GivesDrawn remaining contents does begun posts left posts_left requests unanswered → AreEnded (doors_in posts) (doors_in posts_left)
     all_end begun posts left posts_left requests unanswered e =
         subst (λ (ps : List (Post DoorView F)). AreEnded (doors_in posts) (doors_in ps)) e.posts_left_are
         (subst (λ (ps : List (Post DoorView F)). AreEnded (doors_in ps) (doors_in (posts_of e.news))) e.posts_are (done_ends e.olds e.news e.done))

@@ -9,7 +9,8 @@ use Rattle.pana_track.specs.IgnoreFile.{IsBehind}
 use Rattle.pana_track.specs.Reading.{ReadsRoot}
 use Rattle.pana_track.specs.declared.read_fault.ReadFault.{ReadFault}
 use Rattle.pana_track.specs.declared.reading.TrackedListing.{TrackedListing}
-use Rattle.pana_daemon.specs.declared.folder.Look.{Look}
+use Rattle.pana_track.specs.declared.folder_end.FolderEnd.{FolderEnd}
+use Rattle.pana_daemon.specs.Folder.{Deed, Gives, LearnsEnd, Taken, gives_look}
 use Rattle.pana_daemon.specs.declared.folder.Look.TheVariants.{Tracked}
 use Rattle.pana_daemon.specs.declared.connection.Connection.{Connection}
 use Rattle.pana_daemon.specs.declared.post.Post.{Post}
@@ -21,7 +22,7 @@ use Rattle.pana_daemon.specs.declared.request.Request.{Request}
 use Rattle.pana_daemon.specs.declared.request.Response.{Response}
 use Rattle.pana_daemon.specs.Post.{HaveDone, folders_in, posts_of}
 use Rattle.pana_daemon.specs.Root.{AwaitsScan, FolderView, IsLast, IsLookOf, IsMore, IsReadOf, IsReadingOf, RootView, ScansRoot, knowing, folders_of, has_folders, new_folders}
-use Rattle.pana_daemon.specs.Scan.{Gives, Scans}
+use Rattle.pana_daemon.specs.Scan.{Scans}
 use Rattle.pana_daemon.specs.Serve.{Ends}
 use Rattle.pana_daemon.specs.Session.{BreaksOff, GetsNone, MakesCall, MayRecover, Settles}
 use Rattle.pana_daemon.specs.inner.Folders.{AreOf, HaveAsked, IsTimed}
@@ -121,7 +122,7 @@ module _ {K D : Type 0} (has : K → D → Type 0) (passes : K → List ℕ → 
 
   -- a folder that is tracked was waited for, and read
   pub looks_so : (old mid view : FolderView K) (more : Bool) (given : Result TrackedListing ReadFault) → AwaitsScan old more mid → more ≡ true → view ≡ mid → view.looks.is_tracked ≡ true
-      → IsReadOf has passes is_known tree has_failed entries faults view.root given → ScansRoot has passes is_known tree has_failed entries faults old (Some (Tracked given)) view
+      → IsReadOf has passes is_known tree has_failed entries faults view.root given → ScansRoot has passes is_known tree has_failed entries faults old (gives_look (Tracked given)) view
   looks_so old mid view more given awaits waited is tracked reads =
       let (seen, same, begins) = subst (λ (b : Bool). AwaitsScan old b mid) waited awaits in
       let so : view ≡ knowing old true seen = is ∙ same in
@@ -134,24 +135,30 @@ module _ {K D : Type 0} (has : K → D → Type 0) (passes : K → List ℕ → 
 module _ {S D R W K : Type 0} (steps : S → Request → Response → S → Type 0)
     (gives : D → Option (Connection R W) → D → Type 0) (remaining : R → Option (List ℕ)) (contents : W → Option (List ℕ))
     {G : Type 0} (has : K → G → Type 0) (passes : K → List ℕ → List (List ℕ)) (is_known : Bool) (tree : G → Tree) (has_failed : G → Bool) (entries faults : G → ℕ) where
-  abbrev Finds : FolderView K → Option Look → FolderView K → Type 0
-  Finds = ScansRoot has passes is_known tree has_failed entries faults
+  abbrev Does : FolderView K → Deed → FolderView K → Type 0
+  Does = ScansRoot has passes is_known tree has_failed entries faults
 
-  giving_same : (old new : FolderView K) (given : List Look) → Gives Finds old given new → (new.ticks ≡ old.ticks) × (new.start ≡ old.start)
+  -- what it learns changes nothing
+  learnt_same : (end : Option FolderEnd) (old new : FolderView K) → LearnsEnd Does old end new → new ≡ old
+  learnt_same None old new is = is
+  learnt_same (Some end) old new is = is
+
+  giving_same : (old new : FolderView K) (given : List Taken) → Gives Does old given new → (new.ticks ≡ old.ticks) × (new.start ≡ old.start)
   giving_same old new [] is = (ap (λ (f : FolderView K). f.ticks) is, ap (λ (f : FolderView K). f.start) is)
-  giving_same old new (one ∷ more) (mid, gave, others) =
+  giving_same old new (one ∷ more) (given, mid, gave, learnt, others) =
       let rest = giving_same mid new more others in
-      (rest.0 ∙ ap (λ (f : FolderView K). f.ticks) gave.0.1, rest.1 ∙ ap (λ (f : FolderView K). f.start) gave.0.1)
+      let same = learnt_same one.end given mid learnt ∙ gave.0.1 in
+      (rest.0 ∙ ap (λ (f : FolderView K). f.ticks) same, rest.1 ∙ ap (λ (f : FolderView K). f.start) same)
 
   -- a folder waits for the same after it was scanned, and has asked whether the start has come
   scanning_same : (device : List ℕ) (folder_old folder_new : FolderView K) (old new : PassView S)
-      → Scans Finds (MakesCall steps) (GetsNone steps) (Settles steps) (BreaksOff steps) MayRecover device folder_old folder_new old new → (folder_new.ticks ≡ folder_old.ticks) × (folder_new.start ≡ folder_old.start) × IsSome folder_new.begins
+      → Scans Does (MakesCall steps) (GetsNone steps) (Settles steps) (BreaksOff steps) MayRecover device folder_old folder_new old new → (folder_new.ticks ≡ folder_old.ticks) × (folder_new.start ≡ folder_old.start) × IsSome folder_new.begins
   scanning_same device folder_old folder_new old new s =
       let first = giving_same folder_old s.folder_mid s.given s.folder in
       ⊎_elim (λ t. let last = last_asked s.folder_mid.begins s.folder_mid folder_new refl t.0 in (last.0 ∙ first.0, last.1 ∙ first.1, last.2))
       (λ t. let gave = t.2.0.1 in (ap (λ (f : FolderView K). f.ticks) gave ∙ first.0, ap (λ (f : FolderView K). f.start) gave ∙ first.1, ap (λ (f : FolderView K). is_some f.begins) gave)) s.ends
 
-  done_same : (ticks : TableId) (start : ℕ) (olds news : List (Post D (FolderView K) × PassView S)) → HaveDone steps gives remaining contents Finds olds news
+  done_same : (ticks : TableId) (start : ℕ) (olds news : List (Post D (FolderView K) × PassView S)) → HaveDone steps gives remaining contents Does olds news
       → AreOf ticks start (folders_in (posts_of olds)) → HaveAsked ticks start (folders_in (posts_of news))
   done_same ticks start [] [] done are = tt
   done_same ticks start [] (new ∷ news) done are = absurd done
@@ -165,7 +172,7 @@ module _ {S D R W K : Type 0} (steps : S → Request → Response → S → Type
 
   -- so have all
   pub all_asked : (ticks : TableId) (start : ℕ) (begun : S) (posts : List (Post D (FolderView K))) (left : S) (posts_left : List (Post D (FolderView K))) (requests : ℕ) (unanswered : Bool)
-      → Ends steps gives remaining contents Finds begun posts left posts_left requests unanswered → AreOf ticks start (folders_in posts) → HaveAsked ticks start (folders_in posts_left)
+      → Ends steps gives remaining contents Does begun posts left posts_left requests unanswered → AreOf ticks start (folders_in posts) → HaveAsked ticks start (folders_in posts_left)
   all_asked ticks start begun posts left posts_left requests unanswered e are =
       subst (λ (ps : List (Post D (FolderView K))). HaveAsked ticks start (folders_in ps)) e.posts_left_are
       (done_same ticks start e.olds e.news e.done (subst (λ (ps : List (Post D (FolderView K))). AreOf ticks start (folders_in ps)) (sym e.posts_are) are))

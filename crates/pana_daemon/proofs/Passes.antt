@@ -10,6 +10,7 @@ use Rattle.pana_turn.specs.Closing.{HasAll, LacksOne, has_pass}
 use Rattle.pana_turn.specs.Passes.{DeskId, new_pass, new_passes}
 use Rattle.pana_scan.specs.declared.baseline.BaselineRow.{BaselineRow}
 use Rattle.pana_track.specs.Calls.{Asked, Makes}
+use Rattle.pana_daemon.specs.Folder.{Deed, Taken}
 use Rattle.pana_daemon.specs.declared.folder.Look.{Look}
 use Rattle.pana_daemon.specs.Desk.{PassView}
 use Rattle.pana_daemon.specs.declared.request.Request.{Request}
@@ -100,22 +101,22 @@ module _ {S : Type 0} (steps : S → Request → Response → S → Type 0) wher
 
   breaks_grow : (device : List ℕ) (look : Look) (old new : PassView S) (marks_old marks_new : List BaselineRow) → BreaksLook (MakesCall steps) device (GetsNone steps) (BreaksOff steps) look old new marks_old marks_new → GrowsTo old new
   breaks_grow device look old new marks_old marks_new (inl stops) = grows_on old stops.mid new (made_grow old stops.mid stops.made stops.calls) (none_grows steps stops.mid new device stops.call stops.ends)
-  breaks_grow device look old new marks_old marks_new (inr (made, looks, broken)) = grows_on old made new (made_grow old made looks.made looks.calls) (broken_grows steps made new broken)
+  breaks_grow device look old new marks_old marks_new (inr (made, end, looks, broken)) = grows_on old made new (made_grow old made looks.made looks.calls) (broken_grows steps made new broken)
 
-  look_grows : (device : List ℕ) (look : Look) (old new : PassView S) (marks_old marks_new : List BaselineRow)
-      → TakesLook (MakesCall steps) device (GetsNone steps) (Settles steps) (BreaksOff steps) MayRecover look old new marks_old marks_new → GrowsTo old new
-  look_grows device look old new marks_old marks_new (inl kept) = grows_on old kept.mid new (made_grow old kept.mid kept.looks.made kept.looks.calls) (settled_grows steps kept.mid new kept.settled)
-  look_grows device look old new marks_old marks_new (inr (breaks, may)) = breaks_grow device look old new marks_old marks_new breaks
+  look_grows : (device : List ℕ) (taken : Taken) (old new : PassView S) (marks_old marks_new : List BaselineRow)
+      → TakesLook (MakesCall steps) device (GetsNone steps) (Settles steps) (BreaksOff steps) MayRecover taken old new marks_old marks_new → GrowsTo old new
+  look_grows device taken old new marks_old marks_new (inl kept) = grows_on old kept.mid new (made_grow old kept.mid kept.looks.made kept.looks.calls) (settled_grows steps kept.mid new kept.settled)
+  look_grows device taken old new marks_old marks_new (inr (unsaid, breaks, may)) = breaks_grow device taken.look old new marks_old marks_new breaks
 
-  looks_grow : (device : List ℕ) (given : List Look) (old new : PassView S) (marks_old marks_new : List BaselineRow)
+  looks_grow : (device : List ℕ) (given : List Taken) (old new : PassView S) (marks_old marks_new : List BaselineRow)
       → TakesLooks (MakesCall steps) device (GetsNone steps) (Settles steps) (BreaksOff steps) MayRecover given old new marks_old marks_new → GrowsTo old new
   looks_grow device [] old new marks_old marks_new so = grows_same old new so.0
-  looks_grow device (look ∷ given) old new marks_old marks_new (mid, marks, took, more) =
-      grows_on old mid new (look_grows device look old mid marks_old marks took) (looks_grow device given mid new marks marks_new more)
+  looks_grow device (taken ∷ given) old new marks_old marks_new (mid, marks, took, more) =
+      grows_on old mid new (look_grows device taken old mid marks_old marks took) (looks_grow device given mid new marks marks_new more)
 
-  pub scanning_grows : {F : Type 0} (gives : F → Option Look → F → Type 0) (device : List ℕ) (folder_old folder_new : F) (old new : PassView S)
-      → Scans gives (MakesCall steps) (GetsNone steps) (Settles steps) (BreaksOff steps) MayRecover device folder_old folder_new old new → GrowsTo old new
-  scanning_grows gives device folder_old folder_new old new s =
+  pub scanning_grows : {F : Type 0} (does : F → Deed → F → Type 0) (device : List ℕ) (folder_old folder_new : F) (old new : PassView S)
+      → Scans does (MakesCall steps) (GetsNone steps) (Settles steps) (BreaksOff steps) MayRecover device folder_old folder_new old new → GrowsTo old new
+  scanning_grows does device folder_old folder_new old new s =
       grows_on old s.mid new (looks_grow device s.given old s.mid [] s.baseline s.takes)
       (from_either s.ends (λ e. grows_same s.mid new e.1) (λ e. breaks_grow device e.0 s.mid new s.baseline e.1 e.3))
 

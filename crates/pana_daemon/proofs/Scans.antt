@@ -252,10 +252,10 @@ module _ {S : Type 0} (step : S → List ℕ → Call → Answer → S → Type 
   own_stops given old new is_own owned own is = tracking_stops given old new (subst (λ (b : Bool). IsOwn b device given) owned own) is
 
   -- of another device's there are none
-  pub tracks_none : (given : Result TrackedListing ReadFault) (old : S) (is_own : Bool) → is_own ≡ false → IsOwn is_own device given → TracksOnce step device given old old
+  pub tracks_none : (given : Result TrackedListing ReadFault) (old : S) (is_own : Bool) → is_own ≡ false → IsOwn is_own device given → TracksOnce step device given old old None
   tracks_none given old is_own foreign own = none_of given (subst (λ (b : Bool). IsOwn b device given) foreign own) where
-    none_of : (given : Result TrackedListing ReadFault) → IsOwn false device given → TracksOnce step device given old old
-    none_of (Ok found) other = record { made = []; calls = refl; is = inl (other, refl) }
+    none_of : (given : Result TrackedListing ReadFault) → IsOwn false device given → TracksOnce step device given old old None
+    none_of (Ok found) other = record { made = []; calls = refl; is = inl (other, refl); ends = (other, refl) }
     none_of (Err fault) odd = absurd odd
 
   -- a scan that was broken off is a look that was

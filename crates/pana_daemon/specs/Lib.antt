@@ -4,6 +4,7 @@ pub mod Served
 pub mod Connection
 pub mod Objects
 pub mod Door
+pub mod Folder
 pub mod Scan
 pub mod Post
 pub mod Pause

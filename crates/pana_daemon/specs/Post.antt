@@ -1,6 +1,6 @@
 -- Callers before and after their work.
 use Rattle.std.specs.Prelude.{◌≡◌, ℕ, List, [], ◌∷◌, Option, map}
-use Rattle.pana_daemon.specs.declared.folder.Look.{Look}
+use Rattle.pana_daemon.specs.Folder.{Deed}
 use Rattle.pana_daemon.specs.declared.connection.Connection.{Connection}
 use Rattle.pana_daemon.specs.declared.post.Caller.{Caller}
 use Rattle.pana_daemon.specs.declared.post.Post.{Post}
@@ -13,12 +13,12 @@ use Rattle.pana_daemon.specs.Scan.{Scans}
 use Rattle.pana_daemon.specs.Session.{BreaksOff, GetsNone, MakesCall, MayRecover, Settles}
 
 module _ {S D R W F : Type 0} (steps : S → Request → Response → S → Type 0)
-    (gives : D → Option (Connection R W) → D → Type 0) (remaining : R → Option (List ℕ)) (contents : W → Option (List ℕ)) (finds : F → Option Look → F → Type 0) where
+    (gives : D → Option (Connection R W) → D → Type 0) (remaining : R → Option (List ℕ)) (contents : W → Option (List ℕ)) (does : F → Deed → F → Type 0) where
   -- a caller has done what it was to do, by its pass: it has served the connections of its door, or scanned its folder
   abbrev pub HasDone : Post D F → Post D F → PassView S → PassView S → Type 0
   HasDone (Door door_old) (Door door_new) old new = Works steps gives remaining contents door_old door_new old new
   HasDone (Folder device_old folder_old) (Folder device_new folder_new) old new =
-      (device_new ≡ device_old) × Scans finds (MakesCall steps) (GetsNone steps) (Settles steps) (BreaksOff steps) MayRecover device_old.now folder_old folder_new old new
+      (device_new ≡ device_old) × Scans does (MakesCall steps) (GetsNone steps) (Settles steps) (BreaksOff steps) MayRecover device_old.now folder_old folder_new old new
   HasDone (Door door) (Folder device folder) old new = ⊥
   HasDone (Folder device folder) (Door door) old new = ⊥
 

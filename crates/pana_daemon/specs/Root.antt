@@ -14,10 +14,10 @@ use Rattle.pana_track.specs.IgnoreFile.{IsBehind}
 use Rattle.pana_track.specs.Reading.{ReadsRoot}
 use Rattle.pana_track.specs.declared.read_fault.ReadFault.{ReadFault}
 use Rattle.pana_track.specs.declared.reading.TrackedListing.{TrackedListing}
-use Rattle.pana_daemon.specs.declared.disks.PassedOver.{PassedOver}
 use Rattle.pana_daemon.specs.declared.folder.Look.{Look}
 use Rattle.pana_daemon.specs.declared.folder.Look.TheVariants.{Scanned, Tracked}
 use Rattle.pana_daemon.specs.declared.looks.Looks.{Looks}
+use Rattle.pana_daemon.specs.Folder.{Deed, gives_look, gives_none, learns}
 use Rattle.pana_daemon.specs.declared.root.Root.{Root}
 
 -- the device: what stands before the first `=`
@@ -99,11 +99,6 @@ abbrev pub AwaitsScan : {K : Type 0} → FolderView K → Bool → FolderView K 
 AwaitsScan old true new = (seen : Count) × (new ≡ knowing old true seen) × IsMore old.looks.every old.begins old.seen seen
 AwaitsScan old false new = IsLast old.begins old new
 
--- the patterns of what is passed over in a folder: the first that are given for it
-abbrev pub passed_in : List PassedOver → List ℕ → List (List ℕ)
-passed_in [] folder = []
-passed_in (passed ∷ others) folder = if bytes_eq passed.folder.now folder then map (λ text. text.now) passed.patterns.now else passed_in others folder
-
 -- a listing is of this device
 abbrev pub IsListingOf : List ℕ → Result Contents ScanFault → Type 0
 IsListingOf device (Ok listing) = listing.device ≡ device
@@ -141,10 +136,12 @@ module _ {K D : Type 0} (has : K → D → Type 0) (passes : K → List ℕ → 
   IsLookOf true folder (Scanned given) = ⊥
   IsLookOf true folder (Tracked given) = IsReadOf folder given
 
-  -- each look at a root is one of its folder, and none is given but at the start, after further ticks, and after a time
-  abbrev pub ScansRoot : FolderView K → Option Look → FolderView K → Type 0
-  ScansRoot old None new = AwaitsScan old false new
-  ScansRoot old (Some look) new = AwaitsScan old true new × IsLookOf old.looks.is_tracked old.root look
+  -- Each look at a root is one of its folder, and none is given but at the start, after further ticks, and after a time. What
+  -- became of a look is printed, and changes none of the later ones.
+  abbrev pub ScansRoot : FolderView K → Deed → FolderView K → Type 0
+  ScansRoot old gives_none new = AwaitsScan old false new
+  ScansRoot old (gives_look look) new = AwaitsScan old true new × IsLookOf old.looks.is_tracked old.root look
+  ScansRoot old (learns end) new = new ≡ old
 
 -- each folder has asked whether the start has come, and this was the answer; where so many ticks were counted it has seen no
 -- more, and just these where it has seen that no more come

@@ -1,5 +1,5 @@
 -- What a scanner asks and reports.
-use Rattle.std.specs.Prelude.{◌≡◌, ◌≢◌, ◌⊎◌, ℕ, false, List, [], ◌∷◌, ◌++◌, Option, Some, None, Result, Ok, Err}
+use Rattle.std.specs.Prelude.{◌≡◌, ◌≢◌, ◌⊎◌, ℕ, false, List, [], ◌∷◌, ◌++◌, Option, Some, None, Result, Ok, Err, IfOk}
 use Rattle.pana_calls.specs.declared.call.Call.{Call}
 use Rattle.pana_calls.specs.declared.call.Call.TheVariants as calls
 use Rattle.pana_calls.specs.declared.call.Query.TheVariants as queries
@@ -13,17 +13,15 @@ use Rattle.pana_scan.specs.Listing.{Contents}
 use Rattle.pana_scan.specs.Baseline.{settled}
 use Rattle.pana_scan.specs.Plan.{plan_of}
 use Rattle.pana_track.specs.Calls.{Asked, Makes}
+use Rattle.pana_track.specs.Folder.{TracksFolder}
 use Rattle.pana_track.specs.Track.{IsTrack}
 use Rattle.pana_track.specs.declared.fault.TrackFault.{TrackFault}
+use Rattle.pana_track.specs.declared.folder_end.FolderEnd.{FolderEnd}
 use Rattle.pana_track.specs.declared.read_fault.ReadFault.{ReadFault}
 use Rattle.pana_track.specs.declared.reading.TrackedListing.{TrackedListing}
 use Rattle.pana_daemon.specs.declared.folder.Look.{Look}
 use Rattle.pana_daemon.specs.declared.folder.Look.TheVariants.{Scanned, Tracked}
-
--- the folder gives these looks, one after another
-abbrev pub Gives : {F : Type 0} → (F → Option Look → F → Type 0) → F → List Look → F → Type 0
-Gives gives old [] new = new ≡ old
-Gives {F = F} gives old (look ∷ more) new = (mid : F) × gives old (Some look) mid × Gives gives mid more new
+use Rattle.pana_daemon.specs.Folder.{Deed, Gives, Taken, gives_look, gives_none}
 
 -- ---- a folder that is scanned
 
@@ -97,7 +95,20 @@ abbrev pub IsTracking : List ℕ → Result TrackedListing ReadFault → List As
 IsTracking device (Err fault) made = made ≡ []
 IsTracking device (Ok found) made = ((found.listing.device ≢ device) × (made ≡ [])) ⊎ ((found.listing.device ≡ device) × ((stop : Option TrackFault) × IsTrack false found made stop))
 
+-- What becomes of what was read: where it is the device's, or nothing could be read, what tracking it comes to. Of another device's
+-- nothing is said, and nothing was done.
+abbrev pub EndsTracking : {S : Type 0} → (S → List ℕ → Call → Answer → S → Type 0) → List ℕ → Result TrackedListing ReadFault → S → S → Option FolderEnd → Type 0
+EndsTracking step device (Ok found) old new (Some end) = (found.listing.device ≡ device) × TracksFolder step false (Ok found) old new end
+EndsTracking step device (Ok found) old new None = (found.listing.device ≢ device) × (new ≡ old)
+EndsTracking step device (Err fault) old new (Some end) = TracksFolder step false (Err fault) old new end
+EndsTracking step device (Err fault) old new None = ⊥
+
 -- ---- both
+
+-- what becomes of a look: something is said of one that is tracked alone
+abbrev pub EndsLook : {S : Type 0} → (S → List ℕ → Call → Answer → S → Type 0) → List ℕ → Look → S → S → Option FolderEnd → Type 0
+EndsLook step device (Scanned given) old new end = end ≡ None
+EndsLook step device (Tracked given) old new end = EndsTracking step device given old new end
 
 -- the calls of one look
 abbrev pub IsLook : List ℕ → Look → List BaselineRow → List Asked → List BaselineRow → Type 0
@@ -116,11 +127,12 @@ left_by_look (Tracked given) old made = old
 -- ---- a session
 
 module _ {S : Type 0} (step : S → List ℕ → Call → Answer → S → Type 0) (device : List ℕ) where
-  -- the session makes the calls of a look
-  pub record LooksOnce (look : Look) (old new : S) (marks_old marks_new : List BaselineRow) : Type 0 where
+  -- the session makes the calls of a look, and this becomes of it
+  pub record LooksOnce (look : Look) (end : Option FolderEnd) (old new : S) (marks_old marks_new : List BaselineRow) : Type 0 where
     pub made : List Asked
     pub calls : Makes step old made new
     pub is : IsLook device look marks_old made marks_new
+    pub ends : EndsLook step device look old new end
 
   -- the session makes the first calls of a look, and then one has no answer
   pub record StopsLook (fails : S → List ℕ → Call → S → Type 0) (look : Look) (old new : S) (marks_old marks_new : List BaselineRow) : Type 0 where
@@ -133,37 +145,38 @@ module _ {S : Type 0} (step : S → List ℕ → Call → Answer → S → Type 
     pub left : marks_new ≡ left_by_look look marks_old made
 
   -- a look is kept: the session makes its calls, and settles behind them
-  pub record KeepsLook (settles : S → S → Type 0) (look : Look) (old new : S) (marks_old marks_new : List BaselineRow) : Type 0 where
+  pub record KeepsLook (settles : S → S → Type 0) (look : Look) (end : Option FolderEnd) (old new : S) (marks_old marks_new : List BaselineRow) : Type 0 where
     pub mid : S
-    pub looks : LooksOnce look old mid marks_old marks_new
+    pub looks : LooksOnce look end old mid marks_old marks_new
     pub settled : settles mid new
 
   -- a look is cut short: one of its calls has no answer, or all were made, and the session couldn't settle behind them
   abbrev pub BreaksLook : (S → List ℕ → Call → S → Type 0) → (S → S → Type 0) → Look → S → S → List BaselineRow → List BaselineRow → Type 0
   BreaksLook fails breaks_off look old new marks_old marks_new =
-      StopsLook fails look old new marks_old marks_new ⊎ ((made : S) × LooksOnce look old made marks_old marks_new × breaks_off made new)
+      StopsLook fails look old new marks_old marks_new ⊎ ((made : S) × (end : Option FolderEnd) × LooksOnce look end old made marks_old marks_new × breaks_off made new)
 
   module _ (fails : S → List ℕ → Call → S → Type 0) (settles breaks_off : S → S → Type 0) (may_recover : S → Type 0) where
-    -- a look is kept, or it is cut short, and later calls may have answers
-    abbrev pub TakesLook : Look → S → S → List BaselineRow → List BaselineRow → Type 0
-    TakesLook look old new marks_old marks_new =
-        KeepsLook settles look old new marks_old marks_new ⊎ (BreaksLook fails breaks_off look old new marks_old marks_new × may_recover new)
+    -- a look is kept, and this becomes of it; or it is cut short, so that nothing is said of it, and later calls may have answers
+    abbrev pub TakesLook : Taken → S → S → List BaselineRow → List BaselineRow → Type 0
+    TakesLook taken old new marks_old marks_new =
+        KeepsLook settles taken.look taken.end old new marks_old marks_new ⊎ ((taken.end ≡ None) × BreaksLook fails breaks_off taken.look old new marks_old marks_new × may_recover new)
 
     -- looks are taken so, one after another, each of which begins with the baseline that the one before has left
-    abbrev pub TakesLooks : List Look → S → S → List BaselineRow → List BaselineRow → Type 0
+    abbrev pub TakesLooks : List Taken → S → S → List BaselineRow → List BaselineRow → Type 0
     TakesLooks [] old new marks_old marks_new = (new ≡ old) × (marks_new ≡ marks_old)
-    TakesLooks (look ∷ more) old new marks_old marks_new =
-        (mid : S) × (marks : List BaselineRow) × TakesLook look old mid marks_old marks × TakesLooks more mid new marks marks_new
+    TakesLooks (taken ∷ more) old new marks_old marks_new =
+        (mid : S) × (marks : List BaselineRow) × TakesLook taken old mid marks_old marks × TakesLooks more mid new marks marks_new
 
 -- A scanner's work: it takes what the folder gives until that gives no more, or a look is cut short, from an empty baseline on.
--- It goes on behind a look that was cut short only where later calls may have answers.
-pub record Scans {F S : Type 0} (gives : F → Option Look → F → Type 0) (step : S → List ℕ → Call → Answer → S → Type 0) (fails : S → List ℕ → Call → S → Type 0) (settles breaks_off : S → S → Type 0) (may_recover : S → Type 0)
+-- It goes on behind a look that was cut short only where later calls may have answers. The folder learns what became of each look
+-- that was kept, and is tracked.
+pub record Scans {F S : Type 0} (does : F → Deed → F → Type 0) (step : S → List ℕ → Call → Answer → S → Type 0) (fails : S → List ℕ → Call → S → Type 0) (settles breaks_off : S → S → Type 0) (may_recover : S → Type 0)
     (device : List ℕ) (folder_old folder_new : F) (old new : S) : Type 0 where
-  pub given : List Look
+  pub given : List Taken
   pub baseline : List BaselineRow
   pub folder_mid : F
   pub mid : S
-  pub folder : Gives gives folder_old given folder_mid
+  pub folder : Gives does folder_old given folder_mid
   pub takes : TakesLooks step device fails settles breaks_off may_recover given old mid [] baseline
-  pub ends : (gives folder_mid None folder_new × (new ≡ mid))
-      ⊎ ((next : Look) × (left : List BaselineRow) × gives folder_mid (Some next) folder_new × BreaksLook step device fails breaks_off next mid new baseline left)
+  pub ends : (does folder_mid gives_none folder_new × (new ≡ mid))
+      ⊎ ((next : Look) × (left : List BaselineRow) × does folder_mid (gives_look next) folder_new × BreaksLook step device fails breaks_off next mid new baseline left)

@@ -3,7 +3,7 @@ use Rattle.std.specs.Prelude.{◌≡◌, ◌&&◌, ℕ, Bool, true, false, List,
 use Rattle.std.specs.List.{list_any}
 use Rattle.pana_turn.specs.Closing.{Closes}
 use Rattle.pana_turn.specs.Passes.{DeskId, new_passes}
-use Rattle.pana_daemon.specs.declared.folder.Look.{Look}
+use Rattle.pana_daemon.specs.Folder.{Deed}
 use Rattle.pana_daemon.specs.declared.looks.Looks.{Looks}
 use Rattle.pana_daemon.specs.Desk.{PassView}
 use Rattle.pana_daemon.specs.Post.{HaveDone, doors_in, folders_in, passes_of, posts_of}
@@ -26,7 +26,7 @@ use Rattle.atomic_table.specs.Seated.{TableId}
 -- pass has seen, those in it with a pass's number are just those that this caller made, and it has no others; and the
 -- session and the number of requests are those that it leaves. Nothing is said to have come of a request just where it has.
 pub record Ends {S D R W F : Type 0} (steps : S → Request → Response → S → Type 0)
-    (gives : D → Option (Connection R W) → D → Type 0) (remaining : R → Option (List ℕ)) (contents : W → Option (List ℕ)) (finds : F → Option Look → F → Type 0)
+    (gives : D → Option (Connection R W) → D → Type 0) (remaining : R → Option (List ℕ)) (contents : W → Option (List ℕ)) (does : F → Deed → F → Type 0)
     (begun : S) (posts : List (Post D F)) (left : S) (posts_left : List (Post D F)) (requests : ℕ) (unanswered : Bool) : Type 0 where
   pub desk : DeskId S
   pub opened : desk.begun ≡ begun
@@ -35,7 +35,7 @@ pub record Ends {S D R W F : Type 0} (steps : S → Request → Response → S �
   pub posts_are : posts_of olds ≡ posts
   pub posts_left_are : posts_of news ≡ posts_left
   pub are_new : passes_of olds ≡ new_passes desk (length posts)
-  pub done : HaveDone steps gives remaining contents finds olds news
+  pub done : HaveDone steps gives remaining contents does olds news
   pub closed : Closes steps (length posts) begun (passes_of news) left requests
   pub lack : list_any lacks_answer (passes_of news) ≡ unanswered
 
@@ -51,11 +51,11 @@ fault_of false false = None
 -- whether it comes, and so was scanned where it does; it has seen no more ticks than were counted, and one that ended since
 -- no more come has seen all.
 pub record EndsDrawn {S R W I K : Type 0} (steps : S → Request → Response → S → Type 0)
-    (remaining : R → Option (List ℕ)) (contents : W → Option (List ℕ)) (inputs : I → Option (List ℕ)) (finds : FolderView K → Option Look → FolderView K → Type 0)
+    (remaining : R → Option (List ℕ)) (contents : W → Option (List ℕ)) (inputs : I → Option (List ℕ)) (does : FolderView K → Deed → FolderView K → Type 0)
     (begun : S) (tickets : TicketsView) (posts : List (Post DoorView (FolderView K))) (left : S) (requests : ℕ) (fault : Option LateFault) : Type 0 where
   pub posts_left : List (Post DoorView (FolderView K))
   pub unanswered : Bool
-  pub ends : Ends steps GivesDrawn remaining contents finds begun posts left posts_left requests unanswered
+  pub ends : Ends steps GivesDrawn remaining contents does begun posts left posts_left requests unanswered
   pub drawn : is_one_closed (doors_in posts_left) ≡ false → drawn_by (doors_in posts_left) ≡ tickets.most
   pub begins : Bool
   pub counted : Count
@@ -66,7 +66,7 @@ pub record EndsDrawn {S R W I K : Type 0} (steps : S → Request → Response �
 -- The daemon's callers have done so: 16 that serve connections, each of which draws a ticket, of as many as connections are
 -- wanted, and one for each root that looks so at its folder, by its device, at the start and after ticks.
 pub record EndsDaemon {S R W I K : Type 0} (steps : S → Request → Response → S → Type 0)
-    (remaining : R → Option (List ℕ)) (contents : W → Option (List ℕ)) (inputs : I → Option (List ℕ)) (finds : FolderView K → Option Look → FolderView K → Type 0)
+    (remaining : R → Option (List ℕ)) (contents : W → Option (List ℕ)) (inputs : I → Option (List ℕ)) (does : FolderView K → Deed → FolderView K → Type 0)
     (begun : S) (wanted : Option ℕ) (looks : Looks) (roots : List (RootView K)) (left : S) (requests : ℕ) (fault : Option LateFault) : Type 0 where
   pub tickets : TicketsView
   pub posts : List (Post DoorView (FolderView K))
@@ -75,4 +75,4 @@ pub record EndsDaemon {S R W I K : Type 0} (steps : S → Request → Response �
   pub ticks : TableId
   pub start : ℕ
   pub scanners : folders_in posts ≡ new_folders looks ticks start roots
-  pub ends : EndsDrawn steps remaining contents inputs finds begun tickets posts left requests fault
+  pub ends : EndsDrawn steps remaining contents inputs does begun tickets posts left requests fault

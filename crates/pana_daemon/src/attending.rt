@@ -12,7 +12,7 @@ use crate::daemon_fault::DaemonFault;
 use crate::desk_session::DeskSession;
 use crate::door::Door;
 use crate::folder::Folder;
-use crate::post::{Caller, Post};
+use crate::post::{Caller, Post, run};
 use crate::shared::Shared;
 use crate::supervisor::Supervisor;
 use pana_calls::Session;
@@ -89,13 +89,13 @@ fn run_all<
     D: Door + Send,
     F: Folder + Send,
 >(rt: &T, alloc: Global, callers: &mut [Caller<'_, '_, S, T, G, D, F>])
-    ensures { HaveDone (RequestSteps S.step S.fails S.settles S.breaks_off) D.gives D.Reader.remaining D.Writer.contents F.gives
+    ensures { HaveDone (RequestSteps S.step S.fails S.settles S.breaks_off) D.gives D.Reader.remaining D.Writer.contents F.does
         (map posted callers.old) (map posted callers.new) }
 {
-    let run = move |_place: usize, caller: &mut Caller<'_, '_, S, T, G, D, F>|
-        ensures { HasDone (RequestSteps S.step S.fails S.settles S.breaks_off) D.gives D.Reader.remaining D.Writer.contents F.gives caller.entry.now.post caller.exit.now.post caller.entry.now.session caller.exit.now.session }
-    { caller.run(rt, alloc) };
-    thread::for_each_mut(rt, callers, 64, &run);
+    let run_one = move |_place: usize, caller: &mut Caller<'_, '_, S, T, G, D, F>|
+        ensures { HasDone (RequestSteps S.step S.fails S.settles S.breaks_off) D.gives D.Reader.remaining D.Writer.contents F.does caller.entry.now.post caller.exit.now.post caller.entry.now.session caller.exit.now.session }
+    { run(rt, alloc, caller) };
+    thread::for_each_mut(rt, callers, 64, &run_one);
 }
 
 /// Whether nothing has come of a request of one of them.
@@ -151,7 +151,7 @@ pub fn attend<
     requires some { 0 < length posts.items }
     requires few { length posts.items ≤ 64 }
     requires begin { B.pre begin }
-    ensures { IfOk result (λ ended. Ends (RequestSteps S.step S.fails S.settles S.breaks_off) D.gives D.Reader.remaining D.Writer.contents F.gives session posts.entry.items ended.session ended.posts.items ended.requests ended.unanswered) }
+    ensures { IfOk result (λ ended. Ends (RequestSteps S.step S.fails S.settles S.breaks_off) D.gives D.Reader.remaining D.Writer.contents F.does session posts.entry.items ended.session ended.posts.items ended.requests ended.unanswered) }
 {
     let count = posts.len();
     let (room, mut back, mut left) = rooms(alloc, count)?;

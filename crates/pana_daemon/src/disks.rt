@@ -1,19 +1,21 @@
 //! Where folders are read.
 
-ghost use Rattle.std.specs.Prelude.{◌≡◌, map};
-ghost use Rattle.pana_daemon.specs.Root.{passed_in};
+use crate::root::Root;
+use pana_scan::{Disk, Sums, Unwatched};
+use pana_track::{ReadFault, TrackedListing, read_tracked};
+use std::alloc::Global;
+use std::marker::{Send, Sync};
+use std::mem;
+use std::thread::Threads;
 
-use pana_scan::{Disk, QuickDisk, Sums};
-use pana_sums::FileTime;
-use std::marker::Send;
-use std::time::Clock;
-
-/// Where disks come from, one for each scan.
+/// Where disks come from, one for each scan, and how folders that are tracked are read on them.
 pub trait Disks {
     /// What is read.
     type Given: Disk + Send + Drop;
 
     ghost use Rattle.std.specs.Prelude.{◌≡◌, List, ℕ, [], map};
+    ghost use denote.Param.Send.{IsSync};
+    ghost use Rattle.pana_daemon.specs.Root.{IsReadOf, folder_at};
     ghost use Rattle.pana_scan.specs.Scan.{IsFresh};
 
     // Which disks it gives. An impl may leave it open.
@@ -34,66 +36,31 @@ pub trait Disks {
     /// The patterns of what is passed over in a folder that is tracked.
     fn passed_over(&self, folder: &str) -> &[&str]
         ensures { map (λ text. text.now) result.now ≡ passes self.now folder.now };
-}
 
-/// What is passed over in a folder.
-#[derive(Clone, Copy)]
-pub struct PassedOver<'a, 'b> {
-    pub folder: &'b str,
-    pub patterns: &'a [&'b str],
-}
-
-/// The files of the system, of which nothing is known, and what is passed over in folders.
-#[derive(Clone, Copy)]
-pub struct SystemDisks<'a, 'b, 'c, 'd> {
-    pub files: &'a HostRuntime,
-    /// Whether folders of other file systems than a root's are passed over.
-    pub stays: bool,
-    pub passed_over: &'b [PassedOver<'c, 'd>],
-}
-
-/// The patterns of what is passed over in this folder: the first that are given for it.
-fn patterns_in<'a, 'b>(passed: &[PassedOver<'a, 'b>], folder: &str) -> &'a [&'b str]
-    ensures { map (λ text. text.now) result.now ≡ passed_in passed.now folder.now }
-{
-    for one in passed {
-        if one.folder == folder {
-            return one.patterns;
-        }
-    }
-    &[]
-}
-
-/// The time now. Where the system has none, no file's times are before it.
-fn now(files: &HostRuntime) -> FileTime {
-    match files.since_1970() {
-        Ok(time) => FileTime {
-            seconds: i64::try_from(time.as_secs()).unwrap_or(i64::MIN),
-            nanoseconds: time.subsec_nanos(),
-        },
-        Err(_) => FileTime {
-            seconds: i64::MIN,
-            nanoseconds: 0,
-        },
-    }
-}
-
-impl<'a> Disks for SystemDisks<'a, '_, '_, '_> {
-    type Given = QuickDisk<'a, HostRuntime>;
-
-    ghost use Rattle.pana_daemon.specs.Root.{passed_in};
-
-    ghost passes = { λ disks folder. passed_in disks.passed_over.now folder };
-
-    fn disk(&self, sums: Sums) -> QuickDisk<'a, HostRuntime> {
-        QuickDisk::new(self.files, self.stays, sums, now(self.files))
-    }
-
-    fn sums_of(&self, disk: QuickDisk<'a, HostRuntime>) -> Sums {
-        disk.into_sums()
-    }
-
-    fn passed_over(&self, folder: &str) -> &[&str] {
-        patterns_in(self.passed_over, folder)
+    /// Reads the folder of a root that is tracked, without what is passed over there. Files whose sums are known aren't read,
+    /// where the disk says so, and the sums for the next scan are kept. An impl may read files in threads.
+    fn read_tracked<T: Threads + Sync>(
+        &self,
+        _threads: &T,
+        alloc: Global,
+        root: &Root<'_>,
+        sums: &mut Sums,
+    ) -> Result<TrackedListing, ReadFault>
+        requires { IsSync T.row }
+        ensures { IsReadOf gives passes Self.Given.is_known Self.Given.tree Self.Given.has_failed Self.Given.entries Self.Given.faults (folder_at self.now root.now) result }
+    {
+        let mut first = self.disk(Sums::none(alloc));
+        let mut disk = self.disk(mem::replace(sums, Sums::none(alloc)));
+        let given = read_tracked(
+            alloc,
+            &mut first,
+            &mut disk,
+            &root.device,
+            root.folder,
+            self.passed_over(root.folder),
+            &Unwatched,
+        );
+        *sums = self.sums_of(disk);
+        given
     }
 }

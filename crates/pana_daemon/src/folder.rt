@@ -1,6 +1,8 @@
 //! What a scanner looks at.
 use pana_scan::{Listing, ScanFault};
 use pana_track::{FolderEnd, ReadFault, TrackedListing};
+use std::marker::Sync;
+use std::thread::Threads;
 
 /// What one look at a folder gives.
 #[derive(Drop)]
@@ -13,18 +15,18 @@ pub enum Look {
 
 /// A folder that is looked at again and again.
 pub trait Folder {
-    ghost use Rattle.std.specs.Prelude.{◌≡◌, Option};
-    ghost use Rattle.pana_daemon.specs.declared.folder.Look.{Look};
+    ghost use denote.Param.Send.{IsSync};
+    ghost use Rattle.pana_daemon.specs.Folder.{Deed, giving, learns};
 
-    // What one look gives: the folder, what was found or none, and the folder after. An impl may leave it open.
-    ghost gives: { Self → Option Look → Self → Type 0 } = { λ old given new. Unit {0} };
+    // What it does: the folder, what it gives or learns, and the folder after. An impl may leave it open.
+    ghost does: { Self → Deed → Self → Type 0 } = { λ old deed new. Unit {0} };
 
-    /// What the next look finds, or why it failed; none where there is no further one.
-    fn next(&mut self) -> Option<Look>
-        ensures { gives self.old result self.new };
+    /// What the next look finds, or why it failed; none where there is no further one. Files may be read in threads.
+    fn next<R: Threads + Sync>(&mut self, threads: &R) -> Option<Look>
+        requires { IsSync R.row }
+        ensures { does self.old (giving result) self.new };
 
     /// Learns what became of what it gave last, where that is tracked.
-    fn note_end(&mut self, _end: &FolderEnd)
-        ensures { self.new ≡ self.old }
-    {}
+    fn note_end(&mut self, end: &FolderEnd)
+        ensures { does self.old (learns end.now) self.new };
 }

@@ -38,7 +38,7 @@ pub use crate::connection::Connection;
 pub use crate::daemon::{DaemonEnd, serve};
 pub use crate::daemon_fault::{DaemonFault, LateFault};
 pub use crate::desk_session::DeskSession;
-pub use crate::disks::{Disks, PassedOver, SystemDisks};
+pub use crate::disks::Disks;
 pub use crate::door::Door;
 pub use crate::folder::{Folder, Look};
 pub use crate::listener::{CountedListener, Listener};

@@ -11,7 +11,9 @@ use crate::working::work;
 use pana_calls::Session;
 use pana_copies::DeviceName;
 use std::alloc::Global;
+use std::marker::Sync;
 use std::sync::Wait;
+use std::thread::Threads;
 
 /// What a caller is to do, until there is no more of it.
 #[derive(Drop)]
@@ -29,17 +31,19 @@ pub(crate) struct Caller<'a, 'b, S: Session + Drop, T, G, D, F> {
     pub(crate) post: Post<'b, D, F>,
 }
 
-impl<S: Session + Drop, T: Wait, G: Supervisor, D: Door, F: Folder> Caller<'_, '_, S, T, G, D, F> {
-    /// Does what the caller is to do.
-    pub(crate) fn run(&mut self, rt: &T, alloc: Global)
-        ensures { HasDone (RequestSteps S.step S.fails S.settles S.breaks_off) D.gives D.Reader.remaining D.Writer.contents F.gives self.old.post self.new.post self.old.session self.new.session }
-    {
-        let Caller { session, post } = self;
-        match post {
-            Post::Door(door) => work(rt, alloc, session, door),
-            Post::Folder(device, folder) => {
-                scanner(rt, alloc, session, device, folder);
-            }
+/// Has a caller do what it is to do.
+pub(crate) fn run<S: Session + Drop, T: Threads + Wait + Sync, G: Supervisor, D: Door, F: Folder>(
+    rt: &T,
+    alloc: Global,
+    caller: &mut Caller<'_, '_, S, T, G, D, F>,
+)
+    ensures { HasDone (RequestSteps S.step S.fails S.settles S.breaks_off) D.gives D.Reader.remaining D.Writer.contents F.does caller.old.post caller.new.post caller.old.session caller.new.session }
+{
+    let Caller { session, post } = caller;
+    match post {
+        Post::Door(door) => work(rt, alloc, session, door),
+        Post::Folder(device, folder) => {
+            scanner(rt, alloc, session, device, folder);
         }
     }
 }

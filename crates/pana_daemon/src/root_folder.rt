@@ -15,11 +15,12 @@ use crate::supervisor::Supervisor;
 use crate::timing::wait_for;
 use pana_scan::{Sums, Unwatched, read_root};
 use pana_ticks::Watcher;
-use pana_track::{FolderEnd, read_tracked};
+use pana_track::FolderEnd;
 use std::alloc::Global;
-use std::marker::Model;
+use std::marker::{Model, Sync};
 use std::mem;
 use std::sync::Wait;
+use std::thread::Threads;
 use std::time::Clock;
 
 /// A root's folder, which is looked at at the start, and again once a newline of standard input has come since the last
@@ -160,9 +161,9 @@ impl<T: Wait + Clock, K> RootFolder<'_, T, K> {
 impl<T: Wait + Clock, K: Disks> Folder for RootFolder<'_, T, K> {
     ghost use Rattle.pana_daemon.specs.Root.{ScansRoot};
 
-    ghost gives = { ScansRoot K.gives K.passes K.Given.is_known K.Given.tree K.Given.has_failed K.Given.entries K.Given.faults };
+    ghost does = { ScansRoot K.gives K.passes K.Given.is_known K.Given.tree K.Given.has_failed K.Given.entries K.Given.faults };
 
-    fn next(&mut self) -> Option<Look> {
+    fn next<R: Threads + Sync>(&mut self, threads: &R) -> Option<Look> {
         if !self.await_scan() {
             return None;
         }
@@ -174,18 +175,9 @@ impl<T: Wait + Clock, K: Disks> Folder for RootFolder<'_, T, K> {
         }
         // Files that haven't changed since the last look aren't read, where the disk says so.
         let known = mem::replace(&mut self.sums, Sums::none(alloc));
-        let mut first = disks.disk(Sums::none(alloc));
-        let mut disk = disks.disk(known.next(alloc));
-        let given = read_tracked(
-            alloc,
-            &mut first,
-            &mut disk,
-            &root.device,
-            root.folder,
-            disks.passed_over(root.folder),
-            &Unwatched,
-        );
-        self.sums = disks.sums_of(disk);
+        let mut sums = known.next(alloc);
+        let given = disks.read_tracked(threads, alloc, root, &mut sums);
+        self.sums = sums;
         Some(Look::Tracked(given))
     }
 

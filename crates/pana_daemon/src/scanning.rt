@@ -14,7 +14,9 @@ use pana_copies::DeviceName;
 use pana_scan::{Baseline, Listing, Plan, ScanFault, Step, plan};
 use pana_track::{FolderEnd, ReadFault, TrackedListing, track_folder};
 use std::alloc::Global;
+use std::marker::Sync;
 use std::sync::Wait;
+use std::thread::Threads;
 
 /// The entry of a report that was done; none where it wasn't.
 fn entry_of(answer: Answer) -> Option<u64>
@@ -149,7 +151,7 @@ fn take_root<S: Session>(
     device: &DeviceName,
     given: &Result<TrackedListing, ReadFault>,
 ) -> Result<Option<FolderEnd>, NoAnswer>
-    ensures ok { IfOk result (λ _. TracksOnce S.step device.now given.now session.old session.new) }
+    ensures ok { IfOk result (TracksOnce S.step device.now given.now session.old session.new) }
     ensures fails { OnErr result (StopsTracking S.step S.fails device.now given.now session.old session.new) }
 {
     if !is_own(given, device) {
@@ -166,7 +168,7 @@ fn take<S: Session>(
     look: Look,
     baseline: &mut Baseline,
 ) -> Result<Option<FolderEnd>, NoAnswer>
-    ensures ok { IfOk result (λ _. LooksOnce S.step device.now look session.old session.new baseline.old baseline.new) }
+    ensures ok { IfOk result (λ end. LooksOnce S.step device.now look end session.old session.new baseline.old baseline.new) }
     ensures fails { OnErr result (StopsLook S.step device.now S.fails look session.old session.new baseline.old baseline.new) }
 {
     match look {
@@ -186,7 +188,7 @@ fn keep<S: Session>(
     look: Look,
     baseline: &mut Baseline,
 ) -> Result<Option<FolderEnd>, NoAnswer>
-    ensures ok { IfOk result (λ _. KeepsLook S.step device.now S.settles look session.old session.new baseline.old baseline.new) }
+    ensures ok { IfOk result (λ end. KeepsLook S.step device.now S.settles look end session.old session.new baseline.old baseline.new) }
     ensures fails { OnErr result (BreaksLook S.step device.now S.fails S.breaks_off look session.old session.new baseline.old baseline.new) }
 {
     let end = take(alloc, session, device, look, baseline)?;
@@ -202,19 +204,19 @@ fn keep<S: Session>(
 /// first call that has no answer, or where the session can't settle. Then what was done stays settled in the baseline, and the
 /// next look plans the rest anew. It ends where the folder gives no more, or at a look that was cut short where no later call
 /// will have an answer.
-pub fn scanner<T: Wait, S: Session + Drop, G: Supervisor, F: Folder>(
+pub fn scanner<T: Threads + Wait + Sync, S: Session + Drop, G: Supervisor, F: Folder>(
     rt: &T,
     alloc: Global,
     session: &mut DeskSession<'_, S, T, G>,
     device: &DeviceName,
     folder: &mut F,
 )
-    ensures { Scans F.gives (MakesCall (RequestSteps S.step S.fails S.settles S.breaks_off)) (GetsNone (RequestSteps S.step S.fails S.settles S.breaks_off)) (Settles (RequestSteps S.step S.fails S.settles S.breaks_off)) (BreaksOff (RequestSteps S.step S.fails S.settles S.breaks_off))
+    ensures { Scans F.does (MakesCall (RequestSteps S.step S.fails S.settles S.breaks_off)) (GetsNone (RequestSteps S.step S.fails S.settles S.breaks_off)) (Settles (RequestSteps S.step S.fails S.settles S.breaks_off)) (BreaksOff (RequestSteps S.step S.fails S.settles S.breaks_off))
         MayRecover device.now folder.old folder.new session.old session.new }
 {
     let mut baseline = Baseline::new(alloc);
     for _ in rt.forever() {
-        let Some(look) = folder.next() else {
+        let Some(look) = folder.next(rt) else {
             return;
         };
         match keep(alloc, session, device, look, &mut baseline) {

@@ -1,24 +1,20 @@
 //! Folders that are tracked, read side by side on all processors.
-ghost use Rattle.std.specs.Prelude.{◌<◌, IfOk, length};
 
 use crate::fault::ProgramFault;
 use crate::folder_watch::FolderWatch;
 use crate::keeper::Keeper;
 use crate::naming::NamedFolder;
-use crate::naming_disk::NamingDisk;
 use crate::patterns::{OwnFile, is_within, passed_over, root_patterns, slices_of};
 use crate::sums_file::{keep_sums, read_sums, sums_name};
-use pana_daemon::{Disks, PassedOver, Root, SystemDisks};
-use pana_scan::{KnownSums, QuickDisk, Sums};
-use pana_track::{ReadFolder, read_tracked_in_threads};
+use crate::system_disks::{PassedOver, SystemDisks, read_in_threads};
+use pana_daemon::{Disks, Root};
+use pana_scan::{KnownSums, Sums};
+use pana_track::ReadFolder;
 use std::alloc::AllocError;
+use std::fs;
 use std::marker::Sync;
 use std::path::PathBuf;
 use std::thread::Threads;
-use std::{fs, thread};
-
-/// How many disks look at files at most.
-const MOST_DISKS: usize = 64;
 
 /// How folders are to be read.
 #[derive(Clone, Copy)]
@@ -85,35 +81,6 @@ fn known_sums(rt: &HostRuntime, name: Option<&str>, reads_all: bool) -> Result<S
     }
 }
 
-/// How many disks look at files: four for each processor, so that one whose files are small goes on with others.
-fn disk_count<T: Threads>(threads: &T) -> usize {
-    match thread::available_parallelism(threads) {
-        Ok(processors) => processors.get().saturating_mul(4).min(MOST_DISKS),
-        Err(_) => 4,
-    }
-}
-
-/// Disks by which files are looked at, each with these sums, on which the watch names what is passed over, where there is one.
-fn many_disks<'a, 'b, 'c>(
-    rt: &HostRuntime,
-    disks: &SystemDisks<'a, '_, '_, '_>,
-    sums: &Sums,
-    watch: Option<&'b FolderWatch<'c>>,
-    count: usize,
-) -> Result<Vec<NamingDisk<'b, 'c, QuickDisk<'a, HostRuntime>>>, AllocError>
-    ensures { IfOk result (λ many. 0 < length many.items) }
-{
-    let alloc = rt.alloc();
-    let mut many = Vec::new(alloc);
-    for _ in 1..count {
-        let disk = disks.disk(sums.share(alloc)?);
-        many.push(NamingDisk::new(alloc, disk, watch))?;
-    }
-    let disk = disks.disk(sums.share(alloc)?);
-    many.push(NamingDisk::new(alloc, disk, watch))?;
-    Ok(many)
-}
-
 /// The folder of a root, where what is passed over in it is to be named.
 fn named_folder<'a>(root: &'a Root<'_>, wishes: ReadingWishes<'_>) -> Option<NamedFolder<'a>> {
     if !wishes.is_verbose {
@@ -135,21 +102,17 @@ fn read_watched<T: Threads + Sync>(
     sums: &mut Sums,
 ) -> Result<ReadFolder, AllocError> {
     let alloc = rt.alloc();
-    let mut others = many_disks(rt, disks, sums, watch.naming(), disk_count(threads))?;
-    let given = read_tracked_in_threads(
+    let first = disks.disk(Sums::none(alloc));
+    let given = read_in_threads(
         threads,
         alloc,
-        &mut NamingDisk::new(alloc, disks.disk(Sums::none(alloc)), None),
-        &mut NamingDisk::new(alloc, disks.disk(Sums::none(alloc)), watch.naming()),
-        &mut others,
-        &root.device,
-        root.folder,
-        disks.passed_over(root.folder),
+        disks,
+        first,
+        root,
+        watch.naming(),
         watch,
-    );
-    for disk in others {
-        sums.take_in(&disks.sums_of(disk.into_disk()))?;
-    }
+        sums,
+    )?;
     let device = root.device.copy_of();
     Ok(ReadFolder { device, given })
 }

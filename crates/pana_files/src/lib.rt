@@ -17,6 +17,7 @@ mod printing;
 mod progress;
 mod redialing;
 mod sums_file;
+mod system_disks;
 mod terminal;
 
 pub use crate::client::{DaemonClient, connect};
@@ -33,4 +34,5 @@ pub use crate::picture_file::{may_write_picture, write_picture};
 pub use crate::printing::{Output, complain, output, print_tables, print_text};
 pub use crate::redialing::Redialing;
 pub use crate::sums_file::may_keep_sums;
+pub use crate::system_disks::{PassedOver, SystemDisks};
 pub use crate::terminal::terminal_width;

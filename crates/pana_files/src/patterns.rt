@@ -1,7 +1,8 @@
 //! What is passed over in folders that are tracked, beside what their own files list.
 
 use crate::printing::complain;
-use pana_daemon::{PassedOver, Root};
+use crate::system_disks::PassedOver;
+use pana_daemon::Root;
 use std::alloc::AllocError;
 use std::fs;
 

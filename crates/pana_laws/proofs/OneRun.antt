@@ -18,6 +18,7 @@ use Rattle.pana_wire.specs.declared.serving.Served.{Served}
 use Rattle.pana_wire.specs.declared.tap.Tap.{Tap}
 use Rattle.pana_wire.specs.Tap.{bytes_in, has_ended, inside}
 use Rattle.pana_daemon.specs.declared.connection.Connection.{Connection}
+use Rattle.pana_daemon.specs.Folder.{Deed, Taken, gives_look, gives_none}
 use Rattle.pana_daemon.specs.declared.folder.Look.{Look}
 use Rattle.pana_daemon.specs.declared.post.Post.{Post}
 use Rattle.pana_daemon.specs.declared.post.Post.TheVariants.{Door, Folder}
@@ -132,19 +133,19 @@ made_so (asked ∷ made) old new (mid, step, makes) =
     (x ∷ run, ap (λ (a : Answer). record { by = asked.by; call = asked.call; answer = a } ∷ made) given ∙ ap (λ (l : List Asked). asked_of x ∷ l) are, goes_on old mid new (x ∷ []) run goes on)
 
 -- the calls of a look at a folder, behind which there is another one
-look_so : (device : List ℕ) (look : Look) (old new : Pass) (marks_old marks_new : List BaselineRow) → TakesLook (MakesCall Steps) device (GetsNone Steps) (Settles Steps) (BreaksOff Steps) MayRecover look old new marks_old marks_new
-    → (run : List Exchange) × IsLook device look marks_old (map asked_of run) marks_new × Goes old run new
-look_so device look old new marks_old marks_new (inl kept) =
+look_so : (device : List ℕ) (taken : Taken) (old new : Pass) (marks_old marks_new : List BaselineRow) → TakesLook (MakesCall Steps) device (GetsNone Steps) (Settles Steps) (BreaksOff Steps) MayRecover taken old new marks_old marks_new
+    → (run : List Exchange) × IsLook device taken.look marks_old (map asked_of run) marks_new × Goes old run new
+look_so device taken old new marks_old marks_new (inl kept) =
     let (run, are, goes) = made_so kept.looks.made old kept.mid kept.looks.calls in
-    (run, subst (λ (made : List Asked). IsLook device look marks_old made marks_new) are kept.looks.is, goes_no_more old kept.mid new run goes (settled_none kept.mid new kept.settled))
-look_so device look old new marks_old marks_new (inr (breaks, may)) = absurd (none_cut device look old new marks_old marks_new breaks may)
+    (run, subst (λ (made : List Asked). IsLook device taken.look marks_old made marks_new) are kept.looks.is, goes_no_more old kept.mid new run goes (settled_none kept.mid new kept.settled))
+look_so device taken old new marks_old marks_new (inr (unsaid, breaks, may)) = absurd (none_cut device taken.look old new marks_old marks_new breaks may)
 
-looks_so : (device : List ℕ) (given : List Look) (old new : Pass) (marks_old marks_new : List BaselineRow)
+looks_so : (device : List ℕ) (given : List Taken) (old new : Pass) (marks_old marks_new : List BaselineRow)
     → TakesLooks (MakesCall Steps) device (GetsNone Steps) (Settles Steps) (BreaksOff Steps) MayRecover given old new marks_old marks_new
     → (run : List Exchange) × AreLooks device marks_old given (map asked_of run) marks_new × Goes old run new
 looks_so device [] old new marks_old marks_new so = ([], (refl, so.1), subst (Goes old []) (sym so.0) (stays old))
-looks_so device (look ∷ given) old new marks_old marks_new (mid, marks, took, more) =
-    let (first, is, goes) = look_so device look old mid marks_old marks took in
+looks_so device (taken ∷ given) old new marks_old marks_new (mid, marks, took, more) =
+    let (first, is, goes) = look_so device taken old mid marks_old marks took in
     let (others, later, on) = looks_so device given mid new marks marks_new more in
     (first ++ others, (map asked_of first, map asked_of others, marks, is, later, map-append asked_of first others), goes_on old mid new first others goes on)
 
@@ -188,9 +189,9 @@ module _ {R W : Type 0} (remaining : R → Option (List ℕ)) (contents : W → 
         b.told.2,
       )
 
-module _ {D R W F : Type 0} (gives : D → Option (Connection R W) → D → Type 0) (remaining : R → Option (List ℕ)) (contents : W → Option (List ℕ)) (finds : F → Option Look → F → Type 0) where
+module _ {D R W F : Type 0} (gives : D → Option (Connection R W) → D → Type 0) (remaining : R → Option (List ℕ)) (contents : W → Option (List ℕ)) (does : F → Deed → F → Type 0) where
   all_told : (door last : D) (connections : List (Connection R W)) (old new : Pass) → ServesAll Steps gives remaining contents door connections last old new
-      → (run : List Exchange) × AreTold gives remaining contents finds door connections last run × Goes old run new
+      → (run : List Exchange) × AreTold gives remaining contents does door connections last run × Goes old run new
   all_told door last [] old new s = ([], (s.0, refl), subst (Goes old []) (sym s.1) (stays old))
   all_told door last (connection ∷ connections) old new (next, mid, gave, served, later) =
       let (first, told, goes) = told_so remaining contents connection old mid served in
@@ -198,24 +199,24 @@ module _ {D R W F : Type 0} (gives : D → Option (Connection R W) → D → Typ
       (first ++ others, (next, first, others, gave, told, are, refl), goes_on old mid new first others goes on)
 
   -- a look that was cut short
-  cut_so : (device : List ℕ) (folder_old folder_new : F) (old new : Pass) (marks left : List BaselineRow) (next : Look) → finds folder_old (Some next) folder_new → BreaksLook (MakesCall Steps) device (GetsNone Steps) (BreaksOff Steps) next old new marks left
-      → (rest : List Exchange) × IsRest gives remaining contents finds device marks folder_old rest × Goes old rest new
+  cut_so : (device : List ℕ) (folder_old folder_new : F) (old new : Pass) (marks left : List BaselineRow) (next : Look) → does folder_old (gives_look next) folder_new → BreaksLook (MakesCall Steps) device (GetsNone Steps) (BreaksOff Steps) next old new marks left
+      → (rest : List Exchange) × IsRest gives remaining contents does device marks folder_old rest × Goes old rest new
   cut_so device folder_old folder_new old new marks left next gave (inl stops) =
       let (rest, its, goes) = made_so stops.made old stops.mid stops.calls in
       (rest, inr (next, folder_new, gave, inr (stops.call, subst (λ (part : List Asked). IsNext device next marks part stops.call) its stops.is)), goes_no_more old stops.mid new rest goes (made_none stops.mid device stops.call new stops.ends))
-  cut_so device folder_old folder_new old new marks left next gave (inr (made, looks, broken)) =
+  cut_so device folder_old folder_new old new marks left next gave (inr (made, end, looks, broken)) =
       let (rest, its, goes) = made_so looks.made old made looks.calls in
       (rest, inr (next, folder_new, gave, inl (left, subst (λ (whole : List Asked). IsLook device next marks whole left) its looks.is)), goes_no_more old made new rest goes (broken_none made new broken))
 
   -- how a scanner's work ends
-  rest_so : (device : List ℕ) (folder_old folder_new : F) (old new : Pass) (marks : List BaselineRow) → ((finds folder_old None folder_new × (new ≡ old)) ⊎ ((next : Look) × (left : List BaselineRow) × finds folder_old (Some next) folder_new × BreaksLook (MakesCall Steps) device (GetsNone Steps) (BreaksOff Steps) next old new marks left))
-      → (rest : List Exchange) × IsRest gives remaining contents finds device marks folder_old rest × Goes old rest new
+  rest_so : (device : List ℕ) (folder_old folder_new : F) (old new : Pass) (marks : List BaselineRow) → ((does folder_old gives_none folder_new × (new ≡ old)) ⊎ ((next : Look) × (left : List BaselineRow) × does folder_old (gives_look next) folder_new × BreaksLook (MakesCall Steps) device (GetsNone Steps) (BreaksOff Steps) next old new marks left))
+      → (rest : List Exchange) × IsRest gives remaining contents does device marks folder_old rest × Goes old rest new
   rest_so device folder_old folder_new old new marks (inl ended) = ([], inl refl, subst (Goes old []) (sym ended.1) (stays old))
   rest_so device folder_old folder_new old new marks (inr (next, left, gave, breaks)) = cut_so device folder_old folder_new old new marks left next gave breaks
 
   -- what a caller has made
-  has_made : (post_old post_new : Post D F) (old new : Pass) → HasDone Steps gives remaining contents finds post_old post_new old new
-      → (run : List Exchange) × HasMade gives remaining contents finds post_old run × Goes old run new
+  has_made : (post_old post_new : Post D F) (old new : Pass) → HasDone Steps gives remaining contents does post_old post_new old new
+      → (run : List Exchange) × HasMade gives remaining contents does post_old run × Goes old run new
   has_made (Door door) (Door door_new) old new w =
       let (run, told, goes) = all_told door w.door w.connections old new w.serves in
       (run, (w.connections, w.door, door_new, told, w.ends), goes)
@@ -227,9 +228,9 @@ module _ {D R W F : Type 0} (gives : D → Option (Connection R W) → D → Typ
       (whole ++ rest, (s.given, s.baseline, s.folder_mid, whole, rest, s.folder, are, is, refl), goes_on old s.mid new whole rest goes on)
 
   -- callers with new passes, numbered from this number on
-  have_made : (number : ℕ) (desk : DeskId (List Entry)) (history : List (Finished (List Entry))) (olds news : List (Post D F × Pass)) → HaveDone Steps gives remaining contents finds olds news
+  have_made : (number : ℕ) (desk : DeskId (List Entry)) (history : List (Finished (List Entry))) (olds news : List (Post D F × Pass)) → HaveDone Steps gives remaining contents does olds news
       → passes_of olds ≡ map (new_pass desk) (range_with_len number (length olds)) → All (λ pass. calls_of pass.number history ≡ own_calls pass) (passes_of news)
-      → HaveMade gives remaining contents finds number (posts_of olds) (turns_in history)
+      → HaveMade gives remaining contents does number (posts_of olds) (turns_in history)
   have_made number desk history [] [] done new own = tt
   have_made number desk history [] (n ∷ news) done new own = absurd done
   have_made number desk history (o ∷ olds) [] done new own = absurd done
@@ -241,7 +242,7 @@ module _ {D R W F : Type 0} (gives : D → Option (Connection R W) → D → Typ
       let mine : calls_of number history ≡ own_calls n.1 = ap (λ (k : ℕ). calls_of k history) (sym its) ∙ own 0 n.1 (omega arith) in
       let so : calls_by number (turns_in history) ≡ run =
       calls_are number history ∙ ap exchanges_in mine ∙ goes.1 ∙ ap (λ (p : Pass). made_by p ++ run) first in
-      (subst (HasMade gives remaining contents finds o.0) (sym so) made, have_made (number + 1) desk history olds news done.1 others (λ k d h. own (suc k) d (omega (arith, h))))
+      (subst (HasMade gives remaining contents does o.0) (sym so) made, have_made (number + 1) desk history olds news done.1 others (λ k d h. own (suc k) d (omega (arith, h))))
     where
       head_or : Pass → List Pass → Pass
       head_or pass [] = pass
@@ -262,10 +263,10 @@ callers_within seats [] all k d h = absurd (omega (arith, h))
 callers_within seats (x ∷ history) all k d h =
     one_within seats x.pass (exchange_in x.call x.reply) (turns_in history) (all 0 x (omega arith)) (callers_within seats history (λ i e g. all (suc i) e (omega (arith, g)))) k d h
 
-pub one_run : {D R W F : Type 0} (gives : D → Option (Connection R W) → D → Type 0) (remaining : R → Option (List ℕ)) (contents : W → Option (List ℕ)) (finds : F → Option Look → F → Type 0)
+pub one_run : {D R W F : Type 0} (gives : D → Option (Connection R W) → D → Type 0) (remaining : R → Option (List ℕ)) (contents : W → Option (List ℕ)) (does : F → Deed → F → Type 0)
     (begun : List Entry) (posts posts_left : List (Post D F)) (left : List Entry) (requests : ℕ) (unanswered : Bool)
-    → Ends Steps gives remaining contents finds begun posts left posts_left requests unanswered → IsOneRun gives remaining contents finds begun posts left requests
-one_run {D = D} {F = F} gives remaining contents finds begun posts posts_left left requests unanswered e =
+    → Ends Steps gives remaining contents does begun posts left posts_left requests unanswered → IsOneRun gives remaining contents does begun posts left requests
+one_run {D = D} {F = F} gives remaining contents does begun posts posts_left left requests unanswered e =
     let history = e.closed.history in
     let (runs, leaves) = history_runs begun history e.closed.run in
     let (settled, counted) = counted_so history in
@@ -276,7 +277,7 @@ one_run {D = D} {F = F} gives remaining contents finds begun posts posts_left le
       run = subst (IsRunFrom begun) (sym (exchanges_of history)) runs;
       leaves = e.closed.left ∙ leaves ∙ ap (journal_from begun) (sym (exchanges_of history));
       counted = e.closed.counted ∙ counted;
-      own = subst (λ (ps : List (Post D F)). HaveMade gives remaining contents finds 0 ps (turns_in history)) e.posts_are
-          (have_made gives remaining contents finds 0 e.desk history e.olds e.news e.done (e.are_new ∙ ap (λ n. new_passes e.desk n) many) e.closed.own);
+      own = subst (λ (ps : List (Post D F)). HaveMade gives remaining contents does 0 ps (turns_in history)) e.posts_are
+          (have_made gives remaining contents does 0 e.desk history e.olds e.news e.done (e.are_new ∙ ap (λ n. new_passes e.desk n) many) e.closed.own);
       others = callers_within (length posts) history e.closed.others;
     }

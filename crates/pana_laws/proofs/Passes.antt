@@ -116,7 +116,7 @@ none_cut device look old new marks_old marks_new (inl stops) may = never_recover
   run_of : GetsNone Steps stops.mid device stops.call new → IsHistory Steps new.desk.begun new.seen
   run_of (inl (recovers, p)) = p.run
   run_of (inr p) = p.run
-none_cut device look old new marks_old marks_new (inr (made, looks, broken)) may = never_recovers new (run_of broken) may where
+none_cut device look old new marks_old marks_new (inr (made, end, looks, broken)) may = never_recovers new (run_of broken) may where
   run_of : BreaksOff Steps made new → IsHistory Steps new.desk.begun new.seen
   run_of (inl (recovers, p)) = p.run
   run_of (inr p) = p.run

@@ -11,11 +11,12 @@ use Rattle.pana_calls.specs.declared.answer.Answer.TheVariants.{Given}
 use Rattle.pana_wire.specs.Lines.{lines_of}
 use Rattle.pana_laws.specs.SessionRun.{IsRunOf}
 use Rattle.pana_daemon.specs.declared.connection.Connection.{Connection}
+use Rattle.pana_daemon.specs.Folder.{Deed, Gives, Taken, gives_look}
 use Rattle.pana_daemon.specs.declared.folder.Look.{Look}
 use Rattle.pana_daemon.specs.declared.post.Post.{Post}
 use Rattle.pana_daemon.specs.declared.post.Post.TheVariants.{Door, Folder}
 use Rattle.pana_daemon.specs.Objects.{given_of}
-use Rattle.pana_daemon.specs.Scan.{Gives, IsLook, IsNext}
+use Rattle.pana_daemon.specs.Scan.{IsLook, IsNext}
 
 -- a call in the one run: the number of the caller that made it, and the call with its reply
 pub record Turn : Type 0 where
@@ -55,12 +56,12 @@ abbrev pub asked_of : Exchange → Asked
 asked_of x = record { by = x.by; call = x.call; answer = Given x.reply }
 
 -- the calls of looks, one after another, each of which begins with the baseline that the one before has left
-abbrev pub AreLooks : List ℕ → List BaselineRow → List Look → List Asked → List BaselineRow → Type 0
+abbrev pub AreLooks : List ℕ → List BaselineRow → List Taken → List Asked → List BaselineRow → Type 0
 AreLooks device old [] made new = (made ≡ []) × (new ≡ old)
-AreLooks device old (look ∷ more) made new =
-    (first : List Asked) × (others : List Asked) × (mid : List BaselineRow) × IsLook device look old first mid × AreLooks device mid more others new × (made ≡ first ++ others)
+AreLooks device old (taken ∷ more) made new =
+    (first : List Asked) × (others : List Asked) × (mid : List BaselineRow) × IsLook device taken.look old first mid × AreLooks device mid more others new × (made ≡ first ++ others)
 
-module _ {D R W F : Type 0} (gives : D → Option (Connection R W) → D → Type 0) (remaining : R → Option (List ℕ)) (contents : W → Option (List ℕ)) (finds : F → Option Look → F → Type 0) where
+module _ {D R W F : Type 0} (gives : D → Option (Connection R W) → D → Type 0) (remaining : R → Option (List ℕ)) (contents : W → Option (List ℕ)) (does : F → Deed → F → Type 0) where
   -- the door gives these connections, and they were served one after another, each by calls of its own
   abbrev pub AreTold : D → List (Connection R W) → D → List Exchange → Type 0
   AreTold door [] last made = (last ≡ door) × (made ≡ [])
@@ -69,15 +70,15 @@ module _ {D R W F : Type 0} (gives : D → Option (Connection R W) → D → Typ
 
   -- there are none, or these are the calls of one more look, or the first of them
   abbrev pub IsRest : List ℕ → List BaselineRow → F → List Exchange → Type 0
-  IsRest device baseline last rest = (rest ≡ []) ⊎ ((next : Look) × (after : F) × finds last (Some next) after
+  IsRest device baseline last rest = (rest ≡ []) ⊎ ((next : Look) × (after : F) × does last (gives_look next) after
       × (((left : List BaselineRow) × IsLook device next baseline (map asked_of rest) left) ⊎ ((call : Call) × IsNext device next baseline (map asked_of rest) call)))
 
   -- what a caller was to do was done by these calls: the connections that its door gave were served, until it gave no
-  -- more; or its folder was looked at
+  -- more; or its folder was looked at, and learned what became of each look before the next
   abbrev pub HasMade : Post D F → List Exchange → Type 0
   HasMade (Door door) made = (connections : List (Connection R W)) × (last : D) × (after : D) × AreTold door connections last made × gives last None after
-  HasMade (Folder device folder) made = (given : List Look) × (baseline : List BaselineRow) × (last : F) × (whole : List Exchange) × (rest : List Exchange)
-      × Gives finds folder given last × AreLooks device.now [] given (map asked_of whole) baseline × IsRest device.now baseline last rest × (made ≡ whole ++ rest)
+  HasMade (Folder device folder) made = (given : List Taken) × (baseline : List BaselineRow) × (last : F) × (whole : List Exchange) × (rest : List Exchange)
+      × Gives does folder given last × AreLooks device.now [] given (map asked_of whole) baseline × IsRest device.now baseline last rest × (made ≡ whole ++ rest)
 
   -- and so for each caller, numbered from this number on
   abbrev pub HaveMade : ℕ → List (Post D F) → List Turn → Type 0

@@ -3,8 +3,7 @@
 use crate::printing::print_out;
 use crate::track::FAULT;
 use pana_commands::Printout;
-use pana_daemon::{PassedOver, SystemDisks};
-use pana_files::{LogPlace, ProgramFault};
+use pana_files::{LogPlace, PassedOver, ProgramFault, SystemDisks};
 use pana_log::FileDevice;
 use pana_serve::{Outcome, System, Wishes, serve_on};
 use pana_store::Store;

@@ -12,9 +12,10 @@ use Rattle.pana_scan.specs.declared.scan_fault.ScanFault.{ScanFault}
 use Rattle.pana_scan.specs.declared.step.Step.{Step}
 use Rattle.pana_scan.specs.Listing.{Contents}
 use Rattle.pana_track.specs.Calls.{Asked, Makes}
+use Rattle.pana_track.specs.declared.folder_end.FolderEnd.{FolderEnd}
 use Rattle.pana_track.specs.declared.read_fault.ReadFault.{ReadFault}
 use Rattle.pana_track.specs.declared.reading.TrackedListing.{TrackedListing}
-use Rattle.pana_daemon.specs.Scan.{IsScan, IsTracking, Reports, done_as, left_by_scan, settled_all, settled_as}
+use Rattle.pana_daemon.specs.Scan.{EndsTracking, IsScan, IsTracking, Reports, done_as, left_by_scan, settled_all, settled_as}
 
 -- the device's report of the step, with its answer
 abbrev pub reporting : List ℕ → Step → Answer → Asked
@@ -82,11 +83,12 @@ IsOwn true device given = IfOk given (λ found. found.listing.device ≡ device)
 IsOwn false device (Ok found) = found.listing.device ≢ device
 IsOwn false device (Err fault) = ⊥
 
--- the session makes the calls of tracking what the folder gave
-pub record TracksOnce {S : Type 0} (step : S → List ℕ → Call → Answer → S → Type 0) (device : List ℕ) (given : Result TrackedListing ReadFault) (old new : S) : Type 0 where
+-- the session makes the calls of tracking what the folder gave, and this becomes of it
+pub record TracksOnce {S : Type 0} (step : S → List ℕ → Call → Answer → S → Type 0) (device : List ℕ) (given : Result TrackedListing ReadFault) (old new : S) (end : Option FolderEnd) : Type 0 where
   pub made : List Asked
   pub calls : Makes step old made new
   pub is : IsTracking device given made
+  pub ends : EndsTracking step device given old new end
 
 -- the session makes the first of these calls, and then one has no answer
 pub record StopsTracking {S : Type 0} (step : S → List ℕ → Call → Answer → S → Type 0) (fails : S → List ℕ → Call → S → Type 0) (device : List ℕ) (given : Result TrackedListing ReadFault) (old new : S) : Type 0 where

@@ -5,6 +5,7 @@ use pana_daemon::{
 };
 use pana_hall::Hall;
 use pana_tickets::Tickets;
+use pana_track::FolderEnd;
 use std::alloc::{AllocError, Global};
 use std::io;
 use std::io::Write;
@@ -26,9 +27,11 @@ const REQUEST: &str = "POST / HTTP/1.1\r\n\r\n{\"by\":\"a\",\"do\":\"families\"}
 struct NoFolder;
 
 impl Folder for NoFolder {
-    fn next(&mut self) -> Option<Look> {
+    fn next<R: Threads + Sync>(&mut self, _threads: &R) -> Option<Look> {
         None
     }
+
+    fn note_end(&mut self, _end: &FolderEnd) {}
 }
 
 /// A client that has written its lines, and writes no more.

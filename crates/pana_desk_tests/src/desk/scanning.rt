@@ -6,10 +6,13 @@ use pana_daemon::{DeskSession, Folder, IdleSupervisor, Look, Shared, scanner};
 use pana_hall::Hall;
 use pana_journal::{EntryList, Report};
 use pana_scan::{Found, Listing, ScanFault};
+use pana_track::FolderEnd;
 use pana_turn::Desk;
 use std::alloc::{AllocError, Global};
+use std::marker::Sync;
 use std::sync::Wait;
 use std::test::Fail;
+use std::thread::Threads;
 
 /// The SHA-256 of `abc`.
 const ABC: [u8; 32] = [
@@ -46,7 +49,7 @@ fn look_at(alloc: Global, paths: &[&str]) -> Look {
 }
 
 impl Folder for Fading {
-    fn next(&mut self) -> Option<Look> {
+    fn next<R: Threads + Sync>(&mut self, _threads: &R) -> Option<Look> {
         self.scans = self.scans.saturating_add(1);
         match self.scans {
             1 => Some(look_at(self.alloc, &["a"])),
@@ -55,6 +58,8 @@ impl Folder for Fading {
             _ => None,
         }
     }
+
+    fn note_end(&mut self, _end: &FolderEnd) {}
 }
 
 /// A folder that has the files `a` and `b`, and is scanned three times.
@@ -65,13 +70,15 @@ struct Lasting {
 }
 
 impl Folder for Lasting {
-    fn next(&mut self) -> Option<Look> {
+    fn next<R: Threads + Sync>(&mut self, _threads: &R) -> Option<Look> {
         self.scans = self.scans.saturating_add(1);
         if self.scans > 3 {
             return None;
         }
         Some(look_at(self.alloc, &["a", "b"]))
     }
+
+    fn note_end(&mut self, _end: &FolderEnd) {}
 }
 
 /// A hall of whose calls one has no answer.
@@ -104,7 +111,7 @@ impl Session for Faltering {
 }
 
 /// What a scanner of such a folder has reported to a session of which one call has no answer.
-fn reported<T: Wait>(
+fn reported<T: Threads + Wait + Sync>(
     rt: &T,
     alloc: Global,
     fails_at: u64,

@@ -2,6 +2,7 @@
 
 use pana_daemon::{Connection, DaemonFault, Door, Folder, Look, Post, Supervisor, attend};
 use pana_hall::Hall;
+use pana_track::FolderEnd;
 use std::alloc::{AllocError, Global};
 use std::marker::Sync;
 use std::sync::Wait;
@@ -109,9 +110,11 @@ impl<'a> Door for Prepared<'a> {
 struct NoFolder;
 
 impl Folder for NoFolder {
-    fn next(&mut self) -> Option<Look> {
+    fn next<R: Threads + Sync>(&mut self, _threads: &R) -> Option<Look> {
         None
     }
+
+    fn note_end(&mut self, _end: &FolderEnd) {}
 }
 
 /// A post at a door with these lines.

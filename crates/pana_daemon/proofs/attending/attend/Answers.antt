@@ -47,20 +47,20 @@ take_apart-requires-clause-places g c =
 pub close-requires : goal.close-requires
 close-requires g c =
     let same = as_left c.open_callers-callers.result.len c.run_all.new.callers c.open_callers-callers.result.items (c.run_all.auto.callers ∙ ap length c.as_mut_slice.ensures.value) (sym c.open_callers-callers.result.ok.0) in
-    all_of (RequestSteps g.S.Session.step g.S.Session.fails g.S.Session.settles g.S.Session.breaks_off) g.D.Door.gives g.D.Reader.Read.remaining g.D.Writer.Write.contents g.F.Folder.gives c.in_ok-desk.desk.id _ c.as_mut_slice.result.now c.run_all.new.callers c.take_apart.new.passes.items
+    all_of (RequestSteps g.S.Session.step g.S.Session.fails g.S.Session.settles g.S.Session.breaks_off) g.D.Door.gives g.D.Reader.Read.remaining g.D.Writer.Write.contents g.F.Folder.does c.in_ok-desk.desk.id _ c.as_mut_slice.result.now c.run_all.new.callers c.take_apart.new.passes.items
     (ap sessions c.as_mut_slice.ensures.value ∙ c.open_callers-callers.ensures.passes ∙ c.in_ok-desk.ensures.2) c.run_all.ensures (c.take_apart.ensures.passes ∙ ap sessions same)
 
 pub unreachable-requires : goal.unreachable-requires
 unreachable-requires g c =
     let same = as_left c.open_callers-callers.result.len c.run_all.new.callers c.open_callers-callers.result.items (c.run_all.auto.callers ∙ ap length c.as_mut_slice.ensures.value) (sym c.open_callers-callers.result.ok.0) in
-    none_missing (RequestSteps g.S.Session.step g.S.Session.fails g.S.Session.settles g.S.Session.breaks_off) g.D.Door.gives g.D.Reader.Read.remaining g.D.Writer.Write.contents g.F.Folder.gives c.in_ok-desk.desk.id c.in_ok-desk.desk.seats c.as_mut_slice.result.now c.run_all.new.callers c.take_apart.new.passes.items
+    none_missing (RequestSteps g.S.Session.step g.S.Session.fails g.S.Session.settles g.S.Session.breaks_off) g.D.Door.gives g.D.Reader.Read.remaining g.D.Writer.Write.contents g.F.Folder.does c.in_ok-desk.desk.id c.in_ok-desk.desk.seats c.as_mut_slice.result.now c.run_all.new.callers c.take_apart.new.passes.items
     (ap sessions c.as_mut_slice.ensures.value ∙ c.open_callers-callers.ensures.passes ∙ c.in_ok-desk.ensures.2 ∙ ap (λ (k : ℕ). new_passes c.in_ok-desk.desk.id k) (sym c.in_ok-desk.ensures.1)) c.run_all.ensures (c.take_apart.ensures.passes ∙ ap sessions same)
     c.in-Err.ensures.missing
 
 pub returns : goal.returns
 returns g c =
     let same = as_left c.open_callers-callers.result.len c.run_all.new.callers c.open_callers-callers.result.items (c.run_all.auto.callers ∙ ap length c.as_mut_slice.ensures.value) (sym c.open_callers-callers.result.ok.0) in
-    ends_so (RequestSteps g.S.Session.step g.S.Session.fails g.S.Session.settles g.S.Session.breaks_off) g.D.Door.gives g.D.Reader.Read.remaining g.D.Writer.Write.contents g.F.Folder.gives c.in_ok-desk.desk.id c.in_ok-desk.desk.seats c.as_mut_slice.result.now c.run_all.new.callers c.take_apart.new.passes.items
+    ends_so (RequestSteps g.S.Session.step g.S.Session.fails g.S.Session.settles g.S.Session.breaks_off) g.D.Door.gives g.D.Reader.Read.remaining g.D.Writer.Write.contents g.F.Folder.does c.in_ok-desk.desk.id c.in_ok-desk.desk.seats c.as_mut_slice.result.now c.run_all.new.callers c.take_apart.new.passes.items
     (ap sessions c.as_mut_slice.ensures.value ∙ c.open_callers-callers.ensures.passes ∙ c.in_ok-desk.ensures.2 ∙ ap (λ (k : ℕ). new_passes c.in_ok-desk.desk.id k) (sym c.in_ok-desk.ensures.1)) c.run_all.ensures (c.take_apart.ensures.passes ∙ ap sessions same)
     c.args.session c.in-Ok.field-0.machine c.into_session.result c.args.posts.items c.take_apart.new.posts.items c.in-Ok.field-0.calls c.lack_answer-unanswered.result
     (c.in_ok-desk.ensures.0 ∙ c.new.ensures) (ap (λ callers. map (λ caller. caller.post) callers) c.as_mut_slice.ensures.value ∙ c.open_callers-callers.ensures.posts)

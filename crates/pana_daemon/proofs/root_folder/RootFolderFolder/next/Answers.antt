@@ -1,8 +1,7 @@
-use Rattle.pana_daemon.proofs.Folders.{looks_so, read_of}
+use Rattle.pana_daemon.proofs.Folders.{looks_so}
 use Rattle.pana_daemon.proofs.root_folder.RootFolderFolder.next.Goals as goal
 
 pub returns : goal.returns
 returns g c =
     looks_so g.K.Disks.gives g.K.Disks.passes g.K.Given.Disk.is_known g.K.Given.Disk.tree g.K.Given.Disk.has_failed g.K.Given.Disk.entries g.K.Given.Disk.faults c.args.self.now c.await_scan.new.self _ c.await_scan.result c.read_tracked-given.result c.await_scan.ensures c.if-not-await_scan.false c.self.view_is c.if-not-self.false
-    (read_of g.K.Disks.gives g.K.Disks.passes g.K.Given.Disk.is_known g.K.Given.Disk.tree g.K.Given.Disk.has_failed g.K.Given.Disk.entries g.K.Given.Disk.faults _ c.disk-first.result c.disk-disk-2.result _ c.read_tracked-given.result c.disk-first.ensures.gives c.disk-disk-2.ensures.gives
-    c.read_tracked-given.ensures.known c.read_tracked-given.ensures.behind c.read_tracked-given.ensures.device c.passed_over.ensures)
+    c.read_tracked-given.ensures

@@ -1,6 +1,6 @@
 use Rattle.std.proofs.Common.{◌≡◌, drop}
-use Rattle.pana_daemon.specs.Root.{passed_in}
-use Rattle.pana_daemon.proofs.disks.patterns_in.Given as goal
+use Rattle.pana_files.specs.Passed.{passed_in}
+use Rattle.pana_files.proofs.system_disks.patterns_in.Given as goal
 
 -- none of those so far is of the folder
 abbrev pub invariant-loop-one : goal.invariant-loop-one
