@@ -63,7 +63,9 @@ impl Unread {
 /// The error by which `clap` refuses words for this reason.
 fn error_of(alloc: Global, reason: &str) -> Result<Error, AllocError> {
     let mut command = panad_command(alloc)?;
-    command.error(ErrorKind::InvalidValue, reason)
+    let error = command.error(ErrorKind::InvalidValue, reason);
+    drop(command);
+    error
 }
 
 /// Refuses the words for a reason that `clap` doesn't look at.
