@@ -210,7 +210,7 @@ def copied_in_groups(setting, room):
 
 
 def words_refused(setting, room):
-    """What is no address of a log is refused with a line, and so is a log beside a journal or a daemon."""
+    """What is no address of a log is refused with a line, and so is a log beside a journal or a daemon, and an option for a log without one or of a command that has none."""
     port = setting.one.ports[0]
     addresses = ("", "etcd", "http://127.0.0.1:2379/a", f"etcd://127.0.0.1:{port}", f"etcd://127.0.0.1:{port}/", f"etcd://127.0.0.1:{port}/a/b", "etcd:///a", "etcd://127.0.0.1/a")
     addresses += ("etcd://127.0.0.1:x/a", "etcd://127.0.0.1:65536/a", "etcd://127.0.0.1:02379/a", f"etcd://127.0.0.1:{port},/a", f"etcd://a@127.0.0.1:{port}/a", f"etcd://:b@127.0.0.1:{port}/a", f"etcd://a:@127.0.0.1:{port}/a", f"etcd://a:b@c@127.0.0.1:{port}/a", f"etcd://127.0.0.1:{port}/{'a' * 101}")
@@ -222,6 +222,10 @@ def words_refused(setting, room):
     rows = (("run", "--journal", room / "a"), ("status", "--journal", room / "a"), ("status", "--port", "7"), ("report", "edit", USB, "--port", "7"), ("show", "--port", "7"), ("serve", "--port", "0", "--journal", room / "a"))
     for words in (*rows, ("run", "--patience", "x"), ("run", "--patience", "3", "--journal", room / "a")):
         status, out, err = setting.run(*words, "--log", address)
+        yield from differs((words, status, out, err[:7]), (words, 2, "", "error: "))
+    alone = (("run", "--stale"), ("run", "--patience", "3"), ("run", "--stale", "--journal", room / "a"), ("serve", "--port", "0", "--stale"))
+    for words in (*alone, ("status", "--log", address, "--stale"), ("report", "edit", USB, "--log", address, "--stale")):
+        status, out, err = setting.run(*words)
         yield from differs((words, status, out, err[:7]), (words, 2, "", "error: "))
     yield from differs((setting.one.values("words"), (room / "a").exists()), ({}, False))
 

@@ -139,6 +139,33 @@ def silence(setting, room):
         yield from differs((said.startswith(SILENT), said.endswith(AGAIN), said.replace(SILENT, b"").replace(AGAIN, b""), said.count(SILENT)), (True, True, b"", said.count(AGAIN)))
 
 
+def stale(setting, room):
+    """With `--stale` questions are answered from what was read, which is a second old or so, and has all reports of the daemon's own; without a majority too, where reports aren't, nor questions of another daemon."""
+    counts = lambda copies, devices: {"counts": {"copies": copies, "devices": devices}}
+    with Members(room, 3) as members:
+        serve = lambda *words: setting.serve(members.address("stale"), "--patience", "1", *words)
+        with serve("--stale") as daemon, serve() as other:
+            with daemon.client() as client, other.client() as makes:
+                makes.ask(**FIRST)
+                yield from differs(until(counts(1, 1), lambda: client.ask("a", "counts")), counts(1, 1))
+                makes.ask("a", "register", device="a", path="other")
+                yield from differs(client.ask("a", "register", device="a", path="own"), {"done": 3})
+                yield from differs(client.ask("a", "counts"), counts(3, 2))
+            for at in range(3):
+                members.kill(at)
+            begun = time.monotonic()
+            with daemon.client() as client:
+                yield from differs([client.ask("a", "counts") for _ in range(100)], [counts(3, 2)] * 100)
+                yield from differs(time.monotonic() - begun < PATIENCE, True)
+                client.send(line_of("a", "edit", copy=1))
+                yield from differs(client.rest(), b"")
+            with other.client() as client:
+                client.send(line_of("a", "counts"))
+                yield from differs(client.rest(), b"")
+            with daemon.client() as client:
+                yield from differs(client.ask("a", "counts"), counts(3, 2))
+
+
 def foreign(setting, room):
     """A daemon that meets what is no entry ends with status 1, and writes nothing behind it."""
     name = "later"
@@ -257,7 +284,7 @@ def killed(setting, room):
     yield from differs(min(done) > 2 or done, True)
 
 
-CHECKS = (clients_at_once, awaited, folders, silence, foreign, begins, killed)
+CHECKS = (clients_at_once, awaited, folders, silence, stale, foreign, begins, killed)
 
 
 def main(words):

@@ -2,7 +2,7 @@
 
 _panad_options() {
   case $1 in
-    run) printf '%s\n' --journal --log --patience --help ;;
+    run) printf '%s\n' --journal --log --patience --stale --help ;;
     show) printf '%s\n' --journal --log --patience --port --family --split --help ;;
     status) printf '%s\n' --journal --log --patience --port --all --quiet --json --help ;;
     may-overwrite) printf '%s\n' --journal --log --patience --port --by --help ;;
@@ -15,7 +15,7 @@ _panad_options() {
     scan) printf '%s\n' --verbose --help ;;
     track) printf '%s\n' --journal --log --patience --port --sums --empty --ignore --read-all --one-file-system --verbose --quiet --json --help ;;
     serve)
-      printf '%s\n' --port --sessions --journal --log --patience --track --every --ignore --one-file-system --hurry --idle --help
+      printf '%s\n' --port --sessions --journal --log --patience --stale --track --every --ignore --one-file-system --hurry --idle --help
       ;;
   esac
 }

@@ -33,6 +33,7 @@ complete -c panad -n __fish_use_subcommand -a log -d 'Move a journal between a f
 complete -c panad -n '__panad_after run show track status may-overwrite why history report serve' -l journal -r -F -d 'The file that keeps the reports'
 complete -c panad -n '__panad_after run show track status may-overwrite why history report serve' -l log -x -d 'A journal in etcd'
 complete -c panad -n '__panad_after run show track status may-overwrite why history report serve log' -l patience -x -d 'Time for an answer of the journal in etcd'
+complete -c panad -n '__panad_after run serve' -l stale -d 'Answer questions by the journal in etcd as it was a moment ago'
 complete -c panad -n '__panad_after log' -a copy
 complete -c panad -n '__panad_after log' -l from -r -F -d 'The journal that is read'
 complete -c panad -n '__panad_after log' -l to -r -F -d 'The journal that is made'

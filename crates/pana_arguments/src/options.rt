@@ -40,6 +40,9 @@ pub const PATIENCE: &str = "patience";
 
 const PATIENCE_SECONDS: u32 = 10;
 
+/// The name of the wish that questions are answered from what was read of a log before.
+const STALE: &str = "stale";
+
 /// The option that names the file of a journal that is only read.
 pub const READ_JOURNAL: Item = Item {
     name: JOURNAL,
@@ -70,6 +73,14 @@ pub const LOG_PATIENCE: Item = Item {
     kind: Kind::Seconds,
     need: Need::With(LOG),
     help: "Time for an answer of the journal in etcd; 10 by default",
+};
+
+/// The option that questions are answered from what was read of a log before.
+pub const MAY_BE_STALE: Item = Item {
+    name: STALE,
+    kind: Kind::Flag,
+    need: Need::With(LOG),
+    help: "Answer questions by the journal in etcd as it was a moment ago",
 };
 
 /// The option for a daemon that is asked.
@@ -154,6 +165,8 @@ pub struct KeptLog<'a> {
     pub address: &'a str,
     /// For how many seconds an answer is waited for.
     pub patience: u32,
+    /// Whether questions are answered from what was read before.
+    pub is_stale: bool,
 }
 
 /// For how many seconds an answer of a log is waited for.
@@ -190,6 +203,7 @@ impl<'a> KeptBy<'a> {
             KeptBy::Log(KeptLog {
                 address: name,
                 patience,
+                is_stale: false,
             })
         } else {
             KeptBy::Journal(name)
@@ -202,6 +216,8 @@ impl<'a> KeptBy<'a> {
             return Some(KeptBy::Log(KeptLog {
                 address,
                 patience: patience_of(words),
+                // A command that has no such option finds none.
+                is_stale: words.get_flag(STALE),
             }));
         }
         match words.get_str(JOURNAL) {

@@ -1,7 +1,7 @@
 //! The words of `panad run`.
 
 use crate::item::{Item, with_items};
-use crate::options::{KeptBy, LOG_PATIENCE, OWN_JOURNAL, OWN_LOG};
+use crate::options::{KeptBy, LOG_PATIENCE, MAY_BE_STALE, OWN_JOURNAL, OWN_LOG};
 use clap::{ArgMatches, Command};
 use std::alloc::{AllocError, Global};
 
@@ -26,7 +26,7 @@ pub struct RunArguments<'a> {
 }
 
 /// The words and options of the command.
-const ITEMS: [Item; 3] = [OWN_JOURNAL, OWN_LOG, LOG_PATIENCE];
+const ITEMS: [Item; 4] = [OWN_JOURNAL, OWN_LOG, LOG_PATIENCE, MAY_BE_STALE];
 
 /// What the words of `run` may be.
 pub fn run_command<'a>(alloc: Global) -> Result<Command<'a>, AllocError> {

@@ -2,8 +2,8 @@
 
 use crate::item::{Item, Kind, Need, with_items};
 use crate::options::{
-    IGNORE, KeptBy, LOG_PATIENCE, ONE_FILE_SYSTEM, OWN_JOURNAL, OWN_LOG, PORT, ROOT, ROOTS_HELP,
-    STAY, values_of,
+    IGNORE, KeptBy, LOG_PATIENCE, MAY_BE_STALE, ONE_FILE_SYSTEM, OWN_JOURNAL, OWN_LOG, PORT, ROOT,
+    ROOTS_HELP, STAY, values_of,
 };
 use clap::{ArgMatches, Command};
 use std::alloc::{AllocError, Global};
@@ -68,7 +68,7 @@ pub struct ServeArguments<'a> {
 }
 
 /// The words and options of the command.
-const ITEMS: [Item; 12] = [
+const ITEMS: [Item; 13] = [
     Item {
         name: PORT,
         kind: Kind::Port,
@@ -84,6 +84,7 @@ const ITEMS: [Item; 12] = [
     OWN_JOURNAL,
     OWN_LOG,
     LOG_PATIENCE,
+    MAY_BE_STALE,
     Item {
         name: ROOT,
         kind: Kind::Words,

@@ -24,6 +24,12 @@ const CONNECT: u64 = 1000;
 /// that had none.
 const ANSWER: u64 = 1000;
 
+/// For how many milliseconds a request is right behind one that had no answer.
+const BEHIND: u64 = 2000;
+
+/// After how many milliseconds it is time to read on.
+const DUE: u64 = 1000;
+
 /// How many milliseconds lie between two rounds of the members.
 const PAUSE: u64 = 100;
 
@@ -65,6 +71,8 @@ pub struct EtcdLog<C: Connect> {
     patience: u64,
     /// When the last request ended, if it had no answer.
     missed_at: Option<u64>,
+    /// When the last reading ended, with an answer or without.
+    read_at: Option<u64>,
     /// The index of the member that is asked first.
     first: usize,
     link: Option<Link<C::Stream>>,
@@ -96,6 +104,7 @@ impl<C: Connect> EtcdLog<C> {
             writer,
             patience,
             missed_at: None,
+            read_at: None,
             first: 0,
             link: None,
             token: None,
@@ -121,7 +130,7 @@ impl<C: Connect> EtcdLog<C> {
     /// How many milliseconds a request has that is made at this time.
     fn patience_at(&self, now: u64) -> u64 {
         match self.missed_at {
-            Some(missed_at) if now.saturating_sub(missed_at) <= ANSWER => self.patience.min(ANSWER),
+            Some(missed_at) if now.saturating_sub(missed_at) <= BEHIND => self.patience.min(ANSWER),
             _ => self.patience,
         }
     }
@@ -207,6 +216,20 @@ impl<C: Connect> EtcdLog<C> {
         };
         self.token = Some(token_in(self.alloc, &reply)?);
         Ok(())
+    }
+
+    /// Some of the records behind the first so many; none where there is none.
+    fn page_behind(&mut self, from: u64) -> Result<Vec<Record>, ReadFault> {
+        if from >= LAST {
+            return Err(ReadFault::NoAnswer);
+        }
+        let Ok(body) = range_body(self.alloc, self.name.as_str(), from + 1) else {
+            return Err(ReadFault::OutOfMemory);
+        };
+        let Ok(answer) = self.ask(RANGE, body.as_str()) else {
+            return Err(ReadFault::NoAnswer);
+        };
+        read_page(self.alloc, self.name.as_str(), from + 1, &answer)
     }
 
     /// What has come of a transaction that was refused for want of room: etcd may have carried it out all the same.
@@ -344,16 +367,17 @@ impl<C: Connect> SharedLog for EtcdLog<C> {
 
     /// Reads at most 1,000 records, as they stand at a majority of the members.
     fn read(&mut self, from: u64) -> Result<Vec<Record>, ReadFault> {
-        if from >= LAST {
-            return Err(ReadFault::NoAnswer);
+        let page = self.page_behind(from);
+        self.read_at = Some(self.connect.milliseconds());
+        page
+    }
+
+    /// Once a second has gone by since the last reading ended.
+    fn is_due(&self) -> bool {
+        match self.read_at {
+            Some(read_at) => self.connect.milliseconds().saturating_sub(read_at) >= DUE,
+            None => true,
         }
-        let Ok(body) = range_body(self.alloc, self.name.as_str(), from + 1) else {
-            return Err(ReadFault::OutOfMemory);
-        };
-        let Ok(answer) = self.ask(RANGE, body.as_str()) else {
-            return Err(ReadFault::NoAnswer);
-        };
-        read_page(self.alloc, self.name.as_str(), from + 1, &answer)
     }
 }
 

@@ -13,7 +13,7 @@ use Rattle.pana_shared_tests.specs.Life.{Made, asked_in}
 
 module _ {L : Type 0} (is_known : Bool) (seen : L → LogView) where
   pub waits_none : (store : StoreView L) → Waits is_known seen store store
-  waits_none store = record { reads = reads_none (seen store.log); entries = refl; turn = refl }
+  waits_none store = record { reads = reads_none (seen store.log); entries = refl; turn = refl; stale = refl }
 
   -- a call is made, with an answer or without
   pub made : (old : StoreView L) (by : List ℕ) (call : Call) (new : StoreView L) (r : Result Answer NoAnswer) → IfOk r (λ answer. Makes is_known seen old by call answer new) → OnErr r (Fails is_known seen old by call new) → Made is_known seen old by call new

@@ -34,7 +34,7 @@ pub fn call_all<L: SharedLog>(store: &mut SharedStore<L>, calls: Vec<(DeviceName
     answers
 }
 
-/// Opens a store of a log, and makes calls.
+/// Opens a store of a log, a stale one or not, and makes calls.
 ///
 /// # Errors
 ///
@@ -42,12 +42,13 @@ pub fn call_all<L: SharedLog>(store: &mut SharedStore<L>, calls: Vec<(DeviceName
 pub fn live<L: SharedLog + Drop>(
     alloc: Global,
     log: L,
+    is_stale: bool,
     calls: Vec<(DeviceName, Call)>,
 ) -> Result<SharedStore<L>, ReadFault>
     requires { IsTrue L.is_known → IsFresh (L.seen log) }
-    ensures { IfOk result (λ store. IsTrue L.is_known → (life : Life L) × IsLife L.is_known L.seen (L.seen log).writer (L.seen store.log).records life × (asked_in life.steps ≡ calls.items) × (life.last ≡ store)) }
+    ensures { IfOk result (λ store. IsTrue L.is_known → (life : Life L) × IsLife L.is_known L.seen (L.seen log).writer (L.seen store.log).records life × (asked_in life.steps ≡ calls.items) × (life.last ≡ store) × (life.opened.is_stale ≡ is_stale)) }
 {
-    let mut store = SharedStore::open(alloc, log)?;
+    let mut store = SharedStore::open(alloc, log, is_stale)?;
     call_all(&mut store, calls);
     Ok(store)
 }

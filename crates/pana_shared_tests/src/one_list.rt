@@ -85,12 +85,15 @@ impl OneList {
 }
 
 /// The log of one writer over a list that others write as well. What comes of its appends goes by a plan, and each behind it is answered.
+/// It isn't read while the list is borrowed.
 #[derive(Drop)]
 pub struct ListLog<'a> {
     alloc: Global,
     list: &'a RefCell<OneList>,
     writer: u64,
     fates: VecDeque<Fate>,
+    /// Whether it says that it is time to read on.
+    is_due: bool,
 }
 
 impl<'a> ListLog<'a> {
@@ -99,12 +102,14 @@ impl<'a> ListLog<'a> {
         list: &'a RefCell<OneList>,
         writer: u64,
         fates: VecDeque<Fate>,
+        is_due: bool,
     ) -> ListLog<'a> {
         ListLog {
             alloc,
             list,
             writer,
             fates,
+            is_due,
         }
     }
 
@@ -152,5 +157,9 @@ impl<'a> SharedLog for ListLog<'a> {
             Ok(page) => Ok(page),
             Err(_) => Err(ReadFault::OutOfMemory),
         }
+    }
+
+    fn is_due(&self) -> bool {
+        self.is_due
     }
 }

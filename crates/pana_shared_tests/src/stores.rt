@@ -125,7 +125,7 @@ fn answers(alloc: Global, log: MemoryShared, lines: &[&str]) -> Result<(String, 
     requires { IsFresh (seen_of log) }
 {
     let mut text = String::new(alloc);
-    let mut store = SharedStore::open(alloc, log)?;
+    let mut store = SharedStore::open(alloc, log, false)?;
     answer_all(alloc, &mut store, lines, &mut text)?;
     Ok((text, store.foreign()))
 }
@@ -210,7 +210,7 @@ fn is_refused(alloc: Global, log: MemoryShared) -> bool
     requires { IsFresh (seen_of log) }
 {
     matches!(
-        SharedStore::open(alloc, log),
+        SharedStore::open(alloc, log, false),
         Err(ReadFault::Foreign { number: 1 })
     )
 }
@@ -249,19 +249,21 @@ fn two_stores_have_one_journal(rt: HostRuntime) -> Result<(), Fail> {
 }
 
 /// How many entries a store has that is opened on a log and makes the call of a line.
-fn entries_after(alloc: Global, log: MemoryShared, line: &str) -> Result<u64, Fail>
+fn entries_after(alloc: Global, log: MemoryShared, is_stale: bool, line: &str) -> Result<u64, Fail>
     requires { IsFresh (seen_of log) }
 {
     let Message { by, call } = decode(alloc, line.as_bytes())?;
     let mut calls = Vec::new(alloc);
     calls.push((by, call))?;
-    let store = live(alloc, log, calls)?;
+    let store = live(alloc, log, is_stale, calls)?;
     Ok(store.entries())
 }
 
 #[test]
 fn a_store_lives(rt: HostRuntime) -> Result<(), Fail> {
-    let log = log_of(rt.alloc(), DUMP_Q, &[], &[Fate::PutUnanswered])?;
-    assert_eq!(rt; entries_after(rt.alloc(), log, REGISTER_P)?, 2);
+    for is_stale in [false, true] {
+        let log = log_of(rt.alloc(), DUMP_Q, &[], &[Fate::PutUnanswered])?;
+        assert_eq!(rt; entries_after(rt.alloc(), log, is_stale, REGISTER_P)?, 2);
+    }
     Ok(())
 }

@@ -25,15 +25,20 @@ impl Model for LogStore {
 }
 
 impl LogStore {
-    /// The store of a log, all of which is read. Nothing has been put into it by this writer.
+    /// The store of a log, all of which is read. Nothing has been put into it by this writer. A stale one answers questions from what
+    /// it has followed so far.
     ///
     /// # Errors
     ///
     /// Those of reading; `Foreign` also where an entry isn't the next one of a journal.
-    pub(crate) fn open(alloc: Global, log: EtcdLog<TcpConnect>) -> Result<LogStore, ReadFault>
+    pub(crate) fn open(
+        alloc: Global,
+        log: EtcdLog<TcpConnect>,
+        is_stale: bool,
+    ) -> Result<LogStore, ReadFault>
         ensures { IfOk result (λ store. store.broken ≡ false) }
     {
-        let store = SharedStore::open(alloc, log)?;
+        let store = SharedStore::open(alloc, log, is_stale)?;
         Ok(LogStore { store })
     }
 

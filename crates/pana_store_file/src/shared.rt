@@ -69,7 +69,7 @@ pub fn read_shared(rt: &HostRuntime, place: LogPlace<'_>) -> Result<Hall, NoStor
 /// The store of the log at this place, all of which is read; or why there is none.
 pub fn open_shared(rt: &HostRuntime, place: LogPlace<'_>) -> Result<LogStore, NoStore> {
     let log = log_at(rt, place)?;
-    match LogStore::open(rt.alloc(), log) {
+    match LogStore::open(rt.alloc(), log, place.is_stale) {
         Ok(store) => Ok(store),
         Err(fault) => Err(no_log(rt, place.address, fault)?),
     }

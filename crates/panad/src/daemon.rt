@@ -44,11 +44,20 @@ impl System for FileMachine<'_> {
     }
 }
 
-/// The system's ports, and logs in etcd, which have so many seconds for an answer.
+/// What is wished of a log in etcd.
+#[derive(Clone, Copy)]
+pub struct LogWishes {
+    /// For how many seconds an answer is waited for.
+    pub patience: u32,
+    /// Whether questions are answered from what was read before.
+    pub is_stale: bool,
+}
+
+/// The system's ports, and logs in etcd, of which this is wished.
 #[derive(Drop)]
 struct LogMachine<'a> {
     rt: &'a HostRuntime,
-    patience: u32,
+    log: LogWishes,
 }
 
 impl System for LogMachine<'_> {
@@ -63,7 +72,8 @@ impl System for LogMachine<'_> {
     fn open(&mut self, journal: &str) -> Result<LogStore, NoStore> {
         let place = LogPlace {
             address: journal,
-            patience: self.patience,
+            patience: self.log.patience,
+            is_stale: self.log.is_stale,
         };
         open_shared(self.rt, place)
     }
@@ -77,7 +87,7 @@ fn status_of(outcome: &Outcome<'_, NoStore>) -> u8 {
     }
 }
 
-/// Has the daemon do what the words ask for, by a journal's file, or by a log in etcd, which has so many seconds for an answer, on
+/// Has the daemon do what the words ask for, by a journal's file, or by a log in etcd, of which something is wished then, on
 /// folders that are entered also where they are of another file system, or not, prints what went wrong, where it hasn't been, and
 /// returns the status.
 pub fn serve<T: Threads + Wait + Clock + Sync>(
@@ -85,7 +95,7 @@ pub fn serve<T: Threads + Wait + Clock + Sync>(
     threads: &T,
     passed_over: &[PassedOver<'_, '_>],
     stays: bool,
-    log_patience: Option<u32>,
+    log: Option<LogWishes>,
     wishes: Wishes<'_>,
 ) -> Result<ExitCode, ProgramFault> {
     let port = wishes.port;
@@ -94,14 +104,8 @@ pub fn serve<T: Threads + Wait + Clock + Sync>(
         stays,
         passed_over,
     };
-    let outcome = match log_patience {
-        Some(patience) => serve_on(
-            rt,
-            threads,
-            &disks,
-            &mut LogMachine { rt, patience },
-            wishes,
-        ),
+    let outcome = match log {
+        Some(log) => serve_on(rt, threads, &disks, &mut LogMachine { rt, log }, wishes),
         None => serve_on(rt, threads, &disks, &mut FileMachine { rt }, wishes),
     };
     let printout = Printout {

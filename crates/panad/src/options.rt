@@ -4,11 +4,12 @@ use pana_arguments::{KeptBy, KeptLog, ShownAs};
 use pana_commands::StatusForm;
 use pana_files::{Keeper, LogPlace, ProgramFault, terminal_width};
 
-/// Where a log is, and how long it has for an answer.
+/// Where a log is, how long it has for an answer, and whether questions may be answered without it.
 pub fn place_of(log: KeptLog<'_>) -> LogPlace<'_> {
     LogPlace {
         address: log.address,
         patience: log.patience,
+        is_stale: log.is_stale,
     }
 }
 

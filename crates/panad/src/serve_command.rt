@@ -1,7 +1,7 @@
 //! What the words of `panad serve` come to.
 
 use crate::command::refuse;
-use crate::daemon;
+use crate::daemon::{self, LogWishes};
 use pana_arguments::{KeptBy, ServeArguments};
 use pana_daemon::{Looks, Patience, Root, roots_of};
 use pana_files::{OwnFile, ProgramFault, fault_of_roots, passed_over, root_patterns, slices_of};
@@ -48,15 +48,18 @@ fn obey<T: Threads + Wait + Clock + Sync>(
         threads,
         passed.as_slice(),
         stays,
-        log_patience(kept_by),
+        log_wishes(kept_by),
         wishes,
     )
 }
 
-/// For how many seconds an answer of the log is waited for, if it is one.
-fn log_patience(kept_by: Option<KeptBy<'_>>) -> Option<u32> {
+/// What is wished of the log, if it is one.
+fn log_wishes(kept_by: Option<KeptBy<'_>>) -> Option<LogWishes> {
     match kept_by {
-        Some(KeptBy::Log(log)) => Some(log.patience),
+        Some(KeptBy::Log(log)) => Some(LogWishes {
+            patience: log.patience,
+            is_stale: log.is_stale,
+        }),
         _ => None,
     }
 }
