@@ -10,6 +10,7 @@ use Rattle.pana_etcd.specs.contracts.connect.TcpConnect as tcp
 use Rattle.pana_etcd.specs.contracts.etcd_log.EtcdLog as etcd_log
 use Rattle.std.specs.contracts.net.tcp.TcpStream as stream
 use Rattle.std.proofs.net.tcp.TcpStream.TheSendSync as streams
+use Rattle.pana_shared.proofs.read_fault.ReadFault.TheSendSync as faults
 use Rattle.pana_shared.specs.declared.shared_log.SharedLog.{Ghosts}
 use Rattle.pana_shared_store.specs.contracts.store.SharedStore as store
 use Rattle.pana_shared_store.specs.contracts.store.SharedStore.TheInside as store_inside
@@ -21,7 +22,7 @@ etcd_send : IsSend (etcd_log.the_row tcp.the_row stream.the_row)
 etcd_send = logs.the_send _ _ connects.the_send streams.the_send
 
 store_send : (ghosts : Ghosts (etcd_log.the_row tcp.the_row stream.the_row).Denot) → IsSend (store.the_row (etcd_log.the_row tcp.the_row stream.the_row) ghosts)
-store_send ghosts = view_send _ _ _ _ _ (declared_send (store_inside.the_type (etcd_log.the_row tcp.the_row stream.the_row) ghosts) (global.the_send, (hall_send, (etcd_send, (search sendable, (options.the_send _ (search sendable), (search sendable, tt)))))))
+store_send ghosts = view_send _ _ _ _ _ (declared_send (store_inside.the_type (etcd_log.the_row tcp.the_row stream.the_row) ghosts) (global.the_send, (hall_send, (etcd_send, (search sendable, (options.the_send _ faults.the_send, (search sendable, tt)))))))
 
 pub log_store_send : IsSend log_store.the_row
 log_store_send = view_send _ _ _ _ _ (declared_send log_store_inside.the_type (store_send _, tt))
