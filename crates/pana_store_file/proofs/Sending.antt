@@ -14,7 +14,6 @@ use Rattle.pana_shared.proofs.read_fault.ReadFault.TheSendSync as faults
 use Rattle.pana_shared.specs.declared.shared_log.SharedLog.{Ghosts}
 use Rattle.pana_shared_store.specs.contracts.store.SharedStore as store
 use Rattle.pana_shared_store.specs.contracts.store.SharedStore.TheInside as store_inside
-use Rattle.pana_etcd.specs.contracts.etcd_log.EtcdLogSharedLog.TheImpl as log_impl
 use Rattle.pana_store_file.specs.contracts.log_store.LogStore as log_store
 use Rattle.pana_store_file.specs.contracts.log_store.LogStore.TheInside as log_store_inside
 
@@ -25,4 +24,4 @@ store_send : (ghosts : Ghosts (etcd_log.the_row tcp.the_row stream.the_row).Deno
 store_send ghosts = view_send _ _ _ _ _ (declared_send (store_inside.the_type (etcd_log.the_row tcp.the_row stream.the_row) ghosts) (global.the_send, (hall_send, (etcd_send, (search sendable, (options.the_send _ faults.the_send, (search sendable, tt)))))))
 
 pub log_store_send : IsSend log_store.the_row
-log_store_send = view_send _ _ _ _ _ (declared_send log_store_inside.the_type (store_send _, tt))
+log_store_send = view_send _ _ _ _ _ (declared_send log_store_inside.the_type (store_send (record { is_known = _; seen = _; silences = λ s. 0 }), tt))
