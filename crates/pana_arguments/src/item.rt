@@ -32,6 +32,8 @@ pub enum Need {
     Required,
     /// It may stand only beside this one.
     With(&'static str),
+    /// It may stand only beside the first of these, and not beside the second.
+    WithNot(&'static str, &'static str),
     /// It may not stand beside this one.
     Without(&'static str),
     /// It may stand beside none of these two.
@@ -102,6 +104,7 @@ fn arg_of<'a>(alloc: Global, item: Item) -> Result<Arg<'a>, AllocError> {
         Need::Optional => Ok(arg),
         Need::Required => Ok(arg.required(true)),
         Need::With(other) => arg.requires_arg(other),
+        Need::WithNot(other, without) => arg.requires_arg(other)?.conflicts_with(without),
         Need::Without(other) => arg.conflicts_with(other),
         Need::WithoutEither(first, second) => arg.conflicts_with_all(&[first, second]),
         Need::WithoutAny(first, second, third) => arg.conflicts_with_all(&[first, second, third]),

@@ -79,7 +79,7 @@ pub const LOG_PATIENCE: Item = Item {
 pub const MAY_BE_STALE: Item = Item {
     name: STALE,
     kind: Kind::Flag,
-    need: Need::With(LOG),
+    need: Need::WithNot(LOG, JOURNAL),
     help: "Answer questions by the journal in etcd as it was a moment ago",
 };
 
