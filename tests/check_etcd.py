@@ -224,7 +224,8 @@ def words_refused(setting, room):
         status, out, err = setting.run(*words, "--log", address)
         yield from differs((words, status, out, err[:7]), (words, 2, "", "error: "))
     alone = (("run", "--stale"), ("run", "--patience", "3"), ("run", "--stale", "--journal", room / "a"), ("serve", "--port", "0", "--stale"))
-    for words in (*alone, ("status", "--log", address, "--stale"), ("report", "edit", USB, "--log", address, "--stale")):
+    patient = (("run", "--journal", room / "a"), ("serve", "--port", "0", "--journal", room / "a"), ("status", "--journal", room / "a"), ("status", "--port", "7"), ("show", "--port", "7"))
+    for words in (*alone, *((*words, "--patience", "3") for words in patient), ("status", "--log", address, "--stale"), ("report", "edit", USB, "--log", address, "--stale")):
         status, out, err = setting.run(*words)
         yield from differs((words, status, out, err[:7]), (words, 2, "", "error: "))
     yield from differs((setting.one.values("words"), (room / "a").exists()), ({}, False))

@@ -1,11 +1,10 @@
 //! What the words of the command line may be.
 
-use crate::command_name::{COMMANDS, CommandName};
 use crate::command_text::CommandText;
 use crate::compare::COMPARE_COMMAND;
 use crate::history::HISTORY_COMMAND;
 use crate::load::LOAD_COMMAND;
-use crate::log_copy::{COPY_COMMAND, log_command};
+use crate::log_copy::log_command;
 use crate::may_overwrite::MAY_OVERWRITE_COMMAND;
 use crate::report::REPORT_COMMAND;
 use crate::run::RUN_COMMAND;
@@ -43,41 +42,30 @@ daemon, as it comes, and `panad log copy` moves a journal into etcd or out.
 `panad COMMAND --help` shows an example. docs/PROTOCOL.md has all answers, and
 docs/PROMISES.md what is proved of them, and what isn't.";
 
-/// What the words of this command may be, of `log` those of its only command.
-fn text_of(name: CommandName) -> CommandText {
-    match name {
-        CommandName::Run => RUN_COMMAND,
-        CommandName::Show => SHOW_COMMAND,
-        CommandName::Load => LOAD_COMMAND,
-        CommandName::Scan => SCAN_COMMAND,
-        CommandName::Compare => COMPARE_COMMAND,
-        CommandName::Track => TRACK_COMMAND,
-        CommandName::Status => STATUS_COMMAND,
-        CommandName::MayOverwrite => MAY_OVERWRITE_COMMAND,
-        CommandName::Why => WHY_COMMAND,
-        CommandName::History => HISTORY_COMMAND,
-        CommandName::Report => REPORT_COMMAND,
-        CommandName::Watch => WATCH_COMMAND,
-        CommandName::Serve => SERVE_COMMAND,
-        CommandName::Log => COPY_COMMAND,
-    }
-}
-
-/// What the words of this command may be.
-fn command_of<'a>(alloc: Global, name: CommandName) -> Result<Command<'a>, AllocError> {
-    let command = text_of(name).command(alloc)?;
-    if matches!(name, CommandName::Log) {
-        return log_command(alloc, command);
-    }
-    Ok(command)
-}
+/// The commands but for `log`, in the order of the help.
+const TEXTS: [&CommandText; 13] = [
+    &RUN_COMMAND,
+    &SHOW_COMMAND,
+    &LOAD_COMMAND,
+    &SCAN_COMMAND,
+    &COMPARE_COMMAND,
+    &TRACK_COMMAND,
+    &STATUS_COMMAND,
+    &MAY_OVERWRITE_COMMAND,
+    &WHY_COMMAND,
+    &HISTORY_COMMAND,
+    &REPORT_COMMAND,
+    &WATCH_COMMAND,
+    &SERVE_COMMAND,
+];
 
 /// All commands, in the order of the help.
 fn commands_of<'a>(alloc: Global) -> Result<Vec<Command<'a>>, AllocError> {
     let mut commands = Vec::new(alloc);
-    for name in &COMMANDS {
-        commands.push(command_of(alloc, *name)?)?;
+    for text in &TEXTS {
+        commands.push(text.command(alloc)?)?;
     }
+    commands.push(log_command(alloc)?)?;
     Ok(commands)
 }
 

@@ -34,22 +34,22 @@ pub enum CommandName {
     Log,
 }
 
-/// All of them, in the order of the help.
-pub const COMMANDS: [CommandName; 14] = [
-    CommandName::Run,
-    CommandName::Show,
-    CommandName::Load,
-    CommandName::Scan,
-    CommandName::Compare,
-    CommandName::Track,
-    CommandName::Status,
-    CommandName::MayOverwrite,
-    CommandName::Why,
-    CommandName::History,
-    CommandName::Report,
-    CommandName::Watch,
-    CommandName::Serve,
-    CommandName::Log,
+/// Their names on the command line.
+const NAMES: [(&str, CommandName); 14] = [
+    (RUN, CommandName::Run),
+    (SHOW, CommandName::Show),
+    (LOAD, CommandName::Load),
+    (SCAN, CommandName::Scan),
+    (COMPARE, CommandName::Compare),
+    (TRACK, CommandName::Track),
+    (STATUS, CommandName::Status),
+    (MAY_OVERWRITE, CommandName::MayOverwrite),
+    (WHY, CommandName::Why),
+    (HISTORY, CommandName::History),
+    (REPORT, CommandName::Report),
+    (WATCH, CommandName::Watch),
+    (SERVE, CommandName::Serve),
+    (LOG, CommandName::Log),
 ];
 
 impl CommandName {
@@ -76,21 +76,10 @@ impl CommandName {
 
 /// The command with this name. Takes no memory.
 pub fn command_named(name: &str) -> Option<CommandName> {
-    match name {
-        RUN => Some(CommandName::Run),
-        SHOW => Some(CommandName::Show),
-        LOAD => Some(CommandName::Load),
-        SCAN => Some(CommandName::Scan),
-        COMPARE => Some(CommandName::Compare),
-        TRACK => Some(CommandName::Track),
-        STATUS => Some(CommandName::Status),
-        MAY_OVERWRITE => Some(CommandName::MayOverwrite),
-        WHY => Some(CommandName::Why),
-        HISTORY => Some(CommandName::History),
-        REPORT => Some(CommandName::Report),
-        WATCH => Some(CommandName::Watch),
-        SERVE => Some(CommandName::Serve),
-        LOG => Some(CommandName::Log),
-        _ => None,
+    for (own, command) in &NAMES {
+        if *own == name {
+            return Some(*command);
+        }
     }
+    None
 }

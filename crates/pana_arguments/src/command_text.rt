@@ -18,7 +18,7 @@ pub struct CommandText {
 
 impl CommandText {
     /// The command that the text is of.
-    pub fn command<'a>(self, alloc: Global) -> Result<Command<'a>, AllocError> {
+    pub fn command<'a>(&self, alloc: Global) -> Result<Command<'a>, AllocError> {
         let args = args_of(alloc, self.items)?;
         Command::new(alloc, self.name)
             .about(self.about)

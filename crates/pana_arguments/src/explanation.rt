@@ -6,7 +6,7 @@ use clap::error::{Error, ErrorKind};
 use std::alloc::{AllocError, Global};
 
 /// Help, the version, or why words are refused.
-#[derive(Debug, Drop)]
+#[derive(Drop)]
 pub struct Explanation {
     /// What is printed, with the newline at its end.
     pub text: String,
@@ -15,7 +15,7 @@ pub struct Explanation {
 }
 
 /// Why there is no command line to obey.
-#[derive(Debug, Drop)]
+#[derive(Drop)]
 pub enum Unread {
     /// This is to be printed.
     Explained(Explanation),

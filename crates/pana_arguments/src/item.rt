@@ -30,18 +30,12 @@ pub enum Kind {
 pub enum Need {
     Optional,
     Required,
-    /// It may stand only beside this one.
-    With(&'static str),
-    /// It may stand only beside the first of these, and not beside the second.
-    WithNot(&'static str, &'static str),
-    /// It may not stand beside this one.
-    Without(&'static str),
-    /// It may stand beside none of these two.
-    WithoutEither(&'static str, &'static str),
-    /// It may stand beside none of these three.
-    WithoutAny(&'static str, &'static str, &'static str),
-    /// One of it and these two is there, and no other of them.
-    InPlaceOfEither(&'static str, &'static str),
+    /// It may stand only beside the first of these, and beside none of the others.
+    With(&'static str, &'static [&'static str]),
+    /// It may stand beside none of these.
+    Without(&'static [&'static str]),
+    /// One of it and these is there, and no other of them.
+    InPlaceOf(&'static [&'static str]),
 }
 
 /// A word or an option of a command.
@@ -83,7 +77,7 @@ fn parser_of<'a>(kind: Kind) -> ValueParser<'a> {
 }
 
 /// An argument of this kind, which is optional.
-fn plain<'a>(alloc: Global, item: Item) -> Arg<'a> {
+fn plain<'a>(alloc: Global, item: &Item) -> Arg<'a> {
     let arg = Arg::new(alloc, item.name)
         .help(item.help)
         .action(action_of(item.kind));
@@ -98,19 +92,16 @@ fn plain<'a>(alloc: Global, item: Item) -> Arg<'a> {
 }
 
 /// The argument that the item is.
-fn arg_of<'a>(alloc: Global, item: Item) -> Result<Arg<'a>, AllocError> {
+fn arg_of<'a>(alloc: Global, item: &Item) -> Result<Arg<'a>, AllocError> {
     let arg = plain(alloc, item);
     match item.need {
         Need::Optional => Ok(arg),
         Need::Required => Ok(arg.required(true)),
-        Need::With(other) => arg.requires_arg(other),
-        Need::WithNot(other, without) => arg.requires_arg(other)?.conflicts_with(without),
-        Need::Without(other) => arg.conflicts_with(other),
-        Need::WithoutEither(first, second) => arg.conflicts_with_all(&[first, second]),
-        Need::WithoutAny(first, second, third) => arg.conflicts_with_all(&[first, second, third]),
-        Need::InPlaceOfEither(first, second) => arg
-            .required_unless_present_any(&[first, second])?
-            .conflicts_with_all(&[first, second]),
+        Need::With(other, without) => arg.requires_arg(other)?.conflicts_with_all(without),
+        Need::Without(others) => arg.conflicts_with_all(others),
+        Need::InPlaceOf(others) => arg
+            .required_unless_present_any(others)?
+            .conflicts_with_all(others),
     }
 }
 
@@ -118,7 +109,7 @@ fn arg_of<'a>(alloc: Global, item: Item) -> Result<Arg<'a>, AllocError> {
 pub fn args_of<'a>(alloc: Global, items: &[Item]) -> Result<Vec<Arg<'a>>, AllocError> {
     let mut args = Vec::new(alloc);
     for item in items {
-        args.push(arg_of(alloc, *item)?)?;
+        args.push(arg_of(alloc, item)?)?;
     }
     Ok(args)
 }

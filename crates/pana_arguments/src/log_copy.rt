@@ -58,7 +58,7 @@ const ITEMS: [Item; 3] = [
 ];
 
 /// What the words of `log copy` may be.
-pub const COPY_COMMAND: CommandText = CommandText {
+const COPY_COMMAND: CommandText = CommandText {
     name: COPY,
     about: "Copies a journal into one that is empty",
     example: EXAMPLE,
@@ -66,7 +66,8 @@ pub const COPY_COMMAND: CommandText = CommandText {
 };
 
 /// What the words of `log` may be, whose only command is this one.
-pub fn log_command<'a>(alloc: Global, copy: Command<'a>) -> Result<Command<'a>, AllocError> {
+pub fn log_command<'a>(alloc: Global) -> Result<Command<'a>, AllocError> {
+    let copy = COPY_COMMAND.command(alloc)?;
     Command::new(alloc, LOG)
         .about("Moves journals between files and etcd")
         .subcommand_required(true)

@@ -47,7 +47,7 @@ const STALE: &str = "stale";
 pub const READ_JOURNAL: Item = Item {
     name: JOURNAL,
     kind: Kind::Text("FILE"),
-    need: Need::InPlaceOfEither(PORT, LOG),
+    need: Need::InPlaceOf(&[PORT, LOG]),
     help: "The file that keeps the reports, which is only read",
 };
 
@@ -55,7 +55,7 @@ pub const READ_JOURNAL: Item = Item {
 pub const SHARED_LOG: Item = Item {
     name: LOG,
     kind: Kind::Text("URL"),
-    need: Need::WithoutEither(JOURNAL, PORT),
+    need: Need::Without(&[JOURNAL, PORT]),
     help: "A journal in etcd that other machines share, etcd://HOST:PORT/NAME",
 };
 
@@ -63,23 +63,33 @@ pub const SHARED_LOG: Item = Item {
 pub const OWN_LOG: Item = Item {
     name: LOG,
     kind: Kind::Text("URL"),
-    need: Need::Without(JOURNAL),
+    need: Need::Without(&[JOURNAL]),
     help: "A journal in etcd that other machines share, etcd://HOST:PORT/NAME",
 };
+
+const PATIENCE_HELP: &str = "Time for an answer of the journal in etcd; 10 by default";
 
 /// The option for the time that an answer of a log may take.
 pub const LOG_PATIENCE: Item = Item {
     name: PATIENCE,
     kind: Kind::Seconds,
-    need: Need::With(LOG),
-    help: "Time for an answer of the journal in etcd; 10 by default",
+    need: Need::With(LOG, &[JOURNAL, PORT]),
+    help: PATIENCE_HELP,
+};
+
+/// The same, where no daemon may be named in place of a log.
+pub const OWN_PATIENCE: Item = Item {
+    name: PATIENCE,
+    kind: Kind::Seconds,
+    need: Need::With(LOG, &[JOURNAL]),
+    help: PATIENCE_HELP,
 };
 
 /// The option that questions are answered from what was read of a log before.
 pub const MAY_BE_STALE: Item = Item {
     name: STALE,
     kind: Kind::Flag,
-    need: Need::WithNot(LOG, JOURNAL),
+    need: Need::With(LOG, &[JOURNAL]),
     help: "Answer questions by the journal in etcd as it was a moment ago",
 };
 
@@ -105,7 +115,7 @@ pub const OWN_JOURNAL: Item = Item {
 pub const REPORTED_JOURNAL: Item = Item {
     name: JOURNAL,
     kind: Kind::Text("FILE"),
-    need: Need::InPlaceOfEither(PORT, LOG),
+    need: Need::InPlaceOf(&[PORT, LOG]),
     help: MADE,
 };
 
@@ -155,7 +165,7 @@ pub const NO_TABLE: Item = Item {
 pub const AS_JSON: Item = Item {
     name: JSON,
     kind: Kind::Flag,
-    need: Need::Without(QUIET),
+    need: Need::Without(&[QUIET]),
     help: "Print a line of JSON for each copy in place of the table",
 };
 

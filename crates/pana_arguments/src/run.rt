@@ -2,7 +2,7 @@
 
 use crate::command_text::CommandText;
 use crate::item::Item;
-use crate::options::{KeptBy, LOG_PATIENCE, MAY_BE_STALE, OWN_JOURNAL, OWN_LOG};
+use crate::options::{KeptBy, MAY_BE_STALE, OWN_JOURNAL, OWN_LOG, OWN_PATIENCE};
 use clap::ArgMatches;
 
 /// The name of the command.
@@ -26,7 +26,7 @@ pub struct RunArguments<'a> {
 }
 
 /// The words and options of the command.
-const ITEMS: [Item; 4] = [OWN_JOURNAL, OWN_LOG, LOG_PATIENCE, MAY_BE_STALE];
+const ITEMS: [Item; 4] = [OWN_JOURNAL, OWN_LOG, OWN_PATIENCE, MAY_BE_STALE];
 
 /// What the words of `run` may be.
 pub const RUN_COMMAND: CommandText = CommandText {

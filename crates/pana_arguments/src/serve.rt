@@ -3,7 +3,7 @@
 use crate::command_text::CommandText;
 use crate::item::{Item, Kind, Need};
 use crate::options::{
-    IGNORE, KeptBy, LOG_PATIENCE, MAY_BE_STALE, ONE_FILE_SYSTEM, OWN_JOURNAL, OWN_LOG, PORT, ROOT,
+    IGNORE, KeptBy, MAY_BE_STALE, ONE_FILE_SYSTEM, OWN_JOURNAL, OWN_LOG, OWN_PATIENCE, PORT, ROOT,
     ROOTS_HELP, STAY, values_of,
 };
 use clap::ArgMatches;
@@ -83,7 +83,7 @@ const ITEMS: [Item; 13] = [
     },
     OWN_JOURNAL,
     OWN_LOG,
-    LOG_PATIENCE,
+    OWN_PATIENCE,
     MAY_BE_STALE,
     Item {
         name: ROOT,

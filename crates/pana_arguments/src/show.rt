@@ -60,26 +60,26 @@ const ITEMS: [Item; 7] = [
     Item {
         name: JOURNAL,
         kind: Kind::Text("FILE"),
-        need: Need::Without(FILE),
+        need: Need::Without(&[FILE]),
         help: "Print the tables of this journal's file, and take no lines",
     },
     Item {
         name: LOG,
         kind: Kind::Text("URL"),
-        need: Need::WithoutEither(FILE, JOURNAL),
+        need: Need::Without(&[FILE, JOURNAL]),
         help: "Print the tables of this journal in etcd, and take no lines",
     },
     LOG_PATIENCE,
     Item {
         name: PORT,
         kind: Kind::Port,
-        need: Need::WithoutAny(FILE, JOURNAL, LOG),
+        need: Need::Without(&[FILE, JOURNAL, LOG]),
         help: "Print the tables of the daemon on this port of 127.0.0.1, and take no lines",
     },
     Item {
         name: FAMILY,
         kind: Kind::Number("N"),
-        need: Need::Without(SPLIT),
+        need: Need::Without(&[SPLIT]),
         help: "Of a journal or a daemon, print the table of this family alone",
     },
     Item {

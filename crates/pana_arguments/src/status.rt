@@ -50,7 +50,7 @@ const ITEMS: [Item; 8] = [
     Item {
         name: ALL,
         kind: Kind::Flag,
-        need: Need::Without(JSON),
+        need: Need::Without(&[JSON]),
         help: "List the newest copies too, below the others",
     },
     Item {

@@ -3,8 +3,7 @@ use Rattle.std.specs.Prelude.{◌≡◌, ◌⊎◌, ℕ, List, [], ◌∷◌, �
 use Rattle.pana_copies.specs.declared.place.Place.{Place}
 use Rattle.pana_journal.specs.declared.report.Report.{Report}
 use Rattle.pana_journal.specs.declared.report.Report.TheVariants as reports
-use Rattle.pana_journal.specs.declared.report_kind.ReportKind.{ReportKind}
-use Rattle.pana_journal.specs.declared.report_kind.ReportKind.TheVariants as kinds
+use Rattle.pana_journal.specs.Reports.{kind_name}
 use Rattle.pana_calls.specs.Cause.{shown_cause}
 use Rattle.pana_calls.specs.declared.call.Call.{Call}
 use Rattle.pana_calls.specs.declared.call.Call.TheVariants as calls
@@ -111,19 +110,6 @@ module _ {S : Type 0} (step : S → List ℕ → Call → Answer → S → Type 
       ReportsNothing by report old new OutOfMemory = LooksInVain step fails by (named report) old new OutOfMemory
 
 -- ---- what is printed
-
--- the name of a kind of report
-abbrev pub kind_name : ReportKind → List ℕ
-kind_name kinds.Register = codes "register"
-kind_name kinds.Duplicate = codes "duplicate"
-kind_name kinds.Edit = codes "edit"
-kind_name kinds.Reconcile = codes "reconcile"
-kind_name kinds.Merge = codes "merge"
-kind_name kinds.Relocate = codes "relocate"
-kind_name kinds.Remove = codes "remove"
-kind_name kinds.Note = codes "note"
-kind_name kinds.Confirm = codes "confirm"
-kind_name kinds.Withdraw = codes "withdraw"
 
 -- the line about what comes of a report
 abbrev pub end_line : ReportEnd → List ℕ

@@ -3,7 +3,7 @@ use pana_copies::Place;
 use std::alloc::AllocError;
 
 /// Why what is asked or reported of copies at places comes to nothing.
-#[derive(Debug, Drop)]
+#[derive(Drop)]
 pub enum AskFault {
     /// No copy is at this place.
     NoCopy(Place),

@@ -18,7 +18,7 @@ pub use crate::naming::{place_name, read_place, unknown_line};
 pub use crate::overwriting::may_overwrite;
 pub use crate::placed_report::{OneCopyReport, PlacedReport, TwoCopyReport};
 pub use crate::reading::read_report;
-pub use crate::report_end::{ReportEnd, kind_name};
+pub use crate::report_end::ReportEnd;
 pub use crate::report_word::ReportWord;
 pub use crate::reporting::report_on;
 pub use crate::verdict::Verdict;

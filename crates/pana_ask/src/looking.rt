@@ -8,8 +8,8 @@ use pana_copies::{DeviceName, Place};
 
 /// The number of the copy that an answer has found, or none where no copy is at the place; nothing where it is no answer to
 /// that.
-fn found_in(answer: Answer) -> Option<Option<u64>>
-    ensures { result ≡ found_in answer }
+fn found_in(answer: &Answer) -> Option<Option<u64>>
+    ensures { result ≡ found_in answer.now }
 {
     match answer {
         Answer::Given(Reply::At(Some(standing))) => Some(Some(standing.copy)),
@@ -27,12 +27,14 @@ pub(crate) fn copy_at<S: Session>(
     ensures ok { IfOk result (λ copy. Finds S.step by.now (place.now ∷ []) session.old (copy ∷ []) session.new) }
     ensures err { IfErr result (LooksInVain S.step S.fails by.now (place.now ∷ []) session.old session.new) }
 {
+    let missing = place.copy_of()?;
     let at = Query::At {
         place: place.copy_of()?,
     };
-    let missing = place.copy_of()?;
     let answer = session.call(by, Call::Query(at))?;
-    match found_in(answer) {
+    let found = found_in(&answer);
+    drop(answer);
+    match found {
         Some(Some(copy)) => Ok(copy),
         Some(None) => Err(AskFault::NoCopy(missing)),
         None => Err(AskFault::OutOfMemory),

@@ -37,7 +37,10 @@ fn read_answer(answer: Answer) -> (Option<u64>, Option<Verdict>)
     ensures gone { result.0 ≡ gone_in answer }
     ensures verdict { result.1 ≡ verdict_in answer }
 {
-    (gone_in(&answer), verdict_in(&answer))
+    let gone = gone_in(&answer);
+    let verdict = verdict_in(&answer);
+    drop(answer);
+    (gone, verdict)
 }
 
 /// Whether the copy at the place `target` may be overwritten with the one at `source`: asks a session, as the device `by`, for

@@ -8,7 +8,7 @@ use pana_journal::Report;
 
 /// What is reported of one copy. A sum is that of the bytes which the copies that the report is about hold from then on, where it
 /// is known.
-#[derive(Debug, Drop)]
+#[derive(Drop)]
 pub enum OneCopyReport {
     /// It was changed.
     Edit { sum: Option<Sum> },
@@ -23,7 +23,7 @@ pub enum OneCopyReport {
 }
 
 /// What is reported of two copies.
-#[derive(Debug, Drop)]
+#[derive(Drop)]
 pub enum TwoCopyReport {
     /// Each got what the other knows.
     Reconcile { sum: Option<Sum> },
@@ -34,7 +34,7 @@ pub enum TwoCopyReport {
 }
 
 /// What is reported of copies that are named by their places.
-#[derive(Debug, Drop)]
+#[derive(Drop)]
 pub enum PlacedReport {
     /// A call that needs no number of a copy: `register`, `confirm`, `withdraw`, `found`, `missing`.
     Direct(Call),

@@ -1,13 +1,13 @@
 //! What comes of a report.
 ghost use Rattle.std.specs.Prelude.{◌≡◌, IfOk, string_bytes};
-ghost use Rattle.pana_ask.specs.Report.{end_in, end_line, end_status, kind_name};
+ghost use Rattle.pana_ask.specs.Report.{end_in, end_line, end_status};
 
 use pana_calls::{Answer, Cause, Reply};
 use pana_journal::ReportKind;
 use std::alloc::{AllocError, Global};
 
 /// What comes of what was reported.
-#[derive(Clone, Copy, Debug, PartialEq, Eq)]
+#[derive(Clone, Copy)]
 pub enum ReportEnd {
     /// The report is this entry.
     Entry(u64),
@@ -19,24 +19,6 @@ pub enum ReportEnd {
     Refused(Cause),
     /// Nothing stands against it, but it can't be kept.
     NotKept,
-}
-
-/// The name of a kind of report, as lines have it. Takes no memory.
-pub fn kind_name(kind: ReportKind) -> &'static str
-    ensures { result.now ≡ kind_name kind }
-{
-    match kind {
-        ReportKind::Register => "register",
-        ReportKind::Duplicate => "duplicate",
-        ReportKind::Edit => "edit",
-        ReportKind::Reconcile => "reconcile",
-        ReportKind::Merge => "merge",
-        ReportKind::Relocate => "relocate",
-        ReportKind::Remove => "remove",
-        ReportKind::Note => "note",
-        ReportKind::Confirm => "confirm",
-        ReportKind::Withdraw => "withdraw",
-    }
 }
 
 impl ReportEnd {
@@ -64,7 +46,7 @@ impl ReportEnd {
         match self {
             ReportEnd::Entry(entry) => format!(in alloc; "entry {entry}\n"),
             ReportEnd::Did { kind, entry } => {
-                let name = kind_name(kind);
+                let name = kind.name();
                 format!(in alloc; "{name}, entry {entry}\n")
             }
             ReportEnd::Known => String::from_str(alloc, "known\n"),

@@ -22,12 +22,22 @@ fn call_for<S: Session>(
     match report {
         PlacedReport::Direct(call) => Ok(call),
         PlacedReport::One(place, what) => {
-            let copy = copy_at(session, by, &place)?;
-            Ok(Call::Report(what.report(copy)))
+            match copy_at(session, by, &place) {
+                Ok(copy) => Ok(Call::Report(what.report(copy))),
+                Err(fault) => {
+                    drop(what);
+                    Err(fault)
+                }
+            }
         }
         PlacedReport::Two(first, second, what) => {
-            let (a, b) = copies_at(session, by, &first, &second)?;
-            Ok(Call::Report(what.report(a, b)))
+            match copies_at(session, by, &first, &second) {
+                Ok((a, b)) => Ok(Call::Report(what.report(a, b))),
+                Err(fault) => {
+                    drop(what);
+                    Err(fault)
+                }
+            }
         }
     }
 }
@@ -36,7 +46,9 @@ fn call_for<S: Session>(
 fn end_of(answer: Answer) -> Option<ReportEnd>
     ensures { result ≡ end_in answer }
 {
-    ReportEnd::of(&answer)
+    let end = ReportEnd::of(&answer);
+    drop(answer);
+    end
 }
 
 /// Reports something as the device `by`: asks a session for the numbers of the copies that it is about, makes the call, and has

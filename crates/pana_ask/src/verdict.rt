@@ -7,7 +7,7 @@ use pana_copies::Place;
 use std::alloc::{AllocError, Global};
 
 /// Whether a copy may be overwritten with another one.
-#[derive(Clone, Copy, Debug, PartialEq, Eq)]
+#[derive(Clone, Copy)]
 pub enum Verdict {
     /// It may: the other has all of its changes.
     Yes,

@@ -24,7 +24,7 @@ pub struct Words<'a> {
 }
 
 /// Why words say no report.
-#[derive(Clone, Copy, Debug, PartialEq, Eq)]
+#[derive(Clone, Copy)]
 pub enum WordsFault<'a> {
     /// This is no word for a report.
     Word(&'a str),

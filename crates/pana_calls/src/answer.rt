@@ -3,7 +3,7 @@ use std::error::Error;
 use std::fmt;
 
 /// What answers a call.
-#[derive(Debug, Drop)]
+#[derive(Drop)]
 pub enum Answer {
     /// A hall's reply.
     Given(Reply),

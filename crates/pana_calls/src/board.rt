@@ -4,7 +4,7 @@ use pana_list::PlainList;
 
 /// A copy on a board: its number and place, and how many other living copies of its family are newer and older
 /// than it, equal to it, and in conflict with it.
-#[derive(Debug, PartialEq, Eq, Drop)]
+#[derive(PartialEq, Eq, Drop)]
 pub struct BoardRow {
     pub copy: u64,
     pub place: Place,
@@ -15,7 +15,7 @@ pub struct BoardRow {
 }
 
 /// How the living copies of a family relate to each other.
-#[derive(Debug, Drop)]
+#[derive(Drop)]
 pub struct BoardView {
     pub family: u64,
     /// A row for each living copy, by rising number.

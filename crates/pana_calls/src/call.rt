@@ -5,7 +5,7 @@ use pana_journal::Report;
 use std::alloc::{AllocError, Global};
 
 /// What is asked of a hall. No query changes it.
-#[derive(Debug, PartialEq, Eq, Drop)]
+#[derive(PartialEq, Eq, Drop)]
 pub enum Query {
     /// Each family with a living copy.
     Families,
@@ -51,7 +51,7 @@ pub enum Query {
 }
 
 /// What was seen at a place, by whoever looks at files and knows no numbers of copies.
-#[derive(Debug, PartialEq, Eq, Drop)]
+#[derive(PartialEq, Eq, Drop)]
 pub enum Sighting {
     /// A file is there, whose bytes have this sum.
     Found { place: Place, sum: Sum },
@@ -60,7 +60,7 @@ pub enum Sighting {
 }
 
 /// What a session or a scanner sends to a hall: it reports a change, or what it saw, or asks for an answer.
-#[derive(Debug, PartialEq, Eq, Drop)]
+#[derive(PartialEq, Eq, Drop)]
 pub enum Call {
     Report(Report),
     Sighting(Sighting),

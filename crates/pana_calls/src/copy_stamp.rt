@@ -1,7 +1,7 @@
 //! Stamps in an answer.
 
 /// A copy's number and the text of its stamp.
-#[derive(Debug, Drop)]
+#[derive(Drop)]
 pub struct CopyStamp {
     pub copy: u64,
     pub text: String,

@@ -1,7 +1,7 @@
 //! Families in an answer.
 
 /// A family with a living copy: how many it has, how many of them are newest, and whether it is split.
-#[derive(Clone, Copy, Debug, PartialEq, Eq)]
+#[derive(Clone, Copy, PartialEq, Eq)]
 pub struct FamilyRow {
     pub family: u64,
     pub copies: u64,

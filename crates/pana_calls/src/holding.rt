@@ -7,7 +7,7 @@ use std::marker::Model;
 
 /// A living copy on the device that was asked for, the entry that changed it last, and the sum of what it holds, where that is
 /// known.
-#[derive(Debug, PartialEq, Eq, Drop)]
+#[derive(PartialEq, Eq, Drop)]
 pub struct Holding {
     pub copy: u64,
     pub family: u64,
@@ -17,7 +17,7 @@ pub struct Holding {
 }
 
 /// Copies on one device, no two of them with one path. To contracts it is the list of them.
-#[derive(Debug, Drop)]
+#[derive(Drop)]
 pub struct HoldingList {
     holdings: Vec<Holding>,
 }

@@ -10,7 +10,7 @@ use pana_journal::{EntryList, ReportKind};
 use pana_list::PlainList;
 
 /// The answer of a hall to a call.
-#[derive(Debug, Drop)]
+#[derive(Drop)]
 pub enum Reply {
     /// The report was accepted, as the entry with this number.
     Done { entry: u64 },

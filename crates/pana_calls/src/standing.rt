@@ -5,7 +5,7 @@ ghost use Rattle.pana_calls.specs.Standing.{state_name};
 use pana_copies::{Place, Sum};
 
 /// Whether a copy is to be replaced, or merged.
-#[derive(Clone, Copy, Debug, PartialEq, Eq)]
+#[derive(Clone, Copy, PartialEq, Eq)]
 pub enum CopyState {
     /// No other copy of the file knows what it doesn't.
     Newest,
@@ -30,7 +30,7 @@ impl CopyState {
 
 /// A living copy: its family, how many of the family's other copies are newer, older, equal and in conflict, its state, and the
 /// sum of what it holds, where that is known.
-#[derive(Debug, PartialEq, Eq, Drop)]
+#[derive(PartialEq, Eq, Drop)]
 pub struct CopyStanding {
     pub copy: u64,
     pub family: u64,
@@ -43,14 +43,14 @@ pub struct CopyStanding {
 }
 
 /// A living copy and its place.
-#[derive(Debug, PartialEq, Eq, Drop)]
+#[derive(PartialEq, Eq, Drop)]
 pub struct PlacedCopy {
     pub copy: u64,
     pub place: Place,
 }
 
 /// A copy that is obsolete or in conflict, and the copy to replace it with, or to merge it with.
-#[derive(Debug, PartialEq, Eq, Drop)]
+#[derive(PartialEq, Eq, Drop)]
 pub struct StatusRow {
     pub copy: u64,
     pub place: Place,

@@ -34,10 +34,16 @@ pub fn read_answer(alloc: Global, line: &[u8]) -> Result<Answer, AnswerFault>
     ensures { IfOk result (λ answer. answer_text answer ≡ line.now) }
 {
     let answer = answer_in(alloc, line)?;
-    if is_text_of(alloc, line, &answer)? {
-        Ok(answer)
-    } else {
-        Err(AnswerFault::NoAnswer)
+    match is_text_of(alloc, line, &answer) {
+        Ok(true) => Ok(answer),
+        Ok(false) => {
+            drop(answer);
+            Err(AnswerFault::NoAnswer)
+        }
+        Err(fault) => {
+            drop(answer);
+            Err(fault)
+        }
     }
 }
 
@@ -54,10 +60,17 @@ fn is_text_of(alloc: Global, line: &[u8], answer: &Answer) -> Result<bool, Answe
 /// What the line's text may be that of: what it says in other words, or says beside, is for `is_text_of` to find.
 fn answer_in(alloc: Global, line: &[u8]) -> Result<Answer, AnswerFault> {
     let value = value_in(alloc, line)?;
-    match first_name(&value)? {
-        "code" => refusal_in(&value),
+    let answer = answer_of(alloc, line, &value);
+    drop(value);
+    answer
+}
+
+/// The same of the value that the line is.
+fn answer_of(alloc: Global, line: &[u8], value: &Value) -> Result<Answer, AnswerFault> {
+    match first_name(value)? {
+        "code" => refusal_in(value),
         "entries" => Ok(Answer::Given(journal_in(alloc, line)?)),
-        name => Ok(Answer::Given(reply_in(alloc, name, &value)?)),
+        name => Ok(Answer::Given(reply_in(alloc, name, value)?)),
     }
 }
 
@@ -142,25 +155,9 @@ fn rel_named(name: &str) -> Result<Rel, AnswerFault> {
 }
 
 fn did_in(value: &Value) -> Result<Reply, AnswerFault> {
-    let kind = kind_named(text_in(value, "did")?)?;
+    let kind = ReportKind::named(text_in(value, "did")?).ok_or(AnswerFault::NoAnswer)?;
     let entry = number_in(value, "done")?;
     Ok(Reply::Did { kind, entry })
-}
-
-fn kind_named(name: &str) -> Result<ReportKind, AnswerFault> {
-    match name {
-        "register" => Ok(ReportKind::Register),
-        "duplicate" => Ok(ReportKind::Duplicate),
-        "edit" => Ok(ReportKind::Edit),
-        "reconcile" => Ok(ReportKind::Reconcile),
-        "merge" => Ok(ReportKind::Merge),
-        "relocate" => Ok(ReportKind::Relocate),
-        "remove" => Ok(ReportKind::Remove),
-        "note" => Ok(ReportKind::Note),
-        "confirm" => Ok(ReportKind::Confirm),
-        "withdraw" => Ok(ReportKind::Withdraw),
-        _ => Err(AnswerFault::NoAnswer),
-    }
 }
 
 fn at_in(alloc: Global, value: &Value) -> Result<Reply, AnswerFault> {

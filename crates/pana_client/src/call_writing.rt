@@ -9,7 +9,7 @@ use pana_wire::{Message, WireFault, decode, encode_call};
 use std::alloc::{AllocError, Global};
 
 /// Why a call has no line.
-#[derive(Clone, Copy, Debug, PartialEq, Eq)]
+#[derive(Clone, Copy)]
 pub enum CallFault {
     /// The line that was written for it isn't read back as this call.
     NotReadBack,
@@ -42,10 +42,22 @@ fn is_call_line(alloc: Global, line: &[u8], by: &DeviceName, call: &Call) -> Res
     ensures { IfOk result (λ is. IsTrue is → IsCallLine by.now call.now line.now) }
 {
     match decode(alloc, line) {
-        Ok(message) => Ok(is_one_line(line) && is_message(&message, by, call)),
+        Ok(message) => {
+            let is_call = is_line_of(line, &message, by, call);
+            drop(message);
+            Ok(is_call)
+        }
         Err(WireFault::OutOfMemory) => Err(CallFault::OutOfMemory),
         Err(_) => Ok(false),
     }
+}
+
+/// Whether the bytes are one line, and the message is the device's call.
+fn is_line_of(line: &[u8], message: &Message, by: &DeviceName, call: &Call) -> bool
+    ensures line { IsTrue result → IsOneLine line.now }
+    ensures message { IsTrue result → message.now ≡ record { by = by.now; call = call.now } }
+{
+    is_one_line(line) && is_message(message, by, call)
 }
 
 /// Whether the bytes are one line: none is a newline.

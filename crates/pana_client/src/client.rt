@@ -80,7 +80,9 @@ impl<R: BufRead + Drop, W: Write + Drop> Session for Client<R, W> {
         ensures step { IfOk result (λ answer. IsAnswered R.remaining W.contents self.old by.now call answer self.new) }
         ensures fails { OnErr result (IsUnanswered R.remaining W.contents self.old by.now call self.new) }
     {
-        self.exchange(by, &call)
+        let answer = self.exchange(by, &call);
+        drop(call);
+        answer
     }
 
     /// Does nothing: the daemon keeps a report, where it keeps any, before it writes the answer.

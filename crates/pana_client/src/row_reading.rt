@@ -26,7 +26,8 @@ pub(crate) fn rows_in<T: Row + Drop>(
     let mut rows = Vec::new(alloc);
     for value in values {
         let row = T::read(alloc, value)?;
-        if rows.push(row).is_err() {
+        if let Err(failed) = rows.push(row) {
+            drop(failed);
             return Err(AnswerFault::OutOfMemory);
         }
     }
@@ -89,6 +90,24 @@ fn state_in(value: &Value) -> Result<CopyState, AnswerFault> {
     }
 }
 
+/// How many other copies of its family are newer than a copy, older, equal and in conflict.
+#[derive(Clone, Copy)]
+struct Others {
+    newer: u64,
+    older: u64,
+    equal: u64,
+    conflict: u64,
+}
+
+fn others_in(value: &Value) -> Result<Others, AnswerFault> {
+    Ok(Others {
+        newer: number_in(value, "newer")?,
+        older: number_in(value, "older")?,
+        equal: number_in(value, "equal")?,
+        conflict: number_in(value, "conflict")?,
+    })
+}
+
 impl Row for u64 {
     fn read(alloc: Global, value: &Value) -> Result<Self, AnswerFault> {
         let _ = alloc;
@@ -110,13 +129,16 @@ impl Row for FamilyRow {
 
 impl Row for BoardRow {
     fn read(alloc: Global, value: &Value) -> Result<Self, AnswerFault> {
+        let copy = number_in(value, "copy")?;
+        let place = place_in(alloc, value)?;
+        let others = others_in(value)?;
         Ok(BoardRow {
-            copy: number_in(value, "copy")?,
-            place: place_in(alloc, value)?,
-            newer: number_in(value, "newer")?,
-            older: number_in(value, "older")?,
-            equal: number_in(value, "equal")?,
-            conflict: number_in(value, "conflict")?,
+            copy,
+            place,
+            newer: others.newer,
+            older: others.older,
+            equal: others.equal,
+            conflict: others.conflict,
         })
     }
 }
@@ -145,14 +167,18 @@ impl Row for Holding {
 
 impl Row for CopyStanding {
     fn read(alloc: Global, value: &Value) -> Result<Self, AnswerFault> {
+        let copy = number_in(value, "copy")?;
+        let family = number_in(value, "family")?;
+        let others = others_in(value)?;
+        let state = state_in(value)?;
         Ok(CopyStanding {
-            copy: number_in(value, "copy")?,
-            family: number_in(value, "family")?,
-            newer: number_in(value, "newer")?,
-            older: number_in(value, "older")?,
-            equal: number_in(value, "equal")?,
-            conflict: number_in(value, "conflict")?,
-            state: state_in(value)?,
+            copy,
+            family,
+            newer: others.newer,
+            older: others.older,
+            equal: others.equal,
+            conflict: others.conflict,
+            state,
             sum: sum_or_none(alloc, value)?,
         })
     }

@@ -2,6 +2,7 @@
 ghost use Rattle.std.specs.Prelude.{◌≡◌, ◌<◌, ◌≤◌, IfOk, length, map, vec_capacity};
 ghost use Rattle.std.specs.List.{list_any};
 ghost use denote.Param.Send.{IsSync, IsSend};
+ghost use Rattle.pana_turn.specs.Passes.{new_passes};
 ghost use Rattle.pana_daemon.specs.Desk.{RequestSteps};
 ghost use Rattle.pana_daemon.specs.inner.Passes.{AreOpen};
 ghost use Rattle.pana_daemon.specs.Post.{HasDone, HaveDone, posted};
@@ -46,6 +47,45 @@ fn rooms<C: Drop, P: Drop, Q>(
     let passes = Vec::with_capacity(alloc, count)?;
     let posts = Vec::with_capacity(alloc, count)?;
     Ok((callers, passes, posts))
+}
+
+/// What is there before the first call: the desk and its passes, and room for callers, for the passes that come back, and for
+/// posts.
+#[derive(Drop)]
+struct Opened<S: Session + Drop, C, Q> {
+    desk: Desk<Shared<S>>,
+    passes: Vec<Pass<Shared<S>>>,
+    callers: Vec<C>,
+    back: Vec<Pass<Shared<S>>>,
+    left: Vec<Q>,
+}
+
+/// Opens a desk with the session, for so many callers, and then begins. Fails only where memory runs out, before it begins, or
+/// with what `begin` fails with.
+fn open_desk<S: Session + Drop, C: Drop, Q: Drop, B: FnOnce() -> Result<(), DaemonFault>>(
+    alloc: Global,
+    count: usize,
+    session: S,
+    begin: B,
+) -> Result<Opened<S, C, Q>, DaemonFault>
+    requires some { 0 < count }
+    requires few { count ≤ 64 }
+    requires begin { B.pre begin }
+    ensures desk { IfOk result (λ opened. (opened.desk.id.begun ≡ session) × (opened.desk.seats ≡ count) × (opened.passes.items ≡ new_passes opened.desk.id count)) }
+    ensures callers { IfOk result (λ opened. (length opened.callers.items ≡ 0) × (count ≤ vec_capacity opened.callers)) }
+    ensures back { IfOk result (λ opened. (length opened.back.items ≡ 0) × (count ≤ vec_capacity opened.back)) }
+    ensures left { IfOk result (λ opened. (length opened.left.items ≡ 0) × (count ≤ vec_capacity opened.left)) }
+{
+    let (callers, back, left) = rooms(alloc, count)?;
+    let (desk, passes) = Desk::open(alloc, count as u32, Shared::new(session))?;
+    begin()?;
+    Ok(Opened {
+        desk,
+        passes,
+        callers,
+        back,
+        left,
+    })
 }
 
 /// A caller for each post, in order, by the pass at its place; they are numbered from 1. Takes no memory where there is
@@ -153,10 +193,14 @@ pub fn attend<
     requires begin { B.pre begin }
     ensures { IfOk result (λ ended. Ends (RequestSteps S.step S.fails S.settles S.breaks_off) D.gives D.Reader.remaining D.Writer.contents F.does session posts.entry.items ended.session ended.posts.items ended.requests ended.unanswered) }
 {
-    let count = posts.len();
-    let (room, mut back, mut left) = rooms(alloc, count)?;
-    let (desk, passes) = Desk::open(alloc, count as u32, Shared::new(session))?;
-    begin()?;
+    let opened = open_desk(alloc, posts.len(), session, begin)?;
+    let Opened {
+        desk,
+        passes,
+        callers: room,
+        mut back,
+        mut left,
+    } = opened;
     let mut callers = open_callers(&*rt, &desk, &*supervisor, posts, passes, room);
     run_all(&*rt, alloc, callers.as_mut_slice());
     let unanswered = lack_answer(callers.as_slice());

@@ -240,7 +240,13 @@ fn attend_and_count<
             ensures { EndsInput I.remaining signals.entry.now.ticks signals.entry.now.start.all.id has_roots result.0 result.1 }
         { count_input(threads, signals, input, has_roots, counter) },
     );
-    Ok((ended?, counter, asked))
+    match ended {
+        Ok(ended) => Ok((ended, counter, asked)),
+        Err(fault) => {
+            drop(asked);
+            Err(fault)
+        }
+    }
 }
 
 /// Has the posts of workers and of roots done, with a session that all share, while it counts the newlines of standard
@@ -293,6 +299,7 @@ fn serve_posts<'a, S: Session + Send + Drop, T: Threads + Wait + Clock + Sync, K
     } = ended;
     let verdict = signals.start.decide(threads);
     verdict.is_that_of(&asked);
+    drop(asked);
     let is_closed = settle(
         tickets,
         &mut whole,

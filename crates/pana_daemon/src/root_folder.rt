@@ -108,7 +108,16 @@ impl<'a, T, K> RootFolder<'a, T, K> {
         ensures begins { IfSome self.entry.begins (λ begins. begins ≡ verdict.now.begins) }
     {
         verdict.is_that_of(&self.verdict);
-        let RootFolder { watcher, .. } = self;
+        let RootFolder {
+            watcher,
+            verdict: asked,
+            sums,
+            said,
+            ..
+        } = self;
+        drop(asked);
+        drop(sums);
+        drop(said);
         watcher
     }
 }
@@ -177,7 +186,7 @@ impl<T: Wait + Clock, K: Disks> Folder for RootFolder<'_, T, K> {
         let known = mem::replace(&mut self.sums, Sums::none(alloc));
         let mut sums = known.next(alloc);
         let given = disks.read_tracked(threads, alloc, root, &mut sums);
-        self.sums = sums;
+        drop(mem::replace(&mut self.sums, sums));
         Some(Look::Tracked(given))
     }
 

@@ -19,13 +19,22 @@ use std::sync::Wait;
 use std::thread::Threads;
 
 /// The entry of a report that was done; none where it wasn't.
+fn done_entry(answer: &Answer) -> Option<u64>
+    ensures { MatchOption result (done_as answer.now ≡ 0) (λ entry. answer.now ≡ Answer.Given (Reply.Done entry)) }
+{
+    match answer {
+        Answer::Given(Reply::Done { entry }) => Some(*entry),
+        _ => None,
+    }
+}
+
+/// The same of an answer that isn't used further.
 fn entry_of(answer: Answer) -> Option<u64>
     ensures { MatchOption result (done_as answer ≡ 0) (λ entry. answer ≡ Answer.Given (Reply.Done entry)) }
 {
-    match answer {
-        Answer::Given(Reply::Done { entry }) => Some(entry),
-        _ => None,
-    }
+    let entry = done_entry(&answer);
+    drop(answer);
+    entry
 }
 
 /// Makes the report of a step, and says whether the next one is to be made; it isn't where memory runs out.
@@ -82,7 +91,10 @@ fn holdings_of<S: Session>(
     };
     match session.call(device, Call::Query(query))? {
         Answer::Given(Reply::Holdings(holdings)) => Ok(Some(holdings)),
-        _ => Ok(None),
+        other => {
+            drop(other);
+            Ok(None)
+        }
     }
 }
 

@@ -54,7 +54,7 @@ fn take_in<'a, T: Wait + Clock, G: Supervisor, K>(
     for post in posts {
         match post {
             Post::Door(door) => {
-                is_closed = is_closed || door.is_closed();
+                is_closed |= door.is_closed();
                 tickets.join(whole, door.into_share());
             }
             Post::Folder(_, folder) => ticks.meet(counter, folder.into_watcher(verdict)),

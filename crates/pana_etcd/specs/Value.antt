@@ -58,6 +58,13 @@ writer_in d = writer_from (text_in (codes "writer") d)
 abbrev pub turn_in : Data → Option ℕ
 turn_in d = option_and_then as_u64 (option_and_then as_number (get (codes "turn") d))
 
+-- the record of an entry, where its writer and its turn are there
+abbrev pub record_of : Entry → Option ℕ → Option ℕ → Option Record
+record_of entry writer turn = do
+  w ← writer
+  t ← turn
+  Some (record { entry = entry; writer = w; turn = t })
+
 -- the record that a value says
 unfoldable pub value_says : List ℕ → Option Record
 value_says text = do

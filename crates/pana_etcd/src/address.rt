@@ -18,7 +18,7 @@ const MOST_MEMBERS: usize = 9;
 const LONGEST_NAME: usize = 100;
 
 /// Where a log is kept: who logs in there, the members of a cluster, and the log's name.
-#[derive(PartialEq, Eq, Drop)]
+#[derive(Drop)]
 pub struct EtcdAddress {
     pub login: Option<Login>,
     pub members: Vec<Member>,
@@ -37,17 +37,30 @@ impl EtcdAddress {
         ensures { IfOk result (λ address. IsAddress address text.now) }
     {
         let address = address_in(alloc, text)?;
-        if !has_names(&address) {
-            return Err(AddressFault::BadName);
+        match check(alloc, &address, text) {
+            Ok(()) => Ok(address),
+            Err(fault) => {
+                drop(address);
+                Err(fault)
+            }
         }
-        if !is_login(&address.login) {
-            return Err(AddressFault::BadLogin);
-        }
-        match address_text(alloc, &address) {
-            Ok(written) if written.as_str() == text => Ok(address),
-            Ok(_) => Err(AddressFault::BadMember { number: 1 }),
-            Err(_) => Err(AddressFault::OutOfMemory),
-        }
+    }
+}
+
+/// Sees that the text is the address's, and its names are such as they may be.
+fn check(alloc: Global, address: &EtcdAddress, text: &str) -> Result<(), AddressFault>
+    ensures { OnOk result (IsAddress address.now text.now) }
+{
+    if !has_names(address) {
+        return Err(AddressFault::BadName);
+    }
+    if !is_login(&address.login) {
+        return Err(AddressFault::BadLogin);
+    }
+    match address_text(alloc, address) {
+        Ok(written) if written.as_str() == text => Ok(()),
+        Ok(_) => Err(AddressFault::BadMember { number: 1 }),
+        Err(_) => Err(AddressFault::OutOfMemory),
     }
 }
 
@@ -60,12 +73,29 @@ fn address_in(alloc: Global, text: &str) -> Result<EtcdAddress, AddressFault> {
         return Err(AddressFault::BadName);
     };
     let (login, list) = login_in(alloc, list)?;
+    match log_of(alloc, list, name) {
+        Ok((members, name)) => Ok(EtcdAddress {
+            login,
+            members,
+            name,
+        }),
+        Err(fault) => {
+            drop(login);
+            Err(fault)
+        }
+    }
+}
+
+/// The members, and the log's name.
+fn log_of(alloc: Global, list: &str, name: &str) -> Result<(Vec<Member>, String), AddressFault> {
     let members = members_in(alloc, list)?;
-    Ok(EtcdAddress {
-        login,
-        members,
-        name: owned(alloc, name)?,
-    })
+    match owned(alloc, name) {
+        Ok(name) => Ok((members, name)),
+        Err(fault) => {
+            drop(members);
+            Err(fault)
+        }
+    }
 }
 
 /// Who logs in, and what stands behind that.
@@ -85,6 +115,16 @@ fn login_in(alloc: Global, list: &str) -> Result<(Option<Login>, &str), AddressF
 
 fn members_in(alloc: Global, list: &str) -> Result<Vec<Member>, AddressFault> {
     let mut members = Vec::new(alloc);
+    match add_members(alloc, &mut members, list) {
+        Ok(()) => Ok(members),
+        Err(fault) => {
+            drop(members);
+            Err(fault)
+        }
+    }
+}
+
+fn add_members(alloc: Global, members: &mut Vec<Member>, list: &str) -> Result<(), AddressFault> {
     for word in list.split(',') {
         if members.len() >= MOST_MEMBERS {
             return Err(AddressFault::TooManyMembers);
@@ -95,7 +135,7 @@ fn members_in(alloc: Global, list: &str) -> Result<Vec<Member>, AddressFault> {
             return Err(AddressFault::OutOfMemory);
         }
     }
-    Ok(members)
+    Ok(())
 }
 
 fn member_in(alloc: Global, word: &str, number: u64) -> Result<Member, AddressFault> {

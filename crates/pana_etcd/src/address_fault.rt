@@ -2,7 +2,7 @@ use std::error::Error;
 use std::fmt;
 
 /// Why a text is no address of a log in etcd.
-#[derive(Clone, Copy, Debug, PartialEq, Eq)]
+#[derive(Clone, Copy, Debug)]
 pub enum AddressFault {
     /// It doesn't begin with `etcd://`.
     NotEtcd,

@@ -1,7 +1,9 @@
 //! What the bodies of answers say.
-ghost use Rattle.std.specs.Prelude.{◌≡◌, ◌<◌, ◌+◌, ◌^◌, IfOk, IfSome, Option, length, map, option_map, option_copied};
+ghost use Rattle.std.specs.Prelude.{◌≡◌, ◌<◌, ◌+◌, ◌^◌, ◌==◌, ◌&&◌, [], IfErr, IfOk, IfSome, OnOk, Ok, Option, length, map, option_map, option_copied};
 ghost use Rattle.serde_json.specs.View.{view};
-ghost use Rattle.pana_etcd.specs.Answer.{FindsPage, FindsRecords, answer_said, bytes_in, flag_of, found_in, has_flag, has_header, has_list, has_none, is_answer, list_of, outcome_in, page_in, record_at, records_from, says_full};
+ghost use Rattle.std.specs.Str.{bytes_eq};
+ghost use Rattle.pana_etcd.specs.Key.{in_base64, key_of};
+ghost use Rattle.pana_etcd.specs.Answer.{FailsAt, FindsPage, FindsRecords, answer_said, bytes_in, flag_of, found_in, has_flag, has_header, has_list, has_none, is_answer, list_of, outcome_in, page_in, record_at, records_from, says_full};
 ghost use Rattle.pana_etcd.specs.Says.{Gives, Shows};
 
 use crate::key::key_text;
@@ -11,7 +13,7 @@ use base64::DecodeAllocError;
 use base64::engine::general_purpose::STANDARD;
 use pana_shared::{ReadFault, Record};
 use serde_json::Value;
-use std::alloc::Global;
+use std::alloc::{AllocError, Global};
 
 /// What a refusal says where etcd has no room for more.
 const NO_SPACE: &str = "etcdserver: mvcc: database space exceeded";
@@ -149,11 +151,34 @@ fn records_from(
     ensures { FindsRecords (λ records. records.items) result (records_from name.now number (map view kvs.now)) }
 {
     let mut records = Vec::new(alloc);
+    match push_records(alloc, &mut records, name, number, kvs) {
+        Ok(()) => Ok(records),
+        Err(fault) => {
+            drop(records);
+            Err(fault)
+        }
+    }
+}
+
+/// Puts the records under the keys of this number and the next ones into a list that is empty.
+fn push_records(
+    alloc: Global,
+    records: &mut Vec<Record>,
+    name: &str,
+    number: u64,
+    kvs: &[Value],
+) -> Result<(), ReadFault>
+    requires within { number < 2 ^ 62 }
+    requires empty { records.old.items ≡ [] }
+    ensures ok { OnOk result (records_from name.now number (map view kvs.now) ≡ Ok records.new.items) }
+    ensures err { IfErr result (λ fault. FailsAt fault (records_from name.now number (map view kvs.now))) }
+{
     for (index, kv) in kvs.iter().enumerate() {
         let number = number + index as u64;
         match record_at(alloc, name, number, kv) {
             Ok(record) => {
-                if records.push(record).is_err() {
+                if let Err(failed) = records.push(record) {
+                    drop(failed);
                     return Err(ReadFault::OutOfMemory);
                 }
             }
@@ -161,7 +186,7 @@ fn records_from(
             Err(TextFault::OutOfMemory) => return Err(ReadFault::OutOfMemory),
         }
     }
-    Ok(records)
+    Ok(())
 }
 
 /// The record under the key of a number.
@@ -174,14 +199,31 @@ fn record_at(alloc: Global, name: &str, number: u64, kv: &Value) -> Result<Recor
     };
     let value = bytes_in(alloc, kv, "value")?;
     let record = decode_value(alloc, value.as_slice())?;
-    let Ok(wanted) = key_text(alloc, name, number) else {
-        return Err(TextFault::OutOfMemory);
-    };
-    if key == wanted.as_str() && record.entry.number == number {
-        Ok(record)
-    } else {
-        Err(TextFault::Other)
+    match stands_at(alloc, name, number, key, &record) {
+        Ok(true) => Ok(record),
+        Ok(false) => {
+            drop(record);
+            Err(TextFault::Other)
+        }
+        Err(_) => {
+            drop(record);
+            Err(TextFault::OutOfMemory)
+        }
     }
+}
+
+/// Whether the key of a number is this one, and the record's entry has the number. Fails only where memory runs out.
+fn stands_at(
+    alloc: Global,
+    name: &str,
+    number: u64,
+    key: &str,
+    found: &Record,
+) -> Result<bool, AllocError>
+    ensures { IfOk result (λ stands. stands ≡ (bytes_eq key.now (in_base64 (key_of name.now number)) && (found.now.entry.number == number))) }
+{
+    let wanted = key_text(alloc, name, number)?;
+    Ok(key == wanted.as_str() && found.entry.number == number)
 }
 
 /// The bytes that a member has in base64.

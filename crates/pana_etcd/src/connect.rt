@@ -41,11 +41,21 @@ impl TcpConnect {
             address,
             Duration::from_millis(milliseconds),
         )?;
-        stream.set_nodelay(true)?;
-        stream.set_read_timeout(Some(Duration::from_millis(TICK)))?;
-        stream.set_write_timeout(Some(Duration::from_millis(TICK)))?;
-        Ok(stream)
+        match set_up(&stream) {
+            Ok(()) => Ok(stream),
+            Err(error) => {
+                drop(stream);
+                Err(error)
+            }
+        }
     }
+}
+
+/// Has calls of a stream wait for no longer than a tick.
+fn set_up(stream: &TcpStream) -> io::Result<()> {
+    stream.set_nodelay(true)?;
+    stream.set_read_timeout(Some(Duration::from_millis(TICK)))?;
+    stream.set_write_timeout(Some(Duration::from_millis(TICK)))
 }
 
 impl Connect for TcpConnect {

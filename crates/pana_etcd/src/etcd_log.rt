@@ -163,59 +163,93 @@ impl<C: Connect> EtcdLog<C> {
     fn ask_first(&mut self, until: u64, path: &str, body: &str) -> Result<Value, Miss> {
         let until = until.min(self.turn_ends());
         let mut link = self.take_link(until)?;
-        let Some(member) = self.members.get(self.first) else {
-            return Err(Miss::NotSent);
-        };
-        let Ok(host) = member_text(self.alloc, member) else {
-            return Err(Miss::NotSent);
-        };
-        self.log_in(until, &mut link, host.as_str())?;
-        let known = copy_of(self.alloc, &self.token)?;
-        let token = text_of(&known);
+        let answer = self.ask_over(&mut link, until, path, body);
+        if answer.is_ok() && link.is_kept() {
+            drop(self.link.replace(link));
+        } else {
+            drop(link);
+        }
+        answer
+    }
+
+    /// The answer of the member whose turn it is, over this connection to it.
+    fn ask_over(
+        &mut self,
+        link: &mut Link<C::Stream>,
+        until: u64,
+        path: &str,
+        body: &str,
+    ) -> Result<Value, Miss> {
+        let host = self.host()?;
+        self.log_in(link, until, host.as_str())?;
+        let reply = self.post(link, until, host.as_str(), path, body)?;
+        if reply.status == UNKNOWN {
+            self.token = None;
+        }
+        answer_in(self.alloc, &reply)
+    }
+
+    /// The reply to a request, with the token that is there so far.
+    fn post<'a>(
+        &'a self,
+        link: &mut Link<C::Stream>,
+        until: u64,
+        host: &'a str,
+        path: &'a str,
+        body: &'a str,
+    ) -> Result<Reply, Miss> {
+        let token = text_of(&self.token);
         let request = Request {
-            host: host.as_str(),
+            host,
             path,
             token,
             body,
         };
-        let Ok(reply) = link.post(self.alloc, &self.connect, until, &request) else {
-            return Err(Miss::Unanswered);
+        match link.post(self.alloc, &self.connect, until, &request) {
+            Ok(reply) => Ok(reply),
+            Err(_) => Err(Miss::Unanswered),
+        }
+    }
+
+    /// The host and the port of the member whose turn it is.
+    fn host(&self) -> Result<String, Miss> {
+        let Some(member) = self.members.get(self.first) else {
+            return Err(Miss::NotSent);
         };
-        if reply.status == UNKNOWN {
-            self.token = None;
+        match member_text(self.alloc, member) {
+            Ok(host) => Ok(host),
+            Err(_) => Err(Miss::NotSent),
         }
-        let answer = answer_in(self.alloc, &reply)?;
-        if link.is_kept() {
-            self.link = Some(link);
-        }
-        Ok(answer)
     }
 
     /// Asks the member for a token, where somebody is to log in who hasn't.
-    fn log_in(&mut self, until: u64, link: &mut Link<C::Stream>, host: &str) -> Result<(), Miss> {
-        let Some(login) = &self.login else {
-            return Ok(());
-        };
-        if self.token.is_some() {
+    fn log_in(&mut self, link: &mut Link<C::Stream>, until: u64, host: &str) -> Result<(), Miss> {
+        if self.login.is_none() || self.token.is_some() {
             return Ok(());
         }
+        let token = self.new_token(link, until, host)?;
+        self.token = Some(token);
+        Ok(())
+    }
+
+    /// The token that the member gives to who logs in.
+    fn new_token(
+        &self,
+        link: &mut Link<C::Stream>,
+        until: u64,
+        host: &str,
+    ) -> Result<String, Miss> {
+        let Some(login) = &self.login else {
+            return Err(Miss::NotSent);
+        };
         let (user, password) = (login.user.as_str(), login.password.as_str());
         let Ok(body) = login_body(self.alloc, user, password) else {
             return Err(Miss::NotSent);
         };
-        let unknown: Option<String> = None;
-        let token = text_of(&unknown);
-        let request = Request {
-            host,
-            path: LOGIN,
-            token,
-            body: body.as_str(),
-        };
-        let Ok(reply) = link.post(self.alloc, &self.connect, until, &request) else {
-            return Err(Miss::NotSent);
-        };
-        self.token = Some(token_in(self.alloc, &reply)?);
-        Ok(())
+        match self.post(link, until, host, LOGIN, body.as_str()) {
+            Ok(reply) => token_in(self.alloc, &reply),
+            Err(_) => Err(Miss::NotSent),
+        }
     }
 
     /// Some of the records behind the first so many; none where there is none.
@@ -229,7 +263,9 @@ impl<C: Connect> EtcdLog<C> {
         let Ok(answer) = self.ask(RANGE, body.as_str()) else {
             return Err(ReadFault::NoAnswer);
         };
-        read_page(self.alloc, self.name.as_str(), from + 1, &answer)
+        let page = read_page(self.alloc, self.name.as_str(), from + 1, &answer);
+        drop(answer);
+        page
     }
 
     /// What has come of a transaction that was refused for want of room: etcd may have carried it out all the same.
@@ -241,8 +277,11 @@ impl<C: Connect> EtcdLog<C> {
             return Appended::Unknown;
         };
         match self.ask(RANGE, body.as_str()) {
-            Ok(answer) if has_none(&answer) => Appended::Full,
-            Ok(answer) => what_stands(self.alloc, self.name.as_str(), number, &answer),
+            Ok(answer) => {
+                let settled = settled_by(self.alloc, self.name.as_str(), number, &answer);
+                drop(answer);
+                settled
+            }
             Err(_) => Appended::Unknown,
         }
     }
@@ -257,9 +296,14 @@ impl<C: Connect> EtcdLog<C> {
 
     /// The connection to the member whose turn it is: the one that is kept, or a new one.
     fn take_link(&mut self, until: u64) -> Result<Link<C::Stream>, Miss> {
-        if let Some(link) = self.link.take() {
-            return Ok(link);
+        match self.link.take() {
+            Some(link) => Ok(link),
+            None => self.new_link(until),
         }
+    }
+
+    /// A new connection to the member whose turn it is.
+    fn new_link(&self, until: u64) -> Result<Link<C::Stream>, Miss> {
         let Some(member) = self.members.get(self.first) else {
             return Err(Miss::NotSent);
         };
@@ -278,26 +322,26 @@ impl<C: Connect> EtcdLog<C> {
 
 /// The answer in a reply with status 200; any other is a refusal.
 fn answer_in(alloc: Global, reply: &Reply) -> Result<Value, Miss> {
-    if reply.status == 200 {
-        return match read_answer(alloc, reply.body.as_slice()) {
-            Ok(answer) => Ok(answer),
-            Err(_) => Err(Miss::Unanswered),
-        };
+    if reply.status != 200 {
+        return Err(refusal_in(alloc, reply));
     }
-    match value_said(alloc, reply.body.as_slice()) {
-        Ok(refusal) if says_full(&refusal) => Err(Miss::Full),
-        _ => Err(Miss::Unanswered),
+    match read_answer(alloc, reply.body.as_slice()) {
+        Ok(answer) => Ok(answer),
+        Err(_) => Err(Miss::Unanswered),
     }
 }
 
-/// The same token once more.
-fn copy_of(alloc: Global, token: &Option<String>) -> Result<Option<String>, Miss> {
-    let Some(token) = token else {
-        return Ok(None);
+/// What a refusal says.
+fn refusal_in(alloc: Global, reply: &Reply) -> Miss {
+    let Ok(refusal) = value_said(alloc, reply.body.as_slice()) else {
+        return Miss::Unanswered;
     };
-    match String::from_str(alloc, token.as_str()) {
-        Ok(copy) => Ok(Some(copy)),
-        Err(_) => Err(Miss::NotSent),
+    let is_full = says_full(&refusal);
+    drop(refusal);
+    if is_full {
+        Miss::Full
+    } else {
+        Miss::Unanswered
     }
 }
 
@@ -316,7 +360,13 @@ fn token_in(alloc: Global, reply: &Reply) -> Result<String, Miss> {
     let Ok(answer) = read_answer(alloc, reply.body.as_slice()) else {
         return Err(Miss::NotSent);
     };
-    let Some(token) = text_in(&answer, "token") else {
+    let token = token_said(alloc, &answer);
+    drop(answer);
+    token
+}
+
+fn token_said(alloc: Global, answer: &Value) -> Result<String, Miss> {
+    let Some(token) = text_in(answer, "token") else {
         return Err(Miss::NotSent);
     };
     match String::from_str(alloc, token) {
@@ -359,7 +409,11 @@ impl<C: Connect> SharedLog for EtcdLog<C> {
             return Appended::Unknown;
         };
         match self.ask(TXN, body.as_str()) {
-            Ok(answer) => outcome_of(self.alloc, self.name.as_str(), at + 1, &answer),
+            Ok(answer) => {
+                let outcome = outcome_of(self.alloc, self.name.as_str(), at + 1, &answer);
+                drop(answer);
+                outcome
+            }
             Err(Miss::Full) => self.settle(at + 1),
             Err(_) => Appended::Unknown,
         }
@@ -378,6 +432,18 @@ impl<C: Connect> SharedLog for EtcdLog<C> {
             Some(read_at) => self.connect.milliseconds().saturating_sub(read_at) >= DUE,
             None => true,
         }
+    }
+}
+
+/// What has come of an append from this number on that was refused, by the answer to the question for it.
+fn settled_by(alloc: Global, name: &str, number: u64, answer: &Value) -> Appended
+    requires { number < 2 ^ 62 }
+    ensures { HasSome result }
+{
+    if has_none(answer) {
+        Appended::Full
+    } else {
+        what_stands(alloc, name, number, answer)
     }
 }
 
@@ -404,8 +470,13 @@ fn what_stands(alloc: Global, name: &str, number: u64, answer: &Value) -> Append
     ensures stands { Stands name.now number (Some (view answer.now)) result }
     ensures some { HasSome result }
 {
-    match read_page(alloc, name, number, answer) {
-        Ok(page) if !page.is_empty() => Appended::Taken(page),
-        _ => Appended::Unknown,
+    let Ok(page) = read_page(alloc, name, number, answer) else {
+        return Appended::Unknown;
+    };
+    if page.is_empty() {
+        drop(page);
+        Appended::Unknown
+    } else {
+        Appended::Taken(page)
     }
 }

@@ -6,7 +6,7 @@ ghost use Rattle.pana_etcd.specs.Exchange.{request_text, token_line};
 
 use crate::connect::Connect;
 use bytes::BytesMut;
-use http1::{BodySize, Client, Event, Header, Limits};
+use http1::{BodySize, Client, Event, Header, Limits, WriteError};
 use httparse::spans::{EMPTY_HEADER_SPAN, ResponseSpans};
 use std::alloc::{AllocError, Global};
 use std::io::{self, ErrorKind, Read, Write};
@@ -24,7 +24,7 @@ const MOST_CALLS: u64 = 1 << 32;
 const MOST_HEADERS: usize = 64;
 
 /// An exchange that has no answer. The request may have reached the member.
-#[derive(Clone, Copy, Debug, PartialEq, Eq)]
+#[derive(Clone, Copy)]
 pub(crate) struct NoReply;
 
 /// A connection to a member. Once an exchange has failed it is to be dropped.
@@ -44,7 +44,7 @@ pub(crate) struct Reply {
 }
 
 /// What comes after a step of reading.
-#[derive(Clone, Copy, PartialEq, Eq)]
+#[derive(Clone, Copy)]
 enum Next {
     /// There may be more in what was read.
     Step,
@@ -101,13 +101,20 @@ impl<S: Read + Write> Link<S> {
         request: &Request<'_>,
     ) -> Result<Reply, NoReply> {
         let bytes = request_bytes(alloc, &mut self.client, request)?;
-        send(clock, until, &mut self.stream, bytes.as_slice())?;
+        let sent = send(clock, until, &mut self.stream, bytes.as_slice());
+        drop(bytes);
+        sent?;
         let mut reply = Reply {
             status: 0,
             body: Vec::new(alloc),
         };
-        self.receive(clock, until, &mut reply)?;
-        Ok(reply)
+        match self.receive(clock, until, &mut reply) {
+            Ok(()) => Ok(reply),
+            Err(NoReply) => {
+                drop(reply);
+                Err(NoReply)
+            }
+        }
     }
 
     fn receive<C: Connect>(
@@ -204,6 +211,31 @@ fn request_bytes(
 
 /// What the connection writes for a request.
 fn written(alloc: Global, client: &mut Client, request: &Request<'_>) -> Result<Vec<u8>, NoReply> {
+    let mut bytes = Vec::new(alloc);
+    match write(client, &mut bytes, request) {
+        Ok(()) => Ok(bytes),
+        Err(_) => {
+            drop(bytes);
+            Err(NoReply)
+        }
+    }
+}
+
+fn write(
+    client: &mut Client,
+    bytes: &mut Vec<u8>,
+    request: &Request<'_>,
+) -> Result<(), WriteError> {
+    write_head(client, bytes, request)?;
+    client.write_data(bytes, request.body.as_bytes())?;
+    client.write_end(bytes, &[])
+}
+
+fn write_head(
+    client: &mut Client,
+    bytes: &mut Vec<u8>,
+    request: &Request<'_>,
+) -> Result<(), WriteError> {
     let host = Header {
         name: b"host",
         value: request.host.as_bytes(),
@@ -213,30 +245,21 @@ fn written(alloc: Global, client: &mut Client, request: &Request<'_>) -> Result<
         value: b"application/json",
     };
     let path = request.path.as_bytes();
-    let body = request.body.as_bytes();
-    let size = BodySize::Known(body.len() as u64);
-    let mut bytes = Vec::new(alloc);
-    let begun = match request.token {
+    let size = BodySize::Known(request.body.len() as u64);
+    match request.token {
         Some(token) => {
             let authorization = Header {
                 name: b"authorization",
                 value: token.as_bytes(),
             };
             let headers = [host, authorization, content_type];
-            client.write_request(&mut bytes, b"POST", path, &headers, size)
+            client.write_request(bytes, b"POST", path, &headers, size)
         }
         None => {
             let headers = [host, content_type];
-            client.write_request(&mut bytes, b"POST", path, &headers, size)
+            client.write_request(bytes, b"POST", path, &headers, size)
         }
-    };
-    if begun.is_err()
-        || client.write_data(&mut bytes, body).is_err()
-        || client.write_end(&mut bytes, &[]).is_err()
-    {
-        return Err(NoReply);
     }
-    Ok(bytes)
 }
 
 /// The text of a request. Fails only where memory runs out.

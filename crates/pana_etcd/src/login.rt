@@ -1,5 +1,5 @@
 /// Who logs in to etcd.
-#[derive(PartialEq, Eq, Drop)]
+#[derive(Drop)]
 pub struct Login {
     pub user: String,
     pub password: String,

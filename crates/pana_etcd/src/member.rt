@@ -5,7 +5,7 @@ ghost use Rattle.pana_etcd.specs.Member.{member_text};
 use std::alloc::{AllocError, Global};
 
 /// A member of a cluster: the host and the port where it answers its clients.
-#[derive(Debug, PartialEq, Eq, Drop)]
+#[derive(Drop)]
 pub struct Member {
     pub host: String,
     pub port: u16,

@@ -1,5 +1,5 @@
 /// Why a text isn't read, or isn't written.
-#[derive(Clone, Copy, Debug, PartialEq, Eq)]
+#[derive(Clone, Copy)]
 pub enum TextFault {
     /// It isn't the text of what it was to be.
     Other,

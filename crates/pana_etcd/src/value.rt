@@ -1,8 +1,8 @@
 //! Records as values of keys: lines of a dump, each with one entry and two members more.
-ghost use Rattle.std.specs.Prelude.{◌≡◌, IfOk, IsTrue, option_map};
+ghost use Rattle.std.specs.Prelude.{◌≡◌, IfOk, IsTrue, Some, option_map};
 ghost use Rattle.serde_json.specs.View.{view};
 ghost use Rattle.pana_etcd.specs.Says.{Gives, Shows};
-ghost use Rattle.pana_etcd.specs.Value.{data_said, entry_said, one_entry, text_in, text_said, turn_in, value_says, writer_in};
+ghost use Rattle.pana_etcd.specs.Value.{data_said, entry_said, one_entry, record_of, text_in, text_said, turn_in, value_says, writer_in};
 
 use crate::text_fault::TextFault;
 use hex::FromHex;
@@ -40,7 +40,9 @@ fn says(alloc: Global, text: &[u8], wanted: &Record) -> Result<bool, TextFault>
     ensures { IfOk result (λ says. IsTrue says → value_says text.now ≡ Some wanted.now) }
 {
     let read = decode_value(alloc, text)?;
-    Ok(is_same(&read, wanted))
+    let says = is_same(&read, wanted);
+    drop(read);
+    Ok(says)
 }
 
 fn is_same(read: &Record, wanted: &Record) -> bool
@@ -51,14 +53,21 @@ fn is_same(read: &Record, wanted: &Record) -> bool
 
 /// The text that is to say the record.
 fn text_of(alloc: Global, record: &Record) -> Result<Vec<u8>, TextFault> {
-    let tail = tail_of(alloc, record)?;
     let Ok(mut line) = OpenLine::new(alloc) else {
         return Err(TextFault::OutOfMemory);
     };
+    let text = text_by(alloc, &mut line, record);
+    drop(line);
+    text
+}
+
+/// The same, which an open line is filled with first.
+fn text_by(alloc: Global, line: &mut OpenLine, record: &Record) -> Result<Vec<u8>, TextFault> {
     if line.add(alloc, true, &record.entry, None).is_err() {
         return Err(TextFault::OutOfMemory);
     }
     line.close();
+    let tail = tail_of(alloc, record)?;
     if tail.len() > LONGEST - line.len() {
         return Err(TextFault::Other);
     }
@@ -90,18 +99,34 @@ pub fn decode_value(alloc: Global, text: &[u8]) -> Result<Record, TextFault>
     ensures { Gives result (value_says text.now) }
 {
     let entry = entry_said(alloc, text)?;
-    let value = value_said(alloc, text)?;
-    let Some(writer) = writer_in(&value) else {
-        return Err(TextFault::Other);
-    };
-    let Some(turn) = turn_in(&value) else {
-        return Err(TextFault::Other);
-    };
-    Ok(Record {
-        entry,
-        writer,
-        turn,
-    })
+    match value_said(alloc, text) {
+        Ok(value) => {
+            let (writer, turn) = (writer_in(&value), turn_in(&value));
+            drop(value);
+            record_of(entry, writer, turn)
+        }
+        Err(fault) => {
+            drop(entry);
+            Err(fault)
+        }
+    }
+}
+
+/// The record of an entry, if its writer and its turn are known.
+fn record_of(entry: Entry, writer: Option<u64>, turn: Option<u64>) -> Result<Record, TextFault>
+    ensures { Gives result (record_of entry writer turn) }
+{
+    match (writer, turn) {
+        (Some(writer), Some(turn)) => Ok(Record {
+            entry,
+            writer,
+            turn,
+        }),
+        _ => {
+            drop(entry);
+            Err(TextFault::Other)
+        }
+    }
 }
 
 /// The one entry of a line.
@@ -120,9 +145,12 @@ fn one_entry(entries: EntryList) -> Result<Entry, TextFault>
 {
     let mut entries = entries.into_vec();
     if entries.len() > 1 {
+        drop(entries);
         return Err(TextFault::Other);
     }
-    match entries.pop() {
+    let last = entries.pop();
+    drop(entries);
+    match last {
         Some(entry) => Ok(entry),
         None => Err(TextFault::Other),
     }

@@ -1,8 +1,12 @@
 -- The changes that reports make leave what is made of each row.
-use Rattle.pana_family.proofs.Words.{◌≡◌, ◌≢◌, ℕ, ◌<◌, ◌+◌, Bool, true, false, cond, ◌==◌, List, [], ◌∷◌, ◌++◌, filter_map, length, take, drop, nat_lt, Option, Some, None, refl, sym, ap, subst, ◌∙◌}
+use Rattle.pana_family.proofs.Words.{◌≡◌, ◌≢◌, ℕ, ◌<◌, ◌+◌, Bool, true, false, cond, ◌==◌, List, [], ◌∷◌, ◌++◌, filter_map, length, take, drop, nat_lt, IfSome, Option, Some, None, refl, sym, ap, subst, ◌∙◌}
 use Rattle.pana_family.proofs.Words.{inl, inr, arith, get_or, zero, suc, ne_eqb, append-nil, append_assoc, at_drop_more, take_more, nat_tests, Event, StampRow, Duplicate, Edit, Touch, Plan, Exchange}
 use Rattle.pana_family.proofs.Words.{In, IsRising, AreBefore, dropped, put_back, renewed, row, exchanged_all, with_event, with_touch, first_part, made, reported_rows, restamped, second_part, updated}
-use Rattle.pana_family.proofs.Words.{updated_stamp, IsRowOf, planned, cons_option, le-ltb, filter_map-append, exchanged}
+use Rattle.pana_family.proofs.Words.{updated_stamp, IsRowOf, planned, cons_option, option_to_list, le-ltb, filter_map-append, exchanged}
+use Rattle.pana_family.specs.declared.settling.Fate.{Fate}
+use Rattle.pana_family.specs.declared.settling.Fate.TheVariants.{Stays, Goes, Becomes}
+use Rattle.pana_family.specs.inner.Exchanging.{AddsPlanned, came_behind, fated}
+use Rattle.pana_family.specs.inner.Making.{left_of}
 use Rattle.pana_family.proofs.{Members.above_low, Members.one_row, Places.dropped_none, Places.put_back_later, Sums.last_above, Sums.rising_take, Images.in_made}
 
 -- One row changes.
@@ -131,3 +135,21 @@ one_becomes g rows i r x named up within read is =
     let m = next_is g rows i r named up within read in
     ap (put_back x) m.before ∙ put_at x r (filter_map g (take i rows)) (drop (i + 1) rows) (named r x is) (λ q j. omega (arith, m.less q j, named r x is))
     ∙ sym (m.after ∙ ap (λ (o : Option StampRow). (filter_map g (take i rows) ++ cons_option o []) ++ drop (i + 1) rows) is ∙ append_assoc (filter_map g (take i rows)) (x ∷ []) (drop (i + 1) rows))
+
+-- what becomes of the row at i is added
+pub one_added : (g : StampRow → Option StampRow) (rows : List StampRow) (i : ℕ) (r : StampRow) (old new : List Exchange) → ((q x : StampRow) → g q ≡ Some x → x.copy ≡ q.copy) → IsRising 0 rows → i < length rows → r ≡ get_or rows i r
+    → AddsPlanned r (g r) old new → exchanged_all old rows ≡ halfway g rows i → exchanged_all new rows ≡ halfway g rows (i + 1)
+one_added g rows i r old new named up within read added was = added.made rows ∙ ap (fated r.copy added.fate) was ∙ next added.fate added.is
+  where
+    next : (fate : Fate) → left_of r fate ≡ g r → fated r.copy fate (halfway g rows i) ≡ halfway g rows (i + 1)
+    next Stays is = one_stays g rows i r named up within read (sym is)
+    next Goes is = one_goes g rows i r named up within read (sym is)
+    next (Becomes x) is = one_becomes g rows i r x named up within read (sym is)
+
+-- a row with a number above all comes at the end
+pub comes_last : (n : ℕ) (plan : Plan) (rows : List StampRow) (came : Option StampRow) → AreBefore n rows → IfSome came (λ row. row.copy ≡ n)
+    → came_behind came (filter_map (planned n plan rows) rows) ≡ filter_map (planned n plan rows) rows ++ option_to_list came
+comes_last n plan rows None before named = sym (append-nil (filter_map (planned n plan rows) rows))
+comes_last n plan rows (Some x) before named =
+    put_above x (filter_map (planned n plan rows) rows)
+    (λ q i. let m = in_made (planned n plan rows) rows q i in omega (arith, (before m.0 m.1).0, planned_named n plan rows m.0 q m.2, named))

@@ -2,3 +2,4 @@
 pub mod Comparing
 pub mod Making
 pub mod Uniting
+pub mod Exchanging

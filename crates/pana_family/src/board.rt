@@ -8,7 +8,7 @@ use pana_rel::PairTable;
 use std::alloc::{AllocError, Global};
 
 /// A copy on a board: how many other copies of its family are newer than it, older, equal and in conflict with it.
-#[derive(Debug, PartialEq, Eq, Drop)]
+#[derive(Drop)]
 pub struct CopyCounts {
     pub copy: u64,
     pub newer: u64,
@@ -18,7 +18,7 @@ pub struct CopyCounts {
 }
 
 /// How the copies of a family relate to each other.
-#[derive(Debug, Drop)]
+#[derive(Drop)]
 pub struct FamilyBoard {
     /// A row for each copy, by rising number.
     pub rows: PlainList<CopyCounts>,

@@ -1,9 +1,9 @@
 //! A family: the living copies of one file, and what a report makes of them.
 #![tactic(auto, unfolding(crate::specs::View::IsPrepared))]
 
-ghost use Rattle.std.specs.Prelude.{◌≡◌, ◌≤◌, [], ◌∷◌, length, IfOk, OnOk, OnErr, IfErr, IfSome, Some, None};
+ghost use Rattle.std.specs.Prelude.{◌≡◌, ◌+◌, ◌≤◌, [], ◌∷◌, length, IfOk, OnOk, OnErr, IfErr, IfSome, Some, None};
 ghost use Rattle.pana_family.specs.declared.fault.FamilyFault.{FamilyFault as Fault};
-ghost use Rattle.pana_family.specs.{Rows.AreBefore, Rows.seed_row, Kept.IsKept, Paired.ArePaired, Change.after, Change.Fits, Change.IsRoomier};
+ghost use Rattle.pana_family.specs.{Rows.AreBefore, Rows.copy_rows, Rows.seed_row, Kept.IsKept, Paired.ArePaired, Change.after, Change.Fits, Change.IsRoomier};
 ghost use Rattle.pana_family.specs.{After.reported_rows, Report.IsMade};
 ghost use Rattle.pana_family.specs.View.{NamesLiving, fault_of, IsFaultOfTwo, IsPrepared, IsPreparedBehind, TakesBack};
 
@@ -139,6 +139,19 @@ impl Family {
         }
     }
 
+    /// Takes the memory for so many more rows, and for a copy more.
+    fn reserve(&mut self, count: usize) -> Result<(), AllocError>
+        ensures rows { self.new.rows ≡ self.old.rows }
+        ensures room { IsRoomier self.old.room self.new.room }
+        ensures more { OnOk result (length self.new.rows + count ≤ self.new.room.rows) }
+        ensures copy { OnOk result (length (copy_rows self.new.rows) + 1 ≤ self.new.room.copies) }
+        ensures was { IsKept self.old.rows }
+    {
+        let _ = self.pairs.copies();
+        self.items.reserve(count)?;
+        self.pairs.reserve()
+    }
+
     /// What a report changes, with the entry as its number. Nothing is changed yet, and once this succeeded `apply` takes
     /// no memory.
     ///
@@ -160,11 +173,14 @@ impl Family {
         if let Some(fault) = self.fault(report) {
             return Err(fault);
         }
-        let _ = self.pairs.copies();
         let change = report_change(self.alloc, &self.items, entry, report)?;
-        self.items.reserve(room_of(&change))?;
-        self.pairs.reserve()?;
-        Ok(change)
+        match self.reserve(room_of(&change)) {
+            Ok(()) => Ok(change),
+            Err(_) => {
+                drop(change);
+                Err(FamilyFault::OutOfMemory)
+            }
+        }
     }
 
     /// Makes a change, which a report made or which takes one back, and returns the one that takes it back. Takes no memory.
@@ -237,7 +253,10 @@ impl Family {
         let change = self.take_back(back);
         match behind {
             Ok(behind) => Ok((change, behind)),
-            Err(fault) => Err(fault),
+            Err(fault) => {
+                drop(change);
+                Err(fault)
+            }
         }
     }
 

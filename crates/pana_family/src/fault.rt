@@ -25,12 +25,12 @@ impl fmt::Display for FamilyFault {
     ghost output = { λ fault. Some (fault_text fault) };
 
     fn fmt<W: fmt::Write>(&self, f: &mut fmt::Formatter<W>) -> fmt::Result {
-        match self {
-            FamilyFault::SameCopy => f.write_str("the two copies are one"),
-            FamilyFault::FamilyFull => f.write_str("the family has 256 copies"),
-            FamilyFault::TooDeep => f.write_str("the source's id is too deep to be divided"),
-            FamilyFault::OutOfMemory => f.write_str("out of memory"),
-        }
+        f.write_str(match self {
+            FamilyFault::SameCopy => "the two copies are one",
+            FamilyFault::FamilyFull => "the family has 256 copies",
+            FamilyFault::TooDeep => "the source's id is too deep to be divided",
+            FamilyFault::OutOfMemory => "out of memory",
+        })
     }
 }
 

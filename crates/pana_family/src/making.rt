@@ -74,7 +74,14 @@ pub fn updated_stamp(alloc: Global, stamp: Stamp) -> Result<Stamp, AllocError>
     ensures { IfOk result (λ new. new ≡ updated_stamp stamp) }
 {
     let mut stamp = stamp;
-    let event = updated_event(alloc, &stamp)?;
-    let _ = stamp.replace_event(event);
-    Ok(stamp)
+    match updated_event(alloc, &stamp) {
+        Ok(event) => {
+            drop(stamp.replace_event(event));
+            Ok(stamp)
+        }
+        Err(fault) => {
+            drop(stamp);
+            Err(fault)
+        }
+    }
 }

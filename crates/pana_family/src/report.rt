@@ -1,7 +1,7 @@
 //! What is reported of a family.
 
 /// A report of a family's copies. The entry that records it gives its number.
-#[derive(Clone, Copy, Debug, PartialEq, Eq)]
+#[derive(Clone, Copy)]
 pub enum FamilyReport {
     /// A new copy beside its source.
     Duplicate(u64),

@@ -5,7 +5,7 @@ ghost use Rattle.pana_id.specs.Id.{is_zero};
 ghost use Rattle.pana_event.specs.{Event.greatest, Order.is_leq};
 ghost use Rattle.pana_family.specs.After.{first_part, joined_stamp, parcel_row, reported_rows, second_part, shared};
 ghost use Rattle.pana_family.specs.{Rows.row_in, Rows.AreBefore, Change.after, Kept.IsKept, Report.CanReport, Report.IsMade, Report.IsReady};
-ghost use Rattle.pana_family.specs.declared.report.FamilyReport.TheVariants.{Duplicate, Edit, Reconcile, Remove};
+ghost use Rattle.pana_family.specs.declared.report.FamilyReport.TheVariants.{Duplicate, Edit, Merge, Reconcile, Remove};
 
 use crate::change::{Change, Exchange};
 use crate::making::{halves, joined_stamp, updated_event, updated_stamp};
@@ -87,8 +87,43 @@ fn share_change(
     ensures { IfOk result (λ change. after change rows.now ≡ filter_map (shared entry a b (first_part whole.now) (second_part whole.now) rows.now) rows.now ++ []) }
 {
     let (first, second) = halves(alloc, whole)?;
-    let change = settle_change(alloc, rows, entry, &Plan::Share(a, b, first, second), None)?;
-    Ok(change)
+    let plan = Plan::Share(a, b, first, second);
+    settle_change(alloc, rows, entry, plan, None)
+}
+
+/// Two copies learn what either knows.
+fn reconcile_change(
+    alloc: Global,
+    rows: &[StampRow],
+    entry: u64,
+    a: u64,
+    b: u64,
+) -> Result<Change, AllocError>
+    requires { IsReady entry (Reconcile a b) rows.now }
+    ensures { IfOk result (λ change. after change rows.now ≡ reported_rows entry (Reconcile a b) rows.now) }
+{
+    let whole = both_stamp(alloc, rows, entry, a, b)?;
+    let change = share_change(alloc, rows, entry, a, b, &whole);
+    drop(whole);
+    change
+}
+
+/// Two copies learn what either knows, and an update.
+fn merge_change(
+    alloc: Global,
+    rows: &[StampRow],
+    entry: u64,
+    a: u64,
+    b: u64,
+) -> Result<Change, AllocError>
+    requires { IsReady entry (Merge a b) rows.now }
+    ensures { IfOk result (λ change. after change rows.now ≡ reported_rows entry (Merge a b) rows.now) }
+{
+    let both = both_stamp(alloc, rows, entry, a, b)?;
+    let whole = updated_stamp(alloc, both)?;
+    let change = share_change(alloc, rows, entry, a, b, &whole);
+    drop(whole);
+    change
 }
 
 /// The parcel that a removed copy leaves to its heir, with the entry as its number, unless the heir knows all that it does.
@@ -121,10 +156,15 @@ fn bequeath_change(
     ensures { IfOk result (λ change. after change rows.now ≡ reported_rows entry (Remove copy (Some heir)) rows.now) }
 {
     let row = row_of(rows, heir);
-    let came = parcel_left(alloc, entry, row_of(rows, copy), row)?;
     let event = row.stamp.event_tree().copy_of(alloc)?;
-    let change = settle_change(alloc, rows, entry, &Plan::Bequeath(copy, heir, event), came)?;
-    Ok(change)
+    let plan = Plan::Bequeath(copy, heir, event);
+    match parcel_left(alloc, entry, row_of(rows, copy), row) {
+        Ok(came) => settle_change(alloc, rows, entry, plan, came),
+        Err(fault) => {
+            drop(plan);
+            Err(fault)
+        }
+    }
 }
 
 #[tactic(auto, using(crate::proofs::Planned::touch_exact))]
@@ -140,22 +180,11 @@ fn exact_change(
     match report {
         FamilyReport::Duplicate(source) => duplicate_change(alloc, rows, entry, source),
         FamilyReport::Edit(copy) => edit_change(alloc, rows, entry, copy),
-        FamilyReport::Reconcile(a, b) => {
-            let whole = both_stamp(alloc, rows, entry, a, b)?;
-            share_change(alloc, rows, entry, a, b, &whole)
+        FamilyReport::Reconcile(a, b) => reconcile_change(alloc, rows, entry, a, b),
+        FamilyReport::Merge(a, b) => merge_change(alloc, rows, entry, a, b),
+        FamilyReport::Remove(copy, None) => {
+            settle_change(alloc, rows, entry, Plan::Lose(copy), None)
         }
-        FamilyReport::Merge(a, b) => {
-            let both = both_stamp(alloc, rows, entry, a, b)?;
-            let whole = updated_stamp(alloc, both)?;
-            share_change(alloc, rows, entry, a, b, &whole)
-        }
-        FamilyReport::Remove(copy, None) => settle_change(
-            alloc,
-            rows,
-            entry,
-            &Plan::Lose(copy),
-            None,
-        ),
         FamilyReport::Remove(copy, Some(heir)) => bequeath_change(alloc, rows, entry, copy, heir),
         FamilyReport::Touch(copy) => Ok(Change::Touch(copy, entry)),
     }

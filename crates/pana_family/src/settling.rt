@@ -1,10 +1,12 @@
 //! Settling copies: what becomes of each row when copies get the ids of the parcels that end.
-ghost use Rattle.std.specs.Prelude.{◌≡◌, ◌++◌, Some, filter_map, IfOk, IfSome};
+ghost use Rattle.std.specs.Prelude.{◌≡◌, ◌++◌, List, Some, filter_map, IfOk, IfSome, OnOk};
 ghost use Rattle.std.specs.Option.{option_to_list};
 ghost use Rattle.pana_id.specs.Id.{sum_of, SharesNoPoint};
-ghost use Rattle.pana_family.specs.{Rows.with_ids, Rows.AreBefore, Rows.AreSound, Table.In, Kept.IsKept, Change.after, Change.exchanged_all};
+ghost use Rattle.pana_family.specs.declared.row.StampRow.{StampRow as OfRow};
+ghost use Rattle.pana_family.specs.{Rows.stamp, Rows.with_ids, Rows.AreBefore, Rows.AreSound, Table.In, Kept.IsKept, Change.after, Change.exchanged_all};
 ghost use Rattle.pana_family.specs.After.{bequeathed, ends, is_bound, lost, restamped, settled, shared};
 ghost use Rattle.pana_family.specs.inner.Making.{CanGather, CanPlan, left_of, passed_row, planned};
+ghost use Rattle.pana_family.specs.inner.Exchanging.{AddsPlanned, came_behind};
 
 use crate::change::{Change, Exchange};
 use crate::making::copy_of;
@@ -53,14 +55,16 @@ fn ends(row: &StampRow, from: Option<u64>, copy: u64, event: &EventTree) -> bool
     (is_bound(row, from) || is_held(row, copy)) && row.stamp.event_tree().leq(event)
 }
 
-fn sum(alloc: Global, first: &IdTree, second: &IdTree) -> Result<IdTree, AllocError>
-    requires { SharesNoPoint first.now second.now }
-    ensures { IfOk result (λ whole. whole ≡ sum_of first.now second.now) }
+fn sum(alloc: Global, first: IdTree, second: &IdTree) -> Result<IdTree, AllocError>
+    requires { SharesNoPoint first second.now }
+    ensures { IfOk result (λ whole. whole ≡ sum_of first second.now) }
 {
-    match IdTree::sum(alloc, first, second) {
+    let whole = match IdTree::sum(alloc, &first, second) {
         Ok(id) => Ok(id),
         Err(_) => Err(AllocError),
-    }
+    };
+    drop(first);
+    whole
 }
 
 /// The id of a stamp for a copy, with those of the rows that end.
@@ -79,7 +83,7 @@ fn gathered(
     let mut id = copy_of(alloc, stamp.id())?;
     for other in rows {
         if ends(other, from, copy, stamp.event_tree()) {
-            id = sum(alloc, &id, other.stamp.id())?;
+            id = sum(alloc, id, other.stamp.id())?;
         }
     }
     Ok(id)
@@ -97,23 +101,36 @@ pub fn restamped(row: &StampRow, stamp: Stamp, touch: u64) -> StampRow
     }
 }
 
-/// A copy's row once it has this stamp and is settled among these rows.
-fn settled_row(
+/// The stamp of this id that knows the event.
+fn stamp_of(alloc: Global, id: IdTree, event: &EventTree) -> Result<Stamp, AllocError>
+    ensures { IfOk result (λ new. new ≡ stamp id event.now) }
+{
+    match event.copy_of(alloc) {
+        Ok(event) => Ok(Stamp::new(id, event)),
+        Err(fault) => {
+            drop(id);
+            Err(fault)
+        }
+    }
+}
+
+/// What becomes of a copy's row that has this stamp and is settled among these rows.
+fn settled_fate(
     alloc: Global,
     rows: &[StampRow],
     row: &StampRow,
     from: Option<u64>,
     stamp: &Stamp,
     touch: u64,
-) -> Result<StampRow, AllocError>
+) -> Result<Fate, AllocError>
     requires kept { IsKept rows.now }
     requires sound { AreSound rows.now }
     requires own { CanGather from rows.now row.now.copy stamp.now }
-    ensures { IfOk result (λ new. new ≡ settled from rows.now stamp.now touch row.now) }
+    ensures { IfOk result (λ fate. left_of row.now fate ≡ Some (settled from rows.now stamp.now touch row.now)) }
 {
     let id = gathered(alloc, rows, from, row.copy, stamp)?;
-    let event = stamp.event_tree().copy_of(alloc)?;
-    Ok(restamped(row, Stamp::new(id, event), touch))
+    let new = stamp_of(alloc, id, stamp.event_tree())?;
+    Ok(Fate::Becomes(restamped(row, new, touch)))
 }
 
 /// What becomes of a row when two copies have parts of a stamp and are settled.
@@ -134,12 +151,10 @@ fn shared_fate(
     ensures { IfOk result (λ fate. left_of row.now fate ≡ shared entry a b first.now second.now rows.now row.now) }
 {
     if row.copy == a {
-        let new = settled_row(alloc, rows, row, None, first, entry)?;
-        return Ok(Fate::Becomes(new));
+        return settled_fate(alloc, rows, row, None, first, entry);
     }
     if row.copy == b {
-        let new = settled_row(alloc, rows, row, None, second, entry)?;
-        return Ok(Fate::Becomes(new));
+        return settled_fate(alloc, rows, row, None, second, entry);
     }
     if ends(row, None, a, first.event_tree()) || ends(row, None, b, second.event_tree()) {
         Ok(Fate::Goes)
@@ -185,8 +200,7 @@ fn bequeathed_fate(
     ensures { IfOk result (λ fate. left_of row.now fate ≡ bequeathed copy heir event.now rows.now row.now) }
 {
     if row.copy == heir {
-        let new = settled_row(alloc, rows, row, Some(copy), &row.stamp, row.touch)?;
-        return Ok(Fate::Becomes(new));
+        return settled_fate(alloc, rows, row, Some(copy), &row.stamp, row.touch);
     }
     if row.copy == copy || ends(row, Some(copy), heir, event) {
         return Ok(Fate::Goes);
@@ -217,6 +231,28 @@ fn planned_fate(
     }
 }
 
+/// Adds the exchange that leaves of the row what becomes of it by the plan, if that is another.
+fn add_exchange(
+    alloc: Global,
+    rows: &[StampRow],
+    row: &StampRow,
+    entry: u64,
+    plan: &Plan,
+    news: &mut SmallVec<Exchange, 2>,
+) -> Result<(), AllocError>
+    requires kept { IsKept rows.now }
+    requires sound { AreSound rows.now }
+    requires here { In row.now rows.now }
+    requires can { CanPlan plan.now rows.now }
+    ensures { OnOk result (AddsPlanned row.now (planned entry plan.now rows.now row.now) news.old.items news.new.items) }
+{
+    match planned_fate(alloc, rows, row, entry, plan)? {
+        Fate::Stays => Ok(()),
+        Fate::Goes => Ok(news.push(Exchange::Take(row.copy))?),
+        Fate::Becomes(new) => Ok(news.push(Exchange::Put(new))?),
+    }
+}
+
 /// The exchanges that leave of each row what becomes of it by the plan.
 fn exchanges(
     alloc: Global,
@@ -231,13 +267,24 @@ fn exchanges(
 {
     let mut news = SmallVec::new(alloc);
     for row in rows {
-        match planned_fate(alloc, rows, row, entry, plan)? {
-            Fate::Stays => {}
-            Fate::Goes => news.push(Exchange::Take(row.copy))?,
-            Fate::Becomes(new) => news.push(Exchange::Put(new))?,
-        }
+        add_exchange(alloc, rows, row, entry, plan, &mut news)?;
     }
     Ok(news)
+}
+
+/// The change of these exchanges, and behind them the row that comes, if one does.
+#[tactic(auto, using(crate::proofs::Planned::exchanged_more))]
+fn with_row(news: SmallVec<Exchange, 2>, came: Option<StampRow>) -> Result<Change, AllocError>
+    ensures { IfOk result (λ change. (rows : List OfRow) → after change rows ≡ came_behind came (exchanged_all news.items rows)) }
+{
+    match came {
+        Some(row) => {
+            let mut news = news;
+            news.push(Exchange::Put(row))?;
+            Ok(Change::Rows(news))
+        }
+        None => Ok(Change::Rows(news)),
+    }
 }
 
 /// The change that leaves of each row what becomes of it by the plan, and behind them the row that comes, if one does.
@@ -245,21 +292,25 @@ pub fn settle_change(
     alloc: Global,
     rows: &[StampRow],
     entry: u64,
-    plan: &Plan,
+    plan: Plan,
     came: Option<StampRow>,
 ) -> Result<Change, AllocError>
     requires kept { IsKept rows.now }
     requires sound { AreSound rows.now }
-    requires can { CanPlan plan.now rows.now }
+    requires can { CanPlan plan rows.now }
     requires new { AreBefore entry rows.now }
     requires came { IfSome came (λ row. row.copy ≡ entry) }
-    ensures { IfOk result (λ change. after change rows.now ≡ filter_map (planned entry plan.now rows.now) rows.now ++ option_to_list came) }
+    ensures { IfOk result (λ change. after change rows.now ≡ filter_map (planned entry plan rows.now) rows.now ++ option_to_list came) }
 {
-    let mut news = exchanges(alloc, rows, entry, plan)?;
-    if let Some(row) = came {
-        news.push(Exchange::Put(row))?;
+    let news = exchanges(alloc, rows, entry, &plan);
+    drop(plan);
+    match news {
+        Ok(news) => with_row(news, came),
+        Err(fault) => {
+            drop(came);
+            Err(fault)
+        }
     }
-    Ok(Change::Rows(news))
 }
 
 /// A parcel with this number and touch, which has the row's stamp and which the heir holds.
@@ -273,11 +324,11 @@ pub fn parcel_row(
     ensures { IfOk result (λ parcel. parcel ≡ record { copy = number; holder = Some heir; stamp = row.now.stamp; touch = touch }) }
 {
     let id = copy_of(alloc, row.stamp.id())?;
-    let event = row.stamp.event_tree().copy_of(alloc)?;
+    let stamp = stamp_of(alloc, id, row.stamp.event_tree())?;
     Ok(StampRow {
         copy: number,
         holder: Some(heir),
-        stamp: Stamp::new(id, event),
+        stamp,
         touch,
     })
 }

@@ -36,28 +36,60 @@ pub struct ReadingWishes<'a> {
 /// What stands against the folders, if something does: one is no folder, or lies within another. A folder that isn't there is
 /// left to the scan.
 pub fn fault_of_roots(rt: &HostRuntime, roots: &[Root<'_>]) -> Result<Option<String>, AllocError> {
-    let alloc = rt.alloc();
-    let mut wholes: Vec<PathBuf> = Vec::new(alloc);
+    let mut wholes = Vec::new(rt.alloc());
+    let fault = fault_among(rt, roots, &mut wholes);
+    drop(wholes);
+    fault
+}
+
+/// What stands against the folders, if something does. The whole paths of those before it are taken up.
+fn fault_among(
+    rt: &HostRuntime,
+    roots: &[Root<'_>],
+    wholes: &mut Vec<PathBuf>,
+) -> Result<Option<String>, AllocError> {
     for root in roots {
         let Ok(whole) = fs::canonicalize(rt, root.folder) else {
             continue;
         };
-        if matches!(fs::metadata(rt, root.folder), Ok(found) if !found.is_dir()) {
-            return Ok(Some(format!(in alloc; "{} is no folder", root.folder)?));
-        }
-        for other in &wholes {
-            if is_within(whole.as_str(), other.as_str())
-                || is_within(other.as_str(), whole.as_str())
-            {
-                return Ok(Some(format!(in alloc;
-                    "{} and another folder are one within the other",
-                    root.folder
-                )?));
-            }
+        if let Some(fault) = fault_of_root(rt, root.folder, whole.as_str(), wholes.as_slice())? {
+            drop(whole);
+            return Ok(Some(fault));
         }
         wholes.push(whole)?;
     }
     Ok(None)
+}
+
+/// What stands against a folder with this whole path, beside those with these.
+fn fault_of_root(
+    rt: &HostRuntime,
+    folder: &str,
+    whole: &str,
+    others: &[PathBuf],
+) -> Result<Option<String>, AllocError> {
+    let alloc = rt.alloc();
+    if is_no_folder(rt, folder) {
+        Ok(Some(format!(in alloc; "{folder} is no folder")?))
+    } else if is_near(whole, others) {
+        Ok(Some(format!(in alloc; "{folder} and another folder are one within the other")?))
+    } else {
+        Ok(None)
+    }
+}
+
+fn is_no_folder(rt: &HostRuntime, name: &str) -> bool {
+    matches!(fs::metadata(rt, name), Ok(found) if !found.is_dir())
+}
+
+/// Whether one of the folders lies within this one, or this one within it.
+fn is_near(whole: &str, others: &[PathBuf]) -> bool {
+    for other in others {
+        if is_within(whole, other.as_str()) || is_within(other.as_str(), whole) {
+            return true;
+        }
+    }
+    false
 }
 
 /// The name of the file that keeps sums, where one does.
@@ -128,8 +160,13 @@ fn read<T: Threads + Sync>(
 ) -> Result<ReadFolder, AllocError> {
     let watch = FolderWatch::new(rt, named_folder(root, wishes));
     let folder = read_watched(rt, threads, disks, root, &watch, sums);
-    watch.end()?;
-    folder
+    match watch.end() {
+        Ok(()) => folder,
+        Err(fault) => {
+            drop(folder);
+            Err(fault)
+        }
+    }
 }
 
 /// Reads the folders, one after another, without what is passed over there. Files that haven't changed since an earlier run
@@ -141,25 +178,66 @@ fn read_without<T: Threads + Sync>(
     wishes: ReadingWishes<'_>,
     passed_over: &[PassedOver<'_, '_>],
 ) -> Result<Vec<ReadFolder>, ProgramFault> {
+    let name = name_of_sums(rt, wishes)?;
+    let known = name.as_ref().map(|name| name.as_str());
+    let folders = read_with_sums(rt, threads, roots, wishes, passed_over, known);
+    drop(name);
+    folders
+}
+
+/// Reads the folders with the sums that the file with this name has, where there is a name, and keeps them there.
+fn read_with_sums<T: Threads + Sync>(
+    rt: &HostRuntime,
+    threads: &T,
+    roots: &[Root<'_>],
+    wishes: ReadingWishes<'_>,
+    passed_over: &[PassedOver<'_, '_>],
+    name: Option<&str>,
+) -> Result<Vec<ReadFolder>, ProgramFault> {
+    let mut sums = known_sums(rt, name, wishes.reads_all)?;
+    let mut folders = Vec::new(rt.alloc());
+    let read = read_each(
+        rt,
+        threads,
+        roots,
+        wishes,
+        passed_over,
+        &mut sums,
+        &mut folders,
+    );
+    let kept = match (read, name) {
+        (Ok(()), Some(name)) => keep_sums(rt, name, &sums.kept),
+        (read, _) => read,
+    };
+    drop(sums);
+    match kept {
+        Ok(()) => Ok(folders),
+        Err(_) => {
+            drop(folders);
+            Err(ProgramFault::OutOfMemory)
+        }
+    }
+}
+
+/// Reads the folders, one after another.
+fn read_each<T: Threads + Sync>(
+    rt: &HostRuntime,
+    threads: &T,
+    roots: &[Root<'_>],
+    wishes: ReadingWishes<'_>,
+    passed_over: &[PassedOver<'_, '_>],
+    sums: &mut Sums,
+    folders: &mut Vec<ReadFolder>,
+) -> Result<(), AllocError> {
     let disks = SystemDisks {
         files: rt,
         stays: wishes.stays,
         passed_over,
     };
-    let mut folders = Vec::new(rt.alloc());
-    let name = name_of_sums(rt, wishes)?;
-    let name = name.as_ref().map(|name| name.as_str());
-    let mut sums = known_sums(rt, name, wishes.reads_all)?;
     for root in roots {
-        let folder = read(rt, threads, &disks, root, wishes, &mut sums)?;
-        if folders.push(folder).is_err() {
-            return Err(ProgramFault::OutOfMemory);
-        }
+        folders.push(read(rt, threads, &disks, root, wishes, sums)?)?;
     }
-    if let Some(name) = name {
-        keep_sums(rt, name, &sums.kept)?;
-    }
-    Ok(folders)
+    Ok(())
 }
 
 /// The program's own files.

@@ -155,16 +155,27 @@ impl<'a> Naming<'a> {
     /// Prints what has this name in a folder, where it is passed over.
     fn name_one(&self, folder: &str, name: &str, kind: Kind) -> Result<(), AllocError> {
         let whole = format!(in self.rt.alloc(); "{folder}/{name}")?;
-        if kind == Kind::Other {
-            return match fs::symlink_metadata(self.rt, whole.as_str()) {
-                Ok(found) => self.say(whole.as_str(), other_kind(&found)),
-                Err(_) => self.say(whole.as_str(), "gone"),
-            };
-        }
-        let path = path_below(self.within.folder, whole.as_str());
-        match fault_of_path(self.rt, path) {
-            Some(reason) => self.say(whole.as_str(), reason),
+        let named = self.name_whole(whole.as_str(), kind);
+        drop(whole);
+        named
+    }
+
+    /// Prints what has this whole path, where it is passed over.
+    fn name_whole(&self, whole: &str, kind: Kind) -> Result<(), AllocError> {
+        match self.fault_of(whole, kind) {
+            Some(reason) => self.say(whole, reason),
             None => Ok(()),
+        }
+    }
+
+    /// Why what has this whole path is passed over, where it is.
+    fn fault_of(&self, whole: &str, kind: Kind) -> Option<&'static str> {
+        if kind != Kind::Other {
+            return fault_of_path(self.rt, path_below(self.within.folder, whole));
+        }
+        match fs::symlink_metadata(self.rt, whole) {
+            Ok(found) => Some(other_kind(&found)),
+            Err(_) => Some("gone"),
         }
     }
 

@@ -18,7 +18,9 @@ pub fn is_within(path: &str, folder: &str) -> bool {
 fn whole_path(rt: &HostRuntime, file: &str) -> Result<Option<String>, AllocError> {
     let alloc = rt.alloc();
     if let Ok(whole) = fs::canonicalize(rt, file) {
-        return Ok(Some(String::from_str(alloc, whole.as_str())?));
+        let path = String::from_str(alloc, whole.as_str());
+        drop(whole);
+        return Ok(Some(path?));
     }
     let (folder, name) = match file.rsplit_once('/') {
         Some(("", name)) => ("/", name),
@@ -28,19 +30,33 @@ fn whole_path(rt: &HostRuntime, file: &str) -> Result<Option<String>, AllocError
     let Ok(folder) = fs::canonicalize(rt, folder) else {
         return Ok(None);
     };
-    Ok(Some(format!(in alloc; "{}/{name}", folder.as_str().trim_end_matches('/'))?))
+    let path = format!(in alloc; "{}/{name}", folder.as_str().trim_end_matches('/'));
+    drop(folder);
+    Ok(Some(path?))
 }
 
 /// The path of a file below a folder, where it lies there.
 fn path_below(rt: &HostRuntime, file: &str, folder: &str) -> Result<Option<String>, AllocError> {
-    let (Some(file), Ok(folder)) = (whole_path(rt, file)?, fs::canonicalize(rt, folder)) else {
+    let Some(file) = whole_path(rt, file)? else {
         return Ok(None);
     };
-    match file.as_str().strip_prefix(folder.as_str()) {
-        Some(rest) if is_within(file.as_str(), folder.as_str()) => Ok(Some(String::from_str(
-            rt.alloc(),
-            rest.trim_start_matches('/'),
-        )?)),
+    let Ok(folder) = fs::canonicalize(rt, folder) else {
+        drop(file);
+        return Ok(None);
+    };
+    let path = rest_below(rt, file.as_str(), folder.as_str());
+    drop(file);
+    drop(folder);
+    path
+}
+
+/// What stands behind a folder in the whole path of a file, where that lies within it.
+fn rest_below(rt: &HostRuntime, file: &str, folder: &str) -> Result<Option<String>, AllocError> {
+    match file.strip_prefix(folder) {
+        Some(rest) if is_within(file, folder) => {
+            let rest = String::from_str(rt.alloc(), rest.trim_start_matches('/'))?;
+            Ok(Some(rest))
+        }
         _ => Ok(None),
     }
 }
@@ -86,26 +102,40 @@ impl<'a> OwnFile<'a> {
     }
 }
 
-/// The patterns of a root that one of the program's own files and those beside it match, where they lie in its folder. That they
-/// are passed over is printed.
-fn own_patterns(
+/// Puts the patterns of a root that one of the program's own files and those beside it match behind the others, where they lie in
+/// its folder. That they are passed over is printed.
+fn push_own(
     rt: &HostRuntime,
     root: &Root<'_>,
     own: &OwnFile<'_>,
-) -> Result<Vec<String>, AllocError> {
-    let alloc = rt.alloc();
-    let mut patterns = Vec::new(alloc);
+    patterns: &mut Vec<String>,
+) -> Result<(), AllocError> {
     let Some(path) = path_below(rt, own.name, root.folder)? else {
-        return Ok(patterns);
+        return Ok(());
     };
-    for ending in own.endings {
-        let name = format!(in alloc; "{path}{ending}")?;
-        patterns.push(pattern_of(rt, name.as_str())?)?;
-    }
+    let pushed = push_endings(rt, path.as_str(), own.endings, patterns);
+    drop(path);
+    pushed?;
     let (device, called) = (root.device.as_str(), own.called);
-    let text = format!(in alloc; "panad: {device}: the {called} is passed over\n")?;
+    let text = format!(in rt.alloc(); "panad: {device}: the {called} is passed over\n")?;
     let _ = complain(rt, &text);
-    Ok(patterns)
+    Ok(())
+}
+
+/// Puts the patterns that a path alone matches with each of these endings behind the others.
+fn push_endings(
+    rt: &HostRuntime,
+    path: &str,
+    endings: &[&str],
+    patterns: &mut Vec<String>,
+) -> Result<(), AllocError> {
+    for ending in endings {
+        let name = format!(in rt.alloc(); "{path}{ending}")?;
+        let pattern = pattern_of(rt, name.as_str());
+        drop(name);
+        patterns.push(pattern?)?;
+    }
+    Ok(())
 }
 
 /// A root's folder, and the patterns of what is passed over there.
@@ -125,17 +155,35 @@ pub fn root_patterns(
     let alloc = rt.alloc();
     let mut all = Vec::new(alloc);
     for root in roots {
-        let mut texts = Vec::new(alloc);
-        for text in ignored {
-            texts.push(String::from_str(alloc, text)?)?;
+        let mut patterns = RootPatterns {
+            folder: String::from_str(alloc, root.folder)?,
+            texts: Vec::new(alloc),
+        };
+        if let Err(fault) = push_texts(rt, root, own_files, ignored, &mut patterns.texts) {
+            drop(patterns);
+            drop(all);
+            return Err(fault);
         }
-        for own in own_files {
-            texts.append(&mut own_patterns(rt, root, own)?)?;
-        }
-        let folder = String::from_str(alloc, root.folder)?;
-        all.push(RootPatterns { folder, texts })?;
+        all.push(patterns)?;
     }
     Ok(all)
+}
+
+/// Puts the patterns of a root behind the others.
+fn push_texts(
+    rt: &HostRuntime,
+    root: &Root<'_>,
+    own_files: &[OwnFile<'_>],
+    ignored: &[&str],
+    texts: &mut Vec<String>,
+) -> Result<(), AllocError> {
+    for text in ignored {
+        texts.push(String::from_str(rt.alloc(), text)?)?;
+    }
+    for own in own_files {
+        push_own(rt, root, own, texts)?;
+    }
+    Ok(())
 }
 
 /// The patterns of each root, as slices.

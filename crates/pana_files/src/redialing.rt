@@ -3,7 +3,7 @@
 use crate::client::{DaemonClient, connect};
 use pana_calls::{Answer, Call, NoAnswer, Query, Reply, Session};
 use pana_copies::DeviceName;
-use std::io;
+use std::{io, mem};
 
 /// A session at the daemon on a port of 127.0.0.1. Where no entry has come for a question that waited, it leaves the connection to
 /// others who may wait for one, and takes a new one for the next call.
@@ -35,6 +35,15 @@ impl<'a> Redialing<'a> {
             Err(_) => Err(NoAnswer),
         }
     }
+
+    /// Keeps the connection for the next call, or leaves it to others.
+    fn keep(&mut self, client: DaemonClient, leaves: bool) {
+        if leaves {
+            drop(client);
+        } else {
+            drop(mem::replace(&mut self.client, Some(client)));
+        }
+    }
 }
 
 /// Whether a call is a question that may wait.
@@ -61,12 +70,23 @@ impl Session for Redialing<'_> {
     /// `NoAnswer` where the daemon can't be connected to, and where the call gets no answer.
     fn call(&mut self, by: &DeviceName, call: Call) -> Result<Answer, NoAnswer> {
         let leaves = may_wait(&call);
-        let mut client = self.client()?;
-        let answer = client.call(by, call)?;
-        if !(leaves && has_no_entry(&answer)) {
-            self.client = Some(client);
+        let mut client = match self.client() {
+            Ok(client) => client,
+            Err(fault) => {
+                drop(call);
+                return Err(fault);
+            }
+        };
+        match client.call(by, call) {
+            Ok(answer) => {
+                self.keep(client, leaves && has_no_entry(&answer));
+                Ok(answer)
+            }
+            Err(fault) => {
+                drop(client);
+                Err(fault)
+            }
         }
-        Ok(answer)
     }
 
     /// Does nothing.

@@ -32,7 +32,8 @@ pub use Rattle.pana_family.specs.declared.board.CopyCounts.{CopyCounts}
 pub use Rattle.pana_hall.specs.Accepted.{Accepts, AcceptsAll, IsAccepted}
 pub use Rattle.pana_hall.specs.Board.{all_known, is_of, sets_of}
 pub use Rattle.pana_hall.specs.Effective.{effective, is_of_copies, is_withdrawn, left_out, withdraws}
-pub use Rattle.pana_hall.specs.Family.{begun_or_joined, entries_of, families, family_report, is_duplicate, is_family, is_register, subject}
+pub use Rattle.pana_hall.specs.Family.{begun_or_joined, entries_of, families, family_report, is_duplicate, is_family, is_register}
+pub use Rattle.pana_journal.specs.Reports.{subject}
 pub use Rattle.pana_hall.specs.Living.{Content, Copy, after_entry, after_report, comes, content_by, content_in, copies_of, copy_in, known_to, living, made, new_copy, said}
 pub use Rattle.pana_hall.specs.Pending.{behind, is_last, last, pend, pending}
 pub use Rattle.pana_hall.specs.Queries.{begun, family_row, family_rows, holding, holdings, pair_of, row_of_sets}

@@ -4,21 +4,9 @@ use Rattle.pana_journal.specs.declared.report.Report.{Report}
 use Rattle.pana_journal.specs.declared.report.Report.TheVariants.{Register, Duplicate, Edit, Reconcile, Merge, Relocate, Remove, Note, Confirm, Withdraw}
 use Rattle.pana_journal.specs.declared.entry.Entry.{Entry}
 use Rattle.pana_journal.specs.Entries.{entry_at}
+use Rattle.pana_journal.specs.Reports.{subject}
 use Rattle.pana_family.specs.declared.report.FamilyReport.{FamilyReport}
 use Rattle.pana_family.specs.declared.report.FamilyReport.TheVariants as family
-
--- the copy, or the entry, to whose family a report belongs. A Register names none: it begins a family of its own
-abbrev pub subject : Report → Option ℕ
-subject (Register place sum) = None
-subject (Duplicate copy place sum) = Some copy
-subject (Edit copy sum) = Some copy
-subject (Reconcile a b sum) = Some a
-subject (Merge a b sum) = Some a
-subject (Relocate copy place) = Some copy
-subject (Remove copy heir) = Some copy
-subject (Note copy sum) = Some copy
-subject (Confirm entry) = Some entry
-subject (Withdraw entry) = Some entry
 
 -- the family of entry n with this subject, where family_of gives that of each entry before
 abbrev pub begun_or_joined : (ℕ → ℕ) → ℕ → Option ℕ → ℕ

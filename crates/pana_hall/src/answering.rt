@@ -35,28 +35,28 @@ impl State {
 
     /// The answer to a query that nothing stands against. Fails only where memory runs out; a Pair takes none, and
     /// Counts neither.
-    pub fn answer(&self, alloc: Global, query: Query) -> Result<Reply, AllocError>
+    pub fn answer(&self, alloc: Global, query: &Query) -> Result<Reply, AllocError>
         requires kept { IsHeld self.now }
-        requires free { query_refusal self.now.journal.entries (living self.now.journal.entries) query ≡ None }
-        ensures ok { IfOk result (λ reply. Answers self.now.journal.entries query reply) }
-        ensures shortage { IfErr result (λ _. IsShortage self.now.journal.entries (Call.Query query) Cause.OutOfMemory) }
+        requires free { query_refusal self.now.journal.entries (living self.now.journal.entries) query.now ≡ None }
+        ensures ok { IfOk result (λ reply. Answers self.now.journal.entries query.now reply) }
+        ensures shortage { IfErr result (λ _. IsShortage self.now.journal.entries (Call.Query query.now) Cause.OutOfMemory) }
     {
         match query {
             Query::Families => Ok(Reply::Families(PlainList::from_vec(self.family_rows(alloc)?))),
-            Query::Board { family } => Ok(Reply::Board(self.board_of(alloc, family)?)),
-            Query::Stamps { family } => Ok(Reply::Stamps(self.stamps_of(alloc, family)?)),
-            Query::Pair { a, b } => Ok(Reply::Pair(self.pair_of(a, b))),
+            Query::Board { family } => Ok(Reply::Board(self.board_of(alloc, *family)?)),
+            Query::Stamps { family } => Ok(Reply::Stamps(self.stamps_of(alloc, *family)?)),
+            Query::Pair { a, b } => Ok(Reply::Pair(self.pair_of(*a, *b))),
             Query::Holdings { device, from } => {
-                let made = self.holdings_from(alloc, &device, from)?;
+                let made = self.holdings_from(alloc, device, *from)?;
                 Ok(Reply::Holdings(HoldingList::from_vec(made)))
             }
-            Query::At { place } => Ok(Reply::At(self.standing_at(alloc, &place)?)),
+            Query::At { place } => Ok(Reply::At(self.standing_at(alloc, place)?)),
             Query::Status { device, from } => {
-                let rows = self.status_rows(alloc, &device, from)?;
+                let rows = self.status_rows(alloc, device, *from)?;
                 Ok(Reply::Status(PlainList::from_vec(rows)))
             }
             Query::JournalFrom { entry } | Query::JournalAwaited { entry, .. } => {
-                Ok(Reply::Journal(self.journal.slice(entry)?))
+                Ok(Reply::Journal(self.journal.slice(*entry)?))
             }
             Query::Counts => Ok(Reply::Counts(self.counts())),
         }

@@ -94,13 +94,12 @@ fn place_copy(
         (Report::Register { .. } | Report::Duplicate { .. }, Some(place)) => {
             copies.insert(entry, family, place)
         }
-        (Report::Relocate { copy, .. }, Some(place)) => {
-            let _ = copies.relocate(*copy, place);
+        (Report::Relocate { copy, .. }, Some(place)) => drop(copies.relocate(*copy, place)),
+        (Report::Remove { copy, .. }, place) => {
+            drop(copies.remove(*copy));
+            drop(place);
         }
-        (Report::Remove { copy, .. }, _) => {
-            let _ = copies.remove(*copy);
-        }
-        _ => {}
+        (_, place) => drop(place),
     }
 }
 
@@ -120,8 +119,13 @@ pub fn prepare_change(
 {
     let of_family = family_report(report).unwrap();
     let place = place_in(report)?;
-    let change = it.prepare(alloc, entry, of_family)?;
-    Ok((change, place))
+    match it.prepare(alloc, entry, of_family) {
+        Ok(change) => Ok((change, place)),
+        Err(fault) => {
+            drop(place);
+            Err(fault)
+        }
+    }
 }
 
 /// Records what the next entry reports of copies of a family that has begun, as `prepare_change` prepared it. Takes no memory.
@@ -161,12 +165,11 @@ pub fn withdraw(it: &mut ListedFamily, copies: &mut CopyTable, entry: u64, repor
     let place = it.withdraw();
     match report {
         Report::Register { .. } | Report::Duplicate { .. } => {
-            let _ = copies.remove(entry);
+            drop(copies.remove(entry));
+            drop(place);
         }
-        Report::Relocate { copy, .. } => {
-            let _ = copies.relocate(*copy, place.unwrap());
-        }
+        Report::Relocate { copy, .. } => drop(copies.relocate(*copy, place.unwrap())),
         Report::Remove { copy, .. } => copies.insert(*copy, family, place.unwrap()),
-        _ => {}
+        _ => drop(place),
     }
 }

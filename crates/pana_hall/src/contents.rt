@@ -13,14 +13,14 @@ pub struct Contents {
 }
 
 /// That this entry says what a copy holds, or none does.
-#[derive(Clone, Copy, Debug)]
+#[derive(Clone, Copy)]
 pub struct Saying {
     pub copy: u64,
     pub entry: Option<u32>,
 }
 
 /// What an entry says of the contents of at most two copies.
-#[derive(Clone, Copy, Debug)]
+#[derive(Clone, Copy)]
 pub struct Sayings {
     pub first: Option<Saying>,
     pub second: Option<Saying>,

@@ -65,7 +65,12 @@ impl State {
         requires { IsHeld self.now }
         ensures { result ≡ list_any (is_newer (living self.now.journal.entries) copy) copies.now }
     {
-        copies.iter().any(|other| self.is_newer(copy, *other))
+        for other in copies {
+            if self.is_newer(copy, *other) {
+                return true;
+            }
+        }
+        false
     }
 
     /// Whether none of these is newer than the copy.
@@ -81,10 +86,12 @@ impl State {
         requires { IsHeld self.now }
         ensures { result ≡ best_in (living self.now.journal.entries) copies.now }
     {
-        copies
-            .iter()
-            .copied()
-            .find(|copy| self.has_no_newer(copies, *copy))
+        for copy in copies {
+            if self.has_no_newer(copies, *copy) {
+                return Some(*copy);
+            }
+        }
+        None
     }
 
     /// Whether it is another that relates so to the copy and holds the sum.
@@ -194,8 +201,12 @@ impl State {
         requires { IsHeld self.now }
         ensures { result ≡ first_number (is_unlike (living self.now.journal.entries) sum.now copy) relatives.now }
     {
-        let found = relatives.iter().find(|it| self.is_unlike(it, sum, copy))?;
-        Some(found.copy)
+        for it in relatives {
+            if self.is_unlike(it, sum, copy) {
+                return Some(it.copy);
+            }
+        }
+        None
     }
 
     /// What is done where a living copy isn't known to hold the sum of its file, and no relative that holds it is newer or in
@@ -213,6 +224,7 @@ impl State {
     {
         let place = self.copies.get(copy).unwrap().place;
         if !has_other(copy, relatives) && self.source_of(alloc, place, &sum)?.is_some() {
+            drop(sum);
             return Ok(Decision::One(Report::Remove { copy, heir: None }));
         }
         if self.held(copy).is_some() {
@@ -266,6 +278,7 @@ impl State {
             }));
         }
         if self.holds(copy, &sum) {
+            drop(sum);
             return Ok(Decision::Known(Some(copy)));
         }
         self.changed(alloc, sum, copy, relatives)
@@ -313,15 +326,22 @@ impl State {
     {
         match sighting {
             Sighting::Found { place, sum } => match self.copies.at(&place) {
-                Some(copy) => self.found_again(alloc, sum, copy),
+                Some(copy) => {
+                    drop(place);
+                    self.found_again(alloc, sum, copy)
+                }
                 None => self.found_new(alloc, place, sum),
             },
             Sighting::Missing { place } => match self.copies.at(&place) {
                 Some(copy) => {
+                    drop(place);
                     let heir = self.heir_of(alloc, copy)?;
                     Ok(Decision::One(Report::Remove { copy, heir }))
                 }
-                None => Ok(Decision::Known(None)),
+                None => {
+                    drop(place);
+                    Ok(Decision::Known(None))
+                }
             },
         }
     }
@@ -337,7 +357,12 @@ fn is_other(it: &Relative, copy: u64) -> bool
 fn has_other(copy: u64, relatives: &[Relative]) -> bool
     ensures { result ≡ list_any (is_other copy) relatives.now }
 {
-    relatives.iter().any(|it| is_other(it, copy))
+    for it in relatives {
+        if is_other(it, copy) {
+            return true;
+        }
+    }
+    false
 }
 
 /// Whether it is another copy that knows all that the copy knows.
@@ -350,15 +375,23 @@ fn knows_all(it: &Relative, copy: u64) -> bool
 fn first_knowing(copy: u64, relatives: &[Relative]) -> Option<u64>
     ensures { result ≡ first_number (knows_all copy) relatives.now }
 {
-    let found = relatives.iter().find(|it| knows_all(it, copy))?;
-    Some(found.copy)
+    for it in relatives {
+        if knows_all(it, copy) {
+            return Some(it.copy);
+        }
+    }
+    None
 }
 
 fn first_other(copy: u64, relatives: &[Relative]) -> Option<u64>
     ensures { result ≡ first_number (is_other copy) relatives.now }
 {
-    let found = relatives.iter().find(|it| is_other(it, copy))?;
-    Some(found.copy)
+    for it in relatives {
+        if is_other(it, copy) {
+            return Some(it.copy);
+        }
+    }
+    None
 }
 
 /// The first of these that knows all that the copy knows, else the first other one.

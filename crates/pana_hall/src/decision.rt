@@ -2,7 +2,7 @@
 use pana_journal::Report;
 
 /// What is done of a sighting.
-#[derive(Debug, Drop)]
+#[derive(Drop)]
 pub enum Decision {
     /// Nothing: this copy holds the sum that was found, or no copy is at the place where none was.
     Known(Option<u64>),

@@ -1,6 +1,6 @@
 //! The families that have begun.
 ghost use Rattle.std.specs.Prelude.{◌≡◌, [], option_copied, option_map};
-ghost use Rattle.pana_hall.specs.{Family.family_report, Family.subject, inner.Families.family_at, inner.Families.position_at};
+ghost use Rattle.pana_hall.specs.{Family.family_report, inner.Families.family_at, inner.Families.position_at};
 ghost use Rattle.pana_hall.specs.{inner.Listed.all_listed, inner.Listed.listed, inner.Kept.position_for};
 
 use crate::listed_family::ListedFamily;
@@ -45,7 +45,7 @@ impl Families {
     pub fn position_for(&self, report: &Report) -> Option<usize>
         ensures { result ≡ position_for (all_listed self.now.list.items) self.now.positions.items report.now }
     {
-        match subject(report) {
+        match report.subject() {
             Some(number) => self.position_of(number),
             None => Some(self.list.as_slice().len()),
         }
@@ -56,22 +56,6 @@ impl Families {
         ensures { option_map listed (option_copied result) ≡ family_at (all_listed self.now.list.items) self.now.positions.items number }
     {
         self.list.get(self.position_of(number)?)
-    }
-}
-
-/// The copy, or the entry, to whose family a report belongs. A Register names none: it begins a family of its own.
-pub fn subject(report: &Report) -> Option<u64>
-    ensures { result ≡ subject report.now }
-{
-    match report {
-        Report::Register { .. } => None,
-        Report::Duplicate { copy, .. }
-        | Report::Edit { copy, .. }
-        | Report::Note { copy, .. }
-        | Report::Relocate { copy, .. }
-        | Report::Remove { copy, .. } => Some(*copy),
-        Report::Reconcile { a, .. } | Report::Merge { a, .. } => Some(*a),
-        Report::Confirm { entry } | Report::Withdraw { entry } => Some(*entry),
     }
 }
 

@@ -40,9 +40,9 @@ impl KeptFamily {
     pub fn new(alloc: Global, entry: u64) -> Result<KeptFamily, AllocError>
         ensures { IfOk result (λ it. it.kept ≡ new_kept entry) }
     {
-        let (family, back) = Family::new(alloc, entry)?;
         let mut undo = HeapCircularBuffer::with_capacity(alloc, MOST_PENDING)?;
-        undo.push_front(Undo {
+        let (family, back) = Family::new(alloc, entry)?;
+        drop(undo.push_front(Undo {
             entry,
             back,
             before: Before {
@@ -50,7 +50,7 @@ impl KeptFamily {
                 first: None,
                 second: None,
             },
-        });
+        }));
         Ok(KeptFamily {
             number: entry,
             family,
@@ -157,11 +157,12 @@ impl KeptFamily {
         ensures room { IsRoomier self.old.room self.new.room }
     {
         let back = self.family.apply(entry, report, change);
-        self.undo.push_front(Undo {
+        let undo = Undo {
             entry,
             back,
             before,
-        });
+        };
+        drop(self.undo.push_front(undo));
     }
 
     /// Settles a pending entry and all before it. Takes no memory.
@@ -182,7 +183,7 @@ impl KeptFamily {
     {
         match self.undo.pop_front() {
             Some(undo) => {
-                let _ = self.family.take_back(undo.back);
+                drop(self.family.take_back(undo.back));
                 unboxed(undo.before.place)
             }
             None => None,

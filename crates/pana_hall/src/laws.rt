@@ -15,7 +15,8 @@ ghost use Rattle.pana_hall.specs.{Run.Exchange, Run.IsRun, Run.journal_from, law
 ghost use Rattle.pana_hall.specs.{Accepted.IsAccepted};
 ghost use Rattle.pana_calls.specs.{declared.cause.Cause.TheVariants.OutOfMemory, declared.cause.Cause.TheVariants.TooDeep};
 ghost use Rattle.pana_hall.specs.{declared.load_fault.LoadFault.LoadFault, declared.load_fault.LoadCause.TheVariants.Refused, Load.IsLoadFault};
-ghost use Rattle.pana_hall.specs.Family.{entries_of, families, is_family, is_register, subject};
+ghost use Rattle.pana_hall.specs.Family.{entries_of, families, is_family, is_register};
+ghost use Rattle.pana_journal.specs.Reports.{subject};
 ghost use Rattle.pana_hall.specs.Living.{Copy, copies_of, copy_in, known_to, living, number_of};
 ghost use Rattle.pana_hall.specs.Pending.{is_last, last, pend, pending};
 ghost use Rattle.pana_hall.specs.Queries.{begun, family_row, holding, holdings};

@@ -1,9 +1,9 @@
 //! A family as the list of them keeps it.
-ghost use Rattle.std.specs.Prelude.{◌≡◌, ◌==◌, ℕ, List, IfOk, OnOk, true, length, map, nat_lt, option_copied};
+ghost use Rattle.std.specs.Prelude.{◌≡◌, ◌==◌, ◌∷◌, [], ℕ, List, IfOk, OnOk, true, length, map, nat_lt, option_copied};
 ghost use Rattle.std.specs.List.{list_any};
 ghost use Rattle.pana_family.specs.{Board.board_rows, Board.board_newest, Board.board_split, Relation.relation, Report.CanReport, Stamps.AreStamps};
 ghost use Rattle.pana_family.specs.{Stamps.stamps_in, Stamps.text_of, Stands.StandsFor};
-ghost use Rattle.pana_family.specs.Rows.{AreBefore, copy_rows, divides, lives};
+ghost use Rattle.pana_family.specs.Rows.{AreBefore, copy_rows, divides, lives, seed_row};
 ghost use Rattle.pana_family.specs.Table.{Known, copies_of, set_in, touch_in};
 ghost use Rattle.pana_hall.specs.inner.Undo.{confirmed, earlier_of, ends_in, last_before, last_place, reported_kept, withdrawn};
 ghost use Rattle.pana_hall.specs.inner.Listed.{IsGrown, IsPreparedAfter, IsPreparedFor, listed};
@@ -25,6 +25,15 @@ pub enum ListedFamily {
     /// This entry began it, and nothing was reported of it since.
     New(u64),
     Changed(Box<KeptFamily>),
+}
+
+/// The family of a first copy, which this entry registered. Fails only where memory runs out.
+fn new_family(alloc: Global, entry: u64) -> Result<Family, AllocError>
+    ensures { IfOk result (λ family. family.rows ≡ seed_row entry ∷ []) }
+{
+    let (family, back) = Family::new(alloc, entry)?;
+    drop(back);
+    Ok(family)
 }
 
 impl ListedFamily {
@@ -97,7 +106,12 @@ impl ListedFamily {
         ensures split { IfOk result (λ board. (table : List Known) → StandsFor (listed self.now).rows table → board.split ≡ board_split table) }
     {
         match self {
-            ListedFamily::New(entry) => Family::new(alloc, *entry)?.0.board(),
+            ListedFamily::New(entry) => {
+                let family = new_family(alloc, *entry)?;
+                let board = family.board();
+                drop(family);
+                board
+            }
             ListedFamily::Changed(it) => it.family().board(),
         }
     }
@@ -123,7 +137,12 @@ impl ListedFamily {
         ensures exact { IfOk result (λ stamps. map text_of stamps ≡ stamps_in (listed self.now).rows) }
     {
         match self {
-            ListedFamily::New(entry) => Family::new(alloc, *entry)?.0.stamps(),
+            ListedFamily::New(entry) => {
+                let family = new_family(alloc, *entry)?;
+                let stamps = family.stamps();
+                drop(family);
+                stamps
+            }
             ListedFamily::Changed(it) => it.family().stamps(),
         }
     }

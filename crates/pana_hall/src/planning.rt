@@ -118,11 +118,11 @@ impl State {
     }
 
     #[tactic(auto, unfolding(crate::specs::Permit::Permits, crate::specs::Permit::journal_after, crate::specs::Refusal::refusal))]
-    fn reply_to(&self, alloc: Global, by: &DeviceName, query: Query) -> Reply
+    fn reply_to(&self, alloc: Global, by: &DeviceName, query: &Query) -> Reply
         requires { IsHeld self.now }
-        ensures { AnswersAt self.now.journal.entries by.now (calls.Query query) result }
+        ensures { AnswersAt self.now.journal.entries by.now (calls.Query query.now) result }
     {
-        if let Some(cause) = self.query_refusal(&query) {
+        if let Some(cause) = self.query_refusal(query) {
             return Reply::Refused(cause);
         }
         match self.answer(alloc, query) {
@@ -147,7 +147,11 @@ impl State {
         match call {
             Call::Report(report) => self.plan_report(alloc, by, report),
             Call::Sighting(sighting) => self.plan_sighting(alloc, by, sighting),
-            Call::Query(query) => Err(self.reply_to(alloc, by, query)),
+            Call::Query(query) => {
+                let reply = self.reply_to(alloc, by, &query);
+                drop(query);
+                Err(reply)
+            }
         }
     }
 

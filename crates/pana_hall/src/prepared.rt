@@ -115,7 +115,8 @@ impl Prepared {
     pub fn cancel(self) -> Hall
         ensures { result ≡ self.journal }
     {
-        let Prepared { alloc, state, .. } = self;
+        let Prepared { alloc, state, plan } = self;
+        drop(plan);
         Hall { alloc, state }
     }
 }

@@ -44,8 +44,13 @@ fn prepare_family(
         _ => {
             let entry = journal.length() + 1;
             let before = before(alloc, copies, contents, entry, report)?;
-            let (change, place) = prepare_change(alloc, it, entry, report)?;
-            Ok(Step::Change(change, place, before))
+            match prepare_change(alloc, it, entry, report) {
+                Ok((change, place)) => Ok(Step::Change(change, place, before)),
+                Err(fault) => {
+                    drop(before);
+                    Err(fault)
+                }
+            }
         }
     }
 }
@@ -68,9 +73,8 @@ fn prepare_step(
 {
     match report {
         Report::Register { place, .. } => {
-            let place = place.copy_of()?;
             list.reserve(1)?;
-            Ok(Step::Begin(place))
+            Ok(Step::Begin(place.copy_of()?))
         }
         _ => {
             // whose contract says that the position is within the list
@@ -188,7 +192,9 @@ impl State {
         ensures room { OnOk result (HasRoom count self.new) }
         ensures copies { OnOk result (0 < self.new.copies.room) }
     {
-        self.journal.reserve(count).map_err(|_| AllocError)?;
+        let Ok(()) = self.journal.reserve(count) else {
+            return Err(AllocError);
+        };
         self.copies.reserve()?;
         self.contents.reserve(count)?;
         self.families.positions.reserve(count)
@@ -202,6 +208,39 @@ impl State {
         ensures ready { IsReadyAt self.now.journal.entries by.now report.now (all_listed self.now.families.list.items) result self.now.copies }
     {
         self.families.position_for(report).unwrap()
+    }
+
+    /// Takes the memory for what a report that nothing stands against changes beside the journal, and returns the position of its
+    /// family too. Fails only where memory runs out.
+    fn take_step(
+        &mut self,
+        alloc: Global,
+        by: &DeviceName,
+        report: &Report,
+    ) -> Result<(usize, Step), AllocError>
+        requires kept { IsHeld self.old }
+        requires free { report_refusal 8 self.old.journal.entries (living self.old.journal.entries) by.now report.now ≡ None }
+        ensures journal { self.new.journal.entries ≡ self.old.journal.entries }
+        ensures kept { IsHeld self.new }
+        ensures room { OnOk result (HasRoom 1 self.new) }
+        ensures copies { OnOk result (0 < self.new.copies.room) }
+        ensures position { IfOk result (λ made. position_for (all_listed self.new.families.list.items) self.new.families.positions.items report.now ≡ Some made.0) }
+        ensures step { IfOk result (λ made. IsStep (next_entry self.new.journal.entries by.now report.now) (vec_len self.new.families.list) (vec_capacity self.new.families.list) self.new.families.list.items made.0 (living self.new.journal.entries) made.1) }
+    {
+        self.reserve(1)?;
+        let position = self.position_of_next(by, report);
+        let list = &mut self.families.list;
+        let step = prepare_step(
+            alloc,
+            &self.journal,
+            by,
+            list,
+            position,
+            &self.copies,
+            &self.contents,
+            report,
+        )?;
+        Ok((position, step))
     }
 
     /// Takes the memory for a report that nothing stands against. Fails only where memory runs out.
@@ -218,26 +257,21 @@ impl State {
         ensures entry { IfOk result (λ next. next.entry ≡ next_entry self.old.journal.entries by.now report) }
         ensures next { IfOk result (IsNext self.new) }
     {
-        self.reserve(1)?;
-        let position = self.position_of_next(by, &report);
-        let list = &mut self.families.list;
-        let step = prepare_step(
-            alloc,
-            &self.journal,
-            by,
-            list,
-            position,
-            &self.copies,
-            &self.contents,
-            &report,
-        )?;
-        let sayings = self.sayings(by, &report);
-        Ok(Next {
-            entry: entry_of(self.journal.length() + 1, by, report),
-            position,
-            sayings,
-            step,
-        })
+        match self.take_step(alloc, by, &report) {
+            Ok((position, step)) => {
+                let sayings = self.sayings(by, &report);
+                Ok(Next {
+                    entry: entry_of(self.journal.length() + 1, by, report),
+                    position,
+                    sayings,
+                    step,
+                })
+            }
+            Err(fault) => {
+                drop(report);
+                Err(fault)
+            }
+        }
     }
 
     /// Takes the memory for a device's report, if nothing stands against it. The journal stays as it is.
@@ -250,6 +284,7 @@ impl State {
         ensures next { IfOk result (IsNext self.new) }
     {
         if let Some(cause) = self.report_refusal(by, &report) {
+            drop(report);
             return Err(cause);
         }
         match self.prepare_free(alloc, by, report) {

@@ -1,13 +1,13 @@
 //! Edits of two copies of one family that are to be the next two entries of a journal, or neither: the memory for both.
-ghost use Rattle.std.specs.Prelude.{◌≡◌, ◌⊎◌, ◌≤◌, ℕ, Option, Some, None, IfOk, IfErr, OnOk, option_and_then, option_map};
+ghost use Rattle.std.specs.Prelude.{◌≡◌, ◌⊎◌, ◌<◌, ◌≤◌, ℕ, Option, Some, None, IfOk, IfErr, OnOk, option_and_then, option_map};
 ghost use Rattle.pana_hall.specs.{Living.living, Refusal.decision_refusal, Refusal.report_refusal, Refusal.with_report};
 ghost use Rattle.pana_hall.specs.declared.decision.Decision.TheVariants.{Both};
 ghost use Rattle.pana_calls.specs.declared.cause.Cause.TheVariants as causes;
 ghost use Rattle.pana_hall.specs.{inner.Listed.all_listed, inner.Listed.listed, inner.State.IsHeld};
 ghost use Rattle.pana_hall.specs.inner.Contents.{AreContents, all_written, content_at, first_said, said_by_sum, second_said};
 ghost use Rattle.pana_hall.specs.inner.Undo.{earlier, earlier_of};
-ghost use Rattle.pana_hall.specs.inner.Kept.{IsReady, IsReadyAt, next_entry};
-ghost use Rattle.pana_hall.specs.inner.Next.{AreTwo, IsNext, IsSecond, IsStepAfter, IsStepOf, Takes, TakesAfter};
+ghost use Rattle.pana_hall.specs.inner.Kept.{IsReady, IsReadyAt, next_entry, position_for};
+ghost use Rattle.pana_hall.specs.inner.Next.{AreTwo, HasRoom, IsNext, IsSecond, IsStepAfter, IsStepOf, Takes, TakesAfter};
 
 use crate::changing::said_by;
 use crate::contents::{Contents, Sayings, first_said, sayings_of};
@@ -113,6 +113,45 @@ fn prepare_steps(
 }
 
 impl State {
+    /// Takes the memory for what two Edits that nothing stands against change beside the journal, and returns the position of
+    /// their family too. Fails only where memory runs out.
+    fn take_steps(
+        &mut self,
+        alloc: Global,
+        by: &DeviceName,
+        first: &Report,
+        second: &Report,
+    ) -> Result<(usize, Step, Step), AllocError>
+        requires kept { IsHeld self.old }
+        requires two { AreTwo self.old.journal.entries first.now second.now }
+        requires first { report_refusal 8 self.old.journal.entries (living self.old.journal.entries) by.now first.now ≡ None }
+        requires second { report_refusal 8 (with_report self.old.journal.entries by.now first.now) (living (with_report self.old.journal.entries by.now first.now)) by.now second.now ≡ None }
+        ensures journal { self.new.journal.entries ≡ self.old.journal.entries }
+        ensures kept { IsHeld self.new }
+        ensures room { OnOk result (HasRoom 2 self.new) }
+        ensures copies { OnOk result (0 < self.new.copies.room) }
+        ensures position { IfOk result (λ made. position_for (all_listed self.new.families.list.items) self.new.families.positions.items first.now ≡ Some made.0) }
+        ensures step { IfOk result (λ made. Takes (next_entry self.new.journal.entries by.now first.now) self.new.families.list.items made.0 (living self.new.journal.entries) made.1) }
+        ensures behind { IfOk result (λ made. TakesAfter (next_entry self.new.journal.entries by.now first.now) (next_entry (with_report self.new.journal.entries by.now first.now) by.now second.now) self.new.families.list.items made.0
+            (living (with_report self.new.journal.entries by.now first.now)) made.2) }
+    {
+        self.reserve(2)?;
+        let position = self.position_of_next(by, first);
+        let list = &mut self.families.list;
+        let (step, behind) = prepare_steps(
+            alloc,
+            &self.journal,
+            by,
+            list,
+            position,
+            &self.copies,
+            &self.contents,
+            first,
+            second,
+        )?;
+        Ok((position, step, behind))
+    }
+
     /// Takes the memory for two Edits that nothing stands against. Fails only where memory runs out.
     fn prepare_free_two(
         &mut self,
@@ -132,37 +171,31 @@ impl State {
         ensures next { IfOk result (λ made. IsNext self.new made.0) }
         ensures behind { IfOk result (λ made. IsSecond self.new made.0 made.1) }
     {
-        self.reserve(2)?;
-        let position = self.position_of_next(by, &first);
-        let list = &mut self.families.list;
-        let (change, behind) = prepare_steps(
-            alloc,
-            &self.journal,
-            by,
-            list,
-            position,
-            &self.copies,
-            &self.contents,
-            &first,
-            &second,
-        )?;
-        let sayings = self.sayings(by, &first);
-        let number = self.journal.length() + 1;
-        let later = edit_sayings(number + 1, &second);
-        Ok((
-            Next {
-                entry: entry_of(number, by, first),
-                position,
-                sayings,
-                step: change,
-            },
-            Next {
-                entry: entry_of(number + 1, by, second),
-                position,
-                sayings: later,
-                step: behind,
-            },
-        ))
+        match self.take_steps(alloc, by, &first, &second) {
+            Ok((position, step, behind)) => {
+                let sayings = self.sayings(by, &first);
+                let number = self.journal.length() + 1;
+                let later = edit_sayings(number + 1, &second);
+                let next = Next {
+                    entry: entry_of(number, by, first),
+                    position,
+                    sayings,
+                    step,
+                };
+                let second = Next {
+                    entry: entry_of(number + 1, by, second),
+                    position,
+                    sayings: later,
+                    step: behind,
+                };
+                Ok((next, second))
+            }
+            Err(fault) => {
+                drop(first);
+                drop(second);
+                Err(fault)
+            }
+        }
     }
 
     /// Takes the memory for Edits of two copies of a family, if nothing stands against them. The journal stays as it is.
@@ -186,6 +219,8 @@ impl State {
         ensures behind { IfOk result (λ made. IsSecond self.new made.0 made.1) }
     {
         if self.journal.length() + 2 > MOST_ENTRIES {
+            drop(first);
+            drop(second);
             return Err(Cause::JournalFull);
         }
         match self.prepare_free_two(alloc, by, first, second) {

@@ -3,7 +3,7 @@ ghost use Rattle.std.specs.Prelude.{◌≡◌, ◌==◌, not, [], ◌∷◌, tru
 ghost use Rattle.pana_hall.specs.{inner.Spots.IsThere, inner.Spots.other_there, Accepted.IsAccepted, Living.living, Pending.is_last};
 ghost use Rattle.pana_hall.specs.{Effective.is_of_copies, inner.Kept.AreSpots, inner.State.IsHeld};
 ghost use Rattle.pana_journal.specs.declared.report.Report.TheVariants as reports;
-ghost use Rattle.pana_hall.specs.Refusal.{first, full, unknown, same, other_family, against_two, taken, family_full, too_deep, unknown_entry, not_yours, pending_with, settled, settled_or_followed, displaced, taken_since, unknown_family, report_refusal, query_refusal};
+ghost use Rattle.pana_hall.specs.Refusal.{first, full, unknown, same, other_family, taken, family_full, too_deep, unknown_entry, not_yours, pending_with, settled, settled_or_followed, displaced, taken_since, unknown_family, report_refusal, query_refusal};
 
 use crate::state::State;
 use pana_calls::{Cause, Query};
@@ -12,6 +12,18 @@ use pana_journal::Report;
 
 /// How many living copies a family takes.
 const MOST_COPIES: usize = 256;
+
+/// The first of these causes that holds.
+fn first(causes: &[Option<Cause>]) -> Option<Cause>
+    ensures { result ≡ first causes.now }
+{
+    for cause in causes {
+        if cause.is_some() {
+            return *cause;
+        }
+    }
+    None
+}
 
 fn same(a: u64, b: u64) -> Option<Cause>
     ensures { result ≡ same a b }
@@ -58,16 +70,6 @@ impl State {
         let copy = self.copies.get(a)?;
         let other = self.copies.get(b)?;
         (other.family != copy.family).then_some(Cause::OtherFamily)
-    }
-
-    fn against_two(&self, a: u64, b: u64) -> Option<Cause>
-        requires { AreSpots self.now.journal.entries self.now.copies }
-        ensures { result ≡ first (against_two a b (living self.now.journal.entries)) }
-    {
-        self.unknown(a)
-            .or_else(|| self.unknown(b))
-            .or_else(|| same(a, b))
-            .or_else(|| self.other_family(a, b))
     }
 
     fn taken(&self, place: &Place) -> Option<Cause>
@@ -162,10 +164,11 @@ impl State {
         requires { IsHeld self.now }
         ensures { result ≡ report_refusal 8 self.now.journal.entries (living self.now.journal.entries) by.now (reports.Withdraw entry) }
     {
-        let earlier = self
-            .full()
-            .or_else(|| self.unknown_entry(entry))
-            .or_else(|| self.not_yours(by, entry));
+        let earlier = first(&[
+            self.full(),
+            self.unknown_entry(entry),
+            self.not_yours(by, entry),
+        ]);
         if earlier.is_some() {
             return earlier;
         }
@@ -182,31 +185,38 @@ impl State {
         ensures { result ≡ report_refusal 8 self.now.journal.entries (living self.now.journal.entries) by.now report.now }
     {
         match report {
-            Report::Register { place, .. } => self.full().or_else(|| self.taken(place)),
-            Report::Duplicate { copy, place, .. } => self
-                .full()
-                .or_else(|| self.unknown(*copy))
-                .or_else(|| self.taken(place))
-                .or_else(|| self.family_full(*copy))
-                .or_else(|| self.too_deep(*copy)),
+            Report::Register { place, .. } => first(&[self.full(), self.taken(place)]),
+            Report::Duplicate { copy, place, .. } => first(&[
+                self.full(),
+                self.unknown(*copy),
+                self.taken(place),
+                self.family_full(*copy),
+                self.too_deep(*copy),
+            ]),
             Report::Edit { copy, .. }
             | Report::Note { copy, .. }
-            | Report::Remove { copy, heir: None } => { self.full().or_else(|| self.unknown(*copy)) }
+            | Report::Remove { copy, heir: None } => first(&[self.full(), self.unknown(*copy)]),
             Report::Reconcile { a, b, .. }
             | Report::Merge { a, b, .. }
             | Report::Remove {
                 copy: a,
                 heir: Some(b),
-            } => { self.full().or_else(|| self.against_two(*a, *b)) }
-            Report::Relocate { copy, place } => self
-                .full()
-                .or_else(|| self.unknown(*copy))
-                .or_else(|| self.taken(place)),
-            Report::Confirm { entry } => self
-                .full()
-                .or_else(|| self.unknown_entry(*entry))
-                .or_else(|| self.not_yours(by, *entry))
-                .or_else(|| self.settled(*entry)),
+            } => first(&[
+                self.full(),
+                self.unknown(*a),
+                self.unknown(*b),
+                same(*a, *b),
+                self.other_family(*a, *b),
+            ]),
+            Report::Relocate { copy, place } => {
+                first(&[self.full(), self.unknown(*copy), self.taken(place)])
+            }
+            Report::Confirm { entry } => first(&[
+                self.full(),
+                self.unknown_entry(*entry),
+                self.not_yours(by, *entry),
+                self.settled(*entry),
+            ]),
             Report::Withdraw { entry } => self.withdraw_refusal(by, *entry),
         }
     }
@@ -227,10 +237,13 @@ impl State {
     {
         match query {
             Query::Board { family } | Query::Stamps { family } => self.unknown_family(*family),
-            Query::Pair { a, b } => self
-                .unknown(*a)
-                .or_else(|| self.unknown(*b))
-                .or_else(|| self.other_family(*a, *b)),
+            Query::Pair { a, b } => {
+                first(&[
+                    self.unknown(*a),
+                    self.unknown(*b),
+                    self.other_family(*a, *b),
+                ])
+            }
             Query::Families
             | Query::Holdings { .. }
             | Query::At { .. }

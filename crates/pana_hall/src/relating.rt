@@ -83,7 +83,7 @@ pub fn state_of(counts: Counts) -> CopyState
 fn has(numbers: &[u64], number: u64) -> bool
     ensures { result ≡ has numbers.now number }
 {
-    numbers.iter().any(|member| *member == number)
+    numbers.contains(&number)
 }
 
 fn replaces(it: &Relative, copy: u64, newest: &[u64]) -> bool
@@ -96,16 +96,22 @@ fn replaces(it: &Relative, copy: u64, newest: &[u64]) -> bool
 pub fn first_newest(relatives: &[Relative], copy: u64, newest: &[u64]) -> Option<u64>
     ensures { result ≡ first_number (replaces newest.now copy) relatives.now }
 {
-    let found = relatives.iter().find(|it| replaces(it, copy, newest))?;
-    Some(found.copy)
+    for it in relatives {
+        if replaces(it, copy, newest) {
+            return Some(it.copy);
+        }
+    }
+    None
 }
 
 /// The first that is in conflict with the copy.
 pub fn first_in_conflict(relatives: &[Relative], copy: u64) -> Option<u64>
     ensures { result ≡ first_number (relates_so rels.Conflict copy) relatives.now }
 {
-    let found = relatives
-        .iter()
-        .find(|it| relates(it, Rel::Conflict, copy))?;
-    Some(found.copy)
+    for it in relatives {
+        if relates(it, Rel::Conflict, copy) {
+            return Some(it.copy);
+        }
+    }
+    None
 }

@@ -3,13 +3,14 @@ ghost use Rattle.std.specs.Prelude.{◌≡◌, ◌+◌, [], ◌∷◌, ◌++◌,
 
 use crate::hall::Hall;
 use crate::load_fault::{LoadCause, LoadFault};
+use crate::state::State;
 use pana_calls::Cause;
 use pana_journal::{Entry, EntryList};
 use std::alloc::Global;
 
 impl Hall {
     ghost use Rattle.pana_hall.specs.Accepted.{IsAccepted};
-    ghost use Rattle.pana_hall.specs.Load.{IsLoadFault, Stops};
+    ghost use Rattle.pana_hall.specs.Load.{IsLoadFault, Stops, StopsAt};
 
     /// A new hall that has taken these entries in order, each by the device that reported it.
     ///
@@ -21,17 +22,24 @@ impl Hall {
         ensures ok { IfOk result (λ hall. hall ≡ entries) }
         ensures fault { IfErr result (IsLoadFault entries) }
     {
-        let Ok(mut hall) = Hall::new(alloc) else {
-            return Err(LoadFault {
-                at: 0,
-                cause: LoadCause::Refused(Cause::OutOfMemory),
-            });
+        let mut hall = Hall {
+            alloc,
+            state: State::new(alloc),
         };
+        hall.take_each(entries)?;
+        Ok(hall)
+    }
+
+    /// Takes the next entries of a journal, up to the first that isn't the next one.
+    fn take_each(&mut self, entries: EntryList) -> Result<(), LoadFault>
+        ensures ok { OnOk result (self.new ≡ self.old ++ entries) }
+        ensures fault { IfErr result (StopsAt (self.old ++ entries)) }
+    {
         let mut rest = entries.into_vec().into_iter();
         while let Some(entry) = rest.next() {
-            hall.take(entry)?;
+            self.take(entry)?;
         }
-        Ok(hall)
+        Ok(())
     }
 
     /// Takes the next entry of a journal. An entry that isn't the next one changes nothing.
@@ -43,6 +51,7 @@ impl Hall {
     {
         let at = self.length() + 1;
         if entry.number != at {
+            drop(entry);
             return Err(LoadFault {
                 at,
                 cause: LoadCause::OutOfOrder,

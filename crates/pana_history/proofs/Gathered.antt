@@ -4,7 +4,8 @@ use Rattle.pana_journal.specs.declared.entry.Entry.{Entry}
 use Rattle.pana_journal.specs.declared.report.Report.{Report}
 use Rattle.pana_hall.specs.Accepted.{Accepts, AcceptsAll, IsAccepted}
 use Rattle.pana_hall.specs.Effective.{is_of_copies}
-use Rattle.pana_hall.specs.Family.{begun_or_joined, families, subject, with_entry}
+use Rattle.pana_hall.specs.Family.{begun_or_joined, families, with_entry}
+use Rattle.pana_journal.specs.Reports.{subject}
 use Rattle.pana_hall.proofs.Words.{nat_tests, cases_eq, eq-eqb, ne_eqb, fold-append, length-append}
 use Rattle.pana_hall.proofs.Sound.{IsSound, OfCopies, Confirms, Withdraws, family_new, keeps_families, kind_of, left_by, own_confirm, own_copies, own_withdraw}
 use Rattle.pana_history.specs.Lacking.{family_entries}

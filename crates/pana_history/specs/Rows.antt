@@ -4,9 +4,8 @@ use Rattle.pana_copies.specs.declared.place.Place.{Place}
 use Rattle.pana_journal.specs.declared.entry.Entry.{Entry}
 use Rattle.pana_journal.specs.declared.report.Report.{Report}
 use Rattle.pana_journal.specs.declared.report.Report.TheVariants.{Confirm, Duplicate, Edit, Merge, Note, Reconcile, Register, Relocate, Remove, Withdraw}
-use Rattle.pana_journal.specs.Reports.{kind_of}
+use Rattle.pana_journal.specs.Reports.{kind_name, kind_of}
 use Rattle.pana_ask.specs.Place.{place_name}
-use Rattle.pana_ask.specs.Report.{kind_name}
 use Rattle.pana_hall.specs.Living.{changes, living}
 use Rattle.pana_history.specs.declared.lane.Lane.{Lane}
 use Rattle.pana_history.specs.declared.mark.Mark.{Mark}

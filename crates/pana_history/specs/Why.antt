@@ -4,11 +4,10 @@ use Rattle.std.specs.List.{flat_map}
 use Rattle.pana_copies.specs.declared.place.Place.{Place}
 use Rattle.pana_copies.specs.Places.{same_place}
 use Rattle.pana_journal.specs.declared.entry.Entry.{Entry}
-use Rattle.pana_journal.specs.Reports.{kind_of}
+use Rattle.pana_journal.specs.Reports.{kind_name, kind_of}
 use Rattle.pana_calls.specs.declared.call.Call.{Call}
 use Rattle.pana_calls.specs.declared.answer.Answer.{Answer}
 use Rattle.pana_ask.specs.Place.{place_name, unknown_line}
-use Rattle.pana_ask.specs.Report.{kind_name}
 use Rattle.pana_ask.specs.Verdict.{verdict_line}
 use Rattle.pana_ask.specs.declared.verdict.Verdict.TheVariants.{Unrelated}
 use Rattle.pana_hall.specs.Living.{Copy, living, number_of}

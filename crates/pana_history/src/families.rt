@@ -1,7 +1,8 @@
 //! The entries of one family that count.
 ghost use Rattle.std.specs.Prelude.{◌≡◌, ◌++◌, [], ◌∷◌, IfOk, filter, not, ◌==◌, if◌then◌else◌};
 ghost use Rattle.pana_hall.specs.Accepted.{IsAccepted};
-ghost use Rattle.pana_hall.specs.Family.{begun_or_joined, subject};
+ghost use Rattle.pana_hall.specs.Family.{begun_or_joined};
+ghost use Rattle.pana_journal.specs.Reports.{subject};
 ghost use Rattle.pana_history.specs.Lacking.{family_entries};
 ghost use Rattle.pana_history.specs.Lanes.{own_entries};
 ghost use Rattle.pana_history.specs.inner.Families.{family_in, with_next};
@@ -31,28 +32,12 @@ impl FamilyTable {
         ensures family { IfOk result (λ family. family ≡ begun_or_joined (family_in self.old.families.items) entry.now.number (subject entry.now.report)) }
         ensures more { IfOk result (λ family. self.new.families.items ≡ self.old.families.items ++ family ∷ []) }
     {
-        let family = match subject(&entry.report) {
+        let family = match entry.report.subject() {
             Some(number) => self.family_of(number),
             None => entry.number,
         };
         self.families.push(family)?;
         Ok(family)
-    }
-}
-
-/// The copy, or the entry, to whose family a report belongs. A Register begins a family of its own.
-fn subject(report: &Report) -> Option<u64>
-    ensures { result ≡ subject report.now }
-{
-    match report {
-        Report::Register { .. } => None,
-        Report::Duplicate { copy, .. }
-        | Report::Edit { copy, .. }
-        | Report::Note { copy, .. }
-        | Report::Relocate { copy, .. }
-        | Report::Remove { copy, .. } => Some(*copy),
-        Report::Reconcile { a, .. } | Report::Merge { a, .. } => Some(*a),
-        Report::Confirm { entry } | Report::Withdraw { entry } => Some(*entry),
     }
 }
 

@@ -4,7 +4,7 @@ ghost use Rattle.pana_ask.specs.Place.{place_name};
 ghost use Rattle.pana_history.specs.Rows.{copy_name, ending, entry_text, head_text, name_by, now_text, subject_text};
 
 use crate::lane::{Lane, place_at};
-use pana_ask::{kind_name, place_name};
+use pana_ask::place_name;
 use pana_copies::Place;
 use pana_journal::{Entry, Report};
 use std::alloc::{AllocError, Global};
@@ -114,7 +114,7 @@ pub(crate) fn entry_text(
 ) -> Result<String, AllocError>
     ensures { IfOk result (λ text. string_bytes text ≡ entry_text lanes.now withdrawal entry.now) }
 {
-    let kind = kind_name(entry.report.kind());
+    let kind = entry.report.kind().name();
     let subject = subject_text(alloc, lanes, &entry.report)?;
     let subject = subject.as_str();
     let ending = ending(alloc, withdrawal)?;

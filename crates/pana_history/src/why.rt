@@ -11,7 +11,7 @@ ghost use Rattle.pana_history.specs.Why.{Explains, IsDamage, IsExplained, SaysNo
 
 use crate::difference::{Difference, difference_between};
 use crate::pages::journal_of;
-use pana_ask::{Verdict, kind_name, place_name, unknown_line};
+use pana_ask::{Verdict, place_name, unknown_line};
 use pana_calls::{Call, Cause, CopyStanding, NoAnswer, Query, Reply, Session};
 use pana_copies::{DeviceName, Place};
 use pana_hall::{Hall, LoadCause, LoadFault};
@@ -72,7 +72,7 @@ impl From<AllocError> for Unexplained {
 fn has_line(alloc: Global, name: &str, entry: &Entry) -> Result<String, AllocError>
     ensures { IfOk result (λ line. string_bytes line ≡ has_line name.now entry.now) }
 {
-    let kind = kind_name(entry.report.kind());
+    let kind = entry.report.kind().name();
     format!(in alloc;
         "{name} has {} {kind} by {}\n",
         entry.number,

@@ -1,4 +1,5 @@
 pub mod Matches
+pub mod Ends
 pub mod NameRuns
 pub mod PathRuns
 pub mod Splits

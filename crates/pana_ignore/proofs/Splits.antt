@@ -1,8 +1,10 @@
 -- A text from one separator to the next.
-use Rattle.std.specs.Prelude.{ℕ, ◌+◌, ◌-◌, ◌≤◌, Bool, true, false, cond, List, [], ◌∷◌, None, Some, suc, length, take, drop}
+use Rattle.std.specs.Prelude.{ℕ, ◌+◌, ◌-◌, ◌==◌, ◌<◌, ◌≤◌, Bool, true, false, cond, List, [], ◌∷◌, ◌++◌, None, Some, suc, length, take, drop}
 use Rattle.std.specs.List.{position_from}
-use Rattle.std.proofs.Common.{◌≡◌, refl, sym, ◌∙◌, ap, arith, inl, inr}
-use Rattle.std.proofs.lemmas.Bool.{cond-true, cond-false, cases_Bool}
+use Rattle.std.proofs.Common.{◌≡◌, refl, sym, ◌∙◌, ap, arith, inl, inr, get_or}
+use Rattle.std.proofs.Math.Seq.{drop-cons}
+use Rattle.std.proofs.lemmas.List.{take-append-drop}
+use Rattle.std.proofs.lemmas.Bool.{cond-true, cond-false, cases_Bool, eq-eqb, ne_eqb}
 use Rattle.pana_ignore.specs.Match.{split, onto_first, is_nothing}
 
 -- no separator is found
@@ -63,3 +65,47 @@ length-split test (item ∷ items) =
       | true ↦ omega (arith, later)
       | false ↦ omega (arith, later, same)
     ]
+
+-- ---- from the end
+
+onto_first-append : {A : Type 0} (item : A) (lists more : List (List A)) → is_nothing lists ≡ false → onto_first item (lists ++ more) ≡ onto_first item lists ++ more
+onto_first-append item [] more h = absurd (cc)
+onto_first-append item (first ∷ others) more h = refl
+
+-- what stands before a separator and what stands behind it are split each by itself
+pub split-append : {A : Type 0} (test : A → Bool) (before : List A) (separator : A) (behind : List A) → test separator ≡ true
+    → split test (before ++ separator ∷ behind) ≡ split test before ++ split test behind
+split-append test [] separator behind h = cond-true (test separator) ([] ∷ split test behind) (onto_first separator (split test behind)) h
+split-append test (item ∷ before) separator behind h =
+    let later = split-append test before separator behind h in
+    elim (test item) as (λ b. cond b ([] ∷ split test (before ++ separator ∷ behind)) (onto_first item (split test (before ++ separator ∷ behind)))
+    ≡ cond b ([] ∷ split test before) (onto_first item (split test before)) ++ split test behind) [
+      | true ↦ ap (λ lists. [] ∷ lists) later
+      | false ↦ ap (onto_first item) later ∙ onto_first-append item (split test before) (split test behind) (is_nothing-split test before)
+    ]
+
+-- one item more before a list without a separator
+pub split-apart : {A : Type 0} (test : A → Bool) (item : A) (items : List A) → test item ≡ false → split test items ≡ items ∷ []
+    → split test (item ∷ items) ≡ (item ∷ items) ∷ []
+split-apart test item items isnt apart =
+    cond-false (test item) ([] ∷ split test items) (onto_first item (split test items)) isnt ∙ ap (onto_first item) apart
+
+cut-at : (text : List ℕ) (start : ℕ) → 0 < start → start ≤ length text → drop (start - 1) text ≡ get_or text (start - 1) 0 ∷ drop start text
+cut-at text start some within =
+    let next : suc (start - 1) ≡ start = omega arith in
+    drop-cons text (start - 1) 0 (omega arith) ∙ ap (λ n. get_or text (start - 1) 0 ∷ drop n text) next
+
+-- the last separator stands before `start`
+pub split-at : (separator : ℕ) (text : List ℕ) (start : ℕ) → 0 < start → start ≤ length text → get_or text (start - 1) 0 ≡ separator
+    → split (λ b. b == separator) text ≡ split (λ b. b == separator) (take (start - 1) text) ++ split (λ b. b == separator) (drop start text)
+split-at separator text start some within is =
+    let cut = cut-at text start some within ∙ ap (λ b. b ∷ drop start text) is in
+    ap (split (λ b. b == separator)) (sym (take-append-drop (start - 1) text) ∙ ap (λ rest. take (start - 1) text ++ rest) cut)
+    ∙ split-append (λ b. b == separator) (take (start - 1) text) separator (drop start text) (eq-eqb separator separator refl)
+
+-- no separator stands there either
+pub apart-at : (separator : ℕ) (text : List ℕ) (start : ℕ) → 0 < start → start ≤ length text → (get_or text (start - 1) 0 ≡ separator → ⊥)
+    → split (λ b. b == separator) (drop start text) ≡ drop start text ∷ []
+    → split (λ b. b == separator) (drop (start - 1) text) ≡ drop (start - 1) text ∷ []
+apart-at separator text start some within isnt apart =
+    rw (cut-at text start some within) (split-apart (λ b. b == separator) (get_or text (start - 1) 0) (drop start text) (ne_eqb (get_or text (start - 1) 0) separator isnt) apart)

@@ -3,7 +3,7 @@ ghost use Rattle.pana_ignore.specs.Pattern.{class_has};
 ghost use Rattle.pana_ignore.specs.Spelling.{class_named};
 
 /// A class of bytes that has a name in a set, as `[:alpha:]`. None has a byte above 127.
-#[derive(Clone, Copy, Debug)]
+#[derive(Clone, Copy)]
 pub enum ByteClass {
     Alnum,
     Alpha,

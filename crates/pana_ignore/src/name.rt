@@ -70,8 +70,8 @@ fn find<'a>(pieces: &'a [Piece], name: &'a [u8]) -> NameRun<'a>
     }
 }
 
-/// Whether a name matches pieces. Takes no memory; O(n m) in their lengths.
-pub(crate) fn is_name_match(pieces: &[Piece], name: &[u8]) -> bool
+/// Whether a name matches pieces, from its first byte on.
+fn matches_forward(pieces: &[Piece], name: &[u8]) -> bool
     ensures { result ≡ is_name_match pieces.now name.now }
 {
     let mut met = run(pieces, name);
@@ -79,4 +79,26 @@ pub(crate) fn is_name_match(pieces: &[Piece], name: &[u8]) -> bool
         met = find(pieces, name);
     }
     !met.has_failed()
+}
+
+/// Whether a name matches pieces: those behind the last star first, from the end. Takes no memory; O(n m) in their lengths.
+pub(crate) fn is_name_match(pieces: &[Piece], name: &[u8]) -> bool
+    ensures { result ≡ is_name_match pieces.now name.now }
+{
+    let mut before = pieces;
+    let mut rest = name;
+    while let Some((piece, others)) = before.split_last() {
+        if piece.is_star() {
+            return matches_forward(before, rest);
+        }
+        let Some((byte, left)) = rest.split_last() else {
+            return false;
+        };
+        if !piece.fits(*byte) {
+            return false;
+        }
+        before = others;
+        rest = left;
+    }
+    rest.is_empty()
 }

@@ -6,7 +6,7 @@ use crate::piece::Piece;
 use pana_list::PlainList;
 
 /// What stands for names of a path.
-#[derive(Debug, Drop)]
+#[derive(Drop)]
 pub enum Part {
     /// Any number of folders.
     Folders,

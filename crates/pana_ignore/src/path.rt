@@ -5,7 +5,7 @@ ghost use Rattle.pana_ignore.specs.Pattern.{is_path_match, names_of};
 ghost use Rattle.pana_ignore.specs.inner.Runs.{path_outcome, parts_left, has_no_path, names_left, IsAsGoodPath};
 
 use crate::part::Part;
-use crate::split::split_first;
+use crate::split::{split_first, split_last};
 
 /// How matching went up to the first `**`.
 #[derive(Clone, Copy)]
@@ -71,13 +71,27 @@ fn find<'a>(parts: &'a [Part], path: Option<&'a [u8]>) -> PathRun<'a>
     }
 }
 
-/// Whether a path matches parts. Takes no memory; O(n m) in the lengths of both.
-pub(crate) fn is_path_match(parts: &[Part], path: &[u8]) -> bool
-    ensures { result ≡ is_path_match parts.now (names_of path.now) }
+/// Whether what is left of a path matches parts.
+fn matches_left(parts: &[Part], path: Option<&[u8]>) -> bool
+    ensures { result ≡ is_path_match parts.now (names_left (option_copied path.entry)) }
 {
-    let mut met = run(parts, Some(path));
+    let mut met = run(parts, path);
     while let PathRun::AtFolders(parts, rest) = met {
         met = find(parts, rest);
     }
     !met.has_failed()
+}
+
+/// Whether a path matches parts. Takes no memory; O(n m) in the lengths of both.
+pub(crate) fn is_path_match(parts: &[Part], path: &[u8]) -> bool
+    ensures { result ≡ is_path_match parts.now (names_of path.now) }
+{
+    // The last name comes first, since by it most paths differ.
+    match parts.split_last() {
+        Some((part, others)) if !part.is_folders() => {
+            let (above, name) = split_last(path, b'/');
+            part.fits(name) && matches_left(others, above)
+        }
+        _ => matches_left(parts, Some(path)),
+    }
 }

@@ -9,7 +9,7 @@ use pana_list::PlainList;
 use std::alloc::{AllocError, Global};
 
 /// A pattern of paths.
-#[derive(Debug, Drop)]
+#[derive(Drop)]
 pub struct Pattern {
     /// Whether paths that match are included again.
     pub includes: bool,

@@ -13,7 +13,7 @@ use std::alloc::{AllocError, Global};
 use std::marker::Model;
 
 /// Patterns of paths, of which the last that matches decides.
-#[derive(Debug, Drop)]
+#[derive(Drop)]
 pub struct Patterns {
     alloc: Global,
     patterns: Vec<Pattern>,

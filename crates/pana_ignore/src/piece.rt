@@ -7,7 +7,7 @@ use crate::byte_class::ByteClass;
 use pana_list::PlainList;
 
 /// Some of the bytes that a set has.
-#[derive(Clone, Copy, Debug)]
+#[derive(Clone, Copy)]
 pub enum SetItem {
     /// The bytes from the first to the last.
     Range(u8, u8),
@@ -26,14 +26,14 @@ impl SetItem {
 }
 
 /// A set of bytes: those that an item has, or, where it is negated, those that none has.
-#[derive(Debug, Drop)]
+#[derive(Drop)]
 pub struct ByteSet {
     pub is_negated: bool,
     pub items: PlainList<SetItem>,
 }
 
 /// What stands for bytes of a name.
-#[derive(Debug, Drop)]
+#[derive(Drop)]
 pub enum Piece {
     /// Any number of bytes.
     Star,

@@ -1,6 +1,6 @@
 //! The parts of a pattern in its text.
-ghost use Rattle.std.specs.Prelude.{◌≡◌, ◌<◌, ◌≤◌, ◌∷◌, ◌++◌, IfOk, OnOk, IfSome, List, [], if◌then◌else◌, length, option_map};
-ghost use Rattle.pana_ignore.specs.declared.part.Part.TheVariants.{Folders};
+ghost use Rattle.std.specs.Prelude.{◌≡◌, ◌<◌, ◌≤◌, ◌∷◌, ◌++◌, IfOk, OnOk, IfSome, List, [], None, Some, if◌then◌else◌, length, option_map};
+ghost use Rattle.pana_ignore.specs.declared.part.Part.TheVariants.{Folders, Name};
 ghost use Rattle.std.specs.List.{list_all};
 ghost use Rattle.pana_ignore.specs.declared.piece.Piece.{Piece};
 ghost use Rattle.pana_ignore.specs.Pattern.{is_star};
@@ -14,6 +14,7 @@ use crate::set::set_at;
 use crate::set_item::byte_at;
 use pana_list::PlainList;
 use std::alloc::{AllocError, Global};
+use std::mem;
 
 /// The piece at the head of a text, and how many bytes it takes. `None` where there is none.
 fn piece_at(alloc: Global, text: &[u8]) -> Result<Option<(Piece, usize)>, AllocError>
@@ -49,47 +50,87 @@ fn are_stars(name: &[Piece]) -> bool
     name.len() >= 2 && all_stars(name)
 }
 
-/// The part before a slash.
-fn part_of(name: PlainList<Piece>) -> Part
-    ensures { result ≡ part_of name }
-{
-    if are_stars(name.as_slice()) {
-        Part::Folders
-    } else {
-        Part::Name(name)
-    }
-}
-
-/// Appends the parts at the end.
-fn push_last(alloc: Global, parts: &mut Vec<Part>, name: PlainList<Piece>) -> Result<(), AllocError>
-    ensures { OnOk result (parts.new.items ≡ parts.old.items ++ last_parts name) }
-{
-    if are_stars(name.as_slice()) {
-        let mut any = Vec::new(alloc);
-        any.push(Piece::Star)?;
-        parts.push(Part::Folders)?;
-        parts.push(Part::Name(PlainList::from_vec(any)))?;
-    } else {
-        parts.push(Part::Name(name))?;
-    }
-    Ok(())
-}
-
-/// Takes a piece behind those of a name that isn't done, and returns those of the name that isn't done then.
-fn push_piece(
+/// The parts that were read of a text, and the pieces of a name that isn't done.
+#[derive(Drop)]
+struct Reading {
     alloc: Global,
-    parts: &mut Vec<Part>,
-    mut name: Vec<Piece>,
-    piece: Piece,
-) -> Result<Vec<Piece>, AllocError>
-    ensures { IfOk result (λ next. (pieces : List Piece) → parts.old.items ++ parts_behind name.items (piece ∷ pieces) ≡ parts.new.items ++ parts_behind next.items pieces) }
-{
-    if piece.is_slash() {
-        parts.push(part_of(PlainList::from_vec(name)))?;
-        Ok(Vec::new(alloc))
-    } else {
-        name.push(piece)?;
-        Ok(name)
+    parts: Vec<Part>,
+    name: Vec<Piece>,
+}
+
+impl Reading {
+    /// Before a text: any folders, where the pattern isn't anchored.
+    fn begin(&mut self, is_anchored: bool) -> Result<(), AllocError>
+        ensures parts { OnOk result (self.new.parts.items ≡ self.old.parts.items ++ (if is_anchored then [] else Folders ∷ [])) }
+        ensures name { self.new.name.items ≡ self.old.name.items }
+    {
+        if !is_anchored {
+            self.parts.push(Part::Folders)?;
+        }
+        Ok(())
+    }
+
+    /// Ends the name.
+    fn push_name(&mut self) -> Result<(), AllocError>
+        ensures parts { OnOk result (self.new.parts.items ≡ self.old.parts.items ++ Name self.old.name.items ∷ []) }
+        ensures name { self.new.name.items ≡ [] }
+    {
+        let name = mem::replace(&mut self.name, Vec::new(self.alloc));
+        self.parts.push(Part::Name(PlainList::from_vec(name)))?;
+        Ok(())
+    }
+
+    /// Ends the name before a slash.
+    fn end_name(&mut self) -> Result<(), AllocError>
+        ensures parts { OnOk result (self.new.parts.items ≡ self.old.parts.items ++ part_of self.old.name.items ∷ []) }
+        ensures name { OnOk result (self.new.name.items ≡ []) }
+    {
+        if !are_stars(self.name.as_slice()) {
+            return self.push_name();
+        }
+        self.name.clear();
+        self.parts.push(Part::Folders)?;
+        Ok(())
+    }
+
+    /// Ends the last name.
+    fn end(&mut self) -> Result<(), AllocError>
+        ensures { OnOk result (self.new.parts.items ≡ self.old.parts.items ++ last_parts self.old.name.items) }
+    {
+        if are_stars(self.name.as_slice()) {
+            self.parts.push(Part::Folders)?;
+            self.name.truncate(1);
+        }
+        self.push_name()
+    }
+
+    /// Takes the next piece.
+    fn take(&mut self, piece: Piece) -> Result<(), AllocError>
+        ensures { OnOk result ((pieces : List Piece) → self.old.parts.items ++ parts_behind self.old.name.items (piece ∷ pieces) ≡ self.new.parts.items ++ parts_behind self.new.name.items pieces) }
+    {
+        if piece.is_slash() {
+            drop(piece);
+            return self.end_name();
+        }
+        self.name.push(piece)?;
+        Ok(())
+    }
+
+    /// Takes the pieces of a text. Whether it spells some.
+    fn read(&mut self, text: &[u8], is_anchored: bool) -> Result<bool, AllocError>
+        ensures { IfOk result (λ is_read. option_map (λ pieces. (self.old.parts.items ++ (if is_anchored then [] else Folders ∷ [])) ++ parts_behind self.old.name.items pieces) (pieces_of text.now) ≡ (if is_read then Some self.new.parts.items else None)) }
+    {
+        self.begin(is_anchored)?;
+        let mut rest = text;
+        while !rest.is_empty() {
+            let Some((piece, length)) = piece_at(self.alloc, rest)? else {
+                return Ok(false);
+            };
+            self.take(piece)?;
+            rest = rest.split_at(length).1;
+        }
+        self.end()?;
+        Ok(true)
     }
 }
 
@@ -101,27 +142,23 @@ pub(crate) fn read_parts(
 ) -> Result<Option<PlainList<Part>>, AllocError>
     ensures { IfOk result (λ found. found ≡ option_map (parts_of is_anchored) (pieces_of text.now)) }
 {
-    let mut parts = first_parts(alloc, is_anchored)?;
-    let mut name = Vec::new(alloc);
-    let mut rest = text;
-    while !rest.is_empty() {
-        let Some((piece, length)) = piece_at(alloc, rest)? else {
-            return Ok(None);
-        };
-        name = push_piece(alloc, &mut parts, name, piece)?;
-        rest = rest.split_at(length).1;
+    let mut reading = Reading {
+        alloc,
+        parts: Vec::new(alloc),
+        name: Vec::new(alloc),
+    };
+    let is_read = reading.read(text, is_anchored);
+    let Reading { parts, name, .. } = reading;
+    drop(name);
+    match is_read {
+        Ok(true) => Ok(Some(PlainList::from_vec(parts))),
+        Ok(false) => {
+            drop(parts);
+            Ok(None)
+        }
+        Err(fault) => {
+            drop(parts);
+            Err(fault)
+        }
     }
-    push_last(alloc, &mut parts, PlainList::from_vec(name))?;
-    Ok(Some(PlainList::from_vec(parts)))
-}
-
-/// Any folders, where the pattern isn't anchored.
-fn first_parts(alloc: Global, is_anchored: bool) -> Result<Vec<Part>, AllocError>
-    ensures { IfOk result (λ parts. parts.items ≡ (if is_anchored then [] else Folders ∷ [])) }
-{
-    let mut parts = Vec::new(alloc);
-    if !is_anchored {
-        parts.push(Part::Folders)?;
-    }
-    Ok(parts)
 }

@@ -29,7 +29,7 @@ pub enum JournalFault {
 /// The entries in order, numbered from 1 without gaps.
 ///
 /// An entry goes in by two calls: `reserve`, which may fail, and then `append`, which can't.
-#[derive(Debug, Drop)]
+#[derive(Drop)]
 pub struct Journal {
     entries: Vec<Entry>,
 }

@@ -1,5 +1,5 @@
 ghost use Rattle.std.specs.Prelude.{◌≡◌, IfOk, option_copied};
-ghost use Rattle.pana_journal.specs.Reports.{given_sum};
+ghost use Rattle.pana_journal.specs.Reports.{given_sum, subject};
 
 use pana_copies::{Place, Sum};
 use std::alloc::{AllocError, Global};
@@ -115,6 +115,23 @@ impl Report {
             Report::Confirm { entry } => Report::Confirm { entry: *entry },
             Report::Withdraw { entry } => Report::Withdraw { entry: *entry },
         })
+    }
+
+    /// The copy, or the entry, to whose family the report belongs. A Register names none: it begins a family of its own. Takes no
+    /// memory.
+    pub fn subject(&self) -> Option<u64>
+        ensures { result ≡ subject self.now }
+    {
+        match self {
+            Report::Register { .. } => None,
+            Report::Duplicate { copy, .. }
+            | Report::Edit { copy, .. }
+            | Report::Note { copy, .. }
+            | Report::Relocate { copy, .. }
+            | Report::Remove { copy, .. } => Some(*copy),
+            Report::Reconcile { a, .. } | Report::Merge { a, .. } => Some(*a),
+            Report::Confirm { entry } | Report::Withdraw { entry } => Some(*entry),
+        }
     }
 
     /// The sum that the report gives, if it does. Takes no memory.

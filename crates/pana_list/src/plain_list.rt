@@ -4,7 +4,7 @@ use std::alloc::{AllocError, Global};
 use std::marker::Model;
 
 /// Items in order. To contracts it is the list of them, so whatever holds one is plain data there.
-#[derive(Debug, Drop)]
+#[derive(Drop)]
 pub struct PlainList<T> {
     items: Vec<T>,
 }

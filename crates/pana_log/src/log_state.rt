@@ -1,5 +1,5 @@
 /// What a log may be asked next.
-#[derive(Clone, Copy, Debug, PartialEq, Eq)]
+#[derive(Clone, Copy, PartialEq, Eq)]
 pub enum LogState {
     /// To read its file.
     Unread,

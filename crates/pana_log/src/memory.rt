@@ -1,4 +1,4 @@
-ghost use Rattle.std.specs.Prelude.{◌≡◌, ◌⊎◌, ◌<◌, ℕ, List, [], ◌∷◌, ◌++◌, true, false, IsTrue, length, take, drop, IfOk, OnOk, OnErr, IfErr, IsErrOf};
+ghost use Rattle.std.specs.Prelude.{◌≡◌, ◌⊎◌, ◌<◌, ◌+◌, ℕ, List, [], ◌∷◌, ◌++◌, true, false, IsTrue, length, take, drop, IfOk, OnOk, OnErr, IfErr, IsErrOf};
 ghost use Rattle.pana_log.specs.Operations.{file_after, file_of, LeftAfter, MayLeave, LeftSince, left_now, left_last};
 ghost use Rattle.pana_log.specs.Device.{Torn};
 
@@ -21,7 +21,7 @@ pub struct MemoryDevice {
 }
 
 /// A crash of a device in memory: when it came, and what of the writes since the last sync had reached the disk by then.
-#[derive(Clone, Copy, Debug, PartialEq, Eq)]
+#[derive(Clone, Copy)]
 pub struct Crash {
     /// After so many operations, the last of which may be torn.
     pub operations: usize,
@@ -76,11 +76,7 @@ impl MemoryDevice {
         let mut left = crash.written;
         for operation in operations {
             tear(self.alloc, &mut durable, &file, operation, left, crash)?;
-            left = match operation {
-                Operation::Write { at: _, bytes } => left.saturating_sub(bytes.len()),
-                Operation::Cut { len: _ } => left,
-                Operation::Sync => crash.written,
-            };
+            left = left_behind(operation, left, crash.written);
             file = apply(self.alloc, &file, operation)?;
         }
         Ok(durable)
@@ -105,6 +101,15 @@ impl MemoryDevice {
             return Err(DeviceFault::OutOfMemory);
         }
         Ok(())
+    }
+}
+
+/// How many bytes more reach the disk behind an operation, where so many of the writes behind a sync do.
+fn left_behind(operation: &Operation, left: usize, written: usize) -> usize {
+    match operation {
+        Operation::Write { at: _, bytes } => left.saturating_sub(bytes.len()),
+        Operation::Cut { len: _ } => left,
+        Operation::Sync => written,
     }
 }
 
@@ -184,16 +189,21 @@ fn apply(alloc: Global, file: &[u8], operation: &Operation) -> Result<Vec<u8>, A
     ensures { IfOk result (λ after. after.items ≡ file_after operation.now file.now) }
 {
     match operation {
-        Operation::Write { at, bytes } => {
-            let mut after = file[..(*at).min(file.len())].to_vec(alloc)?;
-            after.extend_from_slice(bytes)?;
-            let end = at.saturating_add(bytes.len()).min(file.len());
-            after.extend_from_slice(&file[end..])?;
-            Ok(after)
-        }
-        Operation::Cut { len } => Ok(file[..(*len).min(file.len())].to_vec(alloc)?),
-        Operation::Sync => Ok(file.to_vec(alloc)?),
+        Operation::Write { at, bytes } => write(alloc, file, *at, bytes.as_slice()),
+        Operation::Cut { len } => file[..(*len).min(file.len())].to_vec(alloc),
+        Operation::Sync => file.to_vec(alloc),
     }
+}
+
+/// The file as it is read after a write.
+fn write(alloc: Global, file: &[u8], at: usize, bytes: &[u8]) -> Result<Vec<u8>, AllocError>
+    ensures { IfOk result (λ after. after.items ≡ take at file.now ++ bytes.now ++ drop (at + length bytes.now) file.now) }
+{
+    let mut after = file[..at.min(file.len())].to_vec(alloc)?;
+    after.extend_from_slice(bytes)?;
+    let end = at.saturating_add(bytes.len()).min(file.len());
+    after.extend_from_slice(&file[end..])?;
+    Ok(after)
 }
 
 /// The file as it is read after these operations.

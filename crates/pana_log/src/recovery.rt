@@ -12,7 +12,7 @@ use crate::log_state::LogState;
 use std::alloc::Global;
 
 /// What a file stood for when it was opened.
-#[derive(Debug, Drop)]
+#[derive(Drop)]
 pub struct Recovery {
     /// Its lines, each with its newline.
     pub text: Vec<u8>,

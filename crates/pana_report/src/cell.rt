@@ -6,7 +6,7 @@ use std::alloc::AllocError;
 use unicode_width::UnicodeWidthStr;
 
 /// The side of a column to which its texts go.
-#[derive(Clone, Copy, Debug, PartialEq, Eq)]
+#[derive(Clone, Copy, PartialEq, Eq)]
 pub(crate) enum Alignment {
     Left,
     Right,

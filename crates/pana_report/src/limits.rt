@@ -18,7 +18,7 @@ const LAST_HEAD: usize = 10;
 const OTHERS: usize = 12;
 
 /// How many columns of a terminal the place of a copy may take, and that of the other one; where there is none, any number.
-#[derive(Debug, Drop)]
+#[derive(Drop)]
 pub(crate) struct Limits {
     pub copy: Option<usize>,
     pub other: Option<usize>,

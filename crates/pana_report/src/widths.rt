@@ -28,7 +28,7 @@ const LEAST_PLACE: usize = 5;
 const OTHERS: usize = 43;
 
 /// The widths of the columns that are as wide as their widest text, and how many columns of a terminal a place may take.
-#[derive(Debug, Drop)]
+#[derive(Drop)]
 pub(crate) struct Widths {
     pub copy: usize,
     pub place: usize,

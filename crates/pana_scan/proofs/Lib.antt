@@ -6,7 +6,6 @@ pub mod Hashed
 pub mod Kept
 pub mod Walked
 pub mod Looked
-pub mod Recalled
 pub mod Sorted
 pub mod Pooled
 pub mod Taken

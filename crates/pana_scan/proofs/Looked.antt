@@ -1,5 +1,5 @@
 -- Files that are looked at, each once, and their rows in byte order.
-use Rattle.std.specs.Prelude.{◌≡◌, ℕ, suc, ◌+◌, ◌≤◌, cond, Bool, true, false, ◌||◌, IsTrue, List, All, [], ◌∷◌, ◌++◌, Option, length, map, sum_by, take, drop}
+use Rattle.std.specs.Prelude.{◌≡◌, ℕ, suc, ◌+◌, ◌≤◌, cond, Bool, true, false, ◌||◌, IsTrue, List, All, [], ◌∷◌, ◌++◌, Option, Result, Ok, Err, IfOk, length, map, sum_by, take, drop}
 use Rattle.std.specs.List.{AllByRecursion, IsDistinct, dedup, dedup_from}
 use Rattle.std.specs.List.Sorted.{IsPermutation, IsSorted, IsSortedBy, IsStrictlySortedBy}
 use Rattle.std.specs.declared.cmp.Ordering.TheVariants.{Less, Equal, Greater}
@@ -16,12 +16,13 @@ use Rattle.std.proofs.lemmas.List.Sorted.{All-permutation, IsPermutation-append,
 use Rattle.std.proofs.lemmas.Map.Keys.{IsDistinct-IsPermutation}
 use native.Mathlib.Numerals.{unary_clauses}
 use Rattle.pana_scan.specs.declared.listing.FoundRow.{FoundRow}
+use Rattle.pana_scan.specs.declared.looking.Looked.{Looked}
 use Rattle.pana_scan.specs.Disk.{Content, Tree}
 use Rattle.pana_scan.specs.Listing.{Contents, RowsRise}
 use Rattle.pana_scan.specs.Order.{Path, in_order, path_cmp}
 use Rattle.pana_scan.specs.Scan.{HaveFiles, is_unreadable, listing_of, row_at, unreadable_count}
 use Rattle.pana_scan.specs.Tree.{files_of, folders_of, skipped_of}
-use Rattle.pana_scan.specs.inner.Look.{AreLookedAt, AreRows, paths_of}
+use Rattle.pana_scan.specs.inner.Look.{AreLookedAt, AreMerged, AreRows, paths_of}
 use Rattle.pana_scan.proofs.Order.{IsBelow, Rise, below_chain, eq_is_same, has, in_order_has, in_order_rise, less_differs, same_paths, turned}
 
 -- ---- sorted paths, each once
@@ -174,6 +175,15 @@ module _ {D : Type 0} (is_known : Bool) (tree_of : D → Tree) (faults : D → �
             let count = ap unreadable_count rows_is ∙ count_both first second in
             omega (arith, low.unread, high.unread, before, after_all, count);
       }
+
+  pub both_look : {E : Type 0} (files mine theirs : List Path) (n : ℕ) (disks front back : List D) (one other : Result (Looked D) E) (all : Looked D) → IsPermutation files (mine ++ theirs)
+      → front ≡ take n disks → back ≡ drop n disks → IfOk one (λ it. AreLookedAt is_known tree_of faults root mine front it.rows.items it.disks.items)
+      → IfOk other (λ it. AreLookedAt is_known tree_of faults root theirs back it.rows.items it.disks.items) → AreMerged one other all
+      → AreLookedAt is_known tree_of faults root files disks all.rows.items all.disks.items
+  both_look files mine theirs n disks front back (Ok one) (Ok other) all dealt front_is back_is low high merged =
+      halves_look files mine theirs n disks front back all.rows.items one.rows.items other.rows.items all.disks.items one.disks.items other.disks.items dealt front_is back_is low high merged.0 merged.1
+  both_look files mine theirs n disks front back (Ok one) (Err fault) all dealt front_is back_is low high merged = absurd merged
+  both_look files mine theirs n disks front back (Err fault) other all dealt front_is back_is low high merged = absurd merged
 
 -- ---- dealt out to two
 

@@ -8,7 +8,6 @@ pub mod Names
 pub mod Tree
 pub mod Scan
 pub mod Quick
-pub mod Memory
 pub mod Fault
 pub mod inner
 pub mod laws

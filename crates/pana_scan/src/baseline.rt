@@ -8,21 +8,21 @@ use std::alloc::{AllocError, Global};
 use std::marker::Model;
 
 /// A fingerprint, and the entry that had changed the copy last when it was taken.
-#[derive(Clone, Copy, Debug, PartialEq, Eq)]
+#[derive(Clone, Copy, PartialEq, Eq)]
 pub struct Mark {
     pub fingerprint: [u8; 32],
     pub touch: u64,
 }
 
 /// A path, and what is kept of it.
-#[derive(Debug, PartialEq, Eq, Drop)]
+#[derive(Drop)]
 pub struct BaselineRow {
     pub path: CopyPath,
     pub mark: Mark,
 }
 
 /// What is kept of a device from one scan to the next: a row for each path that was found and reported, in byte order.
-#[derive(Debug, Drop)]
+#[derive(Drop)]
 pub struct Baseline {
     rows: Vec<BaselineRow>,
 }

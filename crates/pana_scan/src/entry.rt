@@ -5,7 +5,7 @@ use std::alloc::{AllocError, Global};
 use std::marker::Model;
 
 /// What a name in a folder stands for. Symbolic links aren't followed.
-#[derive(Clone, Copy, Debug, PartialEq, Eq, Drop)]
+#[derive(Clone, Copy, PartialEq, Eq, Drop)]
 pub enum Kind {
     /// A regular file.
     File,
@@ -17,7 +17,7 @@ pub enum Kind {
 }
 
 /// A name in a folder. To contracts it is its bytes.
-#[derive(Debug, Drop)]
+#[derive(Drop)]
 pub struct EntryName {
     text: String,
 }
@@ -58,7 +58,7 @@ impl EntryName {
 }
 
 /// What is met in a folder.
-#[derive(Debug, Drop)]
+#[derive(Drop)]
 pub enum Entry {
     Named { name: EntryName, kind: Kind },
     /// A name that isn't UTF-8.

@@ -1,7 +1,8 @@
 //! A folder read into a listing.
-ghost use Rattle.std.specs.Prelude.{◌≡◌, ◌+◌, ◌≤◌, ◌<◌, false, IsTrue, [], ◌++◌, length, if◌then◌else◌, is_some, option_copied, string_bytes, sum_by, IfOk, OnOk};
+ghost use Rattle.std.specs.Prelude.{◌≡◌, ◌+◌, ◌≤◌, ◌<◌, false, IsTrue, [], ◌++◌, ◌||◌, length, if◌then◌else◌, is_some, option_copied, string_bytes, sum_by, IfOk, OnOk};
 ghost use Rattle.std.specs.Option.{option_to_list};
 ghost use Rattle.std.specs.List.Sorted.{IsStrictlySortedBy};
+ghost use Rattle.pana_scan.specs.Disk.{Begins, is_failure};
 ghost use Rattle.pana_scan.specs.Order.{path_cmp};
 ghost use Rattle.pana_scan.specs.Listing.{counted};
 ghost use Rattle.pana_scan.specs.Names.{file_in, is_skipped, path_in, whole_text};
@@ -10,6 +11,7 @@ ghost use Rattle.pana_scan.specs.Scan.{HasFaults, HasMet, HaveFiles, IsFresh, Is
 ghost use Rattle.pana_scan.specs.inner.Walk.{AreFiles, IsFolderRead, IsGathered, kept_file, kept_folder};
 
 use crate::disk::Disk;
+use crate::disk_fault::DiskFault;
 use crate::entry::{Entry, Kind};
 use crate::listing::Listing;
 use crate::looking::{Looked, look_at, look_in_threads};
@@ -193,17 +195,25 @@ fn gather<D: Disk>(
     ensures entries { HasMet most (D.entries disk.new) result }
     ensures faults { D.faults disk.new ≡ 0 }
 {
+    let first = FolderAt {
+        path: None,
+        levels: MOST_LEVELS,
+    };
     let mut gathered = Gathered {
-        folders: Vec::new(alloc),
+        folders: vec![in alloc; first]?,
         files: Vec::new(alloc),
         skipped: 0,
     };
-    gathered.folders.push(FolderAt {
-        path: None,
-        levels: MOST_LEVELS,
-    })?;
     while let Some(folder) = gathered.folders.pop() {
-        read_folder(alloc, disk, root, &folder, most, &mut gathered)?;
+        let read = read_folder(alloc, disk, root, &folder, most, &mut gathered);
+        drop(folder);
+        match read {
+            Ok(()) => {}
+            Err(fault) => {
+                drop(gathered);
+                return Err(fault);
+            }
+        }
     }
     Ok(gathered)
 }
@@ -230,15 +240,36 @@ fn read_folder<D: Disk>(
     let Some(levels) = folder.levels.checked_sub(1) else {
         return Err(ScanFault::TooNested);
     };
-    let whole = whole_path(alloc, root, folder.path.as_ref())?;
-    disk.list(whole.as_str())?;
+    list_folder(alloc, disk, root, folder.path.as_ref())?;
     while let Some(entry) = disk.next(alloc)? {
         if disk.met() > most {
+            drop(entry);
             return Err(ScanFault::TooMany);
         }
-        gathered.meet(alloc, folder.path.as_ref(), levels, &entry)?;
+        let kept = gathered.meet(alloc, folder.path.as_ref(), levels, &entry);
+        drop(entry);
+        kept?;
     }
     Ok(())
+}
+
+/// Begins to list a folder, the root or one inside it.
+fn list_folder<D: Disk>(
+    alloc: Global,
+    disk: &mut D,
+    root: &str,
+    folder: Option<&CopyPath>,
+) -> Result<(), DiskFault>
+    ensures begins { IsTrue D.is_known → Begins ((D.tree disk.old).names (whole_text root.now (option_copied folder.entry))) result (D.names disk.new) }
+    ensures tree { IsTrue D.is_known → D.tree disk.new ≡ D.tree disk.old }
+    ensures failed { D.has_failed disk.new ≡ (D.has_failed disk.old || is_failure result) }
+    ensures entries { D.entries disk.new ≡ D.entries disk.old }
+    ensures faults { D.faults disk.new ≡ D.faults disk.old }
+{
+    let whole = whole_path(alloc, root, folder)?;
+    let listed = disk.list(whole.as_str());
+    drop(whole);
+    listed
 }
 
 impl Gathered {

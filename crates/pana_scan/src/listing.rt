@@ -6,7 +6,7 @@ use std::alloc::{AllocError, Global};
 use std::marker::Model;
 
 /// What a scan finds at a path.
-#[derive(Clone, Copy, Debug, PartialEq, Eq)]
+#[derive(Clone, Copy, PartialEq, Eq)]
 pub enum Found {
     /// A file with this fingerprint, the SHA-256 of its bytes.
     Seen([u8; 32]),
@@ -15,14 +15,14 @@ pub enum Found {
 }
 
 /// A path, and what a scan finds there.
-#[derive(Debug, PartialEq, Eq, Drop)]
+#[derive(PartialEq, Eq, Drop)]
 pub struct FoundRow {
     pub path: CopyPath,
     pub found: Found,
 }
 
 /// What a scan finds on a device: paths that rise in byte order, and how many names were passed over.
-#[derive(Debug, Drop)]
+#[derive(Drop)]
 pub struct Listing {
     device: DeviceName,
     rows: Vec<FoundRow>,

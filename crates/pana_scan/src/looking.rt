@@ -1,9 +1,10 @@
 //! Files that are looked at, by one disk or by many at once.
-ghost use Rattle.std.specs.Prelude.{◌≡◌, ◌+◌, ◌≤◌, ◌<◌, ◌++◌, IsTrue, length, map, if◌then◌else◌, IfOk};
+ghost use Rattle.std.specs.Prelude.{◌≡◌, ◌+◌, ◌≤◌, ◌<◌, ◌++◌, IsTrue, Some, length, map, if◌then◌else◌, IfOk, OnOk};
 ghost use Rattle.std.specs.List.Sorted.{IsPermutation};
 ghost use denote.Param.Send.{IsSend, IsSync};
+ghost use Rattle.pana_scan.specs.Names.{whole_text};
 ghost use Rattle.pana_scan.specs.Scan.{found_of, is_unreadable, row_at, unreadable_count};
-ghost use Rattle.pana_scan.specs.inner.Look.{AreLookedAt};
+ghost use Rattle.pana_scan.specs.inner.Look.{AreLookedAt, AreMerged};
 
 use crate::disk::Disk;
 use crate::disk_fault::DiskFault;
@@ -49,6 +50,26 @@ fn found<D: Disk, W: Watch>(disk: &mut D, file: &str, watch: &W) -> Result<Found
     })
 }
 
+/// What is found of the file with this path below the root.
+fn found_at<D: Disk, W: Watch>(
+    alloc: Global,
+    disk: &mut D,
+    root: &str,
+    path: &CopyPath,
+    watch: &W,
+) -> Result<Found, AllocError>
+    ensures known { IfOk result (λ found. IsTrue D.is_known → found ≡ found_of ((D.tree disk.old).content (whole_text root.now (Some path.now)))) }
+    ensures tree { IsTrue D.is_known → D.tree disk.new ≡ D.tree disk.old }
+    ensures failed { D.has_failed disk.new ≡ D.has_failed disk.old }
+    ensures entries { D.entries disk.new ≡ D.entries disk.old }
+    ensures faults { IfOk result (λ found. D.faults disk.new ≤ (if is_unreadable found then D.faults disk.old + 1 else D.faults disk.old)) }
+{
+    let whole = whole_path(alloc, root, Some(path))?;
+    let found = found(disk, whole.as_str(), watch);
+    drop(whole);
+    found
+}
+
 /// Looks at each of these files, in order.
 pub(crate) fn look_at<D: Disk, W: Watch>(
     alloc: Global,
@@ -65,9 +86,14 @@ pub(crate) fn look_at<D: Disk, W: Watch>(
 {
     let mut rows = Vec::new(alloc);
     for path in files {
-        let whole = whole_path(alloc, root, Some(&path))?;
-        let found = found(disk, whole.as_str(), watch)?;
-        rows.push(FoundRow { path, found })?;
+        match found_at(alloc, disk, root, &path, watch) {
+            Ok(found) => rows.push(FoundRow { path, found })?,
+            Err(fault) => {
+                drop(path);
+                drop(rows);
+                return Err(fault);
+            }
+        }
     }
     Ok(rows)
 }
@@ -89,6 +115,50 @@ fn look_by_one<D: Disk + Drop, W: Watch>(
     let rows = look_at(alloc, &mut disk, root, files, watch)?;
     disks.push(disk)?;
     Ok(Looked { disks, rows })
+}
+
+impl<D: Drop> Looked<D> {
+    /// Takes over the disks of the other, and what they have found.
+    fn append(&mut self, rest: &mut Looked<D>) -> Result<(), AllocError>
+        ensures disks { OnOk result (self.new.disks.items ≡ self.old.disks.items ++ rest.old.disks.items) }
+        ensures rows { OnOk result (self.new.rows.items ≡ self.old.rows.items ++ rest.old.rows.items) }
+    {
+        self.disks.append(&mut rest.disks)?;
+        self.rows.append(&mut rest.rows)?;
+        Ok(())
+    }
+}
+
+/// The disks of both, and what they have found.
+fn merged<D: Drop>(
+    one: Result<Looked<D>, AllocError>,
+    other: Result<Looked<D>, AllocError>,
+) -> Result<Looked<D>, AllocError>
+    ensures { IfOk result (AreMerged one other) }
+{
+    let mut all = match one {
+        Ok(all) => all,
+        Err(fault) => {
+            drop(other);
+            return Err(fault);
+        }
+    };
+    let mut rest = match other {
+        Ok(rest) => rest,
+        Err(fault) => {
+            drop(all);
+            return Err(fault);
+        }
+    };
+    let appended = all.append(&mut rest);
+    drop(rest);
+    match appended {
+        Ok(()) => Ok(all),
+        Err(fault) => {
+            drop(all);
+            Err(fault)
+        }
+    }
 }
 
 /// Deals files out in two parts, one file to each in turn, so that neighbours, which are often alike, are looked at by
@@ -127,8 +197,22 @@ pub(crate) fn look_in_threads<R: Threads + Sync, D: Disk + Send + Drop, W: Watch
     if disks.len() < 2 || files.len() < 2 {
         return look_by_one(alloc, disks, root, files, watch);
     }
-    let more = disks.split_off(disks.len() / 2)?;
-    let (mine, theirs) = deal(alloc, files)?;
+    let more = match disks.split_off(disks.len() / 2) {
+        Ok(more) => more,
+        Err(_) => {
+            drop(disks);
+            drop(files);
+            return Err(AllocError);
+        }
+    };
+    let (mine, theirs) = match deal(alloc, files) {
+        Ok(parts) => parts,
+        Err(fault) => {
+            drop(disks);
+            drop(more);
+            return Err(fault);
+        }
+    };
     let front = move || -> Result<Looked<D>, AllocError>
         requires { IsSync R.row × IsSync W.row × IsSend D.row × (0 < length disks.items) }
         ensures { IfOk result (λ all. AreLookedAt D.is_known D.tree D.faults root.entry.now mine.items disks.items all.rows.items all.disks.items) }
@@ -138,9 +222,5 @@ pub(crate) fn look_in_threads<R: Threads + Sync, D: Disk + Send + Drop, W: Watch
         ensures { IfOk result (λ all. AreLookedAt D.is_known D.tree D.faults root.entry.now theirs.items more.items all.rows.items all.disks.items) }
     { look_in_threads(threads, alloc, more, root, theirs, watch) };
     let (one, other) = join(threads, front, back);
-    let mut all = one?;
-    let mut rest = other?;
-    all.disks.append(&mut rest.disks)?;
-    all.rows.append(&mut rest.rows)?;
-    Ok(all)
+    merged(one, other)
 }

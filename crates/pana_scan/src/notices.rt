@@ -9,7 +9,7 @@ use pana_list::PlainList;
 use std::alloc::{AllocError, Global};
 
 /// What a scan notices at one path.
-#[derive(Debug, PartialEq, Eq, Drop)]
+#[derive(Drop)]
 pub enum Notice {
     /// The file of this copy, which is gone from its path, is at this one.
     Renamed { copy: u64, path: CopyPath },

@@ -107,8 +107,14 @@ fn found(alloc: Global, files: Vec<SeenFile>) -> Result<Vec<Notice>, AllocError>
     let mut notices = Vec::with_capacity(alloc, files.len())?;
     for file in files {
         let SeenFile { path, sum, .. } = file;
-        let path = path.copy_of()?;
-        notices.push(Notice::Found { path, sum })?;
+        match path.copy_of() {
+            Ok(path) => notices.push(Notice::Found { path, sum })?,
+            Err(fault) => {
+                drop(sum);
+                drop(notices);
+                return Err(fault);
+            }
+        }
     }
     Ok(notices)
 }

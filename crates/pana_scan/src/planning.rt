@@ -2,8 +2,8 @@
 ghost use Rattle.std.specs.Prelude.{◌≡◌, ◌++◌, [], map, option_map, IfOk, OnOk};
 ghost use Rattle.std.specs.Option.{option_to_list};
 ghost use Rattle.pana_calls.specs.Holdings.{HaveOwnPaths};
-ghost use Rattle.pana_scan.specs.inner.Left.{HoldingsRise, HoldTheSame};
-ghost use Rattle.pana_scan.specs.Plan.{plan_of};
+ghost use Rattle.pana_scan.specs.inner.Left.{AllRise, HoldingsRise, HoldTheSame, left};
+ghost use Rattle.pana_scan.specs.Plan.{plan_of, rows_for, steps_for};
 
 use crate::baseline::{Baseline, BaselineRow};
 use crate::listing::Listing;
@@ -12,7 +12,7 @@ use crate::ordering::path_order;
 use crate::outcome::Outcome;
 use crate::step::{Plan, Step, StepList};
 use pana_calls::{Holding, HoldingList};
-use pana_copies::CopyPath;
+use pana_copies::{CopyPath, DeviceName};
 use std::alloc::{AllocError, Global};
 
 /// The steps that a listing calls for, in byte order of their paths, and the baseline before they are settled.
@@ -28,20 +28,26 @@ pub fn plan(
     ensures { IfOk result (λ plan. plan ≡ plan_of baseline.now holdings.now listing.now) }
 {
     let living = by_path(alloc, holdings.as_slice())?;
-    let mut sources = Sources {
+    let sources = Sources {
         found: listing.rows(),
         kept: baseline.rows(),
         living: living.as_slice(),
     };
     let mut draft = Draft::new(alloc);
-    while let Some(spot) = sources.next() {
-        draft.add(spot.path, spot.outcome(listing.device())?)?;
-    }
+    let filled = draft.fill(sources, listing.device());
+    drop(living);
     let Draft { steps, rows } = draft;
-    Ok(Plan {
-        steps: StepList::from_vec(steps),
-        baseline: Baseline::from_vec(rows),
-    })
+    match filled {
+        Ok(()) => Ok(Plan {
+            steps: StepList::from_vec(steps),
+            baseline: Baseline::from_vec(rows),
+        }),
+        Err(fault) => {
+            drop(steps);
+            drop(rows);
+            Err(fault)
+        }
+    }
 }
 
 /// The plan of the paths that were looked at so far.
@@ -60,6 +66,18 @@ impl Draft {
             steps: Vec::new(alloc),
             rows: Vec::new(alloc),
         }
+    }
+
+    /// Adds what is left of the three lists.
+    fn fill(&mut self, mut sources: Sources<'_>, device: &DeviceName) -> Result<(), AllocError>
+        requires { AllRise sources }
+        ensures steps { OnOk result (self.new.steps.items ≡ self.old.steps.items ++ steps_for device.now (left sources.entry)) }
+        ensures rows { OnOk result (self.new.rows.items ≡ self.old.rows.items ++ rows_for device.now (left sources.entry)) }
+    {
+        while let Some(spot) = sources.next() {
+            self.add(spot.path, spot.outcome(device)?)?;
+        }
+        Ok(())
     }
 
     fn add(&mut self, path: &CopyPath, outcome: Outcome) -> Result<(), AllocError>

@@ -1,5 +1,5 @@
 //! The system's files as a disk on which files that haven't changed needn't be read again.
-ghost use Rattle.std.specs.Prelude.{◌≡◌, ◌⊎◌, false, IsTrue, IfNone, IfSome, OnErr, OnOk};
+ghost use Rattle.std.specs.Prelude.{◌≡◌, ◌⊎◌, false, None, Some, IsTrue, IfNone, IfSome, OnErr, OnOk, is_some};
 ghost use Rattle.std.specs.Fs.{metadata_len};
 ghost use Rattle.pana_sums.specs.Table.{same_signature};
 ghost use Rattle.pana_scan.specs.Quick.{IsKept, IsRecalled};
@@ -52,6 +52,19 @@ fn signature_of(found: &Metadata) -> Option<Signature>
         modified: time_of(found.mtime(), found.mtime_nsec())?,
         changed: time_of(found.ctime(), found.ctime_nsec())?,
     })
+}
+
+/// The signature of a file that has the same one before and after.
+fn unchanged(before: Option<Signature>, after: Option<Signature>) -> Option<Signature>
+    ensures first { IfSome result (λ it. before ≡ Some it) }
+    ensures same { IfSome before (λ first. IfSome after (λ last. is_some result ≡ same_signature first last)) }
+    ensures unopened { IfNone before (result ≡ None) }
+    ensures gone { IfNone after (result ≡ None) }
+{
+    match (before, after) {
+        (Some(before), Some(after)) if before == after => Some(before),
+        _ => None,
+    }
 }
 
 impl<'a, R: Files + AllocGlobal + Clone + Drop> QuickDisk<'a, R> {
@@ -129,13 +142,11 @@ impl<'a, R: Files + AllocGlobal + Clone + Drop> QuickDisk<'a, R> {
         ensures known { self.new.sums.known ≡ self.old.sums.known }
         ensures kept { (self.new.sums.kept ≡ self.old.sums.kept) ⊎ IfSome before (λ first. IsTrue result × IsKept self.old.begun first digest self.old.sums.kept self.new.sums.kept) }
     {
-        match (before, after) {
-            (Some(before), Some(after)) if before == after => {
-                let _ = self.keep(before, digest);
-                true
-            }
-            _ => false,
-        }
+        let Some(signature) = unchanged(before, after) else {
+            return false;
+        };
+        let _ = self.keep(signature, digest);
+        true
     }
 }
 

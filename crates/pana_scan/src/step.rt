@@ -7,7 +7,7 @@ use pana_list::PlainList;
 
 /// A report that a scan calls for: the path that it is about, the fingerprint that was found there (none of a file
 /// that is gone), and the report.
-#[derive(Debug, PartialEq, Eq, Drop)]
+#[derive(Drop)]
 pub struct Step {
     pub path: CopyPath,
     pub fingerprint: Option<[u8; 32]>,
@@ -18,7 +18,7 @@ pub struct Step {
 pub type StepList = PlainList<Step>;
 
 /// The steps that a scan calls for, and the baseline before they are settled.
-#[derive(Debug, Drop)]
+#[derive(Drop)]
 pub struct Plan {
     pub steps: StepList,
     pub baseline: Baseline,

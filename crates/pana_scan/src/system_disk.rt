@@ -68,20 +68,30 @@ fn fault_of(error: &Error) -> DiskFault
     }
 }
 
-/// What an entry is, by the system's answer.
-fn kind_of(answer: io::Result<FileType>) -> Result<Kind, DiskFault>
-    ensures file { IfOk answer (λ of. IsFile of → result ≡ Ok Kind.File) }
-    ensures folder { IfOk answer (λ of. IsDir of → result ≡ Ok Kind.Folder) }
-    ensures other { IfOk answer (λ of. ¬ IsFile of → ¬ IsDir of → result ≡ Ok Kind.Other) }
-    ensures gone { IfErr answer (λ error. error_kind error ≡ ErrorKind.NotFound → result ≡ Ok Kind.Gone) }
-    ensures err { IfErr answer (λ error. error_kind error ≢ ErrorKind.NotFound → IsErr result) }
+/// What an entry of this type is.
+fn kind_of(of: FileType) -> Kind
+    ensures file { IsFile of → result ≡ Kind.File }
+    ensures folder { IsDir of → result ≡ Kind.Folder }
+    ensures other { ¬ IsFile of → ¬ IsDir of → result ≡ Kind.Other }
 {
-    match answer {
-        Ok(of) if of.is_file() => Ok(Kind::File),
-        Ok(of) if of.is_dir() => Ok(Kind::Folder),
-        Ok(_) => Ok(Kind::Other),
-        Err(error) if error.kind() == ErrorKind::NotFound => Ok(Kind::Gone),
-        Err(error) => Err(fault_of(&error)),
+    if of.is_file() {
+        Kind::File
+    } else if of.is_dir() {
+        Kind::Folder
+    } else {
+        Kind::Other
+    }
+}
+
+/// What an entry is of which the system gives this error.
+fn kind_by_error(error: &Error) -> Result<Kind, DiskFault>
+    ensures gone { error_kind error.now ≡ ErrorKind.NotFound → result ≡ Ok Kind.Gone }
+    ensures err { error_kind error.now ≢ ErrorKind.NotFound → IsErr result }
+{
+    if error.kind() == ErrorKind::NotFound {
+        Ok(Kind::Gone)
+    } else {
+        Err(fault_of(error))
     }
 }
 
@@ -114,13 +124,41 @@ fn kind_found(stays_on: Option<u64>, answer: io::Result<Metadata>) -> Result<Kin
     match answer {
         Ok(found) => {
             let is_elsewhere = is_elsewhere(stays_on, found.dev());
-            Ok(kind_within(kind_of(Ok(found.file_type()))?, is_elsewhere))
+            Ok(kind_within(kind_of(found.file_type()), is_elsewhere))
         }
-        Err(error) => kind_of(Err(error)),
+        Err(error) => kind_by_error(&error),
     }
 }
 
-/// What is met, by the system's answer. A name that isn't UTF-8 comes as an error.
+/// What the system's entry is.
+fn entry_at<R: Files + Drop>(
+    alloc: Global,
+    stays_on: Option<u64>,
+    entry: &DirEntry<R>,
+) -> Result<Entry, DiskFault> {
+    let name = EntryName::new(alloc, entry.file_name())?;
+    match kind_found(stays_on, entry.metadata()) {
+        Ok(kind) => Ok(Entry::Named { name, kind }),
+        Err(fault) => {
+            drop(name);
+            Err(fault)
+        }
+    }
+}
+
+/// What is met where the system gives this error: one stands for a name that isn't UTF-8.
+fn entry_by_error(error: &Error) -> Result<Entry, DiskFault>
+    ensures no_text { error_kind error.now ≡ ErrorKind.InvalidFilename → result ≡ Ok Entry.NotText }
+    ensures err { error_kind error.now ≢ ErrorKind.InvalidFilename → IsErr result }
+{
+    if error.kind() == ErrorKind::InvalidFilename {
+        Ok(Entry::NotText)
+    } else {
+        Err(fault_of(error))
+    }
+}
+
+/// What is met, by the system's answer.
 fn entry_of<R: Files + Drop>(
     alloc: Global,
     stays_on: Option<u64>,
@@ -130,12 +168,12 @@ fn entry_of<R: Files + Drop>(
     ensures err { IfErr answer (λ error. error_kind error ≢ ErrorKind.InvalidFilename → IsErr result) }
 {
     match answer {
-        Ok(entry) => Ok(Entry::Named {
-            name: EntryName::new(alloc, entry.file_name())?,
-            kind: kind_found(stays_on, entry.metadata())?,
-        }),
-        Err(error) if error.kind() == ErrorKind::InvalidFilename => Ok(Entry::NotText),
-        Err(error) => Err(fault_of(&error)),
+        Ok(entry) => {
+            let met = entry_at(alloc, stays_on, &entry);
+            drop(entry);
+            met
+        }
+        Err(error) => entry_by_error(&error),
     }
 }
 

@@ -13,7 +13,7 @@ pub trait Watch {
 }
 
 /// Follows no scan.
-#[derive(Clone, Copy, Debug, Drop)]
+#[derive(Clone, Copy, Drop)]
 pub struct Unwatched;
 
 impl Watch for Unwatched {

@@ -2,7 +2,8 @@
 ghost use Rattle.std.specs.Prelude.{IfOk};
 ghost use Rattle.pana_scan.specs.Scan.{IsFresh};
 
-use pana_scan::{Entry, EntryName, Kind, MemoryDisk, MemoryFile, MemoryFolder};
+use crate::memory_disk::{MemoryDisk, MemoryFile, MemoryFolder};
+use pana_scan::{Entry, EntryName, Kind};
 use std::alloc::{AllocError, Global};
 
 /// A folder with these names, which fails after them or doesn't.

@@ -5,9 +5,12 @@
 mod disks;
 #[cfg(test)]
 mod holdings;
+mod memory_disk;
 #[cfg(test)]
 mod notices;
 #[cfg(test)]
 mod scan;
 #[cfg(test)]
 mod threads;
+
+pub use crate::memory_disk::{MemoryDisk, MemoryFile, MemoryFolder};

@@ -2,12 +2,13 @@ ghost use Rattle.pana_scan.specs.Scan.{IsFresh};
 
 use crate::disks::{disk, file, folder};
 use crate::holdings::held;
+use crate::memory_disk::MemoryDisk;
 use pana_calls::HoldingList;
 use pana_copies::{CopyPath, DeviceName, NameFault, Place};
 use pana_journal::Report;
 use pana_scan::{
-    Baseline, Disk, Found, Kind, Listing, Mark, MemoryDisk, Plan, ScanFault, Step, SystemDisk,
-    Unwatched, Watch, fingerprint, plan, read_root,
+    Baseline, Disk, Found, Kind, Listing, Mark, Plan, ScanFault, Step, SystemDisk, Unwatched,
+    Watch, fingerprint, plan, read_root,
 };
 use std::alloc::{AllocError, Global};
 use std::fs;

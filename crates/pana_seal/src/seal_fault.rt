@@ -3,7 +3,7 @@ use std::error::Error;
 use std::fmt;
 
 /// Why the seals of a file's lines aren't read.
-#[derive(Clone, Copy, Debug, PartialEq, Eq)]
+#[derive(Clone, Copy, Debug)]
 pub enum SealFault {
     /// This line, from 1, isn't as it was sealed, or something before it isn't.
     Damaged { line: u64 },

@@ -1,5 +1,5 @@
 //! What stands before a line, as its digest takes it up.
-ghost use Rattle.std.specs.Prelude.{◌≡◌, ◌++◌, [], List, ℕ, IfOk, OnOk};
+ghost use Rattle.std.specs.Prelude.{◌≡◌, ◌++◌, [], List, ℕ, IfOk, OnOk, string_bytes};
 ghost use Rattle.pana_wire.specs.Seal.{seal_with};
 ghost use Rattle.pana_seal.specs.Seal.{Covers, digest_of, body_of, end_of, is_marked, is_sealed};
 
@@ -9,10 +9,7 @@ use std::alloc::{AllocError, Global};
 /// How a line goes on behind its own text, before the digits of its digest.
 const MARK: &[u8] = b",\"sha256\":\"";
 
-/// How it ends behind them.
-const CLOSE: &[u8] = b"\"}";
-
-/// How many bytes both have, with the 64 digits between.
+/// How many bytes come behind its own text: this, the 64 digits, and the end of a string and of an object.
 const SEAL_LENGTH: usize = 77;
 
 /// The bytes of a file up to a line, as far as the line's digest is concerned.
@@ -74,20 +71,17 @@ impl Sealer {
         let digest = self.digest(&[])?;
         let seal = seal_with(alloc, &digest)?;
         self.push(end);
-        Ok(seal.as_slice() == end)
+        Ok(seal.as_bytes() == end)
     }
 }
 
 /// How a line ends that has this digest. Fails only where memory runs out.
-fn seal_with(alloc: Global, digest: &[u8; 32]) -> Result<Vec<u8>, AllocError>
-    ensures { IfOk result (λ seal. seal.items ≡ seal_with digest.now) }
+fn seal_with(alloc: Global, digest: &[u8; 32]) -> Result<String, AllocError>
+    ensures { IfOk result (λ seal. string_bytes seal ≡ seal_with digest.now) }
 {
     let digits = hex::encode(alloc, digest)?;
-    let mut seal = Vec::with_capacity(alloc, SEAL_LENGTH)?;
-    seal.extend_from_slice(MARK)?;
-    seal.extend_from_slice(digits.as_bytes())?;
-    seal.extend_from_slice(CLOSE)?;
-    Ok(seal)
+    let digits = digits.as_str();
+    format!(in alloc; ",\"sha256\":\"{digits}\"}}")
 }
 
 /// What stands in a line before its last 77 bytes, as many as a seal has, and these.

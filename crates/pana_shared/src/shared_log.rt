@@ -5,7 +5,7 @@ use crate::read_fault::ReadFault;
 use crate::record::Record;
 
 /// What has come of an append.
-#[derive(Debug, PartialEq, Eq, Drop)]
+#[derive(Drop)]
 pub enum Appended {
     /// The records were put.
     Put,

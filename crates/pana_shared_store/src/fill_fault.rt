@@ -3,7 +3,7 @@ use std::error::Error;
 use std::fmt;
 
 /// Why the entries of a journal aren't put into a log, or not all of them.
-#[derive(Clone, Copy, Debug, PartialEq, Eq)]
+#[derive(Clone, Copy, Debug)]
 pub enum FillFault {
     /// The log has entries.
     NotEmpty,

@@ -52,9 +52,12 @@ fn put_part<L: SharedLog>(
     let Ok(group) = records_of(alloc, log.writer(), turn, part) else {
         return Err(FillFault::Unread(ReadFault::OutOfMemory));
     };
-    match place(log, at, group.as_slice()) {
+    match place(log, at, group) {
         Ok(Placed::Ours) => Ok(()),
-        Ok(Placed::Others(_)) => Err(FillFault::NotNext { number: at + 1 }),
+        Ok(Placed::Others(page)) => {
+            drop(page);
+            Err(FillFault::NotNext { number: at + 1 })
+        }
         Ok(Placed::Full) => Err(FillFault::Full),
         Err(fault) => Err(FillFault::Unread(fault)),
     }
@@ -75,7 +78,9 @@ pub fn fill<L: SharedLog>(alloc: Global, log: &mut L, entries: &[Entry]) -> Resu
         Ok(found) => found,
         Err(fault) => return Err(FillFault::Unread(fault)),
     };
-    if !found.is_empty() {
+    let is_empty = found.is_empty();
+    drop(found);
+    if !is_empty {
         return Err(FillFault::NotEmpty);
     }
     let mut rest = entries;

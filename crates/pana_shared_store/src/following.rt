@@ -5,7 +5,7 @@ ghost use Rattle.pana_shared.specs.Log.{HaveSome};
 ghost use Rattle.pana_shared_store.specs.Store.{AreFirst, Why, entries_in};
 ghost use Rattle.pana_shared_store.specs.inner.{FollowsNot, IsRefusal, LooksOn, StopsAt};
 
-use crate::committing::{cancel_into, commit_all};
+use crate::committing::{cancel_into, commit_all, put_into};
 use crate::same::is_entry;
 use pana_calls::{Call, Cause, Reply};
 use pana_hall::{Hall, Prepared, Unprepared};
@@ -41,8 +41,10 @@ fn follow(alloc: Global, hall: &mut Hall, entry: &Entry) -> Result<(), ReadFault
             }
         }
         Err(Unprepared { hall: same, reply }) => {
-            *hall = same;
-            Err(why_not(reply, number))
+            put_into(hall, same);
+            let why = why_not(&reply, number);
+            drop(reply);
+            Err(why)
         }
     }
 }
@@ -56,8 +58,8 @@ fn is_only(prepared: &Prepared, entry: &Entry) -> bool
 }
 
 /// Why the entry with this number can't be followed, from the reply that its report gets.
-fn why_not(reply: Reply, number: u64) -> ReadFault
-    ensures { IsRefusal reply number result }
+fn why_not(reply: &Reply, number: u64) -> ReadFault
+    ensures { IsRefusal reply.now number result }
 {
     match reply {
         Reply::Refused(Cause::OutOfMemory) => ReadFault::OutOfMemory,
@@ -77,6 +79,16 @@ pub(crate) fn follow_page(
 ) -> Result<(), ReadFault>
     ensures ok { OnOk result (hall.new ≡ hall.old ++ entries_in page.items) }
     ensures err { IfErr result (λ fault. StopsAt fault hall.old (entries_in page.items) hall.new) }
+{
+    let followed = follow_all(alloc, hall, page.as_slice());
+    drop(page);
+    followed
+}
+
+/// The same, of a page that is only looked at.
+fn follow_all(alloc: Global, hall: &mut Hall, page: &[Record]) -> Result<(), ReadFault>
+    ensures ok { OnOk result (hall.new ≡ hall.old ++ entries_in page.now) }
+    ensures err { IfErr result (λ fault. StopsAt fault hall.old (entries_in page.now) hall.new) }
 {
     for found in page {
         follow(alloc, hall, &found.entry)?;
@@ -104,6 +116,7 @@ pub(crate) fn read_on<L: SharedLog>(
     for _ in 0..MOST_PAGES {
         let page = log.read(hall.length())?;
         if page.is_empty() {
+            drop(page);
             return Ok(());
         }
         follow_page(alloc, hall, page)?;

@@ -6,7 +6,7 @@ ghost use Rattle.pana_shared.specs.Log.{IsUnread};
 ghost use Rattle.pana_shared_store.specs.Store.{recorded};
 ghost use Rattle.pana_shared_store.specs.inner.{IsReady, IsStore, TriesNone, TriesTo};
 
-use crate::committing::{cancel_into, commit_into};
+use crate::committing::{cancel_into, commit_into, put_into};
 use crate::placing::{Placed, place};
 use pana_calls::{Answer, Call, Cause, Reply};
 use pana_copies::DeviceName;
@@ -77,7 +77,7 @@ pub(crate) fn try_to_make<L: SharedLog>(
     match hall.take_all().prepare(by, call) {
         Ok(prepared) => put(alloc, hall, log, at, turn, prepared),
         Err(Unprepared { hall: same, reply }) => {
-            *hall = same;
+            put_into(hall, same);
             Ok(Tried::Not(Answer::Given(reply)))
         }
     }
@@ -106,7 +106,7 @@ fn put<L: SharedLog>(
         cancel_into(hall, prepared);
         return Ok(Tried::Not(Answer::Given(Reply::Refused(Cause::OutOfMemory))));
     };
-    match place(log, at, group.as_slice()) {
+    match place(log, at, group) {
         Ok(Placed::Ours) => Ok(Tried::Made(commit_into(hall, prepared))),
         Ok(Placed::Others(page)) => {
             cancel_into(hall, prepared);

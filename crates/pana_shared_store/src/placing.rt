@@ -7,7 +7,7 @@ use crate::same::is_record;
 use pana_shared::{Appended, ReadFault, Record, SharedLog};
 
 /// What stands where a group was to be put.
-#[derive(Debug, Drop)]
+#[derive(Drop)]
 pub(crate) enum Placed {
     /// The group.
     Ours,
@@ -31,6 +31,7 @@ fn look<L: SharedLog>(log: &mut L, at: u64) -> Result<Vec<Record>, ReadFault>
 {
     let page = log.read(at)?;
     if page.is_empty() {
+        drop(page);
         return Err(ReadFault::NoAnswer);
     }
     Ok(page)
@@ -43,6 +44,7 @@ fn placed_from(page: Vec<Record>, group: &[Record]) -> Placed
     ensures { IsPlaced page.items group.now result }
 {
     if is_record(&page[0], &group[0]) {
+        drop(page);
         Placed::Ours
     } else {
         Placed::Others(page)
@@ -58,8 +60,25 @@ fn placed_from(page: Vec<Record>, group: &[Record]) -> Placed
 pub(crate) fn place<L: SharedLog>(
     log: &mut L,
     at: u64,
-    group: &[Record],
+    group: Vec<Record>,
 ) -> Result<Placed, ReadFault>
+    requires one { group.items ≢ [] }
+    requires may { IsTrue L.is_known → MayAppend (L.seen log.old) at group.items }
+    requires some { IsTrue L.is_known → HaveSome (L.seen log.old).loose }
+    requires other { IsTrue L.is_known → IsNew group.items (loose_at at (L.seen log.old)) }
+    requires unused { IsTrue L.is_known → IsUnusedGroup group.items (ours (L.seen log.old).writer (L.seen log.old).records) }
+    ensures ok { IfOk result (λ placed. IsTrue L.is_known → Places (L.seen log.old) at group.items placed (L.seen log.new)) }
+    ensures err { OnErr result (IsTrue L.is_known → PlacesNone (L.seen log.old) at group.items (L.seen log.new)) }
+    ensures heard { IsTrue L.is_known → L.silences log.new ≤ L.silences log.old }
+    ensures unread { IfErr result (λ fault. IsTrue L.is_known → IsUnread fault (L.silences log.old) (L.silences log.new)) }
+{
+    let placed = place_records(log, at, group.as_slice());
+    drop(group);
+    placed
+}
+
+/// The same, of a group that is only looked at.
+fn place_records<L: SharedLog>(log: &mut L, at: u64, group: &[Record]) -> Result<Placed, ReadFault>
     requires one { group.now ≢ [] }
     requires may { IsTrue L.is_known → MayAppend (L.seen log.old) at group.now }
     requires some { IsTrue L.is_known → HaveSome (L.seen log.old).loose }

@@ -55,7 +55,10 @@ impl<L: SharedLog + Drop> SharedStore<L> {
         let Ok(mut hall) = Hall::new(alloc) else {
             return Err(ReadFault::OutOfMemory);
         };
-        read_on(alloc, &mut hall, &mut log)?;
+        if let Err(fault) = read_on(alloc, &mut hall, &mut log) {
+            drop(hall);
+            return Err(fault);
+        }
         Ok(SharedStore {
             alloc,
             hall,
@@ -143,8 +146,13 @@ fn ask<L: SharedLog>(
     ensures err { OnErr result (StaysOn L.is_known hall.old (L.seen log.old) hall.new (L.seen log.new)) }
     ensures why { IfErr result (λ fault. IsTrue L.is_known → Why fault turn hall.old (L.silences log.old) hall.new (L.seen log.new).records (L.silences log.new)) }
 {
-    look(alloc, hall, log, is_stale)?;
-    Ok(Answer::Given(hall.apply(by, Call::Query(query))))
+    match look(alloc, hall, log, is_stale) {
+        Ok(()) => Ok(Answer::Given(hall.apply(by, Call::Query(query)))),
+        Err(fault) => {
+            drop(query);
+            Err(fault)
+        }
+    }
 }
 
 /// Makes one call of a device.
@@ -166,7 +174,11 @@ fn answer<L: SharedLog>(
 {
     match call {
         Call::Query(query) => ask(alloc, hall, log, *turn, is_stale, by, query),
-        call => make_next(alloc, hall, log, turn, by, &call),
+        call => {
+            let made = make_next(alloc, hall, log, turn, by, &call);
+            drop(call);
+            made
+        }
     }
 }
 
@@ -219,6 +231,7 @@ impl<L: SharedLog> Session for SharedStore<L> {
     /// in the log that is no entry. It isn't known then whether the call was made.
     fn call(&mut self, by: &DeviceName, call: Call) -> Result<Answer, NoAnswer> {
         if self.foreign().is_some() {
+            drop(call);
             return Err(NoAnswer);
         }
         match self.make(by, call) {

@@ -57,11 +57,19 @@ fn attempt_once<L: SharedLog>(
             if is_read {
                 return Ok(Attempt::Answered(answer));
             }
-            read_on(alloc, hall, log)?;
-            if hall.length() == at {
-                Ok(Attempt::Answered(answer))
-            } else {
-                Ok(Attempt::Again { is_read: true })
+            match read_on(alloc, hall, log) {
+                Ok(()) => {
+                    if hall.length() == at {
+                        Ok(Attempt::Answered(answer))
+                    } else {
+                        drop(answer);
+                        Ok(Attempt::Again { is_read: true })
+                    }
+                }
+                Err(fault) => {
+                    drop(answer);
+                    Err(fault)
+                }
             }
         }
     }

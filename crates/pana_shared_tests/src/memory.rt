@@ -9,7 +9,7 @@ use std::alloc::{AllocError, Global};
 use std::collections::VecDeque;
 
 /// What happens before one call of a log.
-#[derive(Debug, Drop)]
+#[derive(Drop)]
 pub struct Moment {
     /// Others append these. Records of the log's own writer are left out.
     pub others: Vec<Record>,

@@ -3,7 +3,7 @@ ghost use Rattle.std.specs.Prelude.{◌≡◌, ◌+◌, ◌^◌, ◌<◌};
 ghost use Rattle.pana_stamp.specs.Cost.{is_cheaper, one_up};
 
 /// What it costs to grow at a place.
-#[derive(Clone, Copy, Debug, PartialEq, Eq)]
+#[derive(Clone, Copy, PartialEq, Eq)]
 pub struct Cost {
     /// The number of steps to the place at which a leaf of the event is opened.
     pub opened: u32,

@@ -1,6 +1,7 @@
 //! A hall whose journal is kept in a file: what has been answered is on the device.
 #![tactic(auto)]
 
+mod committing;
 mod ending;
 mod open_fault;
 mod opening;

@@ -7,7 +7,7 @@ use std::error::Error;
 use std::fmt;
 
 /// Why a file isn't opened as a journal.
-#[derive(Clone, Copy, Debug, PartialEq, Eq)]
+#[derive(Clone, Copy, Debug)]
 pub enum OpenFault {
     /// It is none of a journal.
     NoJournal,

@@ -81,8 +81,13 @@ pub fn open<D: Device>(alloc: Global, log: &mut Log<D>) -> Result<Opened, OpenFa
         (IsSameOrBegun (D.seen log.old.device)) }
 {
     let mut opened = read(alloc, log)?;
-    make_ready(log, &mut opened.sealer)?;
-    Ok(opened)
+    match make_ready(log, &mut opened.sealer) {
+        Ok(()) => Ok(opened),
+        Err(fault) => {
+            drop(opened);
+            Err(OpenFault::Device(fault))
+        }
+    }
 }
 
 /// Cuts off what stands behind the lines that were read, and writes the first line where there is none.
@@ -117,10 +122,22 @@ fn hall_of(alloc: Global, text: &[u8]) -> Result<(Hall, Sealer), OpenFault>
 {
     let lines = split_lines(alloc, text)?;
     let sealer = read_seals(alloc, lines.as_slice())?;
-    let entries = match decode_dump_lines(alloc, lines.as_slice())? {
-        Ok(entries) => entries,
-        Err(LineFault { line, fault }) => return Err(OpenFault::Line { line, fault }),
-    };
-    let hall = Hall::load(alloc, entries)?;
-    Ok((hall, sealer))
+    match load(alloc, lines.as_slice()) {
+        Ok(hall) => Ok((hall, sealer)),
+        Err(fault) => {
+            drop(sealer);
+            Err(fault)
+        }
+    }
+}
+
+/// The hall of the entries in lines.
+fn load(alloc: Global, lines: &[&[u8]]) -> Result<Hall, OpenFault>
+    ensures says { IfOk result (λ hall. Say (texts lines.now) hall) }
+    ensures fault { IfErr result (HaveNoHall (texts lines.now)) }
+{
+    match decode_dump_lines(alloc, lines)? {
+        Ok(entries) => Ok(Hall::load(alloc, entries)?),
+        Err(LineFault { line, fault }) => Err(OpenFault::Line { line, fault }),
+    }
 }

@@ -3,6 +3,7 @@ ghost use Rattle.pana_journal.specs.declared.entry.Entry.{Entry};
 ghost use Rattle.pana_store.specs.Store.{BreaksOff, FailsToGather, Gathers, GathersOnly, IsKept, MakesEntries, Settles, Waits, stored};
 ghost use Rattle.pana_store.specs.inner.{answer_to, store_of, IsStore};
 
+use crate::committing::{cancel_into, commit_into, put_into};
 use crate::pending::{Pending, add, settle};
 use pana_calls::{Answer, Call, Cause, NoAnswer, Reply, Session};
 use pana_copies::DeviceName;
@@ -49,7 +50,13 @@ impl<D: Device + Drop> Store<D> {
         ensures kept { IfOk result (λ store. store.kept ≡ hall) }
         ensures log { IfOk result (λ store. store.log ≡ log) }
     {
-        let pending = Pending::new(alloc)?;
+        let pending = match Pending::new(alloc) {
+            Ok(pending) => pending,
+            Err(fault) => {
+                drop(hall);
+                return Err(fault);
+            }
+        };
         Ok(Store {
             alloc,
             hall,
@@ -119,9 +126,13 @@ fn report<D: Device>(
     ensures fails { OnErr result (FailsToGather D.is_known D.moment D.left_since D.has_failed (store_of hall.old log.old sealer.old pending.old) by.now call (store_of hall.new log.new sealer.new pending.new)) }
 {
     if log.state != LogState::Open {
+        drop(call);
         return Err(NoAnswer);
     }
-    make_room(hall, log, sealer, pending)?;
+    let Ok(()) = make_room(hall, log, sealer, pending) else {
+        drop(call);
+        return Err(NoAnswer);
+    };
     Ok(gather(alloc, hall, log, sealer, pending, by, call))
 }
 
@@ -174,19 +185,15 @@ fn gather<D: Device>(
                 prepared.entry(),
                 prepared.second(),
             ) {
-                Ok(()) => {
-                    let (made, reply) = prepared.commit();
-                    *hall = made;
-                    Answer::Given(reply)
-                }
+                Ok(()) => Answer::Given(commit_into(hall, prepared)),
                 Err(fault) => {
-                    *hall = prepared.cancel();
+                    cancel_into(hall, prepared);
                     answer_to(fault)
                 }
             }
         }
         Err(Unprepared { hall: same, reply }) => {
-            *hall = same;
+            put_into(hall, same);
             Answer::Given(reply)
         }
     }

@@ -7,7 +7,7 @@ use std::os::unix::fs::{MetadataExt, OpenOptionsExt};
 use std::path::Path;
 
 /// Why a journal's file isn't opened.
-#[derive(Clone, Copy, Debug, PartialEq, Eq)]
+#[derive(Clone, Copy, PartialEq, Eq)]
 pub enum FileFault {
     /// It can't be opened to read and write, or be made, or it is no file.
     CannotOpen,
@@ -104,28 +104,51 @@ fn is_named(rt: &HostRuntime, name: &str, file: &File) -> io::Result<bool> {
     Ok(found.is_file() && found.dev() == named.dev() && found.ino() == named.ino())
 }
 
-fn lock(rt: &HostRuntime, name: &str) -> io::Result<Result<File, FileFault>> {
-    let mut file = find_or_make(rt, name)?;
+/// The file with this name, which is made where it isn't there, and is none of the standard streams.
+fn find_to_lock(rt: &HostRuntime, name: &str) -> io::Result<File> {
+    let file = find_or_make(rt, name)?;
     // What is meant for a standard stream that was closed must not land in the journal.
     if file.as_raw_fd() <= 2 {
-        file = file.try_clone()?;
+        let other = file.try_clone();
+        drop(file);
+        return other;
     }
+    Ok(file)
+}
+
+/// Has the file on the disk, where it is a regular one and has this name now. Returns whether it is and has.
+fn settle_named(rt: &HostRuntime, name: &str, file: &File) -> io::Result<bool> {
+    if !is_named(rt, name, file)? {
+        return Ok(false);
+    }
+    settle(rt, name, file)?;
+    Ok(true)
+}
+
+fn lock(rt: &HostRuntime, name: &str, file: &File) -> Result<(), FileFault> {
     match file.try_lock() {
         Ok(()) => {}
-        Err(TryLockError::WouldBlock) => return Ok(Err(FileFault::InUse)),
-        Err(TryLockError::Error(error)) => return Err(error),
+        Err(TryLockError::WouldBlock) => return Err(FileFault::InUse),
+        Err(TryLockError::Error(error)) => return Err(fault_of(&error)),
     }
-    if !is_named(rt, name, &file)? {
-        return Ok(Err(FileFault::CannotOpen));
+    match settle_named(rt, name, file) {
+        Ok(true) => Ok(()),
+        Ok(false) => Err(FileFault::CannotOpen),
+        Err(error) => Err(fault_of(&error)),
     }
-    settle(rt, name, &file)?;
-    Ok(Ok(file))
 }
 
 /// Opens a journal's file, or makes it, and locks it for this process. It is on the disk then, and so is its name.
 pub fn open_locked(rt: &HostRuntime, name: &str) -> Result<File, FileFault> {
-    match lock(rt, name) {
-        Ok(locked) => locked,
-        Err(error) => Err(fault_of(&error)),
+    let file = match find_to_lock(rt, name) {
+        Ok(file) => file,
+        Err(error) => return Err(fault_of(&error)),
+    };
+    match lock(rt, name, &file) {
+        Ok(()) => Ok(file),
+        Err(fault) => {
+            drop(file);
+            Err(fault)
+        }
     }
 }

@@ -41,20 +41,26 @@ impl fmt::Display for NoStore {
     }
 }
 
+/// For a reason as a text, if there is memory for it.
+fn because(text: Result<String, AllocError>) -> NoStore {
+    match text {
+        Ok(text) => NoStore::Because(text),
+        Err(_) => NoStore::Fault(ProgramFault::OutOfMemory),
+    }
+}
+
 /// Why there is no store, where the file can't be had.
-fn no_file(rt: &HostRuntime, name: &str, fault: FileFault) -> Result<NoStore, AllocError> {
-    Ok(match fault {
-        FileFault::CannotOpen => {
-            NoStore::Because(format!(in rt.alloc(); "cannot open journal {name}")?)
-        }
-        FileFault::InUse => NoStore::Because(format!(in rt.alloc(); "journal {name} is in use")?),
+fn no_file(rt: &HostRuntime, name: &str, fault: FileFault) -> NoStore {
+    match fault {
+        FileFault::CannotOpen => because(format!(in rt.alloc(); "cannot open journal {name}")),
+        FileFault::InUse => because(format!(in rt.alloc(); "journal {name} is in use")),
         FileFault::OutOfMemory => NoStore::Fault(ProgramFault::OutOfMemory),
-    })
+    }
 }
 
 /// Why there is no store, where the file is none of a journal that can be used.
-fn no_journal(rt: &HostRuntime, name: &str, fault: OpenFault) -> Result<NoStore, AllocError> {
-    Ok(NoStore::Because(format!(in rt.alloc(); "journal {name}: {fault}")?))
+fn no_journal(rt: &HostRuntime, name: &str, fault: OpenFault) -> NoStore {
+    because(format!(in rt.alloc(); "journal {name}: {fault}"))
 }
 
 /// Says how many bytes a crash has left behind the last entry. That standard error can't be written is no fault.
@@ -69,36 +75,57 @@ fn report_torn(rt: &HostRuntime, name: &str, torn: usize) -> Result<(), ProgramF
 }
 
 /// The log in a file of this name.
-fn log_of(rt: &HostRuntime, name: &str, file: File) -> Result<Log<FileDevice>, ProgramFault> {
+fn log_of(rt: &HostRuntime, name: &str, file: File) -> Result<Log<FileDevice>, AllocError> {
     let name = String::from_str(rt.alloc(), name)?;
     Ok(Log::new(FileDevice::new(rt.clone()?, name, file)))
 }
 
+/// The log in a file of this name; or why there is none.
+fn log_in(
+    rt: &HostRuntime,
+    name: &str,
+    file: Result<File, FileFault>,
+) -> Result<Log<FileDevice>, NoStore> {
+    match file {
+        Ok(file) => Ok(log_of(rt, name, file)?),
+        Err(fault) => Err(no_file(rt, name, fault)),
+    }
+}
+
+/// What a log has, which is made ready for new lines; or why there is no store. What a crash has left in it is reported.
+fn open_log(rt: &HostRuntime, name: &str, log: &mut Log<FileDevice>) -> Result<Opened, NoStore> {
+    let opened = match pana_store::open(rt.alloc(), log) {
+        Ok(opened) => opened,
+        Err(fault) => return Err(no_journal(rt, name, fault)),
+    };
+    match report_torn(rt, name, opened.torn) {
+        Ok(()) => Ok(opened),
+        Err(fault) => {
+            drop(opened);
+            Err(NoStore::Fault(fault))
+        }
+    }
+}
+
 /// The store of a journal's file; or why there is none.
 pub fn open_store(rt: &HostRuntime, name: &str) -> Result<Store<FileDevice>, NoStore> {
-    let file = match open_locked(rt, name) {
-        Ok(file) => file,
-        Err(fault) => return Err(no_file(rt, name, fault)?),
-    };
-    let mut log = log_of(rt, name, file)?;
-    match pana_store::open(rt.alloc(), &mut log) {
-        Ok(Opened { hall, sealer, torn }) => {
-            report_torn(rt, name, torn)?;
-            Ok(Store::new(rt.alloc(), hall, log, sealer)?)
+    let mut log = log_in(rt, name, open_locked(rt, name))?;
+    match open_log(rt, name, &mut log) {
+        Ok(Opened { hall, sealer, .. }) => Ok(Store::new(rt.alloc(), hall, log, sealer)?),
+        Err(why) => {
+            drop(log);
+            Err(why)
         }
-        Err(fault) => Err(no_journal(rt, name, fault)?),
     }
 }
 
 /// The hall of a journal's file, which isn't changed; or why there is none.
 pub fn open_hall(rt: &HostRuntime, name: &str) -> Result<Hall, NoStore> {
-    let file = match open_to_read(rt, name) {
-        Ok(file) => file,
-        Err(fault) => return Err(no_file(rt, name, fault)?),
-    };
-    let mut log = log_of(rt, name, file)?;
-    match pana_store::read(rt.alloc(), &mut log) {
+    let mut log = log_in(rt, name, open_to_read(rt, name))?;
+    let opened = pana_store::read(rt.alloc(), &mut log);
+    drop(log);
+    match opened {
         Ok(Opened { hall, .. }) => Ok(hall),
-        Err(fault) => Err(no_journal(rt, name, fault)?),
+        Err(fault) => Err(no_journal(rt, name, fault)),
     }
 }

@@ -2,7 +2,7 @@ ghost use Rattle.std.specs.Prelude.{◌≡◌};
 ghost use Rattle.pana_sums.specs.Times.{nanoseconds_of};
 
 /// A time of a file, as systems give it: seconds, and nanoseconds that count forward from them.
-#[derive(Clone, Copy, Debug, PartialEq, Eq, Hash)]
+#[derive(Clone, Copy, PartialEq, Eq, Hash)]
 pub struct FileTime {
     pub seconds: i64,
     pub nanoseconds: u32,

@@ -8,7 +8,7 @@ const RACY_NANOSECONDS: i128 = 2_000_000_000;
 
 /// What a system says of a file without reading it. A file whose signature is that of the last scan has the bytes that it
 /// had then, if the signature was settled.
-#[derive(Clone, Copy, Debug, PartialEq, Eq, Hash)]
+#[derive(Clone, Copy, PartialEq, Eq, Hash)]
 pub struct Signature {
     pub device: u64,
     pub inode: u64,

@@ -14,17 +14,16 @@ fn write_id(text: &mut String, id: &pana_id::Node) -> Result<(), AllocError>
     ensures { OnOk result (string_bytes text.new ≡ string_bytes text.old ++ id_text (id_of id.now)) }
 {
     match id {
-        pana_id::Node::Zero => text.push_str("0")?,
-        pana_id::Node::One => text.push_str("1")?,
+        pana_id::Node::Zero => text.push_str("0"),
+        pana_id::Node::One => text.push_str("1"),
         pana_id::Node::Pair(halves) => {
             text.push_str("(")?;
             write_id(text, &halves.left)?;
             text.push_str(",")?;
             write_id(text, &halves.right)?;
-            text.push_str(")")?;
+            text.push_str(")")
         }
     }
-    Ok(())
 }
 
 /// Appends the text of an event.
@@ -33,16 +32,15 @@ fn write_event(text: &mut String, event: &pana_event::Node) -> Result<(), AllocE
     ensures { OnOk result (string_bytes text.new ≡ string_bytes text.old ++ event_text (event_of event.now)) }
 {
     match event {
-        pana_event::Node::Leaf(number) => write!(text, "{number}")?,
+        pana_event::Node::Leaf(number) => write!(text, "{number}"),
         pana_event::Node::Fork(number, halves) => {
             write!(text, "({number},")?;
             write_event(text, &halves.left)?;
             text.push_str(",")?;
             write_event(text, &halves.right)?;
-            text.push_str(")")?;
+            text.push_str(")")
         }
     }
-    Ok(())
 }
 
 /// The one text of the stamp, appended piece by piece to one `String`.

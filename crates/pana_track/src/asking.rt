@@ -20,7 +20,10 @@ fn page_in(answer: Answer) -> Option<PlainList<StatusRow>>
 {
     match answer {
         Answer::Given(Reply::Status(rows)) => Some(rows),
-        _ => None,
+        other => {
+            drop(other);
+            None
+        }
     }
 }
 

@@ -9,7 +9,7 @@ use pana_copies::DeviceName;
 use std::alloc::{AllocError, Global};
 
 /// What became of a folder that was to be tracked.
-#[derive(Clone, Copy, Debug, PartialEq, Eq)]
+#[derive(Clone, Copy, PartialEq, Eq)]
 pub enum FolderEnd {
     /// It couldn't be read, so nothing was reported.
     Unread(ReadFault),
@@ -17,7 +17,7 @@ pub enum FolderEnd {
 }
 
 /// What was counted of a folder.
-#[derive(Clone, Copy, Debug, PartialEq, Eq)]
+#[derive(Clone, Copy, PartialEq, Eq)]
 pub struct FolderTally {
     /// What became of its calls.
     pub calls: TrackTally,

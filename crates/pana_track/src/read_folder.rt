@@ -3,7 +3,7 @@ use crate::reading::TrackedListing;
 use pana_copies::DeviceName;
 
 /// A folder that is to be tracked, and what reading it has given.
-#[derive(Debug, Drop)]
+#[derive(Drop)]
 pub struct ReadFolder {
     pub device: DeviceName,
     pub given: Result<TrackedListing, ReadFault>,

@@ -19,7 +19,7 @@ use std::thread::Threads;
 const MOST_ENTRIES: u64 = 1_000_000;
 
 /// What a root was found to hold without what its patterns ignore, and these patterns.
-#[derive(Debug, Drop)]
+#[derive(Drop)]
 pub struct TrackedListing {
     pub listing: Listing,
     pub patterns: Patterns,

@@ -14,7 +14,7 @@ use std::alloc::Global;
 const MOST_CALLS: u32 = 1_000;
 
 /// How a call that reports something ends.
-#[derive(Clone, Copy, Debug, PartialEq, Eq)]
+#[derive(Clone, Copy)]
 pub(crate) enum CallEnd {
     /// Memory ran out before the call.
     OutOfMemory,
@@ -27,8 +27,8 @@ pub(crate) enum CallEnd {
 }
 
 /// How a call with this answer ends.
-fn end_of(notice: &Notice, answer: Answer) -> CallEnd
-    ensures { result ≡ end_of notice.now answer }
+fn end_of(notice: &Notice, answer: &Answer) -> CallEnd
+    ensures { result ≡ end_of notice.now answer.now }
 {
     match (notice, answer) {
         (_, Answer::NotKept) => CallEnd::NotKept,
@@ -53,7 +53,9 @@ fn call_once<S: Session>(
     };
     let answer = session.call(device, call)?;
     tally.note(&answer);
-    Ok(end_of(notice, answer))
+    let end = end_of(notice, &answer);
+    drop(answer);
+    Ok(end)
 }
 
 /// Reports one thing that was noticed: a file that was found as often as something is done of it, and else once.

@@ -1,7 +1,7 @@
 /// What became of the calls about a folder. Each count stays at the greatest `u64`.
 use pana_calls::{Answer, Cause, Reply};
 
-#[derive(Clone, Copy, Debug, PartialEq, Eq)]
+#[derive(Clone, Copy, PartialEq, Eq)]
 pub struct TrackTally {
     /// How many of them something was done by.
     pub done: u64,

@@ -21,7 +21,10 @@ fn held_by(answer: Answer) -> Option<HoldingList>
 {
     match answer {
         Answer::Given(Reply::Holdings(holdings)) => Some(holdings),
-        _ => None,
+        other => {
+            drop(other);
+            None
+        }
     }
 }
 

@@ -28,7 +28,10 @@ fn found_in(answer: Answer) -> Option<EntryList>
 {
     match answer {
         Answer::Given(Reply::Journal(found)) => Some(found),
-        _ => None,
+        other => {
+            drop(other);
+            None
+        }
     }
 }
 
@@ -40,12 +43,21 @@ fn remake<S: Session>(alloc: Global, session: &mut S, entry: &Entry) -> Result<(
     let Ok(report) = entry.report.copy_of(alloc) else {
         return Err(TransferFault::OutOfMemory);
     };
-    match ask(session, &entry.by, Call::Report(report))? {
-        Answer::Given(Reply::Done { entry: number }) if number == entry.number => Ok(()),
+    let answer = ask(session, &entry.by, Call::Report(report))?;
+    let remade = remade_by(&answer, entry.number);
+    drop(answer);
+    remade
+}
+
+/// Sees that a report was answered as the entry with this number.
+fn remade_by(answer: &Answer, number: u64) -> Result<(), TransferFault>
+    ensures ok { OnOk result (answer.now ≡ Answer.Given (Reply.Done number)) }
+    ensures other { IfErr result (λ fault. fault ≢ TransferFault.NotEmpty) }
+{
+    match answer {
+        Answer::Given(Reply::Done { entry }) if *entry == number => Ok(()),
         Answer::Given(Reply::Refused(Cause::OutOfMemory)) => Err(TransferFault::OutOfMemory),
-        _ => Err(TransferFault::NotNext {
-            number: entry.number,
-        }),
+        _ => Err(TransferFault::NotNext { number }),
     }
 }
 
@@ -105,7 +117,9 @@ pub fn transfer<S: Session>(
     let Some(found) = found_in(ask(session, asker, Call::Query(first))?) else {
         return Err(TransferFault::OutOfMemory);
     };
-    if !found.as_slice().is_empty() {
+    let is_empty = found.as_slice().is_empty();
+    drop(found);
+    if !is_empty {
         return Err(TransferFault::NotEmpty);
     }
     keep_all(alloc, session, entries)

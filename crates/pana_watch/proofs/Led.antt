@@ -6,7 +6,8 @@ use Rattle.pana_calls.specs.declared.answer.Answer.{Answer}
 use Rattle.pana_watch.specs.declared.family_change.FamilyChange.{FamilyChange}
 use Rattle.pana_watch.specs.declared.watch.Watch.{Watch}
 use Rattle.pana_watch.specs.Line.{change_lines, line_or_none}
-use Rattle.pana_watch.specs.Watch.{Follows, Leads, Looks, Says, named_by}
+use Rattle.pana_journal.specs.Reports.{subject}
+use Rattle.pana_watch.specs.Watch.{Follows, Leads, Looks, Says}
 use Rattle.pana_watch.specs.inner.Answers.{IsFirst}
 
 module _ {S : Type 0} (step : S → List ℕ → Call → Answer → S → Type 0) (by : List ℕ) where
@@ -29,7 +30,7 @@ module _ {S : Type 0} (step : S → List ℕ → Call → Answer → S → Type 
       → (all : List (Option FamilyChange)) × Follows step by before old entries all later last × (change_lines all ≡ text ++ change_lines changes)
 
   pub followed_on : (before : Watch) (old : S) (entries : List Entry) (text : List ℕ) (watch : Watch) (mid : S) (entry : Entry) (rest : List Entry) → FollowedSoFar before old entries text watch mid (entry ∷ rest)
-      → (path : List Entry) (family : ℕ) (asked : S) → Leads step by mid entry.number (named_by entry.report) path family asked
+      → (path : List Entry) (family : ℕ) (asked : S) → Leads step by mid entry.number (subject entry.report) path family asked
       → (change : Option FamilyChange) (after : Watch) (new : S) → Looks step by watch asked family change after new
       → (more : List ℕ) → more ≡ text ++ line_or_none change → FollowedSoFar before old entries more after new rest
   followed_on before old entries text watch mid entry rest so_far path family asked leads change after new looks more is changes later last follows =

@@ -5,9 +5,8 @@ use Rattle.pana_copies.specs.declared.place.Place.{Place}
 use Rattle.pana_journal.specs.declared.entry.Entry.{Entry}
 use Rattle.pana_journal.specs.declared.report.Report.{Report}
 use Rattle.pana_journal.specs.declared.report.Report.TheVariants.{Register, Duplicate, Edit, Reconcile, Merge, Relocate, Remove, Note, Confirm, Withdraw}
-use Rattle.pana_journal.specs.Reports.{kind_of}
+use Rattle.pana_journal.specs.Reports.{kind_name, kind_of}
 use Rattle.pana_ask.specs.Place.{place_name}
-use Rattle.pana_ask.specs.Report.{kind_name}
 use Rattle.pana_watch.specs.declared.family_change.FamilyChange.{FamilyChange}
 
 -- a copy by its number

@@ -3,8 +3,7 @@ use Rattle.std.specs.Prelude.{◌≡◌, ◌⊎◌, ℕ, max, ◌+◌, ◌^◌, 
 use Rattle.std.specs.List.{list_any}
 use Rattle.indexmap.specs.IndexMap.{get}
 use Rattle.pana_journal.specs.declared.entry.Entry.{Entry}
-use Rattle.pana_journal.specs.declared.report.Report.{Report}
-use Rattle.pana_journal.specs.declared.report.Report.TheVariants.{Register, Duplicate, Edit, Reconcile, Merge, Relocate, Remove, Note, Confirm, Withdraw}
+use Rattle.pana_journal.specs.Reports.{subject}
 use Rattle.pana_calls.specs.declared.board.BoardView.{BoardView}
 use Rattle.pana_calls.specs.declared.family_row.FamilyRow.{FamilyRow}
 use Rattle.pana_calls.specs.declared.call.Call.{Call}
@@ -43,19 +42,6 @@ awaited number = calls.Query (queries.JournalAwaited number 30)
 -- whether a family is known as split
 abbrev pub is_split : Watch → ℕ → Bool
 is_split watch family = unwrap_or (get nat_eq watch.known family) false
-
--- the copy or the entry that a report names, and to whose family it belongs; none where it begins a family
-abbrev pub named_by : Report → Option ℕ
-named_by (Register place sum) = None
-named_by (Duplicate copy place sum) = Some copy
-named_by (Edit copy sum) = Some copy
-named_by (Reconcile a b sum) = Some a
-named_by (Merge a b sum) = Some a
-named_by (Relocate copy place) = Some copy
-named_by (Remove copy heir) = Some copy
-named_by (Note copy sum) = Some copy
-named_by (Confirm entry) = Some entry
-named_by (Withdraw entry) = Some entry
 
 -- whether one of the rows says that the family is split
 abbrev pub splits : List FamilyRow → ℕ → Bool
@@ -113,7 +99,7 @@ module _ {S : Type 0} (step : S → List ℕ → Call → Answer → S → Type 
   Leads old here None (entry ∷ path) family new = ⊥
   Leads old here (Some number) [] family new = ⊥
   Leads old here (Some number) (entry ∷ path) family new = (mid : S) × (rest : List Entry) × step old by (calls.Query (queries.JournalFrom number)) (Given (Journal (entry ∷ rest))) mid
-      × (entry.number ≡ number) × Leads mid number (named_by entry.report) path family new
+      × (entry.number ≡ number) × Leads mid number (subject entry.report) path family new
 
   -- what has become of the family of each entry, one after another
   abbrev pub Follows : Watch → S → List Entry → List (Option FamilyChange) → Watch → S → Type 0
@@ -121,7 +107,7 @@ module _ {S : Type 0} (step : S → List ℕ → Call → Answer → S → Type 
   Follows before old [] (change ∷ changes) after new = ⊥
   Follows before old (entry ∷ entries) [] after new = ⊥
   Follows before old (entry ∷ entries) (change ∷ changes) after new = (path : List Entry) × (family : ℕ) × (mid : S) × (later : Watch) × (behind : S)
-      × Leads old entry.number (named_by entry.report) path family mid × Looks before mid family change later behind × Follows later behind entries changes after new
+      × Leads old entry.number (subject entry.report) path family mid × Looks before mid family change later behind × Follows later behind entries changes after new
 
   -- the text has a line for each change of these
   pub record Says (before : Watch) (old : S) (entries : List Entry) (text : List ℕ) (after : Watch) (new : S) : Type 0 where

@@ -24,7 +24,10 @@ fn families_in(answer: Answer) -> Option<PlainList<FamilyRow>>
 {
     match answer {
         Answer::Given(Reply::Families(rows)) => Some(rows),
-        _ => None,
+        other => {
+            drop(other);
+            None
+        }
     }
 }
 
@@ -50,7 +53,9 @@ fn has_entry<S: Session>(session: &mut S, by: &DeviceName, number: u64) -> Resul
     let Some(entries) = entries_in(answer) else {
         return Err(WatchFault::NoAnswer);
     };
-    Ok(!entries.as_slice().is_empty())
+    let has = !entries.as_slice().is_empty();
+    drop(entries);
+    Ok(has)
 }
 
 /// The number of the next entry that the journal will have. It takes 20 questions.
@@ -93,7 +98,9 @@ impl Watch {
         let Some(rows) = families_in(answer) else {
             return Err(WatchFault::NoAnswer);
         };
-        let known = splits_of(alloc, rows.as_slice())?;
+        let known = splits_of(alloc, rows.as_slice());
+        drop(rows);
+        let known = known?;
         let next = match from {
             Some(number) => number.max(1),
             None => end_of(session, by)?,

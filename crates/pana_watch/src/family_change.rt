@@ -6,7 +6,7 @@ ghost use Rattle.pana_watch.specs.Watch.{change_of};
 use std::alloc::{AllocError, Global};
 
 /// A family that has become split, or whole.
-#[derive(Clone, Copy, Debug, PartialEq, Eq)]
+#[derive(Clone, Copy)]
 pub struct FamilyChange {
     pub family: u64,
     pub split: bool,

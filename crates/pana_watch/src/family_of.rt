@@ -2,7 +2,8 @@
 ghost use Rattle.std.specs.Prelude.{◌≡◌, ℕ, List, ◌++◌, IfOk, OnOk, string_bytes};
 ghost use Rattle.pana_journal.specs.declared.entry.Entry.{Entry};
 ghost use Rattle.pana_watch.specs.Line.{line_or_none};
-ghost use Rattle.pana_watch.specs.Watch.{Leads, Says, named_by};
+ghost use Rattle.pana_journal.specs.Reports.{subject};
+ghost use Rattle.pana_watch.specs.Watch.{Leads, Says};
 ghost use Rattle.pana_watch.specs.inner.Answers.{IsFirst};
 
 use crate::family_change::{FamilyChange, change_line};
@@ -11,27 +12,11 @@ use crate::watch::Watch;
 use crate::watch_fault::WatchFault;
 use pana_calls::{Call, Query, Session};
 use pana_copies::DeviceName;
-use pana_journal::{Entry, Report};
+use pana_journal::Entry;
 use std::alloc::{AllocError, Global};
 
 /// How many entries a journal has at most.
 const MOST_ENTRIES: u32 = 1_000_000;
-
-/// The copy or the entry that a report names, and to whose family it belongs; none where it begins a family.
-fn named_by(report: &Report) -> Option<u64>
-    ensures { result ≡ named_by report.now }
-{
-    match report {
-        Report::Register { .. } => None,
-        Report::Reconcile { a, .. } | Report::Merge { a, .. } => Some(*a),
-        Report::Duplicate { copy, .. }
-        | Report::Edit { copy, .. }
-        | Report::Relocate { copy, .. }
-        | Report::Remove { copy, .. }
-        | Report::Note { copy, .. } => Some(*copy),
-        Report::Confirm { entry } | Report::Withdraw { entry } => Some(*entry),
-    }
-}
 
 /// What the entry with this number names.
 fn named_at<S: Session>(
@@ -47,17 +32,17 @@ fn named_at<S: Session>(
         return Err(WatchFault::NoAnswer);
     };
     match entries.as_slice().first() {
-        Some(entry) if entry.number == number => Ok(named_by(&entry.report)),
+        Some(entry) if entry.number == number => Ok(entry.report.subject()),
         _ => Err(WatchFault::NoAnswer),
     }
 }
 
 /// The family of an entry.
 fn family_of<S: Session>(session: &mut S, by: &DeviceName, entry: &Entry) -> Result<u64, WatchFault>
-    ensures { IfOk result (λ family. (path : List Entry) × Leads S.step by.now session.old entry.now.number (named_by entry.now.report) path family session.new) }
+    ensures { IfOk result (λ family. (path : List Entry) × Leads S.step by.now session.old entry.now.number (subject entry.now.report) path family session.new) }
 {
     let mut family = entry.number;
-    let mut named = named_by(&entry.report);
+    let mut named = entry.report.subject();
     for _ in 0..MOST_ENTRIES {
         let number = match named {
             Some(number) => number,

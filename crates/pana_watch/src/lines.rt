@@ -2,7 +2,7 @@
 ghost use Rattle.std.specs.Prelude.{◌≡◌, IfOk, string_bytes};
 ghost use Rattle.pana_watch.specs.Line.{copies_text, copy_text, copy_to, entry_line, entry_lines, entry_text, removed_text, subject_text};
 
-use pana_ask::{kind_name, place_name};
+use pana_ask::place_name;
 use pana_copies::Place;
 use pana_journal::{Entry, Report};
 use std::alloc::{AllocError, Global};
@@ -63,7 +63,7 @@ fn subject_text(alloc: Global, report: &Report) -> Result<String, AllocError>
 fn entry_line(alloc: Global, entry: &Entry) -> Result<String, AllocError>
     ensures { IfOk result (λ line. string_bytes line ≡ entry_line entry.now) }
 {
-    let kind = kind_name(entry.report.kind());
+    let kind = entry.report.kind().name();
     let subject = subject_text(alloc, &entry.report)?;
     format!(in alloc;
         "{} {kind} by {}: {subject}\n",

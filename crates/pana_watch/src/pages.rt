@@ -11,7 +11,10 @@ pub(crate) fn entries_in(answer: Answer) -> Option<EntryList>
 {
     match answer {
         Answer::Given(Reply::Journal(entries)) => Some(entries),
-        _ => None,
+        other => {
+            drop(other);
+            None
+        }
     }
 }
 

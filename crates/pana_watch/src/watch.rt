@@ -26,7 +26,10 @@ fn board_in(answer: Answer) -> Option<BoardView>
 {
     match answer {
         Answer::Given(Reply::Board(board)) => Some(board),
-        _ => None,
+        other => {
+            drop(other);
+            None
+        }
     }
 }
 
@@ -81,10 +84,12 @@ impl Watch {
         let Some(board) = board_in(answer) else {
             return Err(WatchFault::NoAnswer);
         };
+        let is = board.split;
+        drop(board);
         let was = self.known.get(&family).copied().unwrap_or(false);
-        let Ok(_) = self.known.insert(family, board.split) else {
+        let Ok(_) = self.known.insert(family, is) else {
             return Err(WatchFault::OutOfMemory);
         };
-        Ok(FamilyChange::of(family, was, board.split))
+        Ok(FamilyChange::of(family, was, is))
     }
 }

@@ -4,7 +4,7 @@ use pana_calls::NoAnswer;
 use std::alloc::AllocError;
 
 /// Why nothing more is said.
-#[derive(Clone, Copy, Debug, PartialEq, Eq)]
+#[derive(Clone, Copy)]
 pub enum WatchFault {
     /// A question has no answer, or one that is none to it.
     NoAnswer,

@@ -7,7 +7,7 @@ use std::marker::Model;
 const MOST_HELD: usize = 65536;
 
 /// Answers that aren't written yet, each with a newline.
-#[derive(Debug, Drop)]
+#[derive(Drop)]
 pub struct AnswerBuffer {
     bytes: Vec<u8>,
 }

@@ -8,7 +8,7 @@ use std::marker::Model;
 const MOST_KEPT: usize = 65537;
 
 /// The first bytes of a line that hasn't ended yet.
-#[derive(Debug, Drop)]
+#[derive(Drop)]
 pub struct LineBuffer {
     bytes: Vec<u8>,
 }

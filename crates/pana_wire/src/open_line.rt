@@ -26,7 +26,7 @@ const MOST_TEXT: usize = 60_000;
 const MOST_BEFORE: usize = 920_000;
 
 /// A line of entries that isn't whole yet.
-#[derive(Debug, Drop)]
+#[derive(Drop)]
 pub struct OpenLine {
     bytes: Vec<u8>,
 }

@@ -6,7 +6,7 @@ use crate::field::Field;
 use pana_journal::ReportKind;
 
 /// The word in a line for what is asked.
-#[derive(Clone, Copy, Debug, PartialEq, Eq)]
+#[derive(Clone, Copy, PartialEq, Eq)]
 pub enum Word {
     Register,
     Duplicate,

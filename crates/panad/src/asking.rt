@@ -7,6 +7,7 @@ use pana_ask::{AskFault, read_place, unknown_line};
 use pana_commands::Printout;
 use pana_copies::{DeviceName, NameFault, Place};
 use pana_files::{Keeper, ProgramFault};
+use pana_history::Unexplained;
 use std::process::ExitCode;
 
 /// The device in whose name questions are asked.
@@ -38,6 +39,22 @@ pub fn print_fault(
         AskFault::NoCopy(place) => print_line(rt, unknown_line(rt.alloc(), &place)?, 1),
         AskFault::NoAnswer => report(rt, keeper.no_answer()),
         AskFault::OutOfMemory => Err(ProgramFault::OutOfMemory),
+    }
+}
+
+/// Prints why nothing is said of copies, and returns the status.
+pub fn print_unexplained(
+    rt: &HostRuntime,
+    keeper: Keeper<'_>,
+    fault: Unexplained,
+) -> Result<ExitCode, ProgramFault> {
+    match fault {
+        Unexplained::NoAnswer => report(rt, keeper.no_answer()),
+        Unexplained::Damaged(fault) => {
+            let text = format!(in rt.alloc(); "what came is no journal: {fault}")?;
+            report(rt, text.as_str())
+        }
+        Unexplained::OutOfMemory => Err(ProgramFault::OutOfMemory),
     }
 }
 

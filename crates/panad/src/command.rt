@@ -2,7 +2,7 @@
 
 use crate::keeping::{run_kept, run_shared};
 use crate::options::{keeper_of, place_of};
-use crate::printing::{print_out, print_out_tables};
+use crate::printing::{print_out, print_out_tables, print_reported};
 use crate::show_command::show_tables;
 use crate::track::FAULT;
 use crate::{
@@ -13,7 +13,7 @@ use pana_arguments::{
     Arguments, CommandLine, CommandName, CompareArguments, Explanation, KeptBy, LoadArguments,
     RunArguments, ScanArguments, ShowArguments, Unread, command_named, refusal,
 };
-use pana_commands::{Printout, compare_on, load_on, run_on, scan_on, show_on};
+use pana_commands::{compare_on, load_on, run_on, scan_on, show_on};
 use pana_files::{
     FolderWatch, NamedFolder, NamingDisk, ProgramFault, Tables, complain, output, print_text,
     take_standard_descriptors, terminal_width,
@@ -108,7 +108,7 @@ fn bytes_of_input(rt: &HostRuntime) -> Result<Vec<u8>, ProgramFault> {
 
 fn cannot_read(rt: &HostRuntime, name: &str) -> Result<ExitCode, ProgramFault> {
     let text = format!(in rt.alloc(); "cannot read {name}")?;
-    print_out(rt, &Printout::reported(rt.alloc(), &text)?)
+    print_reported(rt, text.as_str())
 }
 
 /// Prints the tables of the journal that lines leave, of a file or of standard input.
@@ -131,22 +131,30 @@ fn show(rt: &HostRuntime, arguments: ShowArguments<'_>) -> Result<ExitCode, Prog
     }
 }
 
-fn load(rt: &HostRuntime, arguments: LoadArguments<'_>) -> Result<ExitCode, ProgramFault> {
-    let name = arguments.file;
-    let Some(bytes) = bytes_of(rt, name)? else {
-        return cannot_read(rt, name);
-    };
-    let lines = before_end(&bytes);
-    let is_journal = match bytes.get(lines.len()..) {
-        Some(behind) => ends_journal(behind),
-        None => false,
-    };
-    if !is_journal {
-        let text = format!(in rt.alloc(); "journal {name}: not a journal")?;
-        return print_out(rt, &Printout::reported(rt.alloc(), &text)?);
+/// The lines of a journal, which its end may stand behind, or `None` where something else does.
+fn lines_of(bytes: &[u8]) -> Option<&[u8]> {
+    let lines = before_end(bytes);
+    match bytes.get(lines.len()..) {
+        Some(behind) if ends_journal(behind) => Some(lines),
+        _ => None,
     }
+}
+
+/// Prints the tables of the journal in a file with this name.
+fn load_bytes(rt: &HostRuntime, name: &str, bytes: &[u8]) -> Result<ExitCode, ProgramFault> {
+    let Some(lines) = lines_of(bytes) else {
+        let text = format!(in rt.alloc(); "journal {name}: not a journal")?;
+        return print_reported(rt, text.as_str());
+    };
     let shown = load_on(rt.alloc(), terminal_width(rt)?, lines)?;
     print_out_tables(rt, Tables::Boards, &shown)
+}
+
+fn load(rt: &HostRuntime, arguments: LoadArguments<'_>) -> Result<ExitCode, ProgramFault> {
+    match bytes_of(rt, arguments.file)? {
+        Some(bytes) => load_bytes(rt, arguments.file, bytes.as_slice()),
+        None => cannot_read(rt, arguments.file),
+    }
 }
 
 /// Prints help, the version, or why the words are refused, and returns the status for it.
@@ -239,22 +247,29 @@ pub fn fault_of_log(
     }
 }
 
-fn obey_words<T: Threads + Wait + Clock + Sync>(
+fn obey_line<T: Threads + Wait + Clock + Sync>(
     rt: &HostRuntime,
     threads: &T,
-    words: &[String],
+    line: &CommandLine<'_>,
 ) -> Result<ExitCode, ProgramFault> {
-    let line = match CommandLine::read(rt.alloc(), words) {
-        Ok(line) => line,
-        Err(Unread::Explained(explanation)) => return explain(rt, &explanation),
-        Err(Unread::OutOfMemory) => return Err(ProgramFault::OutOfMemory),
-    };
     match line.arguments() {
         Ok(arguments) => match fault_of_log(rt, arguments.kept_by())? {
             Some(reason) => refuse(rt, reason.as_str()),
             None => obey_arguments(rt, threads, arguments),
         },
         Err(reason) => refuse(rt, reason),
+    }
+}
+
+fn obey_words<T: Threads + Wait + Clock + Sync>(
+    rt: &HostRuntime,
+    threads: &T,
+    words: &[String],
+) -> Result<ExitCode, ProgramFault> {
+    match CommandLine::read(rt.alloc(), words) {
+        Ok(line) => obey_line(rt, threads, &line),
+        Err(Unread::Explained(explanation)) => explain(rt, &explanation),
+        Err(Unread::OutOfMemory) => Err(ProgramFault::OutOfMemory),
     }
 }
 

@@ -86,6 +86,20 @@ fn status_of(outcome: &Outcome<'_, NoStore>) -> u8 {
     }
 }
 
+/// Prints what went wrong, where it hasn't been, and returns the status.
+fn print_outcome(
+    rt: &HostRuntime,
+    port: u16,
+    outcome: &Outcome<'_, NoStore>,
+) -> Result<ExitCode, ProgramFault> {
+    let printout = Printout {
+        out: String::new(rt.alloc()),
+        err: outcome.line(rt.alloc(), port)?,
+        status: status_of(outcome),
+    };
+    print_out(rt, &printout)
+}
+
 /// Has the daemon do what the words ask for, by a journal's file, or by a log in etcd, of which something is wished then, on
 /// folders that are entered also where they are of another file system, or not, prints what went wrong, where it hasn't been, and
 /// returns the status.
@@ -107,10 +121,5 @@ pub fn serve<T: Threads + Wait + Clock + Sync>(
         Some(log) => serve_on(rt, threads, &disks, &mut LogMachine { rt, log }, wishes),
         None => serve_on(rt, threads, &disks, &mut FileMachine { rt }, wishes),
     };
-    let printout = Printout {
-        out: String::new(rt.alloc()),
-        err: outcome.line(rt.alloc(), port)?,
-        status: status_of(&outcome),
-    };
-    print_out(rt, &printout)
+    print_outcome(rt, port, &outcome)
 }

@@ -1,6 +1,6 @@
 //! `panad history`: all that was reported of a file as a graph, by a journal or a daemon.
 
-use crate::asking::{asker, place_of, print_line, refuse_place};
+use crate::asking::{asker, place_of, print_line, print_unexplained, refuse_place};
 use crate::inquiry::{Inquiry, ask_keeper};
 use crate::options::keeper_of;
 use crate::track::report;
@@ -8,7 +8,7 @@ use pana_arguments::HistoryArguments;
 use pana_calls::Session;
 use pana_copies::Place;
 use pana_files::{Keeper, ProgramFault, may_write_picture, print_text, write_picture};
-use pana_history::{Form, History, Unexplained, history_on};
+use pana_history::{Form, History, history_on};
 use std::process::ExitCode;
 
 /// Where the history goes.
@@ -74,21 +74,17 @@ impl Inquiry for Asked<'_> {
         let form = self.target.form();
         match history_on(rt.alloc(), session, &asker()?, self.place, form) {
             Ok(history) => present(rt, history, self.target),
-            Err(Unexplained::NoAnswer) => report(rt, keeper.no_answer()),
-            Err(Unexplained::Damaged(fault)) => {
-                let text = format!(in rt.alloc(); "what came is no journal: {fault}")?;
-                report(rt, text.as_str())
-            }
-            Err(Unexplained::OutOfMemory) => Err(ProgramFault::OutOfMemory),
+            Err(fault) => print_unexplained(rt, keeper, fault),
         }
     }
 }
 
-/// Asks about the place that the words name, or refuses the words. A file that has something else than a picture is left as it is.
-pub fn run(rt: &HostRuntime, arguments: HistoryArguments<'_>) -> Result<ExitCode, ProgramFault> {
-    let Some(place) = place_of(rt, arguments.place)? else {
-        return refuse_place(rt, arguments.place);
-    };
+/// Asks about the place. A file that has something else than a picture is left as it is.
+fn ask(
+    rt: &HostRuntime,
+    place: &Place,
+    arguments: HistoryArguments<'_>,
+) -> Result<ExitCode, ProgramFault> {
     let target = match arguments.svg {
         Some(name) if !may_write_picture(rt, name) => {
             let text = format!(in rt.alloc(); "{name} is no picture")?;
@@ -97,9 +93,13 @@ pub fn run(rt: &HostRuntime, arguments: HistoryArguments<'_>) -> Result<ExitCode
         Some(name) => Target::Picture(name),
         None => Target::Output,
     };
-    let asked = Asked {
-        place: &place,
-        target,
-    };
-    ask_keeper(rt, keeper_of(arguments.kept_by), asked)
+    ask_keeper(rt, keeper_of(arguments.kept_by), Asked { place, target })
+}
+
+/// Asks about the place that the words name, or refuses the words.
+pub fn run(rt: &HostRuntime, arguments: HistoryArguments<'_>) -> Result<ExitCode, ProgramFault> {
+    match place_of(rt, arguments.place)? {
+        Some(place) => ask(rt, &place, arguments),
+        None => refuse_place(rt, arguments.place),
+    }
 }

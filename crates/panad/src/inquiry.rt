@@ -3,6 +3,7 @@
 use crate::track::report;
 use pana_calls::Session;
 use pana_files::{Keeper, LogPlace, ProgramFault, connect};
+use pana_hall::Hall;
 use pana_store_file::{NoStore, open_hall, open_shared, open_store, read_shared};
 use std::process::ExitCode;
 
@@ -31,14 +32,27 @@ fn refuse_store<I: Inquiry>(rt: &HostRuntime, refusal: NoStore) -> Result<ExitCo
     }
 }
 
-/// Asks a log in etcd, as it is when it is read.
-fn ask_log<I: Inquiry + Drop>(
+/// Asks a hall that was read, if it was.
+fn ask_hall<I: Inquiry + Drop>(
     rt: &HostRuntime,
-    place: LogPlace<'_>,
+    keeper: Keeper<'_>,
+    hall: Result<Hall, NoStore>,
     inquiry: I,
 ) -> Result<ExitCode, ProgramFault> {
-    match read_shared(rt, place) {
-        Ok(mut hall) => inquiry.make(rt, &mut hall, Keeper::Log(place)),
+    match hall {
+        Ok(mut hall) => inquiry.make(rt, &mut hall, keeper),
+        Err(refusal) => refuse_store::<I>(rt, refusal),
+    }
+}
+
+/// Reports to the store of a journal's file.
+fn report_to_file<I: Inquiry + Drop>(
+    rt: &HostRuntime,
+    name: &str,
+    inquiry: I,
+) -> Result<ExitCode, ProgramFault> {
+    match open_store(rt, name) {
+        Ok(mut store) => inquiry.make(rt, &mut store, Keeper::Journal(name)),
         Err(refusal) => refuse_store::<I>(rt, refusal),
     }
 }
@@ -70,18 +84,15 @@ fn make_at_daemon<I: Inquiry + Drop>(
     }
 }
 
-/// Asks who keeps the reports. A journal isn't changed.
+/// Asks who keeps the reports. A journal isn't changed, and a log is asked as it is when it is read.
 pub fn ask_keeper<I: Inquiry + Drop>(
     rt: &HostRuntime,
     keeper: Keeper<'_>,
     inquiry: I,
 ) -> Result<ExitCode, ProgramFault> {
     match keeper {
-        Keeper::Journal(name) => match open_hall(rt, name) {
-            Ok(mut hall) => inquiry.make(rt, &mut hall, keeper),
-            Err(refusal) => refuse_store::<I>(rt, refusal),
-        },
-        Keeper::Log(place) => ask_log(rt, place, inquiry),
+        Keeper::Journal(name) => ask_hall(rt, keeper, open_hall(rt, name), inquiry),
+        Keeper::Log(place) => ask_hall(rt, keeper, read_shared(rt, place), inquiry),
         Keeper::Daemon(port) => make_at_daemon(rt, port, inquiry),
     }
 }
@@ -93,10 +104,7 @@ pub fn report_to_keeper<I: Inquiry + Drop>(
     inquiry: I,
 ) -> Result<ExitCode, ProgramFault> {
     match keeper {
-        Keeper::Journal(name) => match open_store(rt, name) {
-            Ok(mut store) => inquiry.make(rt, &mut store, keeper),
-            Err(refusal) => refuse_store::<I>(rt, refusal),
-        },
+        Keeper::Journal(name) => report_to_file(rt, name, inquiry),
         Keeper::Log(place) => report_to_log(rt, place, inquiry),
         Keeper::Daemon(port) => make_at_daemon(rt, port, inquiry),
     }

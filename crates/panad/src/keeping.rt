@@ -1,9 +1,8 @@
 //! Standard input, served on a journal that is kept in a file or in a log that others append to.
 
 use crate::command::READS;
-use crate::printing::print_out;
+use crate::printing::print_reported;
 use crate::track::report as report_fault;
-use pana_commands::Printout;
 use pana_files::{LogPlace, ProgramFault, output};
 use pana_log::FileDevice;
 use pana_store::{Store, serve_kept};
@@ -14,21 +13,18 @@ use std::process::ExitCode;
 /// Prints why there is no store, and returns the status: that of a fault where what keeps it gives no answer, and else 1.
 fn report(rt: &HostRuntime, refusal: NoStore) -> Result<ExitCode, ProgramFault> {
     match refusal {
-        NoStore::Because(text) => print_out(rt, &Printout::reported(rt.alloc(), &text)?),
+        NoStore::Because(text) => print_reported(rt, text.as_str()),
         NoStore::NoAnswer(text) => report_fault(rt, text.as_str()),
         NoStore::Fault(fault) => Err(fault),
     }
 }
 
-fn serve_input(rt: &HostRuntime, mut store: Store<FileDevice>) -> Result<ExitCode, ProgramFault> {
-    let alloc = rt.alloc();
+fn serve_input(rt: &HostRuntime, store: &mut Store<FileDevice>) -> Result<ExitCode, ProgramFault> {
     let mut reader = Tap::new(rt.reader());
     let mut writer = Tap::new(output(rt)?);
-    match serve_kept(alloc, &mut reader, &mut writer, &mut store, READS) {
+    match serve_kept(rt.alloc(), &mut reader, &mut writer, store, READS) {
         Ok(_) => Ok(ExitCode::SUCCESS),
-        Err(ServeFault::NoAnswer) => {
-            print_out(rt, &Printout::reported(alloc, &"journal failed")?)
-        }
+        Err(ServeFault::NoAnswer) => print_reported(rt, "journal failed"),
         Err(fault) => Err(ProgramFault::of_serving(fault)),
     }
 }
@@ -37,30 +33,28 @@ fn serve_input(rt: &HostRuntime, mut store: Store<FileDevice>) -> Result<ExitCod
 /// printed.
 pub fn run_kept(rt: &HostRuntime, name: &str) -> Result<ExitCode, ProgramFault> {
     match open_store(rt, name) {
-        Ok(store) => serve_input(rt, store),
+        Ok(mut store) => serve_input(rt, &mut store),
         Err(refusal) => report(rt, refusal),
     }
 }
 
 /// Prints why a log has given no answer, and returns the status.
 fn report_log(rt: &HostRuntime, store: &LogStore) -> Result<ExitCode, ProgramFault> {
-    let alloc = rt.alloc();
-    let printout = match store.foreign() {
+    match store.foreign() {
         Some(number) => {
-            let text = format!(in alloc; "log: what stands at {number} is no entry")?;
-            Printout::reported(alloc, &text)?
+            let text = format!(in rt.alloc(); "log: what stands at {number} is no entry")?;
+            print_reported(rt, text.as_str())
         }
-        None => Printout::reported(alloc, &"the log gives no answer")?,
-    };
-    print_out(rt, &printout)
+        None => print_reported(rt, "the log gives no answer"),
+    }
 }
 
-fn serve_input_shared(rt: &HostRuntime, mut store: LogStore) -> Result<ExitCode, ProgramFault> {
+fn serve_input_shared(rt: &HostRuntime, store: &mut LogStore) -> Result<ExitCode, ProgramFault> {
     let mut reader = Tap::new(rt.reader());
     let mut writer = Tap::new(output(rt)?);
-    match serve_groups(rt.alloc(), &mut reader, &mut writer, &mut store, READS) {
+    match serve_groups(rt.alloc(), &mut reader, &mut writer, store, READS) {
         Ok(_) => Ok(ExitCode::SUCCESS),
-        Err(ServeFault::NoAnswer) => report_log(rt, &store),
+        Err(ServeFault::NoAnswer) => report_log(rt, store),
         Err(fault) => Err(ProgramFault::of_serving(fault)),
     }
 }
@@ -68,7 +62,7 @@ fn serve_input_shared(rt: &HostRuntime, mut store: LogStore) -> Result<ExitCode,
 /// Serves standard input as `run` does, on the store of a log in etcd, into which each entry is put before its `Done` is printed.
 pub fn run_shared(rt: &HostRuntime, place: LogPlace<'_>) -> Result<ExitCode, ProgramFault> {
     match open_shared(rt, place) {
-        Ok(store) => serve_input_shared(rt, store),
+        Ok(mut store) => serve_input_shared(rt, &mut store),
         Err(refusal) => report(rt, refusal),
     }
 }

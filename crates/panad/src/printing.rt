@@ -18,6 +18,11 @@ pub fn print_out(rt: &HostRuntime, printout: &Printout) -> Result<ExitCode, Prog
     complain_out(rt, &printout.err, printout.status)
 }
 
+/// Prints a line about this text on standard error, and returns its status.
+pub fn print_reported(rt: &HostRuntime, text: &str) -> Result<ExitCode, ProgramFault> {
+    print_out(rt, &Printout::reported(rt.alloc(), &text)?)
+}
+
 /// Prints both texts, the first of such tables, on a terminal in colour, and returns the status.
 pub fn print_out_tables(
     rt: &HostRuntime,

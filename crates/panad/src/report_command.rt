@@ -22,29 +22,27 @@ fn wanted_by(word: ReportWord) -> &'static str {
     }
 }
 
-/// Why words are refused, as a text; none where memory has run out.
-fn reason_of(alloc: Global, fault: WordsFault<'_>) -> Result<Option<String>, AllocError> {
-    Ok(Some(match fault {
-        WordsFault::Word(text) => format!(in alloc; "bad word {text}")?,
-        WordsFault::Place(text) => format!(in alloc; "bad place {text}")?,
-        WordsFault::Sum(text) => format!(in alloc; "bad sum {text}")?,
-        WordsFault::Entry(text) => format!(in alloc; "bad entry {text}")?,
+/// Why words are refused, as a text.
+fn reason_of(alloc: Global, fault: WordsFault<'_>) -> Result<String, AllocError> {
+    match fault {
+        WordsFault::Word(text) => format!(in alloc; "bad word {text}"),
+        WordsFault::Place(text) => format!(in alloc; "bad place {text}"),
+        WordsFault::Sum(text) => format!(in alloc; "bad sum {text}"),
+        WordsFault::Entry(text) => format!(in alloc; "bad entry {text}"),
         WordsFault::Count(word) => {
-            format!(in alloc; "{} is about {}", word.name(), wanted_by(word))?
+            format!(in alloc; "{} is about {}", word.name(), wanted_by(word))
         }
-        WordsFault::NoSum(word) => format!(in alloc; "{} needs --sum", word.name())?,
-        WordsFault::NeedlessSum(word) => format!(in alloc; "{} takes no --sum", word.name())?,
-        WordsFault::NeedlessHeir(word) => format!(in alloc; "{} takes no --heir", word.name())?,
-        WordsFault::OutOfMemory => return Ok(None),
-    }))
+        WordsFault::NoSum(word) => format!(in alloc; "{} needs --sum", word.name()),
+        WordsFault::NeedlessSum(word) => format!(in alloc; "{} takes no --sum", word.name()),
+        WordsFault::NeedlessHeir(word) => format!(in alloc; "{} takes no --heir", word.name()),
+        WordsFault::OutOfMemory => Err(AllocError),
+    }
 }
 
 /// Refuses the words.
 fn refuse_words(rt: &HostRuntime, fault: WordsFault<'_>) -> Result<ExitCode, ProgramFault> {
-    match reason_of(rt.alloc(), fault)? {
-        Some(reason) => refuse(rt, reason.as_str()),
-        None => Err(ProgramFault::OutOfMemory),
-    }
+    let reason = reason_of(rt.alloc(), fault)?;
+    refuse(rt, reason.as_str())
 }
 
 /// A report, and the device in whose name it is made.
@@ -81,18 +79,30 @@ fn said<'a>(alloc: Global, arguments: ReportArguments<'a>) -> Result<PlacedRepor
     read_report(alloc, &words)
 }
 
-/// Reports what the words say, or refuses them.
-pub fn run(rt: &HostRuntime, arguments: ReportArguments<'_>) -> Result<ExitCode, ProgramFault> {
-    let what = match said(rt.alloc(), arguments) {
-        Ok(what) => what,
-        Err(fault) => return refuse_words(rt, fault),
-    };
-    let by = match arguments.by {
+/// The device with this name, or where there is none that of the first place.
+fn reporter_of(name: Option<&str>, what: &PlacedReport) -> Option<DeviceName> {
+    match name {
         Some(name) => DeviceName::new(name).ok(),
         None => what.device(),
-    };
-    match by {
+    }
+}
+
+/// Reports this, or refuses the words.
+fn make(
+    rt: &HostRuntime,
+    arguments: ReportArguments<'_>,
+    what: PlacedReport,
+) -> Result<ExitCode, ProgramFault> {
+    match reporter_of(arguments.by, &what) {
         Some(by) => report_to_keeper(rt, keeper_of(arguments.kept_by), Made { by, what }),
         None => refuse(rt, "--by has to name the device that reports"),
+    }
+}
+
+/// Reports what the words say, or refuses them.
+pub fn run(rt: &HostRuntime, arguments: ReportArguments<'_>) -> Result<ExitCode, ProgramFault> {
+    match said(rt.alloc(), arguments) {
+        Ok(what) => make(rt, arguments, what),
+        Err(fault) => refuse_words(rt, fault),
     }
 }

@@ -4,7 +4,9 @@ use crate::command::refuse;
 use crate::daemon::{self, LogWishes};
 use pana_arguments::{KeptBy, ServeArguments};
 use pana_daemon::{Looks, Patience, Root, roots_of};
-use pana_files::{OwnFile, ProgramFault, fault_of_roots, passed_over, root_patterns, slices_of};
+use pana_files::{
+    OwnFile, ProgramFault, RootPatterns, fault_of_roots, passed_over, root_patterns, slices_of,
+};
 use pana_serve::Wishes;
 use std::alloc::AllocError;
 use std::marker::Sync;
@@ -21,6 +23,42 @@ fn tracked_roots<'a>(rt: &HostRuntime, wishes: &Wishes<'a>) -> Result<Vec<Root<'
     Ok(roots_of(rt.alloc(), wishes.roots).unwrap_or(Vec::new(rt.alloc())))
 }
 
+/// What is passed over in these roots.
+fn patterns_of(
+    rt: &HostRuntime,
+    roots: &[Root<'_>],
+    ignored: &[&str],
+    kept_by: Option<KeptBy<'_>>,
+) -> Result<Vec<RootPatterns>, AllocError> {
+    match kept_by {
+        Some(KeptBy::Journal(name)) => {
+            root_patterns(rt, roots, &[OwnFile::journal(name)], ignored)
+        }
+        _ => root_patterns(rt, roots, &[], ignored),
+    }
+}
+
+/// Serves as the words wish, and passes over what matches these patterns.
+fn serve_without<T: Threads + Wait + Clock + Sync>(
+    rt: &HostRuntime,
+    threads: &T,
+    patterns: &[RootPatterns],
+    wishes: Wishes<'_>,
+    stays: bool,
+    kept_by: Option<KeptBy<'_>>,
+) -> Result<ExitCode, ProgramFault> {
+    let slices = slices_of(rt, patterns)?;
+    let passed = passed_over(rt, patterns, slices.as_slice())?;
+    daemon::serve(
+        rt,
+        threads,
+        passed.as_slice(),
+        stays,
+        log_wishes(kept_by),
+        wishes,
+    )
+}
+
 /// Serves as the words wish, or refuses those of folders that can't be tracked.
 fn obey<T: Threads + Wait + Clock + Sync>(
     rt: &HostRuntime,
@@ -31,26 +69,13 @@ fn obey<T: Threads + Wait + Clock + Sync>(
     kept_by: Option<KeptBy<'_>>,
 ) -> Result<ExitCode, ProgramFault> {
     let roots = tracked_roots(rt, &wishes)?;
-    if let Some(reason) = fault_of_roots(rt, roots.as_slice())? {
-        return refuse(rt, reason.as_str());
-    }
-    let patterns = match kept_by {
-        Some(KeptBy::Journal(name)) => {
-            root_patterns(rt, roots.as_slice(), &[OwnFile::journal(name)], ignored)?
+    match fault_of_roots(rt, roots.as_slice())? {
+        Some(reason) => refuse(rt, reason.as_str()),
+        None => {
+            let patterns = patterns_of(rt, roots.as_slice(), ignored, kept_by)?;
+            serve_without(rt, threads, patterns.as_slice(), wishes, stays, kept_by)
         }
-        _ => root_patterns(rt, roots.as_slice(), &[], ignored)?,
-    };
-    let all = patterns.as_slice();
-    let slices = slices_of(rt, all)?;
-    let passed = passed_over(rt, all, slices.as_slice())?;
-    daemon::serve(
-        rt,
-        threads,
-        passed.as_slice(),
-        stays,
-        log_wishes(kept_by),
-        wishes,
-    )
+    }
 }
 
 /// What is wished of the log, if it is one.

@@ -2,10 +2,11 @@
 
 use crate::asking::asker;
 use crate::inquiry::{Inquiry, ask_keeper};
-use crate::printing::{print_out, print_out_tables};
+use crate::printing::{print_out_tables, print_reported};
 use pana_arguments::Wanted;
 use pana_calls::Session;
 use pana_commands::{Printout, Untracked, table_on, tables_on};
+use pana_copies::DeviceName;
 use pana_files::{Keeper, ProgramFault, Tables, terminal_width};
 use std::process::ExitCode;
 
@@ -13,6 +14,21 @@ use std::process::ExitCode;
 #[derive(Drop)]
 struct Shown {
     wanted: Wanted,
+}
+
+/// Asks for the tables that are wanted.
+fn tables_by<S: Session>(
+    rt: &HostRuntime,
+    session: &mut S,
+    by: &DeviceName,
+    terminal: Option<usize>,
+    wanted: Wanted,
+) -> Result<Printout, Untracked> {
+    match wanted {
+        Wanted::All => tables_on(rt.alloc(), terminal, session, by, false),
+        Wanted::Split => tables_on(rt.alloc(), terminal, session, by, true),
+        Wanted::Family(family) => table_on(rt.alloc(), terminal, session, by, family),
+    }
 }
 
 impl Inquiry for Shown {
@@ -23,14 +39,7 @@ impl Inquiry for Shown {
         session: &mut S,
         keeper: Keeper<'_>,
     ) -> Result<ExitCode, ProgramFault> {
-        let asker = asker()?;
-        let terminal = terminal_width(rt)?;
-        let shown = match self.wanted {
-            Wanted::All => tables_on(rt.alloc(), terminal, session, &asker, false),
-            Wanted::Split => tables_on(rt.alloc(), terminal, session, &asker, true),
-            Wanted::Family(family) => table_on(rt.alloc(), terminal, session, &asker, family),
-        };
-        match shown {
+        match tables_by(rt, session, &asker()?, terminal_width(rt)?, self.wanted) {
             Ok(printout) => print_out_tables(rt, Tables::Boards, &printout),
             Err(Untracked::NoAnswer) => Shown::refuse(rt, keeper.no_answer()),
             Err(Untracked::OutOfMemory) => Err(ProgramFault::OutOfMemory),
@@ -38,7 +47,7 @@ impl Inquiry for Shown {
     }
 
     fn refuse(rt: &HostRuntime, text: &str) -> Result<ExitCode, ProgramFault> {
-        print_out(rt, &Printout::reported(rt.alloc(), &text)?)
+        print_reported(rt, text)
     }
 }
 

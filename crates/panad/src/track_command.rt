@@ -4,7 +4,7 @@ use crate::command::refuse;
 use crate::options::{form_of, keeper_of};
 use crate::track::{TrackWishes, track};
 use pana_arguments::TrackArguments;
-use pana_daemon::{RootFault, roots_of};
+use pana_daemon::{Root, RootFault, roots_of};
 use pana_files::{ProgramFault, ReadingWishes, fault_of_roots};
 use std::marker::Sync;
 use std::process::ExitCode;
@@ -30,24 +30,32 @@ fn wishes_of<'a>(
     })
 }
 
+/// Tracks these folders as the words ask for, or refuses them.
+fn track_roots<T: Threads + Sync>(
+    rt: &HostRuntime,
+    threads: &T,
+    roots: &[Root<'_>],
+    arguments: TrackArguments<'_>,
+) -> Result<ExitCode, ProgramFault> {
+    let wishes = wishes_of(rt, arguments)?;
+    match fault_of_roots(rt, roots)? {
+        Some(reason) => refuse(rt, reason.as_str()),
+        None => track(rt, threads, roots, wishes),
+    }
+}
+
 /// Tracks the folders that the words name, or refuses the words.
 pub fn run<T: Threads + Sync>(
     rt: &HostRuntime,
     threads: &T,
     arguments: TrackArguments<'_>,
 ) -> Result<ExitCode, ProgramFault> {
-    let alloc = rt.alloc();
-    let roots = match roots_of(alloc, arguments.roots) {
-        Ok(roots) => roots,
+    match roots_of(rt.alloc(), arguments.roots) {
+        Ok(roots) => track_roots(rt, threads, roots.as_slice(), arguments),
         Err(RootFault::Bad(word)) => {
-            let reason = format!(in alloc; "bad root {word}")?;
-            return refuse(rt, reason.as_str());
+            let reason = format!(in rt.alloc(); "bad root {word}")?;
+            refuse(rt, reason.as_str())
         }
-        Err(RootFault::OutOfMemory) => return Err(ProgramFault::OutOfMemory),
-    };
-    let wishes = wishes_of(rt, arguments)?;
-    match fault_of_roots(rt, roots.as_slice())? {
-        Some(reason) => refuse(rt, reason.as_str()),
-        None => track(rt, threads, roots.as_slice(), wishes),
+        Err(RootFault::OutOfMemory) => Err(ProgramFault::OutOfMemory),
     }
 }

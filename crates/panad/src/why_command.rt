@@ -1,14 +1,13 @@
 //! `panad why`: what each of two copies knows that the other lacks, by a journal or a daemon.
 
-use crate::asking::{asker, place_of, print_line, refuse_place};
+use crate::asking::{asker, place_of, print_line, print_unexplained, refuse_place};
 use crate::inquiry::{Inquiry, ask_keeper};
 use crate::options::keeper_of;
-use crate::track::report;
 use pana_arguments::WhyArguments;
 use pana_calls::Session;
 use pana_copies::Place;
 use pana_files::{Keeper, ProgramFault};
-use pana_history::{Unexplained, why_on};
+use pana_history::why_on;
 use std::process::ExitCode;
 
 /// The two places.
@@ -31,12 +30,7 @@ impl Inquiry for Why<'_> {
                 let status = if explanation.is_of_one_file { 0 } else { 1 };
                 print_line(rt, explanation.text, status)
             }
-            Err(Unexplained::NoAnswer) => report(rt, keeper.no_answer()),
-            Err(Unexplained::Damaged(fault)) => {
-                let text = format!(in rt.alloc(); "what came is no journal: {fault}")?;
-                report(rt, text.as_str())
-            }
-            Err(Unexplained::OutOfMemory) => Err(ProgramFault::OutOfMemory),
+            Err(fault) => print_unexplained(rt, keeper, fault),
         }
     }
 }

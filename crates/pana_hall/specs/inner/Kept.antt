@@ -5,7 +5,8 @@ use Rattle.pana_copies.specs.Spots.{Table, kept}
 use Rattle.pana_journal.specs.declared.report.Report.{Report}
 use Rattle.pana_journal.specs.declared.entry.Entry.{Entry}
 use Rattle.pana_journal.specs.Entries.{entry_at}
-use Rattle.pana_hall.specs.Family.{families, subject, is_register}
+use Rattle.pana_journal.specs.Reports.{subject}
+use Rattle.pana_hall.specs.Family.{families, is_register}
 use Rattle.pana_hall.specs.Refusal.{report_refusal, displaced}
 use Rattle.pana_hall.specs.Living.{Copy, copy_in, copies_of, living}
 use Rattle.pana_hall.specs.Accepted.{IsAccepted}

@@ -1,10 +1,9 @@
-use Rattle.std.proofs.Common.{◌≡◌}
+use Rattle.std.proofs.Common.{◌≡◌, length}
 use Rattle.pana_ignore.specs.Pattern.{is_name_match}
-use Rattle.pana_ignore.specs.inner.Runs.{outcome, left}
 use Rattle.pana_ignore.proofs.name.is_name_match.Given as goal
 
-abbrev pub invariant-loop-met : goal.invariant-loop-met
-invariant-loop-met l = is_name_match l.pieces l.name ≡ outcome l.met
+abbrev pub invariant-loop-piece : goal.invariant-loop-piece
+invariant-loop-piece l = is_name_match l.pieces l.name ≡ is_name_match l.before l.rest
 
-abbrev pub decreases-loop-met : goal.decreases-loop-met
-decreases-loop-met l = left l.met
+abbrev pub decreases-loop-piece : goal.decreases-loop-piece
+decreases-loop-piece l = length l.before

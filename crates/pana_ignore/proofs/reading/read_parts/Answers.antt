@@ -1,28 +1,19 @@
-use Rattle.std.proofs.Common.{◌≡◌, ◌∷◌, ◌++◌, Some, ℕ, ◌<◌, Option, IfSome, subst, sym, ◌∙◌, ap, drop}
-use Rattle.std.specs.Prelude.{option_map}
-use Rattle.pana_ignore.specs.declared.piece.Piece.{Piece}
-use Rattle.pana_ignore.specs.Spelling.{piece_at, pieces_of, pieces_behind}
-use Rattle.pana_ignore.specs.Match.{split}
-use Rattle.pana_ignore.specs.Reading.{is_slash, parts_of, named_parts}
+use Rattle.std.proofs.Common.{[], ◌∷◌, ◌++◌, Some, sym, ◌∙◌, ap, if◌then◌else◌}
+use Rattle.pana_ignore.specs.declared.part.Part.TheVariants.{Folders}
+use Rattle.pana_ignore.specs.Spelling.{pieces_of}
+use Rattle.pana_ignore.specs.Reading.{parts_of}
 use Rattle.pana_ignore.specs.inner.Parts.{parts_behind}
-use Rattle.pana_ignore.proofs.Behind.{pieces_behind-some, option_map-same, option_map-twice}
+use Rattle.pana_ignore.proofs.Behind.{option_map-same}
 use Rattle.pana_ignore.proofs.Parts.{parts_behind-nil}
 use Rattle.pana_ignore.proofs.reading.read_parts.Goals as goal
 
-pub loop-rest-init : goal.loop-rest-init
-loop-rest-init c =
-    option_map-same (parts_of c.args.is_anchored) (λ pieces. c.in_ok-parts.parts.items ++ parts_behind c.new-name.result.items pieces) (pieces_of c.args.text.now)
+pub returns-in-Ok-true : goal.returns-in-Ok-true
+returns-in-Ok-true c =
+    let first = if c.args.is_anchored then [] else Folders ∷ [] in
+    let made = rw c.in-Ok-true.field-0-test at c.in-Ok-true.ensures in
+    ap (λ parts. Some parts) c.from_vec.ensures ∙ sym made
+    ∙ option_map-same (λ pieces. (c.new.result.items ++ first) ++ parts_behind c.new-2.result.items pieces) (parts_of c.args.is_anchored) (pieces_of c.args.text.now)
     (λ pieces.
-    ap (λ p. p ++ named_parts (split is_slash pieces)) (sym c.in_ok-parts.ensures)
-    ∙ ap (λ p. c.in_ok-parts.parts.items ++ p) (sym (parts_behind-nil pieces) ∙ ap (λ n. parts_behind n pieces) (sym c.new-name.ensures.items)))
-
-pub loop-rest-preserved : goal.loop-rest-preserved
-loop-rest-preserved c =
-    let piece = c.in-Some.piece in
-    let found : piece_at c.loop-rest.rest.now ≡ Some (piece, c.in-Some.length) = sym c.in_ok-piece.ensures.piece ∙ c.in-Some.is in
-    let some : 0 < c.in-Some.length = subst (λ (o : Option (Piece × ℕ)). IfSome o (λ p. 0 < p.1)) c.in-Some.is c.in_ok-piece.ensures.some in
-    c.loop-rest.invariant
-    ∙ ap (option_map (λ pieces. c.loop-rest.parts.items ++ parts_behind c.loop-rest.name.items pieces)) (pieces_behind-some c.loop-rest.rest.now piece c.in-Some.length found some)
-    ∙ option_map-twice (λ pieces. c.loop-rest.parts.items ++ parts_behind c.loop-rest.name.items pieces) (λ others. piece ∷ others) (pieces_behind 0 (drop c.in-Some.length c.loop-rest.rest.now))
-    ∙ option_map-same _ _ (pieces_behind 0 (drop c.in-Some.length c.loop-rest.rest.now)) c.in_ok-name.ensures
-    ∙ ap (λ rest. option_map (λ pieces. c.push_piece.new.parts.items ++ parts_behind c.in_ok-name.name.items pieces) (pieces_behind 0 rest)) (sym c.split_at.ensures.back)
+    ap (λ p. (p ++ first) ++ parts_behind c.new-2.result.items pieces) c.new.ensures.items
+    ∙ ap (λ n. first ++ parts_behind n pieces) c.new-2.ensures.items
+    ∙ ap (λ p. first ++ p) (parts_behind-nil pieces))

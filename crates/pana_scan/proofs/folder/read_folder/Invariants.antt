@@ -3,8 +3,8 @@ use Rattle.pana_scan.specs.Names.{whole_text}
 use Rattle.pana_scan.proofs.Kept.{IsListing}
 use Rattle.pana_scan.proofs.folder.read_folder.Given as goal
 
-abbrev pub invariant-loop-whole : goal.invariant-loop-whole
-invariant-loop-whole g l = record {
+abbrev pub invariant-loop-entry : goal.invariant-loop-entry
+invariant-loop-entry g l = record {
   known :
       IsTrue g.D.Disk.is_known →
       IsListing l.fn.folder.path (l.fn.folder.levels - 1) ((g.D.Disk.tree l.fn.disk).names (whole_text l.fn.root l.fn.folder.path)) (g.D.Disk.names l.disk)
@@ -16,5 +16,5 @@ invariant-loop-whole g l = record {
   grows : length l.gathered.folders.items + g.D.Disk.entries l.fn.disk ≤ length l.fn.gathered.folders.items + g.D.Disk.entries l.disk;
 }
 
-abbrev pub decreases-loop-whole : goal.decreases-loop-whole
-decreases-loop-whole g l = (l.fn.most + 1) - g.D.Disk.entries l.disk
+abbrev pub decreases-loop-entry : goal.decreases-loop-entry
+decreases-loop-entry g l = (l.fn.most + 1) - g.D.Disk.entries l.disk

@@ -20,6 +20,6 @@ returns-else-is_only-clause-why c = (
 
 pub returns-in-Err-clause-why : goal.returns-in-Err-clause-why
 returns-in-Err-clause-why c =
-    refused_as c.args.hall.now c.args.entry.now c.in-Err.field-0.reply (c.length-number.result + 1) c.why_not.result
+    refused_as c.args.hall.now c.args.entry.now c.in-Err.field-0.reply (c.length-number.result + 1) c.why_not-why.result
     (subst (λ (r : Report). AnswersAt c.args.hall.now c.args.entry.now.by (calls.Report r) c.in-Err.field-0.reply) c.in-Ok.ensures (subst (λ (l : List Entry). AnswersAt l c.args.entry.now.by (calls.Report c.in-Ok.report) c.in-Err.field-0.reply) c.take_all.ensures.taken c.in-Err.ensures.reply))
-    (ap (λ (n : ℕ). n + 1) c.length-number.ensures.length) c.why_not.ensures
+    (ap (λ (n : ℕ). n + 1) c.length-number.ensures.length) c.why_not-why.ensures

@@ -12,12 +12,12 @@ put-requires-clause-ready g c known = subst (λ (l : List Entry). IsReady c.args
 
 pub returns-in-Err-clause-ok : goal.returns-in-Err-clause-ok
 returns-in-Err-clause-ok g c =
-    let here = c.in-Err.ensures.hall ∙ c.take_all.ensures.taken in
+    let here = c.put_into.ensures ∙ c.in-Err.ensures.hall ∙ c.take_all.ensures.taken in
     let reply = c.in-Err.ensures.reply in (
       here,
       (
         subst (λ (l : List Entry). Permits l c.args.by.now c.args.call c.in-Err.field-0.reply) c.take_all.ensures.taken reply.permitted,
-        c.in-Err.ensures.hall ∙ sym reply.same ∙ ap (λ (l : List Entry). journal_after l c.args.by.now c.args.call c.in-Err.field-0.reply) c.take_all.ensures.taken,
+        c.put_into.ensures ∙ c.in-Err.ensures.hall ∙ sym reply.same ∙ ap (λ (l : List Entry). journal_after l c.args.by.now c.args.call c.in-Err.field-0.reply) c.take_all.ensures.taken,
       ),
       λ known. reads_none _,
     )

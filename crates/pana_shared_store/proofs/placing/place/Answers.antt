@@ -1,25 +1,22 @@
-use Rattle.std.proofs.Common.{rules, IsTrue}
-use Rattle.pana_shared_store.specs.inner.{PlacesNone}
-use Rattle.pana_shared_store.proofs.Placed.{asks_on, is_unknown, was_found, was_put}
+-- The group is the records that are looked at.
+use Rattle.std.proofs.Common.{IsTrue, List, sym, subst}
+use Rattle.std.specs.Prelude.{IfOk, OnErr}
+use Rattle.pana_shared.specs.declared.record.Record.{Record}
+use Rattle.pana_shared.specs.Log.{MayAppend, loose_at, ours}
+use Rattle.pana_shared_store.specs.inner.{IsNew, IsUnusedGroup, Places, PlacesNone}
 use Rattle.pana_shared_store.proofs.placing.place.Goals as goal
 
-pub returns-in-Put-clause-ok : goal.returns-in-Put-clause-ok
-returns-in-Put-clause-ok g c known =
-    let e = c.in-Put.ensures.came known in
-    was_put _ _ _ _ (c.requires.may known) (c.requires.some known) (c.requires.other known) (c.requires.unused known) e.0 e.1
+pub place_records-placed-requires-clause-may : goal.place_records-placed-requires-clause-may
+place_records-placed-requires-clause-may g c known = subst (λ (l : List Record). MayAppend (g.L.SharedLog.seen c.args.log.now) c.args.at l) (sym c.as_slice.ensures.value) (c.requires.may known)
 
-pub returns-in-Taken-clause-ok : goal.returns-in-Taken-clause-ok
-returns-in-Taken-clause-ok g c known =
-    let e = c.in-Taken.ensures.came known in
-    was_found _ _ _ _ (c.requires.may known) (c.requires.some known) (c.requires.other known) (c.requires.unused known) e.0 _ e.1 c.placed_from.result c.placed_from.ensures
+pub place_records-placed-requires-clause-other : goal.place_records-placed-requires-clause-other
+place_records-placed-requires-clause-other g c known = subst (λ (l : List Record). IsNew l (loose_at c.args.at (g.L.SharedLog.seen c.args.log.now))) (sym c.as_slice.ensures.value) (c.requires.other known)
 
-pub returns-in_err-look-in-Unknown-clause-err : goal.returns-in_err-look-in-Unknown-clause-err
-returns-in_err-look-in-Unknown-clause-err g c =
-    let none : IsTrue g.L.SharedLog.is_known → PlacesNone (g.L.SharedLog.seen c.args.log.now) c.args.at c.args.group.now (g.L.SharedLog.seen c.look.new.log) = λ known.
-    is_unknown _ _ _ _ (c.requires.may known) (c.requires.some known) (c.requires.other known) (c.requires.unused known) (asks_on _ _ _ _ _ (c.requires.may known) (c.requires.some known) (c.in-Unknown.ensures.came known) (c.look.ensures.reads known)) in
-    search (rules, none)
+pub place_records-placed-requires-clause-unused : goal.place_records-placed-requires-clause-unused
+place_records-placed-requires-clause-unused g c known = subst (λ (l : List Record). IsUnusedGroup l (ours (g.L.SharedLog.seen c.args.log.now).writer (g.L.SharedLog.seen c.args.log.now).records)) (sym c.as_slice.ensures.value) (c.requires.unused known)
 
-pub returns-in_ok-look-in-Unknown-clause-ok : goal.returns-in_ok-look-in-Unknown-clause-ok
-returns-in_ok-look-in-Unknown-clause-ok g c known =
-    was_found _ _ _ _ (c.requires.may known) (c.requires.some known) (c.requires.other known) (c.requires.unused known) (asks_on _ _ _ _ _ (c.requires.may known) (c.requires.some known) (c.in-Unknown.ensures.came known) (c.look.ensures.reads known))
-    _ (c.in_ok-look-in-Unknown.ensures.part known) c.placed_from-in-Unknown.result c.placed_from-in-Unknown.ensures
+pub returns-clause-ok : goal.returns-clause-ok
+returns-clause-ok g c = subst (λ (l : List Record). IfOk c.place_records-placed.result (λ placed. IsTrue g.L.SharedLog.is_known → Places (g.L.SharedLog.seen c.args.log.now) c.args.at l placed (g.L.SharedLog.seen c.place_records-placed.new.log))) c.as_slice.ensures.value c.place_records-placed.ensures.ok
+
+pub returns-clause-err : goal.returns-clause-err
+returns-clause-err g c = subst (λ (l : List Record). OnErr c.place_records-placed.result (IsTrue g.L.SharedLog.is_known → PlacesNone (g.L.SharedLog.seen c.args.log.now) c.args.at l (g.L.SharedLog.seen c.place_records-placed.new.log))) c.as_slice.ensures.value c.place_records-placed.ensures.err

@@ -47,15 +47,15 @@ returns-then-is_read-clause-ok g c =
     not_made g.L.SharedLog.is_known c.args.turn c.args.hall.now c.try_to_make.new.hall c.try_to_make.new.hall (g.L.SharedLog.seen c.args.log.now) (g.L.SharedLog.seen c.try_to_make.new.log) (g.L.SharedLog.seen c.try_to_make.new.log) c.args.by.now c.args.call c.requires.store c.requires.ready (looks_none g.L.SharedLog.is_known c.try_to_make.new.hall (g.L.SharedLog.seen c.try_to_make.new.log) (λ known. (c.try_to_make.ensures.store known).first)) c.in-Not.answer c.args.is_read
     (subst (λ (t : Tried). TriesTo g.L.SharedLog.is_known c.args.turn c.args.hall.now (g.L.SharedLog.seen c.args.log.now) c.args.by.now c.args.call t c.try_to_make.new.hall (g.L.SharedLog.seen c.try_to_make.new.log)) c.in-Not.is c.in_ok-reply.ensures.ok) (λ known. inl c.if-is_read.true) (ap length ((subst (λ (t : Tried). TriesTo g.L.SharedLog.is_known c.args.turn c.args.hall.now (g.L.SharedLog.seen c.args.log.now) c.args.by.now c.args.call t c.try_to_make.new.hall (g.L.SharedLog.seen c.try_to_make.new.log)) c.in-Not.is c.in_ok-reply.ensures.ok).0))
 
-pub returns-in_err-read_on-in-Not-clause-store : goal.returns-in_err-read_on-in-Not-clause-store
-returns-in_err-read_on-in-Not-clause-store g c known = store_looked c.args.turn c.try_to_make.new.hall c.read_on.new.hall (g.L.SharedLog.seen c.try_to_make.new.log) (g.L.SharedLog.seen c.read_on.new.log) (c.try_to_make.ensures.store known) (c.read_on.ensures.looks.reads known) c.read_on.ensures.looks.goes_on (c.read_on.ensures.looks.first known)
+pub returns-in-Err-clause-store : goal.returns-in-Err-clause-store
+returns-in-Err-clause-store g c known = store_looked c.args.turn c.try_to_make.new.hall c.read_on.new.hall (g.L.SharedLog.seen c.try_to_make.new.log) (g.L.SharedLog.seen c.read_on.new.log) (c.try_to_make.ensures.store known) (c.read_on.ensures.looks.reads known) c.read_on.ensures.looks.goes_on (c.read_on.ensures.looks.first known)
 
-pub returns-in_err-read_on-in-Not-clause-err : goal.returns-in_err-read_on-in-Not-clause-err
-returns-in_err-read_on-in-Not-clause-err g c =
+pub returns-in-Err-clause-err : goal.returns-in-Err-clause-err
+returns-in-Err-clause-err g c =
     let fact : StaysOn g.L.SharedLog.is_known c.args.hall.now (g.L.SharedLog.seen c.args.log.now) c.read_on.new.hall (g.L.SharedLog.seen c.read_on.new.log) ⊎ TriesOn g.L.SharedLog.is_known c.args.turn c.args.hall.now (g.L.SharedLog.seen c.args.log.now) c.args.by.now c.args.call c.read_on.new.hall (g.L.SharedLog.seen c.read_on.new.log) =
     inl (not_stays g.L.SharedLog.is_known c.args.turn c.args.hall.now c.try_to_make.new.hall c.read_on.new.hall (g.L.SharedLog.seen c.args.log.now) (g.L.SharedLog.seen c.try_to_make.new.log) (g.L.SharedLog.seen c.read_on.new.log) c.args.by.now c.args.call c.requires.store c.requires.ready c.read_on.ensures.looks c.in-Not.answer
     (subst (λ (t : Tried). TriesTo g.L.SharedLog.is_known c.args.turn c.args.hall.now (g.L.SharedLog.seen c.args.log.now) c.args.by.now c.args.call t c.try_to_make.new.hall (g.L.SharedLog.seen c.try_to_make.new.log)) c.in-Not.is c.in_ok-reply.ensures.ok)) in
-    search (rules, fact)
+    fact
 
 pub returns-then-length-at-clause-store : goal.returns-then-length-at-clause-store
 returns-then-length-at-clause-store g c known = store_looked c.args.turn c.try_to_make.new.hall c.read_on.new.hall (g.L.SharedLog.seen c.try_to_make.new.log) (g.L.SharedLog.seen c.read_on.new.log) (c.try_to_make.ensures.store known) (c.read_on.ensures.looks.reads known) c.read_on.ensures.looks.goes_on (c.read_on.ensures.looks.first known)
@@ -63,7 +63,7 @@ returns-then-length-at-clause-store g c known = store_looked c.args.turn c.try_t
 pub returns-then-length-at-clause-ok : goal.returns-then-length-at-clause-ok
 returns-then-length-at-clause-ok g c =
     not_made g.L.SharedLog.is_known c.args.turn c.args.hall.now c.try_to_make.new.hall c.read_on.new.hall (g.L.SharedLog.seen c.args.log.now) (g.L.SharedLog.seen c.try_to_make.new.log) (g.L.SharedLog.seen c.read_on.new.log) c.args.by.now c.args.call c.requires.store c.requires.ready c.read_on.ensures.looks c.in-Not.answer c.args.is_read
-    (subst (λ (t : Tried). TriesTo g.L.SharedLog.is_known c.args.turn c.args.hall.now (g.L.SharedLog.seen c.args.log.now) c.args.by.now c.args.call t c.try_to_make.new.hall (g.L.SharedLog.seen c.try_to_make.new.log)) c.in-Not.is c.in_ok-reply.ensures.ok) (λ known. inr (c.in_ok-read_on-in-Not.ensures.all known)) (let l = c.length.ensures.length in let a = c.length-at.ensures.length in let e = c.if-length-at.true in grind (arith, l, a, e))
+    (subst (λ (t : Tried). TriesTo g.L.SharedLog.is_known c.args.turn c.args.hall.now (g.L.SharedLog.seen c.args.log.now) c.args.by.now c.args.call t c.try_to_make.new.hall (g.L.SharedLog.seen c.try_to_make.new.log)) c.in-Not.is c.in_ok-reply.ensures.ok) (λ known. inr (c.in-Ok.ensures.all known)) (let l = c.length.ensures.length in let a = c.length-at.ensures.length in let e = c.if-length-at.true in grind (arith, l, a, e))
 
 pub returns-else-length-at-clause-store : goal.returns-else-length-at-clause-store
 returns-else-length-at-clause-store g c known = store_looked c.args.turn c.try_to_make.new.hall c.read_on.new.hall (g.L.SharedLog.seen c.try_to_make.new.log) (g.L.SharedLog.seen c.read_on.new.log) (c.try_to_make.ensures.store known) (c.read_on.ensures.looks.reads known) c.read_on.ensures.looks.goes_on (c.read_on.ensures.looks.first known)
@@ -71,7 +71,7 @@ returns-else-length-at-clause-store g c known = store_looked c.args.turn c.try_t
 pub returns-else-length-at-clause-ok : goal.returns-else-length-at-clause-ok
 returns-else-length-at-clause-ok g c =
     let no = (subst (λ (t : Tried). TriesTo g.L.SharedLog.is_known c.args.turn c.args.hall.now (g.L.SharedLog.seen c.args.log.now) c.args.by.now c.args.call t c.try_to_make.new.hall (g.L.SharedLog.seen c.try_to_make.new.log)) c.in-Not.is c.in_ok-reply.ensures.ok) in
-    (not_stays g.L.SharedLog.is_known c.args.turn c.args.hall.now c.try_to_make.new.hall c.read_on.new.hall (g.L.SharedLog.seen c.args.log.now) (g.L.SharedLog.seen c.try_to_make.new.log) (g.L.SharedLog.seen c.read_on.new.log) c.args.by.now c.args.call c.requires.store c.requires.ready c.read_on.ensures.looks c.in-Not.answer no, not_ready g.L.SharedLog.is_known c.args.turn c.args.hall.now c.try_to_make.new.hall c.read_on.new.hall (g.L.SharedLog.seen c.args.log.now) (g.L.SharedLog.seen c.try_to_make.new.log) (g.L.SharedLog.seen c.read_on.new.log) c.args.by.now c.args.call c.requires.store c.requires.ready c.read_on.ensures.looks c.in-Not.answer no, λ known. not_more c.args.hall.now c.try_to_make.new.hall c.read_on.new.hall no.0 c.read_on.ensures.looks.goes_on (let l = c.length.ensures.length in let a = c.length-at.ensures.length in let e = c.if-length-at.false in grind (arith, l, a, e)), λ is known. inr (not_read g.L.SharedLog.is_known c.args.turn c.args.hall.now c.try_to_make.new.hall c.read_on.new.hall (g.L.SharedLog.seen c.args.log.now) (g.L.SharedLog.seen c.try_to_make.new.log) (g.L.SharedLog.seen c.read_on.new.log) c.args.by.now c.args.call c.requires.store c.requires.ready c.read_on.ensures.looks c.in-Not.answer no c.in_ok-read_on-in-Not.ensures.all known))
+    (not_stays g.L.SharedLog.is_known c.args.turn c.args.hall.now c.try_to_make.new.hall c.read_on.new.hall (g.L.SharedLog.seen c.args.log.now) (g.L.SharedLog.seen c.try_to_make.new.log) (g.L.SharedLog.seen c.read_on.new.log) c.args.by.now c.args.call c.requires.store c.requires.ready c.read_on.ensures.looks c.in-Not.answer no, not_ready g.L.SharedLog.is_known c.args.turn c.args.hall.now c.try_to_make.new.hall c.read_on.new.hall (g.L.SharedLog.seen c.args.log.now) (g.L.SharedLog.seen c.try_to_make.new.log) (g.L.SharedLog.seen c.read_on.new.log) c.args.by.now c.args.call c.requires.store c.requires.ready c.read_on.ensures.looks c.in-Not.answer no, λ known. not_more c.args.hall.now c.try_to_make.new.hall c.read_on.new.hall no.0 c.read_on.ensures.looks.goes_on (let l = c.length.ensures.length in let a = c.length-at.ensures.length in let e = c.if-length-at.false in grind (arith, l, a, e)), λ is known. inr (not_read g.L.SharedLog.is_known c.args.turn c.args.hall.now c.try_to_make.new.hall c.read_on.new.hall (g.L.SharedLog.seen c.args.log.now) (g.L.SharedLog.seen c.try_to_make.new.log) (g.L.SharedLog.seen c.read_on.new.log) c.args.by.now c.args.call c.requires.store c.requires.ready c.read_on.ensures.looks c.in-Not.answer no c.in-Ok.ensures.all known))
 
 pub returns-in_err-follow_page-in-Behind-clause-why : goal.returns-in_err-follow_page-in-Behind-clause-why
 returns-in_err-follow_page-in-Behind-clause-why g c =

@@ -25,7 +25,7 @@ returns-in-Ok-add-clause-store g c =
     let w : IsWaiting c.args.sealer.now (waiting_of es p ++ more) c.add.new.pending =
     subst (λ (xs : List Entry). IsWaiting c.args.sealer.now (waiting_of es p ++ xs) c.add.new.pending) are (c.in-Ok-add.ensures.ok (waiting_of es p) (c.requires.store.waits c.requires.open)) in
     let two : length more ≤ 2 = omega (arith, at_most_one next.second) in
-    subst (λ (xs : List Entry). IsStore g.D.Device.is_known g.D.Device.seen g.D.Device.may_leave g.D.Device.is_usable xs c.add.new.log c.args.sealer.now c.add.new.pending) (sym (c.commit-made.ensures.hall ∙ ap (λ (xs : List Entry). xs ++ more) same))
+    subst (λ (xs : List Entry). IsStore g.D.Device.is_known g.D.Device.seen g.D.Device.may_leave g.D.Device.is_usable xs c.add.new.log c.args.sealer.now c.add.new.pending) (sym (c.commit_into.ensures.hall ∙ ap (λ (xs : List Entry). xs ++ more) same))
     (store_more g.D.Device.is_known g.D.Device.seen g.D.Device.may_leave g.D.Device.is_usable es more c.args.log.now c.add.new.log c.args.sealer.now p c.add.new.pending c.requires.store c.requires.open c.requires.few two w c.add.ensures.settled c.add.ensures.same c.add.ensures.behind)
 
 pub returns-in-Ok-add-clause-step : goal.returns-in-Ok-add-clause-step
@@ -43,8 +43,8 @@ returns-in-Ok-add-clause-step g c =
     let w : IsWaiting c.args.sealer.now (waiting_of es p ++ more) c.add.new.pending =
     subst (λ (xs : List Entry). IsWaiting c.args.sealer.now (waiting_of es p ++ xs) c.add.new.pending) are (c.in-Ok-add.ensures.ok (waiting_of es p) (c.requires.store.waits c.requires.open)) in
     let prepares : Prepares es by call next = subst (λ (j : List Entry). Prepares j by call next) c.take_all.ensures.taken c.in-Ok.ensures.ok in
-    subst (λ (xs : List Entry). GathersOnly g.D.Device.is_known g.D.Device.seen g.D.Device.may_leave g.D.Device.is_usable g.D.Device.moment g.D.Device.left_since g.D.Device.has_failed old by call (Given c.commit-made.result.1) (store_of xs c.add.new.log c.args.sealer.now c.add.new.pending)) (sym (c.commit-made.ensures.hall ∙ ap (λ (xs : List Entry). xs ++ more) same))
-    (subst (λ (reply : Reply). GathersOnly g.D.Device.is_known g.D.Device.seen g.D.Device.may_leave g.D.Device.is_usable g.D.Device.moment g.D.Device.left_since g.D.Device.has_failed old by call (Given reply) (store_of (es ++ more) c.add.new.log c.args.sealer.now c.add.new.pending)) (sym c.commit-made.ensures.reply)
+    subst (λ (xs : List Entry). GathersOnly g.D.Device.is_known g.D.Device.seen g.D.Device.may_leave g.D.Device.is_usable g.D.Device.moment g.D.Device.left_since g.D.Device.has_failed old by call (Given c.commit_into.result) (store_of xs c.add.new.log c.args.sealer.now c.add.new.pending)) (sym (c.commit_into.ensures.hall ∙ ap (λ (xs : List Entry). xs ++ more) same))
+    (subst (λ (reply : Reply). GathersOnly g.D.Device.is_known g.D.Device.seen g.D.Device.may_leave g.D.Device.is_usable g.D.Device.moment g.D.Device.left_since g.D.Device.has_failed old by call (Given reply) (store_of (es ++ more) c.add.new.log c.args.sealer.now c.add.new.pending)) (sym c.commit_into.ensures.reply)
     (gathered g.D.Device.is_known g.D.Device.seen g.D.Device.may_leave g.D.Device.is_usable g.D.Device.moment g.D.Device.left_since g.D.Device.has_failed es more c.args.log.now c.add.new.log c.args.sealer.now p c.add.new.pending by call next.reply (ready es by call next prepares) c.requires.open c.add.ensures.state c.requires.store w
     c.add.ensures.settled c.add.ensures.same c.add.ensures.any_moment))
 
@@ -52,7 +52,7 @@ pub returns-in-Err-add-clause-store : goal.returns-in-Err-add-clause-store
 returns-in-Err-add-clause-store g c =
     let es = c.args.hall.now in
     let p = c.args.pending.now in
-    let same : c.cancel.result ≡ es = c.cancel.ensures ∙ c.in-Ok.ensures.ok.journal ∙ c.take_all.ensures.taken in
+    let same : c.cancel_into.new.hall ≡ es = c.cancel_into.ensures ∙ c.in-Ok.ensures.ok.journal ∙ c.take_all.ensures.taken in
     subst (λ (xs : List Entry). IsStore g.D.Device.is_known g.D.Device.seen g.D.Device.may_leave g.D.Device.is_usable xs c.add.new.log c.args.sealer.now c.add.new.pending) (sym same)
     (store_still g.D.Device.is_known g.D.Device.seen g.D.Device.may_leave g.D.Device.is_usable es c.args.log.now c.add.new.log c.args.sealer.now p c.add.new.pending c.requires.store c.requires.open (c.in-Err-add.ensures.err (waiting_of es p) (c.requires.store.waits c.requires.open))
     c.add.ensures.settled c.add.ensures.same c.add.ensures.behind)
@@ -65,7 +65,7 @@ returns-in-Err-add-clause-step g c =
     let call = c.args.call in
     let next = c.in-Ok.prepared in
     let old = store_of es c.args.log.now c.args.sealer.now p in
-    let same : c.cancel.result ≡ es = c.cancel.ensures ∙ c.in-Ok.ensures.ok.journal ∙ c.take_all.ensures.taken in
+    let same : c.cancel_into.new.hall ≡ es = c.cancel_into.ensures ∙ c.in-Ok.ensures.ok.journal ∙ c.take_all.ensures.taken in
     let prepares : Prepares es by call next = subst (λ (j : List Entry). Prepares j by call next) c.take_all.ensures.taken c.in-Ok.ensures.ok in
     subst (λ (xs : List Entry). GathersOnly g.D.Device.is_known g.D.Device.seen g.D.Device.may_leave g.D.Device.is_usable g.D.Device.moment g.D.Device.left_since g.D.Device.has_failed old by call c.answer_to.result (store_of xs c.add.new.log c.args.sealer.now c.add.new.pending)) (sym same)
     (subst (λ (answer : Answer). GathersOnly g.D.Device.is_known g.D.Device.seen g.D.Device.may_leave g.D.Device.is_usable g.D.Device.moment g.D.Device.left_since g.D.Device.has_failed old by call answer (store_of es c.add.new.log c.args.sealer.now c.add.new.pending)) (sym c.answer_to.ensures)
@@ -79,7 +79,12 @@ returns-in-Err-clause-step g c =
     let by = c.args.by.now in
     let call = c.args.call in
     let reply = c.in-Err.field-0.reply in
-    let same : c.in-Err.field-0.hall ≡ es = c.in-Err.ensures.hall ∙ c.take_all.ensures.taken in
+    let same : c.put_into.new.hall ≡ es = c.put_into.ensures ∙ c.in-Err.ensures.hall ∙ c.take_all.ensures.taken in
     let at : AnswersAt es by call reply = subst (λ (j : List Entry). AnswersAt j by call reply) c.take_all.ensures.taken c.in-Err.ensures.reply in
-    replied g.D.Device.is_known g.D.Device.seen g.D.Device.may_leave g.D.Device.is_usable g.D.Device.moment g.D.Device.left_since g.D.Device.has_failed es c.in-Err.field-0.hall c.args.log.now c.args.sealer.now p by call reply same
+    replied g.D.Device.is_known g.D.Device.seen g.D.Device.may_leave g.D.Device.is_usable g.D.Device.moment g.D.Device.left_since g.D.Device.has_failed es c.put_into.new.hall c.args.log.now c.args.sealer.now p by call reply same
     (needs_open (stored (store_of es c.args.log.now c.args.sealer.now p)) call c.requires.open) c.requires.store (g.met.D.Device.only_now c.args.log.now.device) (at.permitted, same ∙ sym at.same)
+
+pub returns-in-Err-clause-store : goal.returns-in-Err-clause-store
+returns-in-Err-clause-store g c =
+    let same : c.put_into.new.hall ≡ c.args.hall.now = c.put_into.ensures ∙ c.in-Err.ensures.hall ∙ c.take_all.ensures.taken in
+    subst (λ (xs : List Entry). IsStore g.D.Device.is_known g.D.Device.seen g.D.Device.may_leave g.D.Device.is_usable xs c.args.log.now c.args.sealer.now c.args.pending.now) (sym same) c.requires.store

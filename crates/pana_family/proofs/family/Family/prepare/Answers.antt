@@ -9,9 +9,12 @@ report_change-requires-clause-able c = grind (arith, nat_tests, able)
 pub report_change-requires-clause-new : goal.report_change-requires-clause-new
 report_change-requires-clause-new c = subst (AreBefore c.args.entry) (sym (c.deref.ensures.value ∙ ap (λ (v : RowList). v.rows) c.self.view_is)) c.requires.new
 
-pub returns-clause-prepared : goal.returns-clause-prepared
+pub returns-in-Ok-clause-prepared : goal.returns-in-Ok-clause-prepared
 unfolding IsPrepared
-returns-clause-prepared c = grind (arith, nat_tests, few_after, as_many)
+returns-in-Ok-clause-prepared c = grind (arith, nat_tests, few_after, as_many)
 
-pub returns-clause-room : goal.returns-clause-room
-returns-clause-room c = grind (arith, nat_tests)
+pub returns-in-Ok-clause-room : goal.returns-in-Ok-clause-room
+returns-in-Ok-clause-room c = grind (arith, nat_tests)
+
+pub returns-in-Err-clause-room : goal.returns-in-Err-clause-room
+returns-in-Err-clause-room c = grind (arith, nat_tests)

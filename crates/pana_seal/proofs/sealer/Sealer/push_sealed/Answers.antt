@@ -16,5 +16,5 @@ returns-clause-is c before covers =
     let digest = c.in_ok-digest.ensures (before ++ c.split_seal.result.0.now) so_far ∙ taken_up before c.split_seal.result.0.now in
     let seal = c.in_ok-seal.ensures ∙ ap seal_with digest in
     let same = c.eq.ensures in
-    let items = c.as_slice.ensures.value in
+    let items = c.as_bytes.ensures.value in
     search rules

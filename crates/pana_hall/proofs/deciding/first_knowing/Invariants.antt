@@ -1,0 +1,8 @@
+use Rattle.pana_hall.proofs.Words.{◌≡◌}
+use Rattle.std.proofs.Common.{drop}
+use Rattle.pana_hall.specs.inner.{Finding.knows_all, Relatives.first_number}
+use Rattle.pana_hall.proofs.deciding.first_knowing.Given as goal
+
+-- none of those before passes
+abbrev pub invariant-loop-it : goal.invariant-loop-it
+invariant-loop-it l = first_number (knows_all l.copy) l.relatives ≡ first_number (knows_all l.copy) (drop l.it-index l.relatives)
