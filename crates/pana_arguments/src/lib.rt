@@ -42,5 +42,6 @@ pub use crate::serve::ServeArguments;
 pub use crate::show::{ShowArguments, Wanted};
 pub use crate::status::StatusArguments;
 pub use crate::track::TrackArguments;
+pub use crate::version::VERSION;
 pub use crate::watch::WatchArguments;
 pub use crate::why::WhyArguments;

@@ -1,14 +1,13 @@
 //! Folders that are tracked, read side by side on all processors.
 
-use crate::fault::ProgramFault;
 use crate::folder_watch::FolderWatch;
-use crate::keeper::Keeper;
 use crate::naming::NamedFolder;
 use crate::patterns::{OwnFile, is_within, passed_over, root_patterns, slices_of};
 use crate::sums_file::{keep_sums, read_sums, sums_name};
 use crate::system_disks::{PassedOver, SystemDisks, read_in_threads};
 use pana_daemon::{Disks, Root};
 use pana_scan::{KnownSums, Sums};
+use pana_streams::ProgramFault;
 use pana_track::ReadFolder;
 use std::alloc::AllocError;
 use std::fs;
@@ -19,8 +18,8 @@ use std::thread::Threads;
 /// How folders are to be read.
 #[derive(Clone, Copy)]
 pub struct ReadingWishes<'a> {
-    /// Who keeps the reports: a journal's own files are passed over, and sums are kept beside it.
-    pub keeper: Keeper<'a>,
+    /// The journal's file, where one keeps the reports: it is passed over, and what is kept beside it, as sums are.
+    pub journal: Option<&'a str>,
     /// The file that keeps sums; that beside the journal where there is no name.
     pub sums: Option<&'a str>,
     /// Patterns of paths that are passed over.
@@ -94,10 +93,10 @@ fn is_near(whole: &str, others: &[PathBuf]) -> bool {
 
 /// The name of the file that keeps sums, where one does.
 fn name_of_sums(rt: &HostRuntime, wishes: ReadingWishes<'_>) -> Result<Option<String>, AllocError> {
-    Ok(match (wishes.sums, wishes.keeper) {
+    Ok(match (wishes.sums, wishes.journal) {
         (Some(name), _) => Some(String::from_str(rt.alloc(), name)?),
-        (None, Keeper::Journal(journal)) => Some(sums_name(rt, journal)?),
-        (None, Keeper::Log(_) | Keeper::Daemon(_)) => None,
+        (None, Some(journal)) => Some(sums_name(rt, journal)?),
+        (None, None) => None,
     })
 }
 
@@ -241,12 +240,12 @@ fn read_each<T: Threads + Sync>(
 }
 
 /// The program's own files.
-fn own_files<'a>(
+pub(crate) fn own_files<'a>(
     rt: &HostRuntime,
     wishes: ReadingWishes<'a>,
 ) -> Result<Vec<OwnFile<'a>>, AllocError> {
     let mut own = Vec::new(rt.alloc());
-    if let Keeper::Journal(name) = wishes.keeper {
+    if let Some(name) = wishes.journal {
         own.push(OwnFile::journal(name))?;
     }
     if let Some(name) = wishes.sums {

@@ -1,8 +1,8 @@
 //! What is passed over in a folder, named on standard error.
 
-use crate::printing::complain;
 use pana_copies::CopyPath;
 use pana_scan::{Entry, Kind};
+use pana_streams::complain;
 use std::alloc::AllocError;
 use std::fs::{self, File, Files, Metadata};
 use std::io::Read;

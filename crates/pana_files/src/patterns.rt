@@ -1,8 +1,8 @@
 //! What is passed over in folders that are tracked, beside what their own files list.
 
-use crate::printing::complain;
 use crate::system_disks::PassedOver;
 use pana_daemon::Root;
+use pana_streams::complain;
 use std::alloc::AllocError;
 use std::fs;
 
@@ -83,11 +83,11 @@ pub struct OwnFile<'a> {
 }
 
 impl<'a> OwnFile<'a> {
-    /// The file of a journal, and the sums beside it.
+    /// The file of a journal, and what is kept beside it.
     pub fn journal(name: &'a str) -> OwnFile<'a> {
         OwnFile {
             name,
-            endings: &["", ".sums", ".sums.new"],
+            endings: &["", ".sums", ".sums.new", ".last", ".last.new"],
             called: "journal",
         }
     }
@@ -103,7 +103,7 @@ impl<'a> OwnFile<'a> {
 }
 
 /// Puts the patterns of a root that one of the program's own files and those beside it match behind the others, where they lie in
-/// its folder. That they are passed over is printed.
+/// its folder.
 fn push_own(
     rt: &HostRuntime,
     root: &Root<'_>,
@@ -115,10 +115,35 @@ fn push_own(
     };
     let pushed = push_endings(rt, path.as_str(), own.endings, patterns);
     drop(path);
-    pushed?;
+    pushed
+}
+
+/// Prints that one of the program's own files is passed over, where it lies in the folder of a root.
+fn report_if_within(
+    rt: &HostRuntime,
+    root: &Root<'_>,
+    own: &OwnFile<'_>,
+) -> Result<(), AllocError> {
+    if path_below(rt, own.name, root.folder)?.is_none() {
+        return Ok(());
+    }
     let (device, called) = (root.device.as_str(), own.called);
     let text = format!(in rt.alloc(); "panad: {device}: the {called} is passed over\n")?;
     let _ = complain(rt, &text);
+    Ok(())
+}
+
+/// Prints which of the program's own files are passed over in the folders of roots.
+pub(crate) fn report_own(
+    rt: &HostRuntime,
+    roots: &[Root<'_>],
+    own_files: &[OwnFile<'_>],
+) -> Result<(), AllocError> {
+    for root in roots {
+        for own in own_files {
+            report_if_within(rt, root, own)?;
+        }
+    }
     Ok(())
 }
 
@@ -145,8 +170,35 @@ pub struct RootPatterns {
     texts: Vec<String>,
 }
 
-/// For each root these patterns, and behind them those that the program's own files and those beside them match.
+impl RootPatterns {
+    pub(crate) fn folder(&self) -> &str {
+        self.folder.as_str()
+    }
+
+    /// The patterns as slices.
+    pub(crate) fn slices(&self, rt: &HostRuntime) -> Result<Vec<&str>, AllocError> {
+        let mut slices = Vec::new(rt.alloc());
+        for text in &self.texts {
+            slices.push(text.as_str())?;
+        }
+        Ok(slices)
+    }
+}
+
+/// For each root these patterns, and behind them those that the program's own files and those beside them match. Which of these
+/// files are passed over is printed.
 pub fn root_patterns(
+    rt: &HostRuntime,
+    roots: &[Root<'_>],
+    own_files: &[OwnFile<'_>],
+    ignored: &[&str],
+) -> Result<Vec<RootPatterns>, AllocError> {
+    report_own(rt, roots, own_files)?;
+    patterns_with(rt, roots, own_files, ignored)
+}
+
+/// For each root these patterns, and behind them those that the program's own files and those beside them match.
+pub(crate) fn patterns_with(
     rt: &HostRuntime,
     roots: &[Root<'_>],
     own_files: &[OwnFile<'_>],
@@ -193,11 +245,7 @@ pub fn slices_of<'a>(
 ) -> Result<Vec<Vec<&'a str>>, AllocError> {
     let mut slices = Vec::new(rt.alloc());
     for root in all {
-        let mut patterns = Vec::new(rt.alloc());
-        for text in &root.texts {
-            patterns.push(text.as_str())?;
-        }
-        slices.push(patterns)?;
+        slices.push(root.slices(rt)?)?;
     }
     Ok(slices)
 }

@@ -1,10 +1,10 @@
 //! The stores and halls of journals' files.
 
 use crate::journal_file::{FileFault, open_locked, open_to_read};
-use pana_files::{ProgramFault, complain};
 use pana_hall::Hall;
 use pana_log::{FileDevice, Log};
 use pana_store::{OpenFault, Opened, Store};
+use pana_streams::{ProgramFault, complain};
 use std::alloc::AllocError;
 use std::fmt;
 use std::fs::File;

@@ -1,11 +1,12 @@
 //! Logs in etcd, found by their addresses.
 
 use crate::journals::NoStore;
+use crate::log_place::LogPlace;
 use crate::log_store::LogStore;
 use pana_etcd::{AddressFault, EtcdAddress, EtcdLog, TcpConnect, random_writer};
-use pana_files::{LogPlace, ProgramFault};
 use pana_hall::Hall;
 use pana_shared::ReadFault;
+use pana_streams::ProgramFault;
 
 /// How many milliseconds a second has.
 const SECOND: u64 = 1000;

@@ -1,13 +1,14 @@
 //! What commands that ask or report by place have in common.
 
 use crate::command::refuse;
+use crate::keeper::Keeper;
 use crate::printing::print_out;
 use crate::track::{ASKER, report};
 use pana_ask::{AskFault, read_place, unknown_line};
 use pana_commands::Printout;
 use pana_copies::{DeviceName, NameFault, Place};
-use pana_files::{Keeper, ProgramFault};
 use pana_history::Unexplained;
+use pana_streams::ProgramFault;
 use std::process::ExitCode;
 
 /// The device in whose name questions are asked.

@@ -14,14 +14,14 @@ use pana_arguments::{
     RunArguments, ScanArguments, ShowArguments, Unread, command_named, refusal,
 };
 use pana_commands::{compare_on, load_on, run_on, scan_on, show_on};
-use pana_files::{
-    FolderWatch, NamedFolder, NamingDisk, ProgramFault, Tables, complain, output, print_text,
-    take_standard_descriptors, terminal_width,
-};
+use pana_files::{FolderWatch, NamedFolder, NamingDisk};
 use pana_log::ends_journal;
 use pana_scan::SystemDisk;
 use pana_store::before_end;
 use pana_store_file::fault_of_address;
+use pana_streams::{
+    ProgramFault, Tables, complain, output, print_text, take_standard_descriptors, terminal_width,
+};
 use pana_wire::Tap;
 use std::env::Env;
 use std::io::Read;

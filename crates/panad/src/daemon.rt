@@ -3,11 +3,12 @@
 use crate::printing::print_out;
 use crate::track::FAULT;
 use pana_commands::Printout;
-use pana_files::{LogPlace, PassedOver, ProgramFault, SystemDisks};
+use pana_files::{PassedOver, SystemDisks};
 use pana_log::FileDevice;
 use pana_serve::{Outcome, System, Wishes, serve_on};
 use pana_store::Store;
-use pana_store_file::{LogStore, NoStore, open_shared, open_store};
+use pana_store_file::{LogPlace, LogStore, NoStore, open_shared, open_store};
+use pana_streams::ProgramFault;
 use std::io;
 use std::marker::Sync;
 use std::net::{Ipv4Addr, SocketAddr, TcpListener};

@@ -2,13 +2,15 @@
 
 use crate::asking::{asker, place_of, print_line, print_unexplained, refuse_place};
 use crate::inquiry::{Inquiry, ask_keeper};
+use crate::keeper::Keeper;
 use crate::options::keeper_of;
 use crate::track::report;
 use pana_arguments::HistoryArguments;
 use pana_calls::Session;
 use pana_copies::Place;
-use pana_files::{Keeper, ProgramFault, may_write_picture, print_text, write_picture};
+use pana_files::{may_write_picture, write_picture};
 use pana_history::{Form, History, history_on};
+use pana_streams::{ProgramFault, print_text};
 use std::process::ExitCode;
 
 /// Where the history goes.

@@ -1,10 +1,12 @@
 //! What is asked of who keeps the reports, or reported to them.
 
+use crate::keeper::Keeper;
 use crate::track::report;
 use pana_calls::Session;
-use pana_files::{Keeper, LogPlace, ProgramFault, connect};
+use pana_files::connect;
 use pana_hall::Hall;
-use pana_store_file::{NoStore, open_hall, open_shared, open_store, read_shared};
+use pana_store_file::{LogPlace, NoStore, open_hall, open_shared, open_store, read_shared};
+use pana_streams::ProgramFault;
 use std::process::ExitCode;
 
 /// What a command asks of a session, or reports to it.

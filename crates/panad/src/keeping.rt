@@ -3,10 +3,10 @@
 use crate::command::READS;
 use crate::printing::print_reported;
 use crate::track::report as report_fault;
-use pana_files::{LogPlace, ProgramFault, output};
 use pana_log::FileDevice;
 use pana_store::{Store, serve_kept};
-use pana_store_file::{LogStore, NoStore, open_shared, open_store};
+use pana_store_file::{LogPlace, LogStore, NoStore, open_shared, open_store};
+use pana_streams::{ProgramFault, output};
 use pana_wire::{ServeFault, Tap, serve_groups};
 use std::process::ExitCode;
 

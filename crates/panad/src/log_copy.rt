@@ -3,16 +3,17 @@
 use crate::asking::{asker, print_line};
 use crate::command::{fault_of_log, refuse};
 use crate::inquiry::{Inquiry, ask_keeper, report_to_keeper};
+use crate::keeper::Keeper;
 use crate::options::keeper_of;
 use crate::track::{report, report_refusal};
 use pana_arguments::{CopyArguments, KeptBy};
 use pana_calls::{NoAnswer, Session};
-use pana_files::{Keeper, LogPlace, ProgramFault};
 use pana_history::journal_of;
 use pana_journal::{Entry, EntryList};
 use pana_shared::ReadFault;
 use pana_shared_store::{FillFault, fill};
-use pana_store_file::log_at;
+use pana_store_file::{LogPlace, log_at};
+use pana_streams::ProgramFault;
 use pana_transfer::{TransferFault, transfer};
 use std::process::ExitCode;
 

@@ -6,6 +6,7 @@ mod command;
 mod daemon;
 mod history_command;
 mod inquiry;
+mod keeper;
 mod keeping;
 mod log_copy;
 mod options;

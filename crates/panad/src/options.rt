@@ -1,8 +1,10 @@
 //! What options that several commands have come to.
 
+use crate::keeper::Keeper;
 use pana_arguments::{KeptBy, KeptLog, ShownAs};
 use pana_commands::StatusForm;
-use pana_files::{Keeper, LogPlace, ProgramFault, terminal_width};
+use pana_store_file::LogPlace;
+use pana_streams::{ProgramFault, terminal_width};
 
 /// Where a log is, how long it has for an answer, and whether questions may be answered without it.
 pub fn place_of(log: KeptLog<'_>) -> LogPlace<'_> {

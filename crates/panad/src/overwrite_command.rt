@@ -2,12 +2,13 @@
 
 use crate::asking::{asker, place_of, print_fault, print_line, refuse_place};
 use crate::inquiry::{Inquiry, ask_keeper};
+use crate::keeper::Keeper;
 use crate::options::keeper_of;
 use pana_arguments::OverwriteArguments;
 use pana_ask::may_overwrite;
 use pana_calls::Session;
 use pana_copies::Place;
-use pana_files::{Keeper, ProgramFault};
+use pana_streams::ProgramFault;
 use std::process::ExitCode;
 
 /// The place of the copy that would be overwritten, and that of the other one.

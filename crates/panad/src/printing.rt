@@ -1,7 +1,7 @@
 //! What commands answer, printed.
 
 use pana_commands::Printout;
-use pana_files::{ProgramFault, Tables, complain, print_tables, print_text};
+use pana_streams::{ProgramFault, Tables, complain, print_tables, print_text};
 use std::process::ExitCode;
 
 /// Prints a text on standard error, and returns the status. That it can't be written is no fault.

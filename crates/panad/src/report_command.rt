@@ -3,12 +3,13 @@
 use crate::asking::{print_fault, print_line};
 use crate::command::refuse;
 use crate::inquiry::{Inquiry, report_to_keeper};
+use crate::keeper::Keeper;
 use crate::options::keeper_of;
 use pana_arguments::ReportArguments;
 use pana_ask::{PlacedReport, ReportWord, Words, WordsFault, read_report, report_on};
 use pana_calls::Session;
 use pana_copies::DeviceName;
-use pana_files::{Keeper, ProgramFault};
+use pana_streams::ProgramFault;
 use std::alloc::{AllocError, Global};
 use std::process::ExitCode;
 

@@ -4,10 +4,9 @@ use crate::command::refuse;
 use crate::daemon::{self, LogWishes};
 use pana_arguments::{KeptBy, ServeArguments};
 use pana_daemon::{Looks, Patience, Root, roots_of};
-use pana_files::{
-    OwnFile, ProgramFault, RootPatterns, fault_of_roots, passed_over, root_patterns, slices_of,
-};
+use pana_files::{OwnFile, RootPatterns, fault_of_roots, passed_over, root_patterns, slices_of};
 use pana_serve::Wishes;
+use pana_streams::ProgramFault;
 use std::alloc::AllocError;
 use std::marker::Sync;
 use std::process::ExitCode;

@@ -2,6 +2,7 @@
 
 use crate::asking::{asker, refuse_place};
 use crate::inquiry::{Inquiry, ask_keeper};
+use crate::keeper::Keeper;
 use crate::options::{form_of, keeper_of};
 use crate::printing::print_out_tables;
 use crate::track::report;
@@ -9,7 +10,7 @@ use pana_arguments::StatusArguments;
 use pana_calls::Session;
 use pana_commands::{Untracked, status_on};
 use pana_copies::DeviceName;
-use pana_files::{Keeper, ProgramFault, Tables};
+use pana_streams::{ProgramFault, Tables};
 use std::process::ExitCode;
 
 /// Whether the word begins with a device and a colon.

@@ -2,14 +2,15 @@
 //! is printed.
 
 use crate::asking::{asker, report_no_daemon};
+use crate::keeper::Keeper;
 use crate::printing::print_out_tables;
+use pana_arguments::VERSION;
 use pana_calls::Session;
-use pana_commands::{StatusForm, Untracked, track_on};
+use pana_commands::{Printout, StatusForm, Untracked, track_on};
 use pana_daemon::Root;
-use pana_files::{
-    Keeper, ProgramFault, ReadingWishes, Tables, complain, connect, may_keep_sums, read_folders,
-};
+use pana_files::{Printed, ReadingWishes, TrackRun, connect, may_keep_sums, read_folders};
 use pana_store_file::{NoStore, open_shared, open_store};
+use pana_streams::{ProgramFault, Tables, complain};
 use std::alloc::AllocError;
 use std::marker::Sync;
 use std::process::ExitCode;
@@ -24,6 +25,7 @@ pub const FAULT: u8 = 3;
 /// What is wanted beside the folders.
 #[derive(Clone, Copy)]
 pub struct TrackWishes<'a> {
+    pub keeper: Keeper<'a>,
     pub reading: ReadingWishes<'a>,
     pub may_be_empty: bool,
     pub form: StatusForm,
@@ -36,13 +38,24 @@ pub fn report(rt: &HostRuntime, text: &str) -> Result<ExitCode, ProgramFault> {
     Ok(ExitCode::from(FAULT))
 }
 
-/// Reads the folders, reports what was noticed in them to a session, and prints what is obsolete or in conflict.
+/// Keeps what was printed, where nothing was wrong and the same would be printed again.
+fn keep(run: Option<TrackRun<'_>>, printout: &Printout) {
+    if let Some(run) = run {
+        if printout.err.is_empty() && printout.status != FAULT {
+            run.keep(printout.out.as_str(), printout.status);
+        }
+    }
+}
+
+/// Reads the folders, reports what was noticed in them to a session, and prints what is obsolete or in conflict. The run keeps that,
+/// where there is one.
 fn track_by<T: Threads + Sync, S: Session>(
     rt: &HostRuntime,
     threads: &T,
     session: &mut S,
     roots: &[Root<'_>],
     wishes: TrackWishes<'_>,
+    run: Option<TrackRun<'_>>,
 ) -> Result<ExitCode, ProgramFault> {
     let folders = read_folders(rt, threads, roots, wishes.reading)?;
     match track_on(
@@ -53,9 +66,59 @@ fn track_by<T: Threads + Sync, S: Session>(
         wishes.may_be_empty,
         wishes.form,
     ) {
-        Ok(printout) => print_out_tables(rt, Tables::Status, &printout),
-        Err(Untracked::NoAnswer) => report(rt, wishes.reading.keeper.no_answer()),
+        Ok(printout) => {
+            let status = print_out_tables(rt, Tables::Status, &printout);
+            keep(run, &printout);
+            status
+        }
+        Err(Untracked::NoAnswer) => report(rt, wishes.keeper.no_answer()),
         Err(Untracked::OutOfMemory) => Err(ProgramFault::OutOfMemory),
+    }
+}
+
+/// All that decides what a run prints, beside the folders, the journal and how they are read.
+fn asked_of(rt: &HostRuntime, wishes: TrackWishes<'_>) -> Result<String, AllocError> {
+    let alloc = rt.alloc();
+    let may_be_empty = wishes.may_be_empty;
+    match wishes.form {
+        StatusForm::Table(Some(width)) => {
+            format!(in alloc; "{VERSION} {may_be_empty} table {width}")
+        }
+        StatusForm::Table(None) => format!(in alloc; "{VERSION} {may_be_empty} table"),
+        StatusForm::Json => format!(in alloc; "{VERSION} {may_be_empty} json"),
+        StatusForm::Nothing => format!(in alloc; "{VERSION} {may_be_empty} nothing"),
+    }
+}
+
+/// Prints once more what an earlier run has printed, and returns its status.
+fn print_again(rt: &HostRuntime, printed: Printed) -> Result<ExitCode, ProgramFault> {
+    let printout = Printout {
+        out: printed.text,
+        err: String::new(rt.alloc()),
+        status: printed.status,
+    };
+    print_out_tables(rt, Tables::Status, &printout)
+}
+
+/// Tracks folders by the store of a journal's file. Where the journal and the folders are as they were in a run that had nothing to
+/// report, what that one has printed is printed again.
+fn track_kept<T: Threads + Sync>(
+    rt: &HostRuntime,
+    threads: &T,
+    journal: &str,
+    roots: &[Root<'_>],
+    wishes: TrackWishes<'_>,
+) -> Result<ExitCode, ProgramFault> {
+    let asked = asked_of(rt, wishes)?;
+    let run = TrackRun::begin(rt, journal, roots, wishes.reading, asked.as_str());
+    if let Some(run) = run {
+        if let Some(printed) = run.printed()? {
+            return print_again(rt, printed);
+        }
+    }
+    match open_store(rt, journal) {
+        Ok(mut store) => track_by(rt, threads, &mut store, roots, wishes, run),
+        Err(refusal) => report_refusal(rt, refusal),
     }
 }
 
@@ -89,17 +152,14 @@ pub fn track<T: Threads + Sync>(
     if let Some(text) = fault_of_sums(rt, wishes)? {
         return report(rt, text.as_str());
     }
-    match wishes.reading.keeper {
-        Keeper::Journal(name) => match open_store(rt, name) {
-            Ok(mut store) => track_by(rt, threads, &mut store, roots, wishes),
-            Err(refusal) => report_refusal(rt, refusal),
-        },
+    match wishes.keeper {
+        Keeper::Journal(name) => track_kept(rt, threads, name, roots, wishes),
         Keeper::Log(place) => match open_shared(rt, place) {
-            Ok(mut store) => track_by(rt, threads, &mut store, roots, wishes),
+            Ok(mut store) => track_by(rt, threads, &mut store, roots, wishes, None),
             Err(refusal) => report_refusal(rt, refusal),
         },
         Keeper::Daemon(port) => match connect(rt, port) {
-            Ok(mut client) => track_by(rt, threads, &mut client, roots, wishes),
+            Ok(mut client) => track_by(rt, threads, &mut client, roots, wishes, None),
             Err(_) => report_no_daemon(rt, port),
         },
     }

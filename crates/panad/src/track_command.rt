@@ -5,7 +5,8 @@ use crate::options::{form_of, keeper_of};
 use crate::track::{TrackWishes, track};
 use pana_arguments::TrackArguments;
 use pana_daemon::{Root, RootFault, roots_of};
-use pana_files::{ProgramFault, ReadingWishes, fault_of_roots};
+use pana_files::{ReadingWishes, fault_of_roots};
+use pana_streams::ProgramFault;
 use std::marker::Sync;
 use std::process::ExitCode;
 use std::thread::Threads;
@@ -15,8 +16,9 @@ fn wishes_of<'a>(
     rt: &HostRuntime,
     arguments: TrackArguments<'a>,
 ) -> Result<TrackWishes<'a>, ProgramFault> {
+    let keeper = keeper_of(arguments.kept_by);
     let reading = ReadingWishes {
-        keeper: keeper_of(arguments.kept_by),
+        journal: keeper.journal(),
         sums: arguments.sums,
         ignored: arguments.ignored,
         reads_all: arguments.reads_all,
@@ -24,6 +26,7 @@ fn wishes_of<'a>(
         is_verbose: arguments.is_verbose,
     };
     Ok(TrackWishes {
+        keeper,
         reading,
         may_be_empty: arguments.may_be_empty,
         form: form_of(rt, arguments.shown_as)?,

@@ -2,11 +2,13 @@
 
 use crate::asking::{asker, report_no_daemon};
 use crate::command::READS;
+use crate::keeper::Keeper;
 use crate::track::report;
 use pana_arguments::WatchArguments;
 use pana_copies::DeviceName;
-use pana_files::{Keeper, ProgramFault, Redialing, print_text};
+use pana_files::Redialing;
 use pana_journal::Entry;
+use pana_streams::{ProgramFault, print_text};
 use pana_watch::{Watch, WatchFault, entry_lines};
 use std::process::ExitCode;
 

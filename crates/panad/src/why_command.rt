@@ -2,12 +2,13 @@
 
 use crate::asking::{asker, place_of, print_line, print_unexplained, refuse_place};
 use crate::inquiry::{Inquiry, ask_keeper};
+use crate::keeper::Keeper;
 use crate::options::keeper_of;
 use pana_arguments::WhyArguments;
 use pana_calls::Session;
 use pana_copies::Place;
-use pana_files::{Keeper, ProgramFault};
 use pana_history::why_on;
+use pana_streams::ProgramFault;
 use std::process::ExitCode;
 
 /// The two places.

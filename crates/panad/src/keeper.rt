@@ -1,12 +1,6 @@
-/// A log that others append to as well.
-#[derive(Clone, Copy)]
-pub struct LogPlace<'a> {
-    pub address: &'a str,
-    /// For how many seconds an answer is waited for.
-    pub patience: u32,
-    /// Whether questions are answered from what was read before.
-    pub is_stale: bool,
-}
+//! Who keeps the reports.
+
+use pana_store_file::LogPlace;
 
 /// Who keeps the reports.
 #[derive(Clone, Copy)]
@@ -19,7 +13,15 @@ pub enum Keeper<'a> {
     Daemon(u16),
 }
 
-impl Keeper<'_> {
+impl<'a> Keeper<'a> {
+    /// The journal's file, where one keeps the reports.
+    pub fn journal(self) -> Option<&'a str> {
+        match self {
+            Keeper::Journal(name) => Some(name),
+            Keeper::Log(_) | Keeper::Daemon(_) => None,
+        }
+    }
+
     /// What is printed where a call has no answer.
     pub fn no_answer(self) -> &'static str {
         match self {

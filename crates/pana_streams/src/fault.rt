@@ -1,6 +1,6 @@
 ghost use Rattle.std.specs.Prelude.{◌≡◌, ◌≢◌};
 ghost use Rattle.pana_wire.specs.Shown.{shown_stop};
-ghost use Rattle.pana_files.specs.Fault.{shown};
+ghost use Rattle.pana_streams.specs.Fault.{shown};
 
 use pana_wire::ServeFault;
 use std::alloc::AllocError;
@@ -37,7 +37,7 @@ impl ProgramFault {
 }
 
 impl From<AllocError> for ProgramFault {
-    ghost use Rattle.pana_files.specs.declared.fault.ProgramFault.TheVariants.{OutOfMemory};
+    ghost use Rattle.pana_streams.specs.declared.fault.ProgramFault.TheVariants.{OutOfMemory};
 
     ghost from_gives = { λ _ fault. fault ≡ OutOfMemory };
 

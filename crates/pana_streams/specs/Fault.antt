@@ -1,7 +1,7 @@
 -- What the program's faults are printed as.
 use Rattle.std.specs.Prelude.{ℕ, List, codes}
-use Rattle.pana_files.specs.declared.fault.ProgramFault.{ProgramFault}
-use Rattle.pana_files.specs.declared.fault.ProgramFault.TheVariants.{Read, Write, OutOfMemory, TooManyReads}
+use Rattle.pana_streams.specs.declared.fault.ProgramFault.{ProgramFault}
+use Rattle.pana_streams.specs.declared.fault.ProgramFault.TheVariants.{Read, Write, OutOfMemory, TooManyReads}
 
 -- why the program ends
 abbrev pub shown : ProgramFault → List ℕ
