@@ -2,21 +2,15 @@
 //! the folders as they were then prints it again, and reads neither the journal nor a file.
 
 use crate::folders::{ReadingWishes, own_files};
+use crate::last_file::{HEAD, Kept, file_of, kept_in};
 use crate::look::Look;
 use crate::own_file::{bytes_of, may_replace, replace};
 use crate::patterns::{OwnFile, RootPatterns, patterns_with, report_own};
 use pana_daemon::Root;
-use sha2::{Digest, Sha256};
 use std::alloc::AllocError;
-use std::str;
 use std::time::Clock;
 
-/// How such a file begins.
-const HEAD: &[u8; 13] = b"panad last 1\n";
-
-/// How many bytes a digest has, and the file at most.
-const DIGEST: usize = 32;
-
+/// How many bytes the file has at most.
 const MOST_BYTES: u64 = 16_777_216;
 
 /// A text that was printed, and the status with it.
@@ -45,35 +39,6 @@ fn journal_look(rt: &HostRuntime, journal: &str, begun: i64) -> Option<[u8; 32]>
     let mut look = Look::new(rt, begun);
     look.take_end_of(journal)?;
     Some(look.end())
-}
-
-/// What such a file says: digests of how the journal looked and what was asked for, and of how the folders looked, and what was
-/// printed.
-#[derive(Clone, Copy)]
-struct Kept<'a> {
-    asked: &'a [u8],
-    folders: &'a [u8],
-    status: u8,
-    text: &'a str,
-}
-
-/// What these bytes say, where they are the whole of such a file.
-fn kept_in(bytes: &[u8]) -> Option<Kept<'_>> {
-    let at = bytes.len().checked_sub(DIGEST)?;
-    let (said, digest) = bytes.split_at(at);
-    if digest != Sha256::digest(said).as_slice() {
-        return None;
-    }
-    let said = said.strip_prefix(HEAD)?;
-    let (asked, said) = said.split_at_checked(DIGEST)?;
-    let (folders, said) = said.split_at_checked(DIGEST)?;
-    let (status, text) = said.split_first()?;
-    Some(Kept {
-        asked,
-        folders,
-        status: *status,
-        text: str::from_utf8(text).ok()?,
-    })
 }
 
 impl<'a> TrackRun<'a> {
@@ -146,10 +111,7 @@ impl<'a> TrackRun<'a> {
     fn found(&self) -> Option<Printed> {
         let bytes = bytes_of(self.rt, self.name()?.as_str(), MOST_BYTES).ok()?;
         let kept = kept_in(bytes.as_slice())?;
-        if kept.asked != self.asked_look().as_slice() {
-            return None;
-        }
-        if kept.folders != self.folders_look()?.as_slice() {
+        if kept.asked != self.asked_look() || kept.folders != self.folders_look()? {
             return None;
         }
         Some(Printed {
@@ -172,22 +134,19 @@ impl<'a> TrackRun<'a> {
         Ok(found)
     }
 
-    /// The bytes of a file that says what was printed; none where the journal isn't as it was, or the folders may still change and
-    /// look the same.
-    fn bytes_of(&self, text: &str, status: u8) -> Option<Vec<u8>> {
+    /// The file that says what was printed; none where the journal isn't as it was, or the folders may still change and look the
+    /// same.
+    fn file_of(&self, text: &str, status: u8) -> Option<Vec<u8>> {
         if self.look != journal_look(self.rt, self.journal, self.begun)? {
             return None;
         }
-        let folders = self.folders_look()?;
-        let mut bytes = Vec::new(self.rt.alloc());
-        bytes.extend_from_slice(HEAD).ok()?;
-        bytes.extend_from_slice(&self.asked_look()).ok()?;
-        bytes.extend_from_slice(&folders).ok()?;
-        bytes.push(status).ok()?;
-        bytes.extend_from_slice(text.as_bytes()).ok()?;
-        let digest = Sha256::digest(&bytes);
-        bytes.extend_from_slice(&digest).ok()?;
-        Some(bytes)
+        let kept = Kept {
+            asked: self.asked_look(),
+            folders: self.folders_look()?,
+            status,
+            text,
+        };
+        file_of(self.rt.alloc(), &kept).ok()
     }
 
     /// Keeps what this run has printed, where it may be printed again while all is as it is: the run had nothing to report, since the
@@ -199,7 +158,7 @@ impl<'a> TrackRun<'a> {
         if !may_replace(self.rt, name.as_str(), HEAD) {
             return;
         }
-        if let Some(bytes) = self.bytes_of(text, status) {
+        if let Some(bytes) = self.file_of(text, status) {
             let _ = replace(self.rt, name.as_str(), bytes.as_slice());
         }
     }

@@ -5,6 +5,7 @@
 mod client;
 mod folder_watch;
 mod folders;
+mod last_file;
 mod last_run;
 mod look;
 mod naming;
