@@ -11,7 +11,7 @@ use Rattle.pana_hall.specs.Permit.{journal_after}
 use Rattle.pana_hall.specs.Run.{IsRunFrom, journal_from}
 use Rattle.pana_hall.specs.Step.{Steps}
 use Rattle.pana_shared.specs.declared.record.Record.{Record}
-use Rattle.pana_shared.specs.Log.{LogView, ours}
+use Rattle.pana_shared.specs.Log.{ours}
 use Rattle.pana_shared.proofs.Splits.{same_front, splits}
 use Rattle.pana_shared_store.specs.Store.{AreFirst, Becomes, entries_in, recorded}
 use Rattle.pana_shared_store.proofs.Followed.{entries_both, length_entries}
@@ -26,32 +26,32 @@ own_at : (w : ℕ) (front m : List Record) (x : Record) → AllByRecursion (λ r
 own_at w [] m x all = all.0
 own_at w (y ∷ front) m x all = own_at w front m x all.1
 
-module _ {L : Type 0} (seen : L → LogView) (records : List Record) where
-  abbrev Some_of : List (Standing L) → List (Standing L)
+module _ (records : List Record) where
+  abbrev Some_of : List Standing → List Standing
   Some_of calls = filter (λ call. are_some call.made) calls
 
-  abbrev Groups : ℕ → List (Standing L) → List (ℕ × List Record)
+  abbrev Groups : ℕ → List Standing → List (ℕ × List Record)
   Groups w calls = map (λ call. group_of w call) calls
 
-  abbrev All : List (Standing L) → Type 0
-  All calls = AllByRecursion (λ call. StandsIn seen records call) calls
+  abbrev All : List Standing → Type 0
+  All calls = AllByRecursion (λ call. StandsIn records call) calls
 
-  without : (call : Standing L) (calls : List (Standing L)) → [] ≡ call.made → Some_of (call ∷ calls) ≡ Some_of calls
+  without : (call : Standing) (calls : List Standing) → [] ≡ call.made → Some_of (call ∷ calls) ≡ Some_of calls
   without call calls is = let e : are_some call.made ≡ false = ap are_some (sym is) in rw e refl
 
-  with_it : (call : Standing L) (calls : List (Standing L)) (e : Entry) (es : List Entry) → e ∷ es ≡ call.made → Some_of (call ∷ calls) ≡ call ∷ Some_of calls
+  with_it : (call : Standing) (calls : List Standing) (e : Entry) (es : List Entry) → e ∷ es ≡ call.made → Some_of (call ∷ calls) ≡ call ∷ Some_of calls
   with_it call calls e es is = let f : are_some call.made ≡ true = ap are_some (sym is) in rw f refl
 
   -- a call that has made entries was made as by a hall alone
-  made_so : (call : Standing L) → StandsIn seen records call → call.made ≢ [] → Steps call.before call.step.by call.step.call call.reply (call.before ++ call.made)
+  made_so : (call : Standing) → StandsIn records call → call.made ≢ [] → Steps call.before call.step.by call.step.call call.reply (call.before ++ call.made)
   made_so call stands some = by_answer call.step.answer stands.comes where
-    by_answer : (o : Option Answer) → MatchOption o (IsUnanswered seen call) (λ answer. IsAnswered seen call answer) → Steps call.before call.step.by call.step.call call.reply (call.before ++ call.made)
+    by_answer : (o : Option Answer) → MatchOption o (IsUnanswered call) (λ answer. IsAnswered call answer) → Steps call.before call.step.by call.step.call call.reply (call.before ++ call.made)
     by_answer (Some answer) answered = subst (λ (a : Answer). Becomes call.before call.step.by call.step.call a (call.before ++ call.made)) (answered.replied some) answered.becomes
     by_answer None (inl none) = absurd (some none)
     by_answer None (inr made) = made.0
 
   -- where nothing is left of a log, no call has made any
-  none_left : (w from : ℕ) (calls : List (Standing L)) → AreGroups from w [] (Groups w calls) → Some_of calls ≡ []
+  none_left : (w from : ℕ) (calls : List Standing) → AreGroups from w [] (Groups w calls) → Some_of calls ≡ []
   none_left w from [] groups = refl
   none_left w from (call ∷ calls) groups = by_made (none_left w from calls) call.made refl groups where
     by_made : (AreGroups from w [] (Groups w calls) → Some_of calls ≡ []) → (m : List Entry) → m ≡ call.made → AreGroups from w [] ((length call.before, recorded w call.step.ended.turn m) ∷ Groups w calls) → Some_of (call ∷ calls) ≡ []
@@ -62,7 +62,7 @@ module _ {L : Type 0} (seen : L → LogView) (records : List Record) where
       nowhere (x ∷ b) none = (let f : [] ≡ x ∷ (b ++ (recorded w call.step.ended.turn (e ∷ es) ++ after)) = none in cc)
 
   -- what another writer has put first is nothing of this one's
-  past : (w other turn from : ℕ) (made : List Entry) (after : List Record) (calls : List (Standing L)) → (other ≡ w → ⊥) → AreGroups from w (recorded other turn made ++ after) (Groups w calls)
+  past : (w other turn from : ℕ) (made : List Entry) (after : List Record) (calls : List Standing) → (other ≡ w → ⊥) → AreGroups from w (recorded other turn made ++ after) (Groups w calls)
       → AreGroups (from + length (recorded other turn made)) w after (Groups w calls)
   past w other turn from made after [] differs groups = (none_in w (recorded other turn made) after groups).1
   past w other turn from made after (call ∷ calls) differs groups = by_made (past w other turn from made after calls differs) call.made groups where
@@ -94,19 +94,19 @@ module _ {L : Type 0} (seen : L → LogView) (records : List Record) where
   -- ---- the next call
 
   -- the first call of a writer that has made any, where its record is the next
-  record Next (w from : ℕ) (rest : List Record) (calls : List (Standing L)) : Type 0 where
-    pub call : Standing L
-    pub others : List (Standing L)
+  record Next (w from : ℕ) (rest : List Record) (calls : List Standing) : Type 0 where
+    pub call : Standing
+    pub others : List Standing
     pub some : call.made ≢ []
     pub is : Some_of calls ≡ call ∷ Some_of others
     pub place : length call.before ≡ from
     pub after : List Record
     pub whole : rest ≡ recorded w call.step.ended.turn call.made ++ after
     pub groups : AreGroups (from + length (recorded w call.step.ended.turn call.made)) w after (Groups w others)
-    pub stands : StandsIn seen records call
+    pub stands : StandsIn records call
     pub all : All others
 
-  next : (w from : ℕ) (r : Record) (rest : List Record) (calls : List (Standing L)) → r.writer ≡ w → AreGroups from w (r ∷ rest) (Groups w calls) → All calls → Next w from (r ∷ rest) calls
+  next : (w from : ℕ) (r : Record) (rest : List Record) (calls : List Standing) → r.writer ≡ w → AreGroups from w (r ∷ rest) (Groups w calls) → All calls → Next w from (r ∷ rest) calls
   next w from r rest [] own groups all = absurd (let e : ours w (r ∷ rest) ≡ r ∷ ours w rest = grind (arith, own) in let f : r ∷ ours w rest ≡ [] = sym e ∙ groups in cc)
   next w from r rest (call ∷ calls) own groups all = by_made (λ (g : AreGroups from w (r ∷ rest) (Groups w calls)). next w from r rest calls own g all.1) call.made refl groups where
     by_made : (AreGroups from w (r ∷ rest) (Groups w calls) → Next w from (r ∷ rest) calls) → (m : List Entry) → m ≡ call.made → AreGroups from w (r ∷ rest) ((length call.before, recorded w call.step.ended.turn m) ∷ Groups w calls) → Next w from (r ∷ rest) (call ∷ calls)
@@ -138,18 +138,18 @@ module _ {L : Type 0} (seen : L → LogView) (records : List Record) where
   -- ---- all of them
 
   -- the calls that are left behind the first records make the others, as one run
-  pub record Merged (front rest : List Record) (left : ℕ → List (Standing L)) : Type 0 where
-    pub turns : List (Turn L)
+  pub record Merged (front rest : List Record) (left : ℕ → List Standing) : Type 0 where
+    pub turns : List Turn
     pub run : IsRunFrom (entries_in front) (exchanges turns)
     pub journal : entries_in (front ++ rest) ≡ journal_from (entries_in front) (exchanges turns)
     pub behind : AreBehind (entries_in front) turns
     pub each : (w : ℕ) → calls_by w turns ≡ Some_of (left w)
 
   -- what is left of each writer's once one of them has made its next
-  later : ℕ → List (Standing L) → (ℕ → List (Standing L)) → ℕ → List (Standing L)
+  later : ℕ → List Standing → (ℕ → List Standing) → ℕ → List Standing
   later w others left v = cond (w == v) others (left v)
 
-  module _ (front : List Record) (r : Record) (rest : List Record) (left : ℕ → List (Standing L)) (whole : records ≡ front ++ (r ∷ rest)) (found : Next r.writer (length front) (r ∷ rest) (left r.writer)) where
+  module _ (front : List Record) (r : Record) (rest : List Record) (left : ℕ → List Standing) (whole : records ≡ front ++ (r ∷ rest)) (found : Next r.writer (length front) (r ∷ rest) (left r.writer)) where
     group : List Record
     group = recorded r.writer found.call.step.ended.turn found.call.made
 
@@ -216,10 +216,10 @@ module _ {L : Type 0} (seen : L → LogView) (records : List Record) where
       by_writer w true e is =
           let same : r.writer ≡ w = grind (arith, e) in
           let others : calls_by w more.turns ≡ Some_of found.others = is ∙ ap (λ (b : Bool). Some_of (cond b found.others (left w))) e in
-          rw e (ap (λ (l : List (Standing L)). found.call ∷ l) others ∙ sym found.is ∙ ap (λ (n : ℕ). Some_of (left n)) same)
+          rw e (ap (λ (l : List Standing). found.call ∷ l) others ∙ sym found.is ∙ ap (λ (n : ℕ). Some_of (left n)) same)
       by_writer w false e is = rw e (is ∙ ap (λ (b : Bool). Some_of (cond b found.others (left w))) e)
 
-  pub merge : (n : ℕ) (front rest : List Record) (left : ℕ → List (Standing L)) → length rest ≤ n → records ≡ front ++ rest → ((w : ℕ) → AreGroups (length front) w rest (Groups w (left w))) → ((w : ℕ) → All (left w)) → Merged front rest left
+  pub merge : (n : ℕ) (front rest : List Record) (left : ℕ → List Standing) → length rest ≤ n → records ≡ front ++ rest → ((w : ℕ) → AreGroups (length front) w rest (Groups w (left w))) → ((w : ℕ) → All (left w)) → Merged front rest left
   merge n front [] left within whole groups all = record {
     turns = [];
     run = tt;

@@ -9,5 +9,5 @@ use pana_shared::SharedLog;
 
 /// Any number of stores that share a log, each with a writer of its own, have one history.
 pub fn stores_have_one_history<L: SharedLog>()
-    ensures { IsTrue L.is_known → (stores : ℕ → Option (Life L)) (records : List Record) → Share L.is_known L.seen stores records → IsOneHistory L.seen stores records }
+    ensures { IsTrue L.is_known → (stores : ℕ → Option Life) (records : List Record) → Share L.is_known stores records → IsOneHistory stores records }
 {}

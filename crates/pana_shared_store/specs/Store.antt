@@ -14,12 +14,13 @@ use Rattle.pana_shared.specs.declared.read_fault.ReadFault.TheVariants.{NoAnswer
 use Rattle.pana_shared.specs.declared.record.Record.{Record}
 use Rattle.pana_shared.specs.Log.{Follows, Grows, IsAt, IsOneOf, LogView, ours}
 
--- what contracts see of a store: the entries of its hall's journal, the log, how many of its calls may have made entries, whether
--- something that is no entry stands in the log, why the last call without an answer had none, and whether it answers questions from what
--- it has followed so far
-pub record StoreView (L : Type 0) : Type 0 where
+-- what contracts see of a store: the entries of its hall's journal, what it has seen of the log, and how many more times that may give no
+-- answer, how many of its calls may have made entries, whether something that is no entry stands in the log, why the last call without an
+-- answer had none, and whether it answers questions from what it has followed so far
+pub record StoreView : Type 0 where
   pub entries : List Entry
-  pub log : L
+  pub seen : LogView
+  pub silences : ℕ
   pub turn : ℕ
   pub broken : Bool
   pub fault : Option ReadFault
@@ -117,30 +118,30 @@ pub record TriesBy (is_known : Bool) (before turn : ℕ) (old : List Entry) (see
   pub later : before < turn
 
 -- the same of a store
-pub record Makes {L : Type 0} (is_known : Bool) (seen : L → LogView) (old : StoreView L) (by : List ℕ) (call : Call) (answer : Answer) (new : StoreView L) : Type 0 where
-  pub on : MakesBy is_known old.is_stale old.turn new.turn old.entries (seen old.log) by call answer new.entries (seen new.log)
+pub record Makes (is_known : Bool) (old : StoreView) (by : List ℕ) (call : Call) (answer : Answer) (new : StoreView) : Type 0 where
+  pub on : MakesBy is_known old.is_stale old.turn new.turn old.entries old.seen by call answer new.entries new.seen
   pub turn : old.turn ≤ new.turn
   pub whole : old.broken ≡ false
   pub same : new.broken ≡ false
   pub stale : new.is_stale ≡ old.is_stale
 
 -- a store that was opened by a log, all of which it has read: nothing was asked of the log, but to be read
-pub record Opens {L : Type 0} (is_known : Bool) (seen : L → LogView) (log : L) (store : StoreView L) : Type 0 where
-  pub on : StaysOn is_known [] (seen log) store.entries (seen store.log)
-  pub all : IsTrue is_known → length (seen log).records ≤ length store.entries
+pub record Opens (is_known : Bool) (log : LogView) (store : StoreView) : Type 0 where
+  pub on : StaysOn is_known [] log store.entries store.seen
+  pub all : IsTrue is_known → length log.records ≤ length store.entries
   pub turn : store.turn ≡ 0
   pub whole : store.broken ≡ false
 
 -- a call that has no answer, by a store that isn't broken
-pub record MakesNone {L : Type 0} (is_known : Bool) (seen : L → LogView) (old : StoreView L) (by : List ℕ) (call : Call) (new : StoreView L) : Type 0 where
-  pub on : StaysOn is_known old.entries (seen old.log) new.entries (seen new.log) ⊎ TriesBy is_known old.turn new.turn old.entries (seen old.log) by call new.entries (seen new.log)
+pub record MakesNone (is_known : Bool) (old : StoreView) (by : List ℕ) (call : Call) (new : StoreView) : Type 0 where
+  pub on : StaysOn is_known old.entries old.seen new.entries new.seen ⊎ TriesBy is_known old.turn new.turn old.entries old.seen by call new.entries new.seen
   pub turn : old.turn ≤ new.turn
   pub whole : old.broken ≡ false
   pub stale : new.is_stale ≡ old.is_stale
 
 -- a call that has no answer: of a store that is broken nothing changes any more
-abbrev pub Fails : {L : Type 0} → Bool → (L → LogView) → StoreView L → List ℕ → Call → StoreView L → Type 0
-Fails is_known seen old by call new = ((old.broken ≡ true) × (new ≡ old)) ⊎ MakesNone is_known seen old by call new
+abbrev pub Fails : Bool → StoreView → List ℕ → Call → StoreView → Type 0
+Fails is_known old by call new = ((old.broken ≡ true) × (new ≡ old)) ⊎ MakesNone is_known old by call new
 
 -- no hall alone makes the entry behind the journal
 abbrev pub IsStrange : List Entry → Entry → Type 0
@@ -159,10 +160,10 @@ Why (Foreign number) turn old before new records after = (entry : Entry) × AreF
 Why OutOfMemory turn old before new records after = Unit {0}
 
 -- A call that has no answer has a cause, which the store knows then, unless it was broken before. It is broken then where that is foreign.
-pub record IsCause {L : Type 0} (is_known : Bool) (seen : L → LogView) (silences : L → ℕ) (old : StoreView L) (fault : ReadFault) (new : StoreView L) : Type 0 where
+pub record IsCause (is_known : Bool) (old : StoreView) (fault : ReadFault) (new : StoreView) : Type 0 where
   pub known : new.fault ≡ Some fault
   pub broken : new.broken ≡ is_some (foreign_of new.fault)
-  pub why : IsTrue is_known → Why fault old.turn old.entries (silences old.log) new.entries (seen new.log).records (silences new.log)
+  pub why : IsTrue is_known → Why fault old.turn old.entries old.silences new.entries new.seen.records new.silences
 
-abbrev pub HasCause : {L : Type 0} → Bool → (L → LogView) → (L → ℕ) → StoreView L → StoreView L → Type 0
-HasCause is_known seen silences old new = (old.broken ≡ true) ⊎ ((fault : ReadFault) × IsCause is_known seen silences old fault new)
+abbrev pub HasCause : Bool → StoreView → StoreView → Type 0
+HasCause is_known old new = (old.broken ≡ true) ⊎ ((fault : ReadFault) × IsCause is_known old fault new)

@@ -15,7 +15,7 @@ use std::marker::Model;
 
 /// A hall, and a log that others append to as well, which has the hall's journal: an entry is put into the log before its call is
 /// answered, and each call is made behind all that the log had when it began, but a question to a stale store. To contracts it is the
-/// entries that are followed so far, the log, how many calls may have made some, and whether it is stale.
+/// entries that are followed so far, what it has seen of the log, how many calls may have made some, and whether it is stale.
 #[derive(Drop)]
 pub struct SharedStore<L: SharedLog> {
     alloc: Global,
@@ -33,9 +33,9 @@ impl<L: SharedLog> Model for SharedStore<L> {
     ghost use Rattle.pana_shared_store.specs.Store.{StoreView, foreign_of};
     ghost use Rattle.pana_shared_store.specs.inner.{IsStore};
 
-    ghost Value = { StoreView L };
+    ghost Value = { StoreView };
 
-    ghost view = { λ store. record { entries = store.hall; log = store.log; turn = store.turn; broken = is_some (foreign_of store.fault); fault = store.fault; is_stale = store.is_stale } };
+    ghost view = { λ store. record { entries = store.hall; seen = L.seen store.log; silences = L.silences store.log; turn = store.turn; broken = is_some (foreign_of store.fault); fault = store.fault; is_stale = store.is_stale } };
 
     ghost invariant = { λ store. IsTrue L.is_known → IsStore store.hall store.turn (L.seen store.log) };
 }
@@ -49,7 +49,7 @@ impl<L: SharedLog + Drop> SharedStore<L> {
     /// Those of reading; `Foreign` also where an entry isn't the next one of a journal.
     pub fn open(alloc: Global, mut log: L, is_stale: bool) -> Result<SharedStore<L>, ReadFault>
         requires { IsTrue L.is_known → IsFresh (L.seen log) }
-        ensures opens { IfOk result (λ store. Opens L.is_known L.seen log store) }
+        ensures opens { IfOk result (λ store. Opens L.is_known (L.seen log) store) }
         ensures stale { IfOk result (λ store. store.is_stale ≡ is_stale) }
     {
         let Ok(mut hall) = Hall::new(alloc) else {
@@ -196,11 +196,11 @@ impl<L: SharedLog> SharedStore<L> {
 
     /// Makes one call of a device, by a store that isn't broken.
     fn make(&mut self, by: &DeviceName, call: Call) -> Result<Answer, ReadFault>
-        ensures ok { IfOk result (λ answer. MakesBy L.is_known self.old.is_stale self.old.turn self.new.turn self.old.entries (L.seen self.old.log) by.now call answer self.new.entries (L.seen self.new.log)) }
-        ensures err { OnErr result (StaysOn L.is_known self.old.entries (L.seen self.old.log) self.new.entries (L.seen self.new.log) ⊎ TriesBy L.is_known self.old.turn self.new.turn self.old.entries (L.seen self.old.log) by.now call self.new.entries (L.seen self.new.log)) }
+        ensures ok { IfOk result (λ answer. MakesBy L.is_known self.old.is_stale self.old.turn self.new.turn self.old.entries self.old.seen by.now call answer self.new.entries self.new.seen) }
+        ensures err { OnErr result (StaysOn L.is_known self.old.entries self.old.seen self.new.entries self.new.seen ⊎ TriesBy L.is_known self.old.turn self.new.turn self.old.entries self.old.seen by.now call self.new.entries self.new.seen) }
         ensures turn { self.old.turn ≤ self.new.turn }
         ensures broken { self.new.broken ≡ self.old.broken }
-        ensures why { IfErr result (λ fault. IsTrue L.is_known → Why fault self.old.turn self.old.entries (L.silences self.old.log) self.new.entries (L.seen self.new.log).records (L.silences self.new.log)) }
+        ensures why { IfErr result (λ fault. IsTrue L.is_known → Why fault self.old.turn self.old.entries self.old.silences self.new.entries self.new.seen.records self.new.silences) }
         ensures stale { self.new.is_stale ≡ self.old.is_stale }
     {
         let SharedStore {
@@ -218,9 +218,9 @@ impl<L: SharedLog> SharedStore<L> {
 impl<L: SharedLog> Session for SharedStore<L> {
     ghost use Rattle.pana_shared_store.specs.Store.{Fails, HasCause, Makes};
 
-    ghost step = { λ old by call answer new. Makes L.is_known L.seen old by call answer new };
+    ghost step = { Makes L.is_known };
 
-    ghost fails = { λ old by call new. Fails L.is_known L.seen old by call new × HasCause L.is_known L.seen L.silences old new };
+    ghost fails = { λ old by call new. Fails L.is_known old by call new × HasCause L.is_known old new };
 
     /// Makes one call of a device, behind all that the log had when it began, but a question to a stale store. What it makes is in the
     /// log when it is answered.

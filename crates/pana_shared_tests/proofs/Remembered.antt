@@ -1,10 +1,9 @@
 -- What happens to a log in memory.
-use Rattle.std.proofs.Common.{◌≡◌, ◌≢◌, ◌⊎◌, inl, inr, ◌<◌, ◌≤◌, ℕ, ◌+◌, ◌==◌, Bool, true, false, List, [], ◌∷◌, ◌++◌, length, filter, map, take, drop, refl, sym, ap, subst, ◌∙◌, append_assoc, append-nil, length-append, min, Option, Some, None, unwrap_or}
+use Rattle.std.proofs.Common.{◌≡◌, ◌≢◌, ◌⊎◌, inl, inr, ◌<◌, ◌≤◌, ℕ, ◌+◌, ◌==◌, Bool, true, false, List, [], ◌∷◌, ◌++◌, length, filter, map, take, drop, refl, sym, ap, subst, ◌∙◌, append_assoc, append-nil, length-append, min, Option, Some}
 use native.Mathlib.Omega.{arith}
 use Rattle.std.proofs.Math.Dec.{leb}
 use Rattle.std.proofs.Math.Seq.{drop-length, take-nil}
 use Rattle.std.specs.Global.{Vec}
-use Rattle.std.specs.Option.{option_to_list}
 use Rattle.std.specs.List.{AllByRecursion, insert}
 use Rattle.std.specs.Prelude.{if◌then◌else◌}
 use Rattle.std.proofs.lemmas.Bool.Decides.{leb_tells}
@@ -12,13 +11,11 @@ use Rattle.std.proofs.lemmas.List.{take-append-drop, length-take-le}
 use Rattle.pana_shared.specs.declared.record.Record.{Record}
 use Rattle.pana_shared.specs.declared.shared_log.Appended.{Appended}
 use Rattle.pana_shared.specs.declared.shared_log.Appended.TheVariants.{Put, Taken, Full, Unknown}
-use Rattle.pana_shared.specs.Log.{Appends, Asks, Grows, HasSome, IsAt, IsHeard, IsOneOf, Lands, LogView, MayAppend, Reads, asked, loose_at, ours}
+use Rattle.pana_shared.specs.Log.{Appends, Asks, Grows, IsAt, IsOneOf, Lands, LogView, MayAppend, Reads, asked, loose_at, ours}
 use Rattle.pana_shared.proofs.Grown.{at_within, ours_both}
 use Rattle.pana_shared_store.specs.Store.{IsFresh}
 use Rattle.pana_shared_tests.specs.declared.memory.Fate.{Fate}
-use Rattle.pana_shared_tests.specs.declared.memory.Fate.TheVariants as kinds
-use Rattle.pana_shared_tests.specs.declared.memory.Fate.TheVariants.{Answered, PutUnanswered, PutTwice, NotPut}
-use Rattle.pana_shared_tests.specs.Memory.{ComeOf, ComesTo, IsFate, IsFound, LandsOf, is_silent, put_at}
+use Rattle.pana_shared_tests.specs.Memory.{ComeOf, ComesTo, IsFound, LandsOf, put_at}
 
 abbrev view : List Record → ℕ → ℕ → List (List Record) → LogView
 view records w at loose = record { records = records; writer = w; at = at; loose = loose }

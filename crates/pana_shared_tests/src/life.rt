@@ -16,14 +16,14 @@ fn call_one<L: SharedLog>(
     by: DeviceName,
     call: Call,
 ) -> Result<Answer, NoAnswer>
-    ensures { Made L.is_known L.seen store.old by call store.new }
+    ensures { Made L.is_known store.old by call store.new }
 {
     store.call(&by, call)
 }
 
 /// Makes calls of devices, and goes on where one has no answer. Returns how many had one.
 pub fn call_all<L: SharedLog>(store: &mut SharedStore<L>, calls: Vec<(DeviceName, Call)>) -> u64
-    ensures { (steps : List (Step L)) × Lives L.is_known L.seen store.old steps store.new × (asked_in steps ≡ calls.items) }
+    ensures { (steps : List Step) × Lives L.is_known store.old steps store.new × (asked_in steps ≡ calls.items) }
 {
     let mut answers: u64 = 0;
     for (by, call) in calls {
@@ -46,7 +46,7 @@ pub fn live<L: SharedLog + Drop>(
     calls: Vec<(DeviceName, Call)>,
 ) -> Result<SharedStore<L>, ReadFault>
     requires { IsTrue L.is_known → IsFresh (L.seen log) }
-    ensures { IfOk result (λ store. IsTrue L.is_known → (life : Life L) × IsLife L.is_known L.seen (L.seen log).writer (L.seen store.log).records life × (asked_in life.steps ≡ calls.items) × (life.last ≡ store) × (life.opened.is_stale ≡ is_stale)) }
+    ensures { IfOk result (λ store. IsTrue L.is_known → (life : Life) × IsLife L.is_known (L.seen log).writer store.seen.records life × (asked_in life.steps ≡ calls.items) × (life.last ≡ store) × (life.opened.is_stale ≡ is_stale)) }
 {
     let mut store = SharedStore::open(alloc, log, is_stale)?;
     call_all(&mut store, calls);

@@ -4,17 +4,17 @@ use Rattle.pana_shared_tests.proofs.Lived.{lives_more, rest_next, waits_none}
 use Rattle.pana_shared_tests.proofs.life.call_all.Goals as goal
 
 pub loop-by-init : goal.loop-by-init
-loop-by-init g c = record { lives = ([], waits_none g.L.SharedLog.is_known g.L.SharedLog.seen c.args.store.now, refl); rest = sym c.into_iter-by-iterator.ensures.into_iter_gives.0 }
+loop-by-init g c = record { lives = ([], waits_none g.L.SharedLog.is_known c.args.store.now, refl); rest = sym c.into_iter-by-iterator.ensures.into_iter_gives.0 }
 
 pub loop-by-preserved-then-is_ok : goal.loop-by-preserved-then-is_ok
 loop-by-preserved-then-is_ok g c = record {
-  lives = lives_more g.L.SharedLog.is_known g.L.SharedLog.seen _ _ _ _ _ _ c.loop-by.invariant.lives c.call_one.ensures;
+  lives = lives_more g.L.SharedLog.is_known _ _ _ _ _ _ c.loop-by.invariant.lives c.call_one.ensures;
   rest = rest_next c.args.calls.items c.loop-by.yielded c.loop-by.by-iterator.rest.items c.next.new.self.rest.items (c.in-Some.by, c.in-Some.call) c.loop-by.invariant.rest c.in-Some.ensures.steps.0;
 }
 
 pub loop-by-preserved : goal.loop-by-preserved
 loop-by-preserved g c = record {
-  lives = lives_more g.L.SharedLog.is_known g.L.SharedLog.seen _ _ _ _ _ _ c.loop-by.invariant.lives c.call_one.ensures;
+  lives = lives_more g.L.SharedLog.is_known _ _ _ _ _ _ c.loop-by.invariant.lives c.call_one.ensures;
   rest = rest_next c.args.calls.items c.loop-by.yielded c.loop-by.by-iterator.rest.items c.next.new.self.rest.items (c.in-Some.by, c.in-Some.call) c.loop-by.invariant.rest c.in-Some.ensures.steps.0;
 }
 

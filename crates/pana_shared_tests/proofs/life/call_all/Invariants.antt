@@ -5,6 +5,6 @@ use Rattle.pana_shared_tests.proofs.life.call_all.Given as goal
 
 abbrev pub invariant-loop-by : goal.invariant-loop-by
 invariant-loop-by g l = record {
-  lives : (steps : List (Step g.row.L.Denot)) × Lives g.L.SharedLog.is_known g.L.SharedLog.seen l.fn.store steps l.store × (asked_in steps ≡ l.yielded);
+  lives : (steps : List Step) × Lives g.L.SharedLog.is_known l.fn.store steps l.store × (asked_in steps ≡ l.yielded);
   rest : l.fn.calls.items ≡ l.yielded ++ l.by-iterator.rest.items;
 }
