@@ -7,6 +7,8 @@ use crate::look::Look;
 use crate::own_file::{bytes_of, may_replace, replace};
 use crate::patterns::{OwnFile, RootPatterns, patterns_with, report_own};
 use pana_daemon::Root;
+use pana_scan::Listing;
+use pana_track::ReadFolder;
 use std::alloc::AllocError;
 use std::time::Clock;
 
@@ -89,20 +91,25 @@ impl<'a> TrackRun<'a> {
         look.end()
     }
 
-    /// How the folders look.
-    fn folders_look(&self) -> Option<[u8; 32]> {
+    /// How the folders look. Where they were scanned, just the files that were found have to be there.
+    fn folders_look(&self, scanned: &[&Listing]) -> Option<[u8; 32]> {
         let own = own_files(self.rt, self.wishes).ok()?;
         let patterns = patterns_with(self.rt, self.roots, own.as_slice(), self.wishes.ignored);
         drop(own);
-        self.look_without(patterns.ok()?.as_slice())
+        self.look_without(patterns.ok()?.as_slice(), scanned)
     }
 
     /// How the folders look without what these patterns ignore.
-    fn look_without(&self, all: &[RootPatterns]) -> Option<[u8; 32]> {
+    fn look_without(&self, all: &[RootPatterns], scanned: &[&Listing]) -> Option<[u8; 32]> {
         let mut look = Look::new(self.rt, self.begun);
-        for patterns in all {
+        for (at, patterns) in all.iter().enumerate() {
+            let found = match scanned.get(at) {
+                Some(listing) => Some(listing.rows()),
+                None => None,
+            };
             let slices = patterns.slices(self.rt).ok()?;
-            look.take_root(patterns.folder(), slices.as_slice(), self.wishes.stays)?;
+            let stays = self.wishes.stays;
+            look.take_root(patterns.folder(), slices.as_slice(), stays, found)?;
         }
         Some(look.end())
     }
@@ -111,7 +118,7 @@ impl<'a> TrackRun<'a> {
     fn found(&self) -> Option<Printed> {
         let bytes = bytes_of(self.rt, self.name()?.as_str(), MOST_BYTES).ok()?;
         let kept = kept_in(bytes.as_slice())?;
-        if kept.asked != self.asked_look() || kept.folders != self.folders_look()? {
+        if kept.asked != self.asked_look() || kept.folders != self.folders_look(&[])? {
             return None;
         }
         Some(Printed {
@@ -134,15 +141,27 @@ impl<'a> TrackRun<'a> {
         Ok(found)
     }
 
-    /// The file that says what was printed; none where the journal isn't as it was, or the folders may still change and look the
-    /// same.
-    fn file_of(&self, text: &str, status: u8) -> Option<Vec<u8>> {
+    /// The listings of all folders, if each was read.
+    fn listings<'b>(&self, folders: &'b [ReadFolder]) -> Option<Vec<&'b Listing>> {
+        let mut listings = Vec::new(self.rt.alloc());
+        for folder in folders {
+            match &folder.given {
+                Ok(found) => listings.push(&found.listing).ok()?,
+                Err(_) => return None,
+            }
+        }
+        Some(listings)
+    }
+
+    /// The file that says what was printed; none where the journal isn't as it was, or the folders aren't as they were read, or may
+    /// still change and look the same.
+    fn file_of(&self, folders: &[ReadFolder], text: &str, status: u8) -> Option<Vec<u8>> {
         if self.look != journal_look(self.rt, self.journal, self.begun)? {
             return None;
         }
         let kept = Kept {
             asked: self.asked_look(),
-            folders: self.folders_look()?,
+            folders: self.folders_look(self.listings(folders)?.as_slice())?,
             status,
             text,
         };
@@ -150,15 +169,15 @@ impl<'a> TrackRun<'a> {
     }
 
     /// Keeps what this run has printed, where it may be printed again while all is as it is: the run had nothing to report, since the
-    /// journal is as it was, and all files have been as they are for some seconds.
-    pub fn keep(&self, text: &str, status: u8) {
+    /// journal is as it was, the files are those that it has read, and all have been as they are since some seconds before.
+    pub fn keep(&self, folders: &[ReadFolder], text: &str, status: u8) {
         let Some(name) = self.name() else {
             return;
         };
         if !may_replace(self.rt, name.as_str(), HEAD) {
             return;
         }
-        if let Some(bytes) = self.file_of(text, status) {
+        if let Some(bytes) = self.file_of(folders, text, status) {
             let _ = replace(self.rt, name.as_str(), bytes.as_slice());
         }
     }

@@ -2,6 +2,7 @@
 
 use crate::own_file::bytes_of;
 use pana_ignore::Patterns;
+use pana_scan::FoundRow;
 use sha2::{Digest, Sha256};
 use std::fs::{self, DirEntry, File, Metadata, ReadDir};
 use std::io::{ErrorKind, Read, Seek, SeekFrom};
@@ -28,6 +29,8 @@ struct Tree<'a> {
     patterns: &'a Patterns,
     /// The file system on which folders are entered, where it is one alone.
     file_system: Option<u64>,
+    /// The files that a scan has found, where there was one: then just these have to be there.
+    found: Option<&'a [FoundRow]>,
 }
 
 impl Tree<'_> {
@@ -36,6 +39,24 @@ impl Tree<'_> {
         match self.file_system {
             Some(own) => own != found.dev(),
             None => false,
+        }
+    }
+
+    /// Whether the scan, where there was one, has found a file with this path below the root.
+    fn has_found(&self, path: &str) -> bool {
+        match self.found {
+            Some(rows) => rows
+                .binary_search_by(|row| row.path.as_str().cmp(path))
+                .is_ok(),
+            None => true,
+        }
+    }
+
+    /// Whether the scan, where there was one, has found so many files.
+    fn has_found_all(&self, count: usize) -> bool {
+        match self.found {
+            Some(rows) => rows.len() == count,
+            None => true,
         }
     }
 }
@@ -67,6 +88,8 @@ pub(crate) struct Look<'a> {
     taken: Sha256,
     /// What has changed since this second of the system's clock isn't settled.
     settled: i64,
+    /// How many files were taken up below the root.
+    files: usize,
 }
 
 impl<'a> Look<'a> {
@@ -76,6 +99,7 @@ impl<'a> Look<'a> {
             rt,
             taken: Sha256::new(),
             settled: begun.saturating_sub(SETTLED_SECONDS),
+            files: 0,
         }
     }
 
@@ -94,11 +118,18 @@ impl<'a> Look<'a> {
         self.taken.update(bytes);
     }
 
-    /// Takes up what the system says of a regular file.
-    fn take_file(&mut self, found: &Metadata) -> Option<()> {
-        if !found.is_file() || found.mtime() > self.settled || found.ctime() > self.settled {
+    /// Nothing, where a file or a folder has been as it is for long enough.
+    fn settle(&self, found: &Metadata) -> Option<()> {
+        if found.mtime() > self.settled || found.ctime() > self.settled {
             return None;
         }
+        Some(())
+    }
+
+    /// Takes up what the system says of a regular file.
+    fn take_file(&mut self, found: &Metadata) -> Option<()> {
+        self.settle(found)?;
+        self.files = self.files.saturating_add(1);
         self.take_bytes(&found.dev().to_be_bytes());
         self.take_bytes(&found.ino().to_be_bytes());
         self.take_bytes(&found.size().to_be_bytes());
@@ -128,9 +159,16 @@ impl<'a> Look<'a> {
     }
 
     /// Takes up how a root looks, with all below it that its own patterns and these don't ignore, on its own file system alone where
-    /// that is wanted.
-    pub(crate) fn take_root(&mut self, root: &str, more: &[&str], stays: bool) -> Option<()> {
+    /// that is wanted. Where a scan has found files there, just these have to be there.
+    pub(crate) fn take_root(
+        &mut self,
+        root: &str,
+        more: &[&str],
+        stays: bool,
+        listed: Option<&[FoundRow]>,
+    ) -> Option<()> {
         let found = fs::metadata(self.rt, root).ok()?;
+        self.settle(&found)?;
         self.take_bytes(&found.dev().to_be_bytes());
         self.take_bytes(&found.ino().to_be_bytes());
         let patterns = patterns_of(self.rt, root, more)?;
@@ -138,6 +176,7 @@ impl<'a> Look<'a> {
             root,
             patterns: &patterns,
             file_system: if stays { Some(found.dev()) } else { None },
+            found: listed,
         })
     }
 
@@ -145,9 +184,14 @@ impl<'a> Look<'a> {
         let alloc = self.rt.alloc();
         let mut folders = Vec::new(alloc);
         folders.push(String::new(alloc)).ok()?;
+        self.files = 0;
         for _ in 0..MOST_FOLDERS {
             let Some(folder) = folders.pop() else {
-                return Some(());
+                return if tree.has_found_all(self.files) {
+                    Some(())
+                } else {
+                    None
+                };
             };
             self.take_folder(tree, folder.as_str(), &mut folders)?;
         }
@@ -204,10 +248,14 @@ impl<'a> Look<'a> {
         }
         self.take_text(name);
         if found.is_file() {
+            if !tree.has_found(path.as_str()) {
+                return None;
+            }
             self.take_bytes(b"f");
             return self.take_file(&found);
         }
         if found.is_dir() && !tree.is_elsewhere(&found) {
+            self.settle(&found)?;
             self.take_bytes(b"d");
             return folders.push(path).ok();
         }

@@ -11,6 +11,7 @@ use pana_daemon::Root;
 use pana_files::{Printed, ReadingWishes, TrackRun, connect, may_keep_sums, read_folders};
 use pana_store_file::{NoStore, open_shared, open_store};
 use pana_streams::{ProgramFault, Tables, complain};
+use pana_track::ReadFolder;
 use std::alloc::AllocError;
 use std::marker::Sync;
 use std::process::ExitCode;
@@ -39,10 +40,10 @@ pub fn report(rt: &HostRuntime, text: &str) -> Result<ExitCode, ProgramFault> {
 }
 
 /// Keeps what was printed, where nothing was wrong and the same would be printed again.
-fn keep(run: Option<TrackRun<'_>>, printout: &Printout) {
+fn keep(run: Option<TrackRun<'_>>, folders: &[ReadFolder], printout: &Printout) {
     if let Some(run) = run {
         if printout.err.is_empty() && printout.status != FAULT {
-            run.keep(printout.out.as_str(), printout.status);
+            run.keep(folders, printout.out.as_str(), printout.status);
         }
     }
 }
@@ -68,7 +69,7 @@ fn track_by<T: Threads + Sync, S: Session>(
     ) {
         Ok(printout) => {
             let status = print_out_tables(rt, Tables::Status, &printout);
-            keep(run, &printout);
+            keep(run, folders.as_slice(), &printout);
             status
         }
         Err(Untracked::NoAnswer) => report(rt, wishes.keeper.no_answer()),
