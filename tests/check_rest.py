@@ -162,14 +162,9 @@ def printed_again(program, at):
     room.last.unlink()
     yield from differs(room.track(), said)
     yield from differs(room.last.read_bytes(), kept)
-    (room.laptop / "sub" / "gone").write_text("")
-    (room.laptop / "sub" / "gone").unlink()
-    room.last.unlink()
-    yield from differs(room.track(), said)
-    if room.last.exists():
-        yield "something is kept though a file may have gone since the folder was read"
     (room.laptop / "plan.txt").write_text("newer")
     yield from differs(room.track(), said)
+    room.last.unlink()
     yield from differs(room.track(), said)
     if room.last.exists():
         yield "something is kept though a file may still change and look the same"

@@ -61,23 +61,15 @@ impl Tree<'_> {
     }
 }
 
-/// What a root's patterns are: those of its file, and these behind them; none where they can't be taken.
-fn patterns_of(rt: &HostRuntime, root: &str, more: &[&str]) -> Option<Patterns> {
-    let alloc = rt.alloc();
-    let name = format!(in alloc; "{root}/{IGNORE_FILE}").ok()?;
-    let mut patterns = match fs::symlink_metadata(rt, name.as_str()) {
-        Ok(found) if found.is_file() => {
-            let text = bytes_of(rt, name.as_str(), MOST_PATTERN_BYTES).ok()?;
-            Patterns::read(alloc, text.as_slice()).ok()?
-        }
-        Ok(_) => Patterns::new(alloc),
-        Err(error) if error.kind() == ErrorKind::NotFound => Patterns::new(alloc),
-        Err(_) => return None,
-    };
-    for text in more {
-        patterns.push(text).ok()?;
+/// The text of a root's file of patterns, empty where there is none; none where it can't be read.
+fn text_of_patterns(rt: &HostRuntime, root: &str) -> Option<Vec<u8>> {
+    let name = format!(in rt.alloc(); "{root}/{IGNORE_FILE}").ok()?;
+    match fs::symlink_metadata(rt, name.as_str()) {
+        Ok(found) if found.is_file() => bytes_of(rt, name.as_str(), MOST_PATTERN_BYTES).ok(),
+        Ok(_) => Some(Vec::new(rt.alloc())),
+        Err(error) if error.kind() == ErrorKind::NotFound => Some(Vec::new(rt.alloc())),
+        Err(_) => None,
     }
-    Some(patterns)
 }
 
 /// Takes up how things look. Each call returns none where something can't be looked at, or may look the same though it changes:
@@ -118,17 +110,11 @@ impl<'a> Look<'a> {
         self.taken.update(bytes);
     }
 
-    /// Nothing, where a file or a folder has been as it is for long enough.
-    fn settle(&self, found: &Metadata) -> Option<()> {
+    /// Takes up what the system says of a regular file.
+    fn take_file(&mut self, found: &Metadata) -> Option<()> {
         if found.mtime() > self.settled || found.ctime() > self.settled {
             return None;
         }
-        Some(())
-    }
-
-    /// Takes up what the system says of a regular file.
-    fn take_file(&mut self, found: &Metadata) -> Option<()> {
-        self.settle(found)?;
         self.files = self.files.saturating_add(1);
         self.take_bytes(&found.dev().to_be_bytes());
         self.take_bytes(&found.ino().to_be_bytes());
@@ -158,6 +144,18 @@ impl<'a> Look<'a> {
         Some(())
     }
 
+    /// Takes up the text of a root's file of patterns, and returns these, with others behind them.
+    fn take_patterns(&mut self, root: &str, more: &[&str]) -> Option<Patterns> {
+        let text = text_of_patterns(self.rt, root)?;
+        self.take_bytes(&text.len().to_be_bytes());
+        self.take_bytes(text.as_slice());
+        let mut patterns = Patterns::read(self.rt.alloc(), text.as_slice()).ok()?;
+        for text in more {
+            patterns.push(text).ok()?;
+        }
+        Some(patterns)
+    }
+
     /// Takes up how a root looks, with all below it that its own patterns and these don't ignore, on its own file system alone where
     /// that is wanted. Where a scan has found files there, just these have to be there.
     pub(crate) fn take_root(
@@ -168,10 +166,9 @@ impl<'a> Look<'a> {
         listed: Option<&[FoundRow]>,
     ) -> Option<()> {
         let found = fs::metadata(self.rt, root).ok()?;
-        self.settle(&found)?;
         self.take_bytes(&found.dev().to_be_bytes());
         self.take_bytes(&found.ino().to_be_bytes());
-        let patterns = patterns_of(self.rt, root, more)?;
+        let patterns = self.take_patterns(root, more)?;
         self.take_tree(&Tree {
             root,
             patterns: &patterns,
@@ -255,7 +252,6 @@ impl<'a> Look<'a> {
             return self.take_file(&found);
         }
         if found.is_dir() && !tree.is_elsewhere(&found) {
-            self.settle(&found)?;
             self.take_bytes(b"d");
             return folders.push(path).ok();
         }
