@@ -37,7 +37,9 @@ class Room:
         self.usb.mkdir()
 
     def track(self, *options, roots=(), within=()):
-        """The status of a run, started by other words where they are given, what it prints, and what it reports on standard error."""
+        """The status of a run, started by other words where they are given, what it prints, and what it reports on standard error.
+        It looks at everything: what an earlier run has printed is tried by check_rest.py."""
+        Path(f"{self.journal}.last").unlink(missing_ok=True)
         roots = roots or (f"laptop={self.laptop}", f"usb={self.usb}")
         words = [*within, self.program, "track", "--journal", str(self.journal), *options, *roots]
         done = subprocess.run(words, stdin=subprocess.DEVNULL, capture_output=True, timeout=SECONDS)
