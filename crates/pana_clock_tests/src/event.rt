@@ -34,7 +34,7 @@ fn joins(rt: HostRuntime) -> Result<(), Fail> {
     let two = leaf(2);
     let left = left(alloc)?;
     let right = right(alloc)?;
-    let three = three(alloc)?.copy_of(alloc)?;
+    let three = three(alloc)?.share()?;
     for (first, second, want) in [
         (&left, &right, "1"),
         (&right, &left, "1"),
@@ -50,7 +50,7 @@ fn joins(rt: HostRuntime) -> Result<(), Fail> {
     Ok(())
 }
 
-// A copy and a drop of the deepest tree use little enough stack.
+// The drop of the deepest tree uses little enough stack.
 #[test]
 fn deepest(rt: HostRuntime) -> Result<(), Fail> {
     let alloc = rt.alloc();
@@ -58,7 +58,7 @@ fn deepest(rt: HostRuntime) -> Result<(), Fail> {
     for _ in 0..256 {
         node = Node::fork_of(alloc, 0, node, Node::Leaf(0))?;
     }
-    let copy = node.copy_of(alloc)?;
+    let copy = node.share()?;
     assert_eq!(rt;
         event_text(alloc, &copy)?.len(),
         event_text(alloc, &node)?.len()

@@ -1,5 +1,6 @@
 -- Words that only inner functions and proofs need: nobody has to believe them.
 pub mod Counts
+pub mod DeviceBytes
 pub mod Indexes
 pub mod Sides
 pub mod SumBytes

@@ -23,12 +23,13 @@ const _: () = prove!(size_of::<DeviceName>() == 32);
 impl Model for DeviceName {
     ghost use Rattle.std.specs.Prelude.{◌≡◌, List, ℕ, true};
     ghost use Rattle.pana_copies.specs.Names.{is_device, before_zeros};
+    ghost use Rattle.pana_copies.specs.inner.DeviceBytes.{AreDeviceBytes};
 
     ghost Value = { List ℕ };
 
     ghost view = { λ name. before_zeros name.bytes };
 
-    ghost invariant = { λ name. is_device (before_zeros name.bytes) ≡ true };
+    ghost invariant = { λ name. AreDeviceBytes name.bytes };
 }
 
 fn is_device_byte(byte: u8) -> bool
@@ -111,7 +112,7 @@ impl PartialEq for DeviceName {
     ghost laws = { Prim.search (comparing, rules) };
 
     fn eq(&self, other: &DeviceName) -> bool {
-        self.as_bytes() == other.as_bytes()
+        self.bytes == other.bytes
     }
 }
 
@@ -132,7 +133,8 @@ impl Hash for DeviceName {
     ghost respects_eq = { Prim.search (hashing, rules) };
 
     fn hash<H: Hasher>(&self, state: &mut H) {
-        self.as_str().hash(state)
+        state.write(self.as_bytes());
+        state.write_u8(0xFF)
     }
 }
 

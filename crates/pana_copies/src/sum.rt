@@ -1,12 +1,13 @@
-ghost use Rattle.std.specs.Prelude.{◌≡◌, ◌⊎◌, ◌↔◌, true, false, IfOk, IfErr, IsErrOf, string_bytes};
+ghost use Rattle.std.specs.Prelude.{◌≡◌, ◌⊎◌, ◌↔◌, true, false, IfOk, IfErr, IfSome, IfNone, IsErrOf, IsTrue, string_bytes};
 ghost use Rattle.std.specs.List.{list_all};
 ghost use Rattle.std.specs.Ordering.{nat_cmp};
 ghost use Rattle.std.specs.Cmp.Lexicographic.{slice_cmp};
 ghost use Rattle.hex.specs.Hex.{encode_lower};
 ghost use Rattle.pana_copies.specs.Sums.{is_sum, is_sum_digit};
+ghost use Rattle.pana_copies.specs.inner.SumBytes.{AreSumBytes};
 
 use crate::name_fault::NameFault;
-use hex::{decode_to_slice, encode};
+use hex::{decode_to_slice, encode, encode_to_slice};
 use std::alloc::{AllocError, Global};
 use std::cmp::Ordering;
 use std::marker::Model;
@@ -55,6 +56,59 @@ fn is_sum(text: &str) -> bool
     text.len() == DIGITS && are_sum_digits(text.as_bytes())
 }
 
+/// The value of a digit of a sum, from 0 to 15. Of another byte it is of no use.
+fn value_of(digit: u8) -> u8 {
+    (digit & 15).wrapping_add((digit >> 6).wrapping_mul(9))
+}
+
+/// Whether the bytes, as digits, are the text.
+fn spell(bytes: &[u8; BYTES], text: &[u8; DIGITS]) -> bool
+    ensures text { IsTrue result → encode_lower bytes.now ≡ text.now }
+    ensures bytes { AreSumBytes bytes.now }
+{
+    let mut digits = [0; DIGITS];
+    encode_to_slice(bytes, &mut digits).is_ok() && digits == *text
+}
+
+/// The bytes that a text spells, if they spell it in their turn: of each sum they do.
+fn spelled(text: &[u8; DIGITS]) -> Option<[u8; BYTES]>
+    ensures text { IfSome result (λ bytes. encode_lower bytes ≡ text.now) }
+    ensures bytes { IfSome result AreSumBytes }
+{
+    let mut bytes = [0; BYTES];
+    let (pairs, _) = text.as_chunks::<2>();
+    for (byte, [high, low]) in bytes.iter_mut().zip(pairs) {
+        *byte = value_of(*high)
+            .wrapping_mul(16)
+            .wrapping_add(value_of(*low));
+    }
+    if spell(&bytes, text) {
+        Some(bytes)
+    } else {
+        None
+    }
+}
+
+/// The bytes of a sum, if the text is one.
+fn bytes_of(text: &str) -> Option<[u8; BYTES]>
+    ensures text { IfSome result (λ bytes. encode_lower bytes ≡ text.now) }
+    ensures bytes { IfSome result AreSumBytes }
+    ensures none { IfNone result (is_sum text.now ≡ false) }
+{
+    let Some(digits) = text.as_bytes().as_array() else {
+        return None;
+    };
+    if let Some(bytes) = spelled(digits) {
+        return Some(bytes);
+    }
+    if !is_sum(text) {
+        return None;
+    }
+    let mut bytes = [0; BYTES];
+    decode_to_slice(text, &mut bytes).unwrap();
+    Some(bytes)
+}
+
 impl Sum {
     /// Takes a text as a sum.
     ///
@@ -66,11 +120,9 @@ impl Sum {
         ensures bad { IsErrOf result NameFault.BadSum ↔ (is_sum text.now ≡ false) }
         ensures others { IfErr result (λ fault. (fault ≡ NameFault.BadSum) ⊎ (fault ≡ NameFault.OutOfMemory)) }
     {
-        if !is_sum(text) {
+        let Some(bytes) = bytes_of(text) else {
             return Err(NameFault::BadSum);
-        }
-        let mut bytes = [0; BYTES];
-        decode_to_slice(text, &mut bytes).unwrap();
+        };
         match Box::new(alloc, bytes) {
             Ok(bytes) => Ok(Sum { bytes }),
             Err(_) => Err(NameFault::OutOfMemory),

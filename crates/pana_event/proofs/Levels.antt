@@ -15,6 +15,8 @@ pub number-le-greatest : (e : Event) → number e ≤ greatest e
 number-le-greatest (leaf n) = omega arith
 number-le-greatest (fork n l r) = omega arith
 
+pub ruleset own_numbers = (number-le-greatest)
+
 pub least-le-greatest : (e : Event) → least e ≤ greatest e
 least-le-greatest (leaf n) = omega arith
 least-le-greatest (fork n l r) = omega (arith, least-le-greatest l, least-le-greatest r)

@@ -4,3 +4,4 @@ pub mod Norms
 pub mod Orders
 pub mod Points
 pub mod Sound
+pub mod Shares

@@ -8,6 +8,7 @@
 //! Only tested: that a call which takes memory succeeds where there is enough.
 #![tactic(auto)]
 
+mod joining;
 pub mod laws;
 mod node;
 mod rel;

@@ -1,11 +1,11 @@
 //! The nodes of event trees, for those who walk or build one: normal or not, with no limits of their own.
 ghost use Rattle.std.specs.Prelude.{◌≡◌, ◌+◌, ◌^◌, ◌<◌, ◌≤◌, max, IfOk};
 ghost use Rattle.pana_event.specs.Event.{IsNormal, are_same_leaf, depth, fork, greatest, least, level, lift, norm, number, sink};
-ghost use Rattle.pana_event.specs.Join.{join_of, raised};
 ghost use Rattle.pana_event.specs.Order.{is_below};
 ghost use Rattle.pana_event.specs.Shape.{tree};
 
 use std::alloc::{AllocError, Global};
+use std::sync::Arc;
 
 /// An event tree: levels of points, each a list of choices between left and right.
 #[cycle(node)]
@@ -13,8 +13,8 @@ use std::alloc::{AllocError, Global};
 pub enum Node {
     /// The same level at every point.
     Leaf(u64),
-    /// The levels of the two halves, each lifted by the number.
-    Fork(u64, Box<Halves>),
+    /// The levels of the two halves, each lifted by the number. Events may have the halves in common.
+    Fork(u64, Arc<Halves, Global>),
 }
 
 /// The left and the right half of a fork.
@@ -75,21 +75,17 @@ impl Node {
         }
     }
 
-    /// A copy, node for node.
+    /// The same event once more, in the same memory. Takes no memory; O(1).
     ///
     /// # Errors
     ///
-    /// `AllocError` where an allocation failed. Allocates once a fork; visits each node once.
-    pub fn copy_of(&self, alloc: Global) -> Result<Node, AllocError>
+    /// `AllocError` where its halves have too many owners.
+    pub fn share(&self) -> Result<Node, AllocError>
         ensures { IfOk result (λ node. tree node ≡ tree self.now) }
     {
         match self {
             Node::Leaf(number) => Ok(Node::Leaf(*number)),
-            Node::Fork(number, halves) => {
-                let left = halves.left.copy_of(alloc)?;
-                let right = halves.right.copy_of(alloc)?;
-                Node::fork_of(alloc, *number, left, right)
-            }
+            Node::Fork(number, halves) => Ok(Node::Fork(*number, Arc::try_clone(halves)?)),
         }
     }
 
@@ -101,7 +97,7 @@ impl Node {
     pub fn fork_of(alloc: Global, number: u64, left: Node, right: Node) -> Result<Node, AllocError>
         ensures { IfOk result (λ node. tree node ≡ fork number (tree left) (tree right)) }
     {
-        let halves = Box::new(alloc, Halves { left, right })?;
+        let halves = Arc::new(alloc, Halves { left, right })?;
         Ok(Node::Fork(number, halves))
     }
 
@@ -155,61 +151,18 @@ impl Node {
         }
     }
 
-    /// The join with another event: the greater level at every point. Both are lifted, by `base` and
-    /// `other_base`. In normal form where both are.
+    /// The event with every level higher by so much, with its halves in common. Takes no memory; O(1).
     ///
     /// # Errors
     ///
-    /// `AllocError` where an allocation failed. Allocates at most once a fork of either; visits each node once.
-    #[tactic(auto, using(crate::proofs::Joins::greatest_joins))]
-    pub fn join(
-        &self,
-        alloc: Global,
-        base: u64,
-        other: &Node,
-        other_base: u64,
-    ) -> Result<Node, AllocError>
-        requires first { base + greatest (tree self.now) < 2 ^ 64 }
-        requires second { other_base + greatest (tree other.now) < 2 ^ 64 }
-        ensures { IfOk result (λ node. tree node ≡ join_of base (tree self.now) other_base (tree other.now)) }
+    /// `AllocError` where its halves have too many owners.
+    pub(crate) fn lifted(&self, by: u64) -> Result<Node, AllocError>
+        requires { number (tree self.now) + by < 2 ^ 64 }
+        ensures { IfOk result (λ node. tree node ≡ lift (tree self.now) by) }
     {
-        match (self, other) {
-            (Node::Leaf(m), _) => other.raised(alloc, base + *m, other_base),
-            (Node::Fork(_, _), Node::Leaf(n)) => self.raised(alloc, other_base + *n, base),
-            (Node::Fork(m, halves), Node::Fork(n, others)) => {
-                let lifted = base + *m;
-                let other_lifted = other_base + *n;
-                let common = lifted.min(other_lifted);
-                let above = lifted - common;
-                let other_above = other_lifted - common;
-                let left = halves.left.join(alloc, above, &others.left, other_above)?;
-                let right = halves.right.join(alloc, above, &others.right, other_above)?;
-                Node::norm_of(alloc, common, left, right)
-            }
-        }
-    }
-
-    /// The join with a leaf of level `level`, of this event lifted by `base`.
-    ///
-    /// # Errors
-    ///
-    /// `AllocError` where an allocation failed. Allocates at most once a fork; visits each node once.
-    #[tactic(auto, using(crate::proofs::Joins::greatest_joins))]
-    fn raised(&self, alloc: Global, level: u64, base: u64) -> Result<Node, AllocError>
-        requires { base + greatest (tree self.now) < 2 ^ 64 }
-        ensures { IfOk result (λ node. tree node ≡ raised level base (tree self.now)) }
-    {
-        match self {
-            Node::Leaf(number) => Ok(Node::Leaf(level.max(base + *number))),
-            Node::Fork(number, halves) => {
-                let lifted = base + *number;
-                let least = level.min(lifted);
-                let above = lifted - least;
-                let left = halves.left.raised(alloc, level - least, above)?;
-                let right = halves.right.raised(alloc, level - least, above)?;
-                Node::norm_of(alloc, least, left, right)
-            }
-        }
+        let mut node = self.share()?;
+        node.lift(by);
+        Ok(node)
     }
 
     fn is_same_leaf(&self, other: &Node) -> bool

@@ -6,6 +6,7 @@ ghost use Rattle.pana_event.specs.Order.{IsBelow, is_leq};
 ghost use Rattle.pana_event.specs.Relation.{IsRelation, tested_relation};
 ghost use Rattle.pana_event.specs.Shape.{tree};
 
+use crate::joining::join;
 use crate::node::Node;
 use crate::rel::Rel;
 use std::alloc::{AllocError, Global};
@@ -115,7 +116,8 @@ impl EventTree {
     ///
     /// # Errors
     ///
-    /// `AllocError` where an allocation failed. Allocates at most once a fork of either; visits each node once.
+    /// `AllocError` where an allocation failed, or halves have too many owners. Allocates at most once a fork of either, and
+    /// only where the join is neither's; visits each node at most once.
     pub fn join(
         alloc: Global,
         first: &EventTree,
@@ -126,19 +128,19 @@ impl EventTree {
         ensures levels { IfOk result (IsJoin first.now second.now) }
         ensures greatest { IfOk result (λ join. greatest join ≡ max (greatest first.now) (greatest second.now)) }
     {
-        let join = first.node.join(alloc, 0, &second.node, 0)?;
-        Ok(EventTree { node: join })
+        let node = join(alloc, &first.node, &second.node)?;
+        Ok(EventTree { node })
     }
 
-    /// A copy.
+    /// The same event once more, in the same memory. Takes no memory; O(1).
     ///
     /// # Errors
     ///
-    /// `AllocError` where an allocation failed. Allocates once a fork; visits each node once.
-    pub fn copy_of(&self, alloc: Global) -> Result<EventTree, AllocError>
-        ensures { IfOk result (λ copy. copy ≡ self.now) }
+    /// `AllocError` where its halves have too many owners.
+    pub fn share(&self) -> Result<EventTree, AllocError>
+        ensures { IfOk result (λ event. event ≡ self.now) }
     {
-        let copy = self.node.copy_of(alloc)?;
-        Ok(EventTree { node: copy })
+        let node = self.node.share()?;
+        Ok(EventTree { node })
     }
 }

@@ -6,6 +6,7 @@ use denote.Hole.{as_row}
 use denote.Builtin.{u64}
 use Rattle.std.specs.contracts.option.Option as options_row
 use Rattle.std.proofs.boxed.Box.TheSendSync as boxes
+use Rattle.std.proofs.sync.Arc.TheSendSync as arcs
 use Rattle.std.proofs.vec.Vec.TheSendSync as vecs
 use Rattle.std.proofs.option.Option.TheSendSync as options
 use Rattle.std.proofs.alloc.Global.TheSendSync as global
@@ -34,7 +35,8 @@ id_send : IsSend id_tree.the_row
 id_send = search (sendable, id_node_send)
 
 event_node_send : IsSend (event_node.the_field).row
-event_node_send = event_knot.send-Node (search sendable) (λ h s. search (sendable, boxes.the_send, global.the_send, frees.the_frees))
+event_node_send =
+    event_knot.both_send-Node (search sendable) (search sendable) (λ h s y. search (sendable, arcs.the_send, global.the_send, global.the_sync, frees.the_frees)) (λ h s y. search (sendable, arcs.the_sync, global.the_send, global.the_sync, frees.the_frees))
 
 event_send : IsSend event_tree.the_row
 event_send = search (sendable, event_node_send)

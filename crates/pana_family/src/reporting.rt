@@ -156,7 +156,7 @@ fn bequeath_change(
     ensures { IfOk result (λ change. after change rows.now ≡ reported_rows entry (Remove copy (Some heir)) rows.now) }
 {
     let row = row_of(rows, heir);
-    let event = row.stamp.event_tree().copy_of(alloc)?;
+    let event = row.stamp.event_tree().share()?;
     let plan = Plan::Bequeath(copy, heir, event);
     match parcel_left(alloc, entry, row_of(rows, copy), row) {
         Ok(came) => settle_change(alloc, rows, entry, plan, came),

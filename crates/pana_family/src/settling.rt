@@ -105,7 +105,7 @@ pub fn restamped(row: &StampRow, stamp: Stamp, touch: u64) -> StampRow
 fn stamp_of(alloc: Global, id: IdTree, event: &EventTree) -> Result<Stamp, AllocError>
     ensures { IfOk result (λ new. new ≡ stamp id event.now) }
 {
-    match event.copy_of(alloc) {
+    match event.share() {
         Ok(event) => Ok(Stamp::new(id, event)),
         Err(fault) => {
             drop(id);

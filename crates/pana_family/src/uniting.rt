@@ -71,26 +71,22 @@ fn same_relation(first: &StampRow, second: &StampRow) -> Rel
     Rel::Equal
 }
 
-/// How the copy of a row that was united with `b` relates to another.
+/// How the copy of a row that was united with `b` relates to another, to which the one related as `first` and `b` as `second`.
 fn united_relation(
     row: &StampRow,
     other: &StampRow,
     b: u64,
-    pairs: &PairTable,
+    first: Rel,
+    second: Rel,
     updated: bool,
 ) -> Rel
-    requires first { Contains pairs.now.copies row.now.copy }
-    requires second { Contains pairs.now.copies b }
-    requires other { Contains pairs.now.copies other.now.copy }
     requires same { other.now.copy ≡ b → row.now.stamp.event ≡ other.now.stamp.event }
-    requires decided { other.now.copy ≢ b → IsDecided row.now.stamp.event other.now.stamp.event (are_below updated (rel_of pairs.now row.now.copy other.now.copy) (rel_of pairs.now b other.now.copy)) (is_one_above (rel_of pairs.now row.now.copy other.now.copy) (rel_of pairs.now b other.now.copy)) }
+    requires decided { other.now.copy ≢ b → IsDecided row.now.stamp.event other.now.stamp.event (are_below updated first second) (is_one_above first second) }
     ensures { result ≡ row_relation row.now other.now }
 {
     if other.copy == b {
         return same_relation(row, other);
     }
-    let first = pairs.rel(row.copy, other.copy);
-    let second = pairs.rel(b, other.copy);
     let below = !updated && is_at_most(first) && is_at_most(second);
     let above = is_at_least(first) || is_at_least(second);
     decided_relation(row, other, below, above)
@@ -115,10 +111,13 @@ fn write_united(
     ensures within { result ≤ length rels.new }
     ensures rels { take result rels.new ≡ relations row.now rows.now }
 {
+    let first = pairs.row(row.copy);
+    let second = pairs.row(b);
     let mut count = 0;
     for other in rows {
         if is_other(other, row.copy) {
-            rels[count] = united_relation(row, other, b, pairs, updated);
+            let at = pairs.place(other.copy);
+            rels[count] = united_relation(row, other, b, first[at], second[at], updated);
             count += 1;
         }
     }

@@ -121,9 +121,9 @@ pub fn prepare_change(
     let place = place_in(report)?;
     match it.prepare(alloc, entry, of_family) {
         Ok(change) => Ok((change, place)),
-        Err(fault) => {
+        Err(_) => {
             drop(place);
-            Err(fault)
+            Err(AllocError)
         }
     }
 }

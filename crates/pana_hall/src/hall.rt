@@ -50,9 +50,9 @@ impl Hall {
         ensures permitted { Permits self.old by.now call result }
         ensures journal { self.new ≡ journal_after self.old by.now call result }
     {
-        match self.state.plan(self.alloc, by, call) {
-            Ok(plan) => self.state.commit_all(plan),
-            Err(reply) => reply,
+        match call {
+            Call::Report(report) => self.state.report(self.alloc, by, report),
+            call => self.state.plan_and_commit(self.alloc, by, call),
         }
     }
 

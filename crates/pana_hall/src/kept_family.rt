@@ -7,7 +7,7 @@ ghost use Rattle.pana_hall.specs.inner.Undo.{IsPreparedIn, confirmed, earlier_of
 use crate::undo::{Before, Undo, has_entry, position_of};
 use circular_buffer::HeapCircularBuffer;
 use pana_copies::Place;
-use pana_family::{Change, Family, FamilyReport};
+use pana_family::{Change, Family, FamilyFault, FamilyReport};
 use std::alloc::{AllocError, Global};
 use std::marker::Model;
 
@@ -37,6 +37,8 @@ impl Model for KeptFamily {
 
 impl KeptFamily {
     /// The family that this entry begins. Fails only where memory runs out.
+    // Once for a family, so no report but the second pays for its locals.
+    #[inline(never)]
     pub fn new(alloc: Global, entry: u64) -> Result<KeptFamily, AllocError>
         ensures { IfOk result (λ it. it.kept ≡ new_kept entry) }
     {
@@ -113,18 +115,18 @@ impl KeptFamily {
         }
     }
 
-    /// What a report of the next entry changes. Nothing is changed yet, and once this succeeded `apply` takes no memory. Fails
-    /// only where memory runs out.
-    pub fn prepare(&mut self, entry: u64, report: FamilyReport) -> Result<Change, AllocError>
+    /// What a report of the next entry changes. Nothing is changed yet, and once this succeeded `apply` takes no memory.
+    ///
+    /// # Errors
+    ///
+    /// Those of the family.
+    pub fn prepare(&mut self, entry: u64, report: FamilyReport) -> Result<Change, FamilyFault>
         requires able { CanReport report self.old.kept.rows }
         requires new { AreBefore entry self.old.kept.rows }
         ensures same { self.new.kept ≡ self.old.kept }
         ensures prepared { IfOk result (λ change. IsPreparedIn entry report change self.new) }
     {
-        match self.family.prepare(entry, report) {
-            Ok(change) => Ok(change),
-            Err(_) => Err(AllocError),
-        }
+        self.family.prepare(entry, report)
     }
 
     /// What the reports of two entries change, one made behind the other. Nothing is changed yet, and once this succeeded `apply`

@@ -15,7 +15,7 @@ use crate::undo::Before;
 use pana_calls::CopyStamp;
 use pana_copies::Place;
 use pana_event::Rel;
-use pana_family::{Change, Family, FamilyBoard, FamilyReport};
+use pana_family::{Change, Family, FamilyBoard, FamilyFault, FamilyReport};
 use pana_list::PlainList;
 use std::alloc::{AllocError, Global};
 
@@ -199,20 +199,25 @@ impl ListedFamily {
         Ok(())
     }
 
-    /// What a report of the next entry changes. Nothing is changed yet, and once this succeeded `apply` takes no memory. Fails
-    /// only where memory runs out.
+    /// What a report of the next entry changes. Nothing is changed yet, and once this succeeded `apply` takes no memory.
+    ///
+    /// # Errors
+    ///
+    /// Those of the family.
     pub fn prepare(
         &mut self,
         alloc: Global,
         entry: u64,
         report: FamilyReport,
-    ) -> Result<Change, AllocError>
+    ) -> Result<Change, FamilyFault>
         requires able { CanReport report (listed self.old).rows }
         requires new { AreBefore entry (listed self.old).rows }
         ensures same { listed self.new ≡ listed self.old }
         ensures prepared { IfOk result (λ change. IsPreparedFor entry report change self.new) }
     {
-        self.grow(alloc)?;
+        let Ok(()) = self.grow(alloc) else {
+            return Err(FamilyFault::OutOfMemory);
+        };
         match self {
             ListedFamily::New(_) => unreachable!(),
             ListedFamily::Changed(it) => it.prepare(entry, report),

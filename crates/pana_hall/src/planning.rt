@@ -2,9 +2,9 @@
 ghost use Rattle.std.specs.Prelude.{◌≡◌, ◌++◌, IfOk, IfErr};
 ghost use Rattle.pana_calls.specs.declared.call.Call.TheVariants as calls;
 ghost use Rattle.pana_hall.specs.declared.decision.Decision.TheVariants.{Both, One};
-ghost use Rattle.pana_hall.specs.{Prepared.AnswersAt, Prepared.Prepares, Prepared.entries_of, inner.State.IsHeld};
-ghost use Rattle.pana_hall.specs.inner.Next.{ArePlanned, AreTwo, IsNext, IsSecond};
-ghost use Rattle.pana_hall.specs.inner.Plan.{IsPlanOf, Refuses, plan_view};
+ghost use Rattle.pana_hall.specs.{Permit.Permits, Permit.journal_after, Prepared.AnswersAt, Prepared.Prepares, Prepared.entries_of, inner.State.IsHeld};
+ghost use Rattle.pana_hall.specs.inner.Next.{AreTwo, IsNext, IsSecond};
+ghost use Rattle.pana_hall.specs.inner.Plan.{IsPlanOf, IsPlanned, Refuses, plan_view};
 
 use crate::decision::Decision;
 use crate::next::Next;
@@ -15,10 +15,11 @@ use pana_journal::Report;
 use std::alloc::Global;
 
 /// The next entry of a journal, the one behind it, if there are two, and the reply once they are made.
+// The second is rare, so it takes no room where there is none.
 #[derive(Drop)]
 pub struct Plan {
     pub next: Next,
-    pub second: Option<Next>,
+    pub second: Option<Box<Next>>,
     pub reply: Reply,
 }
 
@@ -27,7 +28,7 @@ impl State {
         requires { IsHeld self.old }
         ensures journal { self.new.journal.entries ≡ self.old.journal.entries }
         ensures kept { IsHeld self.new }
-        ensures planned { IfOk result (λ plan. ArePlanned self.new plan.next plan.second) }
+        ensures planned { IfOk result (IsPlanned self.new) }
         ensures plan { IfOk result (λ plan. IsPlanOf self.old.journal.entries by.now (One report) plan) }
         ensures refused { IfErr result (Refuses self.old.journal.entries by.now (One report)) }
     {
@@ -56,7 +57,7 @@ impl State {
         requires two { AreTwo self.old.journal.entries first second }
         ensures journal { self.new.journal.entries ≡ self.old.journal.entries }
         ensures kept { IsHeld self.new }
-        ensures planned { IfOk result (λ plan. ArePlanned self.new plan.next plan.second) }
+        ensures planned { IfOk result (IsPlanned self.new) }
         ensures plan { IfOk result (λ plan. IsPlanOf self.old.journal.entries by.now (Both first second) plan) }
         ensures refused { IfErr result (Refuses self.old.journal.entries by.now (Both first second)) }
     {
@@ -64,16 +65,24 @@ impl State {
         match self.prepare_two(alloc, by, first, second) {
             Ok((next, second)) => {
                 let entry = second.entry.number;
-                Ok(Plan {
-                    next,
-                    second: Some(second),
-                    reply: Reply::Did { kind, entry },
-                })
+                match Box::new(alloc, second) {
+                    Ok(second) => Ok(Plan {
+                        next,
+                        second: Some(second),
+                        reply: Reply::Did { kind, entry },
+                    }),
+                    Err(_) => {
+                        drop(next);
+                        Err(Reply::Refused(Cause::OutOfMemory))
+                    }
+                }
             }
             Err(cause) => Err(Reply::Refused(cause)),
         }
     }
 
+    // So that the call of a report doesn't make room for what only sightings need.
+    #[inline(never)]
     fn plan_sighting(
         &mut self,
         alloc: Global,
@@ -83,7 +92,7 @@ impl State {
         requires { IsHeld self.old }
         ensures journal { self.new.journal.entries ≡ self.old.journal.entries }
         ensures kept { IsHeld self.new }
-        ensures planned { IfOk result (λ plan. ArePlanned self.new plan.next plan.second) }
+        ensures planned { IfOk result (IsPlanned self.new) }
         ensures prepares { IfOk result (λ plan. Prepares self.old.journal.entries by.now (calls.Sighting sighting) (plan_view self.old.journal.entries plan)) }
         ensures reply { IfErr result (λ reply. AnswersAt self.old.journal.entries by.now (calls.Sighting sighting) reply) }
     {
@@ -100,7 +109,7 @@ impl State {
         requires { IsHeld self.old }
         ensures journal { self.new.journal.entries ≡ self.old.journal.entries }
         ensures kept { IsHeld self.new }
-        ensures planned { IfOk result (λ plan. ArePlanned self.new plan.next plan.second) }
+        ensures planned { IfOk result (IsPlanned self.new) }
         ensures prepares { IfOk result (λ plan. Prepares self.old.journal.entries by.now (calls.Report report) (plan_view self.old.journal.entries plan)) }
         ensures reply { IfErr result (λ reply. AnswersAt self.old.journal.entries by.now (calls.Report report) reply) }
     {
@@ -117,6 +126,7 @@ impl State {
         }
     }
 
+    #[inline(never)]
     #[tactic(auto, unfolding(crate::specs::Permit::Permits, crate::specs::Permit::journal_after, crate::specs::Refusal::refusal))]
     fn reply_to(&self, alloc: Global, by: &DeviceName, query: &Query) -> Reply
         requires { IsHeld self.now }
@@ -140,7 +150,7 @@ impl State {
         requires { IsHeld self.old }
         ensures journal { self.new.journal.entries ≡ self.old.journal.entries }
         ensures kept { IsHeld self.new }
-        ensures planned { IfOk result (λ plan. ArePlanned self.new plan.next plan.second) }
+        ensures planned { IfOk result (IsPlanned self.new) }
         ensures prepares { IfOk result (λ plan. Prepares self.old.journal.entries by.now call (plan_view self.old.journal.entries plan)) }
         ensures reply { IfErr result (λ reply. AnswersAt self.old.journal.entries by.now call reply) }
     {
@@ -155,10 +165,28 @@ impl State {
         }
     }
 
+    /// Makes a device's report the next entry of the journal, unless it is refused, and returns the reply: `plan` and `commit_all`,
+    /// and no plan is made.
+    #[inline(never)]
+    #[tactic(auto, unfolding(crate::specs::Permit::Permits, crate::specs::Permit::journal_after, crate::specs::Refusal::refusal))]
+    pub fn report(&mut self, alloc: Global, by: &DeviceName, report: Report) -> Reply
+        requires { IsHeld self.old }
+        ensures permitted { Permits self.old.journal.entries by.now (calls.Report report) result }
+        ensures journal { self.new.journal.entries ≡ journal_after self.old.journal.entries by.now (calls.Report report) result }
+        ensures kept { IsHeld self.new }
+    {
+        match self.prepare(alloc, by, report) {
+            Ok(next) => Reply::Done {
+                entry: self.commit(next),
+            },
+            Err(cause) => Reply::Refused(cause),
+        }
+    }
+
     /// Makes the entries that were planned the next ones of the journal, and returns the reply. Takes no memory.
     pub fn commit_all(&mut self, plan: Plan) -> Reply
         requires kept { IsHeld self.old }
-        requires planned { ArePlanned self.old plan.next plan.second }
+        requires planned { IsPlanned self.old plan }
         ensures journal { self.new.journal.entries ≡ self.old.journal.entries ++ entries_of (plan_view self.old.journal.entries plan) }
         ensures kept { IsHeld self.new }
         ensures reply { result ≡ plan.reply }
@@ -170,8 +198,23 @@ impl State {
         } = plan;
         let _ = self.commit(next);
         if let Some(second) = second {
-            let _ = self.commit(second);
+            let _ = self.commit(Box::into_inner(second));
         }
         reply
+    }
+
+    /// Does what a device's call says, unless it is refused, and returns the reply.
+    // Apart, so that a report doesn't pay for a plan's locals.
+    #[inline(never)]
+    pub fn plan_and_commit(&mut self, alloc: Global, by: &DeviceName, call: Call) -> Reply
+        requires { IsHeld self.old }
+        ensures permitted { Permits self.old.journal.entries by.now call result }
+        ensures journal { self.new.journal.entries ≡ journal_after self.old.journal.entries by.now call result }
+        ensures kept { IsHeld self.new }
+    {
+        match self.plan(alloc, by, call) {
+            Ok(plan) => self.commit_all(plan),
+            Err(reply) => reply,
+        }
     }
 }

@@ -23,15 +23,14 @@ pub struct Prepared {
 
 impl Model for Prepared {
     ghost use Rattle.pana_hall.specs.Prepared.{PreparedView};
-    ghost use Rattle.pana_hall.specs.inner.Plan.{plan_view};
+    ghost use Rattle.pana_hall.specs.inner.Plan.{IsPlanned, plan_view};
     ghost use Rattle.pana_hall.specs.inner.State.{IsHeld};
-    ghost use Rattle.pana_hall.specs.inner.Next.{ArePlanned};
 
     ghost Value = { PreparedView };
 
     ghost view = { λ it. plan_view it.state.journal.entries it.plan };
 
-    ghost invariant = { λ it. IsHeld it.state × ArePlanned it.state it.plan.next it.plan.second };
+    ghost invariant = { λ it. IsHeld it.state × IsPlanned it.state it.plan };
 }
 
 /// A hall, and the reply that a call gets without an entry: it is refused, or known, or a query that is answered.

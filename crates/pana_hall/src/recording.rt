@@ -1,6 +1,7 @@
 //! What an accepted report makes of a journal, and of what is kept of it: the memory for it first, and then the entry, which can't
 //! fail.
 ghost use Rattle.std.specs.Prelude.{◌≡◌, ℕ, ◌+◌, ◌<◌, [], ◌∷◌, ◌++◌, List, length, ◌==◌, if◌then◌else◌, Some, None, false, IfOk, IfErr, OnOk, vec_len, vec_capacity};
+ghost use Rattle.pana_calls.specs.declared.cause.Cause.TheVariants as causes;
 ghost use Rattle.pana_copies.specs.Spots.{kept};
 ghost use Rattle.pana_hall.specs.{inner.Spots.IsFree, inner.Undo.new_kept, inner.Listed.IsGrown, inner.Listed.all_listed, inner.Listed.listed};
 ghost use Rattle.pana_hall.specs.{inner.State.IsHeld, inner.State.IsRefused, inner.State.Records, Effective.is_of_copies, Living.Copy, Living.living};
@@ -210,27 +211,30 @@ impl State {
         self.families.position_for(report).unwrap()
     }
 
-    /// Takes the memory for what a report that nothing stands against changes beside the journal, and returns the position of its
-    /// family too. Fails only where memory runs out.
+    /// Takes the memory for what a report of a family at this position changes beside the journal. Fails only where memory runs
+    /// out.
     fn take_step(
         &mut self,
         alloc: Global,
         by: &DeviceName,
         report: &Report,
-    ) -> Result<(usize, Step), AllocError>
+        position: usize,
+    ) -> Result<Step, AllocError>
         requires kept { IsHeld self.old }
         requires free { report_refusal 8 self.old.journal.entries (living self.old.journal.entries) by.now report.now ≡ None }
+        requires at { position_for (all_listed self.old.families.list.items) self.old.families.positions.items report.now ≡ Some position }
+        requires ready { IsReadyAt self.old.journal.entries by.now report.now (all_listed self.old.families.list.items) position self.old.copies }
+        requires room { HasRoom 1 self.old }
+        requires copies { 0 < self.old.copies.room }
         ensures journal { self.new.journal.entries ≡ self.old.journal.entries }
         ensures kept { IsHeld self.new }
-        ensures room { OnOk result (HasRoom 1 self.new) }
-        ensures copies { OnOk result (0 < self.new.copies.room) }
-        ensures position { IfOk result (λ made. position_for (all_listed self.new.families.list.items) self.new.families.positions.items report.now ≡ Some made.0) }
-        ensures step { IfOk result (λ made. IsStep (next_entry self.new.journal.entries by.now report.now) (vec_len self.new.families.list) (vec_capacity self.new.families.list) self.new.families.list.items made.0 (living self.new.journal.entries) made.1) }
+        ensures room { HasRoom 1 self.new }
+        ensures copies { 0 < self.new.copies.room }
+        ensures position { position_for (all_listed self.new.families.list.items) self.new.families.positions.items report.now ≡ Some position }
+        ensures step { IfOk result (IsStep (next_entry self.new.journal.entries by.now report.now) (vec_len self.new.families.list) (vec_capacity self.new.families.list) self.new.families.list.items position (living self.new.journal.entries)) }
     {
-        self.reserve(1)?;
-        let position = self.position_of_next(by, report);
         let list = &mut self.families.list;
-        let step = prepare_step(
+        prepare_step(
             alloc,
             &self.journal,
             by,
@@ -239,26 +243,30 @@ impl State {
             &self.copies,
             &self.contents,
             report,
-        )?;
-        Ok((position, step))
+        )
     }
 
-    /// Takes the memory for a report that nothing stands against. Fails only where memory runs out.
-    fn prepare_free(
+    /// Takes the memory for a report that nothing stands against, beside the room that was made by `reserve`. Fails only where
+    /// memory runs out.
+    fn prepare_reserved(
         &mut self,
         alloc: Global,
         by: &DeviceName,
         report: Report,
-    ) -> Result<Next, AllocError>
+    ) -> Result<Next, Cause>
         requires kept { IsHeld self.old }
         requires free { report_refusal 8 self.old.journal.entries (living self.old.journal.entries) by.now report ≡ None }
+        requires room { HasRoom 1 self.old }
+        requires copies { 0 < self.old.copies.room }
         ensures journal { self.new.journal.entries ≡ self.old.journal.entries }
         ensures kept { IsHeld self.new }
         ensures entry { IfOk result (λ next. next.entry ≡ next_entry self.old.journal.entries by.now report) }
         ensures next { IfOk result (IsNext self.new) }
+        ensures fault { IfErr result (λ cause. cause ≡ causes.OutOfMemory) }
     {
-        match self.take_step(alloc, by, &report) {
-            Ok((position, step)) => {
+        let position = self.position_of_next(by, &report);
+        match self.take_step(alloc, by, &report, position) {
+            Ok(step) => {
                 let sayings = self.sayings(by, &report);
                 Ok(Next {
                     entry: entry_of(self.journal.length() + 1, by, report),
@@ -267,9 +275,33 @@ impl State {
                     step,
                 })
             }
-            Err(fault) => {
+            Err(_) => {
                 drop(report);
-                Err(fault)
+                Err(Cause::OutOfMemory)
+            }
+        }
+    }
+
+    /// Takes the memory for a report that nothing stands against. Fails only where memory runs out.
+    fn prepare_free(
+        &mut self,
+        alloc: Global,
+        by: &DeviceName,
+        report: Report,
+    ) -> Result<Next, Cause>
+        requires kept { IsHeld self.old }
+        requires free { report_refusal 8 self.old.journal.entries (living self.old.journal.entries) by.now report ≡ None }
+        ensures journal { self.new.journal.entries ≡ self.old.journal.entries }
+        ensures kept { IsHeld self.new }
+        ensures entry { IfOk result (λ next. next.entry ≡ next_entry self.old.journal.entries by.now report) }
+        ensures next { IfOk result (IsNext self.new) }
+        ensures fault { IfErr result (λ cause. cause ≡ causes.OutOfMemory) }
+    {
+        match self.reserve(1) {
+            Ok(()) => self.prepare_reserved(alloc, by, report),
+            Err(_) => {
+                drop(report);
+                Err(Cause::OutOfMemory)
             }
         }
     }
@@ -287,10 +319,7 @@ impl State {
             drop(report);
             return Err(cause);
         }
-        match self.prepare_free(alloc, by, report) {
-            Ok(next) => Ok(next),
-            Err(_) => Err(Cause::OutOfMemory),
-        }
+        self.prepare_free(alloc, by, report)
     }
 
     /// Makes a report that was prepared the next entry of the journal, and keeps all of the journal that is kept. Takes no memory.

@@ -160,6 +160,8 @@ impl State {
         self.taken_from(copy, self.family(number).last_place()?)
     }
 
+    // Apart, so that other reports don't pay for its locals.
+    #[inline(never)]
     fn withdraw_refusal(&self, by: &DeviceName, entry: u64) -> Option<Cause>
         requires { IsHeld self.now }
         ensures { result ≡ report_refusal 8 self.now.journal.entries (living self.now.journal.entries) by.now (reports.Withdraw entry) }

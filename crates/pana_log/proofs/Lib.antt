@@ -1,4 +1,5 @@
 pub mod Begun
+pub mod Cut
 pub mod Operations
 pub mod Ends
 pub mod Kept

@@ -1,4 +1,4 @@
-ghost use Rattle.std.specs.Prelude.{◌≡◌, ◌≤◌, ◌↔◌, IsTrue, length};
+ghost use Rattle.std.specs.Prelude.{◌≡◌, ◌≤◌, ◌<◌, ◌+◌, ◌==◌, ◌↔◌, [], None, IfSome, IsTrue, length, position};
 ghost use Rattle.pana_log.specs.Lines.{recovered, text_of, ungated, kind_of, kind_new, kind_behind, is_begun, ends_journal, has_entries, other_kind, is_unended, IsWhole};
 
 use crate::file_kind::FileKind;
@@ -19,21 +19,37 @@ pub fn is_whole(text: &[u8]) -> bool
     !text.is_empty() && whole_length(text) == text.len()
 }
 
+/// Where the first newline stands.
+fn end_of_line(text: &[u8]) -> Option<usize>
+    ensures { result ≡ position (λ byte. byte == 10) text.now }
+{
+    text.iter().position(|byte| *byte == b'\n')
+}
+
+/// What stands behind the first line of a file, if that line counts.
+fn behind_line(file: &[u8]) -> Option<&[u8]>
+    ensures line { IfSome result (λ rest. length (text_of (recovered file.now)) + length rest.now ≡ length file.now + length (text_of (recovered rest.now))) }
+    ensures shorter { IfSome result (λ rest. length rest.now < length file.now) }
+    ensures none { result ≡ None → recovered file.now ≡ [] }
+{
+    let end = end_of_line(file)?;
+    if file.starts_with(b"{") {
+        Some(&file[end + 1..])
+    } else {
+        None
+    }
+}
+
 /// How long the lines are that a file stands for.
 pub(crate) fn whole_length(file: &[u8]) -> usize
     ensures length { result ≡ length (text_of (recovered file.now)) }
     ensures within { result ≤ length file.now }
 {
-    let mut whole = 0;
-    for i in 0..file.len() {
-        if file[i] == b'\n' {
-            if file[whole] != b'{' {
-                return whole;
-            }
-            whole = i + 1;
-        }
+    let mut rest = file;
+    while let Some(behind) = behind_line(rest) {
+        rest = behind;
     }
-    whole
+    file.len() - rest.len()
 }
 
 /// How many bytes these are, a closed gate at their head not counted.

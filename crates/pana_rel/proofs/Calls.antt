@@ -9,7 +9,7 @@ use Rattle.pana_event.specs.declared.rel.Rel.TheVariants.{Equal, Older, Newer, C
 use Rattle.pana_event.specs.Relation.{reverse_of}
 use Rattle.pana_rel.specs.declared.counts.Counts.{Counts}
 use Rattle.pana_rel.specs.Board.{counts_of, is_rel, is_split, relates}
-use Rattle.pana_rel.specs.Pairs.{Table, own_number, place_of, rel_of}
+use Rattle.pana_rel.specs.Pairs.{Table, own_number, place_of, rel_at, rel_of}
 use Rattle.pana_rel.specs.inner.Square.{Relations, number_of, rel_in, row_in, table_of, AreCounted, IsKept, IsTop, IsTorn}
 use Rattle.pana_rel.proofs.Boards.{copy_at, counted_equal, counted_others, none_newer, split_is, top_is}
 use Rattle.pana_rel.proofs.Places.{place_at, place_within}
@@ -29,6 +29,20 @@ rel_read cs rows room now a b p q row x kept view read made =
     let row_is : row ≡ row_in rows (place_of a cs) = get_or_read rows p row within read _ ∙ ap (λ k. row_in rows k) here in
     let value : x ≡ rel_in cs rows a b = made ∙ ap (λ k. get_or row.items k Equal) there ∙ ap (λ r. get_or r.items (place_of b cs) Equal) row_is in
     (value, kept.mirrored a b ina inb ∙ ap reverse_of (sym value), λ same. value ∙ ap (λ c. rel_in cs rows a c) (sym same) ∙ kept.itself a ina))
+
+-- what is said of the row that was read
+abbrev HasRow : ℕ → ℕ → List Rel → List ℕ → (ℕ → ℕ → Rel) → Type 0
+HasRow a p rels copies rel =
+    Contains copies a → p ≡ place_of a copies → ((other : ℕ) → rel_at copies rels other ≡ rel a other) × (length rels ≡ length copies)
+
+pub row_read : (cs : List ℕ) (rows : List Relations) (room : ℕ) (now : Table) (a p : ℕ) (row : Relations) (rels : List Rel) → IsKept cs rows → table_of cs rows room ≡ now
+    → row ≡ get_or rows p row → rels ≡ row.items → HasRow a p rels now.copies (rel_of now)
+row_read cs rows room now a p row rels kept view read made =
+    at_table cs rows room now (HasRow a p rels) view (λ ina here.
+    let place : place_of a cs < length rows = omega (arith, kept.tall, place_within cs a ina) in
+    let row_is : row ≡ row_in rows (place_of a cs) = get_or_read rows p row (omega (arith, here, place)) read _ ∙ ap (λ k. row_in rows k) here in
+    let items : rels ≡ (row_in rows (place_of a cs)).items = made ∙ ap (λ r. r.items) row_is in
+    ((λ other. ap (λ r. get_or r (place_of other cs) Equal) items), ap length items ∙ kept.wide (place_of a cs) place ∙ kept.tall))
 
 -- what is said of the counts of a row
 abbrev Counted : ℕ → ℕ → Counts → List ℕ → (ℕ → ℕ → Rel) → Type 0

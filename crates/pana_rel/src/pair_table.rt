@@ -220,8 +220,17 @@ impl PairTable {
         Ok(newest)
     }
 
-    /// The place of a copy. Takes no memory; O(log copies).
-    fn place(&self, copy: u64) -> usize
+    /// The relations of a copy to all copies in their order, to itself among them. Takes no memory; O(log copies).
+    pub fn row(&self, copy: u64) -> &[Rel]
+        requires { Contains self.now.copies copy }
+        ensures rels { (other : ℕ) → rel_at self.now.copies result.now other ≡ rel_of self.now copy other }
+        ensures long { length result.now ≡ length self.now.copies }
+    {
+        self.rows[self.place(copy)].as_slice()
+    }
+
+    /// The place of a copy among all copies. Takes no memory; O(log copies).
+    pub fn place(&self, copy: u64) -> usize
         requires { Contains self.now.copies copy }
         ensures place { result ≡ place_of copy self.now.copies }
         ensures within { result < length self.now.copies }

@@ -1,10 +1,11 @@
 //! Filling: raising points that an id owns as far as the event gets simpler.
-ghost use Rattle.std.specs.Prelude.{◌≡◌, ◌^◌, ◌<◌, IfOk};
-ghost use Rattle.pana_event.specs.Event.{IsNormal, greatest};
+ghost use Rattle.std.specs.Prelude.{◌≡◌, ◌+◌, ◌^◌, ◌<◌, max, IfOk, IfSome, IfNone};
+ghost use Rattle.pana_event.specs.Event.{IsNormal, IsOpen, fork, greatest, leaf, least, norm};
 ghost use Rattle.pana_event.specs.Shape.{tree as event_of};
 ghost use Rattle.pana_id.specs.Node.{tree as id_of};
 ghost use Rattle.pana_stamp.specs.Fill.{IsFilled, fill as fill_of};
 ghost use Rattle.pana_stamp.specs.Raised.{IsRaised};
+ghost use Rattle.pana_stamp.specs.Renewed.{Differs, new_or};
 
 use pana_event::{EventTree, Node};
 use pana_id::{IdTree, Node as IdNode};
@@ -17,46 +18,136 @@ use std::alloc::{AllocError, Global};
 ///
 /// # Errors
 ///
-/// `AllocError` where an allocation failed. Allocates at most once a fork of the event; visits each node at most once.
+/// `AllocError` where an allocation failed. Allocates at most once a fork that changes; visits each node at most once.
 pub fn fill(alloc: Global, id: &IdTree, event: &EventTree) -> Result<EventTree, AllocError>
     ensures tree { IfOk result (λ new. new ≡ fill_of id.now event.now) }
     ensures filled { IfOk result (IsFilled id.now event.now) }
     ensures raised { IfOk result (λ new. ¬ (new ≡ event.now) → IsRaised id.now event.now new) }
 {
-    let root = id.node();
-    let event_root = event.node();
-    let node = fill_node(alloc, root, event_root)?;
-    Ok(EventTree::of_node(node))
+    // whose contract says that the event is sound
+    let _ = event.node();
+    match filled(alloc, id, event)? {
+        Some(new) => Ok(new),
+        None => {
+            let same = event.share()?;
+            Ok(same)
+        }
+    }
 }
 
-/// The node of the filled event. The greatest level is looked for only in halves under a 1, which aren't walked
-/// otherwise, and the least is the own number of a filled half: so each node is visited at most once.
+/// The event filled for an id, unless that changes nothing.
+///
+/// # Errors
+///
+/// Those of `fill`.
+pub(crate) fn filled(
+    alloc: Global,
+    id: &IdTree,
+    event: &EventTree,
+) -> Result<Option<EventTree>, AllocError>
+    ensures same { IfOk result (λ new. IfNone new (fill_of id.now event.now ≡ event.now)) }
+    ensures tree { IfOk result (λ new. IfSome new (λ new. new ≡ fill_of id.now event.now)) }
+    ensures changed { IfOk result (λ new. IfSome new (λ new. ¬ (fill_of id.now event.now ≡ event.now))) }
+    ensures raised { IfOk result (λ new. IfSome new (λ new. IsRaised id.now event.now new)) }
+{
+    let root = id.node();
+    let event_root = event.node();
+    match fill_node(alloc, root, event_root)? {
+        Some(node) => Ok(Some(EventTree::of_node(node))),
+        None => Ok(None),
+    }
+}
+
+/// The node of the filled event, unless filling changes nothing. The greatest level is looked for only in halves under a
+/// 1, which aren't walked otherwise, and the least is the own number of a filled half: so each node is visited at most once.
 #[tactic(auto, using(crate::proofs::Fills::fill_limits))]
-fn fill_node(alloc: Global, id: &IdNode, event: &Node) -> Result<Node, AllocError>
+fn fill_node(alloc: Global, id: &IdNode, event: &Node) -> Result<Option<Node>, AllocError>
     requires normal { IsNormal (event_of event.now) }
     requires fits { greatest (event_of event.now) < 2 ^ 64 }
-    ensures { IfOk result (λ new. event_of new ≡ fill_of (id_of id.now) (event_of event.now)) }
+    ensures tree { IfOk result (λ new. new_or new (event_of event.now) ≡ fill_of (id_of id.now) (event_of event.now)) }
+    ensures changed { IfOk result (Differs (event_of event.now)) }
 {
     match (id, event) {
-        (IdNode::Zero, _) => event.copy_of(alloc),
-        (IdNode::One, _) => Ok(Node::Leaf(event.greatest())),
-        (IdNode::Pair(_), Node::Leaf(number)) => Ok(Node::Leaf(*number)),
+        (IdNode::Zero, _) => Ok(None),
+        (IdNode::One, _) => Ok(leaf_for(event, event.greatest())),
+        (IdNode::Pair(_), Node::Leaf(_)) => Ok(None),
         (IdNode::Pair(ids), Node::Fork(number, halves)) => match (&ids.left, &ids.right) {
             (IdNode::One, id) => {
                 let right = fill_node(alloc, id, &halves.right)?;
-                let left = Node::Leaf(halves.left.greatest().max(right.least()));
-                Node::norm_of(alloc, *number, left, right)
+                let level = halves.left.greatest().max(least_of(&right, &halves.right));
+                let left = leaf_for(&halves.left, level);
+                with_halves(alloc, *number, &halves.left, left, &halves.right, right)
             }
             (id, IdNode::One) => {
                 let left = fill_node(alloc, id, &halves.left)?;
-                let right = Node::Leaf(halves.right.greatest().max(left.least()));
-                Node::norm_of(alloc, *number, left, right)
+                let level = halves.right.greatest().max(least_of(&left, &halves.left));
+                let right = leaf_for(&halves.right, level);
+                with_halves(alloc, *number, &halves.left, left, &halves.right, right)
             }
             (left_id, right_id) => {
                 let left = fill_node(alloc, left_id, &halves.left)?;
                 let right = fill_node(alloc, right_id, &halves.right)?;
-                Node::norm_of(alloc, *number, left, right)
+                with_halves(alloc, *number, &halves.left, left, &halves.right, right)
             }
         },
+    }
+}
+
+/// The leaf of a level in place of an event, unless the event is that leaf.
+fn leaf_for(event: &Node, level: u64) -> Option<Node>
+    ensures tree { new_or result (event_of event.now) ≡ leaf level }
+    ensures changed { Differs (event_of event.now) result }
+{
+    match event {
+        Node::Leaf(number) if *number == level => None,
+        _ => Some(Node::Leaf(level)),
+    }
+}
+
+/// The least level of an event, or of the one that takes its place.
+fn least_of(new: &Option<Node>, event: &Node) -> u64
+    requires { IsNormal (new_or new.now (event_of event.now)) }
+    ensures { result ≡ least (new_or new.now (event_of event.now)) }
+{
+    match new {
+        Some(node) => node.least(),
+        None => event.least(),
+    }
+}
+
+/// An event, or the one that takes its place.
+fn or_shared(new: Option<Node>, event: &Node) -> Result<Node, AllocError>
+    ensures { IfOk result (λ node. event_of node ≡ new_or new (event_of event.now)) }
+{
+    match new {
+        Some(node) => Ok(node),
+        None => event.share(),
+    }
+}
+
+/// The normal form of a number over two halves, of which some have others in their place, unless nothing changes.
+fn with_halves(
+    alloc: Global,
+    number: u64,
+    left: &Node,
+    new_left: Option<Node>,
+    right: &Node,
+    new_right: Option<Node>,
+) -> Result<Option<Node>, AllocError>
+    requires halves { IsOpen (event_of left.now) (event_of right.now) }
+    requires fits { number + max (greatest (new_or new_left (event_of left.now))) (greatest (new_or new_right (event_of right.now))) < 2 ^ 64 }
+    requires left { Differs (event_of left.now) new_left }
+    requires right { Differs (event_of right.now) new_right }
+    ensures tree { IfOk result (λ new. new_or new (fork number (event_of left.now) (event_of right.now)) ≡ norm number (new_or new_left (event_of left.now)) (new_or new_right (event_of right.now))) }
+    ensures changed { IfOk result (Differs (fork number (event_of left.now) (event_of right.now))) }
+{
+    match (new_left, new_right) {
+        (None, None) => Ok(None),
+        (new_left, new_right) => {
+            let left = or_shared(new_left, left)?;
+            let right = or_shared(new_right, right)?;
+            let node = Node::norm_of(alloc, number, left, right)?;
+            Ok(Some(node))
+        }
     }
 }

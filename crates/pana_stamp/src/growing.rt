@@ -21,9 +21,8 @@ use std::alloc::{AllocError, Global};
 ///
 /// # Errors
 ///
-/// `AllocError` where an allocation failed. Allocates at most once a fork of the event and once a level of the
-/// place. A first walk finds the least cost and takes no memory, a second one grows the place that has it;
-/// each visits a node at most once.
+/// `AllocError` where an allocation failed. Allocates at most once a level of the place. A first walk finds the least
+/// cost and takes no memory, a second one grows the place that has it; each visits a node at most once.
 pub fn grow(alloc: Global, id: &IdTree, event: &EventTree) -> Result<(EventTree, Cost), AllocError>
     requires owner { is_zero id.now ≡ false }
     requires filled { fill_of id.now event.now ≡ event.now }
@@ -99,12 +98,12 @@ fn grow_at(
             let zero = Node::Leaf(0);
             let (left, right) = halves_of(event, &zero);
             if let Some(grown) = grow_at(alloc, &ids.right, right, opened - by, levels - 1)? {
-                let kept = left.copy_of(alloc)?;
+                let kept = left.share()?;
                 let fork = Node::fork_of(alloc, event.number(), kept, grown)?;
                 return Ok(Some(fork));
             }
             if let Some(grown) = grow_at(alloc, &ids.left, left, opened - by, levels - 1)? {
-                let kept = right.copy_of(alloc)?;
+                let kept = right.share()?;
                 let fork = Node::fork_of(alloc, event.number(), grown, kept)?;
                 return Ok(Some(fork));
             }

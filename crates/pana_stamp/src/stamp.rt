@@ -8,7 +8,7 @@ ghost use Rattle.pana_stamp.specs.Fill.{fill as fill_of};
 ghost use Rattle.pana_stamp.specs.Grow.{grow as grow_of};
 ghost use Rattle.pana_stamp.specs.Raised.{IsRaised};
 
-use crate::filling::fill;
+use crate::filling::filled;
 use crate::growing::grow;
 use pana_event::{EventTree, Rel};
 use pana_id::{IdFault, IdTree};
@@ -79,8 +79,8 @@ impl Stamp {
     ///
     /// # Errors
     ///
-    /// `AllocError` where an allocation failed. Allocates at most once a fork of the event and once a level of
-    /// the id; visits each node a few times.
+    /// `AllocError` where an allocation failed. Allocates at most once a fork that changes and once a level of the
+    /// id; visits each node a few times.
     pub fn event(&self, alloc: Global) -> Result<EventTree, AllocError>
         requires owner { is_zero self.now.id ≡ false }
         requires room { greatest self.now.event + 1 < 2 ^ 64 }
@@ -88,13 +88,12 @@ impl Stamp {
         ensures filled { IfOk result (λ new. ¬ (fill_of self.now.id self.now.event ≡ self.now.event) → new ≡ fill_of self.now.id self.now.event) }
         ensures raised { IfOk result (IsRaised self.now.id self.now.event) }
     {
-        let filled = fill(alloc, &self.id, &self.event)?;
-        match filled.compare(&self.event) {
-            Rel::Equal => {
+        match filled(alloc, &self.id, &self.event)? {
+            Some(event) => Ok(event),
+            None => {
                 let (grown, _) = grow(alloc, &self.id, &self.event)?;
                 Ok(grown)
             }
-            Rel::Older | Rel::Newer | Rel::Conflict => Ok(filled),
         }
     }
 
@@ -103,8 +102,8 @@ impl Stamp {
     /// # Errors
     ///
     /// `TooDeep` exactly where the id has a single 1, at depth 256, and before memory is taken. `OutOfMemory`
-    /// where an allocation failed. The stamp stays as it is in any case. Allocates for the two ids and a copy of
-    /// the event twice; visits each node at most twice.
+    /// where an allocation failed. The stamp stays as it is in any case. Allocates for the two ids,
+    /// and both events are in the same memory; visits each node of the id at most twice.
     pub fn fork(&self, alloc: Global) -> Result<(Stamp, Stamp), IdFault>
         ensures ids { IfOk result (λ two. (two.0.id, two.1.id) ≡ parts self.now.id) }
         ensures parted { IfOk result (λ two. IsParted self.now.id two.0.id two.1.id) }
@@ -113,8 +112,8 @@ impl Stamp {
         ensures too_deep { IsErrOf result IdFault.TooDeep ↔ IsTrue (is_single self.now.id 256) }
     {
         let (first, second) = self.id.split(alloc)?;
-        let first_event = self.event.copy_of(alloc)?;
-        let second_event = self.event.copy_of(alloc)?;
+        let first_event = self.event.share()?;
+        let second_event = self.event.share()?;
         Ok((
             Stamp::new(first, first_event),
             Stamp::new(second, second_event),
@@ -143,7 +142,7 @@ impl Stamp {
         }
     }
 
-    /// The id, where the event is wanted no more. Takes no memory; lets the event go, and visits each node of it.
+    /// The id, where the event is wanted no more. Takes no memory; lets the event go, and visits each node of it that no other event has.
     pub fn into_id(self) -> IdTree
         ensures { result ≡ self.id }
     {

@@ -1,10 +1,11 @@
 //! The texts of stamps.
-ghost use Rattle.std.specs.Prelude.{◌≡◌, ◌++◌, ◌^◌, ◌<◌, IfOk, OnOk, string_bytes};
+ghost use Rattle.std.specs.Prelude.{◌≡◌, ◌++◌, ◌^◌, ◌<◌, IfOk, OnOk, decimal, string_bytes};
 ghost use Rattle.pana_id.specs.Node.{tree as id_of};
 ghost use Rattle.pana_event.specs.Event.{greatest};
 ghost use Rattle.pana_event.specs.Shape.{tree as event_of};
 ghost use Rattle.pana_text.specs.Text.{event_text, id_text, stamp_text};
 
+use itoa::Buffer;
 use pana_stamp::Stamp;
 use std::alloc::{AllocError, Global};
 
@@ -26,15 +27,25 @@ fn write_id(text: &mut String, id: &pana_id::Node) -> Result<(), AllocError>
     }
 }
 
+/// Appends the digits of a number.
+fn write_number(text: &mut String, number: u64) -> Result<(), AllocError>
+    ensures { OnOk result (string_bytes text.new ≡ string_bytes text.old ++ decimal number) }
+{
+    let mut digits = Buffer::new();
+    text.push_str(digits.format(number))
+}
+
 /// Appends the text of an event.
 #[tactic(auto, using(crate::proofs::Appends::appends))]
 fn write_event(text: &mut String, event: &pana_event::Node) -> Result<(), AllocError>
     ensures { OnOk result (string_bytes text.new ≡ string_bytes text.old ++ event_text (event_of event.now)) }
 {
     match event {
-        pana_event::Node::Leaf(number) => write!(text, "{number}"),
+        pana_event::Node::Leaf(number) => write_number(text, *number),
         pana_event::Node::Fork(number, halves) => {
-            write!(text, "({number},")?;
+            text.push_str("(")?;
+            write_number(text, *number)?;
+            text.push_str(",")?;
             write_event(text, &halves.left)?;
             text.push_str(",")?;
             write_event(text, &halves.right)?;

@@ -1,9 +1,12 @@
 -- The first line of a text ends at its first newline, or is the whole of it.
-use Rattle.std.proofs.Common.{◌≡◌, ℕ, ◌+◌, ◌-◌, ◌<◌, ◌≤◌, suc, ◌==◌, true, false, cond, not, nat_lt, List, [], ◌∷◌, ◌++◌, length, take, drop, map, position, Some, None, refl, sym, ap, ◌∙◌, append-nil, length-drop, arith}
+use Rattle.std.proofs.Common.{◌≡◌, ℕ, ◌+◌, ◌-◌, ◌<◌, ◌≤◌, suc, ◌==◌, true, false, cond, not, nat_lt, List, [], ◌∷◌, ◌++◌, length, take, drop, map, position, Option, Some, None, refl, sym, ap, ◌∙◌, append-nil, length-drop, arith}
 use Rattle.std.specs.List.{position_or_len}
-use Rattle.std.proofs.lemmas.Bool.{ltb-false, ltb-true}
+use Rattle.memchr.specs.Find.{IsFirstByte, is_byte}
+use Rattle.std.proofs.lemmas.Bool.{false_from_ne_true, lt-ltb, ltb-false, ltb-true}
 use Rattle.std.proofs.lemmas.List.{append_assoc, map-append, take_all}
+use Rattle.std.proofs.lemmas.List.Sums.{position_or_len_is}
 use Rattle.pana_wire.specs.Lines.{ended, unended, last_line, lines_of}
+use Rattle.pana_wire.proofs.Lines.{ended_many}
 
 abbrev newline_at : List ℕ → ℕ
 newline_at text = position_or_len (λ b. b == 10) text
@@ -95,3 +98,54 @@ one_line_more f items x all rest later is next =
 pub no_line_more : {X : Type 0} (f : X → List ℕ) (items : List X) (all : List (List ℕ)) (rest : List ℕ)
     → all ≡ map f items ++ lines_of rest → rest ≡ [] → map f items ≡ all
 no_line_more f items all rest is empty = sym (is ∙ ap (λ r. map f items ++ lines_of r) empty ∙ append-nil (map f items))
+
+ltb_refl : (n : ℕ) → nat_lt n n ≡ false
+ltb_refl n = false_from_ne_true _ (λ h. let odd : n < n = ltb-true n n h in absurd (omega arith))
+
+-- the first newline is found by its place
+pub first_newline : (text : List ℕ) (found : Option ℕ) → IsFirstByte (is_byte 10) text found → found ≡ position (λ b. b == 10) text
+first_newline text None nowhere =
+    let at : newline_at text ≡ length text = position_or_len_is (λ (b : ℕ). b == 10) text (length text) 0 (omega arith) (λ k below. false_from_ne_true _ (nowhere k (omega arith) below)) (λ below. absurd (omega arith)) in
+    let none : nat_lt (newline_at text) (length text) ≡ false = (ap (λ n. nat_lt n (length text)) at ∙ ltb_refl (length text)) in
+    sym (ap (λ t. cond t (Some (newline_at text)) None) none)
+first_newline text (Some i) first =
+    let at : newline_at text ≡ i = position_or_len_is (λ (b : ℕ). b == 10) text i 0 (omega (arith, first.0.high)) (λ k below. false_from_ne_true _ (first.0.before k (omega arith) below)) (λ below. first.1) in
+    let some : nat_lt (newline_at text) (length text) ≡ true = rw at (lt-ltb i (length text) first.0.high) in
+    sym (ap (λ t. cond t (Some (newline_at text)) None) some ∙ ap (λ k. Some k) at)
+
+-- lines that have ended in a piece, what has begun of the next, and what is left of the piece
+pub record IsCut (begun piece : List ℕ) (lines : List (List ℕ)) (now rest : List ℕ) : Type 0 where
+  pub ends : ended begun piece ≡ lines ++ ended now rest
+  pub left : unended begun piece ≡ unended now rest
+
+-- the line that comes next
+pub cut_next : (begun piece : List ℕ) (lines : List (List ℕ)) (now rest : List ℕ) (i : ℕ) → IsCut begun piece lines now rest → position (λ b. b == 10) rest ≡ Some i
+    → IsCut begun piece (lines ++ (now ++ take i rest) ∷ []) [] (take (length rest - (i + 1)) (drop (i + 1) rest))
+cut_next begun piece lines now rest i is found =
+    let at = found_within rest i found in
+    let more = drop (i + 1) rest in
+    rw (take_all (length rest - (i + 1)) more (omega (arith, length-drop (i + 1) rest)), at.0) (record {
+      ends = is.ends ∙ ap (λ (ls : List (List ℕ)). lines ++ ls) (ended_first now rest at.1) ∙ sym (append_assoc lines ((now ++ take (newline_at rest) rest) ∷ []) (ended [] (drop (newline_at rest + 1) rest)));
+      left = is.left ∙ unended_first now rest at.1;
+    })
+
+-- one line fewer is left
+pub many_next : (now other rest : List ℕ) (i : ℕ) → position (λ b. b == 10) rest ≡ Some i
+    → length (ended now rest) ≡ suc (length (ended other (take (length rest - (i + 1)) (drop (i + 1) rest))))
+many_next now other rest i found =
+    let at = found_within rest i found in
+    let more = drop (i + 1) rest in
+    rw (take_all (length rest - (i + 1)) more (omega (arith, length-drop (i + 1) rest)), at.0)
+    (ap (λ (ls : List (List ℕ)). length ls) (ended_first now rest at.1) ∙ ap suc (ended_many [] other (drop (newline_at rest + 1) rest)))
+
+-- no line more ends
+pub cut_done : (begun piece : List ℕ) (lines : List (List ℕ)) (now rest : List ℕ) → IsCut begun piece lines now rest → position (λ b. b == 10) rest ≡ None
+    → (ended begun piece ≡ lines) × (unended begun piece ≡ now ++ rest)
+cut_done begun piece lines now rest is found =
+    let beyond = found_none rest found in (
+      is.ends ∙ ap (λ (ls : List (List ℕ)). lines ++ ls) (ended_none now rest beyond) ∙ append-nil lines,
+      is.left ∙ unended_none now rest beyond,
+    )
+
+pub many_none : (now rest : List ℕ) → position (λ b. b == 10) rest ≡ None → length (ended now rest) ≡ 0
+many_none now rest found = ap (λ (ls : List (List ℕ)). length ls) (ended_none now rest (found_none rest found))

@@ -1,27 +1,28 @@
 -- Laws of cutting a text into lines, and of keeping the begun of each line alone.
-use Rattle.std.proofs.Common.{◌≡◌, ℕ, suc, ◌≤◌, ◌==◌, true, false, cond, List, [], ◌∷◌, ◌++◌, length, take, refl, sym, ap, ◌∙◌, append_assoc, append-nil, arith, inl, inr}
-use Rattle.std.proofs.lemmas.Bool.{cases_lt, lt-ltb, eq-eqb, ne_eqb}
+use Rattle.std.proofs.Common.{◌≡◌, ℕ, zero, suc, ◌+◌, ◌==◌, true, false, cond, List, [], ◌∷◌, ◌++◌, length, take, refl, sym, ap, ◌∙◌, arith, inl, inr}
+use Rattle.std.proofs.lemmas.Bool.{cases_lt, lt-ltb, ne_eqb}
 use Rattle.std.proofs.lemmas.List.{take_all, take-append-le, length-take-le}
 use Rattle.std.specs.Prelude.{nat_lt}
 use Rattle.pana_wire.specs.Line.{IsText, text_in, line_says}
 use Rattle.pana_wire.specs.Lines.{ended, unended, last_line}
 use Rattle.pana_wire.specs.inner.Kept.{keep}
 
-pub keep_short : (begun : List ℕ) (b : ℕ) → length (begun ++ b ∷ []) ≤ 65537 → keep begun b ≡ begun ++ b ∷ []
-keep_short begun b h = take_all 65537 (begun ++ b ∷ []) h
-
-keep_full : (begun : List ℕ) (b : ℕ) → 65537 ≤ length begun → keep begun b ≡ take 65537 begun
-keep_full begun b h = take-append-le 65537 begun (b ∷ []) h
-
-pub keep_long : (begun : List ℕ) (b : ℕ) → 65537 ≤ length begun → length begun ≤ 65537 → keep begun b ≡ begun
-keep_long begun b low high = keep_full begun b low ∙ take_all 65537 begun high
-
-pub keep_take : (begun : List ℕ) (b : ℕ) → keep (take 65537 begun) b ≡ keep begun b
-keep_take begun b = elim (cases_lt (length begun) 65537) [
-  | inl h ↦ ap (λ l. keep l b) (take_all 65537 begun (omega arith))
+-- where more bytes come, of what was kept and of the whole the same is kept
+pub keep_take : (begun more : List ℕ) → keep (take 65537 begun) more ≡ keep begun more
+keep_take begun more = elim (cases_lt (length begun) 65537) [
+  | inl h ↦ ap (λ l. keep l more) (take_all 65537 begun (omega arith))
   | inr h ↦ let full : length (take 65537 begun) ≡ 65537 = length-take-le 65537 begun h in
-      keep_full (take 65537 begun) b (omega arith) ∙ take_all 65537 (take 65537 begun) (omega arith) ∙ sym (keep_full begun b h)
+      take-append-le 65537 (take 65537 begun) more (omega arith) ∙ take_all 65537 (take 65537 begun) (omega arith) ∙ sym (take-append-le 65537 begun more h)
 ]
+
+take_behind : (xs ys : List ℕ) (n k : ℕ) → n ≡ length xs + k → take n (xs ++ ys) ≡ xs ++ take k ys
+take_behind [] ys n k is = let same : n ≡ k = omega arith in ap (λ m. take m ys) same
+take_behind (x ∷ xs) ys zero k is = absurd (omega arith)
+take_behind (x ∷ xs) ys (suc n) k is = ap (λ l. x ∷ l) (take_behind xs ys n k (omega arith))
+
+-- what there is room for is kept
+pub keep_room : (begun more : List ℕ) (room : ℕ) → 65537 ≡ length begun + room → begun ++ take room more ≡ keep begun more
+keep_room begun more room is = sym (take_behind begun more 65537 room is)
 
 pub ended_append : (begun xs ys : List ℕ) → ended begun (xs ++ ys) ≡ ended begun xs ++ ended (unended begun xs) ys
 ended_append begun [] ys = refl
@@ -62,27 +63,6 @@ says_cut line = elim (cases_lt (length line) 65537) [
       rw (long, long_cut) refl
 ]
 
--- one byte more of a text, which is a newline, or isn't
-pub ended_newline : (begun xs : List ℕ) (b : ℕ) → b ≡ 10 → ended begun (xs ++ b ∷ []) ≡ ended begun xs ++ unended begun xs ∷ []
-ended_newline begun xs b is =
-    let e : (b == 10) ≡ true = eq-eqb b 10 is in
-    ended_append begun xs (b ∷ []) ∙ ap (λ (ls : List (List ℕ)). ended begun xs ++ ls) (ap (λ t. cond t (unended begun xs ∷ []) []) e)
-
-pub unended_newline : (begun xs : List ℕ) (b : ℕ) → b ≡ 10 → unended begun (xs ++ b ∷ []) ≡ []
-unended_newline begun xs b is =
-    let e : (b == 10) ≡ true = eq-eqb b 10 is in
-    unended_append begun xs (b ∷ []) ∙ ap (λ t. cond t [] (unended begun xs ++ b ∷ [])) e
-
-pub ended_byte : (begun xs : List ℕ) (b : ℕ) → (b ≡ 10 → ⊥) → ended begun (xs ++ b ∷ []) ≡ ended begun xs
-ended_byte begun xs b other =
-    let e : (b == 10) ≡ false = ne_eqb b 10 other in
-    ended_append begun xs (b ∷ []) ∙ ap (λ (ls : List (List ℕ)). ended begun xs ++ ls) (ap (λ t. cond t (unended begun xs ∷ []) []) e) ∙ append-nil (ended begun xs)
-
-pub unended_byte : (begun xs : List ℕ) (b : ℕ) → (b ≡ 10 → ⊥) → unended begun (xs ++ b ∷ []) ≡ unended begun xs ++ b ∷ []
-unended_byte begun xs b other =
-    let e : (b == 10) ≡ false = ne_eqb b 10 other in
-    unended_append begun xs (b ∷ []) ∙ ap (λ t. cond t [] (unended begun xs ++ b ∷ [])) e
-
 no_zero : (bs : List ℕ) → true ≡ (suc (length bs) == 0) → ⊥
 no_zero bs is = let some : (suc (length bs) == 0) ≡ false = ne_eqb (suc (length bs)) 0 (λ e. absurd (omega arith)) in let odd : true ≡ false = is ∙ some in absurd (cc)
 
@@ -95,9 +75,11 @@ pub held_some : (line held : List ℕ) → held ≡ take 65537 line → (length 
 held_some [] held is some = let odd : false ≡ true = sym some ∙ ap (λ (l : List ℕ). length l == 0) is in absurd (cc)
 held_some (b ∷ bs) held is some = refl
 
--- a newline in a text
-pub ended_at : (begun xs rest : List ℕ) (b : ℕ) → b ≡ 10 → ended begun (xs ++ b ∷ rest) ≡ (ended begun xs ++ unended begun xs ∷ []) ++ ended [] rest
-ended_at begun xs rest b is =
-    ap (ended begun) (sym (append_assoc xs (b ∷ []) rest)) ∙ ended_append begun (xs ++ b ∷ []) rest
-    ∙ ap (λ (ls : List (List ℕ)). ls ++ ended (unended begun (xs ++ b ∷ [])) rest) (ended_newline begun xs b is)
-    ∙ ap (λ (l : List ℕ). (ended begun xs ++ unended begun xs ∷ []) ++ ended l rest) (unended_newline begun xs b is)
+-- how many lines end in a text is the same, whatever has begun
+pub ended_many : (begun other text : List ℕ) → length (ended begun text) ≡ length (ended other text)
+ended_many begun other [] = refl
+ended_many begun other (b ∷ bs) =
+    elim (b == 10) as (λ t. length (cond t (begun ∷ ended [] bs) (ended (begun ++ b ∷ []) bs)) ≡ length (cond t (other ∷ ended [] bs) (ended (other ++ b ∷ []) bs))) [
+      | true ↦ refl
+      | false ↦ ended_many (begun ++ b ∷ []) (other ++ b ∷ []) bs
+    ]

@@ -47,9 +47,7 @@ impl AnswerBuffer {
         if !self.has_room(text) {
             return false;
         }
-        for byte in text.as_bytes() {
-            self.bytes.push_reserved(*byte);
-        }
+        self.bytes.extend_from_slice(text.as_bytes()).unwrap();
         self.bytes.push_reserved(b'\n');
         true
     }

@@ -1,5 +1,5 @@
 //! Boards, families and stamps as texts.
-use crate::json_writing::{Piece, WriteJson, write_all, write_list};
+use crate::json_writing::{WriteJson, write_flag, write_list, write_number, write_text};
 use json::Writer;
 use pana_calls::{BoardRow, BoardView, CopyStamp, FamilyRow};
 use std::alloc::{AllocError, Global};
@@ -9,22 +9,16 @@ impl WriteJson for BoardRow {
 
     ghost json = { row_data };
 
-    fn write(&self, alloc: Global, out: &mut Writer<Global>) -> Result<(), AllocError> {
-        write_all(
-            alloc,
-            out,
-            &[
-                Piece::Begin,
-                Piece::Number("conflict", self.conflict),
-                Piece::Number("copy", self.copy),
-                Piece::Text("device", self.place.device.as_str()),
-                Piece::Number("equal", self.equal),
-                Piece::Number("newer", self.newer),
-                Piece::Number("older", self.older),
-                Piece::Text("path", self.place.path.as_str()),
-                Piece::End,
-            ],
-        )
+    fn write(&self, _alloc: Global, out: &mut Writer<Global>) -> Result<(), AllocError> {
+        out.begin_object()?;
+        write_number(out, "conflict", self.conflict)?;
+        write_number(out, "copy", self.copy)?;
+        write_text(out, "device", self.place.device.as_str())?;
+        write_number(out, "equal", self.equal)?;
+        write_number(out, "newer", self.newer)?;
+        write_number(out, "older", self.older)?;
+        write_text(out, "path", self.place.path.as_str())?;
+        out.end_object()
     }
 }
 
@@ -34,16 +28,14 @@ impl WriteJson for BoardView {
     ghost json = { board_data };
 
     fn write(&self, alloc: Global, out: &mut Writer<Global>) -> Result<(), AllocError> {
-        write_all(alloc, out, &[Piece::Begin, Piece::Key("copies")])?;
+        out.begin_object()?;
+        out.key("copies")?;
         write_list(alloc, out, self.rows.as_slice())?;
-        write_all(
-            alloc,
-            out,
-            &[Piece::Number("family", self.family), Piece::Key("newest")],
-        )?;
+        write_number(out, "family", self.family)?;
+        out.key("newest")?;
         write_list(alloc, out, self.newest.as_slice())?;
-        write_all(alloc, out, &[Piece::Flag("split", self.split), Piece::End])?;
-        Ok(())
+        write_flag(out, "split", self.split)?;
+        out.end_object()
     }
 }
 
@@ -53,19 +45,13 @@ impl WriteJson for FamilyRow {
     ghost json = { family_data };
 
     #[tactic(auto, unfolding(crate::specs::Reply::family_data))]
-    fn write(&self, alloc: Global, out: &mut Writer<Global>) -> Result<(), AllocError> {
-        write_all(
-            alloc,
-            out,
-            &[
-                Piece::Begin,
-                Piece::Number("copies", self.copies),
-                Piece::Number("family", self.family),
-                Piece::Number("newest", self.newest),
-                Piece::Flag("split", self.split),
-                Piece::End,
-            ],
-        )
+    fn write(&self, _alloc: Global, out: &mut Writer<Global>) -> Result<(), AllocError> {
+        out.begin_object()?;
+        write_number(out, "copies", self.copies)?;
+        write_number(out, "family", self.family)?;
+        write_number(out, "newest", self.newest)?;
+        write_flag(out, "split", self.split)?;
+        out.end_object()
     }
 }
 
@@ -74,16 +60,10 @@ impl WriteJson for CopyStamp {
 
     ghost json = { stamp_data };
 
-    fn write(&self, alloc: Global, out: &mut Writer<Global>) -> Result<(), AllocError> {
-        write_all(
-            alloc,
-            out,
-            &[
-                Piece::Begin,
-                Piece::Number("copy", self.copy),
-                Piece::Text("stamp", self.text.as_str()),
-                Piece::End,
-            ],
-        )
+    fn write(&self, _alloc: Global, out: &mut Writer<Global>) -> Result<(), AllocError> {
+        out.begin_object()?;
+        write_number(out, "copy", self.copy)?;
+        write_text(out, "stamp", self.text.as_str())?;
+        out.end_object()
     }
 }

@@ -2,13 +2,14 @@
 ghost use Rattle.std.specs.Prelude.{◌≡◌, ◌<◌, ◌==◌, [], ◌∷◌, length, map, position, None, IfOk, IfSome};
 ghost use Rattle.pana_wire.specs.Lines.{lines_of};
 
+use memchr::memchr;
 use std::alloc::{AllocError, Global};
 
 /// Where the first newline stands.
-fn end_of_line(text: &[u8]) -> Option<usize>
+pub(crate) fn end_of_line(text: &[u8]) -> Option<usize>
     ensures { result ≡ position (λ byte. byte == 10) text.now }
 {
-    text.iter().position(|byte| *byte == b'\n')
+    memchr(b'\n', text)
 }
 
 /// The first line of a text, and what comes behind it; none where the text is empty.

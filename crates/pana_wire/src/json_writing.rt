@@ -1,6 +1,5 @@
 //! Texts in JSON, token by token, with no blank.
-ghost use Rattle.std.specs.Prelude.{◌≡◌, ◌<◌, ◌^◌, ◌∷◌, [], ◌++◌, decimal, IfOk, OnOk, option_copied, map, flat_map, string_bytes};
-ghost use Rattle.std.specs.List.{All};
+ghost use Rattle.std.specs.Prelude.{◌≡◌, ◌<◌, ◌^◌, ◌∷◌, [], ◌++◌, decimal, IfOk, IfSome, OnOk, option_copied, map, string_bytes};
 ghost use Rattle.json.specs.Print.{print};
 ghost use Rattle.json.specs.Token as Token;
 ghost use Rattle.json.specs.Token.{key};
@@ -9,32 +8,11 @@ ghost use Rattle.serde_json.specs.Data.{array, member, no_members, object};
 ghost use Rattle.serde_json.specs.View.{items_of};
 ghost use Rattle.serde_json.specs.Written.{compact_text, outline};
 ghost use Rattle.pana_wire.specs.inner.Names.{IsSumOrNone};
-ghost use Rattle.pana_wire.specs.inner.Pieces.{IsSound, piece_tokens, text_tokens};
+ghost use Rattle.pana_wire.specs.inner.Pieces.{number_tokens, text_tokens};
 
 use json::Writer;
-use pana_copies::{Place, Sum};
+use pana_copies::Sum;
 use std::alloc::{AllocError, Global};
-
-/// A part of a text.
-#[derive(Drop)]
-pub(crate) enum Piece<'a> {
-    /// What an object begins with.
-    Begin,
-    /// What it ends with.
-    End,
-    /// The name of a member, whose content comes next.
-    Key(&'a str),
-    /// A member: its name and its content.
-    Number(&'a str, u64),
-    Text(&'a str, &'a str),
-    Flag(&'a str, bool),
-    /// A member where its content is given, and else nothing.
-    NumberIfGiven(&'a str, Option<u64>),
-    SumIfGiven(&'a str, Option<&'a Sum>),
-    /// So with the device and the path of a place.
-    DeviceIfGiven(&'a str, Option<&'a Place>),
-    PathIfGiven(&'a str, Option<&'a Place>),
-}
 
 /// What has a text in JSON.
 pub(crate) trait WriteJson {
@@ -75,7 +53,12 @@ impl<T: WriteJson> WriteJson for Option<T> {
     }
 }
 
-fn write_number(out: &mut Writer<Global>, name: &str, number: u64) -> Result<(), AllocError>
+/// Writes a member: its name and its content. Fails only where memory runs out, as those below.
+pub(crate) fn write_number(
+    out: &mut Writer<Global>,
+    name: &str,
+    number: u64,
+) -> Result<(), AllocError>
     ensures tokens { OnOk result (out.new.tokens ≡ out.old.tokens ++ key name.now ∷ Token.number (decimal number) ∷ []) }
     ensures before { OnOk result (out.new.before ≡ out.old.before) }
     ensures number { number < 2 ^ 64 }
@@ -84,7 +67,23 @@ fn write_number(out: &mut Writer<Global>, name: &str, number: u64) -> Result<(),
     out.u64(number)
 }
 
-fn write_text(out: &mut Writer<Global>, name: &str, text: &str) -> Result<(), AllocError>
+/// Writes a member where its content is given, and else nothing.
+pub(crate) fn write_number_if_given(
+    out: &mut Writer<Global>,
+    name: &str,
+    number: Option<u64>,
+) -> Result<(), AllocError>
+    ensures tokens { OnOk result (out.new.tokens ≡ out.old.tokens ++ number_tokens name.now number) }
+    ensures before { OnOk result (out.new.before ≡ out.old.before) }
+    ensures number { OnOk result (IfSome number (λ n. n < 2 ^ 64)) }
+{
+    match number {
+        Some(number) => write_number(out, name, number),
+        None => Ok(()),
+    }
+}
+
+pub(crate) fn write_text(out: &mut Writer<Global>, name: &str, text: &str) -> Result<(), AllocError>
     ensures tokens { OnOk result (out.new.tokens ≡ out.old.tokens ++ key name.now ∷ Token.string text.now ∷ []) }
     ensures before { OnOk result (out.new.before ≡ out.old.before) }
 {
@@ -92,7 +91,7 @@ fn write_text(out: &mut Writer<Global>, name: &str, text: &str) -> Result<(), Al
     out.string(text)
 }
 
-fn write_flag(out: &mut Writer<Global>, name: &str, flag: bool) -> Result<(), AllocError>
+pub(crate) fn write_flag(out: &mut Writer<Global>, name: &str, flag: bool) -> Result<(), AllocError>
     ensures tokens { OnOk result (out.new.tokens ≡ out.old.tokens ++ key name.now ∷ Token.boolean flag ∷ []) }
     ensures before { OnOk result (out.new.before ≡ out.old.before) }
 {
@@ -100,7 +99,8 @@ fn write_flag(out: &mut Writer<Global>, name: &str, flag: bool) -> Result<(), Al
     out.boolean(flag)
 }
 
-fn write_sum(
+/// Writes a member where its content is given, and else nothing.
+pub(crate) fn write_sum(
     alloc: Global,
     out: &mut Writer<Global>,
     name: &str,
@@ -119,45 +119,6 @@ fn write_sum(
     }
 }
 
-fn write_piece(alloc: Global, out: &mut Writer<Global>, piece: &Piece<'_>) -> Result<(), AllocError>
-    ensures tokens { OnOk result (out.new.tokens ≡ out.old.tokens ++ piece_tokens piece.now) }
-    ensures before { OnOk result (out.new.before ≡ out.old.before) }
-    ensures sound { OnOk result (IsSound piece.now) }
-{
-    match piece {
-        Piece::Begin => out.begin_object(),
-        Piece::End => out.end_object(),
-        Piece::Key(name) => out.key(name),
-        Piece::Number(name, number) | Piece::NumberIfGiven(name, Some(number)) => {
-            write_number(out, name, *number)
-        }
-        Piece::NumberIfGiven(_, None)
-        | Piece::DeviceIfGiven(_, None)
-        | Piece::PathIfGiven(_, None) => Ok(()),
-        Piece::Text(name, text) => write_text(out, name, text),
-        Piece::Flag(name, flag) => write_flag(out, name, *flag),
-        Piece::SumIfGiven(name, sum) => write_sum(alloc, out, name, *sum),
-        Piece::DeviceIfGiven(name, Some(place)) => write_text(out, name, place.device.as_str()),
-        Piece::PathIfGiven(name, Some(place)) => write_text(out, name, place.path.as_str()),
-    }
-}
-
-/// Writes these parts, one after another. Fails only where memory runs out.
-pub(crate) fn write_all(
-    alloc: Global,
-    out: &mut Writer<Global>,
-    pieces: &[Piece<'_>],
-) -> Result<(), AllocError>
-    ensures tokens { OnOk result (out.new.tokens ≡ out.old.tokens ++ flat_map piece_tokens pieces.now) }
-    ensures before { OnOk result (out.new.before ≡ out.old.before) }
-    ensures sound { OnOk result (All IsSound pieces.now) }
-{
-    for piece in pieces {
-        write_piece(alloc, out, piece)?;
-    }
-    Ok(())
-}
-
 /// Writes an array of these. Fails only where memory runs out.
 pub(crate) fn write_list<T: WriteJson>(
     alloc: Global,
@@ -174,13 +135,15 @@ pub(crate) fn write_list<T: WriteJson>(
     out.end_array()
 }
 
-/// The text of these parts. Fails only where memory runs out.
-pub(crate) fn pieces_text(alloc: Global, pieces: &[Piece<'_>]) -> Result<String, AllocError>
-    ensures { IfOk result (λ text. string_bytes text ≡ print (flat_map piece_tokens pieces.now)) }
+/// How many bytes a text has room for at first: most have no more.
+const FIRST_ROOM: usize = 128;
+
+/// No token yet. Fails only where memory runs out.
+pub(crate) fn begun_text(alloc: Global) -> Result<Writer<Global>, AllocError>
+    ensures tokens { IfOk result (λ out. out.tokens ≡ []) }
+    ensures before { IfOk result (λ out. out.before ≡ []) }
 {
-    let mut out = Writer::new(Vec::new(alloc));
-    write_all(alloc, &mut out, pieces)?;
-    Ok(written_text(out))
+    Ok(Writer::new(Vec::with_capacity(alloc, FIRST_ROOM)?))
 }
 
 /// The text of an object with one member. Fails only where memory runs out.
@@ -191,7 +154,7 @@ pub(crate) fn member_text<T: WriteJson>(
 ) -> Result<String, AllocError>
     ensures { IfOk result (λ text. string_bytes text ≡ compact_text (object (member name.now (T.json content.now) no_members))) }
 {
-    let mut out = Writer::new(Vec::new(alloc));
+    let mut out = begun_text(alloc)?;
     out.begin_object()?;
     out.key(name)?;
     content.write(alloc, &mut out)?;
@@ -207,7 +170,7 @@ pub(crate) fn list_text<T: WriteJson>(
 ) -> Result<String, AllocError>
     ensures { IfOk result (λ text. string_bytes text ≡ compact_text (object (member name.now (array (items_of (map T.json items.now))) no_members))) }
 {
-    let mut out = Writer::new(Vec::new(alloc));
+    let mut out = begun_text(alloc)?;
     out.begin_object()?;
     out.key(name)?;
     write_list(alloc, &mut out, items)?;

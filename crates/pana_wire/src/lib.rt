@@ -10,6 +10,7 @@ mod entry_writing;
 mod fault;
 mod field;
 mod flat_object;
+mod flushing;
 mod json_writing;
 mod line_buffer;
 mod line_fault;

@@ -1,4 +1,4 @@
-ghost use Rattle.std.specs.Prelude.{◌≡◌, ◌==◌, [], IfOk, length};
+ghost use Rattle.std.specs.Prelude.{◌≡◌, ◌==◌, [], IfOk, length, take};
 ghost use Rattle.pana_wire.specs.inner.Kept.{keep};
 
 use std::alloc::{AllocError, Global};
@@ -6,6 +6,23 @@ use std::marker::Model;
 
 /// How many bytes of a line are kept: one more than the longest line has, so that a longer one is known.
 const MOST_KEPT: usize = 65537;
+
+/// What is kept of a line that stands whole in these bytes.
+pub fn first_bytes(line: &[u8]) -> &[u8]
+    ensures { result.now ≡ take 65537 line.now }
+{
+    at_most(line, MOST_KEPT)
+}
+
+fn at_most(bytes: &[u8], most: usize) -> &[u8]
+    ensures { result.now ≡ take most bytes.now }
+{
+    if bytes.len() > most {
+        &bytes[..most]
+    } else {
+        bytes
+    }
+}
 
 /// The first bytes of a line that hasn't ended yet.
 #[derive(Drop)]
@@ -32,13 +49,12 @@ impl LineBuffer {
         Ok(LineBuffer { bytes })
     }
 
-    /// Keeps one byte more, while there are fewer than 65,537.
-    pub fn push(&mut self, byte: u8)
-        ensures { self.new ≡ keep self.old byte }
+    /// Keeps these bytes too, while there are fewer than 65,537.
+    pub fn extend(&mut self, bytes: &[u8])
+        ensures { self.new ≡ keep self.old bytes.now }
     {
-        if self.bytes.len() < MOST_KEPT {
-            self.bytes.push_reserved(byte);
-        }
+        let room = MOST_KEPT - self.bytes.len();
+        self.bytes.extend_from_slice(at_most(bytes, room)).unwrap();
     }
 
     /// Begins a new line.

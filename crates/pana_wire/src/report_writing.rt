@@ -1,15 +1,16 @@
 //! Reports as texts.
-ghost use Rattle.std.specs.Prelude.{◌≡◌, ◌++◌, true, IfOk, OnOk, option_copied, string_bytes};
+ghost use Rattle.std.specs.Prelude.{◌≡◌, ◌++◌, true, codes, IfOk, IfSome, OnOk, option_copied, option_map, string_bytes};
 ghost use Rattle.json.specs.Tree.{json_tokens};
 ghost use Rattle.serde_json.specs.Written.{outline};
-ghost use Rattle.pana_copies.specs.Names.{is_device};
+ghost use Rattle.pana_copies.specs.Names.{is_device, is_path};
 ghost use Rattle.pana_wire.specs.Line.{line_says};
 ghost use Rattle.pana_wire.specs.Report.{report_text};
 ghost use Rattle.pana_wire.specs.inner.LongLine.{IsReadable};
 ghost use Rattle.pana_wire.specs.inner.Names.{HasNames};
+ghost use Rattle.pana_wire.specs.inner.Pieces.{text_tokens};
 ghost use Rattle.pana_wire.specs.inner.ReportTokens.{given_place, numbers_of, object_of};
 
-use crate::json_writing::{Piece, write_all, written_text};
+use crate::json_writing::{begun_text, write_number_if_given, write_sum, write_text, written_text};
 use crate::word::kind_word;
 use json::Writer;
 use pana_calls::Call;
@@ -25,7 +26,7 @@ pub fn encode_call(alloc: Global, by: &DeviceName, report: &Report) -> Result<St
     ensures text { IfOk result (λ text. string_bytes text ≡ report_text by.now report.now) }
     ensures back { IfOk result (λ text. line_says (string_bytes text) ≡ Ok (record { by = by.now; call = Call.Report report.now })) }
 {
-    let mut out = Writer::new(Vec::new(alloc));
+    let mut out = begun_text(alloc)?;
     write_report(alloc, &mut out, by, report, None)?;
     Ok(written_text(out))
 }
@@ -46,26 +47,44 @@ pub(crate) fn write_report<'a>(
 {
     let numbers = numbers_of(report);
     let place = given_place(report);
-    write_all(
-        alloc,
-        out,
-        &[
-            Piece::Begin,
-            Piece::NumberIfGiven("a", numbers.a),
-            Piece::NumberIfGiven("b", numbers.b),
-            Piece::Text("by", by.as_str()),
-            Piece::NumberIfGiven("copy", numbers.copy),
-            Piece::DeviceIfGiven("device", place),
-            Piece::Text("do", kind_word(report.kind()).name()),
-            Piece::NumberIfGiven("entry", numbers.entry),
-            Piece::NumberIfGiven("heir", numbers.heir),
-            Piece::NumberIfGiven("number", number),
-            Piece::PathIfGiven("path", place),
-            Piece::SumIfGiven("sum", report.sum()),
-            Piece::End,
-        ],
-    )?;
+    out.begin_object()?;
+    write_number_if_given(out, "a", numbers.a)?;
+    write_number_if_given(out, "b", numbers.b)?;
+    write_text(out, "by", by.as_str())?;
+    write_number_if_given(out, "copy", numbers.copy)?;
+    write_device(out, place)?;
+    write_text(out, "do", kind_word(report.kind()).name())?;
+    write_number_if_given(out, "entry", numbers.entry)?;
+    write_number_if_given(out, "heir", numbers.heir)?;
+    write_number_if_given(out, "number", number)?;
+    write_path(out, place)?;
+    write_sum(alloc, out, "sum", report.sum())?;
+    out.end_object()?;
     Ok(())
+}
+
+/// Writes the member of a place's device where the place is given, and else nothing.
+fn write_device(out: &mut Writer<Global>, place: Option<&Place>) -> Result<(), AllocError>
+    ensures tokens { OnOk result (out.new.tokens ≡ out.old.tokens ++ text_tokens (codes "device") (option_map (λ p. p.device) (option_copied place.entry))) }
+    ensures before { OnOk result (out.new.before ≡ out.old.before) }
+    ensures device { OnOk result (IfSome (option_copied place.entry) (λ p. is_device p.device ≡ true)) }
+{
+    match place {
+        Some(place) => write_text(out, "device", place.device.as_str()),
+        None => Ok(()),
+    }
+}
+
+/// Writes that of its path.
+fn write_path(out: &mut Writer<Global>, place: Option<&Place>) -> Result<(), AllocError>
+    ensures tokens { OnOk result (out.new.tokens ≡ out.old.tokens ++ text_tokens (codes "path") (option_map (λ p. p.path) (option_copied place.entry))) }
+    ensures before { OnOk result (out.new.before ≡ out.old.before) }
+    ensures path { OnOk result (IfSome (option_copied place.entry) (λ p. is_path p.path ≡ true)) }
+{
+    match place {
+        Some(place) => write_text(out, "path", place.path.as_str()),
+        None => Ok(()),
+    }
 }
 
 /// The numbers in a report, by the names of their members.

@@ -7,10 +7,11 @@ ghost use Rattle.pana_wire.specs.Lines.{ended, unended, last_line};
 ghost use Rattle.pana_wire.specs.Session.{Serves, Stops, NeverBegins};
 ghost use Rattle.pana_wire.specs.Timely.{IsSettledAlways, IsTimely};
 ghost use Rattle.pana_wire.specs.inner.Progress.{Advances, BreaksNext, Holds, IsHeldOf, IsLost, IsOutFault, Puts, Releases, both};
-ghost use Rattle.pana_wire.specs.inner.Writing.{Writes, WritesPrefix};
 
 use crate::answer_buffer::AnswerBuffer;
-use crate::line_buffer::LineBuffer;
+use crate::cutting::end_of_line;
+use crate::flushing::{write_line, write_out, write_whole};
+use crate::line_buffer::{LineBuffer, first_bytes};
 use crate::message::Message;
 use crate::reading::LineReader;
 use crate::tap::Tap;
@@ -277,16 +278,42 @@ fn take_lines<W: Write, S: Session>(
     ensures out { IfErr result (IsOutFault (has_failed writer.new)) }
 {
     let mut served = Served::NOTHING;
-    for byte in piece {
-        if *byte == b'\n' {
-            let answered = answer(lines, answers, writer, session, held.as_slice())?;
-            served = served.and(answered);
-            held.clear();
-        } else {
-            held.push(*byte);
-        }
+    let mut rest = piece;
+    while let Some(end) = end_of_line(rest) {
+        let answered = take_line(lines, answers, writer, session, held, &rest[..end])?;
+        served = served.and(answered);
+        rest = &rest[end + 1..];
     }
+    held.extend(rest);
     Ok(served)
+}
+
+/// Makes the call of the line that ends with these bytes, behind those that are held.
+fn take_line<W: Write, S: Session>(
+    lines: &mut LineReader,
+    answers: &mut AnswerBuffer,
+    writer: &mut Tap<W>,
+    session: &mut S,
+    held: &mut LineBuffer,
+    last: &[u8],
+) -> Result<Served, ServeFault>
+    requires { has_failed writer.old ≡ false }
+    ensures ok { IfOk result (λ served. (begun : List ℕ) → IsHeldOf held.old begun → Advances W.contents S.step S.fails S.settles S.breaks_off S.moment
+        writer.old writer.new session.old session.new answers.old answers.new ((begun ++ last.now) ∷ []) served.calls) }
+    ensures fault { IfErr result (λ fault. (begun : List ℕ) → IsHeldOf held.old begun → BreaksNext W.contents S.step S.fails S.settles S.breaks_off S.moment
+        writer.old writer.new session.old session.new answers.old ((begun ++ last.now) ∷ []) fault) }
+    ensures held { OnOk result (held.new ≡ []) }
+    ensures few { IfOk result (λ served. (served.calls ≤ 1) × (served.lines ≡ 1)) }
+    ensures works { OnOk result (has_failed writer.new ≡ false) }
+    ensures out { IfErr result (IsOutFault (has_failed writer.new)) }
+{
+    if held.is_empty() {
+        return answer(lines, answers, writer, session, first_bytes(last));
+    }
+    held.extend(last);
+    let answered = answer(lines, answers, writer, session, held.as_slice())?;
+    held.clear();
+    Ok(answered)
 }
 
 /// Answers the last line, where there is one.
@@ -431,56 +458,5 @@ fn release<W: Write, S: Session>(
     }
     write_out(writer, session, answers.as_slice())?;
     answers.clear();
-    Ok(())
-}
-
-/// Writes the text and a newline, and flushes them.
-fn write_line<W: Write, S: Session>(
-    writer: &mut Tap<W>,
-    session: &S,
-    text: &str,
-) -> Result<(), ServeFault>
-    requires { has_failed writer.old ≡ false }
-    ensures ok { OnOk result (Writes W.contents (S.moment session.now) writer.old writer.new (text.now ++ 10 ∷ [])) }
-    ensures err { IfErr result (WritesPrefix W.contents (S.moment session.now) writer.old writer.new (text.now ++ 10 ∷ [])) }
-{
-    write_whole(writer, session, text.as_bytes())?;
-    write_out(writer, session, b"\n")
-}
-
-/// Writes the bytes, and flushes them.
-fn write_out<W: Write, S: Session>(
-    writer: &mut Tap<W>,
-    session: &S,
-    bytes: &[u8],
-) -> Result<(), ServeFault>
-    requires { has_failed writer.old ≡ false }
-    ensures ok { OnOk result (Writes W.contents (S.moment session.now) writer.old writer.new bytes.now) }
-    ensures err { IfErr result (WritesPrefix W.contents (S.moment session.now) writer.old writer.new bytes.now) }
-{
-    write_whole(writer, session, bytes)?;
-    match writer.flush() {
-        Ok(()) => Ok(()),
-        Err(_) => Err(ServeFault::Write),
-    }
-}
-
-fn write_whole<W: Write, S: Session>(
-    writer: &mut Tap<W>,
-    session: &S,
-    bytes: &[u8],
-) -> Result<(), ServeFault>
-    requires { has_failed writer.old ≡ false }
-    ensures ok { OnOk result (Writes W.contents (S.moment session.now) writer.old writer.new bytes.now) }
-    ensures err { IfErr result (WritesPrefix W.contents (S.moment session.now) writer.old writer.new bytes.now) }
-{
-    let mut rest = bytes;
-    while !rest.is_empty() {
-        match writer.write(session, rest) {
-            Ok(0) => return Err(ServeFault::Write),
-            Ok(taken) => rest = &rest[taken..],
-            Err(_) => return Err(ServeFault::Write),
-        }
-    }
     Ok(())
 }

@@ -1,7 +1,7 @@
 //! Single copies, and how many there are, as texts.
 ghost use Rattle.std.specs.Prelude.{◌≡◌, option_copied};
 
-use crate::json_writing::{Piece, WriteJson, write_all};
+use crate::json_writing::{WriteJson, write_number, write_sum, write_text};
 use json::Writer;
 use pana_calls::{CopyStanding, HallCounts, Holding, StatusRow};
 use pana_copies::Sum;
@@ -22,19 +22,13 @@ impl WriteJson for Holding {
     ghost json = { holding_data };
 
     fn write(&self, alloc: Global, out: &mut Writer<Global>) -> Result<(), AllocError> {
-        write_all(
-            alloc,
-            out,
-            &[
-                Piece::Begin,
-                Piece::Number("copy", self.copy),
-                Piece::Number("family", self.family),
-                Piece::Text("path", self.path.as_str()),
-                Piece::SumIfGiven("sum", lent(&self.sum)),
-                Piece::Number("touch", self.touch),
-                Piece::End,
-            ],
-        )
+        out.begin_object()?;
+        write_number(out, "copy", self.copy)?;
+        write_number(out, "family", self.family)?;
+        write_text(out, "path", self.path.as_str())?;
+        write_sum(alloc, out, "sum", lent(&self.sum))?;
+        write_number(out, "touch", self.touch)?;
+        out.end_object()
     }
 }
 
@@ -44,22 +38,16 @@ impl WriteJson for CopyStanding {
     ghost json = { λ standing. with_sum standing.sum (standing_data standing) };
 
     fn write(&self, alloc: Global, out: &mut Writer<Global>) -> Result<(), AllocError> {
-        write_all(
-            alloc,
-            out,
-            &[
-                Piece::Begin,
-                Piece::Number("conflict", self.conflict),
-                Piece::Number("copy", self.copy),
-                Piece::Number("equal", self.equal),
-                Piece::Number("family", self.family),
-                Piece::Number("newer", self.newer),
-                Piece::Number("older", self.older),
-                Piece::Text("state", self.state.name()),
-                Piece::SumIfGiven("sum", lent(&self.sum)),
-                Piece::End,
-            ],
-        )
+        out.begin_object()?;
+        write_number(out, "conflict", self.conflict)?;
+        write_number(out, "copy", self.copy)?;
+        write_number(out, "equal", self.equal)?;
+        write_number(out, "family", self.family)?;
+        write_number(out, "newer", self.newer)?;
+        write_number(out, "older", self.older)?;
+        write_text(out, "state", self.state.name())?;
+        write_sum(alloc, out, "sum", lent(&self.sum))?;
+        out.end_object()
     }
 }
 
@@ -68,25 +56,19 @@ impl WriteJson for StatusRow {
 
     ghost json = { status_row_data };
 
-    fn write(&self, alloc: Global, out: &mut Writer<Global>) -> Result<(), AllocError> {
-        write_all(
-            alloc,
-            out,
-            &[
-                Piece::Begin,
-                Piece::Number("copy", self.copy),
-                Piece::Text("device", self.place.device.as_str()),
-                Piece::Text("path", self.place.path.as_str()),
-                Piece::Text("state", self.state.name()),
-                Piece::Key("with"),
-                Piece::Begin,
-                Piece::Number("copy", self.with.copy),
-                Piece::Text("device", self.with.place.device.as_str()),
-                Piece::Text("path", self.with.place.path.as_str()),
-                Piece::End,
-                Piece::End,
-            ],
-        )
+    fn write(&self, _alloc: Global, out: &mut Writer<Global>) -> Result<(), AllocError> {
+        out.begin_object()?;
+        write_number(out, "copy", self.copy)?;
+        write_text(out, "device", self.place.device.as_str())?;
+        write_text(out, "path", self.place.path.as_str())?;
+        write_text(out, "state", self.state.name())?;
+        out.key("with")?;
+        out.begin_object()?;
+        write_number(out, "copy", self.with.copy)?;
+        write_text(out, "device", self.with.place.device.as_str())?;
+        write_text(out, "path", self.with.place.path.as_str())?;
+        out.end_object()?;
+        out.end_object()
     }
 }
 
@@ -96,16 +78,10 @@ impl WriteJson for HallCounts {
     ghost json = { counts_data };
 
     #[tactic(auto, unfolding(crate::specs::Reply::counts_data))]
-    fn write(&self, alloc: Global, out: &mut Writer<Global>) -> Result<(), AllocError> {
-        write_all(
-            alloc,
-            out,
-            &[
-                Piece::Begin,
-                Piece::Number("copies", self.copies),
-                Piece::Number("devices", self.devices),
-                Piece::End,
-            ],
-        )
+    fn write(&self, _alloc: Global, out: &mut Writer<Global>) -> Result<(), AllocError> {
+        out.begin_object()?;
+        write_number(out, "copies", self.copies)?;
+        write_number(out, "devices", self.devices)?;
+        out.end_object()
     }
 }

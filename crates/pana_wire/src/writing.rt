@@ -5,9 +5,11 @@ ghost use Rattle.pana_wire.specs.Answer.{answer_text};
 ghost use Rattle.pana_wire.specs.Reply.{reply_text};
 
 use crate::entry_writing::write_entries;
-use crate::json_writing::{Piece, list_text, member_text, pieces_text, written_text};
+use crate::json_writing::{
+    begun_text, list_text, member_text, write_number, write_number_if_given, write_text,
+    written_text,
+};
 use crate::word::kind_word;
-use json::Writer;
 use pana_calls::{Answer, Cause, Reply};
 use pana_event::Rel;
 use pana_journal::{Entry, ReportKind};
@@ -57,59 +59,41 @@ pub fn encode_answer(alloc: Global, answer: &Answer) -> Result<String, AllocErro
 fn did_text(alloc: Global, kind: ReportKind, entry: u64) -> Result<String, AllocError>
     ensures { IfOk result (λ text. string_bytes text ≡ reply_text (Did kind entry)) }
 {
-    pieces_text(
-        alloc,
-        &[
-            Piece::Begin,
-            Piece::Text("did", kind_word(kind).name()),
-            Piece::Number("done", entry),
-            Piece::End,
-        ],
-    )
+    let mut out = begun_text(alloc)?;
+    out.begin_object()?;
+    write_text(&mut out, "did", kind_word(kind).name())?;
+    write_number(&mut out, "done", entry)?;
+    out.end_object()?;
+    Ok(written_text(out))
 }
 
 fn pair_text(alloc: Global, rel: Rel) -> Result<String, AllocError>
     ensures { IfOk result (λ text. string_bytes text ≡ reply_text (Pair rel)) }
 {
-    pieces_text(
-        alloc,
-        &[Piece::Begin, Piece::Text("pair", rel.name()), Piece::End],
-    )
+    let mut out = begun_text(alloc)?;
+    out.begin_object()?;
+    write_text(&mut out, "pair", rel.name())?;
+    out.end_object()?;
+    Ok(written_text(out))
 }
 
 fn refused_text(alloc: Global, cause: &Cause) -> Result<String, AllocError>
     ensures { IfOk result (λ text. string_bytes text ≡ reply_text (Refused cause.now)) }
 {
-    let code = u64::from(cause.code());
-    let name = cause.name();
-    match cause.copy() {
-        Some(copy) => pieces_text(
-            alloc,
-            &[
-                Piece::Begin,
-                Piece::Number("code", code),
-                Piece::Number("copy", copy),
-                Piece::Text("refused", name),
-                Piece::End,
-            ],
-        ),
-        None => pieces_text(
-            alloc,
-            &[
-                Piece::Begin,
-                Piece::Number("code", code),
-                Piece::Text("refused", name),
-                Piece::End,
-            ],
-        ),
-    }
+    let mut out = begun_text(alloc)?;
+    out.begin_object()?;
+    write_number(&mut out, "code", u64::from(cause.code()))?;
+    write_number_if_given(&mut out, "copy", cause.copy())?;
+    write_text(&mut out, "refused", cause.name())?;
+    out.end_object()?;
+    Ok(written_text(out))
 }
 
 fn journal_text(alloc: Global, entries: &[Entry]) -> Result<String, AllocError>
     ensures text { IfOk result (λ text. string_bytes text ≡ entries_text entries.now) }
     ensures back { IfOk result (λ text. IsReadBack (Journal entries.now) (string_bytes text)) }
 {
-    let mut out = Writer::new(Vec::new(alloc));
+    let mut out = begun_text(alloc)?;
     out.begin_object()?;
     out.key("entries")?;
     write_entries(alloc, &mut out, entries)?;

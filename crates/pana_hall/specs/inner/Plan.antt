@@ -10,10 +10,12 @@ use Rattle.pana_calls.specs.declared.reply.Reply.TheVariants.{Refused}
 use Rattle.pana_hall.specs.Permit.{after_decision, reply_of}
 use Rattle.pana_hall.specs.Prepared.{PreparedView, entries_of}
 use Rattle.pana_hall.specs.Refusal.{decision_refusal}
+use Rattle.pana_hall.specs.declared.state.State.{State}
+use Rattle.pana_hall.specs.inner.Next.{ArePlanned}
 
 -- the plan on a journal, as contracts see it once it is prepared
 abbrev pub plan_view : List Entry → Plan → PreparedView
-plan_view journal plan = record { journal = journal; entry = plan.next.entry; second = option_map (λ it. it.entry) plan.second; reply = plan.reply }
+plan_view journal plan = record { journal = journal; entry = plan.next.entry; second = option_map (λ it. it.value.entry) plan.second; reply = plan.reply }
 
 -- the plan's entries are those of the decision, against which nothing stands
 pub record IsPlanOf (journal : List Entry) (by : List ℕ) (decision : Decision) (plan : Plan) : Type 0 where
@@ -26,3 +28,7 @@ pub record Refuses (journal : List Entry) (by : List ℕ) (decision : Decision) 
   pub cause : Cause
   pub is : reply ≡ Refused cause
   pub why : (decision_refusal 8 journal by decision ≡ Some cause) ⊎ ((decision_refusal 8 journal by decision ≡ None) × (cause ≡ OutOfMemory))
+
+-- its entries are to be the next ones
+abbrev pub IsPlanned : State → Plan → Type 0
+IsPlanned state plan = ArePlanned state plan.next (option_map (λ it. it.value) plan.second)

@@ -1,4 +1,3 @@
-use Rattle.pana_family.proofs.Words.{List, StampRow}
 use Rattle.pana_family.proofs.Places.{in_read}
 use Rattle.pana_family.proofs.Planned.{one_added, planned_named}
 use Rattle.pana_family.proofs.settling.exchanges.Goals as goal

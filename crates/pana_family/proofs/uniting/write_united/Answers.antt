@@ -1,4 +1,5 @@
-use Rattle.pana_family.proofs.Words.{nat_tests, refl, ap, sym, ◌∙◌, ◌≡◌, ◌<◌, ◌∷◌, [], ◌++◌, ◌+◌, ℕ, Bool, true, List, take, map, filter, length, arith, length-append, map-append, Rel, StampRow, is_other}
+use Rattle.std.proofs.Common.{get_or}
+use Rattle.pana_family.proofs.Words.{nat_tests, refl, ap, sym, ◌∙◌, ◌≡◌, ◌<◌, ◌∷◌, [], ◌++◌, ◌+◌, ℕ, Bool, true, List, take, map, filter, length, arith, length-append, map-append, Rel, Equal, rel_of, StampRow, is_other}
 use Rattle.pana_family.proofs.Words.{row_relation, take_more_set}
 use Rattle.pana_family.proofs.{Copies.lives_from, Places.in_read, United.other_is}
 use Rattle.pana_family.proofs.Compared.{none_more, one_more, room_for_one}
@@ -36,11 +37,11 @@ loop-other-preserved c =
           }
     ]
 
-pub united_relation-requires-clause-first : goal.united_relation-requires-clause-first
-united_relation-requires-clause-first c = (c.requires.copies c.args.row.now.copy).1 (lives_from c.args.rows.now c.args.row.now c.requires.here c.requires.free)
+pub row-first-requires : goal.row-first-requires
+row-first-requires c = (c.requires.copies c.args.row.now.copy).1 (lives_from c.args.rows.now c.args.row.now c.requires.here c.requires.free)
 
-pub united_relation-requires-clause-other : goal.united_relation-requires-clause-other
-united_relation-requires-clause-other c =
+pub place-at-requires : goal.place-at-requires
+place-at-requires c =
     let r : StampRow = c.other-item.result in
     let there = in_read c.args.rows.now c.loop-other.other-index r c.loop-other-test.true c.other-item.is in
     (c.requires.copies r.copy).1 (lives_from c.args.rows.now r there (other_is c.args.row.now.copy r (sym c.is_other.ensures ∙ c.if-is_other.true)).0)
@@ -54,4 +55,6 @@ pub united_relation-requires-clause-decided : goal.united_relation-requires-clau
 united_relation-requires-clause-decided c = λ ne.
     let r : StampRow = c.other-item.result in
     let o = other_is c.args.row.now.copy r (sym c.is_other.ensures ∙ c.if-is_other.true) in
-    c.requires.united.decided c.args.row.now r c.requires.here (in_read c.args.rows.now c.loop-other.other-index r c.loop-other-test.true c.other-item.is) o.0 refl o.1 ne
+    let at_first : get_or c.row-first.result.now c.place-at.result Equal ≡ rel_of c.args.pairs.now c.args.row.now.copy r.copy = ap (λ k. get_or c.row-first.result.now k Equal) c.place-at.ensures.place ∙ c.row-first.ensures.rels r.copy in
+    let at_second : get_or c.row-second.result.now c.place-at.result Equal ≡ rel_of c.args.pairs.now c.args.b r.copy = ap (λ k. get_or c.row-second.result.now k Equal) c.place-at.ensures.place ∙ c.row-second.ensures.rels r.copy in
+    rw (at_first, at_second) (c.requires.united.decided c.args.row.now r c.requires.here (in_read c.args.rows.now c.loop-other.other-index r c.loop-other-test.true c.other-item.is) o.0 refl o.1 ne)

@@ -1,22 +1,15 @@
-use Rattle.pana_stamp.proofs.Calls.{sound_fill, filled_fill, raised_fill}
+use Rattle.std.specs.Prelude.{IfSome, IfNone}
+use Rattle.std.proofs.Common.{◌≡◌, refl, sym, subst, ◌∙◌}
+use Rattle.pana_stamp.specs.Fill.{fill as fill_of}
+use Rattle.pana_stamp.proofs.Calls.{filled_fill}
 use Rattle.pana_stamp.proofs.filling.fill.Goals as goal
 
-pub of_node-requires-clause-normal : goal.of_node-requires-clause-normal
-of_node-requires-clause-normal c =
-    (sound_fill _ _ _ _ _ c.node-root.ensures.same c.node-event_root.ensures.same c.in_ok-node.ensures c.node-event_root.ensures.normal c.node-event_root.ensures.shallow c.node-event_root.ensures.fits).normal
+pub returns-in-Some-clause-filled : goal.returns-in-Some-clause-filled
+returns-in-Some-clause-filled c =
+    let is : c.in-Some.new ≡ fill_of c.args.id.now c.args.event.now = subst (λ new. IfSome new (λ new. new ≡ fill_of c.args.id.now c.args.event.now)) c.in-Some.is c.in_ok-new.ensures.tree in
+    filled_fill _ _ _ _ _ _ refl refl refl is c.node.ensures.shallow
 
-pub of_node-requires-clause-shallow : goal.of_node-requires-clause-shallow
-of_node-requires-clause-shallow c =
-    (sound_fill _ _ _ _ _ c.node-root.ensures.same c.node-event_root.ensures.same c.in_ok-node.ensures c.node-event_root.ensures.normal c.node-event_root.ensures.shallow c.node-event_root.ensures.fits).shallow
-
-pub of_node-requires-clause-fits : goal.of_node-requires-clause-fits
-of_node-requires-clause-fits c =
-    (sound_fill _ _ _ _ _ c.node-root.ensures.same c.node-event_root.ensures.same c.in_ok-node.ensures c.node-event_root.ensures.normal c.node-event_root.ensures.shallow c.node-event_root.ensures.fits).fits
-
-pub returns-clause-filled : goal.returns-clause-filled
-returns-clause-filled c =
-    filled_fill _ _ _ _ _ _ c.node-root.ensures.same c.node-event_root.ensures.same c.in_ok-node.ensures c.of_node.ensures c.node-event_root.ensures.shallow
-
-pub returns-clause-raised : goal.returns-clause-raised
-returns-clause-raised c =
-    raised_fill _ _ _ _ _ _ c.node-root.ensures.same c.node-event_root.ensures.same c.in_ok-node.ensures c.of_node.ensures c.node-event_root.ensures.normal c.node-event_root.ensures.shallow
+pub returns-in_ok-same-in-None-clause-filled : goal.returns-in_ok-same-in-None-clause-filled
+returns-in_ok-same-in-None-clause-filled c =
+    let is : fill_of c.args.id.now c.args.event.now ≡ c.args.event.now = subst (λ new. IfNone new (fill_of c.args.id.now c.args.event.now ≡ c.args.event.now)) c.in-None.is c.in_ok-new.ensures.same in
+    filled_fill _ _ _ _ _ _ refl refl refl (c.in_ok-same-in-None.ensures ∙ sym is) c.node.ensures.shallow

@@ -1,5 +1,5 @@
 -- The members between the braces are all of the text.
-use Rattle.std.proofs.Common.{◌≡◌, ◌∷◌, [], List, ap, ◌∙◌, rules}
+use Rattle.std.proofs.Common.{◌≡◌, ◌∷◌, List, ap, ◌∙◌, rules}
 use Rattle.json.specs.Lex.{tokens}
 use Rattle.json.specs.Token.{Token, begin_object, end_object}
 use Rattle.pana_wire.specs.inner.FlatObject.{members_then}

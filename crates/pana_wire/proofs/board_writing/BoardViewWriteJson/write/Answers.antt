@@ -1,6 +1,7 @@
 -- The parts of the object, one after another.
 use Rattle.std.specs.Prelude.{codes, decimal}
 use Rattle.std.proofs.Common.{List, [], ◌∷◌, ◌++◌}
+use Rattle.std.proofs.lemmas.Result.{on_ok_weaker}
 use Rattle.json.specs.Token.{Token, begin_object, end_object, key, number, boolean}
 use Rattle.json.specs.Tree.{json_tokens}
 use Rattle.serde_json.specs.Written.{outline}
@@ -11,19 +12,31 @@ use Rattle.pana_wire.proofs.board_writing.BoardViewWriteJson.write.Goals as goal
 pub returns-clause-tokens : goal.returns-clause-tokens
 unfolding board_data rows_data numbers_data
 returns-clause-tokens c =
-    let board = c.args.self.now in
-    let begun : List Token = c.write_all.new.out.tokens in
-    let with_rows : List Token = c.write_list.new.out.tokens in
-    let middle : List Token = c.write_all-2.new.out.tokens in
-    let with_newest : List Token = c.write_list-2.new.out.tokens in
-    let written : List Token = c.write_all-3.new.out.tokens in
-    let rows : List Token = json_tokens (outline (rows_data c.as_slice.result.now)) in
-    let newest : List Token = json_tokens (outline (numbers_data c.as_slice-2.result.now)) in
-    let first : List Token = begin_object ∷ key (codes "copies") ∷ [] in
-    let between : List Token = key (codes "family") ∷ number (decimal board.family) ∷ key (codes "newest") ∷ [] in
-    let last : List Token = key (codes "split") ∷ boolean board.split ∷ end_object ∷ [] in
+    let begin_at : List Token = c.begin_object.new.self.tokens in
+    let copies_at : List Token = c.key.new.self.tokens in
+    let rows_at : List Token = c.write_list.new.out.tokens in
+    let family_at : List Token = c.write_number.new.out.tokens in
+    let newest_at : List Token = c.key-2.new.self.tokens in
+    let copies_newest_at : List Token = c.write_list-2.new.out.tokens in
+    let split_at : List Token = c.write_flag.new.out.tokens in
+    let end_at : List Token = c.end_object.new.self.tokens in
+    let begin_part : List Token = begin_object ∷ [] in
+    let copies_part : List Token = key (codes "copies") ∷ [] in
+    let rows_part : List Token = json_tokens (outline (rows_data c.as_slice.result.now)) in
+    let family_part : List Token = key (codes "family") ∷ number (decimal c.args.self.now.family) ∷ [] in
+    let newest_part : List Token = key (codes "newest") ∷ [] in
+    let copies_newest_part : List Token = json_tokens (outline (numbers_data c.as_slice-2.result.now)) in
+    let split_part : List Token = key (codes "split") ∷ boolean c.args.self.now.split ∷ [] in
+    let end_part : List Token = end_object ∷ [] in
     rw (← c.as_slice.ensures, ← c.as_slice-2.ensures)
-    (both_written c.args.out.now.tokens begun written first (rows ++ (between ++ (newest ++ last))) c.in_ok-write_all.ensures.tokens
-    (both_written begun with_rows written rows (between ++ (newest ++ last)) c.in_ok-write_list.ensures.tokens
-    (both_written with_rows middle written between (newest ++ last) c.in_ok-write_all-2.ensures.tokens
-    (both_written middle with_newest written newest last c.in_ok-write_list-2.ensures.tokens c.in_ok-write_all-3.ensures.tokens))))
+    (on_ok_weaker c.end_object.result
+    (λ last.
+    (both_written c.args.out.now.tokens begin_at end_at begin_part (copies_part ++ (rows_part ++ (family_part ++ (newest_part ++ (copies_newest_part ++ (split_part ++ end_part)))))) c.in_ok-begin_object.ensures.ok
+    (both_written begin_at copies_at end_at copies_part (rows_part ++ (family_part ++ (newest_part ++ (copies_newest_part ++ (split_part ++ end_part))))) c.in_ok-key.ensures.ok
+    (both_written copies_at rows_at end_at rows_part (family_part ++ (newest_part ++ (copies_newest_part ++ (split_part ++ end_part)))) c.in_ok-write_list.ensures.tokens
+    (both_written rows_at family_at end_at family_part (newest_part ++ (copies_newest_part ++ (split_part ++ end_part))) c.in_ok-write_number.ensures.tokens
+    (both_written family_at newest_at end_at newest_part (copies_newest_part ++ (split_part ++ end_part)) c.in_ok-key-2.ensures.ok
+    (both_written newest_at copies_newest_at end_at copies_newest_part (split_part ++ end_part) c.in_ok-write_list-2.ensures.tokens
+    (both_written copies_newest_at split_at end_at split_part end_part c.in_ok-write_flag.ensures.tokens
+    last))))))))
+    c.end_object.ensures.ok)
