@@ -13,16 +13,16 @@ use Rattle.pana_turn.specs.declared.view.Account.{Account}
 use Rattle.pana_turn.specs.declared.view.Stage.TheVariants.{Idle, Turn}
 use Rattle.pana_turn.specs.declared.view.View.{View}
 use Rattle.pana_turn.specs.Rule.{Course, DeskKey, IsAccountOf, Fits, Keeps}
-use Rattle.pana_turn.specs.inner.Views.{CardView, card, cards_from, new_cards, view, first, new_account, accounts_from, kept, dealt}
+use Rattle.pana_turn.specs.inner.Views.{view, first, new_account, accounts_from, kept, dealt}
 use Rattle.pana_turn.specs.Passes.{DeskId, PassView, new_pass, new_passes}
 use Rattle.pana_turn.proofs.Dividing.{deals}
 
 range_more : (a n : ℕ) → a < n → range_with_len a (n - a) ≡ a ∷ range_with_len (a + 1) (n - (a + 1))
 range_more a n less = let step : n - a ≡ suc (n - (a + 1)) = omega arith in ap (range_with_len a) step
 
--- what contracts see of the pass with this card, of the desk with this table
-abbrev pub pass_with : {S C R : Type 0} → TableId → CardView S → List (FinishedCall S C R) → PassView S C R
-pass_with table card seen = record { desk = record { table = table; begun = card.begun }; number = card.number; seen = seen }
+-- what contracts see of a pass, of the desk with this table and key
+abbrev pub pass_with : {S C R : Type 0} → TableId → DeskKey S → ℕ → List (FinishedCall S C R) → PassView S C R
+pass_with table key number seen = record { desk = record { table = table; begun = key.begun }; number = number; seen = seen }
 
 -- one number more
 range_push : (a n : ℕ) → range_with_len a (suc n) ≡ range_with_len a n ++ (a + n) ∷ []
@@ -93,18 +93,3 @@ module _ {S C R : Type 0} {step : S → C → R → S → Type 0} where
       let asks : List (Account S C R) → Type 0 = λ accounts. Splits (Keeps step key) id (view accounts [] [] Idle) (kept (view accounts [] [] Idle)) (dealt (view accounts [] [] Idle)) in
       subst asks (sym (accounts_more C R begun number seats less))
       (deals key id (new_account begun number) (accounts_from begun (number + 1) seats) [] [] (numbered C R begun (λ k. k ≢ number) (number + 1) (seats - (number + 1)) (λ k low high same. absurd (omega (arith, same)))))
-
-module _ {S : Type 0} where
-  -- one card more at the end
-  pub cards_push : (begun : S) (n : ℕ) → new_cards begun (n + 1) ≡ new_cards begun n ++ card begun n ∷ []
-  cards_push begun n =
-      let step : n + 1 ≡ suc n = omega arith in
-      let plain : 0 + n ≡ n = omega arith in
-      ap (cards_from begun 0) step ∙ ap (map (card begun)) (range_push 0 n) ∙ map-append (card begun) (range_with_len 0 n) ((0 + n) ∷ [])
-      ∙ ap (λ k. new_cards begun n ++ card begun k ∷ []) plain
-
-  -- where a card is left it is the next, and the others follow
-  pub cards_next : (begun : S) (dealt left : ℕ) (c : CardView S) (rest : List (CardView S)) → cards_from begun dealt left ≡ c ∷ rest
-      → (more : ℕ) × (left ≡ more + 1) × (c ≡ card begun dealt) × (rest ≡ cards_from begun (dealt + 1) more)
-  cards_next begun dealt zero c rest is = absurd (cc)
-  cards_next begun dealt (suc more) c rest is = (more, omega arith, (let head : c ≡ card begun dealt = cc (is) in head), (let tail : rest ≡ cards_from begun (dealt + 1) more = cc (is) in tail))

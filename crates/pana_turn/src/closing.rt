@@ -45,7 +45,7 @@ pub(crate) fn gather<M: Machine>(
         let Pass {
             seat: other,
             number: _,
-            begun: _,
+            key: _,
         } = pass;
         shared.join_seat::<Dealing>(seat, other);
     }

@@ -5,7 +5,7 @@ ghost use Rattle.pana_turn.specs.Passes.{AddsCall, IsSamePass, new_passes, own_c
 ghost use Rattle.pana_turn.specs.Closing.{Closes, HasAll, LacksOne};
 
 use crate::closing::{gather, has_all};
-use crate::dealing::{cards, deal};
+use crate::dealing::deal;
 use crate::machine::Machine;
 use crate::pass::{Note, Pass};
 use crate::plays::{Glance, Noting, Test};
@@ -79,23 +79,22 @@ impl<M: Machine> Desk<M> {
         ensures { IfOk result (λ opened. (opened.0.id.begun ≡ machine) × (opened.0.seats ≡ seats) × (opened.1.items ≡ new_passes opened.0.id seats)) }
     {
         let mut passes = Vec::with_capacity(alloc, seats as usize)?;
-        let cards = cards(alloc, &machine, seats)?;
         let mut slots = Vec::with_capacity(alloc, 1)?;
         let key = DeskKey {
             seats,
             begun: Snapshot::of(&machine),
         };
-        let waits = Waits::new(machine.is_slow());
+        let is_slow = machine.is_slow();
         slots.push_reserved(Some(machine));
         let Ok((table, mut seat)) = Table::new(alloc, &[0, 0], slots, &key) else {
             return Err(AllocError);
         };
-        deal(&table.shared, &mut seat, cards, &mut passes);
+        deal(&table.shared, &mut seat, &key, seats, &mut passes);
         Ok((
             Desk {
                 table,
                 seats,
-                waits,
+                waits: Waits::new(is_slow),
             },
             passes,
         ))

@@ -1,22 +1,7 @@
 use crate::machine::Machine;
-use crate::turns::DeskSeat;
+use crate::turns::{DeskKey, DeskSeat};
 use std::marker::Model;
 use std::snapshot::Snapshot;
-
-/// What a pass has beside its seat: its number, and the state that its desk was opened with.
-#[derive(Drop)]
-pub struct Card<S> {
-    pub(crate) number: u32,
-    pub(crate) begun: Snapshot<S>,
-}
-
-impl<S> Model for Card<S> {
-    ghost use Rattle.pana_turn.specs.inner.Views.{CardView};
-
-    ghost Value = { CardView S };
-
-    ghost view = { λ card. record { number = card.number; begun = card.begun.value } };
-}
 
 /// The right to call at one desk, one call at a time. To contracts it is its desk, its number there, and the history
 /// that it has seen. It takes no room but for its number.
@@ -24,7 +9,7 @@ impl<S> Model for Card<S> {
 pub struct Pass<M: Machine> {
     pub(crate) seat: DeskSeat<M>,
     pub(crate) number: u32,
-    pub(crate) begun: Snapshot<M>,
+    pub(crate) key: Snapshot<DeskKey<M>>,
 }
 
 impl<M: Machine> Model for Pass<M> {
@@ -36,9 +21,9 @@ impl<M: Machine> Model for Pass<M> {
 
     ghost Value = { PassView M M.Call M.Reply };
 
-    ghost view = { λ p. record { desk = record { table = p.seat.table_id; begun = p.begun.value }; number = p.number; seen = p.seat.me.0.seen } };
+    ghost view = { λ p. record { desk = record { table = p.seat.table_id; begun = p.key.value.begun }; number = p.number; seen = p.seat.me.0.seen } };
 
-    ghost invariant = { λ p. p.seat.me ≡ (pass p.begun.value p.number (calls_of p.number p.seat.me.0.seen) p.seat.me.0.seen Idle, []) };
+    ghost invariant = { λ p. p.seat.me ≡ (pass p.key.value.begun p.number (calls_of p.number p.seat.me.0.seen) p.seat.me.0.seen Idle, []) };
 }
 
 /// What a pass had seen when it wrote this down, to be met by another pass of its desk. It takes no room.

@@ -9,23 +9,6 @@ use Rattle.pana_turn.specs.declared.view.View.{View}
 use Rattle.pana_turn.specs.Passes.{PassView, own_calls}
 use Rattle.pana_turn.specs.Rule.{DeskKey}
 
--- what a pass has beside its seat: its number, and the state that its desk was opened with
-pub record CardView (S : Type 0) : Type 0 where
-  pub number : ℕ
-  pub begun : S
-
-module _ {S : Type 0} where
-  abbrev pub card : S → ℕ → CardView S
-  card begun number = record { number = number; begun = begun }
-
-  -- so many cards from this number on
-  abbrev pub cards_from : S → ℕ → ℕ → List (CardView S)
-  cards_from begun number n = map (card begun) (range_with_len number n)
-
-  -- the cards for the passes of a new desk
-  abbrev pub new_cards : S → ℕ → List (CardView S)
-  new_cards begun seats = cards_from begun 0 seats
-
 module _ {S C R : Type 0} where
   abbrev pub view : List (Account S C R) → List (FinishedCall S C R) → List (FinishedCall S C R) → Stage → View S C R
   view accounts seen met stage = record { accounts = accounts; seen = seen; met = met; stage = stage }

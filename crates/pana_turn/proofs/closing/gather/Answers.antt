@@ -22,7 +22,7 @@ join_seat-requires g c =
       ap (λ p. p.desk.table) c.pass.view_is ∙ all 0 c.in-Some.pass (omega arith),
       ap (λ me. me.1) c.pass.invariant,
       (let words = c.requires.table.0 in omega arith),
-      subst asks (sym (ap (λ me. me.0) c.pass.invariant)) (gathers _ _ _ v c.pass.inside.begun.value c.pass.inside.number (calls_of c.pass.inside.number seen) seen (ap (λ me. me.0.stage) keeps.4)),
+      subst asks (sym (ap (λ me. me.0) c.pass.invariant)) (gathers _ _ _ v c.pass.inside.key.value.begun c.pass.inside.number (calls_of c.pass.inside.number seen) seen (ap (λ me. me.0.stage) keeps.4)),
     )
 
 pub loop-pass-preserved : goal.loop-pass-preserved
@@ -34,7 +34,7 @@ loop-pass-preserved g c =
     let accounts = c.loop-pass.seat.me.0.accounts in
     let past = c.args.seat.now.me.0.seen in
     let seen = c.pass.inside.seat.me.0.seen in
-    let other : Holds _ _ _ = (pass c.pass.inside.begun.value c.pass.inside.number (calls_of c.pass.inside.number seen) seen Idle, []) in
+    let other : Holds _ _ _ = (pass c.pass.inside.key.value.begun c.pass.inside.number (calls_of c.pass.inside.number seen) seen Idle, []) in
     let here : Holds _ _ _ = (view accounts past [] Idle, []) in
     let me_is : c.join_seat.new.seat.me ≡ (view (accounts ++ account_of c.in-Some.pass ∷ []) past [] Idle, [])
     = joined.2 ∙ ap (λ me. (gathered me.0 c.pass.inside.seat.me.0, me.1)) keeps.4 ∙ ap (λ me. (gathered here.0 me.0, here.1)) c.pass.invariant

@@ -17,7 +17,7 @@ returns-clause-done g c =
     let number = c.pass.inside.number in
     let old = c.pass.inside.seat.me.0.seen in
     let looked = c.load.ensures.2.0 (omega arith) in
-    let own = looked.own c.pass.inside.begun.value number (calls_of number old) [] (ap (λ me. me.0.accounts) c.pass.invariant) in
+    let own = looked.own c.pass.inside.key.value.begun number (calls_of number old) [] (ap (λ me. me.0.accounts) c.pass.invariant) in
     let turn = c.take_turn-machine.ensures.looked in
     makes_call _ _ _ _ c.make-reply.new.self number old _ _ c.of-asked.result.value (ap (λ p. p.number) c.pass.view_is) (ap (λ p. p.seen) c.pass.view_is) looked.seen turn.seen own turn.own c.of-asked.ensures
     (ap (λ me. me.0.seen) c.give_turn.ensures.finished)
