@@ -1,12 +1,10 @@
 -- Folders, and the ticks and the start that they wait for.
-use Rattle.std.proofs.Common.{◌≡◌, ◌<◌, ⊎_elim, ℕ, Bool, true, false, not, ◌==◌, is_some, IsSome, MatchOption, arith, length, List, [], ◌∷◌, Option, Some, None, Result, Ok, Err, IfOk, IsTrue, refl, sym, ap, subst, ◌∙◌}
+use Rattle.std.proofs.Common.{◌≡◌, ◌<◌, ⊎_elim, ℕ, Bool, true, false, not, ◌==◌, is_some, IsSome, MatchOption, arith, length, List, [], ◌∷◌, Option, Some, None, Result, refl, sym, ap, subst, ◌∙◌}
 use Rattle.std.proofs.lemmas.Bool.{ne_eqb}
 use Rattle.atomic_table.specs.Seated.{TableId}
 use Rattle.pana_scan.specs.Disk.{Tree}
 use Rattle.pana_ticks.specs.declared.count.Count.{Count}
 use Rattle.pana_ticks.specs.Hands.{count}
-use Rattle.pana_track.specs.IgnoreFile.{IsBehind}
-use Rattle.pana_track.specs.Reading.{ReadsRoot}
 use Rattle.pana_track.specs.declared.read_fault.ReadFault.{ReadFault}
 use Rattle.pana_track.specs.declared.reading.TrackedListing.{TrackedListing}
 use Rattle.pana_track.specs.declared.folder_end.FolderEnd.{FolderEnd}
@@ -15,13 +13,15 @@ use Rattle.pana_daemon.specs.declared.folder.Look.TheVariants.{Tracked}
 use Rattle.pana_daemon.specs.declared.connection.Connection.{Connection}
 use Rattle.pana_daemon.specs.declared.post.Post.{Post}
 use Rattle.pana_daemon.specs.declared.post.Post.TheVariants.{Door, Folder}
-use Rattle.pana_daemon.specs.declared.root.Root.{Root}
+use Rattle.pana_roots.specs.declared.root.Root.{Root}
 use Rattle.pana_daemon.specs.declared.looks.Looks.{Looks}
 use Rattle.pana_daemon.specs.Desk.{PassView}
 use Rattle.pana_daemon.specs.declared.request.Request.{Request}
 use Rattle.pana_daemon.specs.declared.request.Response.{Response}
 use Rattle.pana_daemon.specs.Post.{HaveDone, folders_in, posts_of}
-use Rattle.pana_daemon.specs.Root.{AwaitsScan, FolderView, IsLast, IsLookOf, IsMore, IsReadOf, IsReadingOf, RootView, ScansRoot, knowing, folders_of, has_folders, new_folders}
+use Rattle.pana_roots.specs.Root.{RootView, folders_of}
+use Rattle.pana_roots.specs.Disks.{IsReadOf}
+use Rattle.pana_daemon.specs.RootFolder.{AwaitsScan, FolderView, IsLast, IsLookOf, IsMore, ScansRoot, knowing, has_folders, new_folders}
 use Rattle.pana_daemon.specs.Scan.{Scans}
 use Rattle.pana_daemon.specs.Serve.{Ends}
 use Rattle.pana_daemon.specs.Session.{BreaksOff, GetsNone, MakesCall, MayRecover, Settles}
@@ -102,24 +102,6 @@ module _ {K : Type 0} where
   last_asked (Some false) old new was is = (ap (λ (f : FolderView K). f.ticks) is, ap (λ (f : FolderView K). f.start) is, ap (λ (f : FolderView K). is_some f.begins) is ∙ ap is_some was)
 
 module _ {K D : Type 0} (has : K → D → Type 0) (passes : K → List ℕ → List (List ℕ)) (is_known : Bool) (tree : D → Tree) (has_failed : D → Bool) (entries faults : D → ℕ) where
-  reading_of : (device : List ℕ) (given : Result TrackedListing ReadFault) → IfOk given (λ found. found.listing.device ≡ device) → IsReadingOf device given
-  reading_of device (Ok found) is = is
-  reading_of device (Err fault) is = tt
-
-  -- a folder was read without what is passed over there
-  pub read_of : (folder : RootView K) (first disk : D) (patterns : List (List ℕ)) (given : Result TrackedListing ReadFault) → has folder.disks first → has folder.disks disk
-      → (IsTrue is_known → ReadsRoot (tree first) (tree disk) folder.name folder.device patterns given) → IfOk given (λ found. IsBehind patterns found.patterns) → IfOk given (λ found. found.listing.device ≡ folder.device)
-      → patterns ≡ passes folder.disks folder.name → IsReadOf has passes is_known tree has_failed entries faults folder given
-  read_of folder first disk patterns given has_first on reads behind device are = record {
-    first = first;
-    disk = disk;
-    has_first = has_first;
-    on = on;
-    reads = λ known. subst (λ (ps : List (List ℕ)). ReadsRoot (tree first) (tree disk) folder.name folder.device ps given) are (reads known);
-    behind = subst (λ (ps : List (List ℕ)). IfOk given (λ found. IsBehind ps found.patterns)) are behind;
-    device = reading_of folder.device given device;
-  }
-
   -- a folder that is tracked was waited for, and read
   pub looks_so : (old mid view : FolderView K) (more : Bool) (given : Result TrackedListing ReadFault) → AwaitsScan old more mid → more ≡ true → view ≡ mid → view.looks.is_tracked ≡ true
       → IsReadOf has passes is_known tree has_failed entries faults view.root given → ScansRoot has passes is_known tree has_failed entries faults old (gives_look (Tracked given)) view

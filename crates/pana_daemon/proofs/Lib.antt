@@ -4,7 +4,6 @@ pub mod Scanned
 pub mod Scans
 pub mod Sessions
 pub mod Connections
-pub mod Rooted
 pub mod Passes
 pub mod Posts
 pub mod Moving

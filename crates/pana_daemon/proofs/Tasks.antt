@@ -7,9 +7,10 @@ use Rattle.atomic_table.specs.Seated.{TableId}
 use Rattle.pana_daemon.specs.declared.looks.Looks.{Looks}
 use Rattle.pana_daemon.specs.declared.post.Post.{Post}
 use Rattle.pana_daemon.specs.declared.post.Post.TheVariants.{Door, Folder}
-use Rattle.pana_daemon.specs.declared.root.Root.{Root}
+use Rattle.pana_roots.specs.declared.root.Root.{Root}
 use Rattle.pana_daemon.specs.Post.{doors_in, folders_in}
-use Rattle.pana_daemon.specs.Root.{folder_at, folders_of, new_folder, new_folders}
+use Rattle.pana_roots.specs.Root.{folder_at, folders_of}
+use Rattle.pana_daemon.specs.RootFolder.{new_folder, new_folders}
 
 module _ {D F : Type 0} where
   doors_append : (posts more : List (Post D F)) → doors_in (posts ++ more) ≡ doors_in posts ++ doors_in more

@@ -11,6 +11,6 @@ pub mod Pause
 pub mod Newlines
 pub mod Start
 pub mod Waiting
-pub mod Root
+pub mod RootFolder
 pub mod Serve
 pub mod inner

@@ -16,7 +16,8 @@ use Rattle.pana_daemon.specs.declared.request.Request.{Request}
 use Rattle.pana_daemon.specs.declared.request.Response.{Response}
 use Rattle.pana_daemon.specs.Door.{DoorView, GivesDrawn, drawn_by, is_one_closed, limit_of, new_door}
 use Rattle.pana_daemon.specs.Newlines.{IsCounted}
-use Rattle.pana_daemon.specs.Root.{FolderView, HaveSeen, RootView, has_folders, new_folders}
+use Rattle.pana_roots.specs.Root.{RootView}
+use Rattle.pana_daemon.specs.RootFolder.{FolderView, HaveSeen, has_folders, new_folders}
 use Rattle.pana_tickets.specs.Hands.{TicketsView}
 use Rattle.pana_ticks.specs.declared.count.Count.{Count}
 use Rattle.atomic_table.specs.Seated.{TableId}

@@ -2,17 +2,17 @@
 
 ghost use Rattle.std.specs.Prelude.{◌≡◌, None, Some, IfSome};
 ghost use Rattle.pana_ticks.specs.Hands.{none_yet};
-ghost use Rattle.pana_daemon.specs.Root.{AwaitsScan, folder_at, new_folder};
+ghost use Rattle.pana_roots.specs.Root.{folder_at};
+ghost use Rattle.pana_daemon.specs.RootFolder.{AwaitsScan, new_folder};
 
 use crate::alarm::Alarm;
-use crate::disks::Disks;
 use crate::folder::{Folder, Look};
 use crate::looks::Looks;
-use crate::root::Root;
 use crate::signals::Signals;
 use crate::start::Verdict;
 use crate::supervisor::Supervisor;
 use crate::timing::wait_for;
+use pana_roots::{Disks, Root};
 use pana_scan::{Sums, Unwatched, read_root};
 use pana_ticks::Watcher;
 use pana_track::FolderEnd;
@@ -51,7 +51,8 @@ pub struct RootFolder<'a, T, K> {
 
 impl<'a, T, K> Model for RootFolder<'a, T, K> {
     ghost use Rattle.std.specs.Prelude.{◌≡◌, IfSome, option_map};
-    ghost use Rattle.pana_daemon.specs.Root.{FolderView, folder_at};
+    ghost use Rattle.pana_roots.specs.Root.{folder_at};
+    ghost use Rattle.pana_daemon.specs.RootFolder.{FolderView};
 
     ghost Value = { FolderView K };
 
@@ -168,7 +169,7 @@ impl<T: Wait + Clock, K> RootFolder<'_, T, K> {
 }
 
 impl<T: Wait + Clock, K: Disks> Folder for RootFolder<'_, T, K> {
-    ghost use Rattle.pana_daemon.specs.Root.{ScansRoot};
+    ghost use Rattle.pana_daemon.specs.RootFolder.{ScansRoot};
 
     ghost does = { ScansRoot K.gives K.passes K.Given.is_known K.Given.tree K.Given.has_failed K.Given.entries K.Given.faults };
 

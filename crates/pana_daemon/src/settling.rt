@@ -3,7 +3,7 @@ ghost use Rattle.std.specs.Prelude.{◌≡◌, ◌<◌, false, length};
 ghost use Rattle.pana_tickets.specs.Hands.{hand, joined};
 ghost use Rattle.pana_daemon.specs.Door.{drawn_by, is_one_closed, limit_of};
 ghost use Rattle.pana_daemon.specs.Post.{doors_in, folders_in};
-ghost use Rattle.pana_daemon.specs.Root.{HaveSeen};
+ghost use Rattle.pana_daemon.specs.RootFolder.{HaveSeen};
 ghost use Rattle.pana_daemon.specs.Serve.{fault_of};
 ghost use Rattle.pana_daemon.specs.inner.Doors.{AreLeft, AreOf, hands_in, joined_all};
 ghost use Rattle.pana_daemon.specs.inner.Folders.{HaveAsked};

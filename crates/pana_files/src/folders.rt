@@ -5,7 +5,7 @@ use crate::naming::NamedFolder;
 use crate::patterns::{OwnFile, is_within, passed_over, root_patterns, slices_of};
 use crate::sums_file::{keep_sums, read_sums, sums_name};
 use crate::system_disks::{PassedOver, SystemDisks, read_in_threads};
-use pana_daemon::{Disks, Root};
+use pana_roots::{Disks, Root};
 use pana_scan::{KnownSums, Sums};
 use pana_streams::ProgramFault;
 use pana_track::ReadFolder;

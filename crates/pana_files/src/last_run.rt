@@ -6,7 +6,7 @@ use crate::last_file::{HEAD, Kept, file_of, kept_in};
 use crate::look::Look;
 use crate::own_file::{bytes_of, may_replace, replace};
 use crate::patterns::{OwnFile, RootPatterns, patterns_with, report_own};
-use pana_daemon::Root;
+use pana_roots::Root;
 use pana_scan::Listing;
 use pana_track::ReadFolder;
 use std::alloc::AllocError;

@@ -1,7 +1,7 @@
 //! What is passed over in folders that are tracked, beside what their own files list.
 
 use crate::system_disks::PassedOver;
-use pana_daemon::Root;
+use pana_roots::Root;
 use pana_streams::complain;
 use std::alloc::AllocError;
 use std::fs;

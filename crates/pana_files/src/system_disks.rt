@@ -6,7 +6,7 @@ ghost use Rattle.pana_track.specs.IgnoreFile.{IsBehind};
 
 use crate::folder_watch::FolderWatch;
 use crate::naming_disk::NamingDisk;
-use pana_daemon::{Disks, Root};
+use pana_roots::{Disks, Root};
 use pana_scan::{QuickDisk, Sums, Unwatched, Watch};
 use pana_sums::FileTime;
 use pana_track::{ReadFault, TrackedListing, read_tracked_in_threads};

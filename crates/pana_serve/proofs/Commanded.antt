@@ -13,7 +13,8 @@ use Rattle.pana_serve.specs.declared.serving.Outcome.{Outcome}
 use Rattle.pana_serve.specs.declared.serving.Outcome.TheVariants.{NotBegun, Ended}
 use Rattle.pana_serve.specs.declared.serving.Wishes.{Wishes}
 use Rattle.pana_serve.specs.Program.{Comes, Serves, loopback}
-use Rattle.pana_daemon.specs.Root.{FolderView, RootView, first_bad, folders_named, texts}
+use Rattle.pana_roots.specs.Root.{RootView, first_bad, folders_named, texts}
+use Rattle.pana_daemon.specs.RootFolder.{FolderView}
 use Rattle.pana_daemon.specs.Serve.{EndsDaemon}
 
 module _ {D Y E R W I K : Type 0} (steps : D → Request → Response → D → Type 0)

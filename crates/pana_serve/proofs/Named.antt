@@ -1,7 +1,7 @@
 -- The folders of roots that words name.
 use Rattle.std.proofs.Common.{◌≡◌, ℕ, List, [], ◌∷◌, map, refl, ap, ◌∙◌}
-use Rattle.pana_daemon.specs.declared.root.Root.{Root}
-use Rattle.pana_daemon.specs.Root.{RootView, device_of, folder_of, folders_named, folders_of}
+use Rattle.pana_roots.specs.declared.root.Root.{Root}
+use Rattle.pana_roots.specs.Root.{RootView, device_of, folder_of, folders_named, folders_of}
 
 module _ {K : Type 0} (disks : K) where
   abbrev with_names : List ℕ → List ℕ → RootView K

@@ -15,7 +15,8 @@ use Rattle.pana_daemon.specs.declared.daemon_fault.LateFault.TheVariants.{NoThre
 use Rattle.pana_serve.specs.declared.serving.Outcome.{Outcome}
 use Rattle.pana_serve.specs.declared.serving.Outcome.TheVariants.{BadRoot, CannotListen, NoStore, NotBegun, Ended}
 use Rattle.pana_serve.specs.declared.serving.Wishes.{Wishes}
-use Rattle.pana_daemon.specs.Root.{FolderView, first_bad, folders_named, texts}
+use Rattle.pana_roots.specs.Root.{first_bad, folders_named, texts}
+use Rattle.pana_daemon.specs.RootFolder.{FolderView}
 use Rattle.pana_daemon.specs.Serve.{EndsDaemon}
 
 -- 127.0.0.1

@@ -2,15 +2,16 @@
 ghost use Rattle.std.specs.Prelude.{◌≡◌, ◌≤◌, [], IfErr, IfOk, length, string_bytes};
 ghost use Rattle.pana_serve.specs.Program.{Comes, Says, status_of};
 ghost use Rattle.pana_daemon.specs.Desk.{RequestSteps};
-ghost use Rattle.pana_daemon.specs.Root.{folders_of};
+ghost use Rattle.pana_roots.specs.Root.{folders_of};
 ghost use Rattle.pana_daemon.specs.Serve.{EndsDaemon};
 
 use crate::system::System;
 use pana_daemon::{
-    Alarm, DaemonEnd, DaemonFault, Disks, Folder, LateFault, Listener, Looks, Patience,
-    PatientReader, PatientWriter, RootFault, RootFolder, StandardInput, roots_of, serve,
+    Alarm, DaemonEnd, DaemonFault, Folder, LateFault, Listener, Looks, Patience, PatientReader,
+    PatientWriter, RootFolder, StandardInput, serve,
 };
 use pana_hall::Hall;
+use pana_roots::{Disks, RootFault, roots_of};
 use std::alloc::{AllocError, Global};
 use std::fmt;
 use std::io::{BufWriter, Read, Write};

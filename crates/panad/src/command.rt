@@ -1,27 +1,21 @@
 //! What the commands of the command line do.
 
-use crate::keeping::{run_kept, run_shared};
-use crate::options::{keeper_of, place_of};
-use crate::printing::{print_out, print_out_tables, print_reported};
-use crate::show_command::show_tables;
-use crate::track::FAULT;
-use crate::{
-    history_command, log_copy, overwrite_command, report_command, serve_command, status_command,
-    track_command, watch_command, why_command,
-};
+use crate::{serve_command, track_command};
 use pana_arguments::{
-    Arguments, CommandLine, CommandName, CompareArguments, Explanation, KeptBy, LoadArguments,
-    RunArguments, ScanArguments, ShowArguments, Unread, command_named, refusal,
+    Arguments, CommandLine, CommandName, CompareArguments, KeptBy, LoadArguments, RunArguments,
+    ScanArguments, ShowArguments, Unread, command_named,
 };
 use pana_commands::{compare_on, load_on, run_on, scan_on, show_on};
 use pana_files::{FolderWatch, NamedFolder, NamingDisk};
+use pana_inquiry::{
+    FAULT, READS, explain, fault_of_log, history_command, keeper_of, log_copy, overwrite_command,
+    place_of, print_out, print_out_tables, print_reported, refuse, report_command, run_kept,
+    run_shared, show_tables, status_command, watch_command, why_command,
+};
 use pana_log::ends_journal;
 use pana_scan::SystemDisk;
 use pana_store::before_end;
-use pana_store_file::fault_of_address;
-use pana_streams::{
-    ProgramFault, Tables, complain, output, print_text, take_standard_descriptors, terminal_width,
-};
+use pana_streams::{ProgramFault, Tables, output, take_standard_descriptors, terminal_width};
 use pana_wire::Tap;
 use std::env::Env;
 use std::io::Read;
@@ -34,9 +28,6 @@ use std::{fs, io, str};
 
 /// How many bytes the word that names a command has at most.
 const LONGEST_WORD: usize = 16;
-
-/// How many reads a session of the program makes at most.
-pub const READS: u64 = 4_294_967_296;
 
 fn run(rt: &HostRuntime, arguments: RunArguments<'_>) -> Result<ExitCode, ProgramFault> {
     match arguments.kept_by {
@@ -157,21 +148,6 @@ fn load(rt: &HostRuntime, arguments: LoadArguments<'_>) -> Result<ExitCode, Prog
     }
 }
 
-/// Prints help, the version, or why the words are refused, and returns the status for it.
-fn explain(rt: &HostRuntime, explanation: &Explanation) -> Result<ExitCode, ProgramFault> {
-    if explanation.is_refusal {
-        complain(rt, &explanation.text)?;
-    } else {
-        print_text(rt, &explanation.text)?;
-    }
-    Ok(ExitCode::from(explanation.status()))
-}
-
-/// Refuses the words for a reason.
-pub fn refuse(rt: &HostRuntime, reason: &str) -> Result<ExitCode, ProgramFault> {
-    explain(rt, &refusal(rt.alloc(), reason)?)
-}
-
 /// The words of the command line, or `None` where one isn't UTF-8.
 fn words_of(rt: &HostRuntime) -> Result<Option<Vec<String>>, ProgramFault> {
     match std::env::args(rt) {
@@ -233,17 +209,6 @@ fn obey_arguments<T: Threads + Wait + Clock + Sync>(
         Arguments::Report(arguments) => report_command::run(rt, arguments),
         Arguments::Watch(arguments) => watch_command::run(rt, arguments),
         Arguments::LogCopy(arguments) => log_copy::run(rt, arguments),
-    }
-}
-
-/// What is wrong with the words for a log, if something is.
-pub fn fault_of_log(
-    rt: &HostRuntime,
-    kept_by: Option<KeptBy<'_>>,
-) -> Result<Option<String>, ProgramFault> {
-    match kept_by {
-        Some(KeptBy::Log(log)) => fault_of_address(rt, log.address),
-        _ => Ok(None),
     }
 }
 

@@ -1,9 +1,8 @@
 //! `panad serve`.
 
-use crate::printing::print_out;
-use crate::track::FAULT;
 use pana_commands::Printout;
 use pana_files::{PassedOver, SystemDisks};
+use pana_inquiry::{FAULT, print_out};
 use pana_log::FileDevice;
 use pana_serve::{Outcome, System, Wishes, serve_on};
 use pana_store::Store;

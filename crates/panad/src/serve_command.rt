@@ -1,10 +1,11 @@
 //! What the words of `panad serve` come to.
 
-use crate::command::refuse;
 use crate::daemon::{self, LogWishes};
 use pana_arguments::{KeptBy, ServeArguments};
-use pana_daemon::{Looks, Patience, Root, roots_of};
+use pana_daemon::{Looks, Patience};
 use pana_files::{OwnFile, RootPatterns, fault_of_roots, passed_over, root_patterns, slices_of};
+use pana_inquiry::refuse;
+use pana_roots::{Root, roots_of};
 use pana_serve::Wishes;
 use pana_streams::ProgramFault;
 use std::alloc::AllocError;

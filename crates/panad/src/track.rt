@@ -1,27 +1,21 @@
 //! `panad track`: folders are read, what was noticed is reported to the store of a journal, and what is obsolete or in conflict
 //! is printed.
 
-use crate::asking::{asker, report_no_daemon};
-use crate::keeper::Keeper;
-use crate::printing::print_out_tables;
 use pana_arguments::VERSION;
 use pana_calls::Session;
 use pana_commands::{Printout, StatusForm, Untracked, track_on};
-use pana_daemon::Root;
-use pana_files::{Printed, ReadingWishes, TrackRun, connect, may_keep_sums, read_folders};
-use pana_store_file::{NoStore, open_shared, open_store};
-use pana_streams::{ProgramFault, Tables, complain};
+use pana_files::{Printed, ReadingWishes, TrackRun, may_keep_sums, read_folders};
+use pana_inquiry::{
+    FAULT, Keeper, asker, connect, print_out_tables, report, report_no_daemon, report_refusal,
+};
+use pana_roots::Root;
+use pana_store_file::{open_shared, open_store};
+use pana_streams::{ProgramFault, Tables};
 use pana_track::ReadFolder;
 use std::alloc::AllocError;
 use std::marker::Sync;
 use std::process::ExitCode;
 use std::thread::Threads;
-
-/// The device in whose name the program asks; a question has the same answer for each.
-pub const ASKER: &str = "panad";
-
-/// The status where something wasn't reported.
-pub const FAULT: u8 = 3;
 
 /// What is wanted beside the folders.
 #[derive(Clone, Copy)]
@@ -30,13 +24,6 @@ pub struct TrackWishes<'a> {
     pub reading: ReadingWishes<'a>,
     pub may_be_empty: bool,
     pub form: StatusForm,
-}
-
-/// Prints one line on standard error, and returns the status of a fault.
-pub fn report(rt: &HostRuntime, text: &str) -> Result<ExitCode, ProgramFault> {
-    let line = format!(in rt.alloc(); "panad: {text}\n")?;
-    let _ = complain(rt, &line);
-    Ok(ExitCode::from(FAULT))
 }
 
 /// Keeps what was printed, where nothing was wrong and the same would be printed again.
@@ -120,14 +107,6 @@ fn track_kept<T: Threads + Sync>(
     match open_store(rt, journal) {
         Ok(mut store) => track_by(rt, threads, &mut store, roots, wishes, run),
         Err(refusal) => report_refusal(rt, refusal),
-    }
-}
-
-/// Prints why there is no store, and returns the status.
-pub fn report_refusal(rt: &HostRuntime, refusal: NoStore) -> Result<ExitCode, ProgramFault> {
-    match refusal {
-        NoStore::Because(text) | NoStore::NoAnswer(text) => report(rt, text.as_str()),
-        NoStore::Fault(fault) => Err(fault),
     }
 }
 

@@ -1,11 +1,10 @@
 //! What the words of `panad track` come to.
 
-use crate::command::refuse;
-use crate::options::{form_of, keeper_of};
 use crate::track::{TrackWishes, track};
 use pana_arguments::TrackArguments;
-use pana_daemon::{Root, RootFault, roots_of};
 use pana_files::{ReadingWishes, fault_of_roots};
+use pana_inquiry::{form_of, keeper_of, refuse};
+use pana_roots::{Root, RootFault, roots_of};
 use pana_streams::ProgramFault;
 use std::marker::Sync;
 use std::process::ExitCode;

@@ -3,7 +3,7 @@ use Rattle.std.specs.Prelude.{◌≡◌, ◌≤◌, ℕ, Bool, true, false, List
 use Rattle.atomic_table.specs.Seated.{TableId}
 use Rattle.pana_ticks.specs.declared.count.Count.{Count}
 use Rattle.pana_ticks.specs.Hands.{count}
-use Rattle.pana_daemon.specs.Root.{FolderView}
+use Rattle.pana_daemon.specs.RootFolder.{FolderView}
 use Rattle.pana_daemon.specs.declared.timing.Nap.{Nap}
 use Rattle.pana_daemon.specs.declared.timing.Nap.TheVariants.{More, Same, Over}
 

@@ -2,7 +2,8 @@ use Rattle.std.proofs.Common.{◌≡◌, ◌+◌, ◌-◌, ℕ, suc, List, [], �
 use Rattle.pana_tickets.specs.Hands.{ShareView, hand, kept}
 use Rattle.pana_daemon.specs.Door.{DoorView, new_door}
 use Rattle.pana_daemon.specs.Post.{folders_in}
-use Rattle.pana_daemon.specs.Root.{FolderView, folder_at, new_folder}
+use Rattle.pana_roots.specs.Root.{folder_at}
+use Rattle.pana_daemon.specs.RootFolder.{FolderView, new_folder}
 use Rattle.pana_daemon.proofs.Tasks.{door_more, folder_more, folders_more, replicate_more}
 use Rattle.pana_daemon.proofs.daemon.posts_of.Goals as goal
 

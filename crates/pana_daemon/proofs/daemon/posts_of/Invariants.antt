@@ -2,7 +2,8 @@ use Rattle.std.proofs.Common.{◌≡◌, ◌≤◌, ◌+◌, ◌-◌, [], length
 use Rattle.pana_tickets.specs.Hands.{hand}
 use Rattle.pana_daemon.specs.Door.{new_door}
 use Rattle.pana_daemon.specs.Post.{doors_in, folders_in}
-use Rattle.pana_daemon.specs.Root.{folders_of, new_folders}
+use Rattle.pana_roots.specs.Root.{folders_of}
+use Rattle.pana_daemon.specs.RootFolder.{new_folders}
 use Rattle.pana_daemon.proofs.daemon.posts_of.Given as goal
 
 -- the posts of workers so far, each with a part of the whole; there is room for the rest, and for the roots'

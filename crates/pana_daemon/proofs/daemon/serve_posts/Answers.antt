@@ -1,7 +1,8 @@
 use Rattle.std.proofs.Common.{ℕ, Bool, List, not, ap, subst, sym, ◌∙◌}
 use Rattle.pana_daemon.specs.Door.{DoorView}
 use Rattle.pana_daemon.specs.Post.{doors_in, folders_in}
-use Rattle.pana_daemon.specs.Root.{folders_of, has_folders}
+use Rattle.pana_roots.specs.Root.{folders_of}
+use Rattle.pana_daemon.specs.RootFolder.{has_folders}
 use Rattle.pana_daemon.specs.Serve.{fault_of}
 use Rattle.pana_daemon.specs.inner.Doors.{AreEnded}
 use Rattle.pana_daemon.specs.inner.Folders.{AreOf, HaveAsked}

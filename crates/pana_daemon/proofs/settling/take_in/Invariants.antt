@@ -1,7 +1,7 @@
 use Rattle.std.proofs.Common.{◌≡◌, ◌<◌, ◌||◌}
 use Rattle.pana_daemon.specs.Door.{is_one_closed}
 use Rattle.pana_daemon.specs.Post.{doors_in, folders_in}
-use Rattle.pana_daemon.specs.Root.{HaveSeen}
+use Rattle.pana_daemon.specs.RootFolder.{HaveSeen}
 use Rattle.pana_daemon.specs.inner.Doors.{AreOf, hands_in, joined_all}
 use Rattle.pana_daemon.specs.inner.Folders.{HaveAsked}
 use Rattle.pana_daemon.proofs.settling.take_in.Given as goal

@@ -3,7 +3,7 @@ use denote.Exit.{no}
 use denote.Param.Send.{arg_send, param_send}
 use Rattle.pana_hall.proofs.Sending.{hall_send}
 use Rattle.pana_daemon.specs.Desk.{RequestSteps}
-use Rattle.pana_daemon.specs.Root.{folders_of, texts}
+use Rattle.pana_roots.specs.Root.{folders_of, texts}
 use Rattle.pana_serve.proofs.Commanded.{hall_comes, store_comes}
 use Rattle.pana_serve.proofs.Named.{named_so}
 use Rattle.pana_serve.proofs.serving.serve_on.Goals as goal

@@ -1,6 +1,6 @@
 use Rattle.std.proofs.Common.{false, refl, sym, true≢false}
-use Rattle.pana_daemon.specs.Root.{folder_at}
-use Rattle.pana_daemon.proofs.Folders.{read_of}
+use Rattle.pana_roots.specs.Root.{folder_at}
+use Rattle.pana_roots.proofs.Readings.{read_of}
 use Rattle.pana_files.proofs.system_disks.SystemDisksDisks.read_tracked.Goals as goal
 
 -- nothing is known of the system's disks

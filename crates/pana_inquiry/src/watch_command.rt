@@ -1,12 +1,12 @@
 //! `panad watch`: the entries that a daemon's journal gets, as they come, and the families that become split or whole.
 
 use crate::asking::{asker, report_no_daemon};
-use crate::command::READS;
+use crate::faults::report;
 use crate::keeper::Keeper;
-use crate::track::report;
+use crate::keeping::READS;
+use crate::redialing::Redialing;
 use pana_arguments::WatchArguments;
 use pana_copies::DeviceName;
-use pana_files::Redialing;
 use pana_journal::Entry;
 use pana_streams::{ProgramFault, print_text};
 use pana_watch::{Watch, WatchFault, entry_lines};

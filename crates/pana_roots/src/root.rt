@@ -3,7 +3,7 @@
 ghost use Rattle.std.specs.Prelude.{◌≤◌, length, ◌≡◌, ◌⊎◌, [], true, false, None, Some, IfOk, IfErr, MatchOption, map, bytes_eq, ℕ, List};
 ghost use Rattle.std.specs.List.{list_any};
 ghost use Rattle.std.specs.Borrow.{Bor};
-ghost use Rattle.pana_daemon.specs.Root.{device_of, first_bad, folder_of, is_bad_root, texts};
+ghost use Rattle.pana_roots.specs.Root.{device_of, first_bad, folder_of, is_bad_root, texts};
 
 use pana_copies::DeviceName;
 use std::alloc::Global;

@@ -1,9 +1,9 @@
 use Rattle.std.proofs.Common.{◌≡◌, refl, sym, subst, inr, true, false, map, get_or, [], arith, List, ℕ, ◌+◌, ◌<◌, ◌≤◌, ◌∷◌, ◌++◌, length}
 use Rattle.std.proofs.lemmas.List.{length-append}
-use Rattle.pana_daemon.specs.declared.root.Root.{Root}
-use Rattle.pana_daemon.specs.Root.{is_bad_root}
-use Rattle.pana_daemon.proofs.Rooted.{NamesTo, none_named, one_more_named, bad_named, all_named, room_left}
-use Rattle.pana_daemon.proofs.root.roots_of.Goals as goal
+use Rattle.pana_roots.specs.declared.root.Root.{Root}
+use Rattle.pana_roots.specs.Root.{is_bad_root}
+use Rattle.pana_roots.proofs.Rooted.{NamesTo, none_named, one_more_named, bad_named, all_named, room_left}
+use Rattle.pana_roots.proofs.root.roots_of.Goals as goal
 
 -- what a root names
 abbrev device : Root → List ℕ

@@ -7,7 +7,7 @@ use Rattle.std.proofs.Math.Seq.{drop-cons}
 use Rattle.std.proofs.lemmas.Bool.Decides.{nat_tests}
 use Rattle.std.proofs.lemmas.Str.Pattern.{IsSplitOnceResult, split_once_first}
 use Rattle.pana_copies.specs.Names.{is_device}
-use Rattle.pana_daemon.specs.Root.{device_of, first_bad, folder_of, is_bad_root, texts}
+use Rattle.pana_roots.specs.Root.{device_of, first_bad, folder_of, is_bad_root, texts}
 
 pub any_of_map : {X Y : Type 0} (f : X → Y) (p : Y → Bool) (xs : List X) → list_any p (map f xs) ≡ list_any (λ x. p (f x)) xs
 any_of_map f p [] = refl

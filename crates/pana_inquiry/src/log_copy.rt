@@ -1,11 +1,11 @@
 //! `panad log copy`: a journal is read, and made once more where there is none.
 
 use crate::asking::{asker, print_line};
-use crate::command::{fault_of_log, refuse};
+use crate::faults::{report, report_refusal};
 use crate::inquiry::{Inquiry, ask_keeper, report_to_keeper};
 use crate::keeper::Keeper;
 use crate::options::keeper_of;
-use crate::track::{report, report_refusal};
+use crate::refusing::{fault_of_log, refuse};
 use pana_arguments::{CopyArguments, KeptBy};
 use pana_calls::{NoAnswer, Session};
 use pana_history::journal_of;

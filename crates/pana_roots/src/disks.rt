@@ -15,7 +15,8 @@ pub trait Disks {
 
     ghost use Rattle.std.specs.Prelude.{◌≡◌, List, ℕ, [], map};
     ghost use denote.Param.Send.{IsSync};
-    ghost use Rattle.pana_daemon.specs.Root.{IsReadOf, folder_at};
+    ghost use Rattle.pana_roots.specs.Root.{folder_at};
+    ghost use Rattle.pana_roots.specs.Disks.{IsReadOf};
     ghost use Rattle.pana_scan.specs.Scan.{IsFresh};
 
     // Which disks it gives. An impl may leave it open.

@@ -1,11 +1,11 @@
 //! `panad status`: what is obsolete or in conflict, by a journal or a daemon.
 
 use crate::asking::{asker, refuse_place};
+use crate::faults::report;
 use crate::inquiry::{Inquiry, ask_keeper};
 use crate::keeper::Keeper;
 use crate::options::{form_of, keeper_of};
 use crate::printing::print_out_tables;
-use crate::track::report;
 use pana_arguments::StatusArguments;
 use pana_calls::Session;
 use pana_commands::{Untracked, status_on};

@@ -1,15 +1,18 @@
 //! What commands that ask or report by place have in common.
 
-use crate::command::refuse;
+use crate::faults::report;
 use crate::keeper::Keeper;
 use crate::printing::print_out;
-use crate::track::{ASKER, report};
+use crate::refusing::refuse;
 use pana_ask::{AskFault, read_place, unknown_line};
 use pana_commands::Printout;
 use pana_copies::{DeviceName, NameFault, Place};
 use pana_history::Unexplained;
 use pana_streams::ProgramFault;
 use std::process::ExitCode;
+
+/// The device in whose name the program asks; a question has the same answer for each.
+const ASKER: &str = "panad";
 
 /// The device in whose name questions are asked.
 pub fn asker() -> Result<DeviceName, ProgramFault> {

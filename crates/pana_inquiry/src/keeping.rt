@@ -1,14 +1,16 @@
 //! Standard input, served on a journal that is kept in a file or in a log that others append to.
 
-use crate::command::READS;
+use crate::faults::report as report_fault;
 use crate::printing::print_reported;
-use crate::track::report as report_fault;
 use pana_log::FileDevice;
 use pana_store::{Store, serve_kept};
 use pana_store_file::{LogPlace, LogStore, NoStore, open_shared, open_store};
 use pana_streams::{ProgramFault, output};
 use pana_wire::{ServeFault, Tap, serve_groups};
 use std::process::ExitCode;
+
+/// How many reads a session of the program makes at most.
+pub const READS: u64 = 4_294_967_296;
 
 /// Prints why there is no store, and returns the status: that of a fault where what keeps it gives no answer, and else 1.
 fn report(rt: &HostRuntime, refusal: NoStore) -> Result<ExitCode, ProgramFault> {

@@ -1,6 +1,6 @@
-use Rattle.pana_daemon.specs.Root.{folder_at}
-use Rattle.pana_daemon.proofs.Folders.{read_of}
-use Rattle.pana_daemon.proofs.disks.Disks.read_tracked.Goals as goal
+use Rattle.pana_roots.specs.Root.{folder_at}
+use Rattle.pana_roots.proofs.Readings.{read_of}
+use Rattle.pana_roots.proofs.disks.Disks.read_tracked.Goals as goal
 
 pub returns : goal.returns
 returns g c =

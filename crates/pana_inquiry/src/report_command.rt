@@ -1,10 +1,10 @@
 //! `panad report`: one report, to the store of a journal or a daemon.
 
 use crate::asking::{print_fault, print_line};
-use crate::command::refuse;
 use crate::inquiry::{Inquiry, report_to_keeper};
 use crate::keeper::Keeper;
 use crate::options::keeper_of;
+use crate::refusing::refuse;
 use pana_arguments::ReportArguments;
 use pana_ask::{PlacedReport, ReportWord, Words, WordsFault, read_report, report_on};
 use pana_calls::Session;

@@ -1,10 +1,10 @@
 use Rattle.std.proofs.Common.{◌≡◌, sym, subst, ◌∙◌, ap}
 use Rattle.std.specs.Prelude.{IfErr}
-use Rattle.pana_daemon.proofs.Rooted.{parts, not_false, good_root, no_folder, taken, many, few_pass, many_pass}
+use Rattle.pana_roots.proofs.Rooted.{parts, not_false, good_root, no_folder, taken, many, few_pass, many_pass}
 use Rattle.pana_copies.specs.Names.{is_device}
-use Rattle.pana_daemon.specs.Root.{device_of}
-use Rattle.pana_daemon.proofs.root.root_of.Goals as goal
-use Rattle.pana_daemon.proofs.root.root_of.Goals.{then-is_empty-via-then-is_empty, then-is_empty-via-else-is_empty+then-has_device, then-is_empty-via-else-is_empty+else-has_device+then-earlier-ge-MOST_ROOTS}
+use Rattle.pana_roots.specs.Root.{device_of}
+use Rattle.pana_roots.proofs.root.root_of.Goals as goal
+use Rattle.pana_roots.proofs.root.root_of.Goals.{then-is_empty-via-then-is_empty, then-is_empty-via-else-is_empty+then-has_device, then-is_empty-via-else-is_empty+else-has_device+then-earlier-ge-MOST_ROOTS}
 
 pub returns-then-is_empty : goal.returns-then-is_empty
 returns-then-is_empty c =
