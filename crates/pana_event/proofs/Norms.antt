@@ -1,5 +1,5 @@
 -- The normal form of a number over two halves.
-use Rattle.std.proofs.Common.{◌≡◌, ℕ, ◌+◌, ◌-◌, ◌≤◌, min, max, Bool, true, false, cond, ◌⊎◌, List, [], ◌∷◌, arith, refl, sym, ap, ap₂, ◌∙◌, subst, inl, inr, eqb, eqb-true, eq-eqb, ne_eqb}
+use Rattle.std.proofs.Common.{◌≡◌, ℕ, ◌+◌, ◌-◌, ◌≤◌, min, max, Bool, true, false, cond, ◌⊎◌, List, [], ◌∷◌, arith, refl, sym, ap, ◌∙◌, subst, inl, inr, eqb, eqb-true, ne_eqb}
 use Rattle.std.proofs.lemmas.Bool.{eqb-false}
 use Rattle.pana_event.specs.Event.{Event, leaf, fork, number, level, greatest, depth, sink, are_same_leaf, norm, IsOpen, IsNormal, AtPoints}
 use Rattle.pana_event.proofs.Levels.{level-sink, greatest-sink, number-sink, depth-sink, normal-sink}
@@ -35,32 +35,6 @@ cases_norm n (leaf j) (leaf k) = cases_test (eqb j k) n j k refl
 cases_norm n (leaf j) (fork k c d) = inr (record { differ = refl; is = refl })
 cases_norm n (fork j c d) (leaf k) = inr (record { differ = refl; is = refl })
 cases_norm n (fork j c d) (fork k a b) = inr (record { differ = refl; is = refl })
-
-sink_none : (e : Event) (k : ℕ) → k ≡ 0 → sink e k ≡ e
-sink_none (leaf n) k none = ap leaf (omega arith)
-sink_none (fork n l r) k none = ap (λ m. fork m l r) (omega arith)
-
--- the normal form over two halves is no other fork than the one over them
-pub norm_parts : (n : ℕ) (l r c d : Event) → norm n l r ≡ fork n c d → (l ≡ c) × (r ≡ d)
-norm_parts n l r c d is =
-    elim (cases_norm n l r) [
-      | inl merged ↦ absurd (let odd : leaf (merged.common + n) ≡ fork n c d = sym merged.is ∙ is in cc)
-      | inr sunk ↦
-          let k = min (number l) (number r) in
-          let same : fork (n + k) (sink l k) (sink r k) ≡ fork n c d = sym sunk.is ∙ is in
-          let none : k ≡ 0 = omega (arith, ap number same) in
-          (sym (sink_none l k none) ∙ ap left_of same, sym (sink_none r k none) ∙ ap right_of same)
-    ]
-
--- the normal form over the halves of a normal fork is that fork
-pub norm_open : (n : ℕ) (l r : Event) → IsOpen l r → norm n l r ≡ fork n l r
-norm_open n l r halves =
-    elim (cases_norm n l r) [
-      | inl merged ↦ absurd (let same : are_same_leaf l r ≡ true = ap₂ are_same_leaf merged.left merged.right ∙ eq-eqb merged.common merged.common refl in cc (same, halves.differ))
-      | inr sunk ↦
-          let k = min (number l) (number r) in
-          sunk.is ∙ ap (λ m. fork m (sink l k) (sink r k)) (omega (arith, halves.from_zero)) ∙ ap₂ (fork n) (sink_none l k halves.from_zero) (sink_none r k halves.from_zero)
-    ]
 
 pub greatest-norm : (n : ℕ) (l r : Event) → greatest (norm n l r) ≡ n + max (greatest l) (greatest r)
 greatest-norm n l r =
