@@ -205,8 +205,37 @@ def copied_in_groups(setting, room):
     setting.run("run", "--journal", file, given=b"".join(line_of("a", "register", device="a", path=f"f{it}") for it in range(250)))
     yield from differs(setting.run("log", "copy", "--from", file, "--to", address), (0, "copied 250 entries\n", ""))
     revisions = setting.one.revisions("groups")
-    yield from differs(([revisions.count(it) for it in sorted({*revisions})], revisions), ([100, 100, 50], sorted(revisions)))
+    yield from differs((sizes(revisions), revisions), ([100, 100, 50], sorted(revisions)))
     yield from differs(setting.run("show", "--log", address), setting.run("show", "--journal", file))
+
+
+def sizes(revisions):
+    """How many entries each transaction has put, in the order of these."""
+    return [revisions.count(it) for it in sorted({*revisions})]
+
+
+def reported_in_groups(setting, room):
+    """The lines of a file, questions and faults among them, and the files of a folder are put into etcd 100 entries at once, and answered as with a journal's file."""
+    lines = [line_of("a", "register", device="a", path=f"f{it}") for it in range(250)]
+    for it in range(20, 250, 50):
+        lines[it:it] = [line_of("a", "counts"), b"no line\n", line_of("a", "edit", copy=it + 200), line_of("a", "edit", copy=1)]
+    (room / "lines").write_bytes(b"".join(lines))
+    folder = room / "a"
+    folder.mkdir()
+    for it in range(250):
+        (folder / f"f{it:03}").write_text(f"File {it}.\n")
+    # The last of a hundred files has a transaction of its own, since a file may need two entries.
+    # A file may need two entries, so the last of a hundred has a transaction of its own.
+    for name, words, least in (("lines", ("run",), 3), ("folder", ("track", f"a={folder}"), 5)):
+        made = []
+        for keeper in (("--log", setting.one.address(name)), ("--journal", room / name[0])):
+            with open(room / "lines", "rb") as given:
+                done = subprocess.run([setting.program, *words, *map(str, keeper)], stdin=given, capture_output=True, timeout=3 * SECONDS)
+            made.append((done.returncode, done.stdout, done.stderr))
+        yield from differs(made[0], made[1])
+        revisions = setting.one.revisions(name)
+        yield from differs((revisions, len({*revisions}) <= least + 1, max(sizes(revisions)) <= 100), (sorted(revisions), True, True))
+        yield from differs(setting.run("show", "--log", setting.one.address(name)), setting.run("show", "--journal", room / name[0]))
 
 
 def words_refused(setting, room):
@@ -463,7 +492,7 @@ def waited(setting, room):
     yield from setting.waiting.result()
 
 
-CHECKS = (as_a_file, copied, copied_in_groups, logged_in, words_refused, sessions_at_once, killed, other_values, other_value_later, full, waited)
+CHECKS = (as_a_file, copied, copied_in_groups, reported_in_groups, logged_in, words_refused, sessions_at_once, killed, other_values, other_value_later, full, waited)
 
 
 def main(words):

@@ -23,8 +23,8 @@ from daemon import SECONDS, WAIT, Client, Daemon, line_of, until
 from harness import Broken, differs, run_with
 from members import Members, free_ports, has_etcd, key_of
 
-# The calls of each of the clients that are there at once.
-CALLS = 40
+# The calls of each of the clients that are there at once, and the lines that come together.
+CALLS, LINES = 40, 300
 # How many daemons share a journal whose members are killed, how many clients each has, and the time between two kills.
 DAEMONS, CLIENTS, BETWEEN = 3, 8, 2.0
 SILENT, AGAIN = b"panad: the log gives no answer; trying again\n", b"panad: the log answers again\n"
@@ -58,6 +58,26 @@ def clients_at_once(setting, room):
         for at, other in [(first, second), (second, third), (third, first)] * 5:
             done = at.ask("a", "edit", copy=1)["done"]
             yield from differs([it["number"] for it in other.ask("b", "journal", **{"from": done})["entries"]], [done])
+
+
+def lines_together(setting, room):
+    """Lines that come together are put together by each of two daemons, also where others' come between: each is answered, in order, and stands in the journal once."""
+    address = setting.one.address("together")
+    with setting.serve(address) as first, setting.serve(address) as second, first.client() as one, second.client() as other:
+        reports = lambda by, count: b"".join(line_of(by, "register", device=by, path=f"f{it}") for it in range(count))
+        one.send(reports("a", LINES))
+        yield from differs([one.answer() for _ in range(LINES)], [{"done": it + 1} for it in range(LINES)])
+        yield from differs(len({*setting.one.revisions("together")}) <= LINES // 10, True)
+        senders = [threading.Thread(target=client.send, args=(reports(by, LINES),)) for client, by in ((one, "b"), (other, "c"))]
+        for it in senders:
+            it.start()
+        done = {by: [client.answer().get("done") for _ in range(LINES)] for client, by in ((one, "b"), (other, "c"))}
+        for it in senders:
+            it.join()
+        entries = entries_of(other)
+        yield from differs(entries_of(one), entries)
+        for by, numbers in done.items():
+            yield from differs([(it["number"], it["path"]) for it in entries if it["by"] == by], [(number, f"f{it}") for it, number in enumerate(numbers)])
 
 
 def awaited(setting, room):
@@ -284,7 +304,7 @@ def killed(setting, room):
     yield from differs(min(done) > 2 or done, True)
 
 
-CHECKS = (clients_at_once, awaited, folders, silence, stale, foreign, begins, killed)
+CHECKS = (clients_at_once, lines_together, awaited, folders, silence, stale, foreign, begins, killed)
 
 
 def main(words):

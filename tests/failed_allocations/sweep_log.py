@@ -4,8 +4,8 @@
 usage: sweep_log.py PROGRAM
 
 An answer is a report's next number, or says that memory ran out. A run that ends early says so. What stands in the log
-then are the reports that were answered as done, in order, and at most the one without an answer; and a run after it, with
-all its memory, goes on behind them. Where there is no etcd and none can be installed it is skipped, which is printed.
+then are the reports that were answered as done, in order, and behind them at most some of those without an answer, in
+order, since lines that come together are put together; and a run after it, with all its memory, goes on behind them. Where there is no etcd and none can be installed it is skipped, which is printed.
 The last line is 'N passed, M failed'.
 """
 from __future__ import annotations
@@ -32,6 +32,8 @@ LINES = [
     line_of("laptop", "duplicate", copy=1, device="usb", path="plan.txt"),
     line_of("usb", "found", device="usb", path="plan.txt", sum="1" * 64),
 ]
+# What they make, each at most once: what is found is noted of a copy, or, where there is none, registered.
+MADE = ["register", "duplicate", "found"]
 JOURNAL = line_of("desk", "journal", **{"from": 1})
 # What an answer may be where memory ran out, for it or for one before it.
 OTHERS = ({"code": 9, "refused": "OutOfMemory"}, {"fault": "OutOfMemory"}, {"code": 2, "copy": 1, "refused": "UnknownCopy"})
@@ -62,8 +64,11 @@ def faults_of(ended, entries, later):
         yield f"the answers are {answers!r:.200}"
     if (status, bool(error)) != ((1, True) if is_early else (0, False)):
         yield f"it ended with {status} and {error!r:.200} after {len(answers)} answers"
-    if [it["number"] for it in entries] != [*range(1, len(entries) + 1)] or len(entries) - len(done) not in ((0, 1) if is_early else (0,)):
+    made, unanswered = ["found" if it["by"] == "usb" else it["do"] for it in entries], len(LINES) - len(answers)
+    if [it["number"] for it in entries] != [*range(1, len(entries) + 1)] or not len(done) <= len(entries) <= len(done) + unanswered:
         yield f"{len(entries)} entries are there after {answers!r:.200}"
+    if made != [it for it in MADE if it in made]:
+        yield f"the entries are {made!r:.200}"
     # The first line once more is done where it wasn't, and else refused.
     is_there = any(it["by"] == "laptop" and it["do"] == "register" for it in entries)
     wanted = {"code": 6, "copy": 1, "refused": "PlaceTaken"} if is_there else {"done": len(entries) + 1}

@@ -1,5 +1,6 @@
 //! The numbers of copies at places.
 ghost use Rattle.std.specs.Prelude.{◌≡◌, [], ◌∷◌, Some, IfOk, IfErr};
+ghost use Rattle.pana_calls.specs.Session.{one};
 ghost use Rattle.pana_ask.specs.Looking.{Finds, LooksInVain, found_in};
 
 use crate::ask_fault::AskFault;
@@ -25,7 +26,7 @@ pub(crate) fn copy_at<S: Session>(
     place: &Place,
 ) -> Result<u64, AskFault>
     ensures ok { IfOk result (λ copy. Finds S.step by.now (place.now ∷ []) session.old (copy ∷ []) session.new) }
-    ensures err { IfErr result (LooksInVain S.step S.fails by.now (place.now ∷ []) session.old session.new) }
+    ensures err { IfErr result (LooksInVain S.step (one S.fails) by.now (place.now ∷ []) session.old session.new) }
 {
     let missing = place.copy_of()?;
     let at = Query::At {
@@ -49,7 +50,7 @@ pub(crate) fn copies_at<S: Session>(
     b: &Place,
 ) -> Result<(u64, u64), AskFault>
     ensures ok { IfOk result (λ copies. Finds S.step by.now (a.now ∷ b.now ∷ []) session.old (copies.0 ∷ copies.1 ∷ []) session.new) }
-    ensures err { IfErr result (LooksInVain S.step S.fails by.now (a.now ∷ b.now ∷ []) session.old session.new) }
+    ensures err { IfErr result (LooksInVain S.step (one S.fails) by.now (a.now ∷ b.now ∷ []) session.old session.new) }
 {
     let first = copy_at(session, by, a)?;
     let second = copy_at(session, by, b)?;

@@ -1,5 +1,6 @@
 //! Whether the copy at a place may be overwritten with the one at another.
 ghost use Rattle.std.specs.Prelude.{◌≡◌, IfOk, IfErr};
+ghost use Rattle.pana_calls.specs.Session.{one};
 ghost use Rattle.pana_ask.specs.Verdict.{Judges, JudgesNothing, gone_in, verdict_in};
 
 use crate::ask_fault::AskFault;
@@ -56,7 +57,7 @@ pub fn may_overwrite<S: Session>(
     source: &Place,
 ) -> Result<Verdict, AskFault>
     ensures ok { IfOk result (Judges S.step by.now target.now source.now session.old session.new) }
-    ensures err { IfErr result (JudgesNothing S.step S.fails by.now target.now source.now session.old session.new) }
+    ensures err { IfErr result (JudgesNothing S.step (one S.fails) by.now target.now source.now session.old session.new) }
 {
     let (copy, other) = copies_at(session, by, target, source)?;
     let pair = Query::Pair { a: copy, b: other };

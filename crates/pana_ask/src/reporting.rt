@@ -1,5 +1,6 @@
 //! Reports of copies that are named by their places, made at a session.
 ghost use Rattle.std.specs.Prelude.{◌≡◌, IfOk, IfErr};
+ghost use Rattle.pana_calls.specs.Session.{one};
 ghost use Rattle.pana_ask.specs.Looking.{LooksInVain};
 ghost use Rattle.pana_ask.specs.Report.{IsCallFor, Reports, ReportsNothing, end_in, named};
 
@@ -17,7 +18,7 @@ fn call_for<S: Session>(
     report: PlacedReport,
 ) -> Result<Call, AskFault>
     ensures ok { IfOk result (IsCallFor S.step by.now report session.old session.new) }
-    ensures err { IfErr result (LooksInVain S.step S.fails by.now (named report) session.old session.new) }
+    ensures err { IfErr result (LooksInVain S.step (one S.fails) by.now (named report) session.old session.new) }
 {
     match report {
         PlacedReport::Direct(call) => Ok(call),
@@ -64,7 +65,7 @@ pub fn report_on<S: Session>(
     report: PlacedReport,
 ) -> Result<ReportEnd, AskFault>
     ensures ok { IfOk result (Reports S.step S.settles by.now report session.old session.new) }
-    ensures err { IfErr result (ReportsNothing S.step S.settles S.fails S.breaks_off by.now report session.old session.new) }
+    ensures err { IfErr result (ReportsNothing S.step S.settles (one S.fails) S.breaks_off by.now report session.old session.new) }
 {
     let call = call_for(session, by, report)?;
     let end = end_of(session.call(by, call)?);

@@ -1,3 +1,4 @@
 pub mod Cause
 pub mod Holdings
+pub mod Session
 pub mod Standing

@@ -3,9 +3,9 @@ ghost use Rattle.std.specs.Prelude.{◌≡◌, IfOk, IsTrue, string_bytes};
 ghost use Rattle.pana_client.specs.Line.{IsCallLine, IsOneLine};
 
 use json::Writer;
-use pana_calls::{Call, Query, Sighting};
+use pana_calls::{Call, Message, Query, Sighting};
 use pana_copies::{DeviceName, Place, Sum};
-use pana_wire::{Message, WireFault, decode, encode_call};
+use pana_wire::{WireFault, decode, encode_call};
 use std::alloc::{AllocError, Global};
 
 /// Why a call has no line.

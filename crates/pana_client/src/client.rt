@@ -64,11 +64,12 @@ impl<R: BufRead, W: Write> Client<R, W> {
 
 impl<R: BufRead + Drop, W: Write + Drop> Session for Client<R, W> {
     ghost use Rattle.std.specs.Prelude.{IfOk, OnErr};
+    ghost use Rattle.pana_calls.specs.Session.{alone};
     ghost use Rattle.pana_client.specs.Client.{IsAnswered, IsUnanswered};
 
     ghost step = { IsAnswered R.remaining W.contents };
 
-    ghost fails = { IsUnanswered R.remaining W.contents };
+    ghost fails = { alone (IsUnanswered R.remaining W.contents) };
 
     /// Writes the call's line, and waits for the line of its answer. It takes memory for both, and for the answer.
     ///

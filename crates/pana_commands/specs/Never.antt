@@ -1,7 +1,7 @@
 -- What never happens.
-use Rattle.std.specs.Prelude.{ℕ, List}
-use Rattle.pana_calls.specs.declared.call.Call.{Call}
+use Rattle.std.specs.Prelude.{List}
+use Rattle.pana_calls.specs.declared.message.Message.{Message}
 
 -- no call is without an answer
-abbrev pub IsNever : {S : Type 0} → S → List ℕ → Call → S → Type 0
-IsNever old by call new = ⊥
+abbrev pub IsNever : {S : Type 0} → S → List Message → S → Type 0
+IsNever old calls new = ⊥

@@ -10,7 +10,7 @@ use Rattle.pana_wire.specs.Lines.{lines_of}
 use Rattle.pana_wire.specs.Shown.{shown_fault}
 use Rattle.pana_wire.specs.declared.fault.WireFault.{WireFault}
 use Rattle.pana_wire.specs.declared.fault.WireFault.TheVariants.{OutOfMemory}
-use Rattle.pana_wire.specs.declared.message.Message.{Message}
+use Rattle.pana_calls.specs.declared.message.Message.{Message}
 use Rattle.pana_commands.specs.declared.printout.Printout.{Printout}
 use Rattle.pana_commands.specs.declared.showing.Reason.{Reason}
 use Rattle.pana_commands.specs.declared.showing.Reason.TheVariants as reasons

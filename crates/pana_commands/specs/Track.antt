@@ -2,7 +2,9 @@
 use Rattle.std.specs.Prelude.{◌≡◌, ◌⊎◌, ℕ, not, ◌&&◌, ◌||◌, Bool, true, false, List, [], ◌∷◌, ◌++◌, codes, string_bytes, filter, Result, Ok, Err}
 use Rattle.std.specs.List.{flat_map, list_all}
 use Rattle.std.specs.Str.{bytes_eq}
+use Rattle.pana_calls.specs.Session.{one}
 use Rattle.pana_calls.specs.declared.call.Call.{Call}
+use Rattle.pana_calls.specs.declared.message.Message.{Message}
 use Rattle.pana_calls.specs.declared.reply.Reply.TheVariants.{Status}
 use Rattle.pana_calls.specs.declared.standing.PlacedCopy.{PlacedCopy}
 use Rattle.pana_calls.specs.declared.standing.StatusRow.{StatusRow}
@@ -25,12 +27,12 @@ use Rattle.pana_commands.specs.declared.untracked.Untracked.TheVariants as untra
 
 -- ---- the folders
 
-module _ {S : Type 0} (step : S → List ℕ → Call → Answer → S → Type 0) (may_be_empty : Bool) where
+module _ {S : Type 0} (step : S → List ℕ → Call → Answer → S → Type 0) (together may_be_empty : Bool) where
   -- the folders are tracked, one after another: the lines about them, and whether something wasn't reported of one
   abbrev pub TracksAll : List ReadFolder → S → S → List ℕ → Bool → Type 0
   TracksAll [] old new lines has_fault = (new ≡ old) × (lines ≡ []) × (has_fault ≡ false)
   TracksAll (folder ∷ folders) old new lines has_fault =
-      (mid : S) × (end : FolderEnd) × (more : List ℕ) × (is_more : Bool) × TracksFolder step may_be_empty folder.given old mid end × TracksAll folders mid new more is_more
+      (mid : S) × (end : FolderEnd) × (more : List ℕ) × (is_more : Bool) × TracksFolder step together may_be_empty folder.given old mid end × TracksAll folders mid new more is_more
       × (lines ≡ end_lines folder.device end ++ more) × (has_fault ≡ is_fault end || is_more)
 
 -- ---- what is printed
@@ -72,12 +74,12 @@ status_by false (row ∷ rows) = 1
 
 -- what is answered: the folders are tracked, what was reported is kept, and then all copies that are obsolete or in conflict are asked
 -- for, and those whose paths aren't ignored are shown
-pub record AnswersTrack {S : Type 0} (step : S → List ℕ → Call → Answer → S → Type 0) (settles : S → S → Type 0) (may_be_empty : Bool) (form : StatusForm) (by : List ℕ) (folders : List ReadFolder) (old new : S) (answer : Printout) : Type 0 where
+pub record AnswersTrack {S : Type 0} (step : S → List ℕ → Call → Answer → S → Type 0) (settles : S → S → Type 0) (together may_be_empty : Bool) (form : StatusForm) (by : List ℕ) (folders : List ReadFolder) (old new : S) (answer : Printout) : Type 0 where
   pub mid : S
   pub kept : S
   pub rows : List StatusRow
   pub has_fault : Bool
-  pub tracks : TracksAll step may_be_empty folders old mid (string_bytes answer.err) has_fault
+  pub tracks : TracksAll step together may_be_empty folders old mid (string_bytes answer.err) has_fault
   pub keeps : settles mid kept
   pub has : HasAll step by kept new rows
   pub out : string_bytes answer.out ≡ shown_rows form (shown_of folders rows) []
@@ -91,6 +93,19 @@ pub record IsCut {S : Type 0} (step : S → List ℕ → Call → Answer → S �
   pub call : Call
   pub calls : Makes step old made mid
   pub failed : fails mid by call new
+
+-- some calls were made, and the next ones, which are made together, have no answers
+pub record IsCutAtSome {S : Type 0} (step : S → List ℕ → Call → Answer → S → Type 0) (fails : S → List Message → S → Type 0) (old new : S) : Type 0 where
+  pub made : List Asked
+  pub mid : S
+  pub messages : List Message
+  pub calls : Makes step old made mid
+  pub failed : fails mid messages new
+
+-- whether calls may be made together says which of them it is
+abbrev pub IsCutBy : {S : Type 0} → (S → List ℕ → Call → Answer → S → Type 0) → Bool → (S → List Message → S → Type 0) → S → S → Type 0
+IsCutBy step false fails old new = IsCut step (one fails) old new
+IsCutBy step true fails old new = IsCutAtSome step fails old new
 
 -- some calls were made, and what they have made can't be kept
 pub record IsUnkept {S : Type 0} (step : S → List ℕ → Call → Answer → S → Type 0) (breaks_off : S → S → Type 0) (old new : S) : Type 0 where
@@ -109,8 +124,8 @@ pub record IsCutLate {S : Type 0} (step : S → List ℕ → Call → Answer →
   pub cut : IsCut step fails kept new
 
 -- why there is no answer
-abbrev pub HasNoAnswer : {S : Type 0} → (S → List ℕ → Call → Answer → S → Type 0) → (S → List ℕ → Call → S → Type 0) → (S → S → Type 0) → (S → S → Type 0) → S → S → Type 0
-HasNoAnswer step fails settles breaks_off old new = IsCut step fails old new ⊎ IsUnkept step breaks_off old new ⊎ IsCutLate step fails settles old new
+abbrev pub HasNoAnswer : {S : Type 0} → (S → List ℕ → Call → Answer → S → Type 0) → Bool → (S → List Message → S → Type 0) → (S → S → Type 0) → (S → S → Type 0) → S → S → Type 0
+HasNoAnswer step together fails settles breaks_off old new = IsCutBy step together fails old new ⊎ IsUnkept step breaks_off old new ⊎ IsCutLate step (one fails) settles old new
 
 abbrev pub shown_untracked : Untracked → List ℕ
 shown_untracked untracked.NoAnswer = codes "journal failed"

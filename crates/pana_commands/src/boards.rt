@@ -1,5 +1,6 @@
 //! The tables of families, asked of a session.
 ghost use Rattle.std.specs.Prelude.{◌≡◌, IfOk, IsErrOf, MatchResult, map, string_bytes};
+ghost use Rattle.pana_calls.specs.Session.{one};
 ghost use Rattle.pana_calls.specs.declared.answer.Answer.TheVariants.{Given};
 ghost use Rattle.pana_calls.specs.declared.reply.Reply.TheVariants as replies;
 ghost use Rattle.pana_report.specs.Table.{table_text};
@@ -20,7 +21,7 @@ pub(crate) fn families_of<S: Session>(
     by: &DeviceName,
 ) -> Result<PlainList<FamilyRow>, Untracked>
     ensures ok { IfOk result (λ rows. S.step session.old by.now families (Given (replies.Families rows)) session.new) }
-    ensures fails { IsErrOf result Untracked.NoAnswer → S.fails session.old by.now families session.new }
+    ensures fails { IsErrOf result Untracked.NoAnswer → one S.fails session.old by.now families session.new }
 {
     match session.call(by, Call::Query(Query::Families))? {
         Answer::Given(Reply::Families(rows)) => Ok(rows),
@@ -37,7 +38,7 @@ pub(crate) fn board_of<S: Session>(
     ensures ok { IfOk result (λ said. MatchResult said
         (λ view. S.step session.old by.now (board family) (Given (replies.Board view)) session.new)
         (λ cause. S.step session.old by.now (board family) (Given (replies.Refused cause)) session.new)) }
-    ensures fails { IsErrOf result Untracked.NoAnswer → S.fails session.old by.now (board family) session.new }
+    ensures fails { IsErrOf result Untracked.NoAnswer → one S.fails session.old by.now (board family) session.new }
 {
     match session.call(by, Call::Query(Query::Board { family }))? {
         Answer::Given(Reply::Board(view)) => Ok(Ok(view)),
@@ -53,7 +54,7 @@ pub(crate) fn view_of<S: Session>(
     family: u64,
 ) -> Result<BoardView, Untracked>
     ensures ok { IfOk result (λ view. S.step session.old by.now (board family) (Given (replies.Board view)) session.new) }
-    ensures fails { IsErrOf result Untracked.NoAnswer → S.fails session.old by.now (board family) session.new }
+    ensures fails { IsErrOf result Untracked.NoAnswer → one S.fails session.old by.now (board family) session.new }
 {
     match board_of(session, by, family)? {
         Ok(view) => Ok(view),
@@ -95,7 +96,7 @@ fn tables_of_each<S: Session>(
     families: &[u64],
 ) -> Result<Vec<String>, Untracked>
     ensures ok { IfOk result (λ tables. HasTables S.step by.now terminal families.now session.old session.new (map string_bytes tables.items)) }
-    ensures fails { IsErrOf result Untracked.NoAnswer → IsCut S.step S.fails session.old session.new }
+    ensures fails { IsErrOf result Untracked.NoAnswer → IsCut S.step (one S.fails) session.old session.new }
 {
     let mut tables = Vec::new(alloc);
     for family in families {
@@ -122,7 +123,7 @@ pub fn tables_on<S: Session>(
     only_split: bool,
 ) -> Result<Printout, Untracked>
     ensures ok { IfOk result (PrintsFamilies S.step by.now terminal only_split session.old session.new) }
-    ensures fails { IsErrOf result Untracked.NoAnswer → IsCut S.step S.fails session.old session.new }
+    ensures fails { IsErrOf result Untracked.NoAnswer → IsCut S.step (one S.fails) session.old session.new }
 {
     let rows = families_of(session, by)?;
     let shown = shown_families(alloc, only_split, rows.as_slice())?;
@@ -145,7 +146,7 @@ pub fn table_on<S: Session>(
     family: u64,
 ) -> Result<Printout, Untracked>
     ensures ok { IfOk result (PrintsFamily S.step by.now terminal family session.old session.new) }
-    ensures fails { IsErrOf result Untracked.NoAnswer → S.fails session.old by.now (board family) session.new }
+    ensures fails { IsErrOf result Untracked.NoAnswer → one S.fails session.old by.now (board family) session.new }
 {
     match board_of(session, by, family)? {
         Ok(view) => {

@@ -1,5 +1,6 @@
 //! The newest copies of all files, by their boards.
 ghost use Rattle.std.specs.Prelude.{◌≡◌, IfOk, IsErrOf};
+ghost use Rattle.pana_calls.specs.Session.{one};
 ghost use Rattle.pana_commands.specs.Newest.{AsksNewest, HasNewest, HasNewestOf, is_newest, newest_in, placed};
 ghost use Rattle.pana_commands.specs.Track.{IsCut};
 
@@ -53,7 +54,7 @@ fn newest_of_each<S: Session>(
     families: &[u64],
 ) -> Result<PlainList<PlacedCopy>, Untracked>
     ensures ok { IfOk result (HasNewestOf S.step by.now families.now session.old session.new) }
-    ensures fails { IsErrOf result Untracked.NoAnswer → IsCut S.step S.fails session.old session.new }
+    ensures fails { IsErrOf result Untracked.NoAnswer → IsCut S.step (one S.fails) session.old session.new }
 {
     let mut newest = PlainList::new(alloc);
     for family in families {
@@ -73,7 +74,7 @@ fn newest_of_all<S: Session>(
     by: &DeviceName,
 ) -> Result<PlainList<PlacedCopy>, Untracked>
     ensures ok { IfOk result (AsksNewest S.step by.now session.old session.new) }
-    ensures fails { IsErrOf result Untracked.NoAnswer → IsCut S.step S.fails session.old session.new }
+    ensures fails { IsErrOf result Untracked.NoAnswer → IsCut S.step (one S.fails) session.old session.new }
 {
     let rows = families_of(session, by)?;
     let families = shown_families(alloc, false, rows.as_slice())?;
@@ -92,7 +93,7 @@ pub(crate) fn newest_of<S: Session>(
     is_listed: bool,
 ) -> Result<PlainList<PlacedCopy>, Untracked>
     ensures ok { IfOk result (HasNewest S.step by.now is_listed session.old session.new) }
-    ensures fails { IsErrOf result Untracked.NoAnswer → IsCut S.step S.fails session.old session.new }
+    ensures fails { IsErrOf result Untracked.NoAnswer → IsCut S.step (one S.fails) session.old session.new }
 {
     if is_listed {
         newest_of_all(alloc, session, by)

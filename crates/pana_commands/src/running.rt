@@ -29,7 +29,7 @@ pub fn run_on<R: Read, W: Write>(
         × Serves R.remaining W.contents Replies reader.old reader.new writer.old writer.new [] journal served) }
     ensures fault { IfErr result (λ fault. (journal : List Entry)
         × (NeverBegins reader.old reader.new writer.old writer.new [] journal fault
-        ⊎ Stops R.remaining W.contents Replies IsNever reads reader.old reader.new writer.old writer.new [] journal fault)) }
+        ⊎ Stops R.remaining W.contents Replies false IsNever reads reader.old reader.new writer.old writer.new [] journal fault)) }
     ensures answered { IfErr result (λ fault. fault ≢ ServeFault.NoAnswer) }
     ensures reads { MadeAtMost reads reader.old reader.new }
 {

@@ -6,9 +6,9 @@ ghost use Rattle.pana_commands.specs.Tables.{tables_text};
 
 use crate::printout::Printout;
 use crate::tables::tables_of;
-use pana_calls::{Cause, Reply};
+use pana_calls::{Cause, Message, Reply};
 use pana_hall::Hall;
-use pana_wire::{Message, WireFault, decode, split_lines};
+use pana_wire::{WireFault, decode, split_lines};
 use std::alloc::{AllocError, Global};
 use std::fmt;
 

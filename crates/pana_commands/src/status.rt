@@ -1,5 +1,6 @@
 //! The copies that are obsolete or in conflict, all or those at places that are named.
 ghost use Rattle.std.specs.Prelude.{◌≡◌, IfOk, IfSome, IsErrOf, string_bytes};
+ghost use Rattle.pana_calls.specs.Session.{one};
 ghost use Rattle.std.specs.List.{list_any};
 ghost use Rattle.pana_calls.specs.declared.answer.Answer.TheVariants.{Given};
 ghost use Rattle.pana_calls.specs.declared.reply.Reply.TheVariants as replies;
@@ -133,7 +134,7 @@ fn total_of<S: Session>(
     is_wanted: bool,
 ) -> Result<Option<HallCounts>, Untracked>
     ensures ok { IfOk result (HasTotal S.step by.now is_wanted session.old session.new) }
-    ensures fails { IsErrOf result Untracked.NoAnswer → IsCut S.step S.fails session.old session.new }
+    ensures fails { IsErrOf result Untracked.NoAnswer → IsCut S.step (one S.fails) session.old session.new }
 {
     if !is_wanted {
         return Ok(None);
@@ -183,7 +184,7 @@ pub fn status_on<S: Session>(
     form: StatusForm,
 ) -> Result<Printout, Untracked>
     ensures ok { IfOk result (AnswersStatus S.step places.now lists_newest form by.now session.old session.new) }
-    ensures fails { IsErrOf result Untracked.NoAnswer → IsCut S.step S.fails session.old session.new }
+    ensures fails { IsErrOf result Untracked.NoAnswer → IsCut S.step (one S.fails) session.old session.new }
 {
     let Some(rows) = status_of(alloc, session, by)? else {
         return Err(Untracked::OutOfMemory);

@@ -4,7 +4,7 @@ ghost use Rattle.std.specs.Prelude.{◌≡◌, IfOk, IsErrOf, string_bytes};
 ghost use Rattle.std.specs.List.{list_all};
 ghost use Rattle.pana_track.specs.Calls.{Makes};
 ghost use Rattle.pana_track.specs.Status.{HasAll};
-ghost use Rattle.pana_commands.specs.Track.{AnswersTrack, HasNoAnswer, IsCut, TracksAll, row_line, row_lines, shown_of, shown_rows, shows, status_by};
+ghost use Rattle.pana_commands.specs.Track.{AnswersTrack, HasNoAnswer, IsCutBy, TracksAll, row_line, row_lines, shown_of, shown_rows, shows, status_by};
 
 use crate::printout::Printout;
 use crate::untracked::Untracked;
@@ -40,8 +40,8 @@ fn track_all<S: Session>(
     folders: &[ReadFolder],
     may_be_empty: bool,
 ) -> Result<Notes, Untracked>
-    ensures ok { IfOk result (λ notes. TracksAll S.step may_be_empty folders.now session.old session.new (string_bytes notes.lines) notes.has_fault) }
-    ensures fails { IsErrOf result Untracked.NoAnswer → IsCut S.step S.fails session.old session.new }
+    ensures ok { IfOk result (λ notes. TracksAll S.step S.keeps_together may_be_empty folders.now session.old session.new (string_bytes notes.lines) notes.has_fault) }
+    ensures fails { IsErrOf result Untracked.NoAnswer → IsCutBy S.step S.keeps_together S.fails session.old session.new }
 {
     let Some((folder, others)) = folders.split_first() else {
         return Ok(Notes {
@@ -178,8 +178,8 @@ pub fn track_on<S: Session>(
     may_be_empty: bool,
     form: StatusForm,
 ) -> Result<Printout, Untracked>
-    ensures ok { IfOk result (AnswersTrack S.step S.settles may_be_empty form by.now folders.now session.old session.new) }
-    ensures fails { IsErrOf result Untracked.NoAnswer → HasNoAnswer S.step S.fails S.settles S.breaks_off session.old session.new }
+    ensures ok { IfOk result (AnswersTrack S.step S.settles S.keeps_together may_be_empty form by.now folders.now session.old session.new) }
+    ensures fails { IsErrOf result Untracked.NoAnswer → HasNoAnswer S.step S.keeps_together S.fails S.settles S.breaks_off session.old session.new }
 {
     let Notes { lines, has_fault } = track_all(alloc, session, folders, may_be_empty)?;
     session.settle()?;

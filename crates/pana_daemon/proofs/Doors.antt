@@ -8,7 +8,7 @@ use Rattle.pana_daemon.specs.declared.connection.Connection.{Connection}
 use Rattle.pana_daemon.specs.declared.post.Post.{Post}
 use Rattle.pana_daemon.specs.declared.post.Post.TheVariants.{Door, Folder}
 use Rattle.pana_daemon.specs.Connection.{ServesAll, Works}
-use Rattle.pana_daemon.specs.Desk.{PassView}
+use Rattle.pana_daemon.specs.Session.{SessionView}
 use Rattle.pana_daemon.specs.declared.request.Request.{Request}
 use Rattle.pana_daemon.specs.declared.request.Response.{Response}
 use Rattle.pana_daemon.specs.Door.{DoorView, GivesDrawn, HasDrawn, HasEnded, is_one_closed, new_door}
@@ -25,22 +25,22 @@ draws_none door = record { tickets = refl; most = refl; parts = refl; drawn = om
 pub draws_on : (old mid new : DoorView) (first more : ℕ) → HasDrawn old first mid → HasDrawn mid more new → HasDrawn old (first + more) new
 draws_on old mid new first more p q = record { tickets = q.tickets ∙ p.tickets; most = q.most ∙ p.most; parts = q.parts ∙ p.parts; drawn = omega (arith, p.drawn, q.drawn) }
 
-module _ {S R W : Type 0} (steps : S → Request → Response → S → Type 0) (remaining : R → Option (List ℕ)) (contents : W → Option (List ℕ)) where
-  serving_draws : (door_old : DoorView) (connections : List (Connection R W)) (door_new : DoorView) (old new : PassView S) → ServesAll steps GivesDrawn remaining contents door_old connections door_new old new → Draws door_old door_new
+module _ {S R W : Type 0} (steps : S → Request → Response → S → Type 0) (together : Bool) (remaining : R → Option (List ℕ)) (contents : W → Option (List ℕ)) where
+  serving_draws : (door_old : DoorView) (connections : List (Connection R W)) (door_new : DoorView) (old new : SessionView S) → ServesAll steps together GivesDrawn remaining contents door_old connections door_new old new → Draws door_old door_new
   serving_draws door_old [] door_new old new so = (0, subst (HasDrawn door_old 0) (sym so.0) (draws_none door_old))
   serving_draws door_old (connection ∷ connections) door_new old new (door, mid, gave, served, others) =
       let more = serving_draws door connections door_new mid new others in
       ((gave.0 + 1) + more.0, draws_on door_old door door_new (gave.0 + 1) more.0 gave.1 more.1)
 
   -- a worker leaves a door that has ended
-  work_ends : (door_old door_new : DoorView) (old new : PassView S) → Works steps GivesDrawn remaining contents door_old door_new old new → Draws door_old door_new × HasEnded door_new
+  work_ends : (door_old door_new : DoorView) (old new : SessionView S) → Works steps together GivesDrawn remaining contents door_old door_new old new → Draws door_old door_new × HasEnded door_new
   work_ends door_old door_new old new w =
       let first = serving_draws door_old w.connections w.door old new w.serves in
       let last = w.ends.0 in
       ((first.0 + last.0, draws_on door_old w.door door_new first.0 last.0 first.1 last.1), w.ends.1)
 
   module _ {F : Type 0} (does : F → Deed → F → Type 0) where
-    done_ends : (olds news : List (Post DoorView F × PassView S)) → HaveDone steps GivesDrawn remaining contents does olds news → AreEnded (doors_in (posts_of olds)) (doors_in (posts_of news))
+    done_ends : (olds news : List (Post DoorView F × SessionView S)) → HaveDone steps together GivesDrawn remaining contents does olds news → AreEnded (doors_in (posts_of olds)) (doors_in (posts_of news))
     done_ends [] [] done = tt
     done_ends [] (new ∷ news) done = absurd done
     done_ends (old ∷ olds) [] done = absurd done
@@ -51,7 +51,7 @@ module _ {S R W : Type 0} (steps : S → Request → Response → S → Type 0) 
 
     -- so do all
     pub all_end : (begun : S) (posts : List (Post DoorView F)) (left : S) (posts_left : List (Post DoorView F)) (requests : ℕ) (unanswered : Bool)
-        → Ends steps GivesDrawn remaining contents does begun posts left posts_left requests unanswered → AreEnded (doors_in posts) (doors_in posts_left)
+        → Ends steps together GivesDrawn remaining contents does begun posts left posts_left requests unanswered → AreEnded (doors_in posts) (doors_in posts_left)
     all_end begun posts left posts_left requests unanswered e =
         subst (λ (ps : List (Post DoorView F)). AreEnded (doors_in posts) (doors_in ps)) e.posts_left_are
         (subst (λ (ps : List (Post DoorView F)). AreEnded (doors_in ps) (doors_in (posts_of e.news))) e.posts_are (done_ends e.olds e.news e.done))

@@ -15,7 +15,6 @@ use Rattle.pana_daemon.specs.declared.post.Post.{Post}
 use Rattle.pana_daemon.specs.declared.post.Post.TheVariants.{Door, Folder}
 use Rattle.pana_roots.specs.declared.root.Root.{Root}
 use Rattle.pana_daemon.specs.declared.looks.Looks.{Looks}
-use Rattle.pana_daemon.specs.Desk.{PassView}
 use Rattle.pana_daemon.specs.declared.request.Request.{Request}
 use Rattle.pana_daemon.specs.declared.request.Response.{Response}
 use Rattle.pana_daemon.specs.Post.{HaveDone, folders_in, posts_of}
@@ -24,7 +23,7 @@ use Rattle.pana_roots.specs.Disks.{IsReadOf}
 use Rattle.pana_daemon.specs.RootFolder.{AwaitsScan, FolderView, IsLast, IsLookOf, IsMore, ScansRoot, knowing, has_folders, new_folders}
 use Rattle.pana_daemon.specs.Scan.{Scans}
 use Rattle.pana_daemon.specs.Serve.{Ends}
-use Rattle.pana_daemon.specs.Session.{BreaksOff, GetsNone, MakesCall, MayRecover, Settles}
+use Rattle.pana_daemon.specs.Session.{BreaksOff, GetNone, MakesCall, MayRecover, SessionView, Settles}
 use Rattle.pana_daemon.specs.inner.Folders.{AreOf, HaveAsked, IsTimed}
 
 module _ {K : Type 0} where
@@ -114,7 +113,7 @@ module _ {K D : Type 0} (has : K → D → Type 0) (passes : K → List ℕ → 
             (subst (λ (r : RootView K). IsReadOf has passes is_known tree has_failed entries faults r given) (ap (λ (f : FolderView K). f.root) so) reads),
       )
 
-module _ {S D R W K : Type 0} (steps : S → Request → Response → S → Type 0)
+module _ {S D R W K : Type 0} (steps : S → Request → Response → S → Type 0) (together : Bool)
     (gives : D → Option (Connection R W) → D → Type 0) (remaining : R → Option (List ℕ)) (contents : W → Option (List ℕ))
     {G : Type 0} (has : K → G → Type 0) (passes : K → List ℕ → List (List ℕ)) (is_known : Bool) (tree : G → Tree) (has_failed : G → Bool) (entries faults : G → ℕ) where
   abbrev Does : FolderView K → Deed → FolderView K → Type 0
@@ -133,14 +132,14 @@ module _ {S D R W K : Type 0} (steps : S → Request → Response → S → Type
       (rest.0 ∙ ap (λ (f : FolderView K). f.ticks) same, rest.1 ∙ ap (λ (f : FolderView K). f.start) same)
 
   -- a folder waits for the same after it was scanned, and has asked whether the start has come
-  scanning_same : (device : List ℕ) (folder_old folder_new : FolderView K) (old new : PassView S)
-      → Scans Does (MakesCall steps) (GetsNone steps) (Settles steps) (BreaksOff steps) MayRecover device folder_old folder_new old new → (folder_new.ticks ≡ folder_old.ticks) × (folder_new.start ≡ folder_old.start) × IsSome folder_new.begins
+  scanning_same : (device : List ℕ) (folder_old folder_new : FolderView K) (old new : SessionView S)
+      → Scans Does (MakesCall steps together) together (GetNone steps together) (Settles steps) (BreaksOff steps) MayRecover device folder_old folder_new old new → (folder_new.ticks ≡ folder_old.ticks) × (folder_new.start ≡ folder_old.start) × IsSome folder_new.begins
   scanning_same device folder_old folder_new old new s =
       let first = giving_same folder_old s.folder_mid s.given s.folder in
       ⊎_elim (λ t. let last = last_asked s.folder_mid.begins s.folder_mid folder_new refl t.0 in (last.0 ∙ first.0, last.1 ∙ first.1, last.2))
       (λ t. let gave = t.2.0.1 in (ap (λ (f : FolderView K). f.ticks) gave ∙ first.0, ap (λ (f : FolderView K). f.start) gave ∙ first.1, ap (λ (f : FolderView K). is_some f.begins) gave)) s.ends
 
-  done_same : (ticks : TableId) (start : ℕ) (olds news : List (Post D (FolderView K) × PassView S)) → HaveDone steps gives remaining contents Does olds news
+  done_same : (ticks : TableId) (start : ℕ) (olds news : List (Post D (FolderView K) × SessionView S)) → HaveDone steps together gives remaining contents Does olds news
       → AreOf ticks start (folders_in (posts_of olds)) → HaveAsked ticks start (folders_in (posts_of news))
   done_same ticks start [] [] done are = tt
   done_same ticks start [] (new ∷ news) done are = absurd done
@@ -154,7 +153,7 @@ module _ {S D R W K : Type 0} (steps : S → Request → Response → S → Type
 
   -- so have all
   pub all_asked : (ticks : TableId) (start : ℕ) (begun : S) (posts : List (Post D (FolderView K))) (left : S) (posts_left : List (Post D (FolderView K))) (requests : ℕ) (unanswered : Bool)
-      → Ends steps gives remaining contents Does begun posts left posts_left requests unanswered → AreOf ticks start (folders_in posts) → HaveAsked ticks start (folders_in posts_left)
+      → Ends steps together gives remaining contents Does begun posts left posts_left requests unanswered → AreOf ticks start (folders_in posts) → HaveAsked ticks start (folders_in posts_left)
   all_asked ticks start begun posts left posts_left requests unanswered e are =
       subst (λ (ps : List (Post D (FolderView K))). HaveAsked ticks start (folders_in ps)) e.posts_left_are
       (done_same ticks start e.olds e.news e.done (subst (λ (ps : List (Post D (FolderView K))). AreOf ticks start (folders_in ps)) (sym e.posts_are) are))

@@ -3,6 +3,7 @@ pub mod Sending
 pub mod Scanned
 pub mod Scans
 pub mod Sessions
+pub mod Lists
 pub mod Connections
 pub mod Passes
 pub mod Posts

@@ -1,6 +1,6 @@
 -- Passes of one desk, and scanners of roots.
 use Rattle.std.specs.List.{range_with_len}
-use Rattle.std.proofs.Common.{◌≡◌, ◌==◌, ◌<◌, ◌||◌, ◌⊎◌, inl, inr, ℕ, zero, suc, ◌+◌, Bool, true, false, All, List, [], ◌∷◌, ◌++◌, map, length, take, drop, get_or, Option, arith, refl, sym, subst, ap, ◌∙◌, append_assoc}
+use Rattle.std.proofs.Common.{◌≡◌, ◌==◌, ◌<◌, ◌||◌, ◌⊎◌, inl, inr, ℕ, zero, suc, ◌+◌, Bool, true, false, All, List, [], ◌∷◌, ◌++◌, map, length, take, drop, get_or, arith, refl, sym, subst, ap, ◌∙◌, append_assoc}
 use Rattle.std.proofs.lemmas.List.{map-append}
 use Rattle.std.proofs.lemmas.List.FromFn.{length-map-range_with_len}
 use Rattle.std.proofs.Math.Seq.{take-append_seam}
@@ -16,9 +16,9 @@ use Rattle.pana_daemon.specs.Desk.{PassView}
 use Rattle.pana_daemon.specs.declared.request.Request.{Request}
 use Rattle.pana_daemon.specs.declared.request.Response.{Response}
 use Rattle.pana_daemon.specs.inner.Passes.{AreOf, AreOpen, HaveGrown}
-use Rattle.pana_daemon.specs.Scan.{BreaksLook, Scans, TakesLook, TakesLooks}
-use Rattle.pana_daemon.specs.Session.{BreaksOff, GetsNone, GrowsTo, MakesCall, MayRecover, Settles}
-use Rattle.pana_daemon.proofs.Sessions.{grows_on, grows_same, call_grows, none_grows, settled_grows, broken_grows}
+use Rattle.pana_daemon.specs.Scan.{BreaksLook, Scans, StopsLook, TakesLook, TakesLooks}
+use Rattle.pana_daemon.specs.Session.{BreaksOff, GetNone, GrowsTo, MakesCall, MayRecover, SessionView, Settles}
+use Rattle.pana_daemon.proofs.Sessions.{all_grow, then_grows, same_grows, call_grows, none_grows, settled_grows, broken_grows}
 
 -- new passes with these numbers
 abbrev numbered : {S : Type 0} → DeskId S → List ℕ → List (PassView S)
@@ -94,31 +94,35 @@ from_either : {A B C : Type 0} → A ⊎ B → (A → C) → (B → C) → C
 from_either (inl a) f g = f a
 from_either (inr b) f g = g b
 
-module _ {S : Type 0} (steps : S → Request → Response → S → Type 0) where
-  made_grow : (old new : PassView S) (made : List Asked) → Makes (MakesCall steps) old made new → GrowsTo old new
-  made_grow old new [] so = grows_same old new so
-  made_grow old new (one ∷ more) (mid, first, others) = grows_on old mid new (call_grows steps old mid one.by one.call one.answer first) (made_grow mid new more others)
+module _ {S : Type 0} (steps : S → Request → Response → S → Type 0) (together : Bool) where
+  made_grow : (old new : SessionView S) (made : List Asked) → Makes (MakesCall steps together) old made new → GrowsTo old.pass new.pass
+  made_grow old new [] so = same_grows old new so
+  made_grow old new (one ∷ more) (mid, first, others) = then_grows old mid new (call_grows steps together old mid one.by one.call one.answer first) (made_grow mid new more others)
 
-  breaks_grow : (device : List ℕ) (look : Look) (old new : PassView S) (marks_old marks_new : List BaselineRow) → BreaksLook (MakesCall steps) device (GetsNone steps) (BreaksOff steps) look old new marks_old marks_new → GrowsTo old new
-  breaks_grow device look old new marks_old marks_new (inl stops) = grows_on old stops.mid new (made_grow old stops.mid stops.made stops.calls) (none_grows steps stops.mid new device stops.call stops.ends)
-  breaks_grow device look old new marks_old marks_new (inr (made, end, looks, broken)) = grows_on old made new (made_grow old made looks.made looks.calls) (broken_grows steps made new broken)
+  stops_grow : (flag : Bool) (device : List ℕ) (look : Look) (old new : SessionView S) (marks_old marks_new : List BaselineRow) → StopsLook (MakesCall steps together) device flag (GetNone steps together) look old new marks_old marks_new → GrowsTo old.pass new.pass
+  stops_grow false device look old new marks_old marks_new stops = then_grows old stops.mid new (made_grow old stops.mid stops.made stops.calls) (none_grows steps together stops.mid new device stops.call stops.ends)
+  stops_grow true device look old new marks_old marks_new stops = then_grows old stops.mid new (made_grow old stops.mid stops.made stops.calls) (all_grow steps together stops.mid new stops.messages stops.ends)
 
-  look_grows : (device : List ℕ) (taken : Taken) (old new : PassView S) (marks_old marks_new : List BaselineRow)
-      → TakesLook (MakesCall steps) device (GetsNone steps) (Settles steps) (BreaksOff steps) MayRecover taken old new marks_old marks_new → GrowsTo old new
-  look_grows device taken old new marks_old marks_new (inl kept) = grows_on old kept.mid new (made_grow old kept.mid kept.looks.made kept.looks.calls) (settled_grows steps kept.mid new kept.settled)
+  breaks_grow : (device : List ℕ) (look : Look) (old new : SessionView S) (marks_old marks_new : List BaselineRow) → BreaksLook (MakesCall steps together) device together (GetNone steps together) (BreaksOff steps) look old new marks_old marks_new → GrowsTo old.pass new.pass
+  breaks_grow device look old new marks_old marks_new (inl stops) = stops_grow together device look old new marks_old marks_new stops
+  breaks_grow device look old new marks_old marks_new (inr (made, end, looks, broken)) = then_grows old made new (made_grow old made looks.made looks.calls) (broken_grows steps made new broken)
+
+  look_grows : (device : List ℕ) (taken : Taken) (old new : SessionView S) (marks_old marks_new : List BaselineRow)
+      → TakesLook (MakesCall steps together) device together (GetNone steps together) (Settles steps) (BreaksOff steps) MayRecover taken old new marks_old marks_new → GrowsTo old.pass new.pass
+  look_grows device taken old new marks_old marks_new (inl kept) = then_grows old kept.mid new (made_grow old kept.mid kept.looks.made kept.looks.calls) (settled_grows steps kept.mid new kept.settled)
   look_grows device taken old new marks_old marks_new (inr (unsaid, breaks, may)) = breaks_grow device taken.look old new marks_old marks_new breaks
 
-  looks_grow : (device : List ℕ) (given : List Taken) (old new : PassView S) (marks_old marks_new : List BaselineRow)
-      → TakesLooks (MakesCall steps) device (GetsNone steps) (Settles steps) (BreaksOff steps) MayRecover given old new marks_old marks_new → GrowsTo old new
-  looks_grow device [] old new marks_old marks_new so = grows_same old new so.0
+  looks_grow : (device : List ℕ) (given : List Taken) (old new : SessionView S) (marks_old marks_new : List BaselineRow)
+      → TakesLooks (MakesCall steps together) device together (GetNone steps together) (Settles steps) (BreaksOff steps) MayRecover given old new marks_old marks_new → GrowsTo old.pass new.pass
+  looks_grow device [] old new marks_old marks_new so = same_grows old new so.0
   looks_grow device (taken ∷ given) old new marks_old marks_new (mid, marks, took, more) =
-      grows_on old mid new (look_grows device taken old mid marks_old marks took) (looks_grow device given mid new marks marks_new more)
+      then_grows old mid new (look_grows device taken old mid marks_old marks took) (looks_grow device given mid new marks marks_new more)
 
-  pub scanning_grows : {F : Type 0} (does : F → Deed → F → Type 0) (device : List ℕ) (folder_old folder_new : F) (old new : PassView S)
-      → Scans does (MakesCall steps) (GetsNone steps) (Settles steps) (BreaksOff steps) MayRecover device folder_old folder_new old new → GrowsTo old new
+  pub scanning_grows : {F : Type 0} (does : F → Deed → F → Type 0) (device : List ℕ) (folder_old folder_new : F) (old new : SessionView S)
+      → Scans does (MakesCall steps together) together (GetNone steps together) (Settles steps) (BreaksOff steps) MayRecover device folder_old folder_new old new → GrowsTo old.pass new.pass
   scanning_grows does device folder_old folder_new old new s =
-      grows_on old s.mid new (looks_grow device s.given old s.mid [] s.baseline s.takes)
-      (from_either s.ends (λ e. grows_same s.mid new e.1) (λ e. breaks_grow device e.0 s.mid new s.baseline e.1 e.3))
+      then_grows old s.mid new (looks_grow device s.given old s.mid [] s.baseline s.takes)
+      (from_either s.ends (λ e. same_grows s.mid new e.1) (λ e. breaks_grow device e.0 s.mid new s.baseline e.1 e.3))
 
 -- a vector whose first `n` places are written again has what was written, where it had so many items
 pub as_left : {X : Type 0} (n : ℕ) (new old : List X) → length new ≡ length old → length old ≡ n → take n (new ++ drop (length new) old) ≡ new

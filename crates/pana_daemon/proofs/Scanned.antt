@@ -1,7 +1,8 @@
 -- Looks of a scanner, one after another.
-use Rattle.std.proofs.Common.{inl, inr, ℕ, List, [], ◌∷◌, ◌++◌, Option, None, Some, refl, subst}
+use Rattle.std.proofs.Common.{inl, inr, ℕ, Bool, List, [], ◌∷◌, ◌++◌, Option, None, Some, refl, subst}
 use Rattle.pana_calls.specs.declared.call.Call.{Call}
 use Rattle.pana_calls.specs.declared.answer.Answer.{Answer}
+use Rattle.pana_calls.specs.declared.message.Message.{Message}
 use Rattle.pana_scan.specs.declared.baseline.BaselineRow.{BaselineRow}
 use Rattle.pana_track.specs.declared.folder_end.FolderEnd.{FolderEnd}
 use Rattle.pana_daemon.specs.Folder.{Deed, Gives, LearnsEnd, Taken, gives_look, gives_none}
@@ -13,13 +14,13 @@ gives_push : {F : Type 0} → (does : F → Deed → F → Type 0) (old mid give
 gives_push does old mid given new [] next is one learnt = (given, new, subst (λ f. does f (gives_look next.look) given) is one, learnt, refl)
 gives_push does old mid given new (taken ∷ looks) next (f, g, first, knows, is) one learnt = (f, g, first, knows, gives_push does g mid given new looks next is one learnt)
 
-module _ {F S : Type 0} (does : F → Deed → F → Type 0) (step : S → List ℕ → Call → Answer → S → Type 0) (fails : S → List ℕ → Call → S → Type 0) (settles breaks_off : S → S → Type 0) (may_recover : S → Type 0) (device : List ℕ) where
+module _ {F S : Type 0} (does : F → Deed → F → Type 0) (step : S → List ℕ → Call → Answer → S → Type 0) (together : Bool) (fails : S → List Message → S → Type 0) (settles breaks_off : S → S → Type 0) (may_recover : S → Type 0) (device : List ℕ) where
   abbrev Takes : Taken → S → S → List BaselineRow → List BaselineRow → Type 0
-  Takes = TakesLook step device fails settles breaks_off may_recover
+  Takes = TakesLook step device together fails settles breaks_off may_recover
 
   looks_push : (given : List Taken) (next : Taken) (old mid new : S) (marks_old marks_mid marks_new : List BaselineRow)
-      → TakesLooks step device fails settles breaks_off may_recover given old mid marks_old marks_mid → Takes next mid new marks_mid marks_new
-      → TakesLooks step device fails settles breaks_off may_recover (given ++ next ∷ []) old new marks_old marks_new
+      → TakesLooks step device together fails settles breaks_off may_recover given old mid marks_old marks_mid → Takes next mid new marks_mid marks_new
+      → TakesLooks step device together fails settles breaks_off may_recover (given ++ next ∷ []) old new marks_old marks_new
   looks_push [] next old mid new marks_old marks_mid marks_new so one = (
     new,
     marks_new,
@@ -33,11 +34,11 @@ module _ {F S : Type 0} (does : F → Deed → F → Type 0) (step : S → List 
   pub record LookedSoFar (folder_old folder_new : F) (old new : S) (marks : List BaselineRow) : Type 0 where
     pub given : List Taken
     pub folder : Gives does folder_old given folder_new
-    pub takes : TakesLooks step device fails settles breaks_off may_recover given old new [] marks
+    pub takes : TakesLooks step device together fails settles breaks_off may_recover given old new [] marks
 
   -- the folder gives no more
   pub no_more : (folder_old : F) (old : S) (folder_mid folder_new : F) (new : S) (marks : List BaselineRow) → LookedSoFar folder_old folder_mid old new marks → does folder_mid gives_none folder_new
-      → Scans does step fails settles breaks_off may_recover device folder_old folder_new old new
+      → Scans does step together fails settles breaks_off may_recover device folder_old folder_new old new
   no_more folder_old old folder_mid folder_new new marks far gave = record {
     given = far.given;
     baseline = marks;
@@ -59,16 +60,16 @@ module _ {F S : Type 0} (does : F → Deed → F → Type 0) (step : S → List 
     }
 
     -- which was kept
-    pub one_kept : (end : Option FolderEnd) (folder_new : F) (new : S) (marks_new : List BaselineRow) → LearnsEnd does folder_given end folder_new → KeepsLook step device settles next end mid new marks marks_new
+    pub one_kept : (end : Option FolderEnd) (folder_new : F) (new : S) (marks_new : List BaselineRow) → LearnsEnd does folder_given end folder_new → KeepsLook step device together settles next end mid new marks marks_new
         → LookedSoFar folder_old folder_new old new marks_new
     one_kept end folder_new new marks_new learnt look = one_look end folder_new new marks_new learnt (inl look)
 
     -- which was cut short
-    pub one_cut : (new : S) (marks_new : List BaselineRow) → BreaksLook step device fails breaks_off next mid new marks marks_new → may_recover new → LookedSoFar folder_old folder_given old new marks_new
+    pub one_cut : (new : S) (marks_new : List BaselineRow) → BreaksLook step device together fails breaks_off next mid new marks marks_new → may_recover new → LookedSoFar folder_old folder_given old new marks_new
     one_cut new marks_new breaks may = one_look None folder_given new marks_new refl (inr (refl, breaks, may))
 
     -- it is cut short, and the last one
-    pub none_left : (new : S) (marks_new : List BaselineRow) → BreaksLook step device fails breaks_off next mid new marks marks_new → Scans does step fails settles breaks_off may_recover device folder_old folder_given old new
+    pub none_left : (new : S) (marks_new : List BaselineRow) → BreaksLook step device together fails breaks_off next mid new marks marks_new → Scans does step together fails settles breaks_off may_recover device folder_old folder_given old new
     none_left new marks_new breaks = record {
       given = far.given;
       baseline = marks;

@@ -1,6 +1,8 @@
 -- Calls of a scanner, one after another.
 use Rattle.std.proofs.Common.{◌≡◌, ℕ, ◌+◌, ◌<◌, ◌≤◌, suc, take, drop, drop-cons, List, [], ◌∷◌, ◌++◌, length, Option, None, Result, Ok, Err, ◌⊎◌, inl, inr, Bool, true, false, true≢false, refl, IfOk, IfErr, OnErr, OnOk, is_ok, sym, ap, subst, ◌∙◌, slice_index_or, append-nil, arith}
+use Rattle.pana_calls.specs.Session.{one}
 use Rattle.pana_calls.specs.declared.call.Call.{Call}
+use Rattle.pana_calls.specs.declared.message.Message.{Message}
 use Rattle.pana_calls.specs.declared.call.Call.TheVariants as calls
 use Rattle.pana_calls.specs.declared.answer.Answer.{Answer}
 use Rattle.pana_calls.specs.declared.answer.Answer.TheVariants.{Given, NotKept}
@@ -16,15 +18,16 @@ use Rattle.pana_scan.specs.declared.step.Plan.{Plan}
 use Rattle.std.proofs.lemmas.List.{take-append-drop, take_all, take_more}
 use Rattle.pana_scan.specs.declared.scan_fault.ScanFault.{ScanFault}
 use Rattle.pana_scan.specs.Baseline.{settled}
-use Rattle.pana_track.specs.Calls.{Asked, Makes}
+use Rattle.pana_track.specs.Calls.{Asked, Makes, asked as answered}
 use Rattle.pana_track.specs.Folder.{BreaksFolder}
 use Rattle.pana_track.specs.Track.{IsTrack}
 use Rattle.pana_track.specs.declared.fault.TrackFault.{TrackFault}
 use Rattle.pana_track.specs.declared.read_fault.ReadFault.{ReadFault}
 use Rattle.pana_track.specs.declared.reading.TrackedListing.{TrackedListing}
+use Rattle.pana_track.proofs.Either.{asked_one}
 use Rattle.pana_track.proofs.Reported.{makes_on}
 use Rattle.pana_daemon.specs.declared.folder.Look.TheVariants.{Scanned, Tracked}
-use Rattle.pana_daemon.specs.Scan.{Follow, Reports, StopsLook, done_as, settled_all, settled_as}
+use Rattle.pana_daemon.specs.Scan.{Follow, IsLook, Reports, StopsLook, done_as, settled_all, settled_as}
 use Rattle.pana_daemon.specs.inner.Scan.{Asks, IsOwn, ReportsOne, ReportsSteps, ScansOnce, StopsReporting, StopsScan, StopsTracking, TracksOnce, reporting}
 
 module _ {S : Type 0} (step : S → List ℕ → Call → Answer → S → Type 0) where
@@ -235,32 +238,44 @@ module _ {S : Type 0} (step : S → List ℕ → Call → Answer → S → Type 
   report_done (Ok x) more entry one ok err is = inl (record { answer = Given (Done entry); call = one; faults = 0; ends = inl (is, refl, ok) })
   report_done (Err e) more entry one ok err is = inl (record { answer = Given (Done entry); call = one; faults = 1; ends = inr (is, refl, err, refl) })
 
-module _ {S : Type 0} (step : S → List ℕ → Call → Answer → S → Type 0) (fails : S → List ℕ → Call → S → Type 0) (device : List ℕ) where
+module _ {S : Type 0} (step : S → List ℕ → Call → Answer → S → Type 0) (device : List ℕ) where
   -- tracking a folder was broken off
-  tracking_stops : (given : Result TrackedListing ReadFault) (old new : S) → IfOk given (λ found. found.listing.device ≡ device) → BreaksFolder step fails false given old new → StopsTracking step fails device given old new
-  tracking_stops (Err fault) old new own is = absurd is
-  tracking_stops (Ok found) old new own is = record {
+  tracking_stops : (together : Bool) (fails : S → List Message → S → Type 0) (given : Result TrackedListing ReadFault) (old new : S) → IfOk given (λ found. found.listing.device ≡ device) → BreaksFolder step together fails false given old new
+      → StopsTracking step together fails device given old new
+  tracking_stops false fails (Err fault) old new own is = absurd is
+  tracking_stops true fails (Err fault) old new own is = absurd is
+  tracking_stops false fails (Ok found) old new own is = record {
     mid = is.1.mid;
     made = is.1.made;
     calls = is.1.calls;
     call = is.1.call;
-    is = λ answer. inr (own, subst (λ (by : List ℕ). (stop : Option TrackFault) × IsTrack false found (is.1.made ++ record { by = by; call = is.1.call; answer = answer } ∷ []) stop) own (is.1.next answer));
-    ends = subst (λ (by : List ℕ). fails is.1.mid by is.1.call new) own is.1.failed;
+    is = λ answer. inr (own, subst (λ (by : List ℕ). (stop : Option TrackFault) × IsTrack false false found (is.1.made ++ record { by = by; call = is.1.call; answer = answer } ∷ []) stop) own (is.1.next answer));
+    ends = subst (λ (by : List ℕ). one fails is.1.mid by is.1.call new) own is.1.failed;
+  }
+  tracking_stops true fails (Ok found) old new own is = record {
+    mid = is.1.mid;
+    made = is.1.made;
+    calls = is.1.calls;
+    messages = is.1.messages;
+    is = λ answers many. let so = is.1.next answers many in (so.0, inr (own, (so.1, so.2)));
+    ends = is.1.failed;
   }
 
-  pub own_stops : (given : Result TrackedListing ReadFault) (old new : S) (is_own : Bool) → is_own ≡ true → IsOwn is_own device given → BreaksFolder step fails false given old new → StopsTracking step fails device given old new
-  own_stops given old new is_own owned own is = tracking_stops given old new (subst (λ (b : Bool). IsOwn b device given) owned own) is
+  pub own_stops : (together : Bool) (fails : S → List Message → S → Type 0) (given : Result TrackedListing ReadFault) (old new : S) (is_own : Bool) → is_own ≡ true → IsOwn is_own device given → BreaksFolder step together fails false given old new
+      → StopsTracking step together fails device given old new
+  own_stops together fails given old new is_own owned own is = tracking_stops together fails given old new (subst (λ (b : Bool). IsOwn b device given) owned own) is
 
   -- of another device's there are none
-  pub tracks_none : (given : Result TrackedListing ReadFault) (old : S) (is_own : Bool) → is_own ≡ false → IsOwn is_own device given → TracksOnce step device given old old None
-  tracks_none given old is_own foreign own = none_of given (subst (λ (b : Bool). IsOwn b device given) foreign own) where
-    none_of : (given : Result TrackedListing ReadFault) → IsOwn false device given → TracksOnce step device given old old None
+  pub tracks_none : (together : Bool) (given : Result TrackedListing ReadFault) (old : S) (is_own : Bool) → is_own ≡ false → IsOwn is_own device given → TracksOnce step together device given old old None
+  tracks_none together given old is_own foreign own = none_of given (subst (λ (b : Bool). IsOwn b device given) foreign own) where
+    none_of : (given : Result TrackedListing ReadFault) → IsOwn false device given → TracksOnce step together device given old old None
     none_of (Ok found) other = record { made = []; calls = refl; is = inl (other, refl); ends = (other, refl) }
     none_of (Err fault) odd = absurd odd
 
   -- a scan that was broken off is a look that was
-  pub scan_stops_look : (given : Result Contents ScanFault) (old new : S) (marks_old marks_new : List BaselineRow) → StopsScan step fails device given old new marks_old marks_new → StopsLook step device fails (Scanned given) old new marks_old marks_new
-  scan_stops_look given old new marks_old marks_new s = record {
+  pub scan_stops_look : (together : Bool) (fails : S → List Message → S → Type 0) (given : Result Contents ScanFault) (old new : S) (marks_old marks_new : List BaselineRow) → StopsScan step (one fails) device given old new marks_old marks_new
+      → StopsLook step device together fails (Scanned given) old new marks_old marks_new
+  scan_stops_look false fails given old new marks_old marks_new s = record {
     mid = s.mid;
     made = s.made;
     calls = s.calls;
@@ -269,7 +284,38 @@ module _ {S : Type 0} (step : S → List ℕ → Call → Answer → S → Type 
     ends = s.ends;
     left = s.left;
   }
+  scan_stops_look true fails given old new marks_old marks_new s = record {
+    mid = s.mid;
+    made = s.made;
+    calls = s.calls;
+    messages = message ∷ [];
+    is = λ answers many.
+        let so = asked_one message (λ (more : List Asked). (left : List BaselineRow) × IsLook true device (Scanned given) marks_old (s.made ++ more) left) answers many (λ answer. let so = s.is answer in (so.1, (so.0, so.2))) in
+        ([], so.0, subst (λ (more : List Asked). IsLook true device (Scanned given) marks_old (s.made ++ more) so.0) (sym (append-nil (answered (message ∷ []) answers))) so.1);
+    ends = s.ends;
+    left = s.left;
+  } where
+    message : Message
+    message = record { by = device; call = s.call }
 
   -- and so is tracking
-  pub tracking_stops_look : (given : Result TrackedListing ReadFault) (old new : S) (marks_old marks_new : List BaselineRow) → StopsTracking step fails device given old new → marks_new ≡ marks_old → StopsLook step device fails (Tracked given) old new marks_old marks_new
-  tracking_stops_look given old new marks_old marks_new s same = record { mid = s.mid; made = s.made; calls = s.calls; call = s.call; is = λ answer. (marks_old, (s.is answer, refl)); ends = s.ends; left = same }
+  pub tracking_stops_look : (together : Bool) (fails : S → List Message → S → Type 0) (given : Result TrackedListing ReadFault) (old new : S) (marks_old marks_new : List BaselineRow) → StopsTracking step together fails device given old new
+      → marks_new ≡ marks_old → StopsLook step device together fails (Tracked given) old new marks_old marks_new
+  tracking_stops_look false fails given old new marks_old marks_new s same = record {
+    mid = s.mid;
+    made = s.made;
+    calls = s.calls;
+    call = s.call;
+    is = λ answer. (marks_old, (s.is answer, refl));
+    ends = s.ends;
+    left = same;
+  }
+  tracking_stops_look true fails given old new marks_old marks_new s same = record {
+    mid = s.mid;
+    made = s.made;
+    calls = s.calls;
+    messages = s.messages;
+    is = λ answers many. let so = s.is answers many in (so.0, marks_old, (so.1, refl));
+    ends = s.ends;
+    left = same;
+  }

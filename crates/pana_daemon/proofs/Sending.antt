@@ -4,6 +4,8 @@ use denote.RattleType.{RattleType}
 use denote.Struct.Field.{row_field}
 use denote.Param.SendFields.{as_row_send, declared_send}
 use denote.Param.Send.{IsSend, IsSync, sendable, view_send, shr_send}
+use Rattle.std.proofs.alloc.Global.TheSendSync as global
+use Rattle.std.proofs.option.Option.TheSendSync as options
 use Rattle.pana_calls.specs.declared.session.Session.{Ghosts}
 use Rattle.pana_turn.specs.contracts.desk.Desk as desk
 use Rattle.pana_turn.specs.contracts.pass.Pass as pass
@@ -30,7 +32,7 @@ module _ (S : RattleType) (g : Ghosts S.Denot) (s : IsSend S) where
   desk_sync = turns.desk_sync (shared.the_row S) request.the_row response.the_row (machine.ghosts S g machine.no_dict machine.no_dict) shared_send
 
   pub session_send : (lft : NamedLft) (T G : RattleType) → IsSync T → IsSync G → IsSend (session.the_row lft S T G g)
-  session_send lft T G t q = view_send _ _ _ _ _ (declared_send (session_inside.the_type lft S T G g) (shr_send _ _ T t, (shr_send _ _ _ desk_sync, (shr_send _ _ G q, (search sendable, (search sendable, (search sendable, (search sendable, (pass_send, tt)))))))))
+  session_send lft T G t q = view_send _ _ _ _ _ (declared_send (session_inside.the_type lft S T G g) (shr_send _ _ T t, (shr_send _ _ _ desk_sync, (shr_send _ _ G q, (search sendable, (search sendable, (options.the_send _ global.the_send, (search sendable, (search sendable, (pass_send, tt))))))))))
 
   pub caller_send : (lft post_lft : NamedLft) (T G D F : RattleType) → IsSync T → IsSync G → IsSend D → IsSend F → IsSend (caller.the_row lft post_lft S T G D F g)
   caller_send lft post_lft T G D F t q d f = declared_send (caller.the_type lft post_lft S T G D F g) (session_send lft T G t q, (posts.the_send post_lft D F d f, tt))

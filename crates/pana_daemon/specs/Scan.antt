@@ -1,6 +1,8 @@
 -- What a scanner asks and reports.
-use Rattle.std.specs.Prelude.{◌≡◌, ◌≢◌, ◌⊎◌, ℕ, false, List, [], ◌∷◌, ◌++◌, Option, Some, None, Result, Ok, Err, IfOk}
+use Rattle.std.specs.Prelude.{◌≡◌, ◌≢◌, ◌⊎◌, ℕ, Bool, true, false, List, [], ◌∷◌, ◌++◌, length, Option, Some, None, Result, Ok, Err, IfOk}
+use Rattle.pana_calls.specs.Session.{one}
 use Rattle.pana_calls.specs.declared.call.Call.{Call}
+use Rattle.pana_calls.specs.declared.message.Message.{Message}
 use Rattle.pana_calls.specs.declared.call.Call.TheVariants as calls
 use Rattle.pana_calls.specs.declared.call.Query.TheVariants as queries
 use Rattle.pana_calls.specs.declared.reply.Reply.TheVariants.{Done, Holdings}
@@ -12,7 +14,7 @@ use Rattle.pana_scan.specs.declared.step.Step.{Step}
 use Rattle.pana_scan.specs.Listing.{Contents}
 use Rattle.pana_scan.specs.Baseline.{settled}
 use Rattle.pana_scan.specs.Plan.{plan_of}
-use Rattle.pana_track.specs.Calls.{Asked, Makes}
+use Rattle.pana_track.specs.Calls.{Asked, Makes, asked}
 use Rattle.pana_track.specs.Folder.{TracksFolder}
 use Rattle.pana_track.specs.Track.{IsTrack}
 use Rattle.pana_track.specs.declared.fault.TrackFault.{TrackFault}
@@ -91,33 +93,38 @@ left_by_scan (Ok listing) old (asked ∷ reports) = left_by_plan listing old ask
 
 -- the calls of tracking what was read, by its device, where an empty folder is a fault; none where it couldn't be read, or is
 -- another device's
-abbrev pub IsTracking : List ℕ → Result TrackedListing ReadFault → List Asked → Type 0
-IsTracking device (Err fault) made = made ≡ []
-IsTracking device (Ok found) made = ((found.listing.device ≢ device) × (made ≡ [])) ⊎ ((found.listing.device ≡ device) × ((stop : Option TrackFault) × IsTrack false found made stop))
+abbrev pub IsTracking : Bool → List ℕ → Result TrackedListing ReadFault → List Asked → Type 0
+IsTracking together device (Err fault) made = made ≡ []
+IsTracking together device (Ok found) made = ((found.listing.device ≢ device) × (made ≡ [])) ⊎ ((found.listing.device ≡ device) × ((stop : Option TrackFault) × IsTrack together false found made stop))
 
 -- What becomes of what was read: where it is the device's, or nothing could be read, what tracking it comes to. Of another device's
 -- nothing is said, and nothing was done.
-abbrev pub EndsTracking : {S : Type 0} → (S → List ℕ → Call → Answer → S → Type 0) → List ℕ → Result TrackedListing ReadFault → S → S → Option FolderEnd → Type 0
-EndsTracking step device (Ok found) old new (Some end) = (found.listing.device ≡ device) × TracksFolder step false (Ok found) old new end
-EndsTracking step device (Ok found) old new None = (found.listing.device ≢ device) × (new ≡ old)
-EndsTracking step device (Err fault) old new (Some end) = TracksFolder step false (Err fault) old new end
-EndsTracking step device (Err fault) old new None = ⊥
+abbrev pub EndsTracking : {S : Type 0} → (S → List ℕ → Call → Answer → S → Type 0) → Bool → List ℕ → Result TrackedListing ReadFault → S → S → Option FolderEnd → Type 0
+EndsTracking step together device (Ok found) old new (Some end) = (found.listing.device ≡ device) × TracksFolder step together false (Ok found) old new end
+EndsTracking step together device (Ok found) old new None = (found.listing.device ≢ device) × (new ≡ old)
+EndsTracking step together device (Err fault) old new (Some end) = TracksFolder step together false (Err fault) old new end
+EndsTracking step together device (Err fault) old new None = ⊥
 
 -- ---- both
 
 -- what becomes of a look: something is said of one that is tracked alone
-abbrev pub EndsLook : {S : Type 0} → (S → List ℕ → Call → Answer → S → Type 0) → List ℕ → Look → S → S → Option FolderEnd → Type 0
-EndsLook step device (Scanned given) old new end = end ≡ None
-EndsLook step device (Tracked given) old new end = EndsTracking step device given old new end
+abbrev pub EndsLook : {S : Type 0} → (S → List ℕ → Call → Answer → S → Type 0) → Bool → List ℕ → Look → S → S → Option FolderEnd → Type 0
+EndsLook step together device (Scanned given) old new end = end ≡ None
+EndsLook step together device (Tracked given) old new end = EndsTracking step together device given old new end
 
--- the calls of one look
-abbrev pub IsLook : List ℕ → Look → List BaselineRow → List Asked → List BaselineRow → Type 0
-IsLook device (Scanned given) old made new = (faults : ℕ) × IsScan device given old made faults new
-IsLook device (Tracked given) old made new = IsTracking device given made × (new ≡ old)
+-- the calls of one look, where calls may be made together or not
+abbrev pub IsLook : Bool → List ℕ → Look → List BaselineRow → List Asked → List BaselineRow → Type 0
+IsLook together device (Scanned given) old made new = (faults : ℕ) × IsScan device given old made faults new
+IsLook together device (Tracked given) old made new = IsTracking together device given made × (new ≡ old)
 
 -- the call, whatever its answer is, is the next of the look's calls, after these
 abbrev pub IsNext : List ℕ → Look → List BaselineRow → List Asked → Call → Type 0
-IsNext device look old made call = (answer : Answer) → (new : List BaselineRow) × IsLook device look old (made ++ record { by = device; call = call; answer = answer } ∷ []) new
+IsNext device look old made call = (answer : Answer) → (new : List BaselineRow) × IsLook false device look old (made ++ record { by = device; call = call; answer = answer } ∷ []) new
+
+-- calls that are made together, whatever their answers are, are the next of the look's calls, after these; others may follow
+abbrev pub AreNext : List ℕ → Look → List BaselineRow → List Asked → List Message → Type 0
+AreNext device look old made messages =
+    (answers : List Answer) → length answers ≡ length messages → (others : List Asked) × (new : List BaselineRow) × IsLook true device look old (made ++ (asked messages answers ++ others)) new
 
 -- the baseline that a look leaves where the call after these has no answer
 abbrev pub left_by_look : Look → List BaselineRow → List Asked → List BaselineRow
@@ -127,15 +134,8 @@ left_by_look (Tracked given) old made = old
 -- ---- a session
 
 module _ {S : Type 0} (step : S → List ℕ → Call → Answer → S → Type 0) (device : List ℕ) where
-  -- the session makes the calls of a look, and this becomes of it
-  pub record LooksOnce (look : Look) (end : Option FolderEnd) (old new : S) (marks_old marks_new : List BaselineRow) : Type 0 where
-    pub made : List Asked
-    pub calls : Makes step old made new
-    pub is : IsLook device look marks_old made marks_new
-    pub ends : EndsLook step device look old new end
-
   -- the session makes the first calls of a look, and then one has no answer
-  pub record StopsLook (fails : S → List ℕ → Call → S → Type 0) (look : Look) (old new : S) (marks_old marks_new : List BaselineRow) : Type 0 where
+  pub record StopsAtOne (fails : S → List ℕ → Call → S → Type 0) (look : Look) (old new : S) (marks_old marks_new : List BaselineRow) : Type 0 where
     pub mid : S
     pub made : List Asked
     pub calls : Makes step old made mid
@@ -144,6 +144,29 @@ module _ {S : Type 0} (step : S → List ℕ → Call → Answer → S → Type 
     pub ends : fails mid device call new
     pub left : marks_new ≡ left_by_look look marks_old made
 
+  -- the same where calls may be made together: the next ones, one or more, have no answers
+  pub record StopsAtSome (fails : S → List Message → S → Type 0) (look : Look) (old new : S) (marks_old marks_new : List BaselineRow) : Type 0 where
+    pub mid : S
+    pub made : List Asked
+    pub calls : Makes step old made mid
+    pub messages : List Message
+    pub is : AreNext device look marks_old made messages
+    pub ends : fails mid messages new
+    pub left : marks_new ≡ left_by_look look marks_old made
+
+  -- whether calls may be made together says which of them it is
+  abbrev pub StopsLook : Bool → (S → List Message → S → Type 0) → Look → S → S → List BaselineRow → List BaselineRow → Type 0
+  StopsLook false fails look old new marks_old marks_new = StopsAtOne (one fails) look old new marks_old marks_new
+  StopsLook true fails look old new marks_old marks_new = StopsAtSome fails look old new marks_old marks_new
+
+module _ {S : Type 0} (step : S → List ℕ → Call → Answer → S → Type 0) (device : List ℕ) (together : Bool) where
+  -- the session makes the calls of a look, and this becomes of it
+  pub record LooksOnce (look : Look) (end : Option FolderEnd) (old new : S) (marks_old marks_new : List BaselineRow) : Type 0 where
+    pub made : List Asked
+    pub calls : Makes step old made new
+    pub is : IsLook together device look marks_old made marks_new
+    pub ends : EndsLook step together device look old new end
+
   -- a look is kept: the session makes its calls, and settles behind them
   pub record KeepsLook (settles : S → S → Type 0) (look : Look) (end : Option FolderEnd) (old new : S) (marks_old marks_new : List BaselineRow) : Type 0 where
     pub mid : S
@@ -151,11 +174,11 @@ module _ {S : Type 0} (step : S → List ℕ → Call → Answer → S → Type 
     pub settled : settles mid new
 
   -- a look is cut short: one of its calls has no answer, or all were made, and the session couldn't settle behind them
-  abbrev pub BreaksLook : (S → List ℕ → Call → S → Type 0) → (S → S → Type 0) → Look → S → S → List BaselineRow → List BaselineRow → Type 0
+  abbrev pub BreaksLook : (S → List Message → S → Type 0) → (S → S → Type 0) → Look → S → S → List BaselineRow → List BaselineRow → Type 0
   BreaksLook fails breaks_off look old new marks_old marks_new =
-      StopsLook fails look old new marks_old marks_new ⊎ ((made : S) × (end : Option FolderEnd) × LooksOnce look end old made marks_old marks_new × breaks_off made new)
+      StopsLook step device together fails look old new marks_old marks_new ⊎ ((made : S) × (end : Option FolderEnd) × LooksOnce look end old made marks_old marks_new × breaks_off made new)
 
-  module _ (fails : S → List ℕ → Call → S → Type 0) (settles breaks_off : S → S → Type 0) (may_recover : S → Type 0) where
+  module _ (fails : S → List Message → S → Type 0) (settles breaks_off : S → S → Type 0) (may_recover : S → Type 0) where
     -- a look is kept, and this becomes of it; or it is cut short, so that nothing is said of it, and later calls may have answers
     abbrev pub TakesLook : Taken → S → S → List BaselineRow → List BaselineRow → Type 0
     TakesLook taken old new marks_old marks_new =
@@ -170,13 +193,13 @@ module _ {S : Type 0} (step : S → List ℕ → Call → Answer → S → Type 
 -- A scanner's work: it takes what the folder gives until that gives no more, or a look is cut short, from an empty baseline on.
 -- It goes on behind a look that was cut short only where later calls may have answers. The folder learns what became of each look
 -- that was kept, and is tracked.
-pub record Scans {F S : Type 0} (does : F → Deed → F → Type 0) (step : S → List ℕ → Call → Answer → S → Type 0) (fails : S → List ℕ → Call → S → Type 0) (settles breaks_off : S → S → Type 0) (may_recover : S → Type 0)
+pub record Scans {F S : Type 0} (does : F → Deed → F → Type 0) (step : S → List ℕ → Call → Answer → S → Type 0) (together : Bool) (fails : S → List Message → S → Type 0) (settles breaks_off : S → S → Type 0) (may_recover : S → Type 0)
     (device : List ℕ) (folder_old folder_new : F) (old new : S) : Type 0 where
   pub given : List Taken
   pub baseline : List BaselineRow
   pub folder_mid : F
   pub mid : S
   pub folder : Gives does folder_old given folder_mid
-  pub takes : TakesLooks step device fails settles breaks_off may_recover given old mid [] baseline
+  pub takes : TakesLooks step device together fails settles breaks_off may_recover given old mid [] baseline
   pub ends : (does folder_mid gives_none folder_new × (new ≡ mid))
-      ⊎ ((next : Look) × (left : List BaselineRow) × does folder_mid (gives_look next) folder_new × BreaksLook step device fails breaks_off next mid new baseline left)
+      ⊎ ((next : Look) × (left : List BaselineRow) × does folder_mid (gives_look next) folder_new × BreaksLook step device together fails breaks_off next mid new baseline left)

@@ -1,5 +1,5 @@
 //! A desk, its callers, and what they leave.
-ghost use Rattle.std.specs.Prelude.{◌≡◌, ◌<◌, ◌≤◌, IfOk, length, map, vec_capacity};
+ghost use Rattle.std.specs.Prelude.{◌≡◌, ◌<◌, ◌≤◌, IfOk, is_some, length, map, true, vec_capacity};
 ghost use Rattle.std.specs.List.{list_any};
 ghost use denote.Param.Send.{IsSync, IsSend};
 ghost use Rattle.pana_turn.specs.Passes.{new_passes};
@@ -7,7 +7,7 @@ ghost use Rattle.pana_daemon.specs.Desk.{RequestSteps};
 ghost use Rattle.pana_daemon.specs.inner.Passes.{AreOpen};
 ghost use Rattle.pana_daemon.specs.Post.{HasDone, HaveDone, posted};
 ghost use Rattle.pana_daemon.specs.Serve.{Ends};
-ghost use Rattle.pana_daemon.specs.Session.{lacks_answer};
+ghost use Rattle.pana_daemon.specs.Session.{at_rest, lacks_answer};
 
 use crate::daemon_fault::DaemonFault;
 use crate::desk_session::DeskSession;
@@ -54,10 +54,22 @@ fn rooms<C: Drop, P: Drop, Q>(
 #[derive(Drop)]
 struct Opened<S: Session + Drop, C, Q> {
     desk: Desk<Shared<S>>,
+    /// Where lists of calls have room for their answers from, where they are made together.
+    lists: Option<Global>,
     passes: Vec<Pass<Shared<S>>>,
     callers: Vec<C>,
     back: Vec<Pass<Shared<S>>>,
     left: Vec<Q>,
+}
+
+/// The allocator, where the session keeps together what several calls make.
+fn lists_of<S: Session>(alloc: Global, session: &S) -> Option<Global>
+    ensures { is_some result ≡ true → S.keeps_together ≡ true }
+{
+    if session.keeps_together() {
+        return Some(alloc);
+    }
+    None
 }
 
 /// Opens a desk with the session, for so many callers, and then begins. Fails only where memory runs out, before it begins, or
@@ -72,15 +84,18 @@ fn open_desk<S: Session + Drop, C: Drop, Q: Drop, B: FnOnce() -> Result<(), Daem
     requires few { count ≤ 64 }
     requires begin { B.pre begin }
     ensures desk { IfOk result (λ opened. (opened.desk.id.begun ≡ session) × (opened.desk.seats ≡ count) × (opened.passes.items ≡ new_passes opened.desk.id count)) }
+    ensures lists { IfOk result (λ opened. is_some opened.lists ≡ true → S.keeps_together ≡ true) }
     ensures callers { IfOk result (λ opened. (length opened.callers.items ≡ 0) × (count ≤ vec_capacity opened.callers)) }
     ensures back { IfOk result (λ opened. (length opened.back.items ≡ 0) × (count ≤ vec_capacity opened.back)) }
     ensures left { IfOk result (λ opened. (length opened.left.items ≡ 0) × (count ≤ vec_capacity opened.left)) }
 {
     let (callers, back, left) = rooms(alloc, count)?;
+    let lists = lists_of(alloc, &session);
     let (desk, passes) = Desk::open(alloc, count as u32, Shared::new(session))?;
     begin()?;
     Ok(Opened {
         desk,
+        lists,
         passes,
         callers,
         back,
@@ -96,6 +111,7 @@ fn open_callers<'a, 'b, S: Session + Drop, T, G, D: Drop, F: Drop>(
     supervisor: &'a G,
     posts: Vec<Post<'b, D, F>>,
     passes: Vec<Pass<Shared<S>>>,
+    lists: Option<Global>,
     mut callers: Vec<Caller<'a, 'b, S, T, G, D, F>>,
 ) -> Vec<Caller<'a, 'b, S, T, G, D, F>>
     requires few { length posts.items ≤ 64 }
@@ -103,8 +119,9 @@ fn open_callers<'a, 'b, S: Session + Drop, T, G, D: Drop, F: Drop>(
     requires enough { length passes.items ≡ length posts.items }
     requires empty { length callers.items ≡ 0 }
     requires room { length posts.items ≤ vec_capacity callers }
+    requires together { is_some lists ≡ true → S.keeps_together ≡ true }
     ensures posts { map (λ caller. caller.post) result.items ≡ posts.entry.items }
-    ensures passes { map (λ caller. caller.session) result.items ≡ passes.items }
+    ensures passes { map (λ caller. caller.session) result.items ≡ map at_rest passes.items }
 {
     let mut passes = passes.into_iter();
     for post in posts {
@@ -113,7 +130,7 @@ fn open_callers<'a, 'b, S: Session + Drop, T, G, D: Drop, F: Drop>(
         };
         let number = callers.len() as u32 + 1;
         callers.push_reserved(Caller {
-            session: DeskSession::new(rt, desk, supervisor, number, pass),
+            session: DeskSession::new(rt, desk, supervisor, number, pass, lists),
             post,
         });
     }
@@ -129,18 +146,18 @@ fn run_all<
     D: Door + Send,
     F: Folder + Send,
 >(rt: &T, alloc: Global, callers: &mut [Caller<'_, '_, S, T, G, D, F>])
-    ensures { HaveDone (RequestSteps S.step S.fails S.settles S.breaks_off) D.gives D.Reader.remaining D.Writer.contents F.does
+    ensures { HaveDone (RequestSteps S.step S.fails S.settles S.breaks_off) S.keeps_together D.gives D.Reader.remaining D.Writer.contents F.does
         (map posted callers.old) (map posted callers.new) }
 {
     let run_one = move |_place: usize, caller: &mut Caller<'_, '_, S, T, G, D, F>|
-        ensures { HasDone (RequestSteps S.step S.fails S.settles S.breaks_off) D.gives D.Reader.remaining D.Writer.contents F.does caller.entry.now.post caller.exit.now.post caller.entry.now.session caller.exit.now.session }
+        ensures { HasDone (RequestSteps S.step S.fails S.settles S.breaks_off) S.keeps_together D.gives D.Reader.remaining D.Writer.contents F.does caller.entry.now.post caller.exit.now.post caller.entry.now.session caller.exit.now.session }
     { run(rt, alloc, caller) };
     thread::for_each_mut(rt, callers, 64, &run_one);
 }
 
 /// Whether nothing has come of a request of one of them.
 fn lack_answer<S: Session + Drop, T, G, D, F>(callers: &[Caller<'_, '_, S, T, G, D, F>]) -> bool
-    ensures { result ≡ list_any (λ caller. lacks_answer caller.session) callers.now }
+    ensures { result ≡ list_any (λ caller. lacks_answer caller.session.pass) callers.now }
 {
     callers.iter().any(|caller| caller.session.lacks_answer())
 }
@@ -155,7 +172,7 @@ fn take_apart<'a, S: Session + Drop, T, G, D: Drop, F: Drop>(
     requires no_posts { length posts.old.items ≡ 0 }
     requires room { length callers.items ≤ vec_capacity passes.old }
     requires places { length callers.items ≤ vec_capacity posts.old }
-    ensures passes { passes.new.items ≡ map (λ caller. caller.session) callers.entry.items }
+    ensures passes { map at_rest passes.new.items ≡ map (λ caller. caller.session) callers.entry.items }
     ensures posts { posts.new.items ≡ map (λ caller. caller.post) callers.entry.items }
 {
     for caller in callers {
@@ -191,17 +208,18 @@ pub fn attend<
     requires some { 0 < length posts.items }
     requires few { length posts.items ≤ 64 }
     requires begin { B.pre begin }
-    ensures { IfOk result (λ ended. Ends (RequestSteps S.step S.fails S.settles S.breaks_off) D.gives D.Reader.remaining D.Writer.contents F.does session posts.entry.items ended.session ended.posts.items ended.requests ended.unanswered) }
+    ensures { IfOk result (λ ended. Ends (RequestSteps S.step S.fails S.settles S.breaks_off) S.keeps_together D.gives D.Reader.remaining D.Writer.contents F.does session posts.entry.items ended.session ended.posts.items ended.requests ended.unanswered) }
 {
     let opened = open_desk(alloc, posts.len(), session, begin)?;
     let Opened {
         desk,
+        lists,
         passes,
         callers: room,
         mut back,
         mut left,
     } = opened;
-    let mut callers = open_callers(&*rt, &desk, &*supervisor, posts, passes, room);
+    let mut callers = open_callers(&*rt, &desk, &*supervisor, posts, passes, lists, room);
     run_all(&*rt, alloc, callers.as_mut_slice());
     let unanswered = lack_answer(callers.as_slice());
     take_apart(callers, &mut back, &mut left);

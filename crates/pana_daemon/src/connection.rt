@@ -30,7 +30,7 @@ impl<R: Read + Drop, W: Write + Drop> Connection<R, W> {
         alloc: Global,
         session: &mut DeskSession<'_, S, T, G>,
     )
-        ensures { ServesConnection (RequestSteps S.step S.fails S.settles S.breaks_off) R.remaining W.contents self session.old session.new }
+        ensures { ServesConnection (RequestSteps S.step S.fails S.settles S.breaks_off) S.keeps_together R.remaining W.contents self session.old session.new }
     {
         let Connection { reader, writer } = self;
         let mut reader = Tap::new(ObjectReader::new(reader));

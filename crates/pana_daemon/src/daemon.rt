@@ -193,7 +193,7 @@ fn attend_posts<
 ) -> Result<Ended<'a, S, D, F>, DaemonFault>
     requires some { 0 < length posts.items }
     requires few { length posts.items ≤ 24 }
-    ensures { IfOk result (λ ended. Ends (RequestSteps S.step S.fails S.settles S.breaks_off) D.gives D.Reader.remaining D.Writer.contents F.does session posts.entry.items ended.session ended.posts.items ended.requests ended.unanswered) }
+    ensures { IfOk result (λ ended. Ends (RequestSteps S.step S.fails S.settles S.breaks_off) S.keeps_together D.gives D.Reader.remaining D.Writer.contents F.does session posts.entry.items ended.session ended.posts.items ended.requests ended.unanswered) }
 {
     let count = posts.len() as u32 + OTHERS;
     let begin = || announce(rt, threads, address, count);
@@ -227,7 +227,7 @@ fn attend_and_count<
     requires some { 0 < length posts.items }
     requires few { length posts.items ≤ 24 }
     requires counter { counter ≡ record { id = signals.now.ticks; count = none_yet } }
-    ensures ends { IfOk result (λ all. Ends (RequestSteps S.step S.fails S.settles S.breaks_off) D.gives D.Reader.remaining D.Writer.contents F.does session posts.entry.items all.0.session all.0.posts.items all.0.requests all.0.unanswered) }
+    ensures ends { IfOk result (λ all. Ends (RequestSteps S.step S.fails S.settles S.breaks_off) S.keeps_together D.gives D.Reader.remaining D.Writer.contents F.does session posts.entry.items all.0.session all.0.posts.items all.0.requests all.0.unanswered) }
     ensures counts { IfOk result (λ all. EndsInput I.remaining signals.now.ticks signals.now.start.all.id has_roots all.1 all.2) }
 {
     let (ended, (counter, asked)) = thread::join(
@@ -270,7 +270,7 @@ fn serve_posts<'a, S: Session + Send + Drop, T: Threads + Wait + Clock + Sync, K
     requires few { length roots.now ≤ 8 }
     requires whole { whole ≡ record { id = tickets.now.id; hand = hand tickets.now.most 64 0 0 } }
     requires counter { counter ≡ record { id = signals.now.ticks; count = none_yet } }
-    ensures { IfOk result (λ ended. (wanted : Option ℕ) → tickets.now.most ≡ limit_of wanted → EndsDaemon (RequestSteps S.step S.fails S.settles S.breaks_off) ⟦<PatientReader<'a, T, Alarm<'a>> as Read>⟧.remaining ⟦<BufWriter<PatientWriter<'a, T, Alarm<'a>>, Global> as Write>⟧.contents ⟦<StandardInput<'a, 'a, T> as Read>⟧.remaining ⟦<RootFolder<'a, T, K> as Folder>⟧.does session wanted looks (folders_of disks.now roots.now) ended.session ended.requests ended.fault) }
+    ensures { IfOk result (λ ended. (wanted : Option ℕ) → tickets.now.most ≡ limit_of wanted → EndsDaemon (RequestSteps S.step S.fails S.settles S.breaks_off) S.keeps_together ⟦<PatientReader<'a, T, Alarm<'a>> as Read>⟧.remaining ⟦<BufWriter<PatientWriter<'a, T, Alarm<'a>>, Global> as Write>⟧.contents ⟦<StandardInput<'a, 'a, T> as Read>⟧.remaining ⟦<RootFolder<'a, T, K> as Folder>⟧.does session wanted looks (folders_of disks.now roots.now) ended.session ended.requests ended.fault) }
 {
     let posts = posts_of(
         rt.alloc(),
@@ -338,7 +338,7 @@ pub fn serve<'a, S: Session + Send + Drop, T: Threads + Wait + Clock + Sync, K: 
     session: S,
 ) -> Result<DaemonEnd<S>, DaemonFault>
     requires few { length roots.now ≤ 8 }
-    ensures { IfOk result (λ ended. EndsDaemon (RequestSteps S.step S.fails S.settles S.breaks_off) ⟦<PatientReader<'a, T, Alarm<'a>> as Read>⟧.remaining ⟦<BufWriter<PatientWriter<'a, T, Alarm<'a>>, Global> as Write>⟧.contents ⟦<StandardInput<'a, 'a, T> as Read>⟧.remaining ⟦<RootFolder<'a, T, K> as Folder>⟧.does session listener.wanted looks (folders_of disks.now roots.now) ended.session ended.requests ended.fault) }
+    ensures { IfOk result (λ ended. EndsDaemon (RequestSteps S.step S.fails S.settles S.breaks_off) S.keeps_together ⟦<PatientReader<'a, T, Alarm<'a>> as Read>⟧.remaining ⟦<BufWriter<PatientWriter<'a, T, Alarm<'a>>, Global> as Write>⟧.contents ⟦<StandardInput<'a, 'a, T> as Read>⟧.remaining ⟦<RootFolder<'a, T, K> as Folder>⟧.does session listener.wanted looks (folders_of disks.now roots.now) ended.session ended.requests ended.fault) }
 {
     let (signals, counter, closer, tickets, whole) = means(rt.alloc(), &listener, roots.len())?;
     let Listener {

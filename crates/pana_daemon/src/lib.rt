@@ -42,7 +42,7 @@ pub use crate::listener::{CountedListener, Listener};
 pub use crate::looks::Looks;
 pub use crate::patience::{Patience, PatientReader, PatientWriter};
 pub use crate::post::Post;
-pub use crate::request::{Request, Response};
+pub use crate::request::{CallList, Request, Response};
 pub use crate::root_folder::RootFolder;
 pub use crate::scanning::scanner;
 pub use crate::shared::Shared;

@@ -37,7 +37,7 @@ pub(crate) fn run<S: Session + Drop, T: Threads + Wait + Sync, G: Supervisor, D:
     alloc: Global,
     caller: &mut Caller<'_, '_, S, T, G, D, F>,
 )
-    ensures { HasDone (RequestSteps S.step S.fails S.settles S.breaks_off) D.gives D.Reader.remaining D.Writer.contents F.does caller.old.post caller.new.post caller.old.session caller.new.session }
+    ensures { HasDone (RequestSteps S.step S.fails S.settles S.breaks_off) S.keeps_together D.gives D.Reader.remaining D.Writer.contents F.does caller.old.post caller.new.post caller.old.session caller.new.session }
 {
     let Caller { session, post } = caller;
     match post {

@@ -1,9 +1,10 @@
 //! Looks at a folder, one after another, and what a session reports of them.
 ghost use Rattle.std.specs.Prelude.{◌≡◌, Ok, IfOk, IfErr, OnErr, MatchOption, false};
+ghost use Rattle.pana_calls.specs.Session.{one};
 ghost use Rattle.pana_track.specs.Folder.{BreaksFolder, TracksFolder};
 ghost use Rattle.pana_daemon.specs.Desk.{RequestSteps};
 ghost use Rattle.pana_daemon.specs.Scan.{BreaksLook, KeepsLook, LooksOnce, Scans, StopsLook, done_as};
-ghost use Rattle.pana_daemon.specs.Session.{BreaksOff, GetsNone, MakesCall, MayRecover, Settles};
+ghost use Rattle.pana_daemon.specs.Session.{BreaksOff, GetNone, MakesCall, MayRecover, Settles};
 ghost use Rattle.pana_daemon.specs.inner.Scan.{Asks, IsOwn, ReportsOne, ReportsSteps, ScansOnce, StopsReporting, StopsScan, TracksOnce, StopsTracking};
 
 use crate::desk_session::DeskSession;
@@ -46,7 +47,7 @@ fn report<S: Session>(
     baseline: &mut Baseline,
 ) -> Result<bool, NoAnswer>
     ensures ok { IfOk result (λ more. ReportsOne S.step device.now step.now session.old session.new more baseline.old baseline.new) }
-    ensures fails { IfErr result (λ _. S.fails session.old device.now (Call.Report step.now.report) session.new × (baseline.new ≡ baseline.old)) }
+    ensures fails { IfErr result (λ _. (one S.fails) session.old device.now (Call.Report step.now.report) session.new × (baseline.new ≡ baseline.old)) }
 {
     let Ok(report) = step.report.copy_of(alloc) else {
         return Ok(false);
@@ -67,7 +68,7 @@ fn report_all<S: Session>(
     baseline: &mut Baseline,
 ) -> Result<(), NoAnswer>
     ensures ok { IfOk result (λ _. ReportsSteps S.step device.now steps.now session.old session.new baseline.old baseline.new) }
-    ensures fails { IfErr result (λ _. StopsReporting S.step S.fails device.now steps.now session.old session.new baseline.old baseline.new) }
+    ensures fails { IfErr result (λ _. StopsReporting S.step (one S.fails) device.now steps.now session.old session.new baseline.old baseline.new) }
 {
     for step in steps {
         if !report(alloc, session, device, step, baseline)? {
@@ -83,7 +84,7 @@ fn holdings_of<S: Session>(
     device: &DeviceName,
 ) -> Result<Option<HoldingList>, NoAnswer>
     ensures ok { IfOk result (Asks S.step device.now session.old session.new) }
-    ensures fails { IfErr result (λ _. S.fails session.old device.now (Call.Query (Query.Holdings device.now None)) session.new) }
+    ensures fails { IfErr result (λ _. (one S.fails) session.old device.now (Call.Query (Query.Holdings device.now None)) session.new) }
 {
     let query = Query::Holdings {
         device: device.copy_of(),
@@ -108,7 +109,7 @@ fn scan<S: Session>(
 ) -> Result<(), NoAnswer>
     requires { listing.now.device ≡ device.now }
     ensures ok { IfOk result (λ _. ScansOnce S.step device.now (Ok listing.now) session.old session.new baseline.old baseline.new) }
-    ensures fails { IfErr result (λ _. StopsScan S.step S.fails device.now (Ok listing.now) session.old session.new baseline.old baseline.new) }
+    ensures fails { IfErr result (λ _. StopsScan S.step (one S.fails) device.now (Ok listing.now) session.old session.new baseline.old baseline.new) }
 {
     let Some(holdings) = holdings_of(session, device)? else {
         return Ok(());
@@ -135,7 +136,7 @@ fn take_scan<S: Session>(
     baseline: &mut Baseline,
 ) -> Result<(), NoAnswer>
     ensures ok { IfOk result (λ _. ScansOnce S.step device.now given session.old session.new baseline.old baseline.new) }
-    ensures fails { IfErr result (λ _. StopsScan S.step S.fails device.now given session.old session.new baseline.old baseline.new) }
+    ensures fails { IfErr result (λ _. StopsScan S.step (one S.fails) device.now given session.old session.new baseline.old baseline.new) }
 {
     let Ok(listing) = given else {
         return Ok(());
@@ -163,8 +164,8 @@ fn take_root<S: Session>(
     device: &DeviceName,
     given: &Result<TrackedListing, ReadFault>,
 ) -> Result<Option<FolderEnd>, NoAnswer>
-    ensures ok { IfOk result (TracksOnce S.step device.now given.now session.old session.new) }
-    ensures fails { OnErr result (StopsTracking S.step S.fails device.now given.now session.old session.new) }
+    ensures ok { IfOk result (TracksOnce S.step S.keeps_together device.now given.now session.old session.new) }
+    ensures fails { OnErr result (StopsTracking S.step S.keeps_together S.fails device.now given.now session.old session.new) }
 {
     if !is_own(given, device) {
         return Ok(None);
@@ -180,8 +181,8 @@ fn take<S: Session>(
     look: Look,
     baseline: &mut Baseline,
 ) -> Result<Option<FolderEnd>, NoAnswer>
-    ensures ok { IfOk result (λ end. LooksOnce S.step device.now look end session.old session.new baseline.old baseline.new) }
-    ensures fails { OnErr result (StopsLook S.step device.now S.fails look session.old session.new baseline.old baseline.new) }
+    ensures ok { IfOk result (λ end. LooksOnce S.step device.now S.keeps_together look end session.old session.new baseline.old baseline.new) }
+    ensures fails { OnErr result (StopsLook S.step device.now S.keeps_together S.fails look session.old session.new baseline.old baseline.new) }
 {
     match look {
         Look::Scanned(given) => {
@@ -200,8 +201,8 @@ fn keep<S: Session>(
     look: Look,
     baseline: &mut Baseline,
 ) -> Result<Option<FolderEnd>, NoAnswer>
-    ensures ok { IfOk result (λ end. KeepsLook S.step device.now S.settles look end session.old session.new baseline.old baseline.new) }
-    ensures fails { OnErr result (BreaksLook S.step device.now S.fails S.breaks_off look session.old session.new baseline.old baseline.new) }
+    ensures ok { IfOk result (λ end. KeepsLook S.step device.now S.keeps_together S.settles look end session.old session.new baseline.old baseline.new) }
+    ensures fails { OnErr result (BreaksLook S.step device.now S.keeps_together S.fails S.breaks_off look session.old session.new baseline.old baseline.new) }
 {
     let end = take(alloc, session, device, look, baseline)?;
     session.settle()?;
@@ -223,7 +224,7 @@ pub fn scanner<T: Threads + Wait + Sync, S: Session + Drop, G: Supervisor, F: Fo
     device: &DeviceName,
     folder: &mut F,
 )
-    ensures { Scans F.does (MakesCall (RequestSteps S.step S.fails S.settles S.breaks_off)) (GetsNone (RequestSteps S.step S.fails S.settles S.breaks_off)) (Settles (RequestSteps S.step S.fails S.settles S.breaks_off)) (BreaksOff (RequestSteps S.step S.fails S.settles S.breaks_off))
+    ensures { Scans F.does (MakesCall (RequestSteps S.step S.fails S.settles S.breaks_off) S.keeps_together) S.keeps_together (GetNone (RequestSteps S.step S.fails S.settles S.breaks_off) S.keeps_together) (Settles (RequestSteps S.step S.fails S.settles S.breaks_off)) (BreaksOff (RequestSteps S.step S.fails S.settles S.breaks_off))
         MayRecover device.now folder.old folder.new session.old session.new }
 {
     let mut baseline = Baseline::new(alloc);

@@ -1,9 +1,8 @@
 //! The session that all at a desk share.
 
-use crate::request::{Request, Response};
-use pana_calls::{NoAnswer, Session};
+use crate::request::{CallList, Request, Response};
+use pana_calls::{Message, NoAnswer, Session};
 use pana_turn::Machine;
-use pana_wire::Message;
 use std::marker::Model;
 
 /// A session as the machine of a desk: its callers' requests are made of it, one at a time. To contracts it is the session.
@@ -37,6 +36,28 @@ impl<S> Shared<S> {
     }
 }
 
+impl<S: Session + Drop> Shared<S> {
+    ghost use Rattle.pana_daemon.specs.Desk.{RequestSteps};
+    ghost use Rattle.pana_daemon.specs.declared.request.Request.TheVariants.{MakeAll};
+
+    /// Makes the calls of a list.
+    fn make_all(&mut self, list: CallList) -> Response
+        ensures { RequestSteps S.step S.fails S.settles S.breaks_off self.old (MakeAll list) result self.new }
+    {
+        let CallList { calls, mut answers } = list;
+        match self.session.call_all(calls, &mut answers) {
+            Ok(()) => Response::Answers {
+                answers,
+                stopped: None,
+            },
+            Err(NoAnswer) => Response::Answers {
+                answers,
+                stopped: Some(self.session.may_recover()),
+            },
+        }
+    }
+}
+
 impl<S: Session + Drop> Machine for Shared<S> {
     type Call = Request;
 
@@ -54,6 +75,7 @@ impl<S: Session + Drop> Machine for Shared<S> {
                     recovers: self.session.may_recover(),
                 },
             },
+            Request::MakeAll(list) => self.make_all(list),
             Request::Settle => match self.session.settle() {
                 Ok(()) => Response::Settled,
                 Err(NoAnswer) => Response::Nothing {

@@ -16,7 +16,7 @@ pub fn work<S: Session + Drop, T: Wait, G: Supervisor, D: Door>(
     session: &mut DeskSession<'_, S, T, G>,
     door: &mut D,
 )
-    ensures { Works (RequestSteps S.step S.fails S.settles S.breaks_off) D.gives D.Reader.remaining D.Writer.contents door.old door.new session.old session.new }
+    ensures { Works (RequestSteps S.step S.fails S.settles S.breaks_off) S.keeps_together D.gives D.Reader.remaining D.Writer.contents door.old door.new session.old session.new }
 {
     for _ in rt.forever() {
         let Some(connection) = door.next() else {

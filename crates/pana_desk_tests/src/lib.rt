@@ -4,6 +4,8 @@
 #[cfg(test)]
 mod desk;
 #[cfg(test)]
+mod rounds;
+#[cfg(test)]
 mod shared;
 #[cfg(test)]
 mod store;

@@ -1,13 +1,12 @@
 //! What no clause says of a hall at a desk: that calls succeed where memory is there, that a board sees another pass's
 //! call, and that a hall settles. Where an allocation fails, the test ends with that error.
 
-use pana_calls::{Answer, Call, Cause, Query, Reply};
+use pana_calls::{Answer, Call, Cause, Message, Query, Reply};
 use pana_copies::{CopyPath, DeviceName, Place};
 use pana_daemon::{Request, Response, Shared};
 use pana_hall::Hall;
 use pana_journal::Report;
 use pana_turn::{Desk, Spent};
-use pana_wire::Message;
 use std::alloc::{AllocError, Global};
 use std::test::Fail;
 

@@ -234,7 +234,7 @@ fn board_rows(
     requires { AllByRecursion (λ row. IsSome (kept copies.now row.copy)) counts.now }
     ensures { IfOk result (λ rows. rows.items ≡ map (placed_row copies.now) counts.now) }
 {
-    let mut rows = Vec::new(alloc);
+    let mut rows = Vec::with_capacity(alloc, counts.len())?;
     for row in counts {
         rows.push(board_row(copies, row)?)?;
     }

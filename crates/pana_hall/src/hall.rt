@@ -4,7 +4,7 @@ ghost use Rattle.pana_hall.specs.{Accepted.IsAccepted, Permit.Permits, Permit.jo
 use crate::state::State;
 use pana_calls::{Call, Cause, Reply};
 use pana_copies::DeviceName;
-use pana_journal::Report;
+use pana_journal::{Entry, Report};
 use std::alloc::{AllocError, Global};
 use std::collections::VecDeque;
 use std::marker::Model;
@@ -63,6 +63,13 @@ impl Hall {
         ensures { result ≡ refusal self.now by.now (calls.Report report.now) }
     {
         self.state.report_refusal(by, report)
+    }
+
+    /// The journal's entries in order. Takes no memory.
+    pub fn journal(&self) -> &[Entry]
+        ensures { result.now ≡ self.now }
+    {
+        self.state.journal.as_slice()
     }
 
     /// How many entries the journal has, at most 1,000,000. Takes no memory.

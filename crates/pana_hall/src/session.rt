@@ -8,7 +8,7 @@ impl Session for Hall {
 
     ghost step = { Replies };
 
-    ghost fails = { λ old by call new. ⊥ };
+    ghost fails = { λ old calls new. ⊥ };
 
     /// Makes the call on the hall: it always has an answer.
     fn call(&mut self, by: &DeviceName, call: Call) -> Result<Answer, NoAnswer> {

@@ -2,11 +2,11 @@
 //! prover takes it apart at each of their ends.
 
 use crate::places::place;
-use pana_calls::{Call, Query, Reply};
+use pana_calls::{Call, Message, Query, Reply};
 use pana_copies::DeviceName;
 use pana_hall::Hall;
 use pana_journal::Report;
-use pana_wire::{Message, decode, decode_dump, encode, encode_call};
+use pana_wire::{decode, decode_dump, encode, encode_call};
 use std::alloc::Global;
 use std::collections::VecDeque;
 use std::test::Fail;

@@ -1,5 +1,6 @@
 //! The history of a file, for people.
 ghost use Rattle.std.specs.Prelude.{◌≡◌, Some, IfOk, IfErr, string_bytes};
+ghost use Rattle.pana_calls.specs.Session.{one};
 ghost use Rattle.pana_hall.specs.Accepted.{IsAccepted};
 ghost use Rattle.pana_hall.specs.Living.{living};
 ghost use Rattle.pana_hall.specs.Status.{standing_at};
@@ -132,7 +133,7 @@ pub fn history_on<S: Session>(
     form: Form,
 ) -> Result<History, Unexplained>
     ensures ok { IfOk result (Draws S.step by.now place.now form session.old session.new) }
-    ensures err { IfErr result (SaysNothing S.step S.fails by.now session.old session.new) }
+    ensures err { IfErr result (SaysNothing S.step (one S.fails) by.now session.old session.new) }
 {
     let Some(journal) = journal_of(alloc, session, by)? else {
         return Err(Unexplained::OutOfMemory);

@@ -1,5 +1,6 @@
 //! The journal, asked for page by page.
 ghost use Rattle.std.specs.Prelude.{◌≡◌, IfOk, IfSome, OnErr};
+ghost use Rattle.pana_calls.specs.Session.{one};
 ghost use Rattle.pana_history.specs.Pages.{HasJournal, Stops, next_after};
 ghost use Rattle.pana_history.specs.inner.Pages.{AsksPage, page_in};
 
@@ -32,7 +33,7 @@ fn page_from<S: Session>(
     from: u64,
 ) -> Result<Option<EntryList>, NoAnswer>
     ensures ok { IfOk result (AsksPage S.step by.now from session.old session.new) }
-    ensures fails { OnErr result (S.fails session.old by.now (Call.Query (Query.JournalFrom from)) session.new) }
+    ensures fails { OnErr result (one S.fails session.old by.now (Call.Query (Query.JournalFrom from)) session.new) }
 {
     let answer = session.call(by, Call::Query(Query::JournalFrom { entry: from }))?;
     Ok(page_in(answer))
@@ -60,7 +61,7 @@ pub fn journal_of<S: Session>(
     by: &DeviceName,
 ) -> Result<Option<EntryList>, NoAnswer>
     ensures ok { IfOk result (λ entries. IfSome entries (HasJournal S.step by.now session.old session.new)) }
-    ensures fails { OnErr result (Stops S.step S.fails by.now session.old session.new) }
+    ensures fails { OnErr result (Stops S.step (one S.fails) by.now session.old session.new) }
 {
     let mut entries = PlainList::new(alloc);
     let mut from = 1;

@@ -1,5 +1,6 @@
 //! What makes one of two copies obsolete, or sets them in conflict, for people.
 ghost use Rattle.std.specs.Prelude.{◌≡◌, ◌++◌, true, false, Some, IfOk, IfErr, OnOk, string_bytes};
+ghost use Rattle.pana_calls.specs.Session.{one};
 ghost use Rattle.pana_ask.specs.Place.{place_name, unknown_line};
 ghost use Rattle.pana_ask.specs.Verdict.{verdict_line};
 ghost use Rattle.pana_hall.specs.Accepted.{IsAccepted};
@@ -327,7 +328,7 @@ pub fn why_on<S: Session>(
     second: &Place,
 ) -> Result<Explanation, Unexplained>
     ensures ok { IfOk result (Explains S.step by.now first.now second.now session.old session.new) }
-    ensures err { IfErr result (SaysNothing S.step S.fails by.now session.old session.new) }
+    ensures err { IfErr result (SaysNothing S.step (one S.fails) by.now session.old session.new) }
 {
     let Some(journal) = journal_of(alloc, session, by)? else {
         return Err(Unexplained::OutOfMemory);

@@ -1,9 +1,11 @@
 -- What a history of a store's requests has kept.
-use Rattle.std.proofs.Common.{◌≡◌, ◌≢◌, ◌⊎◌, inl, inr, ⊎_elim, ℕ, ◌<◌, ◌≤◌, Bool, IsTrue, List, [], ◌∷◌, ◌++◌, length, sym, ap, subst, ◌∙◌, append-nil, arith}
+use Rattle.std.proofs.Common.{◌≡◌, ◌≢◌, ◌⊎◌, inl, inr, ⊎_elim, ℕ, ◌<◌, ◌≤◌, Bool, IsTrue, List, [], ◌∷◌, ◌++◌, length, sym, ap, subst, ◌∙◌, append-nil, arith, Some, None}
+use Rattle.pana_calls.specs.Session.{MakesAll, alone}
 use Rattle.pana_calls.specs.declared.answer.Answer.{Answer}
 use Rattle.pana_calls.specs.declared.answer.Answer.TheVariants.{Given}
 use Rattle.pana_calls.specs.declared.call.Call.{Call}
 use Rattle.pana_calls.specs.declared.call.Call.TheVariants.{Report, Sighting, Query}
+use Rattle.pana_calls.specs.declared.message.Message.{Message}
 use Rattle.pana_calls.specs.declared.reply.Reply.{Reply}
 use Rattle.pana_turn.specs.History.{IsHistory, left_by}
 use Rattle.pana_log.specs.declared.log_state.LogState.TheVariants.{Open}
@@ -13,7 +15,7 @@ use Rattle.pana_store.specs.Store.{IsKept, KeepsFirst, StoreView, stored}
 use Rattle.pana_store.proofs.Acknowledged as groups
 use Rattle.pana_daemon.specs.Desk.{Finished, RequestSteps}
 use Rattle.pana_daemon.specs.declared.request.Request.{Request}
-use Rattle.pana_daemon.specs.declared.request.Request.TheVariants.{Make, Settle}
+use Rattle.pana_daemon.specs.declared.request.Request.TheVariants.{Make, MakeAll, Settle}
 use Rattle.pana_daemon.specs.declared.request.Response.{Response}
 use Rattle.pana_daemon.specs.declared.request.Response.TheVariants as responses
 use Rattle.pana_laws.specs.KeptRun.{KeepsDone}
@@ -33,7 +35,7 @@ module _ {V : Type 0} (is_known : Bool) (seen : V → List ℕ) (may_leave : V �
   Off = groups.Off is_known seen may_leave is_usable moment left_since has_failed
 
   abbrev One : StoreView V → Request → Response → StoreView V → Type 0
-  One = RequestSteps Step Fails So Off
+  One = RequestSteps Step (alone Fails) So Off
 
   abbrev Steps : StoreView V → List (Finished (StoreView V)) → Type 0
   Steps old history = IsHistory One old history
@@ -67,11 +69,68 @@ module _ {V : Type 0} (is_known : Bool) (seen : V → List ℕ) (may_leave : V �
       (λ took. absurd (lost.shut took.0))
       so.takes
 
+  -- one call
+  call_state : (old : StoreView V) (m : Message) (answer : Answer) (new : StoreView V) → State old → Step old m.by m.call answer new → State new
+  call_state old m answer new (inl good) step = inl (groups.good_step is_known seen may_leave is_usable moment left_since has_failed known only_now old m.by m.call answer new good step)
+  call_state old m answer new (inr lost) step = inr (lost_answers old m.by m.call answer new lost step)
+
+  fail_state : (old : StoreView V) (m : Message) (new : StoreView V) → State old → Fails old m.by m.call new → State new
+  fail_state old m new (inl good) (makes, inl (shut, same)) = absurd (shut good.works)
+  fail_state old m new (inr lost) (makes, inl (shut, same)) = inr (subst Lost (sym same) lost)
+  fail_state old m new state (makes, inr off) = inr (lost_off old new off)
+
+  fail_grows : (old : StoreView V) (m : Message) (new : StoreView V) → Fails old m.by m.call new → length old.entries ≤ length new.entries
+  fail_grows old m new (makes, inl (shut, same)) = omega (arith, ap (λ (g : StoreView V). length g.entries) same)
+  fail_grows old m new (makes, inr off) = omega (arith, ap length off.entries)
+
+  -- calls one after another
+  list_state : (old : StoreView V) (messages : List Message) (given : List Answer) (new : StoreView V) → State old → MakesAll Step old messages given new → State new
+  list_state old [] [] new state makes = subst State (sym makes) state
+  list_state old [] (answer ∷ given) new state makes = absurd makes
+  list_state old (m ∷ messages) [] new state makes = absurd makes
+  list_state old (m ∷ messages) (answer ∷ given) new state (mid, step, more) = list_state mid messages given new (call_state old m answer mid state step) more
+
+  failed_state : (old : StoreView V) (messages : List Message) (new : StoreView V) → State old → alone Fails old messages new → State new
+  failed_state old [] new state fails = absurd fails
+  failed_state old (m ∷ []) new state fails = fail_state old m new state fails
+  failed_state old (m ∷ n ∷ messages) new state fails = absurd fails
+
+  list_run : (first old : StoreView V) (messages : List Message) (given : List Answer) (new : StoreView V) → Runs first old → MakesAll Step old messages given new → Runs first new
+  list_run first old [] [] new run makes = subst (Runs first) (sym makes) run
+  list_run first old [] (answer ∷ given) new run makes = absurd makes
+  list_run first old (m ∷ messages) [] new run makes = absurd makes
+  list_run first old (m ∷ messages) (answer ∷ given) new run (mid, step, more) =
+      list_run first mid messages given new (groups.runs_step is_known seen may_leave is_usable moment left_since has_failed known only_now first old m.by m.call answer mid run step) more
+
+  failed_run : (first old : StoreView V) (messages : List Message) (new : StoreView V) → Runs first old → alone Fails old messages new → Runs first new
+  failed_run first old [] new run fails = absurd fails
+  failed_run first old (m ∷ []) new run fails = groups.runs_fail is_known seen may_leave is_usable moment left_since has_failed known only_now first old m.by m.call new run fails
+  failed_run first old (m ∷ n ∷ messages) new run fails = absurd fails
+
+  list_grows : (old : StoreView V) (messages : List Message) (given : List Answer) (new : StoreView V) → MakesAll Step old messages given new → length old.entries ≤ length new.entries
+  list_grows old [] [] new makes = omega (arith, ap (λ (g : StoreView V). length g.entries) makes)
+  list_grows old [] (answer ∷ given) new makes = absurd makes
+  list_grows old (m ∷ messages) [] new makes = absurd makes
+  list_grows old (m ∷ messages) (answer ∷ given) new (mid, step, more) =
+      omega (arith, groups.grows is_known seen may_leave is_usable moment left_since has_failed known only_now old m.by m.call answer mid step, list_grows mid messages given new more)
+
+  failed_grows : (old : StoreView V) (messages : List Message) (new : StoreView V) → alone Fails old messages new → length old.entries ≤ length new.entries
+  failed_grows old [] new fails = absurd fails
+  failed_grows old (m ∷ []) new fails = fail_grows old m new fails
+  failed_grows old (m ∷ n ∷ messages) new fails = absurd fails
+
   -- one request more
   next_state : (old : StoreView V) (request : Request) (response : Response) (new : StoreView V) → State old → One old request response new → State new
   next_state old (Make m) (responses.Answer answer) new (inl good) step = inl (groups.good_step is_known seen may_leave is_usable moment left_since has_failed known only_now old m.by m.call answer new good step)
   next_state old (Make m) (responses.Answer answer) new (inr lost) step = inr (lost_answers old m.by m.call answer new lost step)
   next_state old (Make m) responses.Settled new state step = absurd step
+  next_state old (Make m) (responses.Answers answers stopped) new state step = absurd step
+  next_state old (MakeAll messages) (responses.Answers answers None) new state adds = list_state old messages adds.given new state adds.makes
+  next_state old (MakeAll messages) (responses.Answers answers (Some recovers)) new state some = failed_state some.mid some.tried new (list_state old some.made some.adds.given some.mid state some.adds.makes) some.failed
+  next_state old (MakeAll messages) (responses.Answer answer) new state step = absurd step
+  next_state old (MakeAll messages) responses.Settled new state step = absurd step
+  next_state old (MakeAll messages) (responses.Nothing recovers) new state step = absurd step
+  next_state old Settle (responses.Answers answers stopped) new state step = absurd step
   next_state old (Make m) (responses.Nothing recovers) new (inl good) (makes, inl (shut, same)) = absurd (shut good.works)
   next_state old (Make m) (responses.Nothing recovers) new (inr lost) (makes, inl (shut, same)) = inr (subst Lost (sym same) lost)
   next_state old (Make m) (responses.Nothing recovers) new state (makes, inr off) = inr (lost_off old new off)
@@ -83,6 +142,13 @@ module _ {V : Type 0} (is_known : Bool) (seen : V → List ℕ) (may_leave : V �
   next_run : (first old : StoreView V) (request : Request) (response : Response) (new : StoreView V) → Runs first old → One old request response new → Runs first new
   next_run first old (Make m) (responses.Answer answer) new run step = groups.runs_step is_known seen may_leave is_usable moment left_since has_failed known only_now first old m.by m.call answer new run step
   next_run first old (Make m) responses.Settled new run step = absurd step
+  next_run first old (Make m) (responses.Answers answers stopped) new run step = absurd step
+  next_run first old (MakeAll messages) (responses.Answers answers None) new run adds = list_run first old messages adds.given new run adds.makes
+  next_run first old (MakeAll messages) (responses.Answers answers (Some recovers)) new run some = failed_run first some.mid some.tried new (list_run first old some.made some.adds.given some.mid run some.adds.makes) some.failed
+  next_run first old (MakeAll messages) (responses.Answer answer) new run step = absurd step
+  next_run first old (MakeAll messages) responses.Settled new run step = absurd step
+  next_run first old (MakeAll messages) (responses.Nothing recovers) new run step = absurd step
+  next_run first old Settle (responses.Answers answers stopped) new run step = absurd step
   next_run first old (Make m) (responses.Nothing recovers) new run step = groups.runs_fail is_known seen may_leave is_usable moment left_since has_failed known only_now first old m.by m.call new run step
   next_run first old Settle (responses.Answer answer) new run step = absurd step
   next_run first old Settle responses.Settled new run step = groups.runs_settle is_known seen may_leave is_usable moment left_since has_failed known only_now first old new run step
@@ -96,6 +162,14 @@ module _ {V : Type 0} (is_known : Bool) (seen : V → List ℕ) (may_leave : V �
   next_grows : (old : StoreView V) (request : Request) (response : Response) (new : StoreView V) → One old request response new → length old.entries ≤ length new.entries
   next_grows old (Make m) (responses.Answer answer) new step = groups.grows is_known seen may_leave is_usable moment left_since has_failed known only_now old m.by m.call answer new step
   next_grows old (Make m) responses.Settled new step = absurd step
+  next_grows old (Make m) (responses.Answers answers stopped) new step = absurd step
+  next_grows old (MakeAll messages) (responses.Answers answers None) new adds = list_grows old messages adds.given new adds.makes
+  next_grows old (MakeAll messages) (responses.Answers answers (Some recovers)) new some =
+      omega (arith, list_grows old some.made some.adds.given some.mid some.adds.makes, failed_grows some.mid some.tried new some.failed)
+  next_grows old (MakeAll messages) (responses.Answer answer) new step = absurd step
+  next_grows old (MakeAll messages) responses.Settled new step = absurd step
+  next_grows old (MakeAll messages) (responses.Nothing recovers) new step = absurd step
+  next_grows old Settle (responses.Answers answers stopped) new step = absurd step
   next_grows old (Make m) (responses.Nothing recovers) new (makes, inl (shut, same)) = omega (arith, ap (λ (g : StoreView V). length g.entries) same)
   next_grows old (Make m) (responses.Nothing recovers) new (makes, inr off) = omega (arith, ap length off.entries)
   next_grows old Settle (responses.Answer answer) new step = absurd step
@@ -111,6 +185,7 @@ module _ {V : Type 0} (is_known : Bool) (seen : V → List ℕ) (may_leave : V �
   settled_on : (old : StoreView V) (request : Request) (response : Response) (new : StoreView V) (after : List (Finished (StoreView V))) (n : ℕ) → State old → One old request response new → response ≡ responses.Settled → n ≤ length old.entries → Steps new after
       → (c : List ℕ) → left_since (left_by new after).log.device (moment new.log.device) c → LoadsFirst n (left_by new after).entries c
   settled_on old (Make m) response new after n state step is le steps = absurd (subst (λ (r : Response). One old (Make m) r new) is step)
+  settled_on old (MakeAll messages) response new after n state step is le steps = absurd (subst (λ (r : Response). One old (MakeAll messages) r new) is step)
   settled_on old Settle response new after n (inr lost) step is le steps = not_settled old new lost (subst (λ (r : Response). One old Settle r new) is step)
   settled_on old Settle response new after n (inl good) step is le steps = λ c left.
       let so : So old new = subst (λ (r : Response). One old Settle r new) is step in
@@ -132,6 +207,7 @@ module _ {V : Type 0} (is_known : Bool) (seen : V → List ℕ) (may_leave : V �
   done_here old (Make m) response new n reply step is done =
       let last = groups.done is_known seen may_leave is_usable moment left_since has_failed known only_now old m.by m.call n reply new done (subst (λ (r : Response). One old (Make m) r new) is step) in
       omega (arith, last.0)
+  done_here old (MakeAll messages) response new n reply step is done = absurd (subst (λ (r : Response). One old (MakeAll messages) r new) is step)
   done_here old Settle response new n reply step is done = absurd (subst (λ (r : Response). One old Settle r new) is step)
 
   done_in : (old : StoreView V) (before between after : List (Finished (StoreView V))) (call settled : Finished (StoreView V)) (n : ℕ) (reply : Reply) → State old → Steps old (before ++ call ∷ (between ++ settled ∷ after))

@@ -5,7 +5,7 @@ use Rattle.pana_hall.specs.Run.{Exchange, IsRunFrom, journal_from}
 use Rattle.pana_calls.specs.declared.answer.Answer.TheVariants.{Given, NotKept}
 use Rattle.pana_wire.specs.declared.fault.WireFault.{WireFault}
 use Rattle.pana_wire.specs.declared.fault.WireFault.TheVariants.{OutOfMemory}
-use Rattle.pana_wire.specs.declared.message.Message.{Message}
+use Rattle.pana_calls.specs.declared.message.Message.{Message}
 use Rattle.pana_hall.specs.Step.{Replies}
 use Rattle.pana_wire.specs.Fault.{fault_text}
 use Rattle.pana_wire.specs.Line.{line_says}

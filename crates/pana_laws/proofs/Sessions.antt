@@ -6,7 +6,7 @@ use Rattle.pana_hall.specs.Run.{Exchange}
 use Rattle.pana_calls.specs.declared.answer.Answer.{Answer}
 use Rattle.pana_wire.specs.declared.fault.WireFault.{WireFault}
 use Rattle.pana_wire.specs.declared.fault.WireFault.TheVariants as faults
-use Rattle.pana_wire.specs.declared.message.Message.{Message}
+use Rattle.pana_calls.specs.declared.message.Message.{Message}
 use Rattle.pana_wire.specs.declared.serving.ServeFault.{ServeFault}
 use Rattle.pana_wire.specs.declared.serving.ServeFault.TheVariants.{Read, Write, OutOfMemory, NoAnswer, Turns}
 use Rattle.pana_wire.specs.Answer.{answer_text}
@@ -19,15 +19,15 @@ use Rattle.pana_wire.specs.Session.{AnswersSaid, AnswersLine, AnswersLines, Made
 use Rattle.pana_wire.specs.Tap.{Note, bytes_in, noted_at}
 use Rattle.pana_wire.proofs.Notes.{bytes_both, noted_bytes}
 use Rattle.pana_laws.specs.SessionRun.{IsExchangeOf, IsFaultOf, IsRunOf}
-use Rattle.pana_daemon.specs.Session.{BreaksOff, GetsNone, MakesCall, Settles, requests_seen}
+use Rattle.pana_daemon.specs.Session.{BreaksOff, GetNone, MakesCall, Settles, requests_seen}
 use Rattle.pana_laws.specs.OneRun.{Answered}
 use Rattle.pana_laws.proofs.Passes.{Goes, Pass, Steps, broken_none, goes_no_more, goes_on, made_none, made_one, settled_none, stays}
 
 abbrev Step : Pass → List ℕ → Call → Answer → Pass → Type 0
-Step = MakesCall Steps
+Step = MakesCall Steps false
 
-abbrev Fails : Pass → List ℕ → Call → Pass → Type 0
-Fails = GetsNone Steps
+abbrev Fails : Pass → List Message → Pass → Type 0
+Fails = GetNone Steps false
 
 abbrev So : Pass → Pass → Type 0
 So = Settles Steps
@@ -84,7 +84,7 @@ record Part (lines : List (List ℕ)) (output : List ℕ) (old new : Pass) : Typ
 
 -- of the next line one call more is made, whose answer isn't written
 behind : (lines first others : List (List ℕ)) (text output : List ℕ) (old mid new : Pass) → lines ≡ first ++ others → IsPrefix output text
-    → (run : List Exchange) × IsRunOf first run text × Goes old run mid → MayCallNext Step Fails mid others new → Part lines output old new
+    → (run : List Exchange) × IsRunOf first run text × Goes old run mid → MayCallNext Step false Fails mid others new → Part lines output old new
 behind lines first others text output old mid new split written (run, are, goes) (inl same) =
     record { begun = first; run = run; answers = text; first = (others, sym split); are = are; written = written; goes = subst (Goes old run) (sym same) goes }
 behind lines first [] text output old mid new split written (run, are, goes) (inr (inl lost)) = absurd lost
@@ -128,7 +128,7 @@ made_run old lines made = all_lines made.first made.text old made.last made.step
 all_noted : (moment : ℕ) (notes : List Note) (text : List ℕ) → notes ≡ noted_at moment text → bytes_in notes ≡ text
 all_noted moment notes text is = ap bytes_in is ∙ noted_bytes moment text
 
-part_in : (fault : ServeFault) (lines : List (List ℕ)) (notes : List Note) (old new : Pass) → BreaksGroup Step Fails So Off requests_seen fault old lines notes new → Part lines (bytes_in notes) old new
+part_in : (fault : ServeFault) (lines : List (List ℕ)) (notes : List Note) (old new : Pass) → BreaksGroup Step false Fails So Off requests_seen fault old lines notes new → Part lines (bytes_in notes) old new
 part_in Read lines notes old new breaks = absurd breaks
 part_in Write lines notes old new (made, last, output, calls, kept, written, is) =
     settled_part lines (bytes_in notes) old last new
@@ -162,7 +162,7 @@ all_groups (lines ∷ groups) notes old new steps (made, kept, text, rest, first
     )
 
 -- so are the first of the lines among which it breaks off
-part_among : (fault : ServeFault) (lines : List (List ℕ)) (notes : List Note) (old new : Pass) → BreaksAmong Step Fails So Off requests_seen fault old lines notes new → Part lines (bytes_in notes) old new
+part_among : (fault : ServeFault) (lines : List (List ℕ)) (notes : List Note) (old new : Pass) → BreaksAmong Step false Fails So Off requests_seen fault old lines notes new → Part lines (bytes_in notes) old new
 part_among fault lines notes old new b =
     let (run, are, goes) = all_groups b.groups b.whole old b.last b.steps b.answers in
     let p = part_in fault b.others b.part b.last new b.breaks in
@@ -219,7 +219,7 @@ pub told_whole : (input : List ℕ) (groups : List (List (List ℕ))) (notes : L
 told_whole input groups notes old new steps split a = told_lines true input groups notes old new steps split a
 
 -- and one that stopped early
-pub told_early : (fault : ServeFault) (met : Bool) (input : List ℕ) (notes : List Note) (old new : Pass) → EndsGroupsBy Step Fails So Off requests_seen fault met old input notes new → Told input (bytes_in notes) old new
+pub told_early : (fault : ServeFault) (met : Bool) (input : List ℕ) (notes : List Note) (old new : Pass) → EndsGroupsBy Step false Fails So Off requests_seen fault met old input notes new → Told input (bytes_in notes) old new
 told_early Read met input notes old new (steps, a) = told_lines false input a.0 notes old new steps a.1 a.2
 told_early Write met input notes old new ends = told_part met input (bytes_in notes) old new (part_among Write (lines_come met input) notes old new ends)
 told_early OutOfMemory met input notes old new ends = told_part met input (bytes_in notes) old new (part_among OutOfMemory (lines_come met input) notes old new ends)

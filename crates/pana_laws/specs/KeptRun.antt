@@ -1,5 +1,6 @@
 -- What callers at a desk of a store have kept, over a device that is known.
 use Rattle.std.specs.Prelude.{◌≡◌, ℕ, Bool, List, ◌∷◌, ◌++◌, length}
+use Rattle.pana_calls.specs.Session.{alone}
 use Rattle.pana_calls.specs.declared.reply.Reply.{Reply}
 use Rattle.pana_calls.specs.declared.answer.Answer.TheVariants.{Given}
 use Rattle.pana_turn.specs.History.{IsHistory, left_by}
@@ -14,7 +15,7 @@ use Rattle.pana_daemon.specs.declared.request.Response.TheVariants.{Answer, Sett
 -- what a request does to a store whose calls are kept in groups
 abbrev pub StoreSteps : {V : Type 0} → Bool → (V → List ℕ) → (V → List ℕ → Type 0) → (V → Bool) → (V → ℕ) → (V → ℕ → List ℕ → Type 0) → (V → Bool) → StoreView V → Request → Response → StoreView V → Type 0
 StoreSteps is_known seen may_leave is_usable moment left_since has_failed = RequestSteps
-    (λ old by call answer new. Gathers is_known seen may_leave is_usable moment left_since has_failed old by call answer new) (λ old by call new. FailsToGather is_known moment left_since has_failed old by call new)
+    (λ old by call answer new. Gathers is_known seen may_leave is_usable moment left_since has_failed old by call answer new) (alone (λ old by call new. FailsToGather is_known moment left_since has_failed old by call new))
     (λ old new. Settles is_known seen may_leave is_usable moment left_since old new) (λ old new. BreaksOff is_known moment left_since has_failed old new)
 
 module _ {V : Type 0} (moment : V → ℕ) (left_since : V → ℕ → List ℕ → Type 0) where

@@ -1,5 +1,5 @@
 -- The headline: what callers at a desk of a hall have made is one run of the hall, and each caller's calls are its own.
-use Rattle.std.specs.Prelude.{◌≡◌, ◌⊎◌, ◌<◌, ◌==◌, ◌+◌, ℕ, All, List, [], ◌∷◌, ◌++◌, length, map, filter, Option, Some, None, option_map}
+use Rattle.std.specs.Prelude.{◌≡◌, ◌⊎◌, ◌<◌, ◌==◌, ◌+◌, ℕ, false, All, List, [], ◌∷◌, ◌++◌, length, map, filter, Option, Some, None, option_map}
 use Rattle.std.specs.Io.KnownBytes.{Consumes, Appends}
 use mathlib.Core.List.{IsPrefix}
 use Rattle.pana_journal.specs.declared.entry.Entry.{Entry}
@@ -59,7 +59,7 @@ asked_of x = record { by = x.by; call = x.call; answer = Given x.reply }
 abbrev pub AreLooks : List ℕ → List BaselineRow → List Taken → List Asked → List BaselineRow → Type 0
 AreLooks device old [] made new = (made ≡ []) × (new ≡ old)
 AreLooks device old (taken ∷ more) made new =
-    (first : List Asked) × (others : List Asked) × (mid : List BaselineRow) × IsLook device taken.look old first mid × AreLooks device mid more others new × (made ≡ first ++ others)
+    (first : List Asked) × (others : List Asked) × (mid : List BaselineRow) × IsLook false device taken.look old first mid × AreLooks device mid more others new × (made ≡ first ++ others)
 
 module _ {D R W F : Type 0} (gives : D → Option (Connection R W) → D → Type 0) (remaining : R → Option (List ℕ)) (contents : W → Option (List ℕ)) (does : F → Deed → F → Type 0) where
   -- the door gives these connections, and they were served one after another, each by calls of its own
@@ -71,7 +71,7 @@ module _ {D R W F : Type 0} (gives : D → Option (Connection R W) → D → Typ
   -- there are none, or these are the calls of one more look, or the first of them
   abbrev pub IsRest : List ℕ → List BaselineRow → F → List Exchange → Type 0
   IsRest device baseline last rest = (rest ≡ []) ⊎ ((next : Look) × (after : F) × does last (gives_look next) after
-      × (((left : List BaselineRow) × IsLook device next baseline (map asked_of rest) left) ⊎ ((call : Call) × IsNext device next baseline (map asked_of rest) call)))
+      × (((left : List BaselineRow) × IsLook false device next baseline (map asked_of rest) left) ⊎ ((call : Call) × IsNext device next baseline (map asked_of rest) call)))
 
   -- what a caller was to do was done by these calls: the connections that its door gave were served, until it gave no
   -- more; or its folder was looked at, and learned what became of each look before the next

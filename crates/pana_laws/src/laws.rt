@@ -1,6 +1,6 @@
 //! The laws.
 
-ghost use Rattle.std.specs.Prelude.{◌≡◌, ◌↔◌, ℕ, Bool, IsTrue, List, []};
+ghost use Rattle.std.specs.Prelude.{◌≡◌, ◌↔◌, ℕ, Bool, false, IsTrue, List, []};
 ghost use Rattle.pana_copies.specs.declared.place.Place.{Place};
 ghost use Rattle.pana_journal.specs.declared.entry.Entry.{Entry};
 ghost use Rattle.pana_hall.specs.Accepted.{IsAccepted};
@@ -32,7 +32,7 @@ pub fn every_session_is_a_run()
 /// those by which its connections were served, one session after another, or its folder was scanned.
 pub fn daemon_is_one_run<D: Door, F: Folder>()
     ensures { (begun : List Entry) (posts posts_left : List (Post D F)) (left : List Entry) (requests : ℕ) (unanswered : Bool)
-        → Ends (AnsweredSteps Replies) D.gives D.Reader.remaining D.Writer.contents F.does begun posts left posts_left requests unanswered
+        → Ends (AnsweredSteps Replies) false D.gives D.Reader.remaining D.Writer.contents F.does begun posts left posts_left requests unanswered
         → IsOneRun D.gives D.Reader.remaining D.Writer.contents F.does begun posts left requests }
 {}
 
@@ -43,7 +43,7 @@ pub fn daemon_is_one_run<D: Door, F: Folder>()
 pub fn daemon_keeps_what_is_done<V: Device, D: Door, F: Folder>()
     ensures { IsTrue V.is_known → (begun left : StoreView V) (posts posts_left : List (Post D F)) (requests : ℕ) (unanswered : Bool)
         → begun.log.state ≡ LogState.Open → IsKept V.seen V.may_leave V.is_usable (stored begun) → begun.entries ≡ begun.kept
-        → Ends (StoreSteps V.is_known V.seen V.may_leave V.is_usable V.moment V.left_since V.has_failed) D.gives D.Reader.remaining D.Writer.contents F.does begun posts left posts_left requests unanswered
+        → Ends (StoreSteps V.is_known V.seen V.may_leave V.is_usable V.moment V.left_since V.has_failed) false D.gives D.Reader.remaining D.Writer.contents F.does begun posts left posts_left requests unanswered
         → IsKeptRun V.moment V.left_since (StoreSteps V.is_known V.seen V.may_leave V.is_usable V.moment V.left_since V.has_failed) begun left requests }
 {}
 

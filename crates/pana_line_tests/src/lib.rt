@@ -8,4 +8,6 @@ mod places;
 #[cfg(test)]
 mod report;
 #[cfg(test)]
+mod together;
+#[cfg(test)]
 mod wire;

@@ -10,9 +10,9 @@ use std::test::Fail;
 
 /// A session that numbers its calls, and has only so many of them.
 #[derive(Drop)]
-struct Numbering {
-    made: u64,
-    most: u64,
+pub(crate) struct Numbering {
+    pub(crate) made: u64,
+    pub(crate) most: u64,
 }
 
 impl Session for Numbering {
@@ -20,7 +20,7 @@ impl Session for Numbering {
 
     ghost step = { λ old by call answer new. new.made ≡ old.made + 1 };
 
-    ghost fails = { λ old by call new. new ≡ old };
+    ghost fails = { λ old calls new. new ≡ old };
 
     fn call(&mut self, _by: &DeviceName, _call: Call) -> Result<Answer, NoAnswer> {
         if self.made >= self.most {

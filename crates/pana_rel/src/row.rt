@@ -10,8 +10,9 @@ use pana_event::Rel;
 use std::alloc::{AllocError, Global};
 use std::marker::Model;
 
-/// How many relations are counted at once: no more than a byte counts, so that the processor counts many at a time.
-const MOST_AT_ONCE: usize = 255;
+/// How many relations are counted at once: no more than a byte counts, so that the processor counts many at a time, and so many
+/// that none is left over there.
+const MOST_AT_ONCE: usize = 192;
 
 /// How many of a few relations are of one kind.
 fn count_few(rels: &[Rel], wanted: Rel) -> u8

@@ -23,16 +23,16 @@ use Rattle.pana_daemon.specs.Serve.{EndsDaemon}
 abbrev pub loopback : List ℕ
 loopback = 127 ∷ 0 ∷ 0 ∷ 1 ∷ []
 
-module _ {D Y E R W I K : Type 0} (steps : D → Request → Response → D → Type 0)
+module _ {D Y E R W I K : Type 0} (steps : D → Request → Response → D → Type 0) (together : Bool)
     (binds : Y → List ℕ → ℕ → Bool → Y → Type 0) (opens : Y → List ℕ → Result D E → Y → Type 0)
     (remaining : R → Option (List ℕ)) (contents : W → Option (List ℕ)) (inputs : I → Option (List ℕ)) (does : FolderView K → Deed → FolderView K → Type 0) (disks : K) where
   -- the daemon has served a new hall, where no journal is named, or else the store of the journal with this name, and
   -- looked so at the folders that the words name; this has gone wrong
   abbrev pub Serves : Option (Bor (List ℕ)) → List (List ℕ) → Option ℕ → Looks → Y → Option LateFault → Y → Type 0
   Serves None words wanted looks old fault new = (new ≡ old)
-      × ((left : List Entry) × (requests : ℕ) × EndsDaemon (AnsweredSteps Replies) remaining contents inputs does [] wanted looks (folders_named disks words) left requests fault)
+      × ((left : List Entry) × (requests : ℕ) × EndsDaemon (AnsweredSteps Replies) false remaining contents inputs does [] wanted looks (folders_named disks words) left requests fault)
   Serves (Some name) words wanted looks old fault new =
-      (begun : D) × (left : D) × (requests : ℕ) × opens old name.now (Ok begun) new × EndsDaemon steps remaining contents inputs does begun wanted looks (folders_named disks words) left requests fault
+      (begun : D) × (left : D) × (requests : ℕ) × opens old name.now (Ok begun) new × EndsDaemon steps together remaining contents inputs does begun wanted looks (folders_named disks words) left requests fault
 
   -- the journal that is named can't be used
   abbrev pub Refuses : Option (Bor (List ℕ)) → Y → E → Y → Type 0

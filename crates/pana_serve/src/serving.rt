@@ -72,7 +72,7 @@ pub fn serve_on<'a, Y: System, T: Threads + Wait + Clock + Sync, K: Disks + Sync
     system: &mut Y,
     wishes: Wishes<'a>,
 ) -> Outcome<'a, Y::Refusal>
-    ensures { Comes (RequestSteps Y.Store.step Y.Store.fails Y.Store.settles Y.Store.breaks_off) Y.binds Y.opens ⟦<PatientReader<'a, T, Alarm<'a>> as Read>⟧.remaining ⟦<BufWriter<PatientWriter<'a, T, Alarm<'a>>, Global> as Write>⟧.contents ⟦<StandardInput<'a, 'a, T> as Read>⟧.remaining ⟦<RootFolder<'a, T, K> as Folder>⟧.does disks.now wishes.entry system.old result system.new }
+    ensures { Comes (RequestSteps Y.Store.step Y.Store.fails Y.Store.settles Y.Store.breaks_off) Y.Store.keeps_together Y.binds Y.opens ⟦<PatientReader<'a, T, Alarm<'a>> as Read>⟧.remaining ⟦<BufWriter<PatientWriter<'a, T, Alarm<'a>>, Global> as Write>⟧.contents ⟦<StandardInput<'a, 'a, T> as Read>⟧.remaining ⟦<RootFolder<'a, T, K> as Folder>⟧.does disks.now wishes.entry system.old result system.new }
 {
     let roots = match roots_of(rt.alloc(), wishes.roots) {
         Ok(roots) => roots,

@@ -17,7 +17,7 @@ use Rattle.pana_shared.specs.Log.{Grows, IsAt, IsOneOf, LogView}
 use Rattle.pana_shared_store.specs.Store.{Becomes, GoesOn, MakesBy, asks_all, recorded}
 use Rattle.pana_shared_store.proofs.Readied.{recorded_before}
 use Rattle.pana_shared_laws.specs.Groups.{AreGroups}
-use Rattle.pana_shared_laws.proofs.Fine.{IsFine, at_within_some, came, grown_length, some_entries, still_loose, still_turns}
+use Rattle.pana_shared_laws.proofs.Fine.{IsFine, at_within_some, came, grown_length, recorded_late, recorded_own, some_entries, some_recorded, still_loose, still_turns}
 use Rattle.pana_shared_laws.proofs.Rested.{Rest}
 use Rattle.pana_shared_laws.proofs.Stayed.{rest_call}
 
@@ -101,7 +101,9 @@ module _ (is_known : Bool) (known : IsTrue is_known) (w : ℕ) (old : List Entry
     }
 
     groups_came : AreGroups (length seen_old.records) w own.more ((seen_old.at, own.landed) ∷ (length makes.on.at, recorded w turn makes.on.made) ∷ [])
-    groups_came = came w old before seen_old fine turn makes.on.at makes.on.made seen_new.records own makes.on.goes_on late stands
+    groups_came =
+        came w old before seen_old fine makes.on.at (recorded w turn makes.on.made) seen_new.records own makes.on.goes_on (recorded_own w turn makes.on.made) (recorded_late w turn before makes.on.made late)
+        (λ some. stands (some_recorded w turn makes.on.made some))
 
     -- nothing that was loose may still land where the call has made entries
     gone : makes.on.made ≢ [] → length seen_new.records ≤ seen_new.at → (g : List Record) → IsOneOf g seen_new.loose → ⊥

@@ -12,16 +12,15 @@ use Rattle.pana_shared.proofs.Splits.{splits}
 use Rattle.pana_shared_store.specs.Store.{AreFirst, GoesOn, entries_in, recorded}
 use Rattle.pana_shared_store.specs.inner.{AreBefore}
 use Rattle.pana_shared_store.proofs.Followed.{entries_both}
-use Rattle.pana_shared_store.proofs.Readied.{before_both, recorded_before}
+use Rattle.pana_shared_store.proofs.Readied.{before_both}
 use Rattle.pana_shared_laws.specs.Groups.{AreGroups}
 use Rattle.pana_shared_laws.proofs.Grouped.{apart, no_turn, ours_own, two_groups}
 
--- a group that is loose, and may still land, is what an earlier turn asked for, behind no more than the store follows
+-- a group that is loose, and may still land, is of the writer, and of earlier turns, and was asked for behind no more than the store
+-- follows
 pub record IsAsked (w : ℕ) (entries : List Entry) (turn : ℕ) (view : LogView) (group : List Record) : Type 0 where
-  pub by : ℕ
-  pub asked : List Entry
-  pub early : by ≤ turn
-  pub is : group ≡ recorded w by asked
+  pub own : AllByRecursion (λ r. r.writer ≡ w) group
+  pub early : AreBefore (turn + 1) group
   pub at : view.at ≤ length entries
 
 pub record IsFine (w : ℕ) (entries : List Entry) (turn : ℕ) (view : LogView) : Type 0 where
@@ -36,8 +35,10 @@ pub recorded_own : (w turn : ℕ) (entries : List Entry) → AllByRecursion (λ 
 recorded_own w turn [] = tt
 recorded_own w turn (e ∷ entries) = (refl, recorded_own w turn entries)
 
-pub ours_recorded : (w turn : ℕ) (entries : List Entry) → ours w (recorded w turn entries) ≡ recorded w turn entries
-ours_recorded w turn entries = ours_own w (recorded w turn entries) (recorded_own w turn entries)
+-- records of a turn are behind an earlier one, if there are any
+pub recorded_late : (w turn before : ℕ) (entries : List Entry) → (entries ≢ [] → before < turn) → AllByRecursion (λ r. before < r.turn) (recorded w turn entries)
+recorded_late w turn before [] later = tt
+recorded_late w turn before (e ∷ entries) later = let is = later (λ none. (let f : e ∷ entries ≡ [] = none in cc)) in (is, recorded_late w turn before entries (λ some. is))
 
 pub before_later : (turn later : ℕ) (xs : List Record) → turn ≤ later → AreBefore turn xs → AreBefore later xs
 before_later turn later [] le all = tt
@@ -104,38 +105,34 @@ is_behind w turn old more records rest r at whole early own is there = by_order 
 module _ (w : ℕ) (entries : List Entry) (turn : ℕ) (old : LogView) (fine : IsFine w entries turn old) where
   landed_own : (landed records : List Record) → Lands old landed records → ours w landed ≡ landed
   landed_own landed records (inl none) = ap (ours w) none ∙ sym none
-  landed_own landed records (inr (one, alive, there)) =
-      let asked = fine.loose alive landed one in
-      ap (ours w) asked.is ∙ ours_recorded w asked.by asked.asked ∙ sym asked.is
+  landed_own landed records (inr (one, alive, there)) = ours_own w landed (fine.loose alive landed one).own
 
   pub landed_before : (landed records : List Record) → Lands old landed records → AreBefore (turn + 1) landed
   landed_before landed records (inl none) = subst (λ (l : List Record). AreBefore (turn + 1) l) (sym none) tt
-  landed_before landed records (inr (one, alive, there)) =
-      let asked = fine.loose alive landed one in
-      subst (λ (l : List Record). AreBefore (turn + 1) l) (sym asked.is) (before_later (asked.by + 1) (turn + 1) (recorded w asked.by asked.asked) (let e = asked.early in omega (arith, e)) (recorded_before w asked.by asked.asked))
+  landed_before landed records (inr (one, alive, there)) = (fine.loose alive landed one).early
 
-  -- what has come meanwhile of the writer is what has landed, and what the call has made
-  pub came : (next : ℕ) (before made : List Entry) (records : List Record) (grows : Grows old (recorded w next made) records) → GoesOn entries before → (made ≢ [] → turn < next)
-      → (made ≢ [] → IsAt (length before) (recorded w next made) records × (length old.records ≤ length before))
-      → AreGroups (length old.records) w grows.more ((old.at, grows.landed) ∷ (length before, recorded w next made) ∷ [])
-  came next before made records grows goes later stands =
-      two_groups w old.records grows.more records grows.landed (recorded w next made) old.at (length before) grows.longer
+  -- what has come meanwhile of the writer is what has landed, and what was made, of later turns
+  pub came : (before : List Entry) (made records : List Record) (grows : Grows old made records) → GoesOn entries before → AllByRecursion (λ r. r.writer ≡ w) made → AllByRecursion (λ r. turn < r.turn) made
+      → (made ≢ [] → IsAt (length before) made records × (length old.records ≤ length before))
+      → AreGroups (length old.records) w grows.more ((old.at, grows.landed) ∷ (length before, made) ∷ [])
+  came before made records grows goes own later stands =
+      two_groups w old.records grows.more records grows.landed made old.at (length before) grows.longer
       (λ some. (let l = landed_some old grows.landed records grows.lands some in (l.2, l.1)))
-      (λ some. stands (some_recorded w next made some))
-      (λ some more. order made refl (some_recorded w next made more) some)
-      (subst (λ (n : ℕ). ours n grows.more ≡ grows.landed ++ recorded w next made) fine.writer grows.own)
+      stands
+      (λ some more. order made refl more some)
+      (subst (λ (n : ℕ). ours n grows.more ≡ grows.landed ++ made) fine.writer grows.own)
       (landed_own grows.landed records grows.lands)
-      (ours_recorded w next made)
+      (ours_own w made own)
     where
-      order : (m : List Entry) → m ≡ made → made ≢ [] → grows.landed ≢ [] → old.at + length grows.landed ≤ length before
+      order : (m : List Record) → m ≡ made → made ≢ [] → grows.landed ≢ [] → old.at + length grows.landed ≤ length before
       order [] is more some = absurd (more (sym is))
-      order (e ∷ es) is more some =
+      order (r ∷ rest) is more some =
           let l = landed_some old grows.landed records grows.lands some in
           let asked = fine.loose l.1 grows.landed l.0 in
-          let t = later more in
+          let t = (subst (λ (x : List Record). AllByRecursion (λ y. turn < y.turn) x) (sym is) later).0 in
           let place : old.at ≤ length before = (let a = asked.at in let g = goes_within entries before goes in omega (arith, a, g)) in
-          apart next grows.landed (record { entry = e; writer = w; turn = next }) (recorded w next es) records old.at (length before) (before_later (turn + 1) next grows.landed (omega (arith, t)) (landed_before grows.landed records grows.lands)) refl l.2
-          (subst (λ (x : List Entry). IsAt (length before) (recorded w next x) records) (sym is) (stands more).0) place
+          apart r.turn grows.landed r rest records old.at (length before) (before_later (turn + 1) r.turn grows.landed (omega (arith, t)) (landed_before grows.landed records grows.lands)) refl l.2
+          (subst (λ (x : List Record). IsAt (length before) x records) (sym is) (stands more).0) place
 
   -- and so it is known of the store then
   pub still_turns : (next : ℕ) (made : List Record) (records : List Record) (grows : Grows old made records) → turn ≤ next → AreBefore (next + 1) made → AreBefore (next + 1) (ours w records)
@@ -152,4 +149,4 @@ module _ (w : ℕ) (entries : List Entry) (turn : ℕ) (old : LogView) (fine : I
   still_loose goes_on next new goes later grown (same, inr (place, fewer)) alive group one =
       let member = fewer group one in
       let asked = fine.loose (omega (arith, place, alive, grown)) group member in
-      (place, member, record { by = asked.by; asked = asked.asked; early = (let e = asked.early in omega (arith, e, later)); is = asked.is; at = (let a = asked.at in let g = goes_within entries goes_on goes in omega (arith, a, g, place)) })
+      (place, member, record { own = asked.own; early = before_later (turn + 1) (next + 1) group (omega (arith, later)) asked.early; at = (let a = asked.at in let g = goes_within entries goes_on goes in omega (arith, a, g, place)) })

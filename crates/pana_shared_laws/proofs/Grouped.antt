@@ -152,14 +152,28 @@ apart turn g r rest records at next early is there later order = by_order (leb_t
           let t : x.turn ≡ turn = ap (λ (y : Record). y.turn) (sym same) ∙ is in
           omega (arith, less, t)
 
--- ---- empty groups
+-- ---- groups behind others
 
+-- what becomes of groups by themselves becomes of them behind others
+pub groups_tail : (w : ℕ) (fs gs hs : List (ℕ × List Record)) → ((from : ℕ) (xs : List Record) → AreGroups from w xs gs → AreGroups from w xs hs) → (from : ℕ) (xs : List Record) → AreGroups from w xs (fs ++ gs) → AreGroups from w xs (fs ++ hs)
+groups_tail w [] gs hs become from xs groups = become from xs groups
+groups_tail w ((p, []) ∷ fs) gs hs become from xs groups = groups_tail w fs gs hs become from xs groups
+groups_tail w ((p, r ∷ rest) ∷ fs) gs hs become from xs (before, after, whole, place, nothing, others) = (before, after, whole, place, nothing, groups_tail w fs gs hs become (p + length (r ∷ rest)) after others)
+
+-- an empty group stands nowhere
 pub groups_skip : (w : ℕ) (fs : List (ℕ × List Record)) (from : ℕ) (xs : List Record) (at : ℕ) (gs : List (ℕ × List Record)) → AreGroups from w xs (fs ++ ((at, []) ∷ gs)) → AreGroups from w xs (fs ++ gs)
-groups_skip w [] from xs at gs groups = groups
-groups_skip w ((p, []) ∷ fs) from xs at gs groups = groups_skip w fs from xs at gs groups
-groups_skip w ((p, r ∷ rest) ∷ fs) from xs at gs (before, after, whole, place, nothing, others) = (before, after, whole, place, nothing, groups_skip w fs (p + length (r ∷ rest)) after at gs others)
+groups_skip w fs from xs at gs groups = groups_tail w fs ((at, []) ∷ gs) gs (λ n ys same. same) from xs groups
 
-pub groups_slip : (w : ℕ) (fs : List (ℕ × List Record)) (from : ℕ) (xs : List Record) (at : ℕ) (gs : List (ℕ × List Record)) → AreGroups from w xs (fs ++ gs) → AreGroups from w xs (fs ++ ((at, []) ∷ gs))
-groups_slip w [] from xs at gs groups = groups
-groups_slip w ((p, []) ∷ fs) from xs at gs groups = groups_slip w fs from xs at gs groups
-groups_slip w ((p, r ∷ rest) ∷ fs) from xs at gs (before, after, whole, place, nothing, others) = (before, after, whole, place, nothing, groups_slip w fs (p + length (r ∷ rest)) after at gs others)
+-- a group is two, the second right behind the first
+pub groups_parts : (w at : ℕ) (g h : List Record) (gs : List (ℕ × List Record)) (from : ℕ) (xs : List Record) → AreGroups from w xs ((at, g ++ h) ∷ gs) → AreGroups from w xs ((at, g) ∷ (at + length g, h) ∷ gs)
+groups_parts w at [] h gs from xs groups = subst (λ (n : ℕ). AreGroups from w xs ((n, h) ∷ gs)) (omega arith) groups
+groups_parts w at (r ∷ rest) [] gs from xs groups = subst (λ (l : List Record). AreGroups from w xs ((at, l) ∷ gs)) (append-nil (r ∷ rest)) groups
+groups_parts w at (r ∷ rest) (s ∷ others) gs from xs (before, after, whole, place, nothing, left) =
+    let l : length ((r ∷ rest) ++ (s ∷ others)) ≡ length (r ∷ rest) + length (s ∷ others) = length-append (r ∷ rest) (s ∷ others) in (
+      before,
+      (s ∷ others) ++ after,
+      whole ∙ ap (λ (m : List Record). before ++ m) (append_assoc (r ∷ rest) (s ∷ others) after),
+      place,
+      nothing,
+      ([], after, refl, omega arith, refl, subst (λ (n : ℕ). AreGroups n w after gs) (omega (arith, l)) left),
+    )

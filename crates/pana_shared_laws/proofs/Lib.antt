@@ -1,9 +1,11 @@
 pub mod Grouped
 pub mod Fine
+pub mod Recorded
 pub mod Rested
 pub mod Stayed
 pub mod Called
 pub mod Asked
+pub mod Stood
 pub mod Lived
 pub mod Merged
 pub mod Shared

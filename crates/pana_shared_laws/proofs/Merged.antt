@@ -54,12 +54,12 @@ module _ (records : List Record) where
   none_left : (w from : ℕ) (calls : List Standing) → AreGroups from w [] (Groups w calls) → Some_of calls ≡ []
   none_left w from [] groups = refl
   none_left w from (call ∷ calls) groups = by_made (none_left w from calls) call.made refl groups where
-    by_made : (AreGroups from w [] (Groups w calls) → Some_of calls ≡ []) → (m : List Entry) → m ≡ call.made → AreGroups from w [] ((length call.before, recorded w call.step.ended.turn m) ∷ Groups w calls) → Some_of (call ∷ calls) ≡ []
+    by_made : (AreGroups from w [] (Groups w calls) → Some_of calls ≡ []) → (m : List Entry) → m ≡ call.made → AreGroups from w [] ((length call.before, recorded w call.turn m) ∷ Groups w calls) → Some_of (call ∷ calls) ≡ []
     by_made others [] is rest = without call calls is ∙ others rest
     by_made others (e ∷ es) is (before, after, whole, place, nothing, more) = absurd (nowhere before whole) where
-      nowhere : (b : List Record) → [] ≡ b ++ (recorded w call.step.ended.turn (e ∷ es) ++ after) → ⊥
-      nowhere [] none = (let f : [] ≡ recorded w call.step.ended.turn (e ∷ es) ++ after = none in cc)
-      nowhere (x ∷ b) none = (let f : [] ≡ x ∷ (b ++ (recorded w call.step.ended.turn (e ∷ es) ++ after)) = none in cc)
+      nowhere : (b : List Record) → [] ≡ b ++ (recorded w call.turn (e ∷ es) ++ after) → ⊥
+      nowhere [] none = (let f : [] ≡ recorded w call.turn (e ∷ es) ++ after = none in cc)
+      nowhere (x ∷ b) none = (let f : [] ≡ x ∷ (b ++ (recorded w call.turn (e ∷ es) ++ after)) = none in cc)
 
   -- what another writer has put first is nothing of this one's
   past : (w other turn from : ℕ) (made : List Entry) (after : List Record) (calls : List Standing) → (other ≡ w → ⊥) → AreGroups from w (recorded other turn made ++ after) (Groups w calls)
@@ -67,26 +67,26 @@ module _ (records : List Record) where
   past w other turn from made after [] differs groups = (none_in w (recorded other turn made) after groups).1
   past w other turn from made after (call ∷ calls) differs groups = by_made (past w other turn from made after calls differs) call.made groups where
     by_made : (AreGroups from w (recorded other turn made ++ after) (Groups w calls) → AreGroups (from + length (recorded other turn made)) w after (Groups w calls))
-        → (m : List Entry) → AreGroups from w (recorded other turn made ++ after) ((length call.before, recorded w call.step.ended.turn m) ∷ Groups w calls)
-        → AreGroups (from + length (recorded other turn made)) w after ((length call.before, recorded w call.step.ended.turn m) ∷ Groups w calls)
+        → (m : List Entry) → AreGroups from w (recorded other turn made ++ after) ((length call.before, recorded w call.turn m) ∷ Groups w calls)
+        → AreGroups (from + length (recorded other turn made)) w after ((length call.before, recorded w call.turn m) ∷ Groups w calls)
     by_made goes [] rest = goes rest
     by_made goes (e ∷ es) (before, behind, whole, place, nothing, more) = by_order (leb_tells (length (recorded other turn made)) (length before)) where
-      by_front : (m : List Record) → recorded other turn made ≡ before ++ m → recorded w call.step.ended.turn (e ∷ es) ++ behind ≡ m ++ after → 0 < length m → ⊥
+      by_front : (m : List Record) → recorded other turn made ≡ before ++ m → recorded w call.turn (e ∷ es) ++ behind ≡ m ++ after → 0 < length m → ⊥
       by_front [] is goes_on some = omega (arith, some)
       by_front (x ∷ m) is goes_on some =
           let theirs : x.writer ≡ other = own_at other before m x (subst (λ (l : List Record). AllByRecursion (λ r. r.writer ≡ other) l) is (recorded_own other turn made)) in
-          let same : record { entry = e; writer = w; turn = call.step.ended.turn } ≡ x = cc in
+          let same : record { entry = e; writer = w; turn = call.turn } ≡ x = cc in
           let mine : w ≡ x.writer = ap (λ (r : Record). r.writer) same in
           differs (sym theirs ∙ sym mine)
 
-      by_order : ((leb (length (recorded other turn made)) (length before) ≡ true) × (length (recorded other turn made) ≤ length before)) ⊎ ((leb (length (recorded other turn made)) (length before) ≡ false) × (length before < length (recorded other turn made))) → AreGroups (from + length (recorded other turn made)) w after ((length call.before, recorded w call.step.ended.turn (e ∷ es)) ∷ Groups w calls)
+      by_order : ((leb (length (recorded other turn made)) (length before) ≡ true) × (length (recorded other turn made) ≤ length before)) ⊎ ((leb (length (recorded other turn made)) (length before) ≡ false) × (length before < length (recorded other turn made))) → AreGroups (from + length (recorded other turn made)) w after ((length call.before, recorded w call.turn (e ∷ es)) ∷ Groups w calls)
       by_order (inl (_, within)) =
-          let parts = splits (recorded other turn made) before after (recorded w call.step.ended.turn (e ∷ es) ++ behind) whole within in
+          let parts = splits (recorded other turn made) before after (recorded w call.turn (e ∷ es) ++ behind) whole within in
           let l : length before ≡ length (recorded other turn made ++ parts.0) = ap length parts.1 in
           let p = length-append (recorded other turn made) parts.0 in
           (parts.0, behind, parts.2, omega (arith, l, p, place), (none_in w (recorded other turn made) parts.0 (subst (λ (b : List Record). ours w b ≡ []) parts.1 nothing)).1, more)
       by_order (inr (_, early)) =
-          let parts = splits before (recorded other turn made) (recorded w call.step.ended.turn (e ∷ es) ++ behind) after (sym whole) (omega (arith, early)) in
+          let parts = splits before (recorded other turn made) (recorded w call.turn (e ∷ es) ++ behind) after (sym whole) (omega (arith, early)) in
           let l : length (recorded other turn made) ≡ length (before ++ parts.0) = ap length parts.1 in
           let p = length-append before parts.0 in
           absurd (by_front parts.0 parts.1 parts.2 (omega (arith, l, p, early)))
@@ -101,20 +101,20 @@ module _ (records : List Record) where
     pub is : Some_of calls ≡ call ∷ Some_of others
     pub place : length call.before ≡ from
     pub after : List Record
-    pub whole : rest ≡ recorded w call.step.ended.turn call.made ++ after
-    pub groups : AreGroups (from + length (recorded w call.step.ended.turn call.made)) w after (Groups w others)
+    pub whole : rest ≡ recorded w call.turn call.made ++ after
+    pub groups : AreGroups (from + length (recorded w call.turn call.made)) w after (Groups w others)
     pub stands : StandsIn records call
     pub all : All others
 
   next : (w from : ℕ) (r : Record) (rest : List Record) (calls : List Standing) → r.writer ≡ w → AreGroups from w (r ∷ rest) (Groups w calls) → All calls → Next w from (r ∷ rest) calls
   next w from r rest [] own groups all = absurd (let e : ours w (r ∷ rest) ≡ r ∷ ours w rest = grind (arith, own) in let f : r ∷ ours w rest ≡ [] = sym e ∙ groups in cc)
   next w from r rest (call ∷ calls) own groups all = by_made (λ (g : AreGroups from w (r ∷ rest) (Groups w calls)). next w from r rest calls own g all.1) call.made refl groups where
-    by_made : (AreGroups from w (r ∷ rest) (Groups w calls) → Next w from (r ∷ rest) calls) → (m : List Entry) → m ≡ call.made → AreGroups from w (r ∷ rest) ((length call.before, recorded w call.step.ended.turn m) ∷ Groups w calls) → Next w from (r ∷ rest) (call ∷ calls)
+    by_made : (AreGroups from w (r ∷ rest) (Groups w calls) → Next w from (r ∷ rest) calls) → (m : List Entry) → m ≡ call.made → AreGroups from w (r ∷ rest) ((length call.before, recorded w call.turn m) ∷ Groups w calls) → Next w from (r ∷ rest) (call ∷ calls)
     by_made goes [] is g =
         let found = goes g in
         record { call = found.call; others = found.others; some = found.some; is = without call calls is ∙ found.is; place = found.place; after = found.after; whole = found.whole; groups = found.groups; stands = found.stands; all = found.all }
     by_made goes (e ∷ es) is (before, after, whole, place, nothing, more) = by_before before whole place nothing where
-      by_before : (b : List Record) → r ∷ rest ≡ b ++ (recorded w call.step.ended.turn (e ∷ es) ++ after) → from + length b ≡ length call.before → ours w b ≡ [] → Next w from (r ∷ rest) (call ∷ calls)
+      by_before : (b : List Record) → r ∷ rest ≡ b ++ (recorded w call.turn (e ∷ es) ++ after) → from + length b ≡ length call.before → ours w b ≡ [] → Next w from (r ∷ rest) (call ∷ calls)
       by_before (x ∷ b) same at none = absurd (
           let first : r ≡ x = cc in
           let mine : x.writer ≡ w = ap (λ (y : Record). y.writer) (sym first) ∙ own in
@@ -129,8 +129,8 @@ module _ (records : List Record) where
         is = with_it call calls e es is;
         place = omega (arith, at);
         after = after;
-        whole = subst (λ (m : List Entry). r ∷ rest ≡ recorded w call.step.ended.turn m ++ after) is same;
-        groups = subst (λ (m : List Entry). AreGroups (from + length (recorded w call.step.ended.turn m)) w after (Groups w calls)) is (subst (λ (n : ℕ). AreGroups n w after (Groups w calls)) (omega (arith, at)) more);
+        whole = subst (λ (m : List Entry). r ∷ rest ≡ recorded w call.turn m ++ after) is same;
+        groups = subst (λ (m : List Entry). AreGroups (from + length (recorded w call.turn m)) w after (Groups w calls)) is (subst (λ (n : ℕ). AreGroups n w after (Groups w calls)) (omega (arith, at)) more);
         stands = all.0;
         all = all.1;
       }
@@ -151,7 +151,7 @@ module _ (records : List Record) where
 
   module _ (front : List Record) (r : Record) (rest : List Record) (left : ℕ → List Standing) (whole : records ≡ front ++ (r ∷ rest)) (found : Next r.writer (length front) (r ∷ rest) (left r.writer)) where
     group : List Record
-    group = recorded r.writer found.call.step.ended.turn found.call.made
+    group = recorded r.writer found.call.turn found.call.made
 
     -- it stands right behind what those before it have made
     before_is : found.call.before ≡ entries_in front
@@ -166,7 +166,7 @@ module _ (records : List Record) where
 
     entries_then : entries_in (front ++ group) ≡ entries_in front ++ found.call.made
     unfolding group
-    entries_then = entries_both front group ∙ ap (λ (l : List Entry). entries_in front ++ l) (recorded_entries r.writer found.call.step.ended.turn found.call.made)
+    entries_then = entries_both front group ∙ ap (λ (l : List Entry). entries_in front ++ l) (recorded_entries r.writer found.call.turn found.call.made)
 
     journal_then : entries_in (front ++ group) ≡ journal_after (entries_in front) found.call.step.by found.call.step.call found.call.reply
     journal_then = entries_then ∙ steps.1
@@ -177,9 +177,9 @@ module _ (records : List Record) where
 
     shorter : length found.after < length (r ∷ rest)
     shorter =
-        let l : length (r ∷ rest) ≡ length (recorded r.writer found.call.step.ended.turn found.call.made ++ found.after) = ap length found.whole in
-        let p = length-append (recorded r.writer found.call.step.ended.turn found.call.made) found.after in
-        let q = length_recorded r.writer found.call.step.ended.turn found.call.made in
+        let l : length (r ∷ rest) ≡ length (recorded r.writer found.call.turn found.call.made ++ found.after) = ap length found.whole in
+        let p = length-append (recorded r.writer found.call.turn found.call.made) found.after in
+        let q = length_recorded r.writer found.call.turn found.call.made in
         let s : 0 < length found.call.made = (by_made found.call.made found.some) in
         omega (arith, l, p, q, s)
       where
@@ -194,7 +194,7 @@ module _ (records : List Record) where
       by_writer true e = let is : r.writer ≡ w = grind (arith, e) in subst (λ (n : ℕ). AreGroups (length front + length group) n found.after (Groups n found.others)) is found.groups
       by_writer false e =
           let differs : r.writer ≡ w → ⊥ = grind (arith, e) in
-          past w r.writer found.call.step.ended.turn (length front) found.call.made found.after (left w) differs (subst (λ (l : List Record). AreGroups (length front) w l (Groups w (left w))) found.whole (groups w))
+          past w r.writer found.call.turn (length front) found.call.made found.after (left w) differs (subst (λ (l : List Record). AreGroups (length front) w l (Groups w (left w))) found.whole (groups w))
 
     all_then : ((w : ℕ) → All (left w)) → (w : ℕ) → All (later r.writer found.others left w)
     unfolding later

@@ -6,7 +6,7 @@ use Rattle.pana_shared.specs.Log.{Grows, IsAt, IsOneOf, Lands, LogView}
 use Rattle.pana_shared.proofs.Grown.{at_more, at_within}
 use Rattle.pana_shared_laws.specs.Groups.{AreGroups}
 use Rattle.pana_shared_laws.proofs.Fine.{grown_length}
-use Rattle.pana_shared_laws.proofs.Grouped.{groups_both, groups_skip, groups_slip}
+use Rattle.pana_shared_laws.proofs.Grouped.{groups_both, groups_skip, groups_tail}
 
 module _ (w : ℕ) (records : List Record) where
   -- behind a view there are of the writer what has landed of what was loose, and what later calls make
@@ -94,21 +94,19 @@ module _ (w : ℕ) (records : List Record) where
       laid = subst (λ (l : List Record). AreGroups (length old.records) w (grows.more ++ rest.more) ((old.at, grows.landed) ∷ (at, l) ∷ groups)) is (subst (λ (n : ℕ). AreGroups (length old.records) w (grows.more ++ rest.more) ((old.at, grows.landed) ∷ (n, rest.landed) ∷ groups)) place all);
     }
 
-  -- a call that makes nothing, among the others
-  pub rest_slip : (view : LogView) (at : ℕ) (groups : List (ℕ × List Record)) → Rest view groups → Rest view ((at, []) ∷ groups)
-  rest_slip view at groups rest = record {
+  -- what becomes of groups becomes of those that are left
+  pub rest_tail : (view : LogView) (gs hs : List (ℕ × List Record)) → ((from : ℕ) (xs : List Record) → AreGroups from w xs gs → AreGroups from w xs hs) → Rest view gs → Rest view hs
+  rest_tail view gs hs become rest = record {
     more = rest.more;
     is = rest.is;
     landed = rest.landed;
     lands = rest.lands;
-    laid = groups_slip w ((view.at, rest.landed) ∷ []) (length view.records) rest.more at groups rest.laid;
+    laid = groups_tail w ((view.at, rest.landed) ∷ []) gs hs become (length view.records) rest.more rest.laid;
   }
 
+  -- a call that makes nothing, among the others
+  pub rest_slip : (view : LogView) (at : ℕ) (groups : List (ℕ × List Record)) → Rest view groups → Rest view ((at, []) ∷ groups)
+  rest_slip view at groups rest = rest_tail view groups ((at, []) ∷ groups) (λ from xs same. same) rest
+
   pub rest_unslip : (view : LogView) (at : ℕ) (groups : List (ℕ × List Record)) → Rest view ((at, []) ∷ groups) → Rest view groups
-  rest_unslip view at groups rest = record {
-    more = rest.more;
-    is = rest.is;
-    landed = rest.landed;
-    lands = rest.lands;
-    laid = groups_skip w ((view.at, rest.landed) ∷ []) (length view.records) rest.more at groups rest.laid;
-  }
+  rest_unslip view at groups rest = rest_tail view ((at, []) ∷ groups) groups (λ from xs same. same) rest

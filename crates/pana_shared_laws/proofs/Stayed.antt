@@ -31,4 +31,4 @@ module _ (is_known : Bool) (known : IsTrue is_known) (w : ℕ) (old : List Entry
   rest_stays records groups rest =
       rest_call w turn records seen_old seen_new (length new) groups rest
       (λ alive one. (let was = still_loose w old before seen_old fine new turn seen_new stays.goes_on later grown_stays (stays.follows known) alive rest.landed one in (was.0, was.1)))
-      [] (stays.own known) (came w old before seen_old fine turn new [] seen_new.records (stays.own known) stays.goes_on (λ some. absurd (some refl)) (λ some. absurd (some refl))) (λ some. absurd (some refl))
+      [] (stays.own known) (came w old before seen_old fine new [] seen_new.records (stays.own known) stays.goes_on tt tt (λ some. absurd (some refl))) (λ some. absurd (some refl))

@@ -2,8 +2,12 @@ pub mod Placed
 pub mod Found
 pub mod Followed
 pub mod Readied
+pub mod Gathered
+pub mod Chained
+pub mod Grouped
 pub mod Shortage
 pub mod Made
 pub mod Tried
+pub mod Together
 pub mod Filled
 pub mod Strange

@@ -22,7 +22,11 @@ pub before_more : (turn : ℕ) (xs : List Record) → AreBefore turn xs → AreB
 before_more turn [] all = all
 before_more turn (x ∷ xs) (is, all) = (omega (arith, is), before_more turn xs all)
 
-before_at : (turn : ℕ) (front back : List Record) (r : Record) → AreBefore turn (front ++ (r ∷ back)) → r.turn < turn
+pub before_mono : (turn later : ℕ) (xs : List Record) → turn ≤ later → AreBefore turn xs → AreBefore later xs
+before_mono turn later [] within all = tt
+before_mono turn later (x ∷ xs) within (is, all) = (omega (arith, within, is), before_mono turn later xs within all)
+
+pub before_at : (turn : ℕ) (front back : List Record) (r : Record) → AreBefore turn (front ++ (r ∷ back)) → r.turn < turn
 before_at turn [] back r (is, all) = is
 before_at turn (x ∷ front) back r (is, all) = before_at turn front back r all
 
@@ -30,7 +34,7 @@ pub recorded_before : (writer turn : ℕ) (entries : List Entry) → AreBefore (
 recorded_before writer turn [] = tt
 recorded_before writer turn (e ∷ entries) = (omega arith, recorded_before writer turn entries)
 
-recorded_own : (writer w turn : ℕ) (entries : List Entry) → writer ≡ w → AllByRecursion (λ r. r.writer ≡ w) (recorded writer turn entries)
+pub recorded_own : (writer w turn : ℕ) (entries : List Entry) → writer ≡ w → AllByRecursion (λ r. r.writer ≡ w) (recorded writer turn entries)
 recorded_own writer w turn [] is = tt
 recorded_own writer w turn (e ∷ entries) is = (is, recorded_own writer w turn entries is)
 

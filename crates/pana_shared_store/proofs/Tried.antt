@@ -19,8 +19,8 @@ use Rattle.pana_shared.specs.Log.{Follows, Grows, HaveSome, IsAt, IsOneOf, LogVi
 use Rattle.pana_shared.proofs.Grown.{at_within, grows_on, one_of_kept}
 use Rattle.pana_shared_store.specs.declared.making.Tried.TheVariants.{Made, Behind, Not}
 use Rattle.pana_shared_store.specs.declared.trying.Attempt.TheVariants.{Answered}
-use Rattle.pana_shared_store.specs.Store.{AreFirst, Becomes, GoesOn, MakesBy, MakesOn, StaysOn, TriesBy, TriesOn, asks_all, entries_in, recorded}
-use Rattle.pana_shared_store.specs.inner.{AreBefore, Attempts, IsReady, IsStore, LooksOn, TriesNone, TriesTo}
+use Rattle.pana_shared_store.specs.Store.{AreFirst, Becomes, GoesOn, MakesBy, MakesOn, StaysOn, TriesBy, TriesOn, asks_all, entries_in, recorded, recorded_all}
+use Rattle.pana_shared_store.specs.inner.{AreBefore, Attempts, IsReady, IsStore, LooksOn, TriesNone, TriesOne, TriesTo}
 use Rattle.pana_shared_store.proofs.Followed.{looks_none, looks_page, reads_none, reads_on}
 use Rattle.pana_shared_store.proofs.Placed.{looked_on}
 use Rattle.pana_shared_store.proofs.Readied.{goes_on_within, put_before, ready_looked}
@@ -30,7 +30,7 @@ same_goes_on old new same = ([], same ∙ sym (append-nil old))
 
 module _ (is_known : Bool) (turn : ℕ) (old new : List Entry) (before after : LogView) (by : List ℕ) (call : Call) (store : IsTrue is_known → IsStore new turn after) where
   -- nothing is known of it
-  pub tried_none : TriesNone is_known turn old before by call new after → TriesOn is_known turn old before by call new after
+  pub tried_none : TriesNone is_known turn old before by call new after → TriesOne is_known turn old before by call new after
   tried_none tries = record {
     goes_on = same_goes_on old new tries.same;
     reply = tries.reply;
@@ -81,7 +81,7 @@ followed_some old mid new (r ∷ page) same is some =
     let s : length mid ≡ length old = ap length same in
     omega (arith, l, p, s)
 
-within : (old : LogView) (made records : List Record) → Grows old made records → length old.records ≤ length records
+pub within : (old : LogView) (made records : List Record) → Grows old made records → length old.records ≤ length records
 within old made records grows =
     let l : length records ≡ length (old.records ++ grows.more) = ap length grows.longer in
     let p : length (old.records ++ grows.more) ≡ length old.records + length grows.more = length-append old.records grows.more in
@@ -176,7 +176,7 @@ behind_looks is_known turn old mid new before between by call page taken left st
 
 -- ---- the tries behind
 
-follows_on : (old mid new : LogView) → length mid.records ≤ length new.records → Follows old mid → Follows mid new → Follows old new
+pub follows_on : (old mid new : LogView) → length mid.records ≤ length new.records → Follows old mid → Follows mid new → Follows old new
 follows_on old mid new grown (same, early) (same_later, later) = (same_later ∙ same, by_both early later) where
   by_both : ((mid.at < length mid.records) ⊎ ((mid.at ≡ old.at) × ((group : List Record) → IsOneOf group mid.loose → IsOneOf group old.loose))) → ((new.at < length new.records) ⊎ ((new.at ≡ mid.at) × ((group : List Record) → IsOneOf group new.loose → IsOneOf group mid.loose)))
       → (new.at < length new.records) ⊎ ((new.at ≡ old.at) × ((group : List Record) → IsOneOf group new.loose → IsOneOf group old.loose))
@@ -184,7 +184,7 @@ follows_on old mid new grown (same, early) (same_later, later) = (same_later ∙
   by_both (inl dead) (inr (place, some)) = inl (omega (arith, dead, place, grown))
   by_both (inr (place, some)) (inr (place_later, fewer)) = inr (place_later ∙ place, λ group one. some group (fewer group one))
 
-goes_both : (old mid new : List Entry) → GoesOn old mid → GoesOn mid new → GoesOn old new
+pub goes_both : (old mid new : List Entry) → GoesOn old mid → GoesOn mid new → GoesOn old new
 goes_both old mid new (first, is) (second, is_later) = (first ++ second, is_later ∙ ap (λ (l : List Entry). l ++ second) is ∙ append_assoc old first second)
 
 module _ (is_known : Bool) (turn : ℕ) (old mid new : List Entry) (before between after : LogView) (by : List ℕ) (call : Call) (some : IsTrue is_known → HaveSome before.loose) (stays : StaysOn is_known old before mid between) where
@@ -218,7 +218,7 @@ module _ (is_known : Bool) (turn : ℕ) (old mid new : List Entry) (before betwe
     follows = λ known. follows_on before between after (within between [] after.records (later.own known)) (stays.follows known) (later.follows known);
   }
 
-  pub tries_on : TriesOn is_known turn mid between by call new after → TriesOn is_known turn old before by call new after
+  pub tries_on : TriesOne is_known turn mid between by call new after → TriesOne is_known turn old before by call new after
   tries_on tries = record {
     goes_on = goes_both old mid new stays.goes_on tries.goes_on;
     reply = tries.reply;
@@ -253,6 +253,10 @@ module _ (is_known : Bool) (turn : ℕ) (old mid new : List Entry) (before betwe
 pub stays_none : (is_known : Bool) (entries : List Entry) (view : LogView) → (IsTrue is_known → AreFirst entries view.records) → StaysOn is_known entries view entries view
 stays_none is_known entries view first = record { goes_on = same_goes_on entries entries refl; first = first; own = λ known. (reads_none view).grows; follows = λ known. (refl, inr (refl, λ group one. one)) }
 
+pub stays_same : (is_known : Bool) (entries new : List Entry) (before after : LogView) → new ≡ entries → after ≡ before → (IsTrue is_known → AreFirst new after.records) → StaysOn is_known entries before new after
+stays_same is_known entries new before after same even first =
+    subst (λ (l : List Entry). StaysOn is_known l before new after) same (subst (λ (v : LogView). StaysOn is_known new v new after) even (stays_none is_known new after first))
+
 -- a question makes no entry
 pub asks_nothing : (journal : List Entry) (by : List ℕ) (query : Query) (reply : Reply) → journal_after journal by (calls.Query query) reply ≡ journal
 unfolding journal_after
@@ -282,16 +286,32 @@ asked_made is_known is_stale turn old mid new before after by query reply looks 
   };
 }
 
+-- a call alone is a list of one
+module _ (is_known : Bool) (turn : ℕ) (old new : List Entry) (seen_old seen_new : LogView) (by : List ℕ) (call : Call) where
+  tried_one : TriesOne is_known turn old seen_old by call new seen_new → TriesOn is_known turn old seen_old (record { by = by; call = call } ∷ []) new seen_new
+  tried_one tries = record {
+    goes_on = tries.goes_on;
+    asked = tries.asked ∷ [];
+    made = (tries.reply, tries.steps, tt);
+    first = tries.first;
+    own = λ known. subst (λ (l : List Record). Grows seen_old [] seen_new.records ⊎ (Grows seen_old l seen_new.records × IsAt (length new) l seen_new.records)) (sym alone) (tries.own known);
+    place = tries.place;
+    writer = tries.writer;
+    loose = λ known alive group one. subst (λ (l : List Record). ((seen_new.at ≡ seen_old.at) × IsOneOf group seen_old.loose) ⊎ (group ≡ l)) (sym alone) (tries.loose known alive group one);
+  } where
+    alone : recorded_all seen_old.writer turn (tries.asked ∷ []) ≡ recorded seen_old.writer turn tries.asked
+    alone = append-nil (recorded seen_old.writer turn tries.asked)
+
 -- what a call that has a turn of its own comes to
 module _ (is_known : Bool) (before turn : ℕ) (later : before < turn) (old new : List Entry) (seen_old seen_new : LogView) (by : List ℕ) (call : Call) where
   pub made_by : (r : Result Answer ReadFault) → IfOk r (λ answer. MakesOn is_known false turn old seen_old by call answer new seen_new) → IfOk r (λ answer. MakesBy is_known false before turn old seen_old by call answer new seen_new)
   made_by (Ok answer) makes = record { on = makes; later = inr later }
   made_by (Err fault) makes = tt
 
-  pub tried_by : (r : Result Answer ReadFault) → OnErr r (StaysOn is_known old seen_old new seen_new ⊎ TriesOn is_known turn old seen_old by call new seen_new) → OnErr r (StaysOn is_known old seen_old new seen_new ⊎ TriesBy is_known before turn old seen_old by call new seen_new)
+  pub tried_by : (r : Result Answer ReadFault) → OnErr r (StaysOn is_known old seen_old new seen_new ⊎ TriesOne is_known turn old seen_old by call new seen_new) → OnErr r (StaysOn is_known old seen_old new seen_new ⊎ TriesBy is_known before turn old seen_old (record { by = by; call = call } ∷ []) new seen_new)
   tried_by (Ok answer) on = tt
   tried_by (Err fault) (inl stays) = inl stays
-  tried_by (Err fault) (inr tries) = inr (record { on = tries; later = later })
+  tried_by (Err fault) (inr tries) = inr (record { from = turn; on = tried_one is_known turn old new seen_old seen_new by call tries; later = later; until = omega arith })
 
 -- what is made behind all that the log had is so by a stale store too
 pub made_behind : (is_known is_stale : Bool) (before turn : ℕ) (old new : List Entry) (seen_old seen_new : LogView) (by : List ℕ) (call : Call) (r : Result Answer ReadFault) → IfOk r (λ answer. MakesBy is_known false before turn old seen_old by call answer new seen_new)

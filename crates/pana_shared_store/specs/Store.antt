@@ -5,6 +5,7 @@ use Rattle.pana_calls.specs.declared.answer.Answer.{Answer}
 use Rattle.pana_calls.specs.declared.answer.Answer.TheVariants.{Given, NotKept}
 use Rattle.pana_calls.specs.declared.call.Call.{Call}
 use Rattle.pana_calls.specs.declared.call.Call.TheVariants as calls
+use Rattle.pana_calls.specs.declared.message.Message.{Message}
 use Rattle.pana_calls.specs.declared.reply.Reply.{Reply}
 use Rattle.pana_hall.specs.Permit.{Permits, journal_after}
 use Rattle.pana_hall.specs.Refusal.{refusal}
@@ -47,6 +48,18 @@ entries_in records = map (λ r. r.entry) records
 -- entries as the records of a writer's call
 abbrev pub recorded : ℕ → ℕ → List Entry → List Record
 recorded writer turn entries = map (λ entry. record { entry = entry; writer = writer; turn = turn }) entries
+
+-- calls as a hall alone makes them behind a journal, one behind another, and the entries that each makes
+abbrev pub AreMade : List Entry → List Message → List (List Entry) → Type 0
+AreMade at [] [] = Unit {0}
+AreMade at [] (made ∷ groups) = ⊥
+AreMade at (message ∷ messages) [] = ⊥
+AreMade at (message ∷ messages) (made ∷ groups) = (reply : Reply) × Steps at message.by message.call reply (at ++ made) × AreMade (at ++ made) messages groups
+
+-- what each makes as records of a writer: each call's are of a turn of its own, the first one's of this
+abbrev pub recorded_all : ℕ → ℕ → List (List Entry) → List Record
+recorded_all writer turn [] = []
+recorded_all writer turn (made ∷ groups) = recorded writer turn made ++ recorded_all writer (turn + 1) groups
 
 -- the entries are those of the log's first records
 abbrev pub AreFirst : List Entry → List Record → Type 0
@@ -94,28 +107,30 @@ pub record StaysOn (is_known : Bool) (old : List Entry) (seen_old : LogView) (ne
   pub own : IsTrue is_known → Grows seen_old [] seen_new.records
   pub follows : IsTrue is_known → Follows seen_old seen_new
 
--- A call that was asked for, behind what the store knows then, and of which it isn't known whether it was made: if it was, or ever
--- will be, it is as by a hall alone, and right behind what the store knows.
-pub record TriesOn (is_known : Bool) (turn : ℕ) (old : List Entry) (seen_old : LogView) (by : List ℕ) (call : Call) (new : List Entry) (seen_new : LogView) : Type 0 where
+-- Calls that were asked for at once, behind what the store knows then, and of which it isn't known whether they were made: if they were,
+-- or ever will be, all of them are, as by a hall alone, and right behind what the store knows, the first one as of this turn.
+pub record TriesOn (is_known : Bool) (turn : ℕ) (old : List Entry) (seen_old : LogView) (calls : List Message) (new : List Entry) (seen_new : LogView) : Type 0 where
   pub goes_on : GoesOn old new
-  pub reply : Reply
-  pub asked : List Entry
-  pub steps : Steps new by call reply (new ++ asked)
+  pub asked : List (List Entry)
+  pub made : AreMade new calls asked
   pub first : IsTrue is_known → AreFirst new seen_new.records
-  pub own : IsTrue is_known → Grows seen_old [] seen_new.records ⊎ (Grows seen_old (recorded seen_old.writer turn asked) seen_new.records × IsAt (length new) (recorded seen_old.writer turn asked) seen_new.records)
+  pub own : IsTrue is_known → Grows seen_old [] seen_new.records ⊎ (Grows seen_old (recorded_all seen_old.writer turn asked) seen_new.records × IsAt (length new) (recorded_all seen_old.writer turn asked) seen_new.records)
   pub place : IsTrue is_known → seen_new.at ≡ length new
   pub writer : IsTrue is_known → seen_new.writer ≡ seen_old.writer
-  -- what may still be put is what might have been before, or what the call makes
-  pub loose : IsTrue is_known → length seen_new.records ≤ seen_new.at → (group : List Record) → IsOneOf group seen_new.loose → ((seen_new.at ≡ seen_old.at) × IsOneOf group seen_old.loose) ⊎ (group ≡ recorded seen_old.writer turn asked)
+  -- what may still be put is what might have been before, or what the calls make
+  pub loose : IsTrue is_known → length seen_new.records ≤ seen_new.at → (group : List Record) → IsOneOf group seen_new.loose → ((seen_new.at ≡ seen_old.at) × IsOneOf group seen_old.loose) ⊎ (group ≡ recorded_all seen_old.writer turn asked)
 
 -- The same, by a turn that is behind the one before, if it makes entries: so no record is another call's.
 pub record MakesBy (is_known is_stale : Bool) (before turn : ℕ) (old : List Entry) (seen_old : LogView) (by : List ℕ) (call : Call) (answer : Answer) (new : List Entry) (seen_new : LogView) : Type 0 where
   pub on : MakesOn is_known is_stale turn old seen_old by call answer new seen_new
   pub later : (on.made ≡ []) ⊎ (before < turn)
 
-pub record TriesBy (is_known : Bool) (before turn : ℕ) (old : List Entry) (seen_old : LogView) (by : List ℕ) (call : Call) (new : List Entry) (seen_new : LogView) : Type 0 where
-  pub on : TriesOn is_known turn old seen_old by call new seen_new
-  pub later : before < turn
+-- The same of calls that were asked for at once: the first one's turn is behind the one before, and the last one's is this at most.
+pub record TriesBy (is_known : Bool) (before turn : ℕ) (old : List Entry) (seen_old : LogView) (calls : List Message) (new : List Entry) (seen_new : LogView) : Type 0 where
+  pub from : ℕ
+  pub on : TriesOn is_known from old seen_old calls new seen_new
+  pub later : before < from
+  pub until : from + length calls ≤ turn + 1
 
 -- the same of a store
 pub record Makes (is_known : Bool) (old : StoreView) (by : List ℕ) (call : Call) (answer : Answer) (new : StoreView) : Type 0 where
@@ -132,16 +147,16 @@ pub record Opens (is_known : Bool) (log : LogView) (store : StoreView) : Type 0 
   pub turn : store.turn ≡ 0
   pub whole : store.broken ≡ false
 
--- a call that has no answer, by a store that isn't broken
-pub record MakesNone (is_known : Bool) (old : StoreView) (by : List ℕ) (call : Call) (new : StoreView) : Type 0 where
-  pub on : StaysOn is_known old.entries old.seen new.entries new.seen ⊎ TriesBy is_known old.turn new.turn old.entries old.seen by call new.entries new.seen
+-- calls that have no answers, by a store that isn't broken: one, or more that were asked for at once
+pub record MakesNone (is_known : Bool) (old : StoreView) (calls : List Message) (new : StoreView) : Type 0 where
+  pub on : StaysOn is_known old.entries old.seen new.entries new.seen ⊎ TriesBy is_known old.turn new.turn old.entries old.seen calls new.entries new.seen
   pub turn : old.turn ≤ new.turn
   pub whole : old.broken ≡ false
   pub stale : new.is_stale ≡ old.is_stale
 
--- a call that has no answer: of a store that is broken nothing changes any more
-abbrev pub Fails : Bool → StoreView → List ℕ → Call → StoreView → Type 0
-Fails is_known old by call new = ((old.broken ≡ true) × (new ≡ old)) ⊎ MakesNone is_known old by call new
+-- calls that have no answers: of a store that is broken nothing changes any more
+abbrev pub Fails : Bool → StoreView → List Message → StoreView → Type 0
+Fails is_known old calls new = ((old.broken ≡ true) × (new ≡ old)) ⊎ MakesNone is_known old calls new
 
 -- no hall alone makes the entry behind the journal
 abbrev pub IsStrange : List Entry → Entry → Type 0

@@ -1,4 +1,5 @@
 -- Words that only inner functions and proofs need: nobody has to believe them.
+pub mod Groups
 use Rattle.std.specs.Prelude.{◌≡◌, ◌≢◌, ◌⊎◌, ◌<◌, ◌≤◌, ◌+◌, ℕ, Bool, IsTrue, List, [], ◌∷◌, ◌++◌, length}
 use Rattle.std.specs.List.{AllByRecursion}
 use Rattle.pana_journal.specs.declared.entry.Entry.{Entry}
@@ -99,6 +100,18 @@ pub record MakesLate (is_known : Bool) (turn : ℕ) (old : List Entry) (seen_old
   pub own : IsTrue is_known → Grows seen_old (recorded seen_old.writer turn made) seen_new.records
   pub stands : IsTrue is_known → made ≢ [] → IsAt (length at) (recorded seen_old.writer turn made) seen_new.records
   pub follows : IsTrue is_known → Follows seen_old seen_new
+
+-- A call that was asked for, behind what the store knows then, and of which it isn't known whether it was made.
+pub record TriesOne (is_known : Bool) (turn : ℕ) (old : List Entry) (seen_old : LogView) (by : List ℕ) (call : Call) (new : List Entry) (seen_new : LogView) : Type 0 where
+  pub goes_on : GoesOn old new
+  pub reply : Reply
+  pub asked : List Entry
+  pub steps : Steps new by call reply (new ++ asked)
+  pub first : IsTrue is_known → AreFirst new seen_new.records
+  pub own : IsTrue is_known → Grows seen_old [] seen_new.records ⊎ (Grows seen_old (recorded seen_old.writer turn asked) seen_new.records × IsAt (length new) (recorded seen_old.writer turn asked) seen_new.records)
+  pub place : IsTrue is_known → seen_new.at ≡ length new
+  pub writer : IsTrue is_known → seen_new.writer ≡ seen_old.writer
+  pub loose : IsTrue is_known → length seen_new.records ≤ seen_new.at → (group : List Record) → IsOneOf group seen_new.loose → ((seen_new.at ≡ seen_old.at) × IsOneOf group seen_old.loose) ⊎ (group ≡ recorded seen_old.writer turn asked)
 
 -- What has come of one try: the call has its answer, behind all that the log had when the try began, unless enough was read before it;
 -- or others' entries have come, one at least, and are followed, so it may be tried again, and enough is read then, or maybe not.

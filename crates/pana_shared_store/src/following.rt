@@ -21,7 +21,7 @@ const MOST_PAGES: u32 = 1_000_000;
 /// # Errors
 ///
 /// `Foreign` where it can't be the next one of a journal; `OutOfMemory`. The hall is as it was.
-fn follow(alloc: Global, hall: &mut Hall, entry: &Entry) -> Result<(), ReadFault>
+pub(crate) fn follow(alloc: Global, hall: &mut Hall, entry: &Entry) -> Result<(), ReadFault>
     ensures ok { OnOk result (hall.new ≡ hall.old ++ entry.now ∷ []) }
     ensures err { OnErr result (hall.new ≡ hall.old) }
     ensures why { IfErr result (λ fault. FollowsNot fault hall.old entry.now) }

@@ -27,7 +27,7 @@ pub(crate) enum Tried {
 }
 
 /// The entries of a call as records.
-fn group_of(
+pub(crate) fn group_of(
     alloc: Global,
     writer: u64,
     turn: u64,

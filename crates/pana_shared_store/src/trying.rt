@@ -1,7 +1,7 @@
 //! A call that is made behind all that the log has, try after try.
 ghost use Rattle.std.specs.Prelude.{◌≤◌, ◌⊎◌, false, IsTrue, IfErr, IfOk, OnErr, length};
-ghost use Rattle.pana_shared_store.specs.Store.{MakesOn, StaysOn, TriesOn, Why};
-ghost use Rattle.pana_shared_store.specs.inner.{Attempts, IsReady, IsStore};
+ghost use Rattle.pana_shared_store.specs.Store.{MakesOn, StaysOn, Why};
+ghost use Rattle.pana_shared_store.specs.inner.{Attempts, IsReady, IsStore, TriesOne};
 
 use crate::following::{follow_page, read_on};
 use crate::making::{Tried, try_to_make};
@@ -42,7 +42,7 @@ fn attempt_once<L: SharedLog>(
     requires ready { IsTrue L.is_known → IsReady turn hall.old (L.seen log.old) }
     ensures store { IsTrue L.is_known → IsStore hall.new turn (L.seen log.new) }
     ensures ok { IfOk result (λ done. Attempts L.is_known turn is_read hall.old (L.seen log.old) by.now call done hall.new (L.seen log.new)) }
-    ensures err { OnErr result (StaysOn L.is_known hall.old (L.seen log.old) hall.new (L.seen log.new) ⊎ TriesOn L.is_known turn hall.old (L.seen log.old) by.now call hall.new (L.seen log.new)) }
+    ensures err { OnErr result (StaysOn L.is_known hall.old (L.seen log.old) hall.new (L.seen log.new) ⊎ TriesOne L.is_known turn hall.old (L.seen log.old) by.now call hall.new (L.seen log.new)) }
     ensures heard { IsTrue L.is_known → L.silences log.new ≤ L.silences log.old }
     ensures why { IfErr result (λ fault. IsTrue L.is_known → Why fault 0 hall.old (L.silences log.old) hall.new (L.seen log.new).records (L.silences log.new)) }
 {
@@ -92,7 +92,7 @@ pub(crate) fn make<L: SharedLog>(
     requires ready { IsTrue L.is_known → IsReady turn hall.old (L.seen log.old) }
     ensures store { IsTrue L.is_known → IsStore hall.new turn (L.seen log.new) }
     ensures ok { IfOk result (λ answer. MakesOn L.is_known false turn hall.old (L.seen log.old) by.now call.now answer hall.new (L.seen log.new)) }
-    ensures err { OnErr result (StaysOn L.is_known hall.old (L.seen log.old) hall.new (L.seen log.new) ⊎ TriesOn L.is_known turn hall.old (L.seen log.old) by.now call.now hall.new (L.seen log.new)) }
+    ensures err { OnErr result (StaysOn L.is_known hall.old (L.seen log.old) hall.new (L.seen log.new) ⊎ TriesOne L.is_known turn hall.old (L.seen log.old) by.now call.now hall.new (L.seen log.new)) }
     ensures why { IfErr result (λ fault. IsTrue L.is_known → Why fault 0 hall.old (L.silences log.old) hall.new (L.seen log.new).records (L.silences log.new)) }
 {
     let mut is_read = false;

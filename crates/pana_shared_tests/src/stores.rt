@@ -6,10 +6,10 @@ ghost use Rattle.pana_shared_tests.specs.Memory.{seen_of};
 
 use crate::life::live;
 use crate::memory::{Fate, MemoryShared, Moment};
-use pana_calls::{NoAnswer, Session};
+use pana_calls::{Message, NoAnswer, Session};
 use pana_shared::{ReadFault, Record};
 use pana_shared_store::SharedStore;
-use pana_wire::{Message, decode, decode_dump, encode_answer};
+use pana_wire::{decode, decode_dump, encode_answer};
 use std::alloc::Global;
 use std::collections::VecDeque;
 use std::test::Fail;
@@ -20,25 +20,27 @@ const WRITER: u64 = 1;
 const OTHER: u64 = 2;
 
 /// A moment at which nobody appends; and one at which the group that was asked for last lands.
-const QUIET: &str = "";
+pub(crate) const QUIET: &str = "";
 
-const LANDS: &str = "lands";
+pub(crate) const LANDS: &str = "lands";
 
-const REGISTER_P: &str = "{\"by\":\"a\",\"device\":\"a\",\"do\":\"register\",\"path\":\"p\"}";
+pub(crate) const REGISTER_P: &str =
+    "{\"by\":\"a\",\"device\":\"a\",\"do\":\"register\",\"path\":\"p\"}";
 
-const REGISTER_Q: &str = "{\"by\":\"a\",\"device\":\"a\",\"do\":\"register\",\"path\":\"q\"}";
+pub(crate) const REGISTER_Q: &str =
+    "{\"by\":\"a\",\"device\":\"a\",\"do\":\"register\",\"path\":\"q\"}";
 
-const EDIT: &str = "{\"by\":\"a\",\"copy\":2,\"do\":\"edit\"}";
+pub(crate) const EDIT: &str = "{\"by\":\"a\",\"copy\":2,\"do\":\"edit\"}";
 
 const DUPLICATE: &str =
     "{\"by\":\"b\",\"copy\":1,\"device\":\"b\",\"do\":\"duplicate\",\"path\":\"p\"}";
 
-const JOURNAL: &str = "{\"by\":\"a\",\"do\":\"journal\",\"from\":1}";
+pub(crate) const JOURNAL: &str = "{\"by\":\"a\",\"do\":\"journal\",\"from\":1}";
 
-const DUMP_P: &str =
+pub(crate) const DUMP_P: &str =
     "{\"entries\":[{\"by\":\"a\",\"device\":\"a\",\"do\":\"register\",\"number\":1,\"path\":\"p\"}]}";
 
-const DUMP_Q: &str =
+pub(crate) const DUMP_Q: &str =
     "{\"entries\":[{\"by\":\"a\",\"device\":\"a\",\"do\":\"register\",\"number\":1,\"path\":\"q\"}]}";
 
 const DUMP_DUPLICATE: &str =
@@ -49,7 +51,7 @@ const DUMP_EDIT: &str = "{\"entries\":[{\"by\":\"a\",\"copy\":2,\"do\":\"edit\",
 /// An entry that no hall makes: there is no copy 7.
 const DUMP_FOREIGN: &str = "{\"entries\":[{\"by\":\"b\",\"copy\":7,\"do\":\"edit\",\"number\":1}]}";
 
-const TAKEN: &str = "{\"code\":6,\"copy\":1,\"refused\":\"PlaceTaken\"}\n";
+pub(crate) const TAKEN: &str = "{\"code\":6,\"copy\":1,\"refused\":\"PlaceTaken\"}\n";
 
 /// The entries of a dump as another writer's records.
 fn records_of(alloc: Global, dump: &str) -> Result<Vec<Record>, Fail> {
@@ -69,7 +71,7 @@ fn records_of(alloc: Global, dump: &str) -> Result<Vec<Record>, Fail> {
 }
 
 /// A log on which others' records stand already, with a moment for each of the calls to come, and what comes of its appends.
-fn log_of(
+pub(crate) fn log_of(
     alloc: Global,
     before: &str,
     moments: &[&str],

@@ -3,9 +3,9 @@
 
 use crate::memory::Fate;
 use crate::one_list::{ListLog, OneList};
-use pana_calls::{NoAnswer, Session};
+use pana_calls::{Message, NoAnswer, Session};
 use pana_shared_store::SharedStore;
-use pana_wire::{Message, decode, encode_answer};
+use pana_wire::{decode, encode_answer};
 use std::alloc::Global;
 use std::cell::RefCell;
 use std::collections::VecDeque;

@@ -1,9 +1,10 @@
 -- What a crash leaves of a session whose calls are kept in groups, at any moment, and from then on at which a line that acknowledges
 -- an entry was written.
-use Rattle.std.proofs.Common.{◌≡◌, ℕ, ◌≤◌, ◌<◌, ◌^◌, Bool, IsTrue, List, [], ◌∷◌, ◌++◌, ◌⊎◌, inl, inr, ⊎_elim, length, Option, Result, refl, sym, ap, subst, ◌∙◌, append-nil, append_assoc, length-append, arith}
+use Rattle.std.proofs.Common.{◌≡◌, ℕ, ◌≤◌, ◌<◌, ◌^◌, Bool, IsTrue, List, [], ◌∷◌, ◌++◌, ◌⊎◌, inl, inr, ⊎_elim, length, Option, Result, refl, sym, ap, subst, ◌∙◌, append-nil, append_assoc, length-append, arith, false}
 use Rattle.std.specs.Prelude.{IfOk, IfErr}
 use Rattle.std.proofs.lemmas.List.{append_cancel_left}
 use Rattle.pana_journal.specs.declared.entry.Entry.{Entry}
+use Rattle.pana_calls.specs.Session.{alone}
 use Rattle.pana_calls.specs.declared.call.Call.{Call}
 use Rattle.pana_calls.specs.declared.call.Call.TheVariants.{Report, Sighting, Query}
 use Rattle.pana_calls.specs.declared.reply.Reply.{Reply}
@@ -53,7 +54,7 @@ module _ {D : Type 0} (is_known : Bool) (seen : D → List ℕ) (may_leave : D �
   Session contents a b old new = Wrote contents Step Fails So Off Moment a b old new
 
   pub wrote_of : {R W : Type 0} (remaining : R → Option (List ℕ)) (contents : W → Option (List ℕ)) (most : ℕ) (r s : Tap R) (a b : Tap W) (old new : StoreView D) (result : Result Served ServeFault) → IfOk result (ServesGroups remaining contents Step So Moment r s a b old new)
-      → IfErr result (λ fault. NeverBegins r s a b old new fault ⊎ StopsGroups remaining contents Step Fails So Off Moment most r s a b old new fault) → Session contents a b old new
+      → IfErr result (λ fault. NeverBegins r s a b old new fault ⊎ StopsGroups remaining contents Step false (alone Fails) So Off Moment most r s a b old new fault) → Session contents a b old new
   wrote_of remaining contents most r s a b old new result ok err = wrote contents Step Fails So Off Moment a b remaining most r s old new result ok err
 
   module _ (known : IsTrue is_known) (only_now : (d : D) (c : List ℕ) → left_since d (moment d) c → may_leave d c) where
@@ -176,7 +177,7 @@ module _ {D : Type 0} (is_known : Bool) (seen : D → List ℕ) (may_leave : D �
         (λ took. absurd (off.broken took.0))
         so.takes
 
-    no_fail : {A : Type 0} (s mid new : StoreView D) (lines : List (List ℕ)) → Good s → FailsNext Fails s lines mid → So mid new → A
+    no_fail : {A : Type 0} (s mid new : StoreView D) (lines : List (List ℕ)) → Good s → FailsNext false (alone Fails) s lines mid → So mid new → A
     no_fail s mid new [] good none so = absurd none
     no_fail s mid new (line ∷ lines) good (m, says, (makes, inl (shut, same))) so = absurd (shut good.works)
     no_fail s mid new (line ∷ lines) good (m, says, (makes, inr off)) so = not_off s mid new off so
@@ -185,11 +186,11 @@ module _ {D : Type 0} (is_known : Bool) (seen : D → List ℕ) (may_leave : D �
     abbrev Further : StoreView D → StoreView D → Type 0
     Further s mid = Good mid × (length s.entries ≤ length mid.entries)
 
-    lost_further : (s mid : StoreView D) (lines : List (List ℕ)) → Good s → LosesNext Step s lines mid → Further s mid
+    lost_further : (s mid : StoreView D) (lines : List (List ℕ)) → Good s → LosesNext Step false (alone Fails) s lines mid → Further s mid
     lost_further s mid [] good lost = absurd lost
     lost_further s mid (line ∷ lines) good (m, answer, says, step) = (good_step s m.by m.call answer mid good step, grows s m.by m.call answer mid step)
 
-    further : (s mid new : StoreView D) (lines : List (List ℕ)) → Good s → MayCallNext Step Fails s lines mid → So mid new → Further s mid
+    further : (s mid new : StoreView D) (lines : List (List ℕ)) → Good s → MayCallNext Step false (alone Fails) s lines mid → So mid new → Further s mid
     further s mid new lines good (inl same) so = subst (Further s) (sym same) (good, omega arith)
     further s mid new lines good (inr (inl lost)) so = lost_further s mid lines good lost
     further s mid new lines good (inr (inr none)) so = no_fail s mid new lines good none so
@@ -202,7 +203,7 @@ module _ {D : Type 0} (is_known : Bool) (seen : D → List ℕ) (may_leave : D �
         let (count, least, within, loads) = run.keeps.each c left in
         (count, omega (arith, le, least, ap length so.kept, ap length so.entries), within, loads)
 
-    kept_last : (new s mid : StoreView D) (lines : List (List ℕ)) (n : ℕ) → Good s → MayCallNext Step Fails s lines mid → So mid new → n ≤ length s.entries → Kept n new (Moment new)
+    kept_last : (new s mid : StoreView D) (lines : List (List ℕ)) (n : ℕ) → Good s → MayCallNext Step false (alone Fails) s lines mid → So mid new → n ≤ length s.entries → Kept n new (Moment new)
     kept_last new s mid lines n good calls so le c left =
         let on = further s mid new lines good calls so in
         loads_prefix n new.kept [] new.entries c (all_kept mid new so) (omega (arith, le, on.1, ap length so.kept, ap length so.entries)) (left_kept new (good_settle mid new on.0 so) c left)
@@ -216,7 +217,7 @@ module _ {D : Type 0} (is_known : Bool) (seen : D → List ℕ) (may_leave : D �
         old old wrote.last wrote.groups wrote.whole wrote.steps (starts old waiting (record { works = works; kept_so = kept }) waits) wrote.answers in
         let all : Runs old new = ⊎_elim
         (λ (same : (wrote.part ≡ []) × (new ≡ wrote.last)). subst (Runs old) (sym same.1) run)
-        (λ (p : (fault : ServeFault) × BreaksGroup Step Fails So Off Moment fault wrote.last wrote.others wrote.part new).
+        (λ (p : (fault : ServeFault) × BreaksGroup Step false (alone Fails) So Off Moment fault wrote.last wrote.others wrote.part new).
         run_group Step Fails So Off Moment entries_in Good Runs good_step good_settle runs_step runs_fail runs_settle runs_off p.0 old wrote.last new wrote.others wrote.part run p.1)
         wrote.ends in
         all.keeps
@@ -229,18 +230,18 @@ module _ {D : Type 0} (is_known : Bool) (seen : D → List ℕ) (may_leave : D �
 
     -- ---- where a session ends without an answer
 
-    after_off : (s mid new : StoreView D) (lines : List (List ℕ)) → Good s → MayCallNext Step Fails s lines mid → Off mid new → IsTrue (has_failed new.log.device)
+    after_off : (s mid new : StoreView D) (lines : List (List ℕ)) → Good s → MayCallNext Step false (alone Fails) s lines mid → Off mid new → IsTrue (has_failed new.log.device)
     after_off s mid new lines good (inl same) off = off.cause known (ap (λ (g : StoreView D). g.log.state) same ∙ good.works)
     after_off s mid new lines good (inr (inl lost)) off = off.cause known (lost_further s mid lines good lost).0.works
     after_off s mid new lines good (inr (inr none)) off = after_fail s mid new lines good none off
       where
-        after_fail : (s mid new : StoreView D) (lines : List (List ℕ)) → Good s → FailsNext Fails s lines mid → Off mid new → IsTrue (has_failed new.log.device)
+        after_fail : (s mid new : StoreView D) (lines : List (List ℕ)) → Good s → FailsNext false (alone Fails) s lines mid → Off mid new → IsTrue (has_failed new.log.device)
         after_fail s mid new [] good none off = absurd none
         after_fail s mid new (line ∷ lines) good (m, says, (makes, inl (shut, same))) off = absurd (shut good.works)
         after_fail s mid new (line ∷ lines) good (m, says, (makes, inr first)) off =
             subst (λ (g : StoreView D). IsTrue (has_failed g.log.device)) (sym (off.once first.broken)) (first.cause known good.works)
 
-    group_failed : (s : StoreView D) (lines : List (List ℕ)) (part : List Note) (new : StoreView D) → Good s → BreaksGroup Step Fails So Off Moment NoAnswer s lines part new → IsTrue (has_failed new.log.device)
+    group_failed : (s : StoreView D) (lines : List (List ℕ)) (part : List Note) (new : StoreView D) → Good s → BreaksGroup Step false (alone Fails) So Off Moment NoAnswer s lines part new → IsTrue (has_failed new.log.device)
     group_failed s lines part new good (made, last, inl (none, so, is)) =
         no_fail made.last last new made.others
         (good_lines Step Fails So Off Moment entries_in Good Runs good_step good_settle runs_step runs_fail runs_settle runs_off s made.last made.first made.text made.steps good made.answers) none so
@@ -248,7 +249,7 @@ module _ {D : Type 0} (is_known : Bool) (seen : D → List ℕ) (may_leave : D �
         after_off made.last last new made.others
         (good_lines Step Fails So Off Moment entries_in Good Runs good_step good_settle runs_step runs_fail runs_settle runs_off s made.last made.first made.text made.steps good made.answers) calls off
 
-    pub failed : (old new : StoreView D) (lines : List (List ℕ)) (notes : List Note) → old.log.state ≡ Open → IsKept seen may_leave is_usable (stored old) → BreaksAmong Step Fails So Off Moment NoAnswer old lines notes new → IsTrue (has_failed new.log.device)
+    pub failed : (old new : StoreView D) (lines : List (List ℕ)) (notes : List Note) → old.log.state ≡ Open → IsKept seen may_leave is_usable (stored old) → BreaksAmong Step false (alone Fails) So Off Moment NoAnswer old lines notes new → IsTrue (has_failed new.log.device)
     failed old new lines notes works kept p =
         group_failed p.last p.others p.part new
         (good_groups Step Fails So Off Moment entries_in Good Runs good_step good_settle runs_step runs_fail runs_settle runs_off old p.last p.groups p.whole p.steps (record { works = works; kept_so = kept }) p.answers) p.breaks

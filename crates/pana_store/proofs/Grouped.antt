@@ -1,15 +1,16 @@
 -- Laws of sessions whose calls are settled in groups: what holds over a whole session, and from then on at which the line that
 -- acknowledges an entry was written. They are of any session for which a few facts hold of each step.
-use Rattle.std.proofs.Common.{◌≡◌, ℕ, ◌<◌, ◌≤◌, ◌^◌, List, [], ◌∷◌, ◌++◌, ◌⊎◌, inl, inr, ⊎_elim, length, Result, Ok, Err, refl, sym, ap, subst, ◌∙◌, append-nil, append_assoc, arith}
+use Rattle.std.proofs.Common.{◌≡◌, ℕ, ◌<◌, ◌≤◌, ◌^◌, List, [], ◌∷◌, ◌++◌, ◌⊎◌, inl, inr, ⊎_elim, length, Result, Ok, Err, refl, sym, ap, subst, ◌∙◌, append-nil, append_assoc, arith, false}
 use Rattle.std.proofs.lemmas.Fmt.{decimal_injective}
 use Rattle.pana_journal.specs.declared.entry.Entry.{Entry}
+use Rattle.pana_calls.specs.Session.{alone}
 use Rattle.pana_calls.specs.declared.call.Call.{Call}
 use Rattle.pana_calls.specs.declared.reply.Reply.{Reply}
 use Rattle.pana_calls.specs.declared.answer.Answer.{Answer}
 use Rattle.pana_calls.specs.declared.answer.Answer.TheVariants.{Given}
 use Rattle.pana_wire.specs.declared.fault.WireFault.{WireFault}
 use Rattle.pana_wire.specs.declared.fault.WireFault.TheVariants as faults
-use Rattle.pana_wire.specs.declared.message.Message.{Message}
+use Rattle.pana_calls.specs.declared.message.Message.{Message}
 use Rattle.pana_wire.specs.declared.serving.ServeFault.{ServeFault}
 use Rattle.pana_wire.specs.declared.serving.ServeFault.TheVariants.{Read, Write, OutOfMemory, NoAnswer, Turns}
 use Rattle.pana_wire.specs.Groups.{AnswersGroups, BreaksGroup}
@@ -51,20 +52,20 @@ module _ {V : Type 0} (step : V → List ℕ → Call → Answer → V → Type 
   run_groups z s t (lines ∷ groups) notes k run (made, settled, text, rest, first, others, answers, so, more, whole, count) =
       run_groups z settled t groups rest others (runs_settle z made settled (run_lines z s made lines text first run answers) so) more
 
-  run_lost : (z s t : V) (lines : List (List ℕ)) → Runs z s → LosesNext step s lines t → Runs z t
+  run_lost : (z s t : V) (lines : List (List ℕ)) → Runs z s → LosesNext step false (alone fails) s lines t → Runs z t
   run_lost z s t [] run lost = absurd lost
   run_lost z s t (line ∷ lines) run (m, answer, says, done) = runs_step z s m.by m.call answer t run done
 
-  run_fails : (z s t : V) (lines : List (List ℕ)) → Runs z s → FailsNext fails s lines t → Runs z t
+  run_fails : (z s t : V) (lines : List (List ℕ)) → Runs z s → FailsNext false (alone fails) s lines t → Runs z t
   run_fails z s t [] run none = absurd none
   run_fails z s t (line ∷ lines) run (m, says, none) = runs_fail z s m.by m.call t run none
 
-  pub run_may : (z s t : V) (lines : List (List ℕ)) → Runs z s → MayCallNext step fails s lines t → Runs z t
+  pub run_may : (z s t : V) (lines : List (List ℕ)) → Runs z s → MayCallNext step false (alone fails) s lines t → Runs z t
   run_may z s t lines run (inl same) = subst (Runs z) (sym same) run
   run_may z s t lines run (inr (inl lost)) = run_lost z s t lines run lost
   run_may z s t lines run (inr (inr none)) = run_fails z s t lines run none
 
-  pub run_group : (fault : ServeFault) (z s t : V) (lines : List (List ℕ)) (part : List Note) → Runs z s → BreaksGroup step fails settles off moment fault s lines part t → Runs z t
+  pub run_group : (fault : ServeFault) (z s t : V) (lines : List (List ℕ)) (part : List Note) → Runs z s → BreaksGroup step false (alone fails) settles off moment fault s lines part t → Runs z t
   run_group Read z s t lines part run breaks = absurd breaks
   run_group Write z s t lines part run (made, last, output, calls, so, prefix, is) =
       runs_settle z last t (run_may z made.last last made.others (run_lines z s made.last made.first made.text made.steps run made.answers) calls) so
@@ -152,7 +153,7 @@ module _ {V : Type 0} (step : V → List ℕ → Call → Answer → V → Type 
         (kept : (s z : V) (n : ℕ) → Good s → settles s z → n ≤ length (entries s) → Runs z new → Kept n new (moment z))
         (begun : (s z : V) → Good s → settles s z → Runs z z)
         -- and so is what is settled once one call more was made that has no answer
-        (kept_last : (s mid : V) (lines : List (List ℕ)) (n : ℕ) → Good s → MayCallNext step fails s lines mid → settles mid new → n ≤ length (entries s) → Kept n new (moment new)) where
+        (kept_last : (s mid : V) (lines : List (List ℕ)) (n : ℕ) → Good s → MayCallNext step false (alone fails) s lines mid → settles mid new → n ≤ length (entries s) → Kept n new (moment new)) where
       pub find : (s last : V) (groups : List (List (List ℕ))) (notes rest before : List Note) (then : ℕ) (after : List Note) (n k : ℕ) → Good s → n < 2 ^ 64 → AnswersGroups step settles moment s groups notes last k
           → ((z : V) → Runs z last → Runs z new) → notes ++ rest ≡ before ++ newline then ∷ after → AcknowledgesEntry n (unended [] (bytes_in before)) → Kept n new then ⊎ Behind rest before then after
       find s last [] notes rest before then after n k good small a on is line = inr (before, refl, sym (ap (λ (l : List Note). l ++ rest) a.0) ∙ is)
@@ -176,7 +177,7 @@ module _ {V : Type 0} (step : V → List ℕ → Call → Answer → V → Type 
 
       -- a prefix of the answers of a group
       found_part : (s mid : V) (lines : List (List ℕ)) (made : Made step s lines) (output more : List ℕ) (part before : List Note) (then : ℕ) (after : List Note) (n : ℕ) → Good s → n < 2 ^ 64
-          → MayCallNext step fails made.last made.others mid → settles mid new → output ++ more ≡ made.text → part ≡ noted_at (moment new) output → part ≡ before ++ newline then ∷ after → AcknowledgesEntry n (unended [] (bytes_in before)) → Kept n new then
+          → MayCallNext step false (alone fails) made.last made.others mid → settles mid new → output ++ more ≡ made.text → part ≡ noted_at (moment new) output → part ≡ before ++ newline then ∷ after → AcknowledgesEntry n (unended [] (bytes_in before)) → Kept n new then
       found_part s mid lines made output more part before then after n good small calls so whole is split line =
           let all : noted_at (moment new) made.text ++ [] ≡ before ++ newline then ∷ (after ++ noted_at (moment new) more) =
           append-nil (noted_at (moment new) made.text) ∙ ap (noted_at (moment new)) (sym whole) ∙ noted_both (moment new) output more
@@ -186,7 +187,7 @@ module _ {V : Type 0} (step : V → List ℕ → Call → Answer → V → Type 
           (λ behind. nothing_behind before then (after ++ noted_at (moment new) more) behind)
           (find_in (moment new) n s made.last made.first made.text [] before then (after ++ noted_at (moment new) more) made.steps small made.answers all line)
 
-      found_group : (fault : ServeFault) (s : V) (lines : List (List ℕ)) (part before : List Note) (then : ℕ) (after : List Note) (n : ℕ) → Good s → n < 2 ^ 64 → BreaksGroup step fails settles off moment fault s lines part new
+      found_group : (fault : ServeFault) (s : V) (lines : List (List ℕ)) (part before : List Note) (then : ℕ) (after : List Note) (n : ℕ) → Good s → n < 2 ^ 64 → BreaksGroup step false (alone fails) settles off moment fault s lines part new
           → part ≡ before ++ newline then ∷ after → AcknowledgesEntry n (unended [] (bytes_in before)) → Kept n new then
       found_group Read s lines part before then after n good small breaks split line = absurd breaks
       found_group Write s lines part before then after n good small (made, last, output, calls, so, prefix, is) split line =
@@ -200,7 +201,7 @@ module _ {V : Type 0} (step : V → List ℕ → Call → Answer → V → Type 
 
       -- groups, and then what is written of one more
       pub found_all : (s last : V) (groups : List (List (List ℕ))) (others : List (List ℕ)) (whole part before : List Note) (then : ℕ) (after : List Note) (n k : ℕ) → Good s → n < 2 ^ 64 → AnswersGroups step settles moment s groups whole last k
-          → ((part ≡ []) × (new ≡ last)) ⊎ ((fault : ServeFault) × BreaksGroup step fails settles off moment fault last others part new) → whole ++ part ≡ before ++ newline then ∷ after → AcknowledgesEntry n (unended [] (bytes_in before)) → Kept n new then
+          → ((part ≡ []) × (new ≡ last)) ⊎ ((fault : ServeFault) × BreaksGroup step false (alone fails) settles off moment fault last others part new) → whole ++ part ≡ before ++ newline then ∷ after → AcknowledgesEntry n (unended [] (bytes_in before)) → Kept n new then
       found_all s last groups others whole part before then after n k good small answers (inl (none, same)) split line =
           ⊎_elim (λ found. found) (λ behind. no_note part behind.0 then after none behind.2)
           (find s last groups whole part before then after n k good small answers (λ z run. subst (Runs z) (sym same) run) split line)

@@ -1,5 +1,6 @@
 -- What a session wrote whose calls are settled in groups, however it ended.
-use Rattle.std.proofs.Common.{◌≡◌, ℕ, Bool, List, [], ◌++◌, ◌⊎◌, inl, inr, Option, Result, Ok, Err, IfOk, IfErr, refl, sym, subst, append-nil}
+use Rattle.std.proofs.Common.{◌≡◌, ℕ, Bool, List, [], ◌++◌, ◌⊎◌, inl, inr, Option, Result, Ok, Err, IfOk, IfErr, refl, sym, subst, append-nil, false}
+use Rattle.pana_calls.specs.Session.{alone}
 use Rattle.pana_calls.specs.declared.call.Call.{Call}
 use Rattle.pana_calls.specs.declared.answer.Answer.{Answer}
 use Rattle.pana_wire.specs.declared.tap.Tap.{Tap}
@@ -23,7 +24,7 @@ module _ {W S : Type 0} (contents : W → Option (List ℕ)) (step : S → List 
     pub steps : ℕ
     pub notes : IsNoted contents a b (whole ++ part)
     pub answers : AnswersGroups step settles moment old groups whole last steps
-    pub ends : ((part ≡ []) × (new ≡ last)) ⊎ ((fault : ServeFault) × BreaksGroup step fails settles off moment fault last others part new)
+    pub ends : ((part ≡ []) × (new ≡ last)) ⊎ ((fault : ServeFault) × BreaksGroup step false (alone fails) settles off moment fault last others part new)
 
   wrote_all : (old : S) (lines : List (List ℕ)) (notes : List Note) (new : S) (n : ℕ) → IsNoted contents a b notes → AnswersAll step settles moment old lines notes new n → Wrote old new
   wrote_all old lines notes new n noted (groups, split, answers) = record {
@@ -38,7 +39,7 @@ module _ {W S : Type 0} (contents : W → Option (List ℕ)) (step : S → List 
     ends = inl (refl, refl);
   }
 
-  wrote_among : (fault : ServeFault) (old : S) (lines : List (List ℕ)) (notes : List Note) (new : S) → IsNoted contents a b notes → BreaksAmong step fails settles off moment fault old lines notes new → Wrote old new
+  wrote_among : (fault : ServeFault) (old : S) (lines : List (List ℕ)) (notes : List Note) (new : S) → IsNoted contents a b notes → BreaksAmong step false (alone fails) settles off moment fault old lines notes new → Wrote old new
   wrote_among fault old lines notes new noted p = record {
     groups = p.groups;
     others = p.others;
@@ -51,7 +52,7 @@ module _ {W S : Type 0} (contents : W → Option (List ℕ)) (step : S → List 
     ends = inr (fault, p.breaks);
   }
 
-  wrote_ends : (fault : ServeFault) (met : Bool) (old : S) (input : List ℕ) (notes : List Note) (new : S) → IsNoted contents a b notes → EndsGroupsBy step fails settles off moment fault met old input notes new → Wrote old new
+  wrote_ends : (fault : ServeFault) (met : Bool) (old : S) (input : List ℕ) (notes : List Note) (new : S) → IsNoted contents a b notes → EndsGroupsBy step false (alone fails) settles off moment fault met old input notes new → Wrote old new
   wrote_ends Read met old input notes new noted (n, all) = wrote_all old (ended [] input) notes new n noted all
   wrote_ends Write met old input notes new noted p = wrote_among Write old (lines_come met input) notes new noted p
   wrote_ends OutOfMemory met old input notes new noted p = wrote_among OutOfMemory old (lines_come met input) notes new noted p
@@ -72,11 +73,11 @@ module _ {W S : Type 0} (contents : W → Option (List ℕ)) (step : S → List 
   }
 
   wrote_stopped : {R : Type 0} (remaining : R → Option (List ℕ)) (most : ℕ) (r s : Tap R) (old new : S) (fault : ServeFault)
-      → NeverBegins r s a b old new fault ⊎ StopsGroups remaining contents step fails settles off moment most r s a b old new fault → Wrote old new
+      → NeverBegins r s a b old new fault ⊎ StopsGroups remaining contents step false (alone fails) settles off moment most r s a b old new fault → Wrote old new
   wrote_stopped remaining most r s old new fault (inl never) = wrote_nothing old new never.writer never.session (none_noted contents a)
   wrote_stopped remaining most r s old new fault (inr stops) = wrote_ends fault _ old stops.input stops.notes new stops.writes stops.ends
 
   pub wrote : {R : Type 0} (remaining : R → Option (List ℕ)) (most : ℕ) (r s : Tap R) (old new : S) (result : Result Served ServeFault) → IfOk result (ServesGroups remaining contents step settles moment r s a b old new)
-      → IfErr result (λ fault. NeverBegins r s a b old new fault ⊎ StopsGroups remaining contents step fails settles off moment most r s a b old new fault) → Wrote old new
+      → IfErr result (λ fault. NeverBegins r s a b old new fault ⊎ StopsGroups remaining contents step false (alone fails) settles off moment most r s a b old new fault) → Wrote old new
   wrote remaining most r s old new (Ok served) p q = wrote_all old (lines_of p.input) p.notes new served.calls p.writes p.answers
   wrote remaining most r s old new (Err fault) p q = wrote_stopped remaining most r s old new fault q

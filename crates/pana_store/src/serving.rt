@@ -1,5 +1,6 @@
 //! A session whose entries are kept.
 ghost use Rattle.std.specs.Prelude.{◌≡◌, ◌≤◌, ◌^◌, ◌⊎◌, List, false, IsTrue, IfOk, IfErr, IsErrOf};
+ghost use Rattle.pana_calls.specs.Session.{alone};
 ghost use Rattle.pana_wire.specs.Groups.{ServesGroups, StopsGroups};
 ghost use Rattle.pana_wire.specs.Session.{NeverBegins};
 ghost use Rattle.pana_wire.specs.Tap.{Note, has_failed, MadeAtMost, IsNoted};
@@ -34,7 +35,7 @@ pub fn serve_kept<R: Read, W: Write, D: Device>(
         reader.old reader.new writer.old writer.new session.old session.new) }
     ensures fault { IfErr result (λ fault.
         NeverBegins reader.old reader.new writer.old writer.new session.old session.new fault
-        ⊎ StopsGroups R.remaining W.contents (Gathers D.is_known D.seen D.may_leave D.is_usable D.moment D.left_since D.has_failed) (FailsToGather D.is_known D.moment D.left_since D.has_failed)
+        ⊎ StopsGroups R.remaining W.contents (Gathers D.is_known D.seen D.may_leave D.is_usable D.moment D.left_since D.has_failed) false (alone (FailsToGather D.is_known D.moment D.left_since D.has_failed))
         (Settles D.is_known D.seen D.may_leave D.is_usable D.moment D.left_since) (BreaksOff D.is_known D.moment D.left_since D.has_failed) (λ store. D.moment store.log.device) reads
         reader.old reader.new writer.old writer.new session.old session.new fault) }
 

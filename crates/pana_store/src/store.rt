@@ -234,13 +234,14 @@ fn settle_all<D: Device>(
 
 impl<D: Device> Session for Store<D> {
     ghost use Rattle.std.specs.Prelude.{IfOk, OnOk, OnErr};
+    ghost use Rattle.pana_calls.specs.Session.{alone};
     ghost use Rattle.pana_store.specs.Store.{Gathers, Settles, BreaksOff, FailsToGather};
 
     ghost step = { λ old by call answer new. Gathers D.is_known D.seen D.may_leave D.is_usable D.moment D.left_since D.has_failed old by call answer new };
 
     ghost moment = { λ store. D.moment store.log.device };
 
-    ghost fails = { λ old by call new. FailsToGather D.is_known D.moment D.left_since D.has_failed old by call new };
+    ghost fails = { alone (λ old by call new. FailsToGather D.is_known D.moment D.left_since D.has_failed old by call new) };
 
     ghost settles = { λ old new. Settles D.is_known D.seen D.may_leave D.is_usable D.moment D.left_since old new };
 

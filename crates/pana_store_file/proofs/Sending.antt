@@ -21,7 +21,7 @@ etcd_send : IsSend (etcd_log.the_row tcp.the_row stream.the_row)
 etcd_send = logs.the_send _ _ connects.the_send streams.the_send
 
 store_send : (ghosts : Ghosts (etcd_log.the_row tcp.the_row stream.the_row).Denot) → IsSend (store.the_row (etcd_log.the_row tcp.the_row stream.the_row) ghosts)
-store_send ghosts = view_send _ _ _ _ _ (declared_send (store_inside.the_type (etcd_log.the_row tcp.the_row stream.the_row) ghosts) (global.the_send, (hall_send, (etcd_send, (search sendable, (options.the_send _ faults.the_send, (search sendable, tt)))))))
+store_send ghosts = view_send _ _ _ _ _ (declared_send (store_inside.the_type (etcd_log.the_row tcp.the_row stream.the_row) ghosts) (global.the_send, (hall_send, (options.the_send _ (search sendable), (etcd_send, (search sendable, (search sendable, (options.the_send _ faults.the_send, (search sendable, tt)))))))))
 
 pub log_store_send : IsSend log_store.the_row
 log_store_send = view_send _ _ _ _ _ (declared_send log_store_inside.the_type (store_send (record { is_known = _; seen = _; silences = λ s. 0 }), tt))

@@ -1,10 +1,9 @@
 //! The stores of logs in etcd.
 ghost use Rattle.std.specs.Prelude.{◌≡◌, IfOk, IsTrue, [], false, is_some};
 
-use pana_calls::{Answer, Call, NoAnswer, Session};
+use pana_calls::{Answer, Call, Message, NoAnswer, Session};
 use pana_copies::DeviceName;
 use pana_etcd::{EtcdLog, TcpConnect};
-use pana_hall::Hall;
 use pana_shared::ReadFault;
 use pana_shared_store::SharedStore;
 use std::alloc::Global;
@@ -42,13 +41,6 @@ impl LogStore {
         Ok(LogStore { store })
     }
 
-    /// The hall, which goes on to nothing further that others put. Takes no memory.
-    pub(crate) fn into_hall(self) -> Hall
-        ensures { result ≡ self.entries }
-    {
-        self.store.into_hall()
-    }
-
     /// The number of what stands in the log and is no entry, if that was met: no call is answered any more. Takes no memory.
     pub fn foreign(&self) -> Option<u64>
         ensures { is_some result ≡ self.now.broken }
@@ -58,17 +50,24 @@ impl LogStore {
 }
 
 impl Session for LogStore {
-    ghost use Rattle.std.specs.Prelude.{◌≡◌};
+    ghost use Rattle.std.specs.Prelude.{◌≡◌, true};
     ghost use Rattle.pana_shared_store.specs.Store.{GoesOn};
     ghost use Rattle.pana_store_file.specs.LogStore.{Answers};
 
     ghost step = { Answers };
 
-    ghost fails = { λ old by call new. GoesOn old.entries new.entries };
+    ghost fails = { λ old calls new. GoesOn old.entries new.entries };
+
+    ghost keeps_together = { true };
 
     /// Makes one call of a device, as `SharedStore` does.
     fn call(&mut self, by: &DeviceName, call: Call) -> Result<Answer, NoAnswer> {
         self.store.call(by, call)
+    }
+
+    /// Makes calls as `SharedStore` does.
+    fn call_all(&mut self, calls: Vec<Message>, answers: &mut Vec<Answer>) -> Result<(), NoAnswer> {
+        self.store.call_all(calls, answers)
     }
 
     /// Does nothing: what a call makes is kept before it is answered.
@@ -86,6 +85,10 @@ impl Session for LogStore {
 
     fn is_shared(&self) -> bool {
         self.store.is_shared()
+    }
+
+    fn keeps_together(&self) -> bool {
+        self.store.keeps_together()
     }
 
     fn may_recover(&self) -> bool {

@@ -6,6 +6,7 @@ use crate::log_store::LogStore;
 use pana_etcd::{AddressFault, EtcdAddress, EtcdLog, TcpConnect, random_writer};
 use pana_hall::Hall;
 use pana_shared::ReadFault;
+use pana_shared_store::read_hall;
 use pana_streams::ProgramFault;
 
 /// How many milliseconds a second has.
@@ -89,7 +90,11 @@ pub fn log_at(rt: &HostRuntime, place: LogPlace<'_>) -> Result<EtcdLog<TcpConnec
 
 /// The hall of the log at this place, as the log is now; or why there is none.
 pub fn read_shared(rt: &HostRuntime, place: LogPlace<'_>) -> Result<Hall, NoStore> {
-    Ok(open_shared(rt, place)?.into_hall())
+    let mut log = log_at(rt, place)?;
+    match read_hall(rt.alloc(), &mut log) {
+        Ok(hall) => Ok(hall),
+        Err(fault) => Err(no_log(rt, place.address, fault)),
+    }
 }
 
 /// The store of the log at this place, all of which is read; or why there is none.

@@ -1,5 +1,5 @@
 -- Copies that are tracked, among copies each of which has a path of its own.
-use Rattle.std.proofs.Common.{◌≢◌, Bool, true, false, ℕ, List, [], ◌∷◌, filter, cond}
+use Rattle.std.proofs.Common.{◌≢◌, Bool, true, false, List, [], ◌∷◌, filter, cond}
 use Rattle.std.specs.List.{AllByRecursion}
 use Rattle.pana_calls.specs.declared.holding.Holding.{Holding}
 use Rattle.pana_calls.specs.Holdings.{HaveOwnPaths}

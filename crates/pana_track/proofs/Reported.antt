@@ -15,7 +15,7 @@ use Rattle.pana_track.specs.declared.tally.TrackTally.{TrackTally}
 use Rattle.pana_track.specs.declared.reporting.CallEnd.TheVariants as ends
 use Rattle.pana_track.specs.Calls.{Asked, Makes}
 use Rattle.pana_track.specs.Tally.{noted, noted_all}
-use Rattle.pana_track.specs.Track.{Reports, has_moved, left_after, more_after}
+use Rattle.pana_track.specs.Reports.{Reports, has_moved, left_after, more_after}
 use Rattle.pana_track.specs.inner.Reporting.{Answers, BreaksOff, BreaksOne, ReportsAll, ReportsOne, end_of}
 
 -- what holds where a result is an error

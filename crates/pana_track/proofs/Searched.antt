@@ -2,7 +2,7 @@
 use Rattle.std.specs.Prelude.{◌≡◌, ℕ, ◌+◌, Bool, true, List, ◌∷◌, ◌++◌, length, Option, Some, None, option_and_then, Result, Ok, Err}
 use Rattle.std.specs.List.{list_any}
 use Rattle.std.specs.Option.{ForSome}
-use Rattle.std.proofs.Common.{refl, sym, ap, subst, ◌∙◌, ◌⊎◌, inl, inr}
+use Rattle.std.proofs.Common.{refl, sym, ap, ◌∙◌, ◌⊎◌, inl, inr}
 use Rattle.pana_ignore.specs.declared.pattern.Pattern.{Pattern}
 use Rattle.pana_ignore.specs.declared.patterns_fault.PatternsFault.{PatternsFault}
 use Rattle.pana_ignore.specs.declared.patterns_fault.PatternsFault.TheVariants as patterns
@@ -14,7 +14,7 @@ use Rattle.pana_scan.specs.declared.scan_fault.ScanFault.TheVariants as scan
 use Rattle.pana_track.specs.declared.read_fault.ReadFault.TheVariants as faults
 use Rattle.pana_track.specs.Fault.{patterns_read_fault}
 use Rattle.pana_track.specs.inner.Searching.{IsUnread, Searches}
-use Rattle.pana_track.specs.IgnoreFile.{ReadsPatterns, TakesText, has_ignore_file, ignore_file, is_ignore_file, text_in, text_of}
+use Rattle.pana_track.specs.IgnoreFile.{ReadsPatterns, TakesText, ignore_file, is_ignore_file, text_in, text_of}
 
 -- so many entries were searched, none of which is the file, and the others are to come
 pub record IsSearched (first left : Names) (entries : ℕ) : Type 0 where

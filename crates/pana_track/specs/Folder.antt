@@ -3,6 +3,7 @@ use Rattle.std.specs.Prelude.{◌≡◌, ℕ, ◌==◌, not, ◌||◌, Bool, tru
 use Rattle.pana_calls.specs.Cause.{shown_cause}
 use Rattle.pana_calls.specs.declared.call.Call.{Call}
 use Rattle.pana_calls.specs.declared.cause.Cause.{Cause}
+use Rattle.pana_calls.specs.declared.message.Message.{Message}
 use Rattle.pana_scan.specs.Scan.{unreadable_count}
 use Rattle.pana_track.specs.Fault.{shown_read_fault}
 use Rattle.pana_track.specs.Tally.{nothing}
@@ -57,14 +58,14 @@ is_fault (Tracked tally) = is_some tally.stop || not (tally.calls.refused == 0)
 
 -- ---- a folder
 
-module _ {S : Type 0} (step : S → List ℕ → Call → Answer → S → Type 0) (may_be_empty : Bool) where
+module _ {S : Type 0} (step : S → List ℕ → Call → Answer → S → Type 0) (together may_be_empty : Bool) where
   -- what becomes of what reading a folder gave: of a fault nothing is reported, and a listing is tracked
   abbrev pub TracksFolder : Result TrackedListing ReadFault → S → S → FolderEnd → Type 0
   TracksFolder (Err fault) old new end = (new ≡ old) × (end ≡ Unread fault)
-  TracksFolder (Ok found) old new end = (calls : TrackTally) × (stop : Option TrackFault) × Tracks step may_be_empty found old new nothing calls stop
+  TracksFolder (Ok found) old new end = (calls : TrackTally) × (stop : Option TrackFault) × Tracks step together may_be_empty found old new nothing calls stop
       × (end ≡ Tracked (record { calls = calls; stop = stop; skipped = found.listing.skipped; unreadable = unreadable_count found.listing.rows }))
 
--- the first calls of tracking a folder were made, and the next has no answer
-abbrev pub BreaksFolder : {S : Type 0} → (S → List ℕ → Call → Answer → S → Type 0) → (S → List ℕ → Call → S → Type 0) → Bool → Result TrackedListing ReadFault → S → S → Type 0
-BreaksFolder step fails may_be_empty (Err fault) old new = ⊥
-BreaksFolder step fails may_be_empty (Ok found) old new = (calls : TrackTally) × Breaks step fails may_be_empty found old new nothing calls
+-- the first calls of tracking a folder were made, and the next has no answer; or, where calls may be made together, the next ones
+abbrev pub BreaksFolder : {S : Type 0} → (S → List ℕ → Call → Answer → S → Type 0) → Bool → (S → List Message → S → Type 0) → Bool → Result TrackedListing ReadFault → S → S → Type 0
+BreaksFolder step together fails may_be_empty (Err fault) old new = ⊥
+BreaksFolder step together fails may_be_empty (Ok found) old new = (calls : TrackTally) × Breaks step together fails may_be_empty found old new nothing calls

@@ -4,6 +4,7 @@ pub mod IgnoreFile
 pub mod Reading
 pub mod Calls
 pub mod Tally
+pub mod Reports
 pub mod Track
 pub mod Folder
 pub mod Status

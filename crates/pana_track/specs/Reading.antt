@@ -2,7 +2,6 @@
 use Rattle.std.specs.Prelude.{◌⊎◌, ℕ, List, Result, Ok, Err}
 use Rattle.pana_ignore.specs.declared.pattern.Pattern.{Pattern}
 use Rattle.pana_scan.specs.Disk.{Tree}
-use Rattle.pana_scan.specs.Listing.{Contents}
 use Rattle.pana_scan.specs.Order.{Path}
 use Rattle.pana_scan.specs.Scan.{IsScanWithin}
 use Rattle.pana_track.specs.declared.read_fault.ReadFault.{ReadFault}

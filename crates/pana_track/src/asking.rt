@@ -1,5 +1,6 @@
 //! The copies that are obsolete or in conflict, asked for page by page.
 ghost use Rattle.std.specs.Prelude.{◌≡◌, None, IfOk, IfSome, OnErr};
+ghost use Rattle.pana_calls.specs.Session.{one};
 ghost use Rattle.pana_track.specs.Status.{HasAll, next_after};
 ghost use Rattle.pana_track.specs.inner.Pages.{AsksPage, Stops, page_in};
 
@@ -34,7 +35,7 @@ fn page_from<S: Session>(
     from: u64,
 ) -> Result<Option<PlainList<StatusRow>>, NoAnswer>
     ensures ok { IfOk result (AsksPage S.step by.now from session.old session.new) }
-    ensures fails { OnErr result (S.fails session.old by.now (Call.Query (Query.Status None from)) session.new) }
+    ensures fails { OnErr result (one S.fails session.old by.now (Call.Query (Query.Status None from)) session.new) }
 {
     let query = Query::Status { device: None, from };
     let answer = session.call(by, Call::Query(query))?;
@@ -61,7 +62,7 @@ pub fn status_of<S: Session>(
     by: &DeviceName,
 ) -> Result<Option<PlainList<StatusRow>>, NoAnswer>
     ensures ok { IfOk result (λ rows. IfSome rows (HasAll S.step by.now session.old session.new)) }
-    ensures fails { OnErr result (Stops S.step S.fails by.now session.old session.new) }
+    ensures fails { OnErr result (Stops S.step (one S.fails) by.now session.old session.new) }
 {
     let mut rows = PlainList::new(alloc);
     let mut from = 1;

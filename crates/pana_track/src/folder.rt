@@ -46,8 +46,8 @@ pub fn track_folder<S: Session>(
     given: &Result<TrackedListing, ReadFault>,
     may_be_empty: bool,
 ) -> Result<FolderEnd, NoAnswer>
-    ensures ok { IfOk result (TracksFolder S.step may_be_empty given.now session.old session.new) }
-    ensures fails { OnErr result (BreaksFolder S.step S.fails may_be_empty given.now session.old session.new) }
+    ensures ok { IfOk result (TracksFolder S.step S.keeps_together may_be_empty given.now session.old session.new) }
+    ensures fails { OnErr result (BreaksFolder S.step S.keeps_together S.fails may_be_empty given.now session.old session.new) }
 {
     let found = match given {
         Ok(found) => found,

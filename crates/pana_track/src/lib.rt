@@ -12,6 +12,7 @@ mod read_fault;
 mod read_folder;
 mod reading;
 mod reporting;
+mod rounds;
 mod tally;
 mod tracking;
 

@@ -1,9 +1,12 @@
 //! What was noticed, reported to a session.
 ghost use Rattle.std.specs.Prelude.{◌≡◌, IfOk, OnErr};
+ghost use Rattle.pana_calls.specs.Session.{one};
 ghost use Rattle.pana_scan.specs.Notice.{call_of};
+ghost use Rattle.pana_track.specs.inner.Rounds.{BreaksOffBy, ReportsAllBy};
 ghost use Rattle.pana_track.specs.inner.Reporting.{BreaksOff, BreaksOne, CallsOnce, ReportsAll, ReportsOne, end_of};
 
 use crate::fault::TrackFault;
+use crate::rounds::report_by_rounds;
 use crate::tally::TrackTally;
 use pana_calls::{Answer, NoAnswer, Reply, Session};
 use pana_copies::DeviceName;
@@ -46,7 +49,7 @@ fn call_once<S: Session>(
     tally: &mut TrackTally,
 ) -> Result<CallEnd, NoAnswer>
     ensures ok { IfOk result (CallsOnce S.step device.now notice.now session.old session.new tally.old tally.new) }
-    ensures fails { OnErr result (S.fails session.old device.now (call_of device.now notice.now) session.new × (tally.new ≡ tally.old)) }
+    ensures fails { OnErr result (one S.fails session.old device.now (call_of device.now notice.now) session.new × (tally.new ≡ tally.old)) }
 {
     let Ok(call) = notice.call(alloc, device) else {
         return Ok(CallEnd::OutOfMemory);
@@ -67,7 +70,7 @@ fn report_one<S: Session>(
     tally: &mut TrackTally,
 ) -> Result<Option<TrackFault>, NoAnswer>
     ensures ok { IfOk result (ReportsOne S.step device.now notice.now session.old session.new tally.old tally.new) }
-    ensures fails { OnErr result (BreaksOne S.step S.fails device.now notice.now session.old session.new tally.old tally.new) }
+    ensures fails { OnErr result (BreaksOne S.step (one S.fails) device.now notice.now session.old session.new tally.old tally.new) }
 {
     for _ in 0..MOST_CALLS {
         match call_once(alloc, session, device, notice, tally)? {
@@ -80,8 +83,8 @@ fn report_one<S: Session>(
     Ok(None)
 }
 
-/// Reports all that was noticed, in order, and returns why no more was reported, where something was left.
-pub(crate) fn report_all<S: Session>(
+/// Reports one notice after another, and returns why no more was reported, where something was left.
+fn report_in_turn<S: Session>(
     alloc: Global,
     session: &mut S,
     device: &DeviceName,
@@ -89,7 +92,7 @@ pub(crate) fn report_all<S: Session>(
     tally: &mut TrackTally,
 ) -> Result<Option<TrackFault>, NoAnswer>
     ensures ok { IfOk result (ReportsAll S.step device.now notices.now session.old session.new tally.old tally.new) }
-    ensures fails { OnErr result (BreaksOff S.step S.fails device.now notices.now session.old session.new tally.old tally.new) }
+    ensures fails { OnErr result (BreaksOff S.step (one S.fails) device.now notices.now session.old session.new tally.old tally.new) }
 {
     for notice in notices {
         if let Some(fault) = report_one(alloc, session, device, notice, tally)? {
@@ -97,4 +100,23 @@ pub(crate) fn report_all<S: Session>(
         }
     }
     Ok(None)
+}
+
+/// Reports all that was noticed, in order, by rounds where the session keeps together what several calls make, and returns why no
+/// more was reported, where something was left.
+pub(crate) fn report_all<S: Session>(
+    alloc: Global,
+    session: &mut S,
+    device: &DeviceName,
+    notices: &[Notice],
+    tally: &mut TrackTally,
+) -> Result<Option<TrackFault>, NoAnswer>
+    ensures ok { IfOk result (ReportsAllBy S.step device.now notices.now session.old session.new tally.old tally.new S.keeps_together) }
+    ensures fails { OnErr result (BreaksOffBy S.step device.now notices.now session.old session.new tally.old tally.new S.keeps_together S.fails) }
+{
+    if session.keeps_together() {
+        report_by_rounds(alloc, session, device, notices, tally)
+    } else {
+        report_in_turn(alloc, session, device, notices, tally)
+    }
 }

@@ -1,5 +1,6 @@
 //! A folder that is tracked.
 ghost use Rattle.std.specs.Prelude.{◌≡◌, not, ◌&&◌, None, IfOk, OnErr};
+ghost use Rattle.pana_calls.specs.Session.{one};
 ghost use Rattle.std.specs.List.{list_any};
 ghost use Rattle.pana_track.specs.Ignored.{is_tracked, tracked};
 ghost use Rattle.pana_track.specs.Track.{Breaks, Tracks, held_by, is_lost, noticed_in};
@@ -35,7 +36,7 @@ fn holdings_of<S: Session>(
     tally: &mut TrackTally,
 ) -> Result<Option<HoldingList>, NoAnswer>
     ensures ok { IfOk result (Asks S.step device.now session.old session.new tally.old tally.new) }
-    ensures fails { OnErr result (S.fails session.old device.now (Call.Query (Query.Holdings device.now None)) session.new × (tally.new ≡ tally.old)) }
+    ensures fails { OnErr result (one S.fails session.old device.now (Call.Query (Query.Holdings device.now None)) session.new × (tally.new ≡ tally.old)) }
 {
     let query = Query::Holdings {
         device: device.copy_of(),
@@ -123,7 +124,10 @@ fn notices_in(
 /// copies nothing is reported, and that is a fault, but where it may be empty: a disk that isn't mounted must remove no copy.
 ///
 /// A file of which something was done is reported again, until nothing is to be done of it, a thousand times at most: then the
-/// copy is at that place and holds that sum, and no copy of its family that holds the same is newer or in conflict.
+/// copy is at that place and holds that sum, and no copy of its family that holds the same is newer or in conflict. It is reported
+/// again at once, or, where the session keeps together what several calls make (`Session::keeps_together`), in the next round: a
+/// round makes one call about each notice that is left, in order, in lists of a hundred by `call_all`. Then nothing more is
+/// reported behind a list in which a report isn't kept.
 ///
 /// # Errors
 ///
@@ -135,8 +139,8 @@ pub fn track<S: Session>(
     may_be_empty: bool,
     tally: &mut TrackTally,
 ) -> Result<Option<TrackFault>, NoAnswer>
-    ensures ok { IfOk result (Tracks S.step may_be_empty found.now session.old session.new tally.old tally.new) }
-    ensures fails { OnErr result (Breaks S.step S.fails may_be_empty found.now session.old session.new tally.old tally.new) }
+    ensures ok { IfOk result (Tracks S.step S.keeps_together may_be_empty found.now session.old session.new tally.old tally.new) }
+    ensures fails { OnErr result (Breaks S.step S.keeps_together S.fails may_be_empty found.now session.old session.new tally.old tally.new) }
 {
     let device = found.listing.device();
     let Some(holdings) = holdings_of(session, device, tally)? else {

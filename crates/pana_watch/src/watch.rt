@@ -1,5 +1,6 @@
 //! A watch of a session's journal.
 ghost use Rattle.std.specs.Prelude.{◌≡◌, IfErr, IfOk, OnErr};
+ghost use Rattle.pana_calls.specs.Session.{one};
 ghost use Rattle.pana_watch.specs.Watch.{Looks, LooksInVain, Takes, TakesNone, board_in};
 
 use crate::family_change::FamilyChange;
@@ -46,7 +47,7 @@ impl Watch {
     ) -> Result<EntryList, WatchFault>
         ensures ok { IfOk result (λ entries. Takes S.step by.now self.old session.old entries self.new session.new) }
         ensures same { OnErr result (self.new ≡ self.old) }
-        ensures fails { OnErr result (TakesNone S.step by.now S.fails self.old.next session.old session.new) }
+        ensures fails { OnErr result (TakesNone S.step by.now (one S.fails) self.old.next session.old session.new) }
     {
         let query = Query::JournalAwaited {
             entry: self.next,
@@ -78,7 +79,7 @@ impl Watch {
         family: u64,
     ) -> Result<Option<FamilyChange>, WatchFault>
         ensures ok { IfOk result (λ change. Looks S.step by.now self.old session.old family change self.new session.new) }
-        ensures fails { IfErr result (λ fault. (fault ≡ WatchFault.NoAnswer) → LooksInVain S.step by.now S.fails family session.old session.new) }
+        ensures fails { IfErr result (λ fault. (fault ≡ WatchFault.NoAnswer) → LooksInVain S.step by.now (one S.fails) family session.old session.new) }
     {
         let answer = session.call(by, Call::Query(Query::Board { family }))?;
         let Some(board) = board_in(answer) else {

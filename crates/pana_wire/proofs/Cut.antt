@@ -6,6 +6,7 @@ use Rattle.std.proofs.lemmas.Bool.{false_from_ne_true, lt-ltb, ltb-false, ltb-tr
 use Rattle.std.proofs.lemmas.List.{append_assoc, map-append, take_all}
 use Rattle.std.proofs.lemmas.List.Sums.{position_or_len_is}
 use Rattle.pana_wire.specs.Lines.{ended, unended, last_line, lines_of}
+use Rattle.pana_wire.specs.inner.Rounds.{IsCut}
 use Rattle.pana_wire.proofs.Lines.{ended_many}
 
 abbrev newline_at : List ℕ → ℕ
@@ -112,11 +113,6 @@ first_newline text (Some i) first =
     let at : newline_at text ≡ i = position_or_len_is (λ (b : ℕ). b == 10) text i 0 (omega (arith, first.0.high)) (λ k below. false_from_ne_true _ (first.0.before k (omega arith) below)) (λ below. first.1) in
     let some : nat_lt (newline_at text) (length text) ≡ true = rw at (lt-ltb i (length text) first.0.high) in
     sym (ap (λ t. cond t (Some (newline_at text)) None) some ∙ ap (λ k. Some k) at)
-
--- lines that have ended in a piece, what has begun of the next, and what is left of the piece
-pub record IsCut (begun piece : List ℕ) (lines : List (List ℕ)) (now rest : List ℕ) : Type 0 where
-  pub ends : ended begun piece ≡ lines ++ ended now rest
-  pub left : unended begun piece ≡ unended now rest
 
 -- the line that comes next
 pub cut_next : (begun piece : List ℕ) (lines : List (List ℕ)) (now rest : List ℕ) (i : ℕ) → IsCut begun piece lines now rest → position (λ b. b == 10) rest ≡ Some i

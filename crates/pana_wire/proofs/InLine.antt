@@ -7,7 +7,7 @@ use Rattle.pana_calls.specs.declared.reply.Reply.{Reply}
 use Rattle.pana_wire.specs.declared.field.Field.TheVariants.{By, Do, Device, Path, Copy, Family, A, B, Heir, Sum, Entry, From, Number, Entries, Wait}
 use Rattle.pana_wire.specs.declared.fault.WireFault.{WireFault}
 use Rattle.pana_wire.specs.declared.fault.WireFault.TheVariants.{TooLong, NotUtf8, NotJson, NotObject, BadField, OutOfMemory}
-use Rattle.pana_wire.specs.declared.message.Message.{Message}
+use Rattle.pana_calls.specs.declared.message.Message.{Message}
 use Rattle.pana_wire.specs.Fault.{fault_text}
 use Rattle.pana_calls.specs.declared.answer.Answer.{Answer}
 use Rattle.pana_calls.specs.declared.answer.Answer.TheVariants.{Given, NotKept}

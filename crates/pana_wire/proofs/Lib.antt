@@ -4,9 +4,11 @@ pub mod Cut
 pub mod Steps
 pub mod Ends
 pub mod Notes
+pub mod Next
 pub mod Groups
 pub mod Plain
 pub mod Prefixes
+pub mod Rounds
 pub mod ReadBack
 pub mod Short
 pub mod DumpBack

@@ -6,6 +6,7 @@ use Rattle.std.specs.Prelude.{nat_lt}
 use Rattle.pana_wire.specs.Line.{IsText, text_in, line_says}
 use Rattle.pana_wire.specs.Lines.{ended, unended, last_line}
 use Rattle.pana_wire.specs.inner.Kept.{keep}
+use Rattle.pana_wire.specs.inner.Progress.{IsHeldOf}
 
 -- where more bytes come, of what was kept and of the whole the same is kept
 pub keep_take : (begun more : List ℕ) → keep (take 65537 begun) more ≡ keep begun more
@@ -83,3 +84,15 @@ ended_many begun other (b ∷ bs) =
       | true ↦ refl
       | false ↦ ended_many (begun ++ b ∷ []) (other ++ b ∷ []) bs
     ]
+
+-- where nothing was held, the line stands whole in the last bytes
+pub whole_held : (held begun last first : List ℕ) → IsHeldOf held begun → (length held == 0) ≡ true → first ≡ take 65537 last → IsHeldOf first (begun ++ last)
+whole_held held begun last first is none same = same ∙ ap (λ (l : List ℕ). take 65537 (l ++ last)) (sym (held_none begun held is none))
+
+-- what is held then is held of the line
+pub held_so : (held begun last new text : List ℕ) → IsHeldOf held begun → new ≡ keep held last → text ≡ new → IsHeldOf text (begun ++ last)
+held_so held begun last new text is made same = same ∙ made ∙ ap (λ (l : List ℕ). keep l last) is ∙ keep_take begun last
+
+-- the bytes behind the last newline are held of the line that they begin, or go on with
+pub held_then : (held now rest line new : List ℕ) → IsHeldOf held now → new ≡ keep held rest → line ≡ now ++ rest → IsHeldOf new line
+held_then held now rest line new is made same = made ∙ ap (λ (l : List ℕ). keep l rest) is ∙ keep_take now rest ∙ ap (λ (l : List ℕ). take 65537 l) (sym same)

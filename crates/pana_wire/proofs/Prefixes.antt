@@ -6,7 +6,7 @@ use Rattle.pana_calls.specs.declared.call.Call.{Call}
 use Rattle.pana_calls.specs.declared.answer.Answer.{Answer}
 use Rattle.pana_wire.specs.declared.fault.WireFault.{WireFault}
 use Rattle.pana_wire.specs.declared.fault.WireFault.TheVariants as faults
-use Rattle.pana_wire.specs.declared.message.Message.{Message}
+use Rattle.pana_calls.specs.declared.message.Message.{Message}
 use Rattle.pana_wire.specs.declared.tap.Tap.{Tap}
 use Rattle.pana_wire.specs.declared.serving.ServeFault.{ServeFault}
 use Rattle.pana_wire.specs.Fault.{fault_text}

@@ -5,6 +5,7 @@ use mathlib.Core.List.{IsPrefix}
 use Rattle.std.specs.Io.KnownBytes.{Consumes, IsAtEnd}
 use Rattle.pana_calls.specs.declared.call.Call.{Call}
 use Rattle.pana_calls.specs.declared.answer.Answer.{Answer}
+use Rattle.pana_calls.specs.declared.message.Message.{Message}
 use Rattle.pana_wire.specs.declared.tap.Tap.{Tap}
 use Rattle.pana_wire.specs.declared.serving.Served.{Served}
 use Rattle.pana_wire.specs.declared.serving.ServeFault.{ServeFault}
@@ -28,21 +29,21 @@ AnswersGroups {S = S} step settles moment old (lines ∷ groups) notes new steps
 
 -- Where serving breaks off in a group, the calls of the first of its lines are made. They are settled, and a prefix of their
 -- answers is written, at the moment of the state that this left; or the session couldn't settle, and nothing of them is
--- written. A write failed: one call more may have been made. Memory ran out for the answer of one call more, or one call
--- more has no answer: all of their answers are written.
-abbrev pub BreaksGroup : {S : Type 0} → (S → List ℕ → Call → Answer → S → Type 0) → (S → List ℕ → Call → S → Type 0) → (S → S → Type 0) → (S → S → Type 0) → (S → ℕ) → ServeFault → S → List (List ℕ) → List Note → S → Type 0
-BreaksGroup step fails settles breaks_off moment Read old lines notes new = ⊥
-BreaksGroup {S = S} step fails settles breaks_off moment Write old lines notes new = (made : Made step old lines) × (last : S) × (output : List ℕ)
-    × MayCallNext step fails made.last made.others last × settles last new × IsPrefix output made.text × (notes ≡ noted_at (moment new) output)
-BreaksGroup {S = S} step fails settles breaks_off moment OutOfMemory old lines notes new = (made : Made step old lines) × (last : S)
-    × LosesNext step made.last made.others last × settles last new × (notes ≡ noted_at (moment new) made.text)
-BreaksGroup {S = S} step fails settles breaks_off moment NoAnswer old lines notes new = (made : Made step old lines) × (last : S)
-    × ((FailsNext fails made.last made.others last × settles last new × (notes ≡ noted_at (moment new) made.text))
-    ⊎ (MayCallNext step fails made.last made.others last × breaks_off last new × (notes ≡ [])))
-BreaksGroup step fails settles breaks_off moment Turns old lines notes new = ⊥
+-- written. A write failed: what comes next may have been called. Memory ran out for the next answer, or the next call has
+-- none: all of their answers are written.
+abbrev pub BreaksGroup : {S : Type 0} → (S → List ℕ → Call → Answer → S → Type 0) → Bool → (S → List Message → S → Type 0) → (S → S → Type 0) → (S → S → Type 0) → (S → ℕ) → ServeFault → S → List (List ℕ) → List Note → S → Type 0
+BreaksGroup step together fails settles breaks_off moment Read old lines notes new = ⊥
+BreaksGroup {S = S} step together fails settles breaks_off moment Write old lines notes new = (made : Made step old lines) × (last : S) × (output : List ℕ)
+    × MayCallNext step together fails made.last made.others last × settles last new × IsPrefix output made.text × (notes ≡ noted_at (moment new) output)
+BreaksGroup {S = S} step together fails settles breaks_off moment OutOfMemory old lines notes new = (made : Made step old lines) × (last : S)
+    × LosesNext step together fails made.last made.others last × settles last new × (notes ≡ noted_at (moment new) made.text)
+BreaksGroup {S = S} step together fails settles breaks_off moment NoAnswer old lines notes new = (made : Made step old lines) × (last : S)
+    × ((FailsNext together fails made.last made.others last × settles last new × (notes ≡ noted_at (moment new) made.text))
+    ⊎ (MayCallNext step together fails made.last made.others last × breaks_off last new × (notes ≡ [])))
+BreaksGroup step together fails settles breaks_off moment Turns old lines notes new = ⊥
 
 -- serving breaks off among lines: groups of the first of them are answered, and it breaks off in the next group
-pub record BreaksAmong {S : Type 0} (step : S → List ℕ → Call → Answer → S → Type 0) (fails : S → List ℕ → Call → S → Type 0) (settles breaks_off : S → S → Type 0) (moment : S → ℕ)
+pub record BreaksAmong {S : Type 0} (step : S → List ℕ → Call → Answer → S → Type 0) (together : Bool) (fails : S → List Message → S → Type 0) (settles breaks_off : S → S → Type 0) (moment : S → ℕ)
     (fault : ServeFault) (old : S) (lines : List (List ℕ)) (notes : List Note) (new : S) : Type 0 where
   pub groups : List (List (List ℕ))
   pub others : List (List ℕ)
@@ -52,7 +53,7 @@ pub record BreaksAmong {S : Type 0} (step : S → List ℕ → Call → Answer �
   pub steps : ℕ
   pub split : lines ≡ joined groups ++ others
   pub answers : AnswersGroups step settles moment old groups whole last steps
-  pub breaks : BreaksGroup step fails settles breaks_off moment fault last others part new
+  pub breaks : BreaksGroup step together fails settles breaks_off moment fault last others part new
   pub noted : notes ≡ whole ++ part
 
 -- these lines are answered, in groups
@@ -61,12 +62,12 @@ AnswersAll step settles moment old lines notes new steps = (groups : List (List 
 
 -- what is written where serving stops, by whether the end of the input was met. No more could be read: the answers to
 -- all lines that have ended. Else serving breaks off among the lines that have come.
-abbrev pub EndsGroupsBy : {S : Type 0} → (S → List ℕ → Call → Answer → S → Type 0) → (S → List ℕ → Call → S → Type 0) → (S → S → Type 0) → (S → S → Type 0) → (S → ℕ) → ServeFault → Bool → S → List ℕ → List Note → S → Type 0
-EndsGroupsBy step fails settles breaks_off moment Read met old input notes new = (steps : ℕ) × AnswersAll step settles moment old (ended [] input) notes new steps
-EndsGroupsBy step fails settles breaks_off moment Write met old input notes new = BreaksAmong step fails settles breaks_off moment Write old (lines_come met input) notes new
-EndsGroupsBy step fails settles breaks_off moment OutOfMemory met old input notes new = BreaksAmong step fails settles breaks_off moment OutOfMemory old (lines_come met input) notes new
-EndsGroupsBy step fails settles breaks_off moment NoAnswer met old input notes new = BreaksAmong step fails settles breaks_off moment NoAnswer old (lines_come met input) notes new
-EndsGroupsBy step fails settles breaks_off moment Turns met old input notes new = (steps : ℕ) × AnswersAll step settles moment old (ended [] input) notes new steps
+abbrev pub EndsGroupsBy : {S : Type 0} → (S → List ℕ → Call → Answer → S → Type 0) → Bool → (S → List Message → S → Type 0) → (S → S → Type 0) → (S → S → Type 0) → (S → ℕ) → ServeFault → Bool → S → List ℕ → List Note → S → Type 0
+EndsGroupsBy step together fails settles breaks_off moment Read met old input notes new = (steps : ℕ) × AnswersAll step settles moment old (ended [] input) notes new steps
+EndsGroupsBy step together fails settles breaks_off moment Write met old input notes new = BreaksAmong step together fails settles breaks_off moment Write old (lines_come met input) notes new
+EndsGroupsBy step together fails settles breaks_off moment OutOfMemory met old input notes new = BreaksAmong step together fails settles breaks_off moment OutOfMemory old (lines_come met input) notes new
+EndsGroupsBy step together fails settles breaks_off moment NoAnswer met old input notes new = BreaksAmong step together fails settles breaks_off moment NoAnswer old (lines_come met input) notes new
+EndsGroupsBy step together fails settles breaks_off moment Turns met old input notes new = (steps : ℕ) × AnswersAll step settles moment old (ended [] input) notes new steps
 
 -- the reader is read to its end, its lines are answered in groups, and nothing else is written
 pub record ServesGroups {R W S : Type 0} (remaining : R → Option (List ℕ)) (contents : W → Option (List ℕ)) (step : S → List ℕ → Call → Answer → S → Type 0) (settles : S → S → Type 0) (moment : S → ℕ)
@@ -83,11 +84,11 @@ pub record ServesGroups {R W S : Type 0} (remaining : R → Option (List ℕ)) (
   pub writer_works : has_failed writer_new ≡ false
 
 -- serving stops with the fault, where it may make so many reads
-pub record StopsGroups {R W S : Type 0} (remaining : R → Option (List ℕ)) (contents : W → Option (List ℕ)) (step : S → List ℕ → Call → Answer → S → Type 0) (fails : S → List ℕ → Call → S → Type 0)
+pub record StopsGroups {R W S : Type 0} (remaining : R → Option (List ℕ)) (contents : W → Option (List ℕ)) (step : S → List ℕ → Call → Answer → S → Type 0) (together : Bool) (fails : S → List Message → S → Type 0)
     (settles breaks_off : S → S → Type 0) (moment : S → ℕ) (most : ℕ) (reader_old reader_new : Tap R) (writer_old writer_new : Tap W) (old new : S) (fault : ServeFault) : Type 0 where
   pub input : List ℕ
   pub notes : List Note
   pub reads : Consumes (remaining (inside reader_old)) (remaining (inside reader_new)) input
   pub writes : IsNoted contents writer_old writer_new notes
-  pub ends : EndsGroupsBy step fails settles breaks_off moment fault (has_ended reader_new) old input notes new
+  pub ends : EndsGroupsBy step together fails settles breaks_off moment fault (has_ended reader_new) old input notes new
   pub cause : HasCause fault most reader_old reader_new (has_failed writer_new)

@@ -21,7 +21,7 @@ use Rattle.pana_wire.specs.declared.word.Word.{Word}
 use Rattle.pana_wire.specs.declared.word.Word.TheVariants as words
 use Rattle.pana_wire.specs.declared.fault.WireFault.{WireFault}
 use Rattle.pana_wire.specs.declared.fault.WireFault.TheVariants.{TooLong, NotUtf8, NotJson, NotObject, BadField, OutOfMemory}
-use Rattle.pana_wire.specs.declared.message.Message.{Message}
+use Rattle.pana_calls.specs.declared.message.Message.{Message}
 use Rattle.pana_wire.specs.Field.{field_name}
 use Rattle.pana_wire.specs.Word.{fields_of, word_of}
 

@@ -9,3 +9,4 @@ pub mod Pieces
 pub mod ReportTokens
 pub mod FlatObject
 pub mod FlatEntries
+pub mod Rounds

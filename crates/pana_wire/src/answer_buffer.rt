@@ -52,6 +52,17 @@ impl AnswerBuffer {
         true
     }
 
+    /// Holds answers that have their newlines, where there is room for them all.
+    pub fn hold_all(&mut self, texts: &[u8]) -> bool
+        ensures { self.new ≡ (if result then self.old ++ texts.now else self.old) }
+    {
+        if texts.len() > MOST_HELD - self.bytes.len() {
+            return false;
+        }
+        self.bytes.extend_from_slice(texts).unwrap();
+        true
+    }
+
     /// Holds none.
     pub fn clear(&mut self)
         ensures { self.new ≡ [] }

@@ -1,5 +1,7 @@
 //! Boards, families and stamps as texts.
-use crate::json_writing::{WriteJson, write_flag, write_list, write_number, write_text};
+use crate::json_writing::{
+    WriteJson, write_count, write_flag, write_list, write_number, write_text,
+};
 use json::Writer;
 use pana_calls::{BoardRow, BoardView, CopyStamp, FamilyRow};
 use std::alloc::{AllocError, Global};
@@ -11,12 +13,12 @@ impl WriteJson for BoardRow {
 
     fn write(&self, _alloc: Global, out: &mut Writer<Global>) -> Result<(), AllocError> {
         out.begin_object()?;
-        write_number(out, "conflict", self.conflict)?;
+        write_count(out, "conflict", self.conflict)?;
         write_number(out, "copy", self.copy)?;
         write_text(out, "device", self.place.device.as_str())?;
-        write_number(out, "equal", self.equal)?;
-        write_number(out, "newer", self.newer)?;
-        write_number(out, "older", self.older)?;
+        write_count(out, "equal", self.equal)?;
+        write_count(out, "newer", self.newer)?;
+        write_count(out, "older", self.older)?;
         write_text(out, "path", self.place.path.as_str())?;
         out.end_object()
     }
@@ -47,9 +49,9 @@ impl WriteJson for FamilyRow {
     #[tactic(auto, unfolding(crate::specs::Reply::family_data))]
     fn write(&self, _alloc: Global, out: &mut Writer<Global>) -> Result<(), AllocError> {
         out.begin_object()?;
-        write_number(out, "copies", self.copies)?;
+        write_count(out, "copies", self.copies)?;
         write_number(out, "family", self.family)?;
-        write_number(out, "newest", self.newest)?;
+        write_count(out, "newest", self.newest)?;
         write_flag(out, "split", self.split)?;
         out.end_object()
     }

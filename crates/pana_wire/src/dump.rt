@@ -37,7 +37,7 @@ fn read_entries(reader: &mut LineReader, line: &[u8]) -> Result<EntryList, WireF
     ensures exact { Gives result (dump_says line.now) }
     ensures memory { IfErr result (λ fault. fault ≡ WireFault.OutOfMemory → IsDumpText line.now) }
 {
-    let LineReader { alloc, scratch } = reader;
+    let LineReader { alloc, scratch, .. } = reader;
     let text = text_within(line, LONGEST_DUMP)?;
     if let Some(entries) = flat_entries(*alloc, text, scratch) {
         return Ok(entries);

@@ -7,7 +7,7 @@ ghost use Rattle.pana_wire.specs.Report.{entry_data};
 ghost use Rattle.pana_wire.specs.Reply.{entries_data};
 ghost use Rattle.pana_wire.specs.inner.LongLine.{IsKnown, IsTextOf};
 
-use crate::json_writing::{begun_text, written_text};
+use crate::json_writing::{begun_text, first_room, written_text};
 use crate::report_writing::write_report;
 use json::Writer;
 use pana_journal::Entry;
@@ -51,7 +51,7 @@ pub(crate) fn write_entries(
 pub(crate) fn encode_one(alloc: Global, entry: &Entry) -> Result<String, AllocError>
     ensures { IfOk result (λ text. IsTextOf entry.now (string_bytes text)) }
 {
-    let mut out = begun_text(alloc)?;
+    let mut out = begun_text(first_room(alloc)?);
     write_entry(alloc, &mut out, entry)?;
     Ok(written_text(out))
 }

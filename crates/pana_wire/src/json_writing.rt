@@ -67,6 +67,42 @@ pub(crate) fn write_number(
     out.u64(number)
 }
 
+/// The text of a number of one digit.
+fn digit(number: u64) -> Option<&'static str>
+    ensures { IfSome result (λ text. text.now ≡ decimal number) }
+{
+    match number {
+        0 => Some("0"),
+        1 => Some("1"),
+        2 => Some("2"),
+        3 => Some("3"),
+        4 => Some("4"),
+        5 => Some("5"),
+        6 => Some("6"),
+        7 => Some("7"),
+        8 => Some("8"),
+        9 => Some("9"),
+        _ => None,
+    }
+}
+
+/// The same of a number that most often has one digit, which is written faster.
+pub(crate) fn write_count(
+    out: &mut Writer<Global>,
+    name: &str,
+    count: u64,
+) -> Result<(), AllocError>
+    ensures tokens { OnOk result (out.new.tokens ≡ out.old.tokens ++ key name.now ∷ Token.number (decimal count) ∷ []) }
+    ensures before { OnOk result (out.new.before ≡ out.old.before) }
+    ensures number { count < 2 ^ 64 }
+{
+    out.key(name)?;
+    match digit(count) {
+        Some(text) => out.number(text),
+        None => out.u64(count),
+    }
+}
+
 /// Writes a member where its content is given, and else nothing.
 pub(crate) fn write_number_if_given(
     out: &mut Writer<Global>,
@@ -138,23 +174,33 @@ pub(crate) fn write_list<T: WriteJson>(
 /// How many bytes a text has room for at first: most have no more.
 const FIRST_ROOM: usize = 128;
 
-/// No token yet. Fails only where memory runs out.
-pub(crate) fn begun_text(alloc: Global) -> Result<Writer<Global>, AllocError>
-    ensures tokens { IfOk result (λ out. out.tokens ≡ []) }
-    ensures before { IfOk result (λ out. out.before ≡ []) }
+/// Room for most texts. Fails only where memory runs out.
+pub(crate) fn first_room(alloc: Global) -> Result<Vec<u8>, AllocError>
+    ensures { IfOk result (λ room. room.items ≡ []) }
 {
-    Ok(Writer::new(Vec::with_capacity(alloc, FIRST_ROOM)?))
+    Vec::with_capacity(alloc, FIRST_ROOM)
 }
 
-/// The text of an object with one member. Fails only where memory runs out.
+/// No token yet, in the room that is given. Takes no memory.
+pub(crate) fn begun_text(room: Vec<u8>) -> Writer<Global>
+    requires { room.items ≡ [] }
+    ensures tokens { result.tokens ≡ [] }
+    ensures before { result.before ≡ [] }
+{
+    Writer::new(room)
+}
+
+/// The text of an object with one member, in the room that is given. Fails only where memory runs out.
 pub(crate) fn member_text<T: WriteJson>(
     alloc: Global,
+    room: Vec<u8>,
     name: &str,
     content: &T,
 ) -> Result<String, AllocError>
+    requires { room.items ≡ [] }
     ensures { IfOk result (λ text. string_bytes text ≡ compact_text (object (member name.now (T.json content.now) no_members))) }
 {
-    let mut out = begun_text(alloc)?;
+    let mut out = begun_text(room);
     out.begin_object()?;
     out.key(name)?;
     content.write(alloc, &mut out)?;
@@ -162,15 +208,17 @@ pub(crate) fn member_text<T: WriteJson>(
     Ok(written_text(out))
 }
 
-/// The text of an object whose one member is an array of these. Fails only where memory runs out.
+/// The text of an object whose one member is an array of these, in the room that is given. Fails only where memory runs out.
 pub(crate) fn list_text<T: WriteJson>(
     alloc: Global,
+    room: Vec<u8>,
     name: &str,
     items: &[T],
 ) -> Result<String, AllocError>
+    requires { room.items ≡ [] }
     ensures { IfOk result (λ text. string_bytes text ≡ compact_text (object (member name.now (array (items_of (map T.json items.now))) no_members))) }
 {
-    let mut out = begun_text(alloc)?;
+    let mut out = begun_text(room);
     out.begin_object()?;
     out.key(name)?;
     write_list(alloc, &mut out, items)?;

@@ -1,15 +1,14 @@
-ghost use Rattle.std.specs.Prelude.{◌≡◌, ◌≢◌, IfErr, OnOk};
+ghost use Rattle.std.specs.Prelude.{◌≡◌, ◌≢◌, [], IfErr, OnOk};
 ghost use Rattle.serde_json.specs.View.{view};
 ghost use Rattle.pana_wire.specs.Line.{Gives, IsText, Shows, text_within, data_in, object_in, device_in, path_in, number_in, sum_in, journal_query, number_or_none, seconds_in, seconds_or_none, device_or_none, sum_or_none, place_in, word_in, numbered_in, report_in, asked_in, call_in, message_in, line_says};
 
 use crate::fault::WireFault;
 use crate::field::Field;
 use crate::flat_object::flat_object;
-use crate::message::Message;
 use crate::object::Object;
 use crate::word::{Word, word_of};
 use json::Scratch;
-use pana_calls::{Call, Query, Sighting};
+use pana_calls::{Call, Message, Query, Sighting};
 use pana_copies::{CopyPath, DeviceName, NameFault, Place, Sum};
 use pana_journal::Report;
 use serde_json::Value;
@@ -26,6 +25,8 @@ const LONGEST_WAIT: u64 = 3600;
 pub struct LineReader {
     pub alloc: Global,
     pub scratch: Scratch<Global>,
+    // For the texts of answers.
+    pub room: Vec<u8>,
 }
 
 impl LineReader {
@@ -34,7 +35,22 @@ impl LineReader {
         LineReader {
             alloc,
             scratch: Scratch::new(alloc),
+            room: Vec::new(alloc),
         }
+    }
+
+    /// Room for a text: that of the last one that was given back. Takes no memory.
+    pub(crate) fn take_room(&mut self) -> Vec<u8>
+        ensures { result.items ≡ [] }
+    {
+        let mut room = std::mem::replace(&mut self.room, Vec::new(self.alloc));
+        room.clear();
+        room
+    }
+
+    /// Keeps the room of a text for the next one. Takes no memory.
+    pub(crate) fn give_back(&mut self, text: String) {
+        self.room = text.into_bytes();
     }
 
     /// Where memory is taken from.
@@ -50,7 +66,7 @@ impl LineReader {
         ensures exact { Gives result (line_says line.now) }
         ensures memory { IfErr result (λ fault. fault ≡ WireFault.OutOfMemory → IsText line.now) }
     {
-        let LineReader { alloc, scratch } = self;
+        let LineReader { alloc, scratch, .. } = self;
         let text = text_within(line, LONGEST_LINE)?;
         if let Some(object) = flat_object(*alloc, text, scratch) {
             return message_in(*alloc, &object);

@@ -10,7 +10,9 @@ ghost use Rattle.pana_wire.specs.inner.Names.{HasNames};
 ghost use Rattle.pana_wire.specs.inner.Pieces.{text_tokens};
 ghost use Rattle.pana_wire.specs.inner.ReportTokens.{given_place, numbers_of, object_of};
 
-use crate::json_writing::{begun_text, write_number_if_given, write_sum, write_text, written_text};
+use crate::json_writing::{
+    begun_text, first_room, write_number_if_given, write_sum, write_text, written_text,
+};
 use crate::word::kind_word;
 use json::Writer;
 use pana_calls::Call;
@@ -26,7 +28,7 @@ pub fn encode_call(alloc: Global, by: &DeviceName, report: &Report) -> Result<St
     ensures text { IfOk result (λ text. string_bytes text ≡ report_text by.now report.now) }
     ensures back { IfOk result (λ text. line_says (string_bytes text) ≡ Ok (record { by = by.now; call = Call.Report report.now })) }
 {
-    let mut out = begun_text(alloc)?;
+    let mut out = begun_text(first_room(alloc)?);
     write_report(alloc, &mut out, by, report, None)?;
     Ok(written_text(out))
 }

@@ -1,4 +1,5 @@
 ghost use Rattle.std.specs.Prelude.{◌≡◌, ◌+◌, ◌^◌, ◌<◌, ◌≤◌, ◌⊎◌, List, ℕ, [], ◌∷◌, ◌++◌, length, false, IfOk, IfErr, OnOk, string_bytes};
+ghost use Rattle.pana_calls.specs.Session.{one};
 ghost use Rattle.pana_calls.specs.declared.answer.Answer.{Answer};
 ghost use Rattle.pana_wire.specs.Answer.{answer_text};
 ghost use Rattle.pana_wire.specs.Tap.{has_failed, MadeAtMost};
@@ -12,11 +13,11 @@ use crate::answer_buffer::AnswerBuffer;
 use crate::cutting::end_of_line;
 use crate::flushing::{write_line, write_out, write_whole};
 use crate::line_buffer::{LineBuffer, first_bytes};
-use crate::message::Message;
 use crate::reading::LineReader;
 use crate::tap::Tap;
-use crate::writing::encode_answer;
-use pana_calls::{Call, Session};
+use crate::together::take_ended;
+use crate::writing::encode_answer_in;
+use pana_calls::{Call, Message, Session};
 use pana_copies::DeviceName;
 use std::alloc::{AllocError, Global};
 use std::error::Error;
@@ -69,9 +70,9 @@ impl Error for ServeFault {}
 
 impl Served {
     /// No line yet.
-    const NOTHING: Served = Served { lines: 0, calls: 0 };
+    pub(crate) const NOTHING: Served = Served { lines: 0, calls: 0 };
 
-    fn and(self, more: Served) -> Served
+    pub(crate) fn and(self, more: Served) -> Served
         requires lines { self.lines + more.lines < 2 ^ 64 }
         requires calls { self.calls + more.calls < 2 ^ 64 }
         ensures { result ≡ both self more }
@@ -97,13 +98,15 @@ impl Served {
 /// was made can't; `Read` where a read failed; `Write` where a write failed or took none of some bytes; `NoAnswer` where
 /// a call has none, or where the session couldn't settle; `Turns` after this many reads without the end. What was written is
 /// then a prefix of the answers to the lines that came, and no byte of an answer whose call wasn't settled; further calls of
-/// these lines may have been made.
+/// these lines may have been made. On a session that keeps calls together (`Session::keeps_together`) the calls of up to 100 lines
+/// that have come together are made by one `call_all`, so of several of them it may not be known whether they were made.
 ///
 /// A tap that had ended before may be lent too: it is read again, and of `Read` and `Turns` it isn't known then
 /// whether the end was met anew.
 ///
-/// It takes 196,609 bytes at the start, then as many as the longest line has, and for each line no more than `decode`, the call
-/// and `encode` do, which is given back before the next line. O(n) in the bytes that are read, besides these.
+/// It takes 196,609 bytes at the start, then as many as the longest line and the longest answer have, and for each line no more than
+/// `decode`, the call and `encode` do, which is given back before the next line; or, where calls are made together, for up to 100
+/// lines. O(n) in the bytes that are read, besides these.
 pub fn serve_groups<R: Read, W: Write, S: Session>(
     alloc: Global,
     reader: &mut Tap<R>,
@@ -118,7 +121,7 @@ pub fn serve_groups<R: Read, W: Write, S: Session>(
         reader.old reader.new writer.old writer.new session.old session.new) }
     ensures fault { IfErr result (λ fault.
         NeverBegins reader.old reader.new writer.old writer.new session.old session.new fault
-        ⊎ StopsGroups R.remaining W.contents S.step S.fails S.settles S.breaks_off S.moment reads
+        ⊎ StopsGroups R.remaining W.contents S.step S.keeps_together S.fails S.settles S.breaks_off S.moment reads
         reader.old reader.new writer.old writer.new session.old session.new fault) }
     ensures reads { MadeAtMost reads reader.old reader.new }
 {
@@ -159,10 +162,10 @@ pub fn serve<R: Read, W: Write, S: Session>(
         reader.old reader.new writer.old writer.new session.old session.new) }
     ensures fault { IfErr result (λ fault.
         NeverBegins reader.old reader.new writer.old writer.new session.old session.new fault
-        ⊎ Stops R.remaining W.contents S.step S.fails reads
+        ⊎ Stops R.remaining W.contents S.step S.keeps_together S.fails reads
         reader.old reader.new writer.old writer.new session.old session.new fault) }
     ensures reads { MadeAtMost reads reader.old reader.new }
-    ensures timely { IsTimely W.contents S.step S.fails S.moment writer.old writer.new session.old session.new }
+    ensures timely { IsTimely W.contents S.step S.keeps_together S.fails S.moment writer.old writer.new session.old session.new }
 {
     serve_groups(alloc, reader, writer, session, reads)
 }
@@ -210,7 +213,7 @@ fn serve_lines<R: Read, W: Write, S: Session>(
     requires reads { reads ≤ 2 ^ 40 }
     ensures ok { IfOk result (ServesGroups R.remaining W.contents S.step S.settles S.moment
         reader.old reader.new writer.old writer.new session.old session.new) }
-    ensures fault { IfErr result (StopsGroups R.remaining W.contents S.step S.fails S.settles S.breaks_off S.moment reads
+    ensures fault { IfErr result (StopsGroups R.remaining W.contents S.step S.keeps_together S.fails S.settles S.breaks_off S.moment reads
         reader.old reader.new writer.old writer.new session.old session.new) }
     ensures reads { MadeAtMost reads reader.old reader.new }
 {
@@ -241,9 +244,9 @@ fn take_piece<W: Write, S: Session>(
     piece: &[u8],
 ) -> Result<Served, ServeFault>
     requires { has_failed writer.old ≡ false }
-    ensures ok { IfOk result (λ served. (begun : List ℕ) → IsHeldOf held.old begun → Advances W.contents S.step S.fails S.settles S.breaks_off S.moment
+    ensures ok { IfOk result (λ served. (begun : List ℕ) → IsHeldOf held.old begun → Advances W.contents S.step S.keeps_together S.fails S.settles S.breaks_off S.moment
         writer.old writer.new session.old session.new answers.old [] (ended begun piece.now) served.calls) }
-    ensures fault { IfErr result (λ fault. (begun : List ℕ) → IsHeldOf held.old begun → BreaksNext W.contents S.step S.fails S.settles S.breaks_off S.moment
+    ensures fault { IfErr result (λ fault. (begun : List ℕ) → IsHeldOf held.old begun → BreaksNext W.contents S.step S.keeps_together S.fails S.settles S.breaks_off S.moment
         writer.old writer.new session.old session.new answers.old (ended begun piece.now) fault) }
     ensures held { OnOk result ((begun : List ℕ) → IsHeldOf held.old begun → IsHeldOf held.new (unended begun piece.now)) }
     ensures lines { IfOk result (λ served. (begun : List ℕ) → served.lines ≡ length (ended begun piece.now)) }
@@ -252,13 +255,13 @@ fn take_piece<W: Write, S: Session>(
     ensures empty { OnOk result (answers.new ≡ []) }
     ensures out { IfErr result (IsOutFault (has_failed writer.new)) }
 {
-    let served = take_lines(lines, answers, writer, session, held, piece)?;
+    let served = take_ended(lines, answers, writer, session, held, piece)?;
     send(answers, writer, session)?;
     Ok(served)
 }
 
 /// Makes the calls of the lines that end in the piece.
-fn take_lines<W: Write, S: Session>(
+pub(crate) fn take_lines<W: Write, S: Session>(
     lines: &mut LineReader,
     answers: &mut AnswerBuffer,
     writer: &mut Tap<W>,
@@ -267,9 +270,9 @@ fn take_lines<W: Write, S: Session>(
     piece: &[u8],
 ) -> Result<Served, ServeFault>
     requires { has_failed writer.old ≡ false }
-    ensures ok { IfOk result (λ served. (begun : List ℕ) → IsHeldOf held.old begun → Advances W.contents S.step S.fails S.settles S.breaks_off S.moment
+    ensures ok { IfOk result (λ served. (begun : List ℕ) → IsHeldOf held.old begun → Advances W.contents S.step S.keeps_together S.fails S.settles S.breaks_off S.moment
         writer.old writer.new session.old session.new answers.old answers.new (ended begun piece.now) served.calls) }
-    ensures fault { IfErr result (λ fault. (begun : List ℕ) → IsHeldOf held.old begun → BreaksNext W.contents S.step S.fails S.settles S.breaks_off S.moment
+    ensures fault { IfErr result (λ fault. (begun : List ℕ) → IsHeldOf held.old begun → BreaksNext W.contents S.step S.keeps_together S.fails S.settles S.breaks_off S.moment
         writer.old writer.new session.old session.new answers.old (ended begun piece.now) fault) }
     ensures held { OnOk result ((begun : List ℕ) → IsHeldOf held.old begun → IsHeldOf held.new (unended begun piece.now)) }
     ensures lines { IfOk result (λ served. (begun : List ℕ) → served.lines ≡ length (ended begun piece.now)) }
@@ -289,7 +292,7 @@ fn take_lines<W: Write, S: Session>(
 }
 
 /// Makes the call of the line that ends with these bytes, behind those that are held.
-fn take_line<W: Write, S: Session>(
+pub(crate) fn take_line<W: Write, S: Session>(
     lines: &mut LineReader,
     answers: &mut AnswerBuffer,
     writer: &mut Tap<W>,
@@ -298,9 +301,9 @@ fn take_line<W: Write, S: Session>(
     last: &[u8],
 ) -> Result<Served, ServeFault>
     requires { has_failed writer.old ≡ false }
-    ensures ok { IfOk result (λ served. (begun : List ℕ) → IsHeldOf held.old begun → Advances W.contents S.step S.fails S.settles S.breaks_off S.moment
+    ensures ok { IfOk result (λ served. (begun : List ℕ) → IsHeldOf held.old begun → Advances W.contents S.step S.keeps_together S.fails S.settles S.breaks_off S.moment
         writer.old writer.new session.old session.new answers.old answers.new ((begun ++ last.now) ∷ []) served.calls) }
-    ensures fault { IfErr result (λ fault. (begun : List ℕ) → IsHeldOf held.old begun → BreaksNext W.contents S.step S.fails S.settles S.breaks_off S.moment
+    ensures fault { IfErr result (λ fault. (begun : List ℕ) → IsHeldOf held.old begun → BreaksNext W.contents S.step S.keeps_together S.fails S.settles S.breaks_off S.moment
         writer.old writer.new session.old session.new answers.old ((begun ++ last.now) ∷ []) fault) }
     ensures held { OnOk result (held.new ≡ []) }
     ensures few { IfOk result (λ served. (served.calls ≤ 1) × (served.lines ≡ 1)) }
@@ -326,9 +329,9 @@ fn finish<W: Write, S: Session>(
 ) -> Result<Served, ServeFault>
     requires works { has_failed writer.old ≡ false }
     requires empty { answers.old ≡ [] }
-    ensures ok { IfOk result (λ served. (line : List ℕ) → IsHeldOf held.now line → Advances W.contents S.step S.fails S.settles S.breaks_off S.moment
+    ensures ok { IfOk result (λ served. (line : List ℕ) → IsHeldOf held.now line → Advances W.contents S.step S.keeps_together S.fails S.settles S.breaks_off S.moment
         writer.old writer.new session.old session.new answers.old [] (last_line line) served.calls) }
-    ensures fault { IfErr result (λ fault. (line : List ℕ) → IsHeldOf held.now line → BreaksNext W.contents S.step S.fails S.settles S.breaks_off S.moment
+    ensures fault { IfErr result (λ fault. (line : List ℕ) → IsHeldOf held.now line → BreaksNext W.contents S.step S.keeps_together S.fails S.settles S.breaks_off S.moment
         writer.old writer.new session.old session.new answers.old (last_line line) fault) }
     ensures lines { IfOk result (λ served. (line : List ℕ) → IsHeldOf held.now line → served.lines ≡ length (last_line line)) }
     ensures few { IfOk result (λ served. (served.calls ≤ 1) × (served.lines ≤ 1)) }
@@ -352,9 +355,9 @@ fn answer<W: Write, S: Session>(
     held: &[u8],
 ) -> Result<Served, ServeFault>
     requires { has_failed writer.old ≡ false }
-    ensures ok { IfOk result (λ served. (line : List ℕ) → IsHeldOf held.now line → Advances W.contents S.step S.fails S.settles S.breaks_off S.moment
+    ensures ok { IfOk result (λ served. (line : List ℕ) → IsHeldOf held.now line → Advances W.contents S.step S.keeps_together S.fails S.settles S.breaks_off S.moment
         writer.old writer.new session.old session.new answers.old answers.new (line ∷ []) served.calls) }
-    ensures fault { IfErr result (λ fault. (line : List ℕ) → IsHeldOf held.now line → BreaksNext W.contents S.step S.fails S.settles S.breaks_off S.moment
+    ensures fault { IfErr result (λ fault. (line : List ℕ) → IsHeldOf held.now line → BreaksNext W.contents S.step S.keeps_together S.fails S.settles S.breaks_off S.moment
         writer.old writer.new session.old session.new answers.old (line ∷ []) fault) }
     ensures few { IfOk result (λ served. (served.calls ≤ 1) × (served.lines ≡ 1)) }
     ensures works { OnOk result (has_failed writer.new ≡ false) }
@@ -367,8 +370,12 @@ fn answer<W: Write, S: Session>(
             return Ok(Served { lines: 1, calls: 0 });
         }
     };
-    match make(lines.alloc(), session, &by, call) {
-        Ok(text) => put(answers, writer, session, text.as_str())?,
+    let room = lines.take_room();
+    match make(lines.alloc(), room, session, &by, call) {
+        Ok(text) => {
+            put(answers, writer, session, text.as_str())?;
+            lines.give_back(text);
+        }
         Err(fault) => {
             release(answers, writer, session)?;
             return Err(fault);
@@ -377,20 +384,22 @@ fn answer<W: Write, S: Session>(
     Ok(Served { lines: 1, calls: 1 })
 }
 
-/// Makes a call; the text of its answer.
+/// Makes a call; the text of its answer, in the room that is given.
 fn make<S: Session>(
     alloc: Global,
+    room: Vec<u8>,
     session: &mut S,
     by: &DeviceName,
     call: Call,
 ) -> Result<String, ServeFault>
+    requires { room.items ≡ [] }
     ensures answer { IfOk result (λ text. (answer : Answer) × S.step session.old by.now call answer session.new × (string_bytes text ≡ answer_text answer)) }
-    ensures fault { IfErr result (IsLost S.step S.fails session.old by.now call session.new) }
+    ensures fault { IfErr result (IsLost S.step (one S.fails) session.old by.now call session.new) }
 {
     let Ok(answer) = session.call(by, call) else {
         return Err(ServeFault::NoAnswer);
     };
-    match encode_answer(alloc, &answer) {
+    match encode_answer_in(alloc, room, &answer) {
         Ok(text) => Ok(text),
         Err(_) => Err(ServeFault::OutOfMemory),
     }
@@ -404,8 +413,8 @@ fn put<W: Write, S: Session>(
     text: &str,
 ) -> Result<(), ServeFault>
     requires { has_failed writer.old ≡ false }
-    ensures ok { OnOk result (Puts W.contents S.step S.fails S.settles S.breaks_off S.moment writer.old writer.new session.old session.new answers.old answers.new (text.now ++ 10 ∷ [])) }
-    ensures err { IfErr result (Holds W.contents S.step S.fails S.settles S.breaks_off S.moment writer.old writer.new session.old session.new (answers.old ++ (text.now ++ 10 ∷ []))) }
+    ensures ok { OnOk result (Puts W.contents S.step S.keeps_together S.fails S.settles S.breaks_off S.moment writer.old writer.new session.old session.new answers.old answers.new (text.now ++ 10 ∷ [])) }
+    ensures err { IfErr result (Holds W.contents S.step S.keeps_together S.fails S.settles S.breaks_off S.moment writer.old writer.new session.old session.new (answers.old ++ (text.now ++ 10 ∷ []))) }
     ensures works { OnOk result (has_failed writer.new ≡ false) }
     ensures out { IfErr result (IsOutFault (has_failed writer.new)) }
 {
@@ -428,9 +437,9 @@ fn send<W: Write, S: Session>(
     session: &mut S,
 ) -> Result<(), ServeFault>
     requires { has_failed writer.old ≡ false }
-    ensures ok { OnOk result (((writer.new ≡ writer.old) × (session.new ≡ session.old) × (answers.old ≡ [])) ⊎ Releases W.contents S.step S.fails S.settles S.breaks_off S.moment writer.old writer.new session.old session.new answers.old) }
+    ensures ok { OnOk result (((writer.new ≡ writer.old) × (session.new ≡ session.old) × (answers.old ≡ [])) ⊎ Releases W.contents S.step S.keeps_together S.fails S.settles S.breaks_off S.moment writer.old writer.new session.old session.new answers.old) }
     ensures empty { OnOk result (answers.new ≡ []) }
-    ensures err { IfErr result (Holds W.contents S.step S.fails S.settles S.breaks_off S.moment writer.old writer.new session.old session.new answers.old) }
+    ensures err { IfErr result (Holds W.contents S.step S.keeps_together S.fails S.settles S.breaks_off S.moment writer.old writer.new session.old session.new answers.old) }
     ensures works { OnOk result (has_failed writer.new ≡ false) }
     ensures out { IfErr result (IsOutFault (has_failed writer.new)) }
 {
@@ -447,9 +456,9 @@ fn release<W: Write, S: Session>(
     session: &mut S,
 ) -> Result<(), ServeFault>
     requires { has_failed writer.old ≡ false }
-    ensures ok { OnOk result (Releases W.contents S.step S.fails S.settles S.breaks_off S.moment writer.old writer.new session.old session.new answers.old) }
+    ensures ok { OnOk result (Releases W.contents S.step S.keeps_together S.fails S.settles S.breaks_off S.moment writer.old writer.new session.old session.new answers.old) }
     ensures empty { OnOk result (answers.new ≡ []) }
-    ensures err { IfErr result (Holds W.contents S.step S.fails S.settles S.breaks_off S.moment writer.old writer.new session.old session.new answers.old) }
+    ensures err { IfErr result (Holds W.contents S.step S.keeps_together S.fails S.settles S.breaks_off S.moment writer.old writer.new session.old session.new answers.old) }
     ensures works { OnOk result (has_failed writer.new ≡ false) }
     ensures out { IfErr result (IsOutFault (has_failed writer.new)) }
 {

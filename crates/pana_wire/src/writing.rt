@@ -1,4 +1,4 @@
-ghost use Rattle.std.specs.Prelude.{◌≡◌, IfOk, string_bytes};
+ghost use Rattle.std.specs.Prelude.{◌≡◌, IfOk, [], string_bytes};
 ghost use Rattle.pana_calls.specs.declared.reply.Reply.TheVariants.{Did, Journal, Pair, Refused};
 ghost use Rattle.pana_wire.specs.Dump.{IsReadBack, entries_text};
 ghost use Rattle.pana_wire.specs.Answer.{answer_text};
@@ -6,8 +6,8 @@ ghost use Rattle.pana_wire.specs.Reply.{reply_text};
 
 use crate::entry_writing::write_entries;
 use crate::json_writing::{
-    begun_text, list_text, member_text, write_number, write_number_if_given, write_text,
-    written_text,
+    begun_text, first_room, list_text, member_text, write_number, write_number_if_given,
+    write_text, written_text,
 };
 use crate::word::kind_word;
 use pana_calls::{Answer, Cause, Reply};
@@ -27,20 +27,29 @@ pub fn encode(alloc: Global, reply: &Reply) -> Result<String, AllocError>
     ensures text { IfOk result (λ text. string_bytes text ≡ reply_text reply.now) }
     ensures back { IfOk result (λ text. IsReadBack reply.now (string_bytes text)) }
 {
+    encode_in(alloc, first_room(alloc)?, reply)
+}
+
+/// The same in the room that is given.
+fn encode_in(alloc: Global, room: Vec<u8>, reply: &Reply) -> Result<String, AllocError>
+    requires { room.items ≡ [] }
+    ensures text { IfOk result (λ text. string_bytes text ≡ reply_text reply.now) }
+    ensures back { IfOk result (λ text. IsReadBack reply.now (string_bytes text)) }
+{
     match reply {
-        Reply::Done { entry } => member_text(alloc, "done", entry),
-        Reply::Did { kind, entry } => did_text(alloc, *kind, *entry),
-        Reply::Known { copy } => member_text(alloc, "known", copy),
-        Reply::Families(rows) => list_text(alloc, "families", rows.as_slice()),
-        Reply::Board(board) => member_text(alloc, "board", board),
-        Reply::Stamps(stamps) => list_text(alloc, "stamps", stamps.as_slice()),
-        Reply::Pair(rel) => pair_text(alloc, *rel),
-        Reply::Holdings(holdings) => list_text(alloc, "holdings", holdings.as_slice()),
-        Reply::At(standing) => member_text(alloc, "at", standing),
-        Reply::Status(rows) => list_text(alloc, "status", rows.as_slice()),
-        Reply::Journal(entries) => journal_text(alloc, entries.as_slice()),
-        Reply::Counts(counts) => member_text(alloc, "counts", counts),
-        Reply::Refused(cause) => refused_text(alloc, cause),
+        Reply::Done { entry } => member_text(alloc, room, "done", entry),
+        Reply::Did { kind, entry } => did_text(room, *kind, *entry),
+        Reply::Known { copy } => member_text(alloc, room, "known", copy),
+        Reply::Families(rows) => list_text(alloc, room, "families", rows.as_slice()),
+        Reply::Board(board) => member_text(alloc, room, "board", board),
+        Reply::Stamps(stamps) => list_text(alloc, room, "stamps", stamps.as_slice()),
+        Reply::Pair(rel) => pair_text(room, *rel),
+        Reply::Holdings(holdings) => list_text(alloc, room, "holdings", holdings.as_slice()),
+        Reply::At(standing) => member_text(alloc, room, "at", standing),
+        Reply::Status(rows) => list_text(alloc, room, "status", rows.as_slice()),
+        Reply::Journal(entries) => journal_text(alloc, room, entries.as_slice()),
+        Reply::Counts(counts) => member_text(alloc, room, "counts", counts),
+        Reply::Refused(cause) => refused_text(room, cause),
     }
 }
 
@@ -50,16 +59,29 @@ pub fn encode(alloc: Global, reply: &Reply) -> Result<String, AllocError>
 pub fn encode_answer(alloc: Global, answer: &Answer) -> Result<String, AllocError>
     ensures { IfOk result (λ text. string_bytes text ≡ answer_text answer.now) }
 {
+    encode_answer_in(alloc, first_room(alloc)?, answer)
+}
+
+/// The same in the room that is given.
+pub(crate) fn encode_answer_in(
+    alloc: Global,
+    room: Vec<u8>,
+    answer: &Answer,
+) -> Result<String, AllocError>
+    requires { room.items ≡ [] }
+    ensures { IfOk result (λ text. string_bytes text ≡ answer_text answer.now) }
+{
     match answer {
-        Answer::Given(reply) => encode(alloc, reply),
+        Answer::Given(reply) => encode_in(alloc, room, reply),
         Answer::NotKept => String::from_str(alloc, NOT_KEPT),
     }
 }
 
-fn did_text(alloc: Global, kind: ReportKind, entry: u64) -> Result<String, AllocError>
+fn did_text(room: Vec<u8>, kind: ReportKind, entry: u64) -> Result<String, AllocError>
+    requires { room.items ≡ [] }
     ensures { IfOk result (λ text. string_bytes text ≡ reply_text (Did kind entry)) }
 {
-    let mut out = begun_text(alloc)?;
+    let mut out = begun_text(room);
     out.begin_object()?;
     write_text(&mut out, "did", kind_word(kind).name())?;
     write_number(&mut out, "done", entry)?;
@@ -67,20 +89,22 @@ fn did_text(alloc: Global, kind: ReportKind, entry: u64) -> Result<String, Alloc
     Ok(written_text(out))
 }
 
-fn pair_text(alloc: Global, rel: Rel) -> Result<String, AllocError>
+fn pair_text(room: Vec<u8>, rel: Rel) -> Result<String, AllocError>
+    requires { room.items ≡ [] }
     ensures { IfOk result (λ text. string_bytes text ≡ reply_text (Pair rel)) }
 {
-    let mut out = begun_text(alloc)?;
+    let mut out = begun_text(room);
     out.begin_object()?;
     write_text(&mut out, "pair", rel.name())?;
     out.end_object()?;
     Ok(written_text(out))
 }
 
-fn refused_text(alloc: Global, cause: &Cause) -> Result<String, AllocError>
+fn refused_text(room: Vec<u8>, cause: &Cause) -> Result<String, AllocError>
+    requires { room.items ≡ [] }
     ensures { IfOk result (λ text. string_bytes text ≡ reply_text (Refused cause.now)) }
 {
-    let mut out = begun_text(alloc)?;
+    let mut out = begun_text(room);
     out.begin_object()?;
     write_number(&mut out, "code", u64::from(cause.code()))?;
     write_number_if_given(&mut out, "copy", cause.copy())?;
@@ -89,11 +113,12 @@ fn refused_text(alloc: Global, cause: &Cause) -> Result<String, AllocError>
     Ok(written_text(out))
 }
 
-fn journal_text(alloc: Global, entries: &[Entry]) -> Result<String, AllocError>
+fn journal_text(alloc: Global, room: Vec<u8>, entries: &[Entry]) -> Result<String, AllocError>
+    requires { room.items ≡ [] }
     ensures text { IfOk result (λ text. string_bytes text ≡ entries_text entries.now) }
     ensures back { IfOk result (λ text. IsReadBack (Journal entries.now) (string_bytes text)) }
 {
-    let mut out = begun_text(alloc)?;
+    let mut out = begun_text(room);
     out.begin_object()?;
     out.key("entries")?;
     write_entries(alloc, &mut out, entries)?;

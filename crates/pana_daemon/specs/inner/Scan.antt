@@ -1,6 +1,8 @@
 -- Parts of a scanner's work.
-use Rattle.std.specs.Prelude.{◌≡◌, ◌≢◌, ◌⊎◌, ℕ, Bool, true, false, List, [], ◌∷◌, ◌++◌, Option, Some, None, Result, Ok, Err, IfOk}
+use Rattle.std.specs.Prelude.{◌≡◌, ◌≢◌, ◌⊎◌, ℕ, Bool, true, false, List, [], ◌∷◌, ◌++◌, length, Option, Some, None, Result, Ok, Err, IfOk}
+use Rattle.pana_calls.specs.Session.{one}
 use Rattle.pana_calls.specs.declared.call.Call.{Call}
+use Rattle.pana_calls.specs.declared.message.Message.{Message}
 use Rattle.pana_calls.specs.declared.call.Call.TheVariants as calls
 use Rattle.pana_calls.specs.declared.call.Query.TheVariants as queries
 use Rattle.pana_calls.specs.declared.holding.Holding.{Holding}
@@ -11,7 +13,7 @@ use Rattle.pana_scan.specs.declared.baseline.BaselineRow.{BaselineRow}
 use Rattle.pana_scan.specs.declared.scan_fault.ScanFault.{ScanFault}
 use Rattle.pana_scan.specs.declared.step.Step.{Step}
 use Rattle.pana_scan.specs.Listing.{Contents}
-use Rattle.pana_track.specs.Calls.{Asked, Makes}
+use Rattle.pana_track.specs.Calls.{Asked, Makes, asked}
 use Rattle.pana_track.specs.declared.folder_end.FolderEnd.{FolderEnd}
 use Rattle.pana_track.specs.declared.read_fault.ReadFault.{ReadFault}
 use Rattle.pana_track.specs.declared.reading.TrackedListing.{TrackedListing}
@@ -84,17 +86,30 @@ IsOwn false device (Ok found) = found.listing.device ≢ device
 IsOwn false device (Err fault) = ⊥
 
 -- the session makes the calls of tracking what the folder gave, and this becomes of it
-pub record TracksOnce {S : Type 0} (step : S → List ℕ → Call → Answer → S → Type 0) (device : List ℕ) (given : Result TrackedListing ReadFault) (old new : S) (end : Option FolderEnd) : Type 0 where
+pub record TracksOnce {S : Type 0} (step : S → List ℕ → Call → Answer → S → Type 0) (together : Bool) (device : List ℕ) (given : Result TrackedListing ReadFault) (old new : S) (end : Option FolderEnd) : Type 0 where
   pub made : List Asked
   pub calls : Makes step old made new
-  pub is : IsTracking device given made
-  pub ends : EndsTracking step device given old new end
+  pub is : IsTracking together device given made
+  pub ends : EndsTracking step together device given old new end
 
 -- the session makes the first of these calls, and then one has no answer
-pub record StopsTracking {S : Type 0} (step : S → List ℕ → Call → Answer → S → Type 0) (fails : S → List ℕ → Call → S → Type 0) (device : List ℕ) (given : Result TrackedListing ReadFault) (old new : S) : Type 0 where
+pub record TrackingStopsAtOne {S : Type 0} (step : S → List ℕ → Call → Answer → S → Type 0) (fails : S → List ℕ → Call → S → Type 0) (device : List ℕ) (given : Result TrackedListing ReadFault) (old new : S) : Type 0 where
   pub mid : S
   pub made : List Asked
   pub calls : Makes step old made mid
   pub call : Call
-  pub is : (answer : Answer) → IsTracking device given (made ++ record { by = device; call = call; answer = answer } ∷ [])
+  pub is : (answer : Answer) → IsTracking false device given (made ++ record { by = device; call = call; answer = answer } ∷ [])
   pub ends : fails mid device call new
+
+-- the same where calls may be made together
+pub record TrackingStopsAtSome {S : Type 0} (step : S → List ℕ → Call → Answer → S → Type 0) (fails : S → List Message → S → Type 0) (device : List ℕ) (given : Result TrackedListing ReadFault) (old new : S) : Type 0 where
+  pub mid : S
+  pub made : List Asked
+  pub calls : Makes step old made mid
+  pub messages : List Message
+  pub is : (answers : List Answer) → length answers ≡ length messages → (others : List Asked) × IsTracking true device given (made ++ (asked messages answers ++ others))
+  pub ends : fails mid messages new
+
+abbrev pub StopsTracking : {S : Type 0} → (S → List ℕ → Call → Answer → S → Type 0) → Bool → (S → List Message → S → Type 0) → List ℕ → Result TrackedListing ReadFault → S → S → Type 0
+StopsTracking step false fails device given old new = TrackingStopsAtOne step (one fails) device given old new
+StopsTracking step true fails device given old new = TrackingStopsAtSome step fails device given old new

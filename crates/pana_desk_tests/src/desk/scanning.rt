@@ -130,7 +130,7 @@ fn reported<T: Threads + Wait + Sync>(
     };
     let usb = DeviceName::new("usb")?;
     let mut folder = Lasting { alloc, scans: 0 };
-    let mut session = DeskSession::new(rt, &desk, &IdleSupervisor, 0, pass);
+    let mut session = DeskSession::new(rt, &desk, &IdleSupervisor, 0, pass, None);
     scanner(rt, alloc, &mut session, &usb, &mut folder);
     let answer = session.call(&usb, Call::Query(Query::JournalFrom { entry: 1 }))?;
     let Answer::Given(Reply::Journal(entries)) = answer else {
@@ -167,7 +167,7 @@ fn scanner_plans(rt: HostRuntime) -> Result<(), Fail> {
     };
     let usb = DeviceName::new("usb")?;
     let mut folder = Fading { alloc, scans: 0 };
-    let mut session = DeskSession::new(&rt, &desk, &IdleSupervisor, 0, pass);
+    let mut session = DeskSession::new(&rt, &desk, &IdleSupervisor, 0, pass, None);
     scanner(&rt, alloc, &mut session, &usb, &mut folder);
     let answer = session.call(&usb, Call::Query(Query::JournalFrom { entry: 1 }))?;
     let Answer::Given(Reply::Journal(entries)) = answer else {

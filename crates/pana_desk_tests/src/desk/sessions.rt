@@ -86,7 +86,7 @@ impl Supervisor for Counting {
 
 /// A door with one connection, whose lines are known beforehand and whose answers are dropped.
 #[derive(Drop)]
-struct Prepared<'a> {
+pub(crate) struct Prepared<'a> {
     alloc: Global,
     lines: Option<&'a str>,
 }
@@ -107,7 +107,7 @@ impl<'a> Door for Prepared<'a> {
 
 /// A folder that is never scanned.
 #[derive(Drop)]
-struct NoFolder;
+pub(crate) struct NoFolder;
 
 impl Folder for NoFolder {
     fn next<R: Threads + Sync>(&mut self, _threads: &R) -> Option<Look> {
@@ -118,7 +118,7 @@ impl Folder for NoFolder {
 }
 
 /// A post at a door with these lines.
-fn post<'a>(alloc: Global, lines: &'a str) -> Post<'a, Prepared<'a>, NoFolder> {
+pub(crate) fn post<'a>(alloc: Global, lines: &'a str) -> Post<'a, Prepared<'a>, NoFolder> {
     Post::Door(Prepared {
         alloc,
         lines: Some(lines),

@@ -14,7 +14,8 @@ use Rattle.pana_track.specs.declared.reporting.CallEnd.{CallEnd}
 use Rattle.pana_track.specs.declared.reporting.CallEnd.TheVariants as ends
 use Rattle.pana_track.specs.Calls.{Asked, Makes}
 use Rattle.pana_track.specs.Tally.{noted, noted_all}
-use Rattle.pana_track.specs.Track.{Reports, has_moved, held_by}
+use Rattle.pana_track.specs.Reports.{Reports, has_moved}
+use Rattle.pana_track.specs.Track.{held_by}
 
 -- how a call that reports something ends, by its answer
 abbrev pub end_of : Notice → Answer → CallEnd

@@ -1,5 +1,5 @@
 -- Parts of finding the patterns of a root.
-use Rattle.std.specs.Prelude.{◌≡◌, ℕ, Bool, List, Option, Some, None, option_and_then, Result, Ok, Err}
+use Rattle.std.specs.Prelude.{◌≡◌, Bool, Option, None, option_and_then, Result, Ok, Err}
 use Rattle.std.specs.List.{list_any}
 use Rattle.pana_scan.specs.declared.scan_fault.ScanFault.TheVariants as scan
 use Rattle.pana_scan.specs.Disk.{Content, Names}

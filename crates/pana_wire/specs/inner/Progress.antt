@@ -2,6 +2,7 @@
 use Rattle.std.specs.Prelude.{◌≡◌, ℕ, ◌+◌, ◌⊎◌, List, [], ◌++◌, take, Option, Bool, true, false}
 use Rattle.pana_calls.specs.declared.call.Call.{Call}
 use Rattle.pana_calls.specs.declared.answer.Answer.{Answer}
+use Rattle.pana_calls.specs.declared.message.Message.{Message}
 use Rattle.pana_wire.specs.declared.tap.Tap.{Tap}
 use Rattle.pana_wire.specs.declared.serving.Served.{Served}
 use Rattle.pana_wire.specs.declared.serving.ServeFault.{ServeFault}
@@ -33,7 +34,7 @@ IsLost step fails old by call new OutOfMemory = (answer : Answer) × step old by
 IsLost step fails old by call new NoAnswer = fails old by call new
 IsLost step fails old by call new fault = ⊥
 
-module _ {W S : Type 0} (contents : W → Option (List ℕ)) (step : S → List ℕ → Call → Answer → S → Type 0) (fails : S → List ℕ → Call → S → Type 0) (settles breaks_off : S → S → Type 0) (moment : S → ℕ) where
+module _ {W S : Type 0} (contents : W → Option (List ℕ)) (step : S → List ℕ → Call → Answer → S → Type 0) (together : Bool) (fails : S → List Message → S → Type 0) (settles breaks_off : S → S → Type 0) (moment : S → ℕ) where
   -- the calls are settled, and then the text is written
   pub record Releases (writer_old writer_new : Tap W) (old new : S) (text : List ℕ) : Type 0 where
     pub settled : settles old new
@@ -68,7 +69,7 @@ module _ {W S : Type 0} (contents : W → Option (List ℕ)) (step : S → List 
   pub record Breaks (writer_old writer_new : Tap W) (old : S) (lines : List (List ℕ)) (new : S) (fault : ServeFault) : Type 0 where
     pub notes : List Note
     pub noted : IsNoted contents writer_old writer_new notes
-    pub breaks : BreaksAmong step fails settles breaks_off moment fault old lines notes new
+    pub breaks : BreaksAmong step together fails settles breaks_off moment fault old lines notes new
 
   -- among these lines, which come next
   abbrev pub BreaksNext : Tap W → Tap W → S → S → List ℕ → List (List ℕ) → ServeFault → Type 0

@@ -1,4 +1,5 @@
 use Rattle.std.proofs.Common.{List, map, string_bytes, ap, subst, ◌∙◌, ◌∷◌, [], ℕ}
+use Rattle.pana_calls.specs.Session.{one}
 use Rattle.std.specs.List.{join_by}
 use Rattle.std.proofs.lemmas.Result.{err_from_is_err_and}
 use Rattle.pana_commands.specs.Answered.{Prints}
@@ -11,13 +12,13 @@ use Rattle.pana_commands.proofs.boards.tables_on.Goals as goal
 pub returns-in_err-rows-clause-fails : goal.returns-in_err-rows-clause-fails
 returns-in_err-rows-clause-fails g c = λ is.
     let p = err_from_is_err_and c.from_residual.result c.from_residual.ensures.1 in
-    no_families g.S.Session.step c.args.by.now g.S.Session.fails c.args.session.now c.args.session.now c.families_of.new.session
+    no_families g.S.Session.step c.args.by.now (one g.S.Session.fails) c.args.session.now c.args.session.now c.families_of.new.session
     (c.in_err-rows.ensures.fails (passed_on _ p.0 _ NoAnswer p.1 p.2 is))
 
 pub returns-in_err-tables-clause-fails : goal.returns-in_err-tables-clause-fails
 returns-in_err-tables-clause-fails g c = λ is.
     let p = err_from_is_err_and c.from_residual-in_err-tables.result c.from_residual-in_err-tables.ensures.1 in
-    cut_behind_families g.S.Session.step c.args.by.now g.S.Session.fails c.args.session.now c.families_of.new.session c.tables_of_each.new.session c.in_ok-rows.rows c.in_ok-rows.ensures.ok
+    cut_behind_families g.S.Session.step c.args.by.now (one g.S.Session.fails) c.args.session.now c.families_of.new.session c.tables_of_each.new.session c.in_ok-rows.rows c.in_ok-rows.ensures.ok
     (c.in_err-tables.ensures.fails (passed_on _ p.0 _ NoAnswer p.1 p.2 is))
 
 pub returns-clause-ok : goal.returns-clause-ok

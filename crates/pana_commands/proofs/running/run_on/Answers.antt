@@ -1,5 +1,5 @@
 -- What is served begins with the new hall's journal, which is empty.
-use Rattle.std.proofs.Common.{inl, inr, subst}
+use Rattle.std.proofs.Common.{false, inl, inr, subst}
 use Rattle.std.proofs.lemmas.Result.{IfOk-weaker, IfErr-weaker}
 use Rattle.pana_hall.specs.Step.{Replies}
 use Rattle.pana_wire.specs.Session.{Serves, Stops, NeverBegins}
@@ -18,7 +18,7 @@ returns-in-Ok-clause-fault g c = IfErr-weaker c.serve-served.result _ _
       c.serve-served.new.session,
       elim said [
         | inl nothing ↦ inl (subst (λ old. NeverBegins c.args.reader.now c.serve-served.new.reader c.args.writer.now c.serve-served.new.writer old c.serve-served.new.session fault) c.in-Ok.ensures nothing)
-        | inr stops ↦ inr (subst (λ old. Stops g.R.Read.remaining g.W.Write.contents Replies IsNever c.args.reads c.args.reader.now c.serve-served.new.reader c.args.writer.now c.serve-served.new.writer old c.serve-served.new.session fault) c.in-Ok.ensures stops)
+        | inr stops ↦ inr (subst (λ old. Stops g.R.Read.remaining g.W.Write.contents Replies false IsNever c.args.reads c.args.reader.now c.serve-served.new.reader c.args.writer.now c.serve-served.new.writer old c.serve-served.new.session fault) c.in-Ok.ensures stops)
       ],
     ))
     c.serve-served.ensures.fault

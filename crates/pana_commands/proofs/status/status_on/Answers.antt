@@ -1,4 +1,5 @@
 use Rattle.std.proofs.Common.{rules, Bool, subst}
+use Rattle.pana_calls.specs.Session.{one}
 use Rattle.std.proofs.lemmas.Result.{err_from_is_err_and}
 use Rattle.pana_commands.specs.Newest.{HasNewest}
 use Rattle.pana_commands.specs.Status.{HasTotal}
@@ -9,19 +10,19 @@ use Rattle.pana_commands.proofs.Listed.{cut_behind_newest, cut_behind_rows}
 use Rattle.pana_commands.proofs.status.status_on.Goals as goal
 
 pub returns-in_err-rows-clause-fails : goal.returns-in_err-rows-clause-fails
-returns-in_err-rows-clause-fails g c = λ _. cut_in_pages g.S.Session.step g.S.Session.fails c.args.by.now c.args.session.now c.status_of.new.session c.in_err-rows.ensures.fails
+returns-in_err-rows-clause-fails g c = λ _. cut_in_pages g.S.Session.step (one g.S.Session.fails) c.args.by.now c.args.session.now c.status_of.new.session c.in_err-rows.ensures.fails
 
 pub returns-in_err-newest-clause-fails : goal.returns-in_err-newest-clause-fails
 returns-in_err-newest-clause-fails g c = λ is.
     let p = err_from_is_err_and c.from_residual-in_err-newest.result c.from_residual-in_err-newest.ensures.1 in
-    cut_behind_rows g.S.Session.step g.S.Session.fails c.args.by.now c.args.session.now c.status_of.new.session c.newest_of.new.session c.in-Some.rows (rw c.in-Some.is at c.in_ok-rows.ensures.ok)
+    cut_behind_rows g.S.Session.step (one g.S.Session.fails) c.args.by.now c.args.session.now c.status_of.new.session c.newest_of.new.session c.in-Some.rows (rw c.in-Some.is at c.in_ok-rows.ensures.ok)
     (c.in_err-newest.ensures.fails (passed_on _ p.0 _ NoAnswer p.1 p.2 is))
 
 pub returns-in_err-total-clause-fails : goal.returns-in_err-total-clause-fails
 returns-in_err-total-clause-fails g c = λ is.
     let p = err_from_is_err_and c.from_residual-in_err-total.result c.from_residual-in_err-total.ensures.1 in
-    cut_behind_rows g.S.Session.step g.S.Session.fails c.args.by.now c.args.session.now c.status_of.new.session c.total_of.new.session c.in-Some.rows (rw c.in-Some.is at c.in_ok-rows.ensures.ok)
-    (cut_behind_newest g.S.Session.step g.S.Session.fails c.args.by.now c.status_of.new.session c.newest_of.new.session c.total_of.new.session c.asks_newest.result c.in_ok-newest.newest c.in_ok-newest.ensures.ok
+    cut_behind_rows g.S.Session.step (one g.S.Session.fails) c.args.by.now c.args.session.now c.status_of.new.session c.total_of.new.session c.in-Some.rows (rw c.in-Some.is at c.in_ok-rows.ensures.ok)
+    (cut_behind_newest g.S.Session.step (one g.S.Session.fails) c.args.by.now c.status_of.new.session c.newest_of.new.session c.total_of.new.session c.asks_newest.result c.in_ok-newest.newest c.in_ok-newest.ensures.ok
     (c.in_err-total.ensures.fails (passed_on _ p.0 _ NoAnswer p.1 p.2 is)))
 
 pub returns-clause-ok : goal.returns-clause-ok

@@ -1,5 +1,7 @@
-use Rattle.std.proofs.Common.{◌≡◌, suc, length, vec_capacity, arith, ap, refl, sym, subst, ◌∙◌}
+use Rattle.std.proofs.Common.{◌≡◌, suc, length, map, vec_capacity, arith, ap, refl, sym, subst, ◌∙◌}
+use Rattle.std.proofs.lemmas.List.{length-map}
 use Rattle.pana_daemon.specs.declared.post.Caller.{Caller}
+use Rattle.pana_daemon.specs.Session.{at_rest}
 use Rattle.pana_daemon.specs.inner.Passes.{AreOpen}
 use Rattle.pana_daemon.proofs.Moving.{made_all, made_none, made_one, room_first, room_left}
 use Rattle.pana_daemon.proofs.attending.open_callers.Goals as goal
@@ -16,7 +18,7 @@ loop-post-init g c =
       tt,
       subst (AreOpen c.args.desk.now.id) (sym given) c.requires.open,
       made_none (λ (caller : Caller g.row.S.Denot g.row.T.Denot g.row.G.Denot g.row.D.Denot g.row.F.Denot). caller.post) c.args.callers.items left c.args.posts.items c.requires.empty all,
-      made_none (λ (caller : Caller g.row.S.Denot g.row.T.Denot g.row.G.Denot g.row.D.Denot g.row.F.Denot). caller.session) c.args.callers.items passes c.args.passes.items c.requires.empty given,
+      made_none (λ (caller : Caller g.row.S.Denot g.row.T.Denot g.row.G.Denot g.row.D.Denot g.row.F.Denot). caller.session) c.args.callers.items (map at_rest passes) (map at_rest c.args.passes.items) c.requires.empty (ap (map at_rest) given),
       omega (arith, long, many, c.requires.enough),
       room_first left c.args.posts.items c.args.callers.items (vec_capacity c.args.callers) c.requires.empty all c.requires.room,
       room_first left c.args.posts.items c.args.callers.items 64 c.requires.empty all c.requires.few,
@@ -52,7 +54,7 @@ loop-post-preserved g c =
       tt,
       (subst (AreOpen c.args.desk.now.id) next so.2).2,
       made_one (λ (one : Caller g.row.S.Denot g.row.T.Denot g.row.G.Denot g.row.D.Denot g.row.F.Denot). one.post) caller c.in-Some.post old new left rest c.args.posts.items so.3 first added refl,
-      made_one (λ (one : Caller g.row.S.Denot g.row.T.Denot g.row.G.Denot g.row.D.Denot g.row.F.Denot). one.session) caller c.in-Some-next.pass old new passes more c.args.passes.items so.4 next added c.new.ensures,
+      made_one (λ (one : Caller g.row.S.Denot g.row.T.Denot g.row.G.Denot g.row.D.Denot g.row.F.Denot). one.session) caller (at_rest c.in-Some-next.pass) old new (map at_rest passes) (map at_rest more) (map at_rest c.args.passes.items) so.4 (ap (map at_rest) next) added c.new.ensures,
       omega (arith, shorter, fewer, so.5),
       room_left c.in-Some.post caller left rest old new (vec_capacity c.loop-post.callers) (vec_capacity c.push_reserved.new.self) so.6 first added c.push_reserved.ensures.capacity,
       room_left c.in-Some.post caller left rest old new 64 64 so.7 first added refl,
@@ -70,5 +72,5 @@ returns-clause-posts g c =
 
 pub returns-clause-passes : goal.returns-clause-passes
 returns-clause-passes g c =
-    made_all (λ (caller : Caller g.row.S.Denot g.row.T.Denot g.row.G.Denot g.row.D.Denot g.row.F.Denot). caller.session) c.loop-post.callers.items c.loop-post.passes.rest.items c.args.passes.items c.loop-post.invariant.4
-    (c.loop-post.invariant.5 ∙ sym c.loop-post.post-iterator.rest.ok.0 ∙ c.in-None.ensures.steps.0)
+    made_all (λ (caller : Caller g.row.S.Denot g.row.T.Denot g.row.G.Denot g.row.D.Denot g.row.F.Denot). caller.session) c.loop-post.callers.items (map at_rest c.loop-post.passes.rest.items) (map at_rest c.args.passes.items) c.loop-post.invariant.4
+    (length-map c.loop-post.passes.rest.items at_rest ∙ c.loop-post.invariant.5 ∙ sym c.loop-post.post-iterator.rest.ok.0 ∙ c.in-None.ensures.steps.0)

@@ -27,8 +27,8 @@ for_each_mut-requires-clause-accepts g c κs within = λ i p inside is. (
 pub returns : goal.returns
 returns g c =
     let left : List (Caller g.row.S.Denot g.row.T.Denot g.row.G.Denot g.row.D.Denot g.row.F.Denot) = c.for_each_mut.new.s in
-    all_done (RequestSteps g.S.Session.step g.S.Session.fails g.S.Session.settles g.S.Session.breaks_off) g.D.Door.gives g.D.Reader.Read.remaining g.D.Writer.Write.contents g.F.Folder.does c.args.callers.now left c.for_each_mut.auto.s
+    all_done (RequestSteps g.S.Session.step g.S.Session.fails g.S.Session.settles g.S.Session.breaks_off) g.S.Session.keeps_together g.D.Door.gives g.D.Reader.Read.remaining g.D.Writer.Write.contents g.F.Folder.does c.args.callers.now left c.for_each_mut.auto.s
     (λ i d within.
     let changed = (c.for_each_mut.ensures i d within).1 in
-    subst (λ (s : Caller g.row.S.Denot g.row.T.Denot g.row.G.Denot g.row.D.Denot g.row.F.Denot). Has (RequestSteps g.S.Session.step g.S.Session.fails g.S.Session.settles g.S.Session.breaks_off) g.D.Door.gives g.D.Reader.Read.remaining g.D.Writer.Write.contents g.F.Folder.does s (slice_index_or left i d)) changed.argument_is
-    (subst (λ (s : Caller g.row.S.Denot g.row.T.Denot g.row.G.Denot g.row.D.Denot g.row.F.Denot). Has (RequestSteps g.S.Session.step g.S.Session.fails g.S.Session.settles g.S.Session.breaks_off) g.D.Door.gives g.D.Reader.Read.remaining g.D.Writer.Write.contents g.F.Folder.does changed.argument.now s) changed.left changed.call))
+    subst (λ (s : Caller g.row.S.Denot g.row.T.Denot g.row.G.Denot g.row.D.Denot g.row.F.Denot). Has (RequestSteps g.S.Session.step g.S.Session.fails g.S.Session.settles g.S.Session.breaks_off) g.S.Session.keeps_together g.D.Door.gives g.D.Reader.Read.remaining g.D.Writer.Write.contents g.F.Folder.does s (slice_index_or left i d)) changed.argument_is
+    (subst (λ (s : Caller g.row.S.Denot g.row.T.Denot g.row.G.Denot g.row.D.Denot g.row.F.Denot). Has (RequestSteps g.S.Session.step g.S.Session.fails g.S.Session.settles g.S.Session.breaks_off) g.S.Session.keeps_together g.D.Door.gives g.D.Reader.Read.remaining g.D.Writer.Write.contents g.F.Folder.does changed.argument.now s) changed.left changed.call))

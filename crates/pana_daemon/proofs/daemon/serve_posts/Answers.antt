@@ -14,19 +14,19 @@ use Rattle.pana_daemon.proofs.daemon.serve_posts.Goals as goal
 pub settle-is_closed-requires-clause-doors : goal.settle-is_closed-requires-clause-doors
 settle-is_closed-requires-clause-doors g c =
     let left = doors_in c.in_ok-ended.ended.posts.items in
-    (all_left c.args.tickets.now 16 left (subst (λ (doors : List DoorView). AreEnded doors left) c.in_ok-posts.ensures.workers (all_end _ _ _ _ _ _ _ _ _ _ c.in_ok-ended.ensures.ends))).0
+    (all_left c.args.tickets.now 16 left (subst (λ (doors : List DoorView). AreEnded doors left) c.in_ok-posts.ensures.workers (all_end _ _ _ _ _ _ _ _ _ _ _ c.in_ok-ended.ensures.ends))).0
 
 pub settle-is_closed-requires-clause-count : goal.settle-is_closed-requires-clause-count
 settle-is_closed-requires-clause-count g c =
     let left = doors_in c.in_ok-ended.ended.posts.items in
-    (all_left c.args.tickets.now 16 left (subst (λ (doors : List DoorView). AreEnded doors left) c.in_ok-posts.ensures.workers (all_end _ _ _ _ _ _ _ _ _ _ c.in_ok-ended.ensures.ends))).1
+    (all_left c.args.tickets.now 16 left (subst (λ (doors : List DoorView). AreEnded doors left) c.in_ok-posts.ensures.workers (all_end _ _ _ _ _ _ _ _ _ _ _ c.in_ok-ended.ensures.ends))).1
 
 pub settle-is_closed-requires-clause-folders : goal.settle-is_closed-requires-clause-folders
 settle-is_closed-requires-clause-folders g c =
     let ticks = c.args.signals.now.ticks in
     let start = c.args.signals.now.start.all.id in
     subst (λ (of : ℕ). HaveAsked ticks of (folders_in c.in_ok-ended.ended.posts.items)) (sym c.decide-verdict.ensures)
-    (all_asked _ _ _ _ g.K.Disks.gives g.K.Disks.passes _ _ _ _ _ ticks start _ _ _ _ _ _ c.in_ok-ended.ensures.ends
+    (all_asked _ _ _ _ _ g.K.Disks.gives g.K.Disks.passes _ _ _ _ _ ticks start _ _ _ _ _ _ c.in_ok-ended.ensures.ends
     (subst (λ folders. AreOf ticks start folders) (sym c.in_ok-posts.ensures.scanners) (new_of c.args.looks ticks start (folders_of c.args.disks.now c.args.roots.now))))
 
 pub returns : goal.returns

@@ -1,4 +1,5 @@
 use Rattle.pana_daemon.proofs.Scans.{all_reported, if_err, just_one, last_one, stops_at}
+use Rattle.pana_calls.specs.Session.{one}
 use Rattle.pana_daemon.proofs.scanning.report_all.Goals as goal
 
 pub returns-then-not-branch-clause-ok : goal.returns-then-not-branch-clause-ok
@@ -19,4 +20,4 @@ pub returns-in_err-report-clause-fails : goal.returns-in_err-report-clause-fails
 returns-in_err-report-clause-fails g c =
     if_err c.from_residual.result _
     (stops_at g.S.Session.step c.args.device.now c.args.steps.now c.loop-step.step-index c.args.session.now c.loop-step.session c.report.new.session c.step-item.result c.args.baseline.now c.loop-step.baseline c.report.new.baseline
-    c.loop-step.invariant c.loop-step-test.true c.step-item.is g.S.Session.fails c.in_err-report.ensures.fails.0 c.in_err-report.ensures.fails.1)
+    c.loop-step.invariant c.loop-step-test.true c.step-item.is (one g.S.Session.fails) c.in_err-report.ensures.fails.0 c.in_err-report.ensures.fails.1)

@@ -1,4 +1,5 @@
 use Rattle.std.proofs.Common.{List, Option, refl, subst}
+use Rattle.pana_calls.specs.Session.{one}
 use Rattle.pana_calls.specs.declared.holding.Holding.{Holding}
 use Rattle.pana_calls.specs.declared.reply.Reply.TheVariants.{Holdings}
 use Rattle.pana_calls.specs.declared.answer.Answer.TheVariants.{Given}
@@ -27,9 +28,9 @@ pub returns-clause-fails : goal.returns-clause-fails
 returns-clause-fails g c =
     planned_spent g.S.Session.step c.args.device.now c.args.listing.now c.in-Some.holdings c.args.baseline.now c.args.session.now c.holdings_of.new.session c.requires
     (subst (λ (o : Option (List Holding)). Asks g.S.Session.step c.args.device.now c.args.session.now c.holdings_of.new.session o) c.in-Some.is c.in_ok-holdings.ensures.ok)
-    c.in-Ok.field-0 c.in-Ok.ensures g.S.Session.fails c.report_all.result c.report_all.new.session c.report_all.new.baseline c.as_slice.result.now c.as_slice.ensures c.report_all.ensures.fails
+    c.in-Ok.field-0 c.in-Ok.ensures (one g.S.Session.fails) c.report_all.result c.report_all.new.session c.report_all.new.baseline c.as_slice.result.now c.as_slice.ensures c.report_all.ensures.fails
 
 pub returns-in_err-holdings-clause-fails : goal.returns-in_err-holdings-clause-fails
 returns-in_err-holdings-clause-fails g c =
     if_err c.from_residual.result _
-    (none_asked g.S.Session.step c.args.device.now g.S.Session.fails c.args.listing.now c.args.session.now c.holdings_of.new.session c.args.baseline.now c.args.baseline.now c.requires c.in_err-holdings.ensures.fails refl)
+    (none_asked g.S.Session.step c.args.device.now (one g.S.Session.fails) c.args.listing.now c.args.session.now c.holdings_of.new.session c.args.baseline.now c.args.baseline.now c.requires c.in_err-holdings.ensures.fails refl)

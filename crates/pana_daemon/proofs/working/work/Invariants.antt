@@ -8,4 +8,4 @@ use Rattle.pana_daemon.proofs.working.work.Given as goal
 abbrev pub invariant-loop : goal.invariant-loop
 invariant-loop g l =
     (goal.iterator-loop g).can_next l.iterator'
-    × ((connections : List (Connection g.row.D-Reader.Denot g.row.D-Writer.Denot)) × ServesAll (RequestSteps g.S.Session.step g.S.Session.fails g.S.Session.settles g.S.Session.breaks_off) g.D.Door.gives g.D.Reader.Read.remaining g.D.Writer.Write.contents l.fn.door connections l.door l.fn.session l.session)
+    × ((connections : List (Connection g.row.D-Reader.Denot g.row.D-Writer.Denot)) × ServesAll (RequestSteps g.S.Session.step g.S.Session.fails g.S.Session.settles g.S.Session.breaks_off) g.S.Session.keeps_together g.D.Door.gives g.D.Reader.Read.remaining g.D.Writer.Write.contents l.fn.door connections l.door l.fn.session l.session)

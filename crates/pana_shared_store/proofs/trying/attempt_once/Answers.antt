@@ -1,8 +1,8 @@
 use Rattle.std.proofs.Common.{rules, ◌⊎◌, [], ◌∷◌, length, inl, inr, sym, ap, subst, append-nil}
 use native.Mathlib.Omega.{arith}
 use Rattle.pana_shared_store.specs.declared.making.Tried.{Tried}
-use Rattle.pana_shared_store.specs.Store.{StaysOn, TriesOn, entries_in}
-use Rattle.pana_shared_store.specs.inner.{LooksOn, TriesTo}
+use Rattle.pana_shared_store.specs.Store.{StaysOn, entries_in}
+use Rattle.pana_shared_store.specs.inner.{LooksOn, TriesOne, TriesTo}
 use Rattle.pana_shared_store.proofs.Followed.{looks_none}
 use Rattle.pana_shared_store.proofs.Readied.{store_looked}
 use Rattle.std.proofs.lemmas.Result.{err_from_is_err_and}
@@ -12,7 +12,7 @@ use Rattle.pana_shared_store.proofs.trying.attempt_once.Goals as goal
 
 pub returns-in_err-reply-clause-err : goal.returns-in_err-reply-clause-err
 returns-in_err-reply-clause-err g c =
-    let fact : StaysOn g.L.SharedLog.is_known c.args.hall.now (g.L.SharedLog.seen c.args.log.now) c.try_to_make.new.hall (g.L.SharedLog.seen c.try_to_make.new.log) ⊎ TriesOn g.L.SharedLog.is_known c.args.turn c.args.hall.now (g.L.SharedLog.seen c.args.log.now) c.args.by.now c.args.call c.try_to_make.new.hall (g.L.SharedLog.seen c.try_to_make.new.log) =
+    let fact : StaysOn g.L.SharedLog.is_known c.args.hall.now (g.L.SharedLog.seen c.args.log.now) c.try_to_make.new.hall (g.L.SharedLog.seen c.try_to_make.new.log) ⊎ TriesOne g.L.SharedLog.is_known c.args.turn c.args.hall.now (g.L.SharedLog.seen c.args.log.now) c.args.by.now c.args.call c.try_to_make.new.hall (g.L.SharedLog.seen c.try_to_make.new.log) =
     inr (tried_none g.L.SharedLog.is_known c.args.turn c.args.hall.now c.try_to_make.new.hall (g.L.SharedLog.seen c.args.log.now) (g.L.SharedLog.seen c.try_to_make.new.log) c.args.by.now c.args.call c.try_to_make.ensures.store c.in_err-reply.ensures.err) in
     search (rules, fact)
 
@@ -28,7 +28,7 @@ returns-in_err-follow_page-in-Behind-clause-store g c known =
 pub returns-in_err-follow_page-in-Behind-clause-err : goal.returns-in_err-follow_page-in-Behind-clause-err
 returns-in_err-follow_page-in-Behind-clause-err g c =
     let looks : LooksOn g.L.SharedLog.is_known c.try_to_make.new.hall (g.L.SharedLog.seen c.try_to_make.new.log) c.follow_page.new.hall (g.L.SharedLog.seen c.try_to_make.new.log) = (behind_looks g.L.SharedLog.is_known c.args.turn c.args.hall.now c.try_to_make.new.hall c.follow_page.new.hall (g.L.SharedLog.seen c.args.log.now) (g.L.SharedLog.seen c.try_to_make.new.log) c.args.by.now c.args.call c.in-Behind.page c.in_err-follow_page-in-Behind.ensures.err.0 (c.in_err-follow_page-in-Behind.ensures.err.1 ∷ c.in_err-follow_page-in-Behind.ensures.err.2) c.try_to_make.ensures.store (subst (λ (t : Tried). TriesTo g.L.SharedLog.is_known c.args.turn c.args.hall.now (g.L.SharedLog.seen c.args.log.now) c.args.by.now c.args.call t c.try_to_make.new.hall (g.L.SharedLog.seen c.try_to_make.new.log)) c.in-Behind.is c.in_ok-reply.ensures.ok) c.in_err-follow_page-in-Behind.ensures.err.3 c.in_err-follow_page-in-Behind.ensures.err.4) in
-    let fact : StaysOn g.L.SharedLog.is_known c.args.hall.now (g.L.SharedLog.seen c.args.log.now) c.follow_page.new.hall (g.L.SharedLog.seen c.try_to_make.new.log) ⊎ TriesOn g.L.SharedLog.is_known c.args.turn c.args.hall.now (g.L.SharedLog.seen c.args.log.now) c.args.by.now c.args.call c.follow_page.new.hall (g.L.SharedLog.seen c.try_to_make.new.log) =
+    let fact : StaysOn g.L.SharedLog.is_known c.args.hall.now (g.L.SharedLog.seen c.args.log.now) c.follow_page.new.hall (g.L.SharedLog.seen c.try_to_make.new.log) ⊎ TriesOne g.L.SharedLog.is_known c.args.turn c.args.hall.now (g.L.SharedLog.seen c.args.log.now) c.args.by.now c.args.call c.follow_page.new.hall (g.L.SharedLog.seen c.try_to_make.new.log) =
     inl (behind_stays g.L.SharedLog.is_known c.args.turn c.args.hall.now c.try_to_make.new.hall c.follow_page.new.hall (g.L.SharedLog.seen c.args.log.now) (g.L.SharedLog.seen c.try_to_make.new.log) (g.L.SharedLog.seen c.try_to_make.new.log) c.args.by.now c.args.call c.requires.store c.requires.ready looks c.in-Behind.page (subst (λ (t : Tried). TriesTo g.L.SharedLog.is_known c.args.turn c.args.hall.now (g.L.SharedLog.seen c.args.log.now) c.args.by.now c.args.call t c.try_to_make.new.hall (g.L.SharedLog.seen c.try_to_make.new.log)) c.in-Behind.is c.in_ok-reply.ensures.ok)) in
     search (rules, fact)
 
@@ -52,7 +52,7 @@ returns-in-Err-clause-store g c known = store_looked c.args.turn c.try_to_make.n
 
 pub returns-in-Err-clause-err : goal.returns-in-Err-clause-err
 returns-in-Err-clause-err g c =
-    let fact : StaysOn g.L.SharedLog.is_known c.args.hall.now (g.L.SharedLog.seen c.args.log.now) c.read_on.new.hall (g.L.SharedLog.seen c.read_on.new.log) ⊎ TriesOn g.L.SharedLog.is_known c.args.turn c.args.hall.now (g.L.SharedLog.seen c.args.log.now) c.args.by.now c.args.call c.read_on.new.hall (g.L.SharedLog.seen c.read_on.new.log) =
+    let fact : StaysOn g.L.SharedLog.is_known c.args.hall.now (g.L.SharedLog.seen c.args.log.now) c.read_on.new.hall (g.L.SharedLog.seen c.read_on.new.log) ⊎ TriesOne g.L.SharedLog.is_known c.args.turn c.args.hall.now (g.L.SharedLog.seen c.args.log.now) c.args.by.now c.args.call c.read_on.new.hall (g.L.SharedLog.seen c.read_on.new.log) =
     inl (not_stays g.L.SharedLog.is_known c.args.turn c.args.hall.now c.try_to_make.new.hall c.read_on.new.hall (g.L.SharedLog.seen c.args.log.now) (g.L.SharedLog.seen c.try_to_make.new.log) (g.L.SharedLog.seen c.read_on.new.log) c.args.by.now c.args.call c.requires.store c.requires.ready c.read_on.ensures.looks c.in-Not.answer
     (subst (λ (t : Tried). TriesTo g.L.SharedLog.is_known c.args.turn c.args.hall.now (g.L.SharedLog.seen c.args.log.now) c.args.by.now c.args.call t c.try_to_make.new.hall (g.L.SharedLog.seen c.try_to_make.new.log)) c.in-Not.is c.in_ok-reply.ensures.ok)) in
     fact

@@ -5,8 +5,8 @@ use Rattle.pana_shared_store.proofs.Strange.{why_on}
 use Rattle.pana_calls.specs.declared.call.Call.{Call}
 use Rattle.pana_shared_store.specs.declared.trying.Attempt.{Attempt}
 use Rattle.pana_shared_store.specs.declared.trying.Attempt.TheVariants.{Again, Answered}
-use Rattle.pana_shared_store.specs.Store.{StaysOn, TriesOn}
-use Rattle.pana_shared_store.specs.inner.{Attempts}
+use Rattle.pana_shared_store.specs.Store.{StaysOn}
+use Rattle.pana_shared_store.specs.inner.{Attempts, TriesOne}
 use Rattle.pana_shared_store.proofs.Tried.{makes_on, read_again, stays_none, stays_on, tries_on}
 use Rattle.pana_shared_store.proofs.trying.make.Goals as goal
 
@@ -25,8 +25,8 @@ returns-in_default-clause-err g c = inl c.loop.invariant.stays
 
 pub returns-in_err-answer-clause-err : goal.returns-in_err-answer-clause-err
 returns-in_err-answer-clause-err g c =
-    let fact : StaysOn g.L.SharedLog.is_known c.args.hall.now (g.L.SharedLog.seen c.args.log.now) c.attempt_once.new.hall (g.L.SharedLog.seen c.attempt_once.new.log) ⊎ TriesOn g.L.SharedLog.is_known c.args.turn c.args.hall.now (g.L.SharedLog.seen c.args.log.now) c.args.by.now c.args.call.now c.attempt_once.new.hall (g.L.SharedLog.seen c.attempt_once.new.log) =
-    ⊎_elim (λ s. inl (stays_on g.L.SharedLog.is_known c.args.turn c.args.hall.now c.loop.hall c.attempt_once.new.hall (g.L.SharedLog.seen c.args.log.now) (g.L.SharedLog.seen c.loop.log) (g.L.SharedLog.seen c.attempt_once.new.log) c.args.by.now c.args.call.now (λ known. (c.requires.store known).some) c.loop.invariant.stays s)) (λ s. inr (tries_on g.L.SharedLog.is_known c.args.turn c.args.hall.now c.loop.hall c.attempt_once.new.hall (g.L.SharedLog.seen c.args.log.now) (g.L.SharedLog.seen c.loop.log) (g.L.SharedLog.seen c.attempt_once.new.log) c.args.by.now c.args.call.now (λ known. (c.requires.store known).some) c.loop.invariant.stays (subst (λ (k : Call). TriesOn g.L.SharedLog.is_known c.args.turn c.loop.hall (g.L.SharedLog.seen c.loop.log) c.args.by.now k c.attempt_once.new.hall (g.L.SharedLog.seen c.attempt_once.new.log)) c.in-Ok.ensures s))) c.in_err-answer.ensures.err in
+    let fact : StaysOn g.L.SharedLog.is_known c.args.hall.now (g.L.SharedLog.seen c.args.log.now) c.attempt_once.new.hall (g.L.SharedLog.seen c.attempt_once.new.log) ⊎ TriesOne g.L.SharedLog.is_known c.args.turn c.args.hall.now (g.L.SharedLog.seen c.args.log.now) c.args.by.now c.args.call.now c.attempt_once.new.hall (g.L.SharedLog.seen c.attempt_once.new.log) =
+    ⊎_elim (λ s. inl (stays_on g.L.SharedLog.is_known c.args.turn c.args.hall.now c.loop.hall c.attempt_once.new.hall (g.L.SharedLog.seen c.args.log.now) (g.L.SharedLog.seen c.loop.log) (g.L.SharedLog.seen c.attempt_once.new.log) c.args.by.now c.args.call.now (λ known. (c.requires.store known).some) c.loop.invariant.stays s)) (λ s. inr (tries_on g.L.SharedLog.is_known c.args.turn c.args.hall.now c.loop.hall c.attempt_once.new.hall (g.L.SharedLog.seen c.args.log.now) (g.L.SharedLog.seen c.loop.log) (g.L.SharedLog.seen c.attempt_once.new.log) c.args.by.now c.args.call.now (λ known. (c.requires.store known).some) c.loop.invariant.stays (subst (λ (k : Call). TriesOne g.L.SharedLog.is_known c.args.turn c.loop.hall (g.L.SharedLog.seen c.loop.log) c.args.by.now k c.attempt_once.new.hall (g.L.SharedLog.seen c.attempt_once.new.log)) c.in-Ok.ensures s))) c.in_err-answer.ensures.err in
     search (rules, fact)
 
 pub returns-in-Answered-clause-ok : goal.returns-in-Answered-clause-ok

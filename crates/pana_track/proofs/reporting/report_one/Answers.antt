@@ -1,4 +1,5 @@
 use Rattle.std.proofs.Common.{subst}
+use Rattle.pana_calls.specs.Session.{one}
 use Rattle.pana_track.specs.declared.reporting.CallEnd.{CallEnd}
 use Rattle.pana_track.specs.inner.Reporting.{CallsOnce}
 use Rattle.pana_track.proofs.Reported.{ends_moved, ends_not_kept, ends_settled, if_err, short, unanswered}
@@ -8,7 +9,7 @@ pub returns-in_err-call_once-clause-fails : goal.returns-in_err-call_once-clause
 returns-in_err-call_once-clause-fails g c =
     if_err c.from_residual.result _
     (unanswered g.S.Session.step c.args.device.now c.args.notice.now c.loop.counter c.args.session.now c.loop.session c.args.tally.now c.loop.tally c.loop.invariant c.loop-test.true
-    g.S.Session.fails c.call_once.new.session c.call_once.new.tally c.in_err-call_once.ensures.fails.1 c.in_err-call_once.ensures.fails.0)
+    (one g.S.Session.fails) c.call_once.new.session c.call_once.new.tally c.in_err-call_once.ensures.fails.1 c.in_err-call_once.ensures.fails.0)
 
 pub returns-in-OutOfMemory-clause-ok : goal.returns-in-OutOfMemory-clause-ok
 returns-in-OutOfMemory-clause-ok g c =

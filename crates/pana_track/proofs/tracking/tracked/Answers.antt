@@ -1,6 +1,5 @@
-use Rattle.std.proofs.Common.{ap, subst, sym, ◌∙◌, arith, length, List}
+use Rattle.std.proofs.Common.{ap, subst, sym, ◌∙◌, arith, length}
 use Rattle.std.proofs.lemmas.List.{take_all}
-use Rattle.pana_calls.specs.declared.holding.Holding.{Holding}
 use Rattle.pana_calls.specs.Holdings.{HaveOwnPaths}
 use Rattle.pana_track.specs.Ignored.{is_tracked, tracked}
 use Rattle.pana_track.proofs.Apart.{left_apart}

@@ -11,7 +11,7 @@ use Rattle.pana_wire.proofs.entry_writing.encode_one.Goals as goal
 pub returns : goal.returns
 returns c =
     let values = entry_data c.args.entry.now in
-    let tokens : c.write_entry.new.out.tokens ≡ json_tokens (outline values) = c.in_ok-write_entry.ensures.tokens ∙ ap (λ (ts : List Token). ts ++ json_tokens (outline values)) c.in_ok-out.ensures.tokens in
+    let tokens : c.write_entry.new.out.tokens ≡ json_tokens (outline values) = c.in_ok-write_entry.ensures.tokens ∙ ap (λ (ts : List Token). ts ++ json_tokens (outline values)) c.begun_text-out.ensures.tokens in
     record {
       same = c.written_text.ensures ∙ ap print tokens ∙ print-outline values;
       names = c.in_ok-write_entry.ensures.known.names;

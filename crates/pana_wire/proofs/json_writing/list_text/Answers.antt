@@ -7,5 +7,5 @@ use Rattle.pana_wire.proofs.json_writing.list_text.Goals as goal
 pub returns : goal.returns
 returns g c =
     c.written_text.ensures
-    ∙ one_member c.args.name.now (array (items_of (map g.T.WriteJson.json c.args.items.now))) c.in_ok-out.out.tokens c.begin_object.new.self.tokens c.key.new.self.tokens c.write_list.new.out.tokens c.end_object.new.self.tokens
-    c.in_ok-out.ensures.tokens c.in_ok-begin_object.ensures.ok c.in_ok-key.ensures.ok c.in_ok-write_list.ensures.tokens c.in_ok-end_object.ensures.ok
+    ∙ one_member c.args.name.now (array (items_of (map g.T.WriteJson.json c.args.items.now))) c.begun_text-out.result.tokens c.begin_object.new.self.tokens c.key.new.self.tokens c.write_list.new.out.tokens c.end_object.new.self.tokens
+    c.begun_text-out.ensures.tokens c.in_ok-begin_object.ensures.ok c.in_ok-key.ensures.ok c.in_ok-write_list.ensures.tokens c.in_ok-end_object.ensures.ok

@@ -17,7 +17,7 @@ pub returns-clause-text : goal.returns-clause-text
 unfolding report_text report_data
 returns-clause-text c =
     let values = report_data c.args.by.now c.args.report.now in
-    let tokens : c.write_report.new.out.tokens ≡ json_tokens (outline values) = c.in_ok-write_report.ensures.tokens ∙ ap (λ (ts : List Token). ts ++ json_tokens (outline values)) c.in_ok-out.ensures.tokens in
+    let tokens : c.write_report.new.out.tokens ≡ json_tokens (outline values) = c.in_ok-write_report.ensures.tokens ∙ ap (λ (ts : List Token). ts ++ json_tokens (outline values)) c.begun_text-out.ensures.tokens in
     c.written_text.ensures ∙ ap print tokens ∙ print-outline values
 
 pub returns-clause-back : goal.returns-clause-back

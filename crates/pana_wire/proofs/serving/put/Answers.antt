@@ -17,7 +17,7 @@ returns-in_err-write_whole-clause-err g c =
     let held : c.as_slice.result.now ≡ c.args.answers.now = c.as_slice.ensures ∙ not_held _ _ _ _ c.if-hold.false c.hold.ensures.held in
     let why = c.in_err-write_whole.field-0.0 in
     let p = err_from_is_err_and c.from_residual.result c.from_residual.ensures.1 in
-    rw (p.1, p.2) (kept_written contents g.S.Session.step g.S.Session.fails g.S.Session.settles g.S.Session.breaks_off g.S.Session.moment a b c.args.session.now new (c.args.answers.now ++ (c.args.text.now ++ 10 ∷ [])) why settled
+    rw (p.1, p.2) (kept_written contents g.S.Session.step g.S.Session.keeps_together g.S.Session.fails g.S.Session.settles g.S.Session.breaks_off g.S.Session.moment a b c.args.session.now new (c.args.answers.now ++ (c.args.text.now ++ 10 ∷ [])) why settled
     (breaks_first contents moment a b c.args.answers.now (c.args.text.now ++ 10 ∷ []) why (subst (λ (l : List ℕ). WritesPrefix contents moment a b l why) held c.in_err-write_whole.ensures.err)))
 
 pub returns-in_err-write_line-clause-err : goal.returns-in_err-write_line-clause-err
@@ -32,7 +32,7 @@ returns-in_err-write_line-clause-err g c =
     let first : Writes contents moment a b c.args.answers.now = subst (λ (l : List ℕ). Writes contents moment a b l) held c.in_ok-write_whole.ensures.ok in
     let why = c.in_err-write_line.field-0.0 in
     let p = err_from_is_err_and c.from_residual-in_err-write_line.result c.from_residual-in_err-write_line.ensures.1 in
-    rw (p.1, p.2) (kept_written contents g.S.Session.step g.S.Session.fails g.S.Session.settles g.S.Session.breaks_off g.S.Session.moment a c.write_line.new.writer c.args.session.now new (c.args.answers.now ++ (c.args.text.now ++ 10 ∷ [])) why settled
+    rw (p.1, p.2) (kept_written contents g.S.Session.step g.S.Session.keeps_together g.S.Session.fails g.S.Session.settles g.S.Session.breaks_off g.S.Session.moment a c.write_line.new.writer c.args.session.now new (c.args.answers.now ++ (c.args.text.now ++ 10 ∷ [])) why settled
     (breaks_second contents moment a b c.write_line.new.writer c.args.answers.now (c.args.text.now ++ 10 ∷ []) why first c.in_err-write_line.ensures.err))
 
 pub returns-clause-ok : goal.returns-clause-ok

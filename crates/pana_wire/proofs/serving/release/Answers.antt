@@ -15,5 +15,5 @@ returns-in_err-write_out-clause-err g c =
     let settled : g.S.Session.settles c.args.session.now new = search rules in
     let why = c.in_err-write_out.field-0.0 in
     let p = err_from_is_err_and c.from_residual.result c.from_residual.ensures.1 in
-    rw (p.1, p.2) (kept_written contents g.S.Session.step g.S.Session.fails g.S.Session.settles g.S.Session.breaks_off g.S.Session.moment a b c.args.session.now new c.args.answers.now why settled
+    rw (p.1, p.2) (kept_written contents g.S.Session.step g.S.Session.keeps_together g.S.Session.fails g.S.Session.settles g.S.Session.breaks_off g.S.Session.moment a b c.args.session.now new c.args.answers.now why settled
     (subst (λ (l : List ℕ). WritesPrefix contents moment a b l why) c.as_slice.ensures c.in_err-write_out.ensures.err))

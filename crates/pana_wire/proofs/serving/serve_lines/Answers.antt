@@ -14,7 +14,7 @@ use Rattle.pana_wire.proofs.serving.serve_lines.Goals as goal
 
 pub loop-init : goal.loop-init
 loop-init g c = record {
-  said = ([], Consumes-nil _, begun g.W.Write.contents g.S.Session.step g.S.Session.fails g.S.Session.settles g.S.Session.breaks_off g.S.Session.moment c.args.writer.now c.args.session.now, c.requires.held, refl);
+  said = ([], Consumes-nil _, begun g.W.Write.contents g.S.Session.step g.S.Session.keeps_together g.S.Session.fails g.S.Session.settles g.S.Session.breaks_off g.S.Session.moment c.args.writer.now c.args.session.now, c.requires.held, refl);
   empty = c.requires.answers;
   piece = c.requires.piece;
   calls = omega arith;
@@ -33,7 +33,7 @@ returns-in-Err-clause-fault g c =
       notes = reached.notes;
       reads = Consumes-kept _ _ _ input consumed c.in-Err.ensures.bytes;
       writes = reached.noted;
-      ends = (c.loop.served.calls, all_answered g.W.Write.contents g.S.Session.step g.S.Session.fails g.S.Session.settles g.S.Session.breaks_off g.S.Session.moment c.args.writer.now c.loop.writer c.args.session.now (ended [] input) c.loop.session c.loop.served.calls reached);
+      ends = (c.loop.served.calls, all_answered g.W.Write.contents g.S.Session.step g.S.Session.keeps_together g.S.Session.fails g.S.Session.settles g.S.Session.breaks_off g.S.Session.moment c.args.writer.now c.loop.writer c.args.session.now (ended [] input) c.loop.session c.loop.served.calls reached);
       cause = (search rules, c.loop.invariant.writer, failed_is_no_end _ _ _ c.loop.invariant.unended c.in-Err.ensures.ended);
     }
 
@@ -46,7 +46,7 @@ returns-clause-fault g c =
       notes = reached.notes;
       reads = consumed;
       writes = reached.noted;
-      ends = (c.loop.served.calls, all_answered g.W.Write.contents g.S.Session.step g.S.Session.fails g.S.Session.settles g.S.Session.breaks_off g.S.Session.moment c.args.writer.now c.loop.writer c.args.session.now (ended [] input) c.loop.session c.loop.served.calls reached);
+      ends = (c.loop.served.calls, all_answered g.W.Write.contents g.S.Session.step g.S.Session.keeps_together g.S.Session.fails g.S.Session.settles g.S.Session.breaks_off g.S.Session.moment c.args.writer.now c.loop.writer c.args.session.now (ended [] input) c.loop.session c.loop.served.calls reached);
       cause = (c.loop.invariant.reader, c.loop.invariant.writer, c.loop.invariant.unended, subst (λ n. MadeReads n c.args.reader.now c.loop.reader) all c.loop.invariant.made);
     }
 
@@ -77,13 +77,13 @@ returns-in_err-last-in-Ok-eq0-clause-fault g c =
     let fault = c.in_err-last-in-Ok-eq0.field-0.0 in
     let p = err_from_is_err_and c.from_residual.result c.from_residual.ensures.1 in
     rw (p.1, p.2) (
-    let broken = c.in_err-last-in-Ok-eq0.ensures.fault line held c.args.writer.now c.args.session.now (ended [] input) c.loop.served.calls (subst (λ (q : List ℕ). Reaches g.W.Write.contents g.S.Session.step g.S.Session.fails g.S.Session.settles g.S.Session.breaks_off g.S.Session.moment c.args.writer.now c.loop.writer c.args.session.now (ended [] input) c.loop.session q c.loop.served.calls) (sym c.loop.invariant.empty) reached) in
+    let broken = c.in_err-last-in-Ok-eq0.ensures.fault line held c.args.writer.now c.args.session.now (ended [] input) c.loop.served.calls (subst (λ (q : List ℕ). Reaches g.W.Write.contents g.S.Session.step g.S.Session.keeps_together g.S.Session.fails g.S.Session.settles g.S.Session.breaks_off g.S.Session.moment c.args.writer.now c.loop.writer c.args.session.now (ended [] input) c.loop.session q c.loop.served.calls) (sym c.loop.invariant.empty) reached) in
     record {
       input = input;
       notes = broken.notes;
       reads = read_nothing _ _ _ input c.read.new.buffer c.in-Ok-eq0.field-0 none consumed c.in-Ok-eq0.ensures.bytes.0;
       writes = broken.noted;
-      ends = ends_last g.W.Write.contents g.S.Session.step g.S.Session.fails g.S.Session.settles g.S.Session.breaks_off g.S.Session.moment fault _ c.args.session.now input broken.notes c.finish.new.session met broken.breaks;
+      ends = ends_last g.W.Write.contents g.S.Session.step g.S.Session.keeps_together g.S.Session.fails g.S.Session.settles g.S.Session.breaks_off g.S.Session.moment fault _ c.args.session.now input broken.notes c.finish.new.session met broken.breaks;
       cause = out_cause fault c.args.reads _ _ _ works c.in_err-last-in-Ok-eq0.ensures.out;
     })
 
@@ -96,7 +96,7 @@ returns-in-Ok-eq0-clause-ok g c =
     let last = c.in_ok-last-in-Ok-eq0.last in
     let calls : c.and.result.calls ≡ c.loop.served.calls + last.calls = ap (λ s. s.calls) c.and.ensures in
     let count : c.and.result.lines ≡ c.loop.served.lines + last.lines = ap (λ s. s.lines) c.and.ensures in
-    let whole = c.in_ok-last-in-Ok-eq0.ensures.ok line held c.args.writer.now c.args.session.now (ended [] input) c.loop.served.calls (subst (λ (q : List ℕ). Reaches g.W.Write.contents g.S.Session.step g.S.Session.fails g.S.Session.settles g.S.Session.breaks_off g.S.Session.moment c.args.writer.now c.loop.writer c.args.session.now (ended [] input) c.loop.session q c.loop.served.calls) (sym c.loop.invariant.empty) reached) in
+    let whole = c.in_ok-last-in-Ok-eq0.ensures.ok line held c.args.writer.now c.args.session.now (ended [] input) c.loop.served.calls (subst (λ (q : List ℕ). Reaches g.W.Write.contents g.S.Session.step g.S.Session.keeps_together g.S.Session.fails g.S.Session.settles g.S.Session.breaks_off g.S.Session.moment c.args.writer.now c.loop.writer c.args.session.now (ended [] input) c.loop.session q c.loop.served.calls) (sym c.loop.invariant.empty) reached) in
     record {
       input = input;
       notes = whole.notes;
@@ -105,7 +105,7 @@ returns-in-Ok-eq0-clause-ok g c =
       ended = none_is_end _ _ c.in-Ok-eq0.field-0 c.read.new.buffer none room c.in-Ok-eq0.ensures.ended;
       writes = whole.noted;
       answers = subst (λ (n : ℕ). AnswersAll g.S.Session.step g.S.Session.settles g.S.Session.moment c.args.session.now (ended [] input ++ last_line line) whole.notes c.finish.new.session n) (sym calls)
-          (all_answered g.W.Write.contents g.S.Session.step g.S.Session.fails g.S.Session.settles g.S.Session.breaks_off g.S.Session.moment c.args.writer.now c.finish.new.writer c.args.session.now (ended [] input ++ last_line line) c.finish.new.session (c.loop.served.calls + last.calls) whole);
+          (all_answered g.W.Write.contents g.S.Session.step g.S.Session.keeps_together g.S.Session.fails g.S.Session.settles g.S.Session.breaks_off g.S.Session.moment c.args.writer.now c.finish.new.writer c.args.session.now (ended [] input ++ last_line line) c.finish.new.session (c.loop.served.calls + last.calls) whole);
       lines = omega (arith, count, lines, c.in_ok-last-in-Ok-eq0.ensures.lines line held, length-append (ended [] input) (last_line line));
       reader_works = search rules;
       writer_works = c.in_ok-last-in-Ok-eq0.ensures.works;
@@ -120,13 +120,13 @@ returns-in_err-more-in-Ok-clause-fault g c =
     let fault = c.in_err-more-in-Ok.field-0.0 in
     let p = err_from_is_err_and c.from_residual-in_err-more-in-Ok.result c.from_residual-in_err-more-in-Ok.ensures.1 in
     rw (p.1, p.2) (
-    let broken = c.in_err-more-in-Ok.ensures.fault (unended [] input) held c.args.writer.now c.args.session.now (ended [] input) c.loop.served.calls (subst (λ (q : List ℕ). Reaches g.W.Write.contents g.S.Session.step g.S.Session.fails g.S.Session.settles g.S.Session.breaks_off g.S.Session.moment c.args.writer.now c.loop.writer c.args.session.now (ended [] input) c.loop.session q c.loop.served.calls) (sym c.loop.invariant.empty) reached) in
+    let broken = c.in_err-more-in-Ok.ensures.fault (unended [] input) held c.args.writer.now c.args.session.now (ended [] input) c.loop.served.calls (subst (λ (q : List ℕ). Reaches g.W.Write.contents g.S.Session.step g.S.Session.keeps_together g.S.Session.fails g.S.Session.settles g.S.Session.breaks_off g.S.Session.moment c.args.writer.now c.loop.writer c.args.session.now (ended [] input) c.loop.session q c.loop.served.calls) (sym c.loop.invariant.empty) reached) in
     record {
       input = input ++ piece;
       notes = broken.notes;
       reads = Consumes-trans _ _ _ input piece consumed c.in-Ok.ensures.bytes.0;
       writes = broken.noted;
-      ends = ends_by g.W.Write.contents g.S.Session.step g.S.Session.fails g.S.Session.settles g.S.Session.breaks_off g.S.Session.moment fault _ c.args.session.now input piece broken.notes c.take_piece.new.session broken.breaks;
+      ends = ends_by g.W.Write.contents g.S.Session.step g.S.Session.keeps_together g.S.Session.fails g.S.Session.settles g.S.Session.breaks_off g.S.Session.moment fault _ c.args.session.now input piece broken.notes c.take_piece.new.session broken.breaks;
       cause = out_cause fault c.args.reads _ _ _ works c.in_err-more-in-Ok.ensures.out;
     })
 
@@ -139,13 +139,13 @@ loop-preserved g c =
     let small : length (take c.in-Ok.length buffer) ≤ 65536 = grind (arith, common_steps) in
     let calls : c.and-served.result.calls ≡ c.loop.served.calls + more.calls = ap (λ s. s.calls) c.and-served.ensures in
     let count : c.and-served.result.lines ≡ c.loop.served.lines + more.lines = ap (λ s. s.lines) c.and-served.ensures in
-    let here = c.in_ok-more-in-Ok.ensures.ok (unended [] input) held c.args.writer.now c.args.session.now (ended [] input) c.loop.served.calls (subst (λ (q : List ℕ). Reaches g.W.Write.contents g.S.Session.step g.S.Session.fails g.S.Session.settles g.S.Session.breaks_off g.S.Session.moment c.args.writer.now c.loop.writer c.args.session.now (ended [] input) c.loop.session q c.loop.served.calls) (sym c.loop.invariant.empty) reached) in
+    let here = c.in_ok-more-in-Ok.ensures.ok (unended [] input) held c.args.writer.now c.args.session.now (ended [] input) c.loop.served.calls (subst (λ (q : List ℕ). Reaches g.W.Write.contents g.S.Session.step g.S.Session.keeps_together g.S.Session.fails g.S.Session.settles g.S.Session.breaks_off g.S.Session.moment c.args.writer.now c.loop.writer c.args.session.now (ended [] input) c.loop.session q c.loop.served.calls) (sym c.loop.invariant.empty) reached) in
     record {
       said = (
         input ++ piece,
         Consumes-trans _ _ _ input piece consumed c.in-Ok.ensures.bytes.0,
-        subst (λ (ls : List (List ℕ)). Reaches g.W.Write.contents g.S.Session.step g.S.Session.fails g.S.Session.settles g.S.Session.breaks_off g.S.Session.moment c.args.writer.now c.take_piece.new.writer c.args.session.now ls c.take_piece.new.session [] c.and-served.result.calls) (sym (ended_append [] input piece))
-            (subst (λ (n : ℕ). Reaches g.W.Write.contents g.S.Session.step g.S.Session.fails g.S.Session.settles g.S.Session.breaks_off g.S.Session.moment c.args.writer.now c.take_piece.new.writer c.args.session.now (ended [] input ++ ended (unended [] input) piece) c.take_piece.new.session [] n) (sym calls) here),
+        subst (λ (ls : List (List ℕ)). Reaches g.W.Write.contents g.S.Session.step g.S.Session.keeps_together g.S.Session.fails g.S.Session.settles g.S.Session.breaks_off g.S.Session.moment c.args.writer.now c.take_piece.new.writer c.args.session.now ls c.take_piece.new.session [] c.and-served.result.calls) (sym (ended_append [] input piece))
+            (subst (λ (n : ℕ). Reaches g.W.Write.contents g.S.Session.step g.S.Session.keeps_together g.S.Session.fails g.S.Session.settles g.S.Session.breaks_off g.S.Session.moment c.args.writer.now c.take_piece.new.writer c.args.session.now (ended [] input ++ ended (unended [] input) piece) c.take_piece.new.session [] n) (sym calls) here),
         c.in_ok-more-in-Ok.ensures.held (unended [] input) held ∙ ap (take 65537) (sym (unended_append [] input piece)),
         omega (arith, count, lines, c.in_ok-more-in-Ok.ensures.lines (unended [] input), ap length (ended_append [] input piece), length-append (ended [] input) (ended (unended [] input) piece)),
       );

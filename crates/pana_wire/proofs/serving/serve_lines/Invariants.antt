@@ -9,7 +9,7 @@ use Rattle.pana_wire.proofs.serving.serve_lines.Given as goal
 abbrev pub invariant-loop : goal.invariant-loop
 invariant-loop g l = record {
   said : (input : List ℕ) × Consumes (g.R.Read.remaining (inside l.fn.reader)) (g.R.Read.remaining (inside l.reader)) input
-      × Reaches g.W.Write.contents g.S.Session.step g.S.Session.fails g.S.Session.settles g.S.Session.breaks_off g.S.Session.moment l.fn.writer l.writer l.fn.session (ended [] input) l.session [] l.served.calls
+      × Reaches g.W.Write.contents g.S.Session.step g.S.Session.keeps_together g.S.Session.fails g.S.Session.settles g.S.Session.breaks_off g.S.Session.moment l.fn.writer l.writer l.fn.session (ended [] input) l.session [] l.served.calls
       × IsHeldOf l.held (unended [] input) × (l.served.lines ≡ length (ended [] input));
   empty : l.answers ≡ [];
   piece : length l.piece ≡ 65536;

@@ -1,22 +1,16 @@
 -- Each line that ends is answered, and what comes behind the last is held.
-use Rattle.std.proofs.Common.{rules, ◌≡◌, ℕ, ◌+◌, List, [], ◌∷◌, ◌++◌, ◌-◌, ◌==◌, length, take, drop, position, Some, refl, sym, ap, ◌∙◌, arith, length-drop}
+use Rattle.std.proofs.Common.{rules, ◌≡◌, ℕ, ◌+◌, [], ◌∷◌, ◌++◌, ◌-◌, ◌==◌, length, take, drop, position, Some, refl, sym, ap, ◌∙◌, arith, length-drop}
 use Rattle.std.proofs.lemmas.List.{length-take}
 use Rattle.std.proofs.lemmas.Result.{err_from_is_err_and}
 use Rattle.pana_wire.specs.Lines.{ended, unended}
-use Rattle.pana_wire.specs.inner.Kept.{keep}
-use Rattle.pana_wire.specs.inner.Progress.{IsHeldOf}
 use Rattle.pana_wire.proofs.Cut.{cut_next, cut_done, found_within, many_next, many_none}
 use Rattle.pana_wire.proofs.Groups.{none_next, next_then, next_same, breaks_after, breaks_more, ends_same}
-use Rattle.pana_wire.proofs.Lines.{ended_many, keep_take}
+use Rattle.pana_wire.proofs.Lines.{ended_many, held_then}
 use Rattle.pana_wire.proofs.serving.take_lines.Goals as goal
-
--- the bytes behind the last newline are held of the line that they begin, or go on with
-held_then : (held now rest line new : List ℕ) → IsHeldOf held now → new ≡ keep held rest → line ≡ now ++ rest → IsHeldOf new line
-held_then held now rest line new is made same = made ∙ ap (λ (l : List ℕ). keep l rest) is ∙ keep_take now rest ∙ ap (λ (l : List ℕ). take 65537 l) (sym same)
 
 pub loop-end-init : goal.loop-end-init
 loop-end-init g c = record {
-  goes = λ begun is. ([], begun, record { ends = refl; left = refl }, is, none_next g.W.Write.contents g.S.Session.step g.S.Session.fails g.S.Session.settles g.S.Session.breaks_off g.S.Session.moment c.args.writer.now c.args.session.now c.args.answers.now);
+  goes = λ begun is. ([], begun, record { ends = refl; left = refl }, is, none_next g.W.Write.contents g.S.Session.step g.S.Session.keeps_together g.S.Session.fails g.S.Session.settles g.S.Session.breaks_off g.S.Session.moment c.args.writer.now c.args.session.now c.args.answers.now);
   lines = λ begun now. omega (arith, ended_many begun now c.args.piece.now);
   calls = search rules;
   few = search rules;
@@ -42,9 +36,9 @@ loop-end-preserved g c =
             [],
             cut_next begun c.args.piece.now ls now rest end cut found,
             c.in_ok-answered.ensures.held,
-            next_same g.W.Write.contents g.S.Session.step g.S.Session.fails g.S.Session.settles g.S.Session.breaks_off g.S.Session.moment c.args.writer.now c.take_line.new.writer c.args.session.now c.take_line.new.session c.args.answers.now c.take_line.new.answers
+            next_same g.W.Write.contents g.S.Session.step g.S.Session.keeps_together g.S.Session.fails g.S.Session.settles g.S.Session.breaks_off g.S.Session.moment c.args.writer.now c.take_line.new.writer c.args.session.now c.take_line.new.session c.args.answers.now c.take_line.new.answers
                 (ls ++ line ∷ []) (ls ++ line ∷ []) (c.loop-end.served.calls + answered.calls) c.and-served.result.calls refl calls
-                (next_then g.W.Write.contents g.S.Session.step g.S.Session.fails g.S.Session.settles g.S.Session.breaks_off g.S.Session.moment c.args.writer.now c.loop-end.writer c.take_line.new.writer c.args.session.now c.loop-end.session c.take_line.new.session c.args.answers.now c.loop-end.answers c.take_line.new.answers
+                (next_then g.W.Write.contents g.S.Session.step g.S.Session.keeps_together g.S.Session.fails g.S.Session.settles g.S.Session.breaks_off g.S.Session.moment c.args.writer.now c.loop-end.writer c.take_line.new.writer c.args.session.now c.loop-end.session c.take_line.new.session c.args.answers.now c.loop-end.answers c.take_line.new.answers
                 ls (line ∷ []) c.loop-end.served.calls answered.calls goes (c.in_ok-answered.ensures.ok now held)),
           );
       lines = λ begun now. omega (arith, lines, few.1, so.lines begun now, many_next now now rest end found);
@@ -65,16 +59,16 @@ returns-in_err-answered-clause-fault g c =
     let (ls, now, cut, held, goes) = c.loop-end.invariant.goes begun is in
     let line = now ++ take end rest in
     let later = take (length rest - (end + 1)) (drop (end + 1) rest) in
-    ends_same g.W.Write.contents g.S.Session.step g.S.Session.fails g.S.Session.settles g.S.Session.breaks_off g.S.Session.moment c.args.writer.now c.take_line.new.writer c.args.session.now c.take_line.new.session c.args.answers.now ((ls ++ line ∷ []) ++ ended [] later) (ended begun piece) fault (cut_next begun piece ls now rest end cut found).ends
-    (breaks_more g.W.Write.contents g.S.Session.step g.S.Session.fails g.S.Session.settles g.S.Session.breaks_off g.S.Session.moment c.args.writer.now c.take_line.new.writer c.args.session.now c.take_line.new.session c.args.answers.now (ls ++ line ∷ []) (ended [] later) fault
-    (breaks_after g.W.Write.contents g.S.Session.step g.S.Session.fails g.S.Session.settles g.S.Session.breaks_off g.S.Session.moment c.args.writer.now c.loop-end.writer c.take_line.new.writer c.args.session.now c.loop-end.session c.take_line.new.session c.args.answers.now c.loop-end.answers ls (line ∷ []) c.loop-end.served.calls fault
+    ends_same g.W.Write.contents g.S.Session.step g.S.Session.keeps_together g.S.Session.fails g.S.Session.settles g.S.Session.breaks_off g.S.Session.moment c.args.writer.now c.take_line.new.writer c.args.session.now c.take_line.new.session c.args.answers.now ((ls ++ line ∷ []) ++ ended [] later) (ended begun piece) fault (cut_next begun piece ls now rest end cut found).ends
+    (breaks_more g.W.Write.contents g.S.Session.step g.S.Session.keeps_together g.S.Session.fails g.S.Session.settles g.S.Session.breaks_off g.S.Session.moment c.args.writer.now c.take_line.new.writer c.args.session.now c.take_line.new.session c.args.answers.now (ls ++ line ∷ []) (ended [] later) fault
+    (breaks_after g.W.Write.contents g.S.Session.step g.S.Session.keeps_together g.S.Session.fails g.S.Session.settles g.S.Session.breaks_off g.S.Session.moment c.args.writer.now c.loop-end.writer c.take_line.new.writer c.args.session.now c.loop-end.session c.take_line.new.session c.args.answers.now c.loop-end.answers ls (line ∷ []) c.loop-end.served.calls fault
     goes (c.in_err-answered.ensures.fault now held))))
 
 pub returns-clause-ok : goal.returns-clause-ok
 returns-clause-ok g c begun is =
     let (ls, now, cut, held, goes) = c.loop-end.invariant.goes begun is in
     let calls = c.loop-end.served.calls in
-    next_same g.W.Write.contents g.S.Session.step g.S.Session.fails g.S.Session.settles g.S.Session.breaks_off g.S.Session.moment c.args.writer.now c.loop-end.writer c.args.session.now c.loop-end.session c.args.answers.now c.loop-end.answers ls (ended begun c.args.piece.now) calls calls
+    next_same g.W.Write.contents g.S.Session.step g.S.Session.keeps_together g.S.Session.fails g.S.Session.settles g.S.Session.breaks_off g.S.Session.moment c.args.writer.now c.loop-end.writer c.args.session.now c.loop-end.session c.args.answers.now c.loop-end.answers ls (ended begun c.args.piece.now) calls calls
     (cut_done begun c.args.piece.now ls now c.loop-end.rest.now cut (sym c.end_of_line.ensures ∙ c.in_default.is)).0 refl goes
 
 pub returns-clause-held : goal.returns-clause-held

@@ -14,7 +14,7 @@ unfolding reply_text reply_data
 returns c =
     let named = c.name.ensures ∙ ap word_name c.kind_word.ensures in
     let text : List ℕ → List ℕ = λ (name : List ℕ). print (begin_object ∷ key (codes "did") ∷ string name ∷ key (codes "done") ∷ number (decimal c.args.entry) ∷ end_object ∷ []) in
-    let begun : List Token = c.in_ok-out.out.tokens in
+    let begun : List Token = c.begun_text-out.result.tokens in
     let begin_at : List Token = c.begin_object.new.self.tokens in
     let did_at : List Token = c.write_text.new.out.tokens in
     let done_at : List Token = c.write_number.new.out.tokens in
@@ -28,5 +28,5 @@ returns c =
     (both_written begin_at did_at end_at did_part (done_part ++ end_part) c.in_ok-write_text.ensures.tokens
     (both_written did_at done_at end_at done_part end_part c.in_ok-write_number.ensures.tokens
     c.in_ok-end_object.ensures.ok)))
-    ∙ ap (λ (ts : List Token). ts ++ (begin_part ++ (did_part ++ (done_part ++ end_part)))) c.in_ok-out.ensures.tokens in
+    ∙ ap (λ (ts : List Token). ts ++ (begin_part ++ (did_part ++ (done_part ++ end_part)))) c.begun_text-out.ensures.tokens in
     c.written_text.ensures ∙ ap print whole ∙ ap text named ∙ print-outline (reply_data (Did c.args.kind c.args.entry))

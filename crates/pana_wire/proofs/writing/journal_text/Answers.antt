@@ -17,8 +17,8 @@ pub returns-clause-text : goal.returns-clause-text
 unfolding reply_text reply_data
 returns-clause-text c =
     c.written_text.ensures
-    ∙ one_member (codes "entries") (entries_data c.args.entries.now) c.in_ok-out.out.tokens c.begin_object.new.self.tokens c.key.new.self.tokens c.write_entries.new.out.tokens c.end_object.new.self.tokens
-    c.in_ok-out.ensures.tokens c.in_ok-begin_object.ensures.ok c.in_ok-key.ensures.ok c.in_ok-write_entries.ensures.tokens c.in_ok-end_object.ensures.ok
+    ∙ one_member (codes "entries") (entries_data c.args.entries.now) c.begun_text-out.result.tokens c.begin_object.new.self.tokens c.key.new.self.tokens c.write_entries.new.out.tokens c.end_object.new.self.tokens
+    c.begun_text-out.ensures.tokens c.in_ok-begin_object.ensures.ok c.in_ok-key.ensures.ok c.in_ok-write_entries.ensures.tokens c.in_ok-end_object.ensures.ok
 
 pub returns-clause-back : goal.returns-clause-back
 unfolding reply_text

@@ -12,7 +12,7 @@ pub returns : goal.returns
 unfolding reply_text reply_data
 returns c =
     let text : List ℕ → List ℕ = λ (name : List ℕ). print (begin_object ∷ key (codes "pair") ∷ string name ∷ end_object ∷ []) in
-    let begun : List Token = c.in_ok-out.out.tokens in
+    let begun : List Token = c.begun_text-out.result.tokens in
     let begin_at : List Token = c.begin_object.new.self.tokens in
     let pair_at : List Token = c.write_text.new.out.tokens in
     let end_at : List Token = c.end_object.new.self.tokens in
@@ -23,5 +23,5 @@ returns c =
     (both_written begun begin_at end_at begin_part (pair_part ++ end_part) c.in_ok-begin_object.ensures.ok
     (both_written begin_at pair_at end_at pair_part end_part c.in_ok-write_text.ensures.tokens
     c.in_ok-end_object.ensures.ok))
-    ∙ ap (λ (ts : List Token). ts ++ (begin_part ++ (pair_part ++ end_part))) c.in_ok-out.ensures.tokens in
+    ∙ ap (λ (ts : List Token). ts ++ (begin_part ++ (pair_part ++ end_part))) c.begun_text-out.ensures.tokens in
     c.written_text.ensures ∙ ap print whole ∙ ap text c.name.ensures ∙ print-outline (reply_data (Pair c.args.rel))

@@ -30,7 +30,7 @@ returns c =
     let code = c.from.result in
     let copy = c.copy.result in
     let name = c.name.result.now in
-    let begun : List Token = c.in_ok-out.out.tokens in
+    let begun : List Token = c.begun_text-out.result.tokens in
     let begin_at : List Token = c.begin_object.new.self.tokens in
     let code_at : List Token = c.write_number.new.out.tokens in
     let copy_at : List Token = c.write_number_if_given.new.out.tokens in
@@ -47,6 +47,6 @@ returns c =
     (both_written code_at copy_at end_at copy_part (refused_part ++ end_part) c.in_ok-write_number_if_given.ensures.tokens
     (both_written copy_at refused_at end_at refused_part end_part c.in_ok-write_text.ensures.tokens
     c.in_ok-end_object.ensures.ok))))
-    ∙ ap (λ (ts : List Token). ts ++ (begin_part ++ (code_part ++ (copy_part ++ (refused_part ++ end_part))))) c.in_ok-out.ensures.tokens in
+    ∙ ap (λ (ts : List Token). ts ++ (begin_part ++ (code_part ++ (copy_part ++ (refused_part ++ end_part))))) c.begun_text-out.ensures.tokens in
     c.written_text.ensures ∙ ap print (whole ∙ tokens_of code copy name) ∙ print-outline (refusal_data code copy name)
     ∙ is_refusal c.args.cause.now code copy name (c.from.ensures ∙ c.code.ensures) c.copy.ensures c.name.ensures

@@ -15,5 +15,5 @@ returns g c = record {
   writes = c.new-writer.ensures.inside;
   unread = c.new-reader.ensures.unused;
   unwritten = c.new-writer.ensures.unused;
-  served = is_served (RequestSteps g.S.Session.step g.S.Session.fails g.S.Session.settles g.S.Session.breaks_off) (given_by g.R.Read.remaining) g.W.Write.contents c.new-reader.result c.serve_groups.new.reader c.new-writer.result c.serve_groups.new.writer c.args.session.now c.serve_groups.new.session c.serve_groups.result c.serve_groups.ensures.ok c.serve_groups.ensures.fault;
+  served = is_served (RequestSteps g.S.Session.step g.S.Session.fails g.S.Session.settles g.S.Session.breaks_off) g.S.Session.keeps_together (given_by g.R.Read.remaining) g.W.Write.contents c.new-reader.result c.serve_groups.new.reader c.new-writer.result c.serve_groups.new.writer c.args.session.now c.serve_groups.new.session c.serve_groups.result c.serve_groups.ensures.ok c.serve_groups.ensures.fault;
 }

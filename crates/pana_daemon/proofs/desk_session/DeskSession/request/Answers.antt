@@ -8,4 +8,5 @@ invariant_of-self-then-is_nothing g c = (
   c.call.ensures.same.0 ∙ c.self.invariant.0,
   grind (arith, common_steps),
   λ is. passing_so c.self.inside.pass c.call.new.pass c.args.request c.in-Ok.response c.call.ensures.same c.in-Ok.ensures.done (sym c.is_passing-self-inside.ensures ∙ is),
+  c.self.invariant.3,
 )

@@ -1,18 +1,22 @@
-use Rattle.std.proofs.Common.{List, sym, ap, subst, ◌++◌}
-use Rattle.pana_journal.specs.declared.entry.Entry.{Entry}
-use Rattle.pana_shared.specs.declared.record.Record.{Record}
-use Rattle.pana_shared.specs.Log.{IsOneOf}
-use Rattle.pana_shared_store.specs.Store.{entries_in}
+use Rattle.std.proofs.Common.{refl}
+use Rattle.pana_shared_store.proofs.Placed.{looked_on}
 use Rattle.pana_shared_store.proofs.Readied.{store_opened}
 use Rattle.pana_shared_store.proofs.store.SharedStore.open.Goals as goal
 
-pub read_on-requires-clause-first : goal.read_on-requires-clause-first
-read_on-requires-clause-first g c known = (entries_in (g.L.SharedLog.seen c.args.log).records, ap (λ (l : List Entry). l ++ entries_in (g.L.SharedLog.seen c.args.log).records) (sym c.in-Ok.ensures))
-
-pub read_on-requires-clause-some : goal.read_on-requires-clause-some
-read_on-requires-clause-some g c known group one = absurd (subst (λ (l : List (List Record)). IsOneOf group l) (c.requires known).asked one)
+pub returns-clause-opens : goal.returns-clause-opens
+returns-clause-opens g c = record {
+  on = record {
+    goes_on = (c.in_ok-hall.hall, refl);
+    first = c.in_ok-hall.ensures.first;
+    own = λ known. (c.read_hall.ensures.reads known).grows;
+    follows = λ known. looked_on (g.L.SharedLog.seen c.args.log) (g.L.SharedLog.seen c.read_hall.new.log) (c.read_hall.ensures.reads known);
+  };
+  all = c.in_ok-hall.ensures.all;
+  turn = refl;
+  whole = refl;
+}
 
 pub invariant_of-result : goal.invariant_of-result
 invariant_of-result g c known =
     let fresh = c.requires known in
-    store_opened c.read_on.new.hall (g.L.SharedLog.seen c.args.log) (g.L.SharedLog.seen c.read_on.new.log) fresh.asked fresh.at fresh.put (c.read_on.ensures.looks.reads known) (c.read_on.ensures.looks.first known)
+    store_opened c.in_ok-hall.hall (g.L.SharedLog.seen c.args.log) (g.L.SharedLog.seen c.read_hall.new.log) fresh.asked fresh.at fresh.put (c.read_hall.ensures.reads known) (c.in_ok-hall.ensures.first known)
