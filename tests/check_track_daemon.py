@@ -149,12 +149,14 @@ def ends(program, room):
 def lost_journal(program, room):
     """Where a sync fails it ends with status 1, though a time is given and standard input is open."""
     at = Folders(program, room)
-    at.write("plan.txt", "one")
-    # Four syncs open a new file, and each report makes two: the third report's fails.
-    with at.serve("--every", "3600", env=failing(room, 9)) as daemon:
+    at.write("plan.txt", "one", at.laptop)
+    # Four syncs open a new file, and each report makes two: the second report's fails. A folder alone, since the syncs of
+    # two that are read at the same time may be one.
+    words = ("--journal", str(at.journal), "--every", "3600", "--track", f"laptop={at.laptop}")
+    with Daemon(program, *words, env=failing(room, 7)) as daemon:
         with daemon.client() as client:
-            yield from comes_to(client, [], "plan.txt")
-        at.write("plan.txt", "two", at.usb)
+            yield from differs(until(["plan.txt"], lambda: held(client, "laptop")), ["plan.txt"])
+        at.write("plan.txt", "two", at.laptop)
         daemon.tick()
         yield from differs(daemon.ended(), (1, b"", b"panad: journal failed\n"))
 

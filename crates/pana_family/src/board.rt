@@ -1,5 +1,5 @@
 //! Boards: how the copies of a family relate.
-ghost use Rattle.std.specs.Prelude.{◌≡◌, map, IfOk, Contains};
+ghost use Rattle.std.specs.Prelude.{◌≡◌, ◌<◌, map, length, slice_index_or, IfOk};
 ghost use Rattle.pana_rel.specs.{Board.counts_of, Board.is_split, Board.newest_of, Pairs.own_number, Pairs.rel_of};
 ghost use Rattle.pana_family.specs.Board.{row_of};
 
@@ -28,13 +28,14 @@ pub struct FamilyBoard {
     pub split: bool,
 }
 
-fn counts_of(pairs: &PairTable, copy: u64) -> CopyCounts
-    requires { Contains pairs.now.copies copy }
-    ensures { result ≡ row_of copy (counts_of own_number (rel_of pairs.now) pairs.now.copies copy) }
+/// The row of the copy at a place.
+fn row_at(pairs: &PairTable, at: usize) -> CopyCounts
+    requires { at < length pairs.now.copies }
+    ensures { result ≡ row_of (slice_index_or pairs.now.copies at 0) (counts_of own_number (rel_of pairs.now) pairs.now.copies (slice_index_or pairs.now.copies at 0)) }
 {
-    let counts = pairs.counts(copy);
+    let counts = pairs.counts_at(at);
     CopyCounts {
-        copy,
+        copy: pairs.copies()[at],
         newer: counts.above,
         older: counts.below,
         equal: counts.equal,
@@ -45,10 +46,10 @@ fn counts_of(pairs: &PairTable, copy: u64) -> CopyCounts
 fn rows_of(alloc: Global, pairs: &PairTable) -> Result<Vec<CopyCounts>, AllocError>
     ensures { IfOk result (λ rows. rows.items ≡ map (λ copy. row_of copy (counts_of own_number (rel_of pairs.now) pairs.now.copies copy)) pairs.now.copies) }
 {
-    let copies = pairs.copies();
-    let mut rows = Vec::with_capacity(alloc, copies.len())?;
-    for copy in copies {
-        rows.push(counts_of(pairs, *copy))?;
+    let count = pairs.copies().len();
+    let mut rows = Vec::with_capacity(alloc, count)?;
+    for at in 0..count {
+        rows.push(row_at(pairs, at))?;
     }
     Ok(rows)
 }

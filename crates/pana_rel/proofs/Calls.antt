@@ -10,7 +10,7 @@ use Rattle.pana_event.specs.Relation.{reverse_of}
 use Rattle.pana_rel.specs.declared.counts.Counts.{Counts}
 use Rattle.pana_rel.specs.Board.{counts_of, is_rel, is_split, relates}
 use Rattle.pana_rel.specs.Pairs.{Table, own_number, place_of, rel_at, rel_of}
-use Rattle.pana_rel.specs.inner.Square.{Relations, number_of, rel_in, row_in, table_of, AreCounted, IsKept, IsTop, IsTorn}
+use Rattle.pana_rel.specs.inner.Square.{Relations, number_of, rel_in, row_in, table_of, AreCounted, IsKept, IsRising, IsTop, IsTorn}
 use Rattle.pana_rel.proofs.Boards.{copy_at, counted_equal, counted_others, none_newer, split_is, top_is}
 use Rattle.pana_rel.proofs.Places.{place_at, place_within}
 use Rattle.pana_rel.proofs.Tables.{at_table}
@@ -64,6 +64,14 @@ counts_read cs rows room now copy p row counts kept view read counted =
     let conflict = own Conflict ∙ counted_others cs rows copy Conflict kept here refl in
     let fewer : counts.equal - 1 ≡ count_by (relates own_number (rel_in cs rows) Equal copy) cs = omega (arith, equal) in
     (omega (arith, equal), rw (above, below, conflict, fewer) refl))
+
+-- the same of the copy at a place
+pub counts_at_read : (cs : List ℕ) (rows : List Relations) (room : ℕ) (now : Table) (at : ℕ) (row : Relations) (counts : Counts) → IsKept cs rows → table_of cs rows room ≡ now
+    → row ≡ get_or rows at row → AreCounted row.items counts → at < length now.copies
+    → (1 ≤ counts.equal) × ((record { above = counts.above; below = counts.below; equal = counts.equal - 1; conflict = counts.conflict }) ≡ counts_of own_number (rel_of now) now.copies (get_or now.copies at 0))
+counts_at_read cs rows room now at row counts kept view read counted within =
+    let rising : IsRising now.copies = subst (λ (t : Table). IsRising t.copies) view kept.rising in
+    counts_read cs rows room now (get_or now.copies at 0) at row counts kept view read counted (copy_at now.copies at within) (sym (place_at now.copies at rising within))
 
 -- the test of the rows is the one of the pairs
 pub split_read : (cs : List ℕ) (rows slice : List Relations) (room : ℕ) (now : Table) (test : Bool) → IsKept cs rows → table_of cs rows room ≡ now → slice ≡ rows

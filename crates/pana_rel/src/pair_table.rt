@@ -184,16 +184,24 @@ impl PairTable {
         self.rows[self.place(a)].get(self.place(b))
     }
 
+    /// How many other copies are newer than the copy at a place, older, equal and in conflict. Takes no memory; O(copies).
+    pub fn counts_at(&self, at: usize) -> Counts
+        requires { at < length self.now.copies }
+        ensures { result ≡ counts_of own_number (rel_of self.now) self.now.copies (slice_index_or self.now.copies at 0) }
+    {
+        let counts = self.rows[at].counts();
+        Counts {
+            equal: counts.equal - 1,
+            ..counts
+        }
+    }
+
     /// How many other copies are newer than a copy, older, equal and in conflict. Takes no memory; O(copies).
     pub fn counts(&self, copy: u64) -> Counts
         requires { Contains self.now.copies copy }
         ensures { result ≡ counts_of own_number (rel_of self.now) self.now.copies copy }
     {
-        let counts = self.rows[self.place(copy)].counts();
-        Counts {
-            equal: counts.equal - 1,
-            ..counts
-        }
+        self.counts_at(self.place(copy))
     }
 
     /// Whether two of the newest copies are in conflict. Takes no memory; O(copies) for each copy.

@@ -154,15 +154,10 @@ impl Row {
         }
     }
 
-    /// Whether the copy is older than any. Takes no memory; visits the relations up to the first that is so.
+    /// Whether the copy is older than any. Takes no memory; visits the relations, many at a time.
     pub(crate) fn is_obsolete(&self) -> bool
         ensures { result ≡ list_any (λ rel. is_rel rel Older) self.now.items }
     {
-        for rel in self.as_slice() {
-            if *rel == Rel::Older {
-                return true;
-            }
-        }
-        false
+        self.count(Rel::Older) > 0
     }
 }

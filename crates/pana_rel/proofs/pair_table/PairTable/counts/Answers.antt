@@ -1,10 +1,11 @@
-use Rattle.pana_rel.proofs.Calls.{counts_read}
+use Rattle.std.proofs.Common.{◌<◌, ◌∙◌, ap, length, subst}
+use Rattle.pana_rel.specs.Board.{counts_of}
+use Rattle.pana_rel.specs.Pairs.{own_number, place_of, rel_of}
+use Rattle.pana_rel.proofs.Places.{place_reads}
 use Rattle.pana_rel.proofs.pair_table.PairTable.counts.Goals as goal
-
-pub overflow_sub-result : goal.overflow_sub-result
-overflow_sub-result c =
-    (counts_read _ _ _ c.args.self.now c.args.copy _ _ _ c.self.invariant.0 c.self.view_is c.index.ensures c.counts-counts.ensures c.requires c.place.ensures.place).0
 
 pub returns : goal.returns
 returns c =
-    (counts_read _ _ _ c.args.self.now c.args.copy _ _ _ c.self.invariant.0 c.self.view_is c.index.ensures c.counts-counts.ensures c.requires c.place.ensures.place).1
+    let copies = c.args.self.now.copies in
+    let here : place_of c.args.copy copies < length copies = subst (λ k. k < length copies) c.place.ensures.place c.place.ensures.within in
+    c.counts_at.ensures ∙ ap (counts_of own_number (rel_of c.args.self.now) copies) (rw c.place.ensures.place (place_reads c.args.copy copies 0 here))
