@@ -50,7 +50,7 @@ printf '%s passed, %s failed\\n' "$passed" "$failed"
 WELL = f'case "$1" in lib) {LIB} ;; run) {PROGRAM} ;; ci) {CI} ;; must-fail) {EDITS} ;; esac'
 STUB = "print('1 passed, 0 failed')\n"
 # What is no stub: the scripts that the checks look at.
-REAL = {"edits.py", "gate.py", "quick.py", "try_edits.py"}
+REAL = {"edits.py", "gate.py", "parts.py", "quick.py", "try_edits.py"}
 
 
 class Kit:
@@ -275,25 +275,25 @@ def text_first(kit):
 
 def how_long(kit):
     """./test prints at its end what took how long, and of the edits how many were tried and taken over."""
-    kit.has_edits(10, "refused")
+    kit.has_edits(20, "refused")
     kit.run("./test")
     lines = kit.run("./test")[1].splitlines()
     table = lines[lines.index("== what took how long, in minutes") + 1 :]
-    for wanted in ("rt ci: proofs, tests and must-fail edits", "must-fail edits: 1 tried, 9 taken over", "scenarios", "in all"):
+    for wanted in ("rt ci: proofs, tests and must-fail edits", "must-fail edits: 1 tried, 19 taken over", "scenarios", "in all"):
         if not any(it.endswith(wanted) for it in table):
             yield f"the table has no line of {wanted!r}: {table}"
 
 
 def untried_edits(kit):
-    """./test tries the edits without a line in the record, writes the lines, and tries a tenth of them the next time."""
-    kit.has_edits(10, "refused")
+    """./test tries the edits without a line in the record, writes the lines, and tries a twentieth of them the next time."""
+    kit.has_edits(20, "refused")
     status, output, _ = kit.run("./test")
     passed = int(output.splitlines()[-1].split()[0])
     tried, record = kit.tried(), kit.record()
-    if status or len(tried) != 10 or [it.split()[0] for it in record] != sorted(tried):
+    if status or len(tried) != 20 or [it.split()[0] for it in record] != sorted(tried):
         yield f"it ended with {status}, tried {tried} and wrote {record}"
     status, output, _ = kit.run("./test")
-    if status or len(kit.tried()) != 1 or kit.record() != record or output.splitlines()[-1] != f"{passed - 9} passed, 0 failed":
+    if status or len(kit.tried()) != 1 or kit.record() != record or output.splitlines()[-1] != f"{passed - 19} passed, 0 failed":
         yield f"the second time it ended with {status}, wrote {kit.record()} and printed {output[-200:]!r}"
 
 
@@ -332,8 +332,8 @@ def stale_edits(kit):
 
 
 def wrong_record(kit):
-    """A line of the record that is wrong comes out with the tenth that is tried: ./test fails, names the edit and takes its line away."""
-    kit.has_edits(10, "refused")
+    """A line of the record that is wrong comes out with the twentieth that is tried: ./test fails, names the edit and takes its line away."""
+    kit.has_edits(20, "refused")
     kit.run("./test")
     kit.tried()
     (kit.kit / "all").write_text("missed\n")
@@ -341,7 +341,7 @@ def wrong_record(kit):
     tried = kit.tried()
     if status != 1 or len(tried) != 1 or f"must-fail {tried[0]}: NOT REFUSED" not in output:
         yield f"it ended with {status}, tried {tried} and printed {output[-400:]!r}"
-    if len(kit.record()) != 9 or any(it.startswith(f"{tried[0]} ") for it in kit.record()):
+    if len(kit.record()) != 19 or any(it.startswith(f"{tried[0]} ") for it in kit.record()):
         yield f"the record is {kit.record()}"
     if "== scenarios" not in output:
         yield "the scenarios weren't run, though the program is proved"

@@ -3,8 +3,8 @@
 What becomes of an edit follows from its text, its crate, what lies below the crate, and the kit. So a line of the
 record has the edit's name and one sum of all these, and the edit need not be tried again while its sum is the same.
 Behind it stands the sum before, since machines may have two kits: each finds the sum of its own.
-A line is written where a run saw the edit refused. A tenth of those that need not be tried are tried all the same,
-another tenth each day, so that a line that is wrong comes out.
+A line is written where a run saw the edit refused. A twentieth of those that need not be tried are tried all the same,
+another twentieth each day, so that a line that is wrong comes out.
 """
 from __future__ import annotations
 
@@ -20,7 +20,7 @@ import prove  # noqa: E402
 
 RECORD = TOP / "tests" / "edits-tried"
 PARTS = ("src", "specs", "proofs")
-TENTHS = 10
+TWENTIETHS = 20
 SUMS_KEPT = 2
 SECONDS_A_DAY = 86_400
 
@@ -77,10 +77,10 @@ def stale(kit):
 
 
 def of_the_day(day=None):
-    """The tenth of all edits that is tried today. They stand side by side, so most share the check that they begin with."""
+    """The twentieth of all edits that is tried today. They stand side by side, so most share the check that they begin with."""
     day = int(time.time()) // SECONDS_A_DAY if day is None else day
     found = names()
-    return [it for at, it in enumerate(found) if at * TENTHS // len(found) == day % TENTHS]
+    return [it for at, it in enumerate(found) if at * TWENTIETHS // len(found) == day % TWENTIETHS]
 
 
 def write(refused, others):

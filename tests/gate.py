@@ -3,7 +3,7 @@
 
 usage: gate.py KIT TOOK [edits]
 Every crate and its tests are proved, and the tests and the program are run. The edits that are tried are those whose
-line in tests/edits-tried is missing or stale, and a tenth of the others; with `edits` all of them. Those that a clause
+line in tests/edits-tried is missing or stale, and a twentieth of the others; with `edits` all of them. Those that a clause
 refuses get a line in the record. What is built goes into the crates' folders out/. To the file TOOK go lines that say
 what took how long.
 The last line is 'N passed, M failed'. An edit that is taken over from the record counts as neither.
