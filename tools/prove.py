@@ -53,8 +53,8 @@ def with_those_below(names):
 
 
 def lines_of_code(name):
-    files = (it for part in ("src", "specs", "proofs") for it in (TOP / "crates" / name / part).rglob("*") if it.is_file())
-    return sum(it.read_bytes().count(b"\n") for it in files)
+    """How long a crate takes, as far as its files tell: functions take most of the time, whatever their proofs are like."""
+    return sum(it.read_bytes().count(b"\n") for it in (TOP / "crates" / name / "src").rglob("*") if it.is_file())
 
 
 class Waiting:
