@@ -224,7 +224,6 @@ def reported_in_groups(setting, room):
     folder.mkdir()
     for it in range(250):
         (folder / f"f{it:03}").write_text(f"File {it}.\n")
-    # The last of a hundred files has a transaction of its own, since a file may need two entries.
     # A file may need two entries, so the last of a hundred has a transaction of its own.
     for name, words, least in (("lines", ("run",), 3), ("folder", ("track", f"a={folder}"), 5)):
         made = []
