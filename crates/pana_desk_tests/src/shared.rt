@@ -1,13 +1,17 @@
 //! What no clause says of a hall at a desk: that calls succeed where memory is there, that a board sees another pass's
 //! call, and that a hall settles. Where an allocation fails, the test ends with that error.
 
+ghost use Rattle.std.specs.Prelude.{◌≡◌};
+
 use pana_calls::{Answer, Call, Cause, Message, Query, Reply};
 use pana_copies::{CopyPath, DeviceName, Place};
 use pana_daemon::{Request, Response, Shared};
 use pana_hall::Hall;
 use pana_journal::Report;
-use pana_turn::{Desk, Spent};
+use pana_turn::{Desk, Pass, Spent};
 use std::alloc::{AllocError, Global};
+use std::process::Abort;
+use std::sync::Wait;
 use std::test::Fail;
 
 /// A report of a new file at the path `a`.
@@ -40,6 +44,38 @@ fn rows_of(response: Result<Response, Spent>) -> Result<usize, AllocError> {
     }
 }
 
+/// A question for the board of the first family.
+fn board_wanted() -> Result<Message, Fail> {
+    Ok(Message {
+        by: DeviceName::new("laptop")?,
+        call: Call::Query(Query::Board { family: 1 }),
+    })
+}
+
+/// What two passes get of a desk that no call was made at.
+fn use_desk<T: Wait + Abort>(
+    rt: &T,
+    alloc: Global,
+    desk: &Desk<Shared<Hall>>,
+    first: &mut Pass<Shared<Hall>>,
+    second: &mut Pass<Shared<Hall>>,
+) -> Result<(), Fail>
+    requires first { first.old.desk ≡ desk.now.id }
+    requires second { second.old.desk ≡ desk.now.id }
+{
+    let done = desk.call(rt, first, Request::Make(register(alloc)?));
+    assert_eq!(rt; entry_of(done)?, 1);
+    assert_eq!(rt; desk.glance(second), 1);
+    let shown = desk.call(rt, second, Request::Make(board_wanted()?));
+    assert_eq!(rt; rows_of(shown)?, 1);
+    let settled = desk.call(rt, second, Request::Settle);
+    assert!(rt; matches!(settled, Ok(Response::Settled)));
+    let note = desk.note(first);
+    desk.meet(second, note);
+    assert_eq!(rt; desk.glance(first), 3);
+    Ok(())
+}
+
 #[test]
 fn shared_desk(rt: HostRuntime) -> Result<(), Fail> {
     let alloc = rt.alloc();
@@ -47,20 +83,5 @@ fn shared_desk(rt: HostRuntime) -> Result<(), Fail> {
     let (Some(mut second), Some(mut first)) = (passes.pop(), passes.pop()) else {
         return Ok(());
     };
-
-    let done = desk.call(&rt, &mut first, Request::Make(register(alloc)?));
-    assert_eq!(rt; entry_of(done)?, 1);
-    assert_eq!(rt; desk.glance(&mut second), 1);
-    let board = Message {
-        by: DeviceName::new("laptop")?,
-        call: Call::Query(Query::Board { family: 1 }),
-    };
-    let shown = desk.call(&rt, &mut second, Request::Make(board));
-    assert_eq!(rt; rows_of(shown)?, 1);
-    let settled = desk.call(&rt, &mut second, Request::Settle);
-    assert!(rt; matches!(settled, Ok(Response::Settled)));
-    let note = desk.note(&mut first);
-    desk.meet(&mut second, note);
-    assert_eq!(rt; desk.glance(&mut first), 3);
-    Ok(())
+    use_desk(&rt, alloc, &desk, &mut first, &mut second)
 }

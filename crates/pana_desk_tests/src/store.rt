@@ -151,13 +151,25 @@ fn wrong_crash(
     Ok(None)
 }
 
+/// How many operations a new session's device has made at first, and after each of four lines; and after how many a crash leaves
+/// other entries than it may.
+fn crashes_of_lines(
+    alloc: Global,
+    session: &mut Store<MemoryDevice>,
+) -> Result<(usize, Vec<usize>, Option<usize>), Fail> {
+    let first = session.log().device.operations();
+    let done = operations_after(alloc, session, &[REGISTER, EDIT, BOARD, EDIT])?;
+    let wrong = wrong_crash(alloc, &session.log().device, first, 19)?;
+    Ok((first, done, wrong))
+}
+
 #[test]
 fn crashes_of_a_session(rt: HostRuntime) -> Result<(), Fail> {
     let alloc = rt.alloc();
     let mut session = session_of(alloc, usize::MAX)?;
-    let first = session.log().device.operations();
-    let done = operations_after(alloc, &mut session, &[REGISTER, EDIT, BOARD, EDIT])?;
-    let wrong = wrong_crash(alloc, &session.log().device, first, 19)?;
+    let crashes = crashes_of_lines(alloc, &mut session);
+    drop(session);
+    let (first, done, wrong) = crashes?;
     assert_eq!(rt;
         done.as_slice(),
         [first + 6, first + 12, first + 12, first + 18].as_slice()
@@ -182,19 +194,31 @@ fn wrong_crash_of_a_group(
     Ok(None)
 }
 
+/// What a new session answers to two reports that come together, how many operations its device makes for them, and after how many
+/// a crash leaves other entries than it may.
+fn crashes_of_two_files(
+    alloc: Global,
+    session: &mut Store<MemoryDevice>,
+) -> Result<(Vec<u8>, usize, Option<usize>), Fail> {
+    let first = session.log().device.operations();
+    let (answer, _) = answers(alloc, session, TWO_FILES)?;
+    let made = session.log().device.operations().saturating_sub(first);
+    let wrong = wrong_crash_of_a_group(alloc, &session.log().device, first)?;
+    Ok((answer, made, wrong))
+}
+
 #[test]
 fn crashes_of_a_group(rt: HostRuntime) -> Result<(), Fail> {
     let alloc = rt.alloc();
     let mut session = session_of(alloc, usize::MAX)?;
-    let first = session.log().device.operations();
-    let (answer, _) = answers(alloc, &mut session, TWO_FILES)?;
-    let done = session.log().device.operations();
-    let wrong = wrong_crash_of_a_group(alloc, &session.log().device, first)?;
+    let crashes = crashes_of_two_files(alloc, &mut session);
+    drop(session);
+    let (answer, made, wrong) = crashes?;
     assert_eq!(rt;
         answer.as_slice(),
         b"{\"done\":1}\n{\"done\":2}\n".as_slice()
     );
-    assert_eq!(rt; done, first + 7);
+    assert_eq!(rt; made, 7);
     assert_eq!(rt; wrong, None);
     Ok(())
 }
@@ -203,8 +227,11 @@ fn crashes_of_a_group(rt: HostRuntime) -> Result<(), Fail> {
 /// whether it is open still.
 fn failing_after(alloc: Global, calls: usize) -> Result<(Vec<u8>, Option<ServeFault>, bool), Fail> {
     let mut session = session_of(alloc, calls)?;
-    let (answer, end) = answers(alloc, &mut session, TWO_FILES)?;
-    Ok((answer, end, session.is_open()))
+    let answered = answers(alloc, &mut session, TWO_FILES);
+    let is_open = session.is_open();
+    drop(session);
+    let (answer, end) = answered?;
+    Ok((answer, end, is_open))
 }
 
 #[test]
@@ -248,7 +275,9 @@ fn short_session(alloc: Global) -> Result<Store<ShortDevice>, Fail> {
 fn writes_without_memory(rt: HostRuntime) -> Result<(), Fail> {
     let alloc = rt.alloc();
     let mut session = short_session(alloc)?;
-    let (answer, end) = answers(alloc, &mut session, REGISTER)?;
+    let answered = answers(alloc, &mut session, REGISTER);
+    drop(session);
+    let (answer, end) = answered?;
     let want = b"{\"code\":9,\"refused\":\"OutOfMemory\"}\n".as_slice();
     assert_eq!(rt; answer.as_slice(), want);
     assert_eq!(rt; end, None);

@@ -56,13 +56,12 @@ fn serve_all<'a, T: Threads + Wait + Clock + Sync>(
         idle: 300,
     };
     let (tickets, mut whole) = Tickets::new(alloc, u64::from(wanted))?;
-    let share = tickets.divide(&mut whole);
-    let door = SocketDoor::new(
-        rt, alloc, supervisor, 1, listener, patience, &tickets, share,
-    );
     let mut posts: Vec<Post<'_, _, NoFolder>> = Vec::with_capacity(alloc, 1)?;
-    posts.push_reserved(Post::Door(door));
     let hall = Hall::new(alloc)?;
+    let share = tickets.divide(&mut whole);
+    posts.push_reserved(Post::Door(SocketDoor::new(
+        rt, alloc, supervisor, 1, listener, patience, &tickets, share,
+    )));
     let begin = || -> Result<(), DaemonFault> { Ok(()) };
     match attend(rt, alloc, supervisor, hall, posts, begin) {
         Ok(ended) => Ok((ended.requests, ended.session.length())),

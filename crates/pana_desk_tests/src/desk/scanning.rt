@@ -110,6 +110,31 @@ impl Session for Faltering {
     }
 }
 
+/// The entries of a session's journal; none where it has no answer.
+fn entries_of<S: Session>(alloc: Global, session: &mut S, by: &DeviceName) -> EntryList {
+    match session.call(by, Call::Query(Query::JournalFrom { entry: 1 })) {
+        Ok(Answer::Given(Reply::Journal(entries))) => entries,
+        _ => EntryList::new(alloc),
+    }
+}
+
+/// What a scanner of a folder has reported to a session.
+fn scanned<T: Threads + Wait + Sync, S: Session + Drop, F: Folder>(
+    rt: &T,
+    alloc: Global,
+    session: S,
+    folder: &mut F,
+) -> Result<EntryList, Fail> {
+    let usb = DeviceName::new("usb")?;
+    let (desk, mut passes) = Desk::open(alloc, 1, Shared::new(session))?;
+    let Some(pass) = passes.pop() else {
+        return Ok(EntryList::new(alloc));
+    };
+    let mut session = DeskSession::new(rt, &desk, &IdleSupervisor, 0, pass, None);
+    scanner(rt, alloc, &mut session, &usb, folder);
+    Ok(entries_of(alloc, &mut session, &usb))
+}
+
 /// What a scanner of such a folder has reported to a session of which one call has no answer.
 fn reported<T: Threads + Wait + Sync>(
     rt: &T,
@@ -117,26 +142,13 @@ fn reported<T: Threads + Wait + Sync>(
     fails_at: u64,
     recovers: bool,
 ) -> Result<EntryList, Fail> {
-    let hall = Hall::new(alloc)?;
     let session = Faltering {
-        hall,
+        hall: Hall::new(alloc)?,
         calls: 0,
         fails_at,
         recovers,
     };
-    let (desk, mut passes) = Desk::open(alloc, 1, Shared::new(session))?;
-    let Some(pass) = passes.pop() else {
-        return Ok(EntryList::new(alloc));
-    };
-    let usb = DeviceName::new("usb")?;
-    let mut folder = Lasting { alloc, scans: 0 };
-    let mut session = DeskSession::new(rt, &desk, &IdleSupervisor, 0, pass, None);
-    scanner(rt, alloc, &mut session, &usb, &mut folder);
-    let answer = session.call(&usb, Call::Query(Query::JournalFrom { entry: 1 }))?;
-    let Answer::Given(Reply::Journal(entries)) = answer else {
-        return Ok(EntryList::new(alloc));
-    };
-    Ok(entries)
+    scanned(rt, alloc, session, &mut Lasting { alloc, scans: 0 })
 }
 
 #[test]
@@ -161,19 +173,8 @@ fn scanner_ends(rt: HostRuntime) -> Result<(), Fail> {
 #[test]
 fn scanner_plans(rt: HostRuntime) -> Result<(), Fail> {
     let alloc = rt.alloc();
-    let (desk, mut passes) = Desk::open(alloc, 1, Shared::new(Hall::new(alloc)?))?;
-    let Some(pass) = passes.pop() else {
-        return Ok(());
-    };
-    let usb = DeviceName::new("usb")?;
-    let mut folder = Fading { alloc, scans: 0 };
-    let mut session = DeskSession::new(&rt, &desk, &IdleSupervisor, 0, pass, None);
-    scanner(&rt, alloc, &mut session, &usb, &mut folder);
-    let answer = session.call(&usb, Call::Query(Query::JournalFrom { entry: 1 }))?;
-    let Answer::Given(Reply::Journal(entries)) = answer else {
-        assert!(rt; false);
-        return Ok(());
-    };
+    let hall = Hall::new(alloc)?;
+    let entries = scanned(&rt, alloc, hall, &mut Fading { alloc, scans: 0 })?;
     let entries = entries.as_slice();
     assert_eq!(rt; entries.len(), 2);
     assert!(rt; matches!(entries[0].report, Report::Register { .. }));
