@@ -281,9 +281,9 @@ def named_in_pages():
 
 def pages_that_are_run():
     """Each page with commands is one that ./test runs."""
-    script = (TOP / "test").read_text(encoding="utf-8")
+    script = (TOP / "tests" / "parts.py").read_text(encoding="utf-8")
     for page in sorted([*TOP.glob("*.md"), *TOP.glob("docs/*.md")]):
-        if COMMANDS.search(page.read_text(encoding="utf-8")) and f'"$top/{named(page)}"' not in script:
+        if COMMANDS.search(page.read_text(encoding="utf-8")) and f'"{named(page)}"' not in script:
             yield f"{named(page)} has commands, and ./test doesn't run them"
 
 

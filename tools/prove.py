@@ -53,7 +53,7 @@ def with_those_below(names):
 
 
 def lines_of_code(name):
-    """How long a crate takes, as far as its files tell: functions take most of the time, whatever their proofs are like."""
+    """What goes for how long a crate takes: its functions take most of the time, whatever their proofs are like."""
     return sum(it.read_bytes().count(b"\n") for it in (TOP / "crates" / name / "src").rglob("*") if it.is_file())
 
 
