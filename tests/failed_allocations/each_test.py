@@ -22,7 +22,7 @@ from pathlib import Path
 import failing
 
 CRATES = Path(__file__).resolve().parents[2] / "crates"
-OF_TESTS = ("pana_clock_tests", "pana_line_tests", "pana_hall_tests", "pana_scan_tests", "pana_desk_tests")
+OF_TESTS = ("pana_clock_tests", "pana_line_tests", "pana_scan_tests", "pana_desk_tests")
 PROCESSES = 4
 SECONDS = 60
 SHOWN = 5
