@@ -5,7 +5,7 @@ use pana_journal::Report;
 use std::alloc::{AllocError, Global};
 
 /// What is asked of a hall. No query changes it.
-#[derive(PartialEq, Eq, Drop)]
+#[derive(PartialEq, Eq)]
 pub enum Query {
     /// Each family with a living copy.
     Families,
@@ -48,6 +48,26 @@ pub enum Query {
     },
     /// How many copies live, and on how many devices.
     Counts,
+}
+
+impl Drop for Query {
+    fn drop(self) {
+        match self {
+            Query::Families => {}
+            Query::Board { family: _ } => {}
+            Query::Stamps { family: _ } => {}
+            Query::Pair { a: _, b: _ } => {}
+            Query::Holdings { device: _, from: _ } => {}
+            Query::At { place: _ } => {}
+            Query::Status { device: _, from: _ } => {}
+            Query::JournalFrom { entry: _ } => {}
+            Query::JournalAwaited {
+                entry: _,
+                seconds: _,
+            } => {}
+            Query::Counts => {}
+        }
+    }
 }
 
 /// What was seen at a place, by whoever looks at files and knows no numbers of copies.

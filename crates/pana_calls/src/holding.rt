@@ -7,7 +7,7 @@ use std::marker::Model;
 
 /// A living copy on the device that was asked for, the entry that changed it last, and the sum of what it holds, where that is
 /// known.
-#[derive(PartialEq, Eq, Drop)]
+#[derive(PartialEq, Eq)]
 pub struct Holding {
     pub copy: u64,
     pub family: u64,
@@ -16,10 +16,27 @@ pub struct Holding {
     pub touch: u64,
 }
 
+impl Drop for Holding {
+    fn drop(self) {
+        let Holding {
+            copy: _,
+            family: _,
+            path: _,
+            sum: _,
+            touch: _,
+        } = self;
+    }
+}
+
 /// Copies on one device, no two of them with one path. To contracts it is the list of them.
-#[derive(Drop)]
 pub struct HoldingList {
     holdings: Vec<Holding>,
+}
+
+impl Drop for HoldingList {
+    fn drop(self) {
+        let HoldingList { holdings: _ } = self;
+    }
 }
 
 impl Model for HoldingList {

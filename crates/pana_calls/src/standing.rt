@@ -50,10 +50,21 @@ pub struct PlacedCopy {
 }
 
 /// A copy that is obsolete or in conflict, and the copy to replace it with, or to merge it with.
-#[derive(PartialEq, Eq, Drop)]
+#[derive(PartialEq, Eq)]
 pub struct StatusRow {
     pub copy: u64,
     pub place: Place,
     pub state: CopyState,
     pub with: PlacedCopy,
+}
+
+impl Drop for StatusRow {
+    fn drop(self) {
+        let StatusRow {
+            copy: _,
+            place: _,
+            state: _,
+            with: _,
+        } = self;
+    }
 }

@@ -10,13 +10,23 @@ use std::io::{BufRead, Write};
 /// reader.
 ///
 /// Once a call has got no answer, no later one gets any. So an answer that comes late is never taken for another call's.
-#[derive(Drop)]
 pub struct Client<R, W> {
     alloc: Global,
     reader: R,
     writer: W,
     /// Whether each call so far has got its answer.
     works: bool,
+}
+
+impl<R: Drop, W: Drop> Drop for Client<R, W> {
+    fn drop(self) {
+        let Client {
+            alloc: _,
+            reader: _,
+            writer: _,
+            works: _,
+        } = self;
+    }
 }
 
 impl<R, W> Client<R, W> {

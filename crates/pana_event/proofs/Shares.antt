@@ -3,7 +3,7 @@ use Rattle.std.proofs.Common.{◌≡◌, ℕ, ◌+◌, ◌-◌, ◌≤◌, min, 
 use Rattle.std.proofs.lemmas.Bool.{eqb-false, and_parts}
 use Rattle.pana_event.specs.Event.{Event, leaf, fork, number, level, depth, lift, sink, are_same_leaf, norm, IsOpen, IsNormal}
 use Rattle.pana_event.specs.Join.{raised, join_of}
-use Rattle.pana_event.specs.Joining.{IsOneOf, IsJoined, is_first, is_second, shared_by, whole_of}
+use Rattle.pana_event.specs.inner.Joining.{IsOneOf, IsJoined, is_first, is_second, shared_by, whole_of}
 use Rattle.pana_event.specs.declared.joining.Joined.{Joined}
 use Rattle.pana_event.specs.declared.joining.Joined.TheVariants.{First, Second, Both, New}
 use Rattle.pana_event.proofs.Levels.{lowest, least-normal}

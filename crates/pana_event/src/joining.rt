@@ -2,7 +2,7 @@
 ghost use Rattle.std.specs.Prelude.{◌≡◌, ◌+◌, ◌^◌, ◌<◌, IfOk, IfSome};
 ghost use Rattle.pana_event.specs.Event.{IsNormal, greatest, leaf, lift, number};
 ghost use Rattle.pana_event.specs.Join.{join_of, joined, raised};
-ghost use Rattle.pana_event.specs.Joining.{IsJoined, IsOneOf, is_first, is_second, reversed, whole_of};
+ghost use Rattle.pana_event.specs.inner.Joining.{IsJoined, IsOneOf, is_first, is_second, reversed, whole_of};
 ghost use Rattle.pana_event.specs.Shape.{tree};
 
 use crate::node::Node;

@@ -10,12 +10,22 @@ use pana_journal::Journal;
 use std::alloc::Global;
 
 /// A journal, the families that it has begun, where the living copies are kept, and what they hold.
-#[derive(Drop)]
 pub struct State {
     pub journal: Journal,
     pub families: Families,
     pub copies: CopyTable,
     pub contents: Contents,
+}
+
+impl Drop for State {
+    fn drop(self) {
+        let State {
+            journal: _,
+            families: _,
+            copies: _,
+            contents: _,
+        } = self;
+    }
 }
 
 impl State {

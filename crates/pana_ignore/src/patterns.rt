@@ -13,10 +13,18 @@ use std::alloc::{AllocError, Global};
 use std::marker::Model;
 
 /// Patterns of paths, of which the last that matches decides.
-#[derive(Drop)]
 pub struct Patterns {
     alloc: Global,
     patterns: Vec<Pattern>,
+}
+
+impl Drop for Patterns {
+    fn drop(self) {
+        let Patterns {
+            alloc: _,
+            patterns: _,
+        } = self;
+    }
 }
 
 impl Model for Patterns {

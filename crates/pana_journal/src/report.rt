@@ -6,7 +6,7 @@ use std::alloc::{AllocError, Global};
 
 /// What a session or a scanner reports. A copy is named by the number of the entry that made it. A sum is that of the bytes which
 /// the copies that the report is about hold from then on, where it is known.
-#[derive(Debug, PartialEq, Eq, Drop)]
+#[derive(Debug, PartialEq, Eq)]
 pub enum Report {
     /// A file is known from now on, by a first copy at this place, which knows no update.
     Register {
@@ -59,6 +59,27 @@ pub enum Report {
     Withdraw {
         entry: u64,
     },
+}
+
+impl Drop for Report {
+    fn drop(self) {
+        match self {
+            Report::Register { place: _, sum: _ } => {}
+            Report::Duplicate {
+                copy: _,
+                place: _,
+                sum: _,
+            } => {}
+            Report::Edit { copy: _, sum: _ } => {}
+            Report::Reconcile { a: _, b: _, sum: _ } => {}
+            Report::Merge { a: _, b: _, sum: _ } => {}
+            Report::Relocate { copy: _, place: _ } => {}
+            Report::Remove { copy: _, heir: _ } => {}
+            Report::Note { copy: _, sum: _ } => {}
+            Report::Confirm { entry: _ } => {}
+            Report::Withdraw { entry: _ } => {}
+        }
+    }
 }
 
 /// The same sum once more, if there is one. Fails only where memory runs out.

@@ -2,4 +2,4 @@ pub mod Fill
 pub mod Cost
 pub mod Grow
 pub mod Raised
-pub mod Renewed
+pub mod inner

@@ -5,7 +5,7 @@ ghost use Rattle.pana_event.specs.Shape.{tree as event_of};
 ghost use Rattle.pana_id.specs.Node.{tree as id_of};
 ghost use Rattle.pana_stamp.specs.Fill.{IsFilled, fill as fill_of};
 ghost use Rattle.pana_stamp.specs.Raised.{IsRaised};
-ghost use Rattle.pana_stamp.specs.Renewed.{Differs, new_or};
+ghost use Rattle.pana_stamp.specs.inner.Renewed.{Differs, new_or};
 
 use pana_event::{EventTree, Node};
 use pana_id::{IdTree, Node as IdNode};

@@ -20,9 +20,14 @@ const RECORD: usize = 80;
 /// The SHA-256 of files by their signatures: at most 4,000,000, and no signature twice.
 ///
 /// A look-up takes O(1) time on average, and so does each change.
-#[derive(Drop)]
 pub struct SumTable {
     sums: IndexMap<Signature, [u8; 32]>,
+}
+
+impl Drop for SumTable {
+    fn drop(self) {
+        let SumTable { sums: _ } = self;
+    }
 }
 
 impl Model for SumTable {

@@ -21,12 +21,21 @@ const LONGEST_LINE: usize = 65536;
 const LONGEST_WAIT: u64 = 3600;
 
 /// Reads lines, with memory that is kept from line to line.
-#[derive(Drop)]
 pub struct LineReader {
     pub alloc: Global,
     pub scratch: Scratch<Global>,
     // For the texts of answers.
     pub room: Vec<u8>,
+}
+
+impl Drop for LineReader {
+    fn drop(self) {
+        let LineReader {
+            alloc: _,
+            scratch: _,
+            room: _,
+        } = self;
+    }
 }
 
 impl LineReader {

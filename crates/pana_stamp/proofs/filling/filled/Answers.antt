@@ -2,7 +2,7 @@ use Rattle.std.proofs.Common.{◌≡◌, sym, ap, subst, ◌∙◌}
 use Rattle.pana_event.specs.Shape.{tree as event_of}
 use Rattle.pana_id.specs.Node.{tree as id_of}
 use Rattle.pana_stamp.specs.Fill.{fill as fill_of}
-use Rattle.pana_stamp.specs.Renewed.{Differs, new_or}
+use Rattle.pana_stamp.specs.inner.Renewed.{Differs, new_or}
 use Rattle.pana_stamp.proofs.Calls.{sound_fill, raised_fill}
 use Rattle.pana_stamp.proofs.filling.filled.Goals as goal
 use Rattle.pana_stamp.proofs.filling.filled.Goals.{In-Some}
