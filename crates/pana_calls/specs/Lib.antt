@@ -1,4 +1,5 @@
 pub mod Cause
 pub mod Holdings
+pub mod Parts
 pub mod Session
 pub mod Standing

@@ -1,3 +1,8 @@
+ghost use Rattle.std.specs.Prelude.{◌≡◌, IfSome};
+ghost use Rattle.pana_calls.specs.Parts.{board_in, counts_in, families_in, holdings_in, journal_in, standing_in, status_in};
+ghost use Rattle.pana_calls.specs.declared.answer.Answer.TheVariants.{Given};
+ghost use Rattle.pana_calls.specs.declared.reply.Reply.TheVariants as replies;
+
 use crate::board::BoardView;
 use crate::cause::Cause;
 use crate::copy_stamp::CopyStamp;
@@ -10,7 +15,6 @@ use pana_journal::{EntryList, ReportKind};
 use pana_list::PlainList;
 
 /// The answer of a hall to a call.
-#[derive(Drop)]
 pub enum Reply {
     /// The report was accepted, as the entry with this number.
     Done { entry: u64 },
@@ -38,4 +42,103 @@ pub enum Reply {
     Counts(HallCounts),
     /// The call was refused, and changed nothing.
     Refused(Cause),
+}
+
+impl Drop for Reply {
+    fn drop(self) {
+        match self {
+            Reply::Done { entry: _ } => {}
+            Reply::Did { kind: _, entry: _ } => {}
+            Reply::Known { copy: _ } => {}
+            Reply::Families(_) => {}
+            Reply::Board(_) => {}
+            Reply::Stamps(_) => {}
+            Reply::Pair(_) => {}
+            Reply::Holdings(_) => {}
+            Reply::At(_) => {}
+            Reply::Status(_) => {}
+            Reply::Journal(_) => {}
+            Reply::Counts(_) => {}
+            Reply::Refused(_) => {}
+        }
+    }
+}
+
+impl Reply {
+    /// The families that it has, if it is such a reply.
+    pub fn into_families(self) -> Option<PlainList<FamilyRow>>
+        ensures part { result ≡ families_in (Given self) }
+        ensures reply { IfSome result (λ families. self ≡ replies.Families families) }
+    {
+        match self {
+            Reply::Families(families) => Some(families),
+            _ => None,
+        }
+    }
+
+    /// The board that it has, if it is such a reply.
+    pub fn into_board(self) -> Option<BoardView>
+        ensures part { result ≡ board_in (Given self) }
+        ensures reply { IfSome result (λ board. self ≡ replies.Board board) }
+    {
+        match self {
+            Reply::Board(board) => Some(board),
+            _ => None,
+        }
+    }
+
+    /// The holdings that it has, if it is such a reply.
+    pub fn into_holdings(self) -> Option<HoldingList>
+        ensures part { result ≡ holdings_in (Given self) }
+        ensures reply { IfSome result (λ holdings. self ≡ replies.Holdings holdings) }
+    {
+        match self {
+            Reply::Holdings(holdings) => Some(holdings),
+            _ => None,
+        }
+    }
+
+    /// How the copy at the place stands, if one is there that it has, if it is such a reply.
+    pub fn into_standing(self) -> Option<Option<CopyStanding>>
+        ensures part { result ≡ standing_in (Given self) }
+        ensures reply { IfSome result (λ standing. self ≡ replies.At standing) }
+    {
+        match self {
+            Reply::At(standing) => Some(standing),
+            _ => None,
+        }
+    }
+
+    /// The copies that are obsolete or in conflict that it has, if it is such a reply.
+    pub fn into_status(self) -> Option<PlainList<StatusRow>>
+        ensures part { result ≡ status_in (Given self) }
+        ensures reply { IfSome result (λ status. self ≡ replies.Status status) }
+    {
+        match self {
+            Reply::Status(status) => Some(status),
+            _ => None,
+        }
+    }
+
+    /// The entries that it has, if it is such a reply.
+    pub fn into_journal(self) -> Option<EntryList>
+        ensures part { result ≡ journal_in (Given self) }
+        ensures reply { IfSome result (λ journal. self ≡ replies.Journal journal) }
+    {
+        match self {
+            Reply::Journal(journal) => Some(journal),
+            _ => None,
+        }
+    }
+
+    /// The counts that it has, if it is such a reply.
+    pub fn into_counts(self) -> Option<HallCounts>
+        ensures part { result ≡ counts_in (Given self) }
+        ensures reply { IfSome result (λ counts. self ≡ replies.Counts counts) }
+    {
+        match self {
+            Reply::Counts(counts) => Some(counts),
+            _ => None,
+        }
+    }
 }

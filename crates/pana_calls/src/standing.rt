@@ -30,7 +30,7 @@ impl CopyState {
 
 /// A living copy: its family, how many of the family's other copies are newer, older, equal and in conflict, its state, and the
 /// sum of what it holds, where that is known.
-#[derive(PartialEq, Eq, Drop)]
+#[derive(PartialEq, Eq)]
 pub struct CopyStanding {
     pub copy: u64,
     pub family: u64,
@@ -40,6 +40,21 @@ pub struct CopyStanding {
     pub conflict: u64,
     pub state: CopyState,
     pub sum: Option<Sum>,
+}
+
+impl Drop for CopyStanding {
+    fn drop(self) {
+        let CopyStanding {
+            copy: _,
+            family: _,
+            newer: _,
+            older: _,
+            equal: _,
+            conflict: _,
+            state: _,
+            sum: _,
+        } = self;
+    }
 }
 
 /// A living copy and its place.

@@ -23,9 +23,10 @@ pub(crate) fn families_of<S: Session>(
     ensures ok { IfOk result (λ rows. S.step session.old by.now families (Given (replies.Families rows)) session.new) }
     ensures fails { IsErrOf result Untracked.NoAnswer → one S.fails session.old by.now families session.new }
 {
-    match session.call(by, Call::Query(Query::Families))? {
-        Answer::Given(Reply::Families(rows)) => Ok(rows),
-        _ => Err(Untracked::OutOfMemory),
+    let answer = session.call(by, Call::Query(Query::Families))?;
+    match answer.into_families() {
+        Some(rows) => Ok(rows),
+        None => Err(Untracked::OutOfMemory),
     }
 }
 
@@ -40,10 +41,13 @@ pub(crate) fn board_of<S: Session>(
         (λ cause. S.step session.old by.now (board family) (Given (replies.Refused cause)) session.new)) }
     ensures fails { IsErrOf result Untracked.NoAnswer → one S.fails session.old by.now (board family) session.new }
 {
-    match session.call(by, Call::Query(Query::Board { family }))? {
-        Answer::Given(Reply::Board(view)) => Ok(Ok(view)),
-        Answer::Given(Reply::Refused(cause)) => Ok(Err(cause)),
-        _ => Err(Untracked::OutOfMemory),
+    let answer = session.call(by, Call::Query(Query::Board { family }))?;
+    if let Answer::Given(Reply::Refused(cause)) = &answer {
+        return Ok(Err(*cause));
+    }
+    match answer.into_board() {
+        Some(view) => Ok(Ok(view)),
+        None => Err(Untracked::OutOfMemory),
     }
 }
 

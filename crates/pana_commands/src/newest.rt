@@ -28,7 +28,7 @@ fn placed(row: BoardRow) -> PlacedCopy
 {
     PlacedCopy {
         copy: row.copy,
-        place: row.place,
+        place: row.into_place(),
     }
 }
 
@@ -37,7 +37,7 @@ fn newest_in(alloc: Global, view: BoardView) -> Result<PlainList<PlacedCopy>, Al
     ensures { IfOk result (λ newest. newest ≡ newest_in view) }
 {
     let newest = view
-        .rows
+        .into_rows()
         .into_vec()
         .into_iter()
         .filter(|row| is_newest(state_of(row)))

@@ -5,7 +5,6 @@ use std::alloc::{AllocError, Global};
 use std::fmt;
 
 /// What a command has to say, and its exit status.
-#[derive(Drop)]
 pub struct Printout {
     /// For standard output: lines, each with its newline.
     pub out: String,
@@ -13,6 +12,16 @@ pub struct Printout {
     pub err: String,
     /// The exit status.
     pub status: u8,
+}
+
+impl Drop for Printout {
+    fn drop(self) {
+        let Printout {
+            out: _,
+            err: _,
+            status: _,
+        } = self;
+    }
 }
 
 impl Printout {

@@ -117,16 +117,6 @@ fn asks_total(places: &[&str], form: StatusForm) -> bool
     is_table(form) && places.is_empty()
 }
 
-/// The counts that an answer has, where it has them.
-fn counts_in(answer: Answer) -> Option<HallCounts>
-    ensures { IfSome result (λ counts. answer ≡ Given (replies.Counts counts)) }
-{
-    match answer {
-        Answer::Given(Reply::Counts(counts)) => Some(counts),
-        _ => None,
-    }
-}
-
 /// Asks how many copies there are, where that is wanted.
 fn total_of<S: Session>(
     session: &mut S,
@@ -140,7 +130,7 @@ fn total_of<S: Session>(
         return Ok(None);
     }
     let answer = session.call(by, Call::Query(Query::Counts))?;
-    match counts_in(answer) {
+    match answer.into_counts() {
         Some(counts) => Ok(Some(counts)),
         None => Err(Untracked::OutOfMemory),
     }

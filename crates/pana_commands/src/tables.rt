@@ -6,7 +6,7 @@ ghost use Rattle.pana_hall.specs.Queries.{family_rows};
 ghost use Rattle.pana_commands.specs.Tables.{table_of, tables_text};
 
 use crate::boards::print_board;
-use pana_calls::{BoardView, Call, FamilyRow, Query, Reply};
+use pana_calls::{BoardView, Call, FamilyRow, Query};
 use pana_copies::DeviceName;
 use pana_hall::Hall;
 use pana_list::PlainList;
@@ -19,9 +19,10 @@ fn families_of(hall: &mut Hall, by: &DeviceName) -> Result<PlainList<FamilyRow>,
     ensures rows { IfOk result (λ rows. rows ≡ family_rows hall.old (living hall.old)) }
     ensures hall { hall.new ≡ hall.old }
 {
-    match hall.apply(by, Call::Query(Query::Families)) {
-        Reply::Families(rows) => Ok(rows),
-        _ => Err(AllocError),
+    let reply = hall.apply(by, Call::Query(Query::Families));
+    match reply.into_families() {
+        Some(rows) => Ok(rows),
+        None => Err(AllocError),
     }
 }
 
@@ -29,9 +30,10 @@ fn board_of(hall: &mut Hall, by: &DeviceName, family: u64) -> Result<BoardView, 
     ensures board { IfOk result (λ board. board ≡ board_of family (living hall.old)) }
     ensures hall { hall.new ≡ hall.old }
 {
-    match hall.apply(by, Call::Query(Query::Board { family })) {
-        Reply::Board(board) => Ok(board),
-        _ => Err(AllocError),
+    let reply = hall.apply(by, Call::Query(Query::Board { family }));
+    match reply.into_board() {
+        Some(board) => Ok(board),
+        None => Err(AllocError),
     }
 }
 

@@ -11,9 +11,15 @@ use std::marker::Model;
 const LONGEST_PATH: usize = 1024;
 
 /// The path of a copy on its device: 1 to 1,024 bytes of UTF-8 with no character below U+0020 and no U+007F.
-#[derive(Debug, Drop)]
+#[derive(Debug)]
 pub struct CopyPath {
     text: String,
+}
+
+impl Drop for CopyPath {
+    fn drop(self) {
+        let CopyPath { text: _ } = self;
+    }
 }
 
 impl Model for CopyPath {

@@ -17,13 +17,22 @@ use std::marker::Model;
 /// The places of living copies, each copy with its family: no copy twice, and no place twice.
 ///
 /// A look-up, by a copy or by a place, takes O(1) time on average, and so does each change.
-#[derive(Drop)]
 pub struct CopyTable {
     // The place of the copy at an index is at the same index of the other list, so it is kept once.
     families: IndexMap<u64, u64>,
     places: IndexSet<Place>,
     // Each device that has a copy, with how many it has.
     devices: IndexMap<DeviceName, u64>,
+}
+
+impl Drop for CopyTable {
+    fn drop(self) {
+        let CopyTable {
+            families: _,
+            places: _,
+            devices: _,
+        } = self;
+    }
 }
 
 impl Model for CopyTable {
@@ -115,7 +124,7 @@ impl CopyTable {
             if let Some(copy) = self.at(&place) {
                 copies.push(copy)?;
             }
-            own = place.path;
+            own = place.into_path();
         }
         Ok(copies)
     }

@@ -13,9 +13,14 @@ const LONGEST_DEVICE: usize = 32;
 /// The name of a device: 1 to 32 bytes of `a` to `z`, `0` to `9`, `-` and `_`.
 ///
 /// It takes 32 bytes where it stands, and no allocation. After a shorter name stand zeros.
-#[derive(Drop)]
 pub struct DeviceName {
     bytes: [u8; LONGEST_DEVICE],
+}
+
+impl Drop for DeviceName {
+    fn drop(self) {
+        let DeviceName { bytes: _ } = self;
+    }
 }
 
 const _: () = prove!(size_of::<DeviceName>() == 32);

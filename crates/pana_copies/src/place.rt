@@ -5,10 +5,16 @@ use crate::device_name::DeviceName;
 use std::alloc::AllocError;
 
 /// Where a copy is kept: a path on a device.
-#[derive(Debug, PartialEq, Eq, Hash, Drop)]
+#[derive(Debug, PartialEq, Eq, Hash)]
 pub struct Place {
     pub device: DeviceName,
     pub path: CopyPath,
+}
+
+impl Drop for Place {
+    fn drop(self) {
+        let Place { device: _, path: _ } = self;
+    }
 }
 
 impl Place {
@@ -19,5 +25,13 @@ impl Place {
         let device = self.device.copy_of();
         let path = self.path.copy_of()?;
         Ok(Place { device, path })
+    }
+
+    /// The path, where the device is wanted no more. Takes no memory.
+    pub fn into_path(self) -> CopyPath
+        ensures { result ≡ self.path }
+    {
+        let Place { device: _, path } = self;
+        path
     }
 }

@@ -21,9 +21,15 @@ const BYTES: usize = 32;
 /// The SHA-256 of a file's bytes: 64 of `0` to `9` and `a` to `f`.
 ///
 /// It takes an allocation of 32 bytes. To contracts it is its text.
-#[derive(Debug, Drop)]
+#[derive(Debug)]
 pub struct Sum {
     bytes: Box<[u8; BYTES]>,
+}
+
+impl Drop for Sum {
+    fn drop(self) {
+        let Sum { bytes: _ } = self;
+    }
 }
 
 impl Model for Sum {

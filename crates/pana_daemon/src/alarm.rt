@@ -23,7 +23,6 @@ const HOLD: u64 = 1;
 /// A supervisor that opens with the start, and lets all pass. It prints one line on standard error where a call has no answer for
 /// good, one where a call has none for now and one once a call has an answer again, and one where a connection can't be taken for
 /// the first time.
-#[derive(Drop)]
 pub struct Alarm<'a> {
     rt: &'a HostRuntime,
     start: &'a Start,
@@ -38,10 +37,31 @@ pub struct Alarm<'a> {
     waiting: Waiting,
 }
 
+impl<'a> Drop for Alarm<'a> {
+    fn drop(self) {
+        let Alarm {
+            rt: _,
+            start: _,
+            listener: _,
+            has_rung: _,
+            is_silent: _,
+            is_deaf: _,
+            closer: _,
+            rung_at: _,
+            waiting: _,
+        } = self;
+    }
+}
+
 /// The socket of a listener, by which it can be shut down while it waits for a connection.
-#[derive(Drop)]
 pub struct Closer {
     socket: TcpStream,
+}
+
+impl Drop for Closer {
+    fn drop(self) {
+        let Closer { socket: _ } = self;
+    }
 }
 
 impl Closer {

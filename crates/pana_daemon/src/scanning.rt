@@ -90,13 +90,8 @@ fn holdings_of<S: Session>(
         device: device.copy_of(),
         from: None,
     };
-    match session.call(device, Call::Query(query))? {
-        Answer::Given(Reply::Holdings(holdings)) => Ok(Some(holdings)),
-        other => {
-            drop(other);
-            Ok(None)
-        }
-    }
+    let answer = session.call(device, Call::Query(query))?;
+    Ok(answer.into_holdings())
 }
 
 /// Makes the calls of one scan, of a listing of the device.

@@ -8,12 +8,21 @@ use pana_ticks::{Counter, Ticks};
 use std::alloc::{AllocError, Global};
 
 /// The newlines of standard input, and the start of sessions, scanners and the count of newlines.
-#[derive(Drop)]
 pub struct Signals {
     pub ticks: Ticks,
     pub start: Start,
     /// Whether folders that are looked at each so many seconds go on once no more newlines come.
     pub lasts: bool,
+}
+
+impl Drop for Signals {
+    fn drop(self) {
+        let Signals {
+            ticks: _,
+            start: _,
+            lasts: _,
+        } = self;
+    }
 }
 
 impl Signals {

@@ -17,12 +17,21 @@ const REFUSED: u64 = 1 << 32;
 
 /// Things that are to run at once, each in a thread of its own, and how many of them have begun. Where threads that there
 /// were a moment ago can't be made after all, some would run one after another, so the last ones never.
-#[derive(Drop)]
 pub struct Start {
     wanted: u64,
     begun: AtomicU64,
     /// Whether all have begun, once that was asked.
     all: OnceLock<bool>,
+}
+
+impl Drop for Start {
+    fn drop(self) {
+        let Start {
+            wanted: _,
+            begun: _,
+            all: _,
+        } = self;
+    }
 }
 
 /// Whether all have begun that were to, as it was answered to one of them; all get the same answer. To contracts it is

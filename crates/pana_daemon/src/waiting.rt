@@ -33,13 +33,22 @@ const LOOK: u64 = 1;
 /// How many entries the journal is known to have, and which callers' connections are to end.
 ///
 /// The number says when a question that waits is asked. No answer comes from it.
-#[derive(Drop)]
 pub struct Waiting {
     entries: AtomicU64,
     /// Whether the journal grows by others' calls too.
     is_shared: bool,
     /// A bit for each caller.
     leaving: AtomicU64,
+}
+
+impl Drop for Waiting {
+    fn drop(self) {
+        let Waiting {
+            entries: _,
+            is_shared: _,
+            leaving: _,
+        } = self;
+    }
 }
 
 /// The bit of a caller. Callers are numbered from 1 to 64 at most.

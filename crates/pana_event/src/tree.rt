@@ -13,9 +13,14 @@ use std::alloc::{AllocError, Global};
 use std::marker::Model;
 
 /// An event tree in normal form, at most 256 deep, with every level a `u64`. Contracts see it as an `Event`.
-#[derive(Drop)]
 pub struct EventTree {
     node: Node,
+}
+
+impl Drop for EventTree {
+    fn drop(self) {
+        let EventTree { node: _ } = self;
+    }
 }
 
 impl Model for EventTree {

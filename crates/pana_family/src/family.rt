@@ -24,11 +24,20 @@ use std::marker::Model;
 /// relation of each copy to each, which follows every change.
 ///
 /// It keeps no set of updates. What it stands for is each table of sets that its rows stand for (`StandsFor`).
-#[derive(Drop)]
 pub struct Family {
     pub(crate) alloc: Global,
     pub(crate) items: Vec<StampRow>,
     pub(crate) pairs: PairTable,
+}
+
+impl Drop for Family {
+    fn drop(self) {
+        let Family {
+            alloc: _,
+            items: _,
+            pairs: _,
+        } = self;
+    }
 }
 
 impl Model for Family {
@@ -112,7 +121,11 @@ impl Family {
         ensures rows { result ≡ self.rows }
         ensures kept { IsKept result }
     {
-        let Family { items, .. } = self;
+        let Family {
+            alloc: _,
+            items,
+            pairs: _,
+        } = self;
         PlainList::from_vec(items)
     }
 

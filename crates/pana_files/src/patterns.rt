@@ -164,10 +164,18 @@ fn push_endings(
 }
 
 /// A root's folder, and the patterns of what is passed over there.
-#[derive(Drop)]
 pub struct RootPatterns {
     folder: String,
     texts: Vec<String>,
+}
+
+impl Drop for RootPatterns {
+    fn drop(self) {
+        let RootPatterns {
+            folder: _,
+            texts: _,
+        } = self;
+    }
 }
 
 impl RootPatterns {

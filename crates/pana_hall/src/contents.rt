@@ -6,10 +6,15 @@ use pana_journal::Report;
 use std::alloc::{AllocError, Global};
 
 /// For each copy the entry that says what it holds, where one does.
-#[derive(Drop)]
 pub struct Contents {
     /// At the position of the entry that made the copy.
     pub entries: Vec<Option<u32>>,
+}
+
+impl Drop for Contents {
+    fn drop(self) {
+        let Contents { entries: _ } = self;
+    }
 }
 
 /// That this entry says what a copy holds, or none does.

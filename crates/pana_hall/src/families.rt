@@ -9,10 +9,18 @@ use pana_journal::Report;
 use std::alloc::Global;
 
 /// The families that have begun, by rising number, and for each entry of the journal the position of its family.
-#[derive(Drop)]
 pub struct Families {
     pub list: Vec<ListedFamily>,
     pub positions: Vec<usize>,
+}
+
+impl Drop for Families {
+    fn drop(self) {
+        let Families {
+            list: _,
+            positions: _,
+        } = self;
+    }
 }
 
 impl Families {

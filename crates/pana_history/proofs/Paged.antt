@@ -10,7 +10,8 @@ use Rattle.pana_calls.specs.declared.reply.Reply.TheVariants.{At, Board, Counts,
 use Rattle.pana_calls.specs.declared.answer.Answer.{Answer}
 use Rattle.pana_calls.specs.declared.answer.Answer.TheVariants.{Given, NotKept}
 use Rattle.pana_history.specs.Pages.{FullPages, HasJournal, Pages, Stops, next_after}
-use Rattle.pana_history.specs.inner.Pages.{AsksPage, page_in}
+use Rattle.pana_calls.specs.Parts.{journal_in}
+use Rattle.pana_history.specs.inner.Pages.{AsksPage}
 
 -- what holds of a result that is no error
 pub was_ok : {T E : Type 0} → (r : Result T E) (P : Type 0) → OnOk r P → is_err r ≡ false → P
@@ -18,7 +19,7 @@ was_ok (Ok x) P on is = on
 was_ok (Err e) P on is = absurd (cc)
 
 -- the answer that has these entries
-is_page : (entries : List Entry) (answer : Answer) → Some entries ≡ page_in answer → answer ≡ Given (Journal entries)
+is_page : (entries : List Entry) (answer : Answer) → Some entries ≡ journal_in answer → answer ≡ Given (Journal entries)
 is_page entries (Given (Journal others)) is = cc
 is_page entries (Given (Done entry)) is = absurd (cc)
 is_page entries (Given (Did kind entry)) is = absurd (cc)

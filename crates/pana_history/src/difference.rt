@@ -12,12 +12,20 @@ use pana_journal::{Entry, EntryList};
 use std::alloc::{AllocError, Global};
 
 /// The updates that one copy knows and another lacks, and the other way round.
-#[derive(Drop)]
 pub struct Difference {
     /// What the first knows and the second lacks, in order.
     pub first: Vec<Entry>,
     /// What the second knows and the first lacks, in order.
     pub second: Vec<Entry>,
+}
+
+impl Drop for Difference {
+    fn drop(self) {
+        let Difference {
+            first: _,
+            second: _,
+        } = self;
+    }
 }
 
 impl Difference {

@@ -2,7 +2,7 @@
 ghost use Rattle.std.specs.Prelude.{◌≡◌, IfOk, IfSome, OnErr};
 ghost use Rattle.pana_calls.specs.Session.{one};
 ghost use Rattle.pana_history.specs.Pages.{HasJournal, Stops, next_after};
-ghost use Rattle.pana_history.specs.inner.Pages.{AsksPage, page_in};
+ghost use Rattle.pana_history.specs.inner.Pages.{AsksPage};
 
 use pana_calls::{Answer, Call, NoAnswer, Query, Reply, Session};
 use pana_copies::DeviceName;
@@ -16,16 +16,6 @@ const MOST_PAGES: u64 = 4_294_967_296;
 /// How many entries a full page has.
 const FULL_PAGE: usize = 100;
 
-/// The entries that were asked for, where the answer has them.
-fn page_in(answer: Answer) -> Option<EntryList>
-    ensures { result ≡ page_in answer }
-{
-    match answer {
-        Answer::Given(Reply::Journal(entries)) => Some(entries),
-        _ => None,
-    }
-}
-
 /// The page from this number on; none where it isn't answered.
 fn page_from<S: Session>(
     session: &mut S,
@@ -36,7 +26,7 @@ fn page_from<S: Session>(
     ensures fails { OnErr result (one S.fails session.old by.now (Call.Query (Query.JournalFrom from)) session.new) }
 {
     let answer = session.call(by, Call::Query(Query::JournalFrom { entry: from }))?;
-    Ok(page_in(answer))
+    Ok(answer.into_journal())
 }
 
 /// The number from which the next page is to be asked for; none where this one isn't full.

@@ -183,9 +183,10 @@ pub(crate) fn standing_at(
     // The contract of this call has that the hall refuses none of its entries.
     let _ = hall.length();
     let copy = place.copy_of()?;
-    match hall.apply(&place.device, Call::Query(Query::At { place: copy })) {
-        Reply::At(standing) => Ok(standing),
-        _ => Err(Unexplained::OutOfMemory),
+    let reply = hall.apply(&place.device, Call::Query(Query::At { place: copy }));
+    match reply.into_standing() {
+        Some(standing) => Ok(standing),
+        None => Err(Unexplained::OutOfMemory),
     }
 }
 

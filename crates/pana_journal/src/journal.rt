@@ -29,9 +29,14 @@ pub enum JournalFault {
 /// The entries in order, numbered from 1 without gaps.
 ///
 /// An entry goes in by two calls: `reserve`, which may fail, and then `append`, which can't.
-#[derive(Drop)]
 pub struct Journal {
     entries: Vec<Entry>,
+}
+
+impl Drop for Journal {
+    fn drop(self) {
+        let Journal { entries: _ } = self;
+    }
 }
 
 impl Model for Journal {

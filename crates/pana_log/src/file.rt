@@ -10,11 +10,20 @@ use std::os::unix::fs::{FileExt, MetadataExt};
 
 /// A file of the system, with the name by which it is found. Nothing is known of its bytes, so nothing is proved of what
 /// its calls do.
-#[derive(Drop)]
 pub struct FileDevice {
     rt: HostRuntime,
     name: String,
     file: File,
+}
+
+impl Drop for FileDevice {
+    fn drop(self) {
+        let FileDevice {
+            rt: _,
+            name: _,
+            file: _,
+        } = self;
+    }
 }
 
 impl FileDevice {

@@ -17,13 +17,23 @@ use std::marker::Model;
 ///
 /// A copy is Equal to itself, and the relations of a pair in its two directions are each other's reverse. The
 /// copies are kept by rising number. A relation takes a byte, so 256 copies take 64 KB.
-#[derive(Drop)]
 pub struct PairTable {
     alloc: Global,
     copies: Vec<u64>,
     rows: Vec<Row>,
     // The rows of the next copies, for which there is room.
     spare: Vec<Row>,
+}
+
+impl Drop for PairTable {
+    fn drop(self) {
+        let PairTable {
+            alloc: _,
+            copies: _,
+            rows: _,
+            spare: _,
+        } = self;
+    }
 }
 
 impl Model for PairTable {

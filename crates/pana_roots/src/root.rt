@@ -12,10 +12,18 @@ use std::alloc::Global;
 pub const MOST_ROOTS: usize = 8;
 
 /// A device, and the folder with its copies.
-#[derive(Drop)]
 pub struct Root<'a> {
     pub device: DeviceName,
     pub folder: &'a str,
+}
+
+impl<'a> Drop for Root<'a> {
+    fn drop(self) {
+        let Root {
+            device: _,
+            folder: _,
+        } = self;
+    }
 }
 
 /// Why there are no roots.

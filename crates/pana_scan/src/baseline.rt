@@ -15,16 +15,26 @@ pub struct Mark {
 }
 
 /// A path, and what is kept of it.
-#[derive(Drop)]
 pub struct BaselineRow {
     pub path: CopyPath,
     pub mark: Mark,
 }
 
+impl Drop for BaselineRow {
+    fn drop(self) {
+        let BaselineRow { path: _, mark: _ } = self;
+    }
+}
+
 /// What is kept of a device from one scan to the next: a row for each path that was found and reported, in byte order.
-#[derive(Drop)]
 pub struct Baseline {
     rows: Vec<BaselineRow>,
+}
+
+impl Drop for Baseline {
+    fn drop(self) {
+        let Baseline { rows: _ } = self;
+    }
 }
 
 impl Model for Baseline {

@@ -17,9 +17,14 @@ pub enum Kind {
 }
 
 /// A name in a folder. To contracts it is its bytes.
-#[derive(Drop)]
 pub struct EntryName {
     text: String,
+}
+
+impl Drop for EntryName {
+    fn drop(self) {
+        let EntryName { text: _ } = self;
+    }
 }
 
 impl Model for EntryName {

@@ -15,18 +15,33 @@ pub enum Found {
 }
 
 /// A path, and what a scan finds there.
-#[derive(PartialEq, Eq, Drop)]
+#[derive(PartialEq, Eq)]
 pub struct FoundRow {
     pub path: CopyPath,
     pub found: Found,
 }
 
+impl Drop for FoundRow {
+    fn drop(self) {
+        let FoundRow { path: _, found: _ } = self;
+    }
+}
+
 /// What a scan finds on a device: paths that rise in byte order, and how many names were passed over.
-#[derive(Drop)]
 pub struct Listing {
     device: DeviceName,
     rows: Vec<FoundRow>,
     skipped: u64,
+}
+
+impl Drop for Listing {
+    fn drop(self) {
+        let Listing {
+            device: _,
+            rows: _,
+            skipped: _,
+        } = self;
+    }
 }
 
 impl Model for Listing {

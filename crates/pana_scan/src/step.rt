@@ -7,11 +7,20 @@ use pana_list::PlainList;
 
 /// A report that a scan calls for: the path that it is about, the fingerprint that was found there (none of a file
 /// that is gone), and the report.
-#[derive(Drop)]
 pub struct Step {
     pub path: CopyPath,
     pub fingerprint: Option<[u8; 32]>,
     pub report: Report,
+}
+
+impl Drop for Step {
+    fn drop(self) {
+        let Step {
+            path: _,
+            fingerprint: _,
+            report: _,
+        } = self;
+    }
 }
 
 /// Steps in byte order of their paths.

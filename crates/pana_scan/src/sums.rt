@@ -8,9 +8,14 @@ use std::marker::Model;
 use std::sync::Arc;
 
 /// Sums that are known. Any number of disks have them at once, and none changes them.
-#[derive(Drop)]
 pub struct KnownSums {
     table: Option<Arc<SumTable, Global>>,
+}
+
+impl Drop for KnownSums {
+    fn drop(self) {
+        let KnownSums { table: _ } = self;
+    }
 }
 
 impl Model for KnownSums {

@@ -16,7 +16,6 @@ use std::os::unix::fs::MetadataExt;
 use std::{fs, io};
 
 /// The files of the system. Nothing is known of what they hold, so nothing is proved of what its calls give.
-#[derive(Drop)]
 pub struct SystemDisk<'a, R: Files + AllocGlobal + Clone + Drop> {
     files: &'a R,
     /// Whether folders of other file systems than the first folder's are passed over.
@@ -28,6 +27,21 @@ pub struct SystemDisk<'a, R: Files + AllocGlobal + Clone + Drop> {
     has_failed: bool,
     entries: u64,
     faults: u64,
+}
+
+impl<'a, R: Files + AllocGlobal + Clone + Drop> Drop for SystemDisk<'a, R> {
+    fn drop(self) {
+        let SystemDisk {
+            files: _,
+            stays: _,
+            file_system: _,
+            names: _,
+            file: _,
+            has_failed: _,
+            entries: _,
+            faults: _,
+        } = self;
+    }
 }
 
 impl<'a, R: Files + AllocGlobal + Clone + Drop> SystemDisk<'a, R> {

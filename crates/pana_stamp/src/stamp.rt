@@ -16,10 +16,15 @@ use std::alloc::{AllocError, Global};
 use std::mem;
 
 /// The stamp of a copy: the id says which points are its own, the event which updates it knows.
-#[derive(Drop)]
 pub struct Stamp {
     id: IdTree,
     event: EventTree,
+}
+
+impl Drop for Stamp {
+    fn drop(self) {
+        let Stamp { id: _, event: _ } = self;
+    }
 }
 
 impl Stamp {
@@ -146,7 +151,8 @@ impl Stamp {
     pub fn into_id(self) -> IdTree
         ensures { result ≡ self.id }
     {
-        self.id
+        let Stamp { id, event: _ } = self;
+        id
     }
 
     /// Divides the id in place, by `IdTree::split_off`: leaves its first part here and returns the second. The event

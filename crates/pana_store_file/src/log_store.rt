@@ -10,9 +10,14 @@ use std::alloc::Global;
 use std::marker::Model;
 
 /// The store of a log in etcd. To contracts it is the entries that it has followed, and whether it is broken.
-#[derive(Drop)]
 pub struct LogStore {
     store: SharedStore<EtcdLog<TcpConnect>>,
+}
+
+impl Drop for LogStore {
+    fn drop(self) {
+        let LogStore { store: _ } = self;
+    }
 }
 
 impl Model for LogStore {

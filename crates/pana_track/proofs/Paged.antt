@@ -11,11 +11,12 @@ use Rattle.pana_calls.specs.declared.answer.Answer.{Answer}
 use Rattle.pana_calls.specs.declared.answer.Answer.TheVariants.{Given, NotKept}
 use Rattle.pana_track.specs.Calls.{Asked, Makes}
 use Rattle.pana_track.specs.Status.{HasAll, Pages, next_after}
-use Rattle.pana_track.specs.inner.Pages.{AsksPage, Stops, page_in}
+use Rattle.pana_calls.specs.Parts.{status_in}
+use Rattle.pana_track.specs.inner.Pages.{AsksPage, Stops}
 use Rattle.pana_track.proofs.Reported.{makes_on}
 
 -- the answer that has these rows
-is_page : (rows : List StatusRow) (answer : Answer) → Some rows ≡ page_in answer → answer ≡ Given (Status rows)
+is_page : (rows : List StatusRow) (answer : Answer) → Some rows ≡ status_in answer → answer ≡ Given (Status rows)
 is_page rows (Given (Status others)) is = cc
 is_page rows (Given (Done entry)) is = absurd (cc)
 is_page rows (Given (Did kind entry)) is = absurd (cc)

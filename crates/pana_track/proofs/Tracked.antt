@@ -16,7 +16,8 @@ use Rattle.pana_track.specs.declared.tally.TrackTally.{TrackTally}
 use Rattle.pana_track.specs.Calls.{Asked, Makes, asked}
 use Rattle.pana_track.specs.Tally.{noted_all}
 use Rattle.pana_track.specs.Reports.{ReportsBy}
-use Rattle.pana_track.specs.Track.{Breaks, BreaksAtOne, BreaksAtSome, Follows, IsTrack, RunsShort, Tracks, held_by, is_lost, noticed_in}
+use Rattle.pana_calls.specs.Parts.{holdings_in}
+use Rattle.pana_track.specs.Track.{Breaks, BreaksAtOne, BreaksAtSome, Follows, IsTrack, RunsShort, Tracks, is_lost, noticed_in}
 use Rattle.pana_track.specs.inner.Reporting.{Asks, BreaksOff}
 use Rattle.pana_track.specs.inner.Rounds.{BreaksOffBy, ReportsAllBy}
 use Rattle.pana_track.proofs.Either.{asked_one, in_turn}
@@ -43,7 +44,7 @@ follows_any may_be_empty found (Some holdings) reported stop (inr (there, inr sh
 
 track_any : (may_be_empty : Bool) (found : TrackedListing) (made : List Asked) (stop : Option TrackFault) → IsTrack false may_be_empty found made stop → IsTrack true may_be_empty found made stop
 track_any may_be_empty found [] stop is = is
-track_any may_be_empty found (asked ∷ reported) stop (by, call, follows) = (by, call, follows_any may_be_empty found (held_by asked.answer) reported stop follows)
+track_any may_be_empty found (asked ∷ reported) stop (by, call, follows) = (by, call, follows_any may_be_empty found (holdings_in asked.answer) reported stop follows)
 
 -- one call that has no answer is some
 breaks_any : {S : Type 0} (step : S → List ℕ → Call → Answer → S → Type 0) (together : Bool) (fails : S → List Message → S → Type 0) (may_be_empty : Bool) (found : TrackedListing) (old new : S) (before after : TrackTally)
@@ -80,7 +81,7 @@ module _ {S : Type 0} (step : S → List ℕ → Call → Answer → S → Type 
     mid = old;
     call = query;
     calls = refl;
-    next = λ answer. let so = follows_somehow false may_be_empty found (held_by answer) in (so.0, (refl, query_is, so.1));
+    next = λ answer. let so = follows_somehow false may_be_empty found (holdings_in answer) in (so.0, (refl, query_is, so.1));
     failed = subst (λ (d : List ℕ). fails old d query new) own failed;
     tally = same;
   }
@@ -140,7 +141,7 @@ module _ {S : Type 0} (step : S → List ℕ → Call → Answer → S → Type 
                   (
                     own,
                     query_is,
-                    subst (λ (d : List ℕ). Follows false may_be_empty found (held_by asks.0) (off.made ++ record { by = d; call = off.call; answer = answer } ∷ []) so.0) own
+                    subst (λ (d : List ℕ). Follows false may_be_empty found (holdings_in asks.0) (off.made ++ record { by = d; call = off.call; answer = answer } ∷ []) so.0) own
                         (subst (λ (h : Option (List Holding)). Follows false may_be_empty found h (off.made ++ record { by = device; call = off.call; answer = answer } ∷ []) so.0) asks.2 (reports_by false (off.made ++ record { by = device; call = off.call; answer = answer } ∷ []) so.0 so.1)),
                   ),
                 );

@@ -6,7 +6,6 @@ use Rattle.pana_calls.specs.declared.call.Call.TheVariants as calls
 use Rattle.pana_calls.specs.declared.call.Query.TheVariants as queries
 use Rattle.pana_calls.specs.declared.holding.Holding.{Holding}
 use Rattle.pana_calls.specs.declared.message.Message.{Message}
-use Rattle.pana_calls.specs.declared.reply.Reply.TheVariants.{Holdings}
 use Rattle.pana_calls.specs.declared.answer.Answer.{Answer}
 use Rattle.pana_calls.specs.declared.answer.Answer.TheVariants.{Given}
 use Rattle.pana_scan.specs.declared.notices.Notice.{Notice}
@@ -16,17 +15,13 @@ use Rattle.pana_track.specs.declared.fault.TrackFault.TheVariants.{Empty, OutOfM
 use Rattle.pana_track.specs.declared.reading.TrackedListing.{TrackedListing}
 use Rattle.pana_track.specs.declared.tally.TrackTally.{TrackTally}
 use Rattle.pana_track.specs.Ignored.{is_tracked, tracked}
+use Rattle.pana_calls.specs.Parts.{holdings_in}
 use Rattle.pana_calls.specs.Session.{one}
 use Rattle.pana_track.specs.Calls.{Asked, Makes, asked}
 use Rattle.pana_track.specs.Reports.{ReportsBy}
 use Rattle.pana_track.specs.Tally.{noted_all}
 
 -- ---- tracking a folder
-
--- the holdings that were asked for, where the answer has them
-abbrev pub held_by : Answer → Option (List Holding)
-held_by (Given (Holdings holdings)) = Some holdings
-held_by answer = None
 
 -- whether the folder has no file, and its device has copies that are tracked
 abbrev pub is_lost : TrackedListing → List Holding → Bool
@@ -52,7 +47,7 @@ module _ (together may_be_empty : Bool) (found : TrackedListing) where
   -- the calls of tracking a folder: its device asks for its holdings, and reports what follows from the answer
   abbrev pub IsTrack : List Asked → Option TrackFault → Type 0
   IsTrack [] stop = ⊥
-  IsTrack (asked ∷ reported) stop = (asked.by ≡ found.listing.device) × (asked.call ≡ calls.Query (queries.Holdings found.listing.device None)) × Follows (held_by asked.answer) reported stop
+  IsTrack (asked ∷ reported) stop = (asked.by ≡ found.listing.device) × (asked.call ≡ calls.Query (queries.Holdings found.listing.device None)) × Follows (holdings_in asked.answer) reported stop
 
 -- the call, whatever its answer is, is the next of the folder's calls, after these
 abbrev pub IsNext : Bool → TrackedListing → List Asked → Call → Type 0

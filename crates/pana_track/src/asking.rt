@@ -2,7 +2,7 @@
 ghost use Rattle.std.specs.Prelude.{◌≡◌, None, IfOk, IfSome, OnErr};
 ghost use Rattle.pana_calls.specs.Session.{one};
 ghost use Rattle.pana_track.specs.Status.{HasAll, next_after};
-ghost use Rattle.pana_track.specs.inner.Pages.{AsksPage, Stops, page_in};
+ghost use Rattle.pana_track.specs.inner.Pages.{AsksPage, Stops};
 
 use pana_calls::{Answer, Call, NoAnswer, Query, Reply, Session, StatusRow};
 use pana_copies::DeviceName;
@@ -15,19 +15,6 @@ const MOST_PAGES: u64 = 4_294_967_296;
 /// How many rows a full page has.
 const FULL_PAGE: usize = 100;
 
-/// The rows that were asked for, where the answer has them.
-fn page_in(answer: Answer) -> Option<PlainList<StatusRow>>
-    ensures { result ≡ page_in answer }
-{
-    match answer {
-        Answer::Given(Reply::Status(rows)) => Some(rows),
-        other => {
-            drop(other);
-            None
-        }
-    }
-}
-
 /// The page from this number on; none where it isn't answered.
 fn page_from<S: Session>(
     session: &mut S,
@@ -39,7 +26,7 @@ fn page_from<S: Session>(
 {
     let query = Query::Status { device: None, from };
     let answer = session.call(by, Call::Query(query))?;
-    Ok(page_in(answer))
+    Ok(answer.into_status())
 }
 
 /// The number from which the next page is to be asked for; none where this one isn't full.

@@ -19,10 +19,18 @@ use std::thread::Threads;
 const MOST_ENTRIES: u64 = 1_000_000;
 
 /// What a root was found to hold without what its patterns ignore, and these patterns.
-#[derive(Drop)]
 pub struct TrackedListing {
     pub listing: Listing,
     pub patterns: Patterns,
+}
+
+impl Drop for TrackedListing {
+    fn drop(self) {
+        let TrackedListing {
+            listing: _,
+            patterns: _,
+        } = self;
+    }
 }
 
 /// Scans a root without what these patterns ignore.

@@ -3,7 +3,7 @@ ghost use Rattle.std.specs.Prelude.{◌≡◌, not, ◌&&◌, None, IfOk, OnErr}
 ghost use Rattle.pana_calls.specs.Session.{one};
 ghost use Rattle.std.specs.List.{list_any};
 ghost use Rattle.pana_track.specs.Ignored.{is_tracked, tracked};
-ghost use Rattle.pana_track.specs.Track.{Breaks, Tracks, held_by, is_lost, noticed_in};
+ghost use Rattle.pana_track.specs.Track.{Breaks, Tracks, is_lost, noticed_in};
 ghost use Rattle.pana_track.specs.inner.Reporting.{Asks};
 
 use crate::fault::TrackFault;
@@ -15,19 +15,6 @@ use pana_copies::DeviceName;
 use pana_ignore::Patterns;
 use pana_scan::{NoticeList, notice};
 use std::alloc::{AllocError, Global};
-
-/// The holdings that were asked for, where the answer has them.
-fn held_by(answer: Answer) -> Option<HoldingList>
-    ensures { result ≡ held_by answer }
-{
-    match answer {
-        Answer::Given(Reply::Holdings(holdings)) => Some(holdings),
-        other => {
-            drop(other);
-            None
-        }
-    }
-}
 
 /// Asks for the holdings of the device; none where they aren't answered.
 fn holdings_of<S: Session>(
@@ -44,7 +31,7 @@ fn holdings_of<S: Session>(
     };
     let answer = session.call(device, Call::Query(query))?;
     tally.note(&answer);
-    Ok(held_by(answer))
+    Ok(answer.into_holdings())
 }
 
 /// Whether the folder has no file, its device has copies that are tracked, and it may not be so.

@@ -22,19 +22,6 @@ fn ask<S: Session>(session: &mut S, by: &DeviceName, call: Call) -> Result<Answe
     }
 }
 
-/// The entries that an answer has, where it has a list of them.
-fn found_in(answer: Answer) -> Option<EntryList>
-    ensures { IfSome result (λ found. answer ≡ Answer.Given (Reply.Journal found)) }
-{
-    match answer {
-        Answer::Given(Reply::Journal(found)) => Some(found),
-        other => {
-            drop(other);
-            None
-        }
-    }
-}
-
 /// Makes the report of an entry, in the name of its device.
 fn remake<S: Session>(alloc: Global, session: &mut S, entry: &Entry) -> Result<(), TransferFault>
     ensures ok { OnOk result (S.step session.old entry.now.by (Call.Report entry.now.report) (Answer.Given (Reply.Done entry.now.number)) session.new) }
@@ -114,7 +101,7 @@ pub fn transfer<S: Session>(
     ensures empty { IfErr result (λ fault. fault ≡ TransferFault.NotEmpty → HasEntries S.step S.settles asker.now session.old session.new) }
 {
     let first = Query::JournalFrom { entry: 1 };
-    let Some(found) = found_in(ask(session, asker, Call::Query(first))?) else {
+    let Some(found) = ask(session, asker, Call::Query(first))?.into_journal() else {
         return Err(TransferFault::OutOfMemory);
     };
     let is_empty = found.as_slice().is_empty();

@@ -10,6 +10,7 @@ use Rattle.pana_calls.specs.declared.call.Call.{Call}
 use Rattle.pana_calls.specs.declared.call.Call.TheVariants as calls
 use Rattle.pana_calls.specs.declared.call.Query.TheVariants as queries
 use Rattle.pana_calls.specs.declared.reply.Reply.TheVariants.{Board, Families, Journal}
+use Rattle.pana_calls.specs.Parts.{board_in, journal_in}
 use Rattle.pana_calls.specs.declared.answer.Answer.{Answer}
 use Rattle.pana_calls.specs.declared.answer.Answer.TheVariants.{Given}
 use Rattle.pana_watch.specs.declared.family_change.FamilyChange.{FamilyChange}
@@ -20,15 +21,6 @@ use Rattle.pana_watch.specs.Line.{change_lines}
 abbrev pub are_numbered : ℕ → List Entry → Bool
 are_numbered number [] = true
 are_numbered number (entry ∷ entries) = (entry.number == number) && are_numbered (number + 1) entries
-
--- the entries in an answer, and the board
-abbrev pub entries_in : Answer → Option (List Entry)
-entries_in (Given (Journal entries)) = Some entries
-entries_in answer = None
-
-abbrev pub board_in : Answer → Option BoardView
-board_in (Given (Board board)) = Some board
-board_in answer = None
 
 -- whether these are the entries with this number and the next ones, all of which have 64 bits
 abbrev pub are_next : ℕ → Option (List Entry) → Bool
@@ -63,7 +55,7 @@ module _ {S : Type 0} (step : S → List ℕ → Call → Answer → S → Type 
 
   -- the question has no answer, or one that isn't the next entries
   abbrev pub TakesNone : (S → List ℕ → Call → S → Type 0) → ℕ → S → S → Type 0
-  TakesNone fails number old new = fails old by (awaited number) new ⊎ ((answer : Answer) × step old by (awaited number) answer new × (are_next number (entries_in answer) ≡ false))
+  TakesNone fails number old new = fails old by (awaited number) new ⊎ ((answer : Answer) × step old by (awaited number) answer new × (are_next number (journal_in answer) ≡ false))
 
   -- the question for the board has no answer, or none that is a board
   abbrev pub LooksInVain : (S → List ℕ → Call → S → Type 0) → ℕ → S → S → Type 0

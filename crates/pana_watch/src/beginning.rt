@@ -2,9 +2,7 @@
 ghost use Rattle.std.specs.Prelude.{◌≡◌, ◌⊎◌, ℕ, [], false, unwrap_or, nat_eq, IfOk, Some, None};
 ghost use Rattle.indexmap.specs.IndexMap.{get};
 ghost use Rattle.pana_watch.specs.Watch.{Begins, IsBehind, StartsAt, splits};
-ghost use Rattle.pana_watch.specs.inner.Answers.{families_in};
 
-use crate::pages::entries_in;
 use crate::watch::Watch;
 use crate::watch_fault::WatchFault;
 use indexmap::IndexMap;
@@ -18,18 +16,6 @@ const NO_ENTRY: u64 = 1_000_001;
 
 /// How often the entries that there may be can be halved.
 const HALVES: u32 = 20;
-
-fn families_in(answer: Answer) -> Option<PlainList<FamilyRow>>
-    ensures { result ≡ families_in answer }
-{
-    match answer {
-        Answer::Given(Reply::Families(rows)) => Some(rows),
-        other => {
-            drop(other);
-            None
-        }
-    }
-}
 
 /// Whether each of these families is split.
 fn splits_of(alloc: Global, rows: &[FamilyRow]) -> Result<IndexMap<u64, bool>, AllocError>
@@ -50,7 +36,7 @@ fn has_entry<S: Session>(session: &mut S, by: &DeviceName, number: u64) -> Resul
 {
     let query = Query::JournalFrom { entry: number };
     let answer = session.call(by, Call::Query(query))?;
-    let Some(entries) = entries_in(answer) else {
+    let Some(entries) = answer.into_journal() else {
         return Err(WatchFault::NoAnswer);
     };
     let has = !entries.as_slice().is_empty();
@@ -95,7 +81,7 @@ impl Watch {
         ensures next { IfOk result (λ watch. StartsAt S.step by.now from watch.next) }
     {
         let answer = session.call(by, Call::Query(Query::Families))?;
-        let Some(rows) = families_in(answer) else {
+        let Some(rows) = answer.into_families() else {
             return Err(WatchFault::NoAnswer);
         };
         let known = splits_of(alloc, rows.as_slice());

@@ -7,7 +7,6 @@ ghost use Rattle.pana_watch.specs.Watch.{Leads, Says};
 ghost use Rattle.pana_watch.specs.inner.Answers.{IsFirst};
 
 use crate::family_change::{FamilyChange, change_line};
-use crate::pages::entries_in;
 use crate::watch::Watch;
 use crate::watch_fault::WatchFault;
 use pana_calls::{Call, Query, Session};
@@ -28,7 +27,7 @@ fn named_at<S: Session>(
 {
     let query = Query::JournalFrom { entry: number };
     let answer = session.call(by, Call::Query(query))?;
-    let Some(entries) = entries_in(answer) else {
+    let Some(entries) = answer.into_journal() else {
         return Err(WatchFault::NoAnswer);
     };
     match entries.as_slice().first() {

@@ -1,10 +1,10 @@
 //! A watch of a session's journal.
 ghost use Rattle.std.specs.Prelude.{◌≡◌, IfErr, IfOk, OnErr};
 ghost use Rattle.pana_calls.specs.Session.{one};
-ghost use Rattle.pana_watch.specs.Watch.{Looks, LooksInVain, Takes, TakesNone, board_in};
+ghost use Rattle.pana_watch.specs.Watch.{Looks, LooksInVain, Takes, TakesNone};
 
 use crate::family_change::FamilyChange;
-use crate::pages::{are_numbered, entries_in};
+use crate::pages::are_numbered;
 use crate::watch_fault::WatchFault;
 use indexmap::IndexMap;
 use pana_calls::{Answer, BoardView, Call, Query, Reply, Session};
@@ -20,18 +20,6 @@ pub struct Watch {
     pub(crate) next: u64,
     /// Whether each family that was looked at is split.
     pub(crate) known: IndexMap<u64, bool>,
-}
-
-fn board_in(answer: Answer) -> Option<BoardView>
-    ensures { result ≡ board_in answer }
-{
-    match answer {
-        Answer::Given(Reply::Board(board)) => Some(board),
-        other => {
-            drop(other);
-            None
-        }
-    }
 }
 
 impl Watch {
@@ -54,7 +42,7 @@ impl Watch {
             seconds: SECONDS,
         };
         let answer = session.call(by, Call::Query(query))?;
-        let Some(entries) = entries_in(answer) else {
+        let Some(entries) = answer.into_journal() else {
             return Err(WatchFault::NoAnswer);
         };
         let Some(next) = self.next.checked_add(entries.as_slice().len() as u64) else {
@@ -82,7 +70,7 @@ impl Watch {
         ensures fails { IfErr result (λ fault. (fault ≡ WatchFault.NoAnswer) → LooksInVain S.step by.now (one S.fails) family session.old session.new) }
     {
         let answer = session.call(by, Call::Query(Query::Board { family }))?;
-        let Some(board) = board_in(answer) else {
+        let Some(board) = answer.into_board() else {
             return Err(WatchFault::NoAnswer);
         };
         let is = board.split;

@@ -3,20 +3,15 @@ use Rattle.std.specs.Prelude.{◌≡◌, ℕ, List, Option, Some, None}
 use Rattle.pana_calls.specs.declared.call.Call.{Call}
 use Rattle.pana_calls.specs.declared.call.Call.TheVariants as questions
 use Rattle.pana_calls.specs.declared.call.Query.TheVariants as queries
-use Rattle.pana_calls.specs.declared.reply.Reply.TheVariants.{Status}
+use Rattle.pana_calls.specs.Parts.{status_in}
 use Rattle.pana_calls.specs.declared.standing.StatusRow.{StatusRow}
 use Rattle.pana_calls.specs.declared.answer.Answer.{Answer}
 use Rattle.pana_calls.specs.declared.answer.Answer.TheVariants.{Given}
 use Rattle.pana_track.specs.Calls.{Asked, Makes}
 
--- the rows that were asked for, where the answer has them
-abbrev pub page_in : Answer → Option (List StatusRow)
-page_in (Given (Status rows)) = Some rows
-page_in answer = None
-
 -- the device asks for a page
 abbrev pub AsksPage : {S : Type 0} → (S → List ℕ → Call → Answer → S → Type 0) → List ℕ → ℕ → S → S → Option (List StatusRow) → Type 0
-AsksPage step by from old new page = (answer : Answer) × step old by (questions.Query (queries.Status None from)) answer new × (page ≡ page_in answer)
+AsksPage step by from old new page = (answer : Answer) × step old by (questions.Query (queries.Status None from)) answer new × (page ≡ status_in answer)
 
 -- the device asks for pages, and one has no answer
 pub record Stops {S : Type 0} (step : S → List ℕ → Call → Answer → S → Type 0) (fails : S → List ℕ → Call → S → Type 0) (by : List ℕ) (old new : S) : Type 0 where

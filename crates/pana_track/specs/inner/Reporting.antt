@@ -15,7 +15,7 @@ use Rattle.pana_track.specs.declared.reporting.CallEnd.TheVariants as ends
 use Rattle.pana_track.specs.Calls.{Asked, Makes}
 use Rattle.pana_track.specs.Tally.{noted, noted_all}
 use Rattle.pana_track.specs.Reports.{Reports, has_moved}
-use Rattle.pana_track.specs.Track.{held_by}
+use Rattle.pana_calls.specs.Parts.{holdings_in}
 
 -- how a call that reports something ends, by its answer
 abbrev pub end_of : Notice → Answer → CallEnd
@@ -78,4 +78,4 @@ pub record BreaksOff {S : Type 0} (step : S → List ℕ → Call → Answer →
 -- the device asks for its holdings
 abbrev pub Asks : {S : Type 0} → (S → List ℕ → Call → Answer → S → Type 0) → List ℕ → S → S → TrackTally → TrackTally → Option (List Holding) → Type 0
 Asks step device old new tally_old tally_new held =
-    (answer : Answer) × step old device (calls.Query (queries.Holdings device None)) answer new × (held ≡ held_by answer) × (tally_new ≡ noted tally_old answer)
+    (answer : Answer) × step old device (calls.Query (queries.Holdings device None)) answer new × (held ≡ holdings_in answer) × (tally_new ≡ noted tally_old answer)

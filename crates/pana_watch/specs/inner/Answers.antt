@@ -11,11 +11,6 @@ use Rattle.pana_calls.specs.declared.reply.Reply.TheVariants.{Board, Families, J
 use Rattle.pana_calls.specs.declared.answer.Answer.{Answer}
 use Rattle.pana_calls.specs.declared.answer.Answer.TheVariants.{Given}
 
--- the families
-abbrev pub families_in : Answer → Option (List FamilyRow)
-families_in (Given (Families rows)) = Some rows
-families_in answer = None
-
 module _ {S : Type 0} (step : S → List ℕ → Call → Answer → S → Type 0) (by : List ℕ) where
   -- the entry with this number was asked for, and names this
   abbrev pub IsFirst : S → ℕ → S → Option ℕ → Type 0
