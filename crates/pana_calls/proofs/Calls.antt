@@ -1,5 +1,5 @@
 -- Calls that are made one after another.
-use Rattle.std.proofs.Common.{◌≡◌, ℕ, List, [], ◌∷◌, ◌++◌, length, refl, sym, ap, ◌∙◌, append_assoc, append-nil, Result, Ok, Err, OnErr}
+use Rattle.std.proofs.Common.{◌≡◌, ℕ, List, [], ◌∷◌, ◌++◌, length, refl, sym, ap, ◌∙◌, append_assoc, append-nil, Result, Ok, Err, OnErr, arith}
 use Rattle.pana_calls.specs.declared.answer.Answer.{Answer}
 use Rattle.pana_calls.specs.declared.call.Call.{Call}
 use Rattle.pana_calls.specs.declared.message.Message.{Message}
@@ -27,7 +27,7 @@ module _ {S : Type 0} (step : S → List ℕ → Call → Answer → S → Type 
     one_more messages given_new new adds = record { given = answer ∷ adds.given; adds = adds.adds ∙ append_assoc given (answer ∷ []) adds.given; makes = (after, made, adds.makes) }
 
     pub then_some : (messages : List Message) (given_new : List Answer) (new : S) → AddsSome step fails after messages (given ++ answer ∷ []) given_new new → AddsSome step fails mid (message ∷ messages) given given_new new
-    then_some messages given_new new adds = record { made = message ∷ adds.made; tried = adds.tried; left = adds.left; split = ap (λ (ms : List Message). message ∷ ms) adds.split; mid = adds.mid; adds = one_more adds.made given_new adds.mid adds.adds; failed = adds.failed }
+    then_some messages given_new new adds = record { made = message ∷ adds.made; tried = adds.tried; left = adds.left; split = ap (λ (ms : List Message). message ∷ ms) adds.split; some = adds.some; mid = adds.mid; adds = one_more adds.made given_new adds.mid adds.adds; failed = adds.failed }
 
     pub goes_on : (old : S) (all left : List Message) (given_old : List Answer) → Completes old all given_old mid (message ∷ left) given → Completes old all given_old after left (given ++ answer ∷ [])
     goes_on old all left given_old far = record {
@@ -39,4 +39,4 @@ module _ {S : Type 0} (step : S → List ℕ → Call → Answer → S → Type 
   none_left old given = record { given = []; adds = sym (append-nil given); makes = refl }
 
   pub stops : (mid new : S) (message : Message) (left : List Message) (given : List Answer) → fails mid (message ∷ []) new → AddsSome step fails mid (message ∷ left) given given new
-  stops mid new message left given failed = record { made = []; tried = message ∷ []; left = left; split = refl; mid = mid; adds = none_left mid given; failed = failed }
+  stops mid new message left given failed = record { made = []; tried = message ∷ []; left = left; split = refl; some = omega arith; mid = mid; adds = none_left mid given; failed = failed }

@@ -1,5 +1,5 @@
 -- What calls do to the state of a session, one after another.
-use Rattle.std.specs.Prelude.{◌≡◌, ℕ, List, [], ◌∷◌, ◌++◌}
+use Rattle.std.specs.Prelude.{◌≡◌, ◌<◌, ℕ, List, [], ◌∷◌, ◌++◌, length}
 use Rattle.pana_calls.specs.declared.answer.Answer.{Answer}
 use Rattle.pana_calls.specs.declared.call.Call.{Call}
 use Rattle.pana_calls.specs.declared.message.Message.{Message}
@@ -33,6 +33,7 @@ pub record AddsSome {S : Type 0} (step : S → List ℕ → Call → Answer → 
   pub tried : List Message
   pub left : List Message
   pub split : messages ≡ made ++ (tried ++ left)
+  pub some : 0 < length tried
   pub mid : S
   pub adds : AddsAll step old made answers_old answers_new mid
   pub failed : fails mid tried new

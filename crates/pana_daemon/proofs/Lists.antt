@@ -53,25 +53,27 @@ module _ {S : Type 0} (step : S → List ℕ → Call → Answer → S → Type 
 
   -- some were, and the next ones have no answers
   stopped_so : (old new : PassView S) (messages made rest : List Message) (answers : Vec Answer) (recovers : Bool) (before after given : List Answer) (begun left : S) → Requests Steps old (MakeAll messages) (Answers answers (Some recovers)) new
-      → messages ≡ made ++ rest → answers.items ≡ given → MakesAll step begun made given left → after ≡ before ++ given
+      → messages ≡ made ++ rest → 0 < length rest → answers.items ≡ given → MakesAll step begun made given left → after ≡ before ++ given
       → AddsSome (MakesCall Steps together) (GetNone Steps together) (at_rest old) messages before after (at_rest new)
-  stopped_so old new messages [] rest answers recovers before after [] begun left requested split are makes is = record {
+  stopped_so old new messages [] rest answers recovers before after [] begun left requested split some are makes is = record {
     made = [];
     tried = messages;
     left = [];
     split = sym (append-nil messages);
+    some = subst (λ (ms : List Message). 0 < length ms) (sym split) some;
     mid = at_rest old;
     adds = record { given = []; adds = is; makes = refl };
     failed = inr (is_so, inr (inl (ahead new messages [], lists_so old new messages [] (Answers answers (Some recovers)) requested (sym are), record { calls = refl; answers = refl; vain = vain_so old new _ (Answers answers (Some recovers)) requested.same requested.adds refl; rests = refl })));
   }
-  stopped_so old new messages [] rest answers recovers before after (a ∷ given) begun left requested split are makes is = absurd makes
-  stopped_so old new messages (m ∷ made) rest answers recovers before after given begun left requested split are makes is =
+  stopped_so old new messages [] rest answers recovers before after (a ∷ given) begun left requested split some are makes is = absurd makes
+  stopped_so old new messages (m ∷ made) rest answers recovers before after given begun left requested split some are makes is =
       let lists = lists_so old new messages given (Answers answers (Some recovers)) requested (sym are) in
       record {
         made = m ∷ made;
         tried = rest;
         left = [];
         split = split ∙ ap (λ (ms : List Message). (m ∷ made) ++ ms) (sym (append-nil rest));
+        some = some;
         mid = ahead new rest [];
         adds = record { given = given; adds = is; makes = told_first old new rest begun left m made given (subst (λ (ms : List Message). Lists Steps (at_rest old) (ahead new ms given)) split lists) makes };
         failed = inr (is_so, inl (record { calls = refl; answers = refl; vain = vain_so old new _ (Answers answers (Some recovers)) requested.same requested.adds refl; rests = refl }));
@@ -81,15 +83,16 @@ module _ {S : Type 0} (step : S → List ℕ → Call → Answer → S → Type 
       → AddsSome (MakesCall Steps together) (GetNone Steps together) (at_rest old) messages before after (at_rest new)
   stopped {old = old} {new = new} {messages = messages} {answers = answers} {recovers = recovers} {before = before} {after = after} requested is =
       let (begun, left, some) = request_steps Steps old new (MakeAll messages) (Answers answers (Some recovers)) requested in
-      stopped_so old new messages some.made (some.tried ++ some.left) answers recovers before after some.adds.given begun some.mid requested some.split some.adds.adds some.adds.makes (is ∙ ap (λ (given : List Answer). before ++ given) some.adds.adds)
+      stopped_so old new messages some.made (some.tried ++ some.left) answers recovers before after some.adds.given begun some.mid requested some.split (let tried = some.some in let parts = length-append some.tried some.left in omega (arith, tried, parts)) some.adds.adds some.adds.makes (is ∙ ap (λ (given : List Answer). before ++ given) some.adds.adds)
 
   -- no request was made
-  unlisted : {old new : PassView S} {messages : List Message} {before after : List Answer} → RequestsNone Steps old new → after ≡ before → AddsSome (MakesCall Steps together) (GetNone Steps together) (at_rest old) messages before after (at_rest new)
-  unlisted {old = old} {messages = messages} {before = before} none is = record {
+  unlisted : {old new : PassView S} {messages : List Message} {before after : List Answer} → 0 < length messages → RequestsNone Steps old new → after ≡ before → AddsSome (MakesCall Steps together) (GetNone Steps together) (at_rest old) messages before after (at_rest new)
+  unlisted {old = old} {messages = messages} {before = before} some none is = record {
     made = [];
     tried = messages;
     left = [];
     split = sym (append-nil messages);
+    some = some;
     mid = at_rest old;
     adds = record { given = []; adds = is ∙ sym (append-nil before); makes = refl };
     failed = inr (is_so, inr (inr (record { rests = refl; none = none; still = refl })));
@@ -116,9 +119,9 @@ module _ {S : Type 0} (step : S → List ℕ → Call → Answer → S → Type 
       let made = subst (λ (r : Response). Requests Steps old.pass (MakeAll messages) r new.pass) came asks.0.made in
       subst (λ (o : SessionView S). SomeTold o messages before after new) (sym asks.0.rests) (subst (λ (n : SessionView S). SomeTold (at_rest old.pass) messages before after n) (sym asks.1) (stopped made is))
 
-  pub none_told : {old new : SessionView S} {messages : List Message} {before after : List Answer} → AsksNone Steps old new → after ≡ before → SomeTold old messages before after new
-  none_told {old = old} {new = new} {messages = messages} {before = before} {after = after} asks is =
-      subst (λ (o : SessionView S). SomeTold o messages before after new) (sym asks.rests) (subst (λ (n : SessionView S). SomeTold (at_rest old.pass) messages before after n) (sym asks.still) (unlisted asks.none is))
+  pub none_told : {old new : SessionView S} {messages : List Message} {before after : List Answer} → 0 < length messages → AsksNone Steps old new → after ≡ before → SomeTold old messages before after new
+  none_told {old = old} {new = new} {messages = messages} {before = before} {after = after} some asks is =
+      subst (λ (o : SessionView S). SomeTold o messages before after new) (sym asks.rests) (subst (λ (n : SessionView S). SomeTold (at_rest old.pass) messages before after n) (sym asks.still) (unlisted some asks.none is))
 
   -- as many answers as calls at the most
   made_many : (old new : S) (messages : List Message) (given : List Answer) → MakesAll step old messages given new → length given ≡ length messages

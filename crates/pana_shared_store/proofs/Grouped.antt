@@ -277,6 +277,7 @@ module _ (is_known is_stale : Bool) (old new : List Entry) (turn later at writer
       tried = messages;
       left = left;
       split = split;
+      some = some;
       on = inr (subst (λ (l : List Entry). TriesBy is_known turn later old view messages l after) (sym first_are)
           (unknown_tries is_known old turn view after group store messages gathers.asked later (are_made old messages gathers.given gathers.asked gathers.are) records_are until (λ known. subst (λ (n : ℕ). PlacesNone view n group after) place (places known))));
     }
@@ -288,11 +289,11 @@ looks_from is_known old mid new view after same looks = subst (λ (l : List Entr
 looks_stay : (is_known : Bool) (old new : List Entry) (view after : LogView) → LooksOn is_known old view new after → StaysOn is_known old view new after
 looks_stay is_known old new view after looks = record { goes_on = looks.goes_on; first = looks.first; own = λ known. (looks.reads known).grows; follows = λ known. looked_on view after (looks.reads known) }
 
-pub stays_not : (is_known : Bool) (old new : List Entry) (turn later : ℕ) (view after : LogView) (calls : List Message) → StaysOn is_known old view new after → GroupsNot is_known (moment old view turn) calls (moment new after later)
-stays_not is_known old new turn later view after calls stays = record { tried = calls; left = []; split = sym (append-nil calls); on = inl stays }
+pub stays_not : (is_known : Bool) (old new : List Entry) (turn later : ℕ) (view after : LogView) (calls : List Message) → 0 < length calls → StaysOn is_known old view new after → GroupsNot is_known (moment old view turn) calls (moment new after later)
+stays_not is_known old new turn later view after calls some stays = record { tried = calls; left = []; split = sym (append-nil calls); some = some; on = inl stays }
 
-pub looks_not : (is_known : Bool) (old new : List Entry) (turn later : ℕ) (view after : LogView) (calls : List Message) → LooksOn is_known old view new after → GroupsNot is_known (moment old view turn) calls (moment new after later)
-looks_not is_known old new turn later view after calls looks = stays_not is_known old new turn later view after calls (looks_stay is_known old new view after looks)
+pub looks_not : (is_known : Bool) (old new : List Entry) (turn later : ℕ) (view after : LogView) (calls : List Message) → 0 < length calls → LooksOn is_known old view new after → GroupsNot is_known (moment old view turn) calls (moment new after later)
+looks_not is_known old new turn later view after calls some looks = stays_not is_known old new turn later view after calls some (looks_stay is_known old new view after looks)
 
 -- what calls are answered behind, where all of them are questions, or not
 behind_all : (is_stale : Bool) (calls : List Message) (All : Type 0) → All → AreBehind is_stale calls All

@@ -155,6 +155,7 @@ module _ {S : Type 0} (step : S → List ℕ → Call → Answer → S → Type 
     tried = two.tried;
     left = two.left;
     split = ap (λ (l : List Message). first ++ l) two.split ∙ sym (append_assoc first two.made (two.tried ++ two.left));
+    some = two.some;
     mid = two.mid;
     adds = adds_append first two.made given between after old mid two.mid one two.adds;
     failed = two.failed;
@@ -168,8 +169,8 @@ module _ {S : Type 0} (step : S → List ℕ → Call → Answer → S → Type 
   }
 
   -- the first calls have no answers
-  pub fails_first : (old new : S) (messages tried left : List Message) (given : List Answer) → messages ≡ tried ++ left → fails old tried new → AddsSome step fails old messages given given new
-  fails_first old new messages tried left given split failed = record { made = []; tried = tried; left = left; split = split; mid = old; adds = none_left step fails old given; failed = failed }
+  pub fails_first : (old new : S) (messages tried left : List Message) (given : List Answer) → messages ≡ tried ++ left → 0 < length tried → fails old tried new → AddsSome step fails old messages given given new
+  fails_first old new messages tried left given split some failed = record { made = []; tried = tried; left = left; split = split; some = some; mid = old; adds = none_left step fails old given; failed = failed }
 
 -- what was waited before a list
 module _ (is_known : Bool) (old mid new : StoreView) (waits : Waits is_known old mid) where
@@ -191,6 +192,7 @@ waits_some is_known old mid new messages given after waits adds = by_made adds.m
       tried = adds.tried;
       left = adds.left;
       split = split;
+      some = adds.some;
       mid = old;
       adds = record { given = []; adds = is; makes = refl };
       failed = waits_fails is_known old mid new waits adds.tried (subst (λ (s : StoreView). FailsFor is_known s adds.tried new) same adds.failed);
@@ -201,6 +203,7 @@ waits_some is_known old mid new messages given after waits adds = by_made adds.m
     tried = adds.tried;
     left = adds.left;
     split = split;
+    some = adds.some;
     mid = adds.mid;
     adds = waits_all is_known old mid adds.mid waits (m ∷ made) given after (omega arith) all;
     failed = adds.failed;
@@ -234,7 +237,7 @@ pub calls_fail : (is_known : Bool) (old mid new : StoreView) (calls : List Messa
 calls_fail is_known old mid new calls given fault whole none same turn stale is broken why =
     let here : GroupsNot is_known (moment_of old) calls (moment_of new) = subst (GroupsNot is_known (moment_of old) calls) (sym same) none in
     let later : old.turn ≤ new.turn = subst (λ (m : Moment). old.turn ≤ m.turn) (sym same) turn in
-    fails_first (Makes is_known) (FailsFor is_known) old new calls here.tried here.left given here.split (
+    fails_first (Makes is_known) (FailsFor is_known) old new calls here.tried here.left given here.split here.some (
       inr (record { on = here.on; turn = later; whole = whole; stale = stale }),
       inr (fault, record { known = is; broken = broken; why = why }),
     )
@@ -245,8 +248,8 @@ first_call [] message some is = absurd (omega (arith, some))
 first_call (m ∷ left) message some is = (left, ap (λ (x : Message). x ∷ left) (sym is))
 
 -- a store that is broken has no answers
-pub calls_broken : (is_known : Bool) (store : StoreView) (calls : List Message) (given : List Answer) → store.broken ≡ true → AddsSome (Makes is_known) (FailsFor is_known) store calls given given store
-calls_broken is_known store calls given broken = fails_first (Makes is_known) (FailsFor is_known) store store calls calls [] given (sym (append-nil calls)) (inl (broken, refl), inl broken)
+pub calls_broken : (is_known : Bool) (store : StoreView) (calls : List Message) (given : List Answer) → 0 < length calls → store.broken ≡ true → AddsSome (Makes is_known) (FailsFor is_known) store calls given given store
+calls_broken is_known store calls given some broken = fails_first (Makes is_known) (FailsFor is_known) store store calls calls [] given (sym (append-nil calls)) some (inl (broken, refl), inl broken)
 
 -- there are as many answers as calls
 pub makes_even : {S : Type 0} (step : S → List ℕ → Call → Answer → S → Type 0) (messages : List Message) (answers : List Answer) (old new : S) → MakesAll step old messages answers new → length answers ≡ length messages

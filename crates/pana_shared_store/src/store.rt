@@ -214,6 +214,7 @@ impl<L: SharedLog> SharedStore<L> {
         calls: &[Message],
         answers: &mut Vec<Answer>,
     ) -> Result<Grouped, ReadFault>
+        requires some { 0 < length calls.now }
         requires room { vec_len answers.old + length calls.now ≤ vec_capacity answers.old }
         requires turns { self.old.turn + length calls.now + 1 < 2 ^ 64 }
         ensures ok { IfOk result (λ done. Groups L.is_known self.old.is_stale (moment_of self.old) calls.now answers.old.items done (moment_of self.new) answers.new.items) }
@@ -254,6 +255,7 @@ impl<L: SharedLog> SharedStore<L> {
         answers: &mut Vec<Answer>,
     ) -> Result<Option<usize>, NoAnswer>
         requires whole { self.old.broken ≡ false }
+        requires some { 0 < length calls.now }
         requires room { vec_len answers.old + length calls.now ≤ vec_capacity answers.old }
         ensures ok { IfOk result (λ done. Calls L.is_known self.old calls.now answers.old.items done self.new answers.new.items) }
         ensures err { OnErr result (AddsSome (Makes L.is_known) (FailsFor L.is_known) self.old calls.now answers.old.items answers.new.items self.new) }

@@ -32,6 +32,7 @@ module _ (is_known : Bool) where
     tried = p.tried;
     left = p.left;
     split = p.split;
+    some = p.some;
     mid = seen_of p.mid;
     adds = adds_so old p.made before after p.mid p.adds;
     failed = goes_so p.mid p.tried new p.failed.0;

@@ -78,6 +78,7 @@ pub record GroupsNot (is_known : Bool) (old : Moment) (calls : List Message) (ne
   pub tried : List Message
   pub left : List Message
   pub split : calls ≡ tried ++ left
+  pub some : 0 < length tried
   pub on : StaysOn is_known old.entries old.seen new.entries new.seen ⊎ TriesBy is_known old.turn new.turn old.entries old.seen tried new.entries new.seen
 
 -- whether a call needs all that the log had is a question of this; where each that does has it

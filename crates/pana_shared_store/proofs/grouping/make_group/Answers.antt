@@ -69,8 +69,10 @@ returns-in_err-read_behind-clause-err g c =
     let none = no_records c.gather-count.new.group.items (sym c.gather-count.new.group.ok.0 ∙ zero) in
     let same : c.gather-count.new.hall ≡ c.args.hall.now = none_made g.L.SharedLog.is_known c.args.is_stale c.args.hall.now c.gather-count.new.hall c.args.turn.now (c.args.turn.now + c.gather-count.result) c.length-at.result c.writer-writer.result (g.L.SharedLog.seen c.args.log.now) (g.L.SharedLog.seen c.read_behind.new.log) c.args.calls.now (take c.gather-count.result c.args.calls.now) c.args.answers.now.items c.gather-count.new.answers.items c.gather-count.new.group.items c.requires.store c.writer-writer.ensures c.gather-count.ensures.gathers c.length-at.ensures.length some until none in
     let looks = looks_from g.L.SharedLog.is_known c.args.hall.now c.gather-count.new.hall c.read_behind.new.hall (g.L.SharedLog.seen c.args.log.now) (g.L.SharedLog.seen c.read_behind.new.log) same c.read_behind.ensures.looks in
+    let within = c.gather-count.ensures.within in
+    let given : 0 < length c.args.calls.now = omega (arith, counted, within) in
     let fact : GroupsNot g.L.SharedLog.is_known (moment c.args.hall.now (g.L.SharedLog.seen c.args.log.now) c.args.turn.now) c.args.calls.now (moment (shown c.read_behind.new.hall c.args.kept.now) (g.L.SharedLog.seen c.read_behind.new.log) c.args.turn.now) =
-    subst (λ (o : Option ℕ). GroupsNot g.L.SharedLog.is_known (moment c.args.hall.now (g.L.SharedLog.seen c.args.log.now) c.args.turn.now) c.args.calls.now (moment (shown c.read_behind.new.hall o) (g.L.SharedLog.seen c.read_behind.new.log) c.args.turn.now)) (sym c.requires.kept) (looks_not g.L.SharedLog.is_known c.args.hall.now c.read_behind.new.hall c.args.turn.now c.args.turn.now (g.L.SharedLog.seen c.args.log.now) (g.L.SharedLog.seen c.read_behind.new.log) c.args.calls.now looks) in
+    subst (λ (o : Option ℕ). GroupsNot g.L.SharedLog.is_known (moment c.args.hall.now (g.L.SharedLog.seen c.args.log.now) c.args.turn.now) c.args.calls.now (moment (shown c.read_behind.new.hall o) (g.L.SharedLog.seen c.read_behind.new.log) c.args.turn.now)) (sym c.requires.kept) (looks_not g.L.SharedLog.is_known c.args.hall.now c.read_behind.new.hall c.args.turn.now c.args.turn.now (g.L.SharedLog.seen c.args.log.now) (g.L.SharedLog.seen c.read_behind.new.log) c.args.calls.now given looks) in
     search (rules, fact)
 
 pub returns-then-branch-clause-ok : goal.returns-then-branch-clause-ok

@@ -17,7 +17,7 @@ unreachable-requires-in-Nothing g c = (came g.S.Session.step g.S.Session.fails g
 pub returns-in_err-given-clause-fails : goal.returns-in_err-given-clause-fails
 returns-in_err-given-clause-fails g c =
     on_err c.from_residual.result _ (subst (λ (old : SessionView g.row.S.Denot). SomeTold g.S.Session.step g.S.Session.fails g.S.Session.settles g.S.Session.breaks_off g.S.Session.keeps_together c.requires.together old c.args.list c.args.answers.now.items c.args.answers.now.items c.request.new.self) c.self.view_is
-    (none_told g.S.Session.step g.S.Session.fails g.S.Session.settles g.S.Session.breaks_off g.S.Session.keeps_together c.requires.together c.in_err-given.ensures.none refl))
+    (none_told g.S.Session.step g.S.Session.fails g.S.Session.settles g.S.Session.breaks_off g.S.Session.keeps_together c.requires.together c.requires.some c.in_err-given.ensures.none refl))
 
 pub add_all-requires : goal.add_all-requires
 add_all-requires g c = omega (arith, c.requires.room, few g.S.Session.step g.S.Session.fails g.S.Session.settles g.S.Session.breaks_off g.S.Session.keeps_together c.requires.together c.in_ok-given.ensures.response c.in-Answers.is)

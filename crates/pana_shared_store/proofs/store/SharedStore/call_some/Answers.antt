@@ -11,7 +11,7 @@ use Rattle.pana_shared_store.proofs.store.SharedStore.call_some.Goals as goal
 pub returns-then-is_some-clause-err : goal.returns-then-is_some-clause-err
 returns-then-is_some-clause-err g c =
     let broken : c.args.self.now.broken ≡ true = search rules in
-    calls_broken g.L.SharedLog.is_known c.args.self.now c.args.calls.now c.args.answers.now.items broken
+    calls_broken g.L.SharedLog.is_known c.args.self.now c.args.calls.now c.args.answers.now.items c.requires.some broken
 
 pub returns-in_err-call_first-in-None-clause-err : goal.returns-in_err-call_first-in-None-clause-err
 returns-in_err-call_first-in-None-clause-err g c =

@@ -13,4 +13,4 @@ returns-in_err-remake-clause-err g c =
     let stays = stays_same g.L.SharedLog.is_known c.args.self.now.entries (shown c.remake.new.hall c.remake.new.kept) c.args.self.now.seen seen (c.remake.ensures.same ∙ ap (λ (v : StoreView). v.entries) c.self.view_is) (ap (λ (v : StoreView). v.seen) c.self.view_is)
     (λ known. subst (λ (l : List Entry). AreFirst l seen.records) (sym c.remake.ensures.same) (c.self.invariant known).first) in
     on_err c.from_residual.result (GroupsNot g.L.SharedLog.is_known (moment_of c.args.self.now) c.args.calls.now (moment (shown c.remake.new.hall c.remake.new.kept) seen c.self.inside.turn))
-    (stays_not g.L.SharedLog.is_known c.args.self.now.entries (shown c.remake.new.hall c.remake.new.kept) c.args.self.now.turn c.self.inside.turn c.args.self.now.seen seen c.args.calls.now stays)
+    (stays_not g.L.SharedLog.is_known c.args.self.now.entries (shown c.remake.new.hall c.remake.new.kept) c.args.self.now.turn c.self.inside.turn c.args.self.now.seen seen c.args.calls.now c.requires.some stays)
