@@ -16,8 +16,8 @@ returns-in_default g c =
     (λ answer says. bad_device_reported c.args.device.now scanned answer (c.in_default.ensures.bad.0 (ap (λ fault. Err fault) c.in_default.ensures.others)) says)
     c.reported.ensures
 
-pub returns-in-Err : goal.returns-in-Err
-returns-in-Err g c =
+pub returns : goal.returns
+returns g c =
     let scanned : Result Contents ScanFault → Type 0 =
     IsScanned g.D.Disk.is_known (g.D.Disk.tree c.args.disk.now) c.args.folder.now c.args.device.now (g.D.Disk.has_failed c.read_root.new.disk) (g.D.Disk.entries c.read_root.new.disk)
     (g.D.Disk.faults c.read_root.new.disk) in
