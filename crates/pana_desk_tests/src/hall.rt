@@ -43,18 +43,21 @@ fn replies(alloc: Global, calls: VecDeque<(DeviceName, Call)>) -> Result<Vec<Rep
     Ok(replies)
 }
 
+/// Whether a report was accepted as the entry with this number.
+fn is_done(reply: &Reply, number: u64) -> bool {
+    match reply {
+        Reply::Done { entry } => *entry == number,
+        _ => false,
+    }
+}
+
 /// Whether these are three entries, and then a board on which the second copy is newest.
 fn are_four(replies: &[Reply]) -> bool {
-    let [
-        Reply::Done { entry: 1 },
-        Reply::Done { entry: 2 },
-        Reply::Done { entry: 3 },
-        Reply::Board(board),
-    ] = replies
-    else {
+    let [first, second, third, Reply::Board(board)] = replies else {
         return false;
     };
-    board.newest.as_slice() == [2].as_slice() && !board.split
+    let are_done = is_done(first, 1) && is_done(second, 2) && is_done(third, 3);
+    are_done && board.newest.as_slice() == [2].as_slice() && !board.split
 }
 
 #[test]

@@ -28,8 +28,8 @@ fn register(alloc: Global) -> Result<Message, Fail> {
 
 /// The number of the entry that a report made, or 0 where it made none. Fails where memory ran out.
 fn entry_of(response: Result<Response, Spent>) -> Result<u64, AllocError> {
-    match response {
-        Ok(Response::Answer(Answer::Given(Reply::Done { entry }))) => Ok(entry),
+    match &response {
+        Ok(Response::Answer(Answer::Given(Reply::Done { entry }))) => Ok(*entry),
         Ok(Response::Answer(Answer::Given(Reply::Refused(Cause::OutOfMemory)))) => Err(AllocError),
         _ => Ok(0),
     }
@@ -37,7 +37,7 @@ fn entry_of(response: Result<Response, Spent>) -> Result<u64, AllocError> {
 
 /// How many rows the board has, or 0 where the reply is none. Fails where memory ran out.
 fn rows_of(response: Result<Response, Spent>) -> Result<usize, AllocError> {
-    match response {
+    match &response {
         Ok(Response::Answer(Answer::Given(Reply::Board(board)))) => Ok(board.rows.as_slice().len()),
         Ok(Response::Answer(Answer::Given(Reply::Refused(Cause::OutOfMemory)))) => Err(AllocError),
         _ => Ok(0),

@@ -1,6 +1,6 @@
 //! What no clause says of a scanner: that reports are made where memory is there, and that it goes on where a call had no answer.
 
-use pana_calls::{Answer, Call, NoAnswer, Query, Reply, Session};
+use pana_calls::{Answer, Call, NoAnswer, Query, Session};
 use pana_copies::{CopyPath, DeviceName};
 use pana_daemon::{DeskSession, Folder, IdleSupervisor, Look, Shared, scanner};
 use pana_hall::Hall;
@@ -112,9 +112,12 @@ impl Session for Faltering {
 
 /// The entries of a session's journal; none where it has no answer.
 fn entries_of<S: Session>(alloc: Global, session: &mut S, by: &DeviceName) -> EntryList {
-    match session.call(by, Call::Query(Query::JournalFrom { entry: 1 })) {
-        Ok(Answer::Given(Reply::Journal(entries))) => entries,
-        _ => EntryList::new(alloc),
+    let Ok(answer) = session.call(by, Call::Query(Query::JournalFrom { entry: 1 })) else {
+        return EntryList::new(alloc);
+    };
+    match answer.into_journal() {
+        Some(entries) => entries,
+        None => EntryList::new(alloc),
     }
 }
 
