@@ -1,6 +1,6 @@
 //! What the commands of the command line do.
 
-use crate::serve_command;
+use crate::{serve_command, track_command};
 use pana_arguments::{
     Arguments, CommandLine, CommandName, CompareArguments, KeptBy, LoadArguments, RunArguments,
     ScanArguments, ShowArguments, Unread, command_named,
@@ -201,7 +201,7 @@ fn obey_arguments<T: Threads + Wait + Clock + Sync>(
         Arguments::Scan(arguments) => scan(rt, arguments),
         Arguments::Compare(arguments) => compare(rt, arguments),
         Arguments::Serve(arguments) => serve_command::run(rt, threads, arguments),
-        Arguments::Track(arguments) => pana_track_command::run(rt, threads, arguments),
+        Arguments::Track(arguments) => track_command::run(rt, threads, arguments),
         Arguments::Status(arguments) => status_command::run(rt, arguments),
         Arguments::MayOverwrite(arguments) => overwrite_command::run(rt, arguments),
         Arguments::Why(arguments) => why_command::run(rt, arguments),

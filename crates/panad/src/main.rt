@@ -4,6 +4,8 @@
 mod command;
 mod daemon;
 mod serve_command;
+mod track;
+mod track_command;
 
 use std::process::ExitCode;
 
