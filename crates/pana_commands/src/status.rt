@@ -1,9 +1,7 @@
 //! The copies that are obsolete or in conflict, all or those at places that are named.
-ghost use Rattle.std.specs.Prelude.{◌≡◌, IfOk, IfSome, IsErrOf, string_bytes};
+ghost use Rattle.std.specs.Prelude.{◌≡◌, IfOk, IsErrOf, string_bytes};
 ghost use Rattle.pana_calls.specs.Session.{one};
 ghost use Rattle.std.specs.List.{list_any};
-ghost use Rattle.pana_calls.specs.declared.answer.Answer.TheVariants.{Given};
-ghost use Rattle.pana_calls.specs.declared.reply.Reply.TheVariants as replies;
 ghost use Rattle.pana_commands.specs.Status.{AnswersStatus, HasTotal, asks_newest, asks_total, copies_at, is_meant, is_of_many, is_table, names, place_name, rows_at, shown_status};
 ghost use Rattle.pana_commands.specs.Track.{IsCut};
 
@@ -12,7 +10,7 @@ use crate::newest::newest_of;
 use crate::printout::Printout;
 use crate::tracking::{StatusForm, shown_rows, status_by};
 use crate::untracked::Untracked;
-use pana_calls::{Answer, Call, HallCounts, PlacedCopy, Query, Reply, Session, StatusRow};
+use pana_calls::{Call, HallCounts, PlacedCopy, Query, Session, StatusRow};
 use pana_copies::{DeviceName, Place};
 use pana_list::PlainList;
 use pana_track::status_of;

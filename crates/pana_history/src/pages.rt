@@ -4,7 +4,7 @@ ghost use Rattle.pana_calls.specs.Session.{one};
 ghost use Rattle.pana_history.specs.Pages.{HasJournal, Stops, next_after};
 ghost use Rattle.pana_history.specs.inner.Pages.{AsksPage};
 
-use pana_calls::{Answer, Call, NoAnswer, Query, Reply, Session};
+use pana_calls::{Call, NoAnswer, Query, Session};
 use pana_copies::DeviceName;
 use pana_journal::{Entry, EntryList};
 use pana_list::PlainList;

@@ -13,7 +13,7 @@ ghost use Rattle.pana_history.specs.Why.{Explains, IsDamage, IsExplained, SaysNo
 use crate::difference::{Difference, difference_between};
 use crate::pages::journal_of;
 use pana_ask::{Verdict, place_name, unknown_line};
-use pana_calls::{Call, Cause, CopyStanding, NoAnswer, Query, Reply, Session};
+use pana_calls::{Call, Cause, CopyStanding, NoAnswer, Query, Session};
 use pana_copies::{DeviceName, Place};
 use pana_hall::{Hall, LoadCause, LoadFault};
 use pana_journal::{Entry, EntryList};

@@ -4,7 +4,7 @@ ghost use Rattle.pana_calls.specs.Session.{one};
 ghost use Rattle.pana_track.specs.Status.{HasAll, next_after};
 ghost use Rattle.pana_track.specs.inner.Pages.{AsksPage, Stops};
 
-use pana_calls::{Answer, Call, NoAnswer, Query, Reply, Session, StatusRow};
+use pana_calls::{Call, NoAnswer, Query, Session, StatusRow};
 use pana_copies::DeviceName;
 use pana_list::PlainList;
 use std::alloc::Global;

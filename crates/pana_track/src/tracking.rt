@@ -10,7 +10,7 @@ use crate::fault::TrackFault;
 use crate::reading::TrackedListing;
 use crate::reporting::report_all;
 use crate::tally::TrackTally;
-use pana_calls::{Answer, Call, Holding, HoldingList, NoAnswer, Query, Reply, Session};
+use pana_calls::{Call, Holding, HoldingList, NoAnswer, Query, Session};
 use pana_copies::DeviceName;
 use pana_ignore::Patterns;
 use pana_scan::{NoticeList, notice};

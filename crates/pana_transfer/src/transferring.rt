@@ -1,11 +1,11 @@
 //! Journals, made once more at a session that has none.
-ghost use Rattle.std.specs.Prelude.{◌≡◌, ◌≢◌, IfErr, IfOk, IfSome, OnOk};
+ghost use Rattle.std.specs.Prelude.{◌≡◌, ◌≢◌, IfErr, IfOk, OnOk};
 ghost use Rattle.pana_transfer.specs.Transfer.{HasEntries, Keeps, Remakes, Transfers};
 
 use crate::fault::TransferFault;
 use pana_calls::{Answer, Call, Cause, NoAnswer, Query, Reply, Session};
 use pana_copies::DeviceName;
-use pana_journal::{Entry, EntryList};
+use pana_journal::Entry;
 use std::alloc::Global;
 
 /// How many entries are made at most before they are kept.

@@ -6,9 +6,8 @@ ghost use Rattle.pana_watch.specs.Watch.{Begins, IsBehind, StartsAt, splits};
 use crate::watch::Watch;
 use crate::watch_fault::WatchFault;
 use indexmap::IndexMap;
-use pana_calls::{Answer, Call, FamilyRow, Query, Reply, Session};
+use pana_calls::{Call, FamilyRow, Query, Session};
 use pana_copies::DeviceName;
-use pana_list::PlainList;
 use std::alloc::{AllocError, Global};
 
 /// A number that no entry of a journal has.

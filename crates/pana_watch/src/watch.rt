@@ -7,7 +7,7 @@ use crate::family_change::FamilyChange;
 use crate::pages::are_numbered;
 use crate::watch_fault::WatchFault;
 use indexmap::IndexMap;
-use pana_calls::{Answer, BoardView, Call, Query, Reply, Session};
+use pana_calls::{Call, Query, Session};
 use pana_copies::DeviceName;
 use pana_journal::EntryList;
 
