@@ -29,6 +29,8 @@ WIDEST = 79
 INTERRUPTED = 130
 # As many lines of code take as long as one crate more that a crate uses.
 LINES_A_CRATE = 130
+# A crate of fewer lines has one prover: each reads all that lies below, and behind several one more does for what they left.
+FEW_LINES = 300
 COUNTED = re.compile(r"so far: (\d+) of (\d+) functions checked")
 
 
@@ -54,11 +56,15 @@ def with_those_below(names):
     return found
 
 
+def lines(name):
+    """The lines of a crate's code."""
+    return sum(it.read_bytes().count(b"\n") for it in (TOP / "crates" / name / "src").rglob("*") if it.is_file())
+
+
 def weight(name):
     """What goes for how long a crate takes, in lines of code: its functions take most of the time, whatever their proofs are
     like, and the more the more crates they may speak of. It was fitted to a first use: 0.06 seconds a line, 8 a crate."""
-    lines = sum(it.read_bytes().count(b"\n") for it in (TOP / "crates" / name / "src").rglob("*") if it.is_file())
-    return lines + LINES_A_CRATE * len(uses()[name])
+    return lines(name) + LINES_A_CRATE * len(uses()[name])
 
 
 class Waiting:
@@ -176,15 +182,17 @@ class Builds:
     def begin(self):
         """Begins as many as may run, so that there are as many provers as processors: one prover for each crate, since two
         of a crate take more time together, and those that no other crate could have for that with the longest chain. It has
-        two in any case, since it decides when the last is proved."""
+        two in any case, since it decides when the last is proved, where it isn't small."""
         while (free := self.lanes.free()) and (ready := self.waiting.ready()):
             idle = os.cpu_count() - sum(it.jobs for it in self.all())
             if idle <= 0 and self.all():
                 return
-            jobs = max(idle - min(len(ready), len(free)) + 1, 2 if self.waiting.leads(ready[0]) else 1)
-            self.waiting.begin(ready[0])
-            self.lanes.take(free[0], ready[0])
-            self.running.register(Build(self.rt, ready[0], jobs, free[0]), selectors.EVENT_READ)
+            name = ready[0]
+            jobs = max(idle - min(len(ready), len(free)) + 1, 2 if self.waiting.leads(name) else 1)
+            self.waiting.begin(name)
+            self.lanes.take(free[0], name)
+            build = Build(self.rt, name, 1 if lines(name) < FEW_LINES else jobs, free[0])
+            self.running.register(build, selectors.EVENT_READ)
 
     def ended(self):
         """Waits a second at most, and returns those that have ended."""

@@ -1,26 +1,12 @@
 //! What commands that ask or report by place have in common.
 
-use crate::faults::report;
-use crate::keeper::Keeper;
-use crate::printing::print_out;
-use crate::refusing::refuse;
 use pana_ask::{AskFault, read_place, unknown_line};
 use pana_commands::Printout;
-use pana_copies::{DeviceName, NameFault, Place};
+use pana_copies::{NameFault, Place};
 use pana_history::Unexplained;
+use pana_keeper::{Keeper, print_out, refuse, report};
 use pana_streams::ProgramFault;
 use std::process::ExitCode;
-
-/// The device in whose name the program asks; a question has the same answer for each.
-const ASKER: &str = "panad";
-
-/// The device in whose name questions are asked.
-pub fn asker() -> Result<DeviceName, ProgramFault> {
-    match DeviceName::new(ASKER) {
-        Ok(device) => Ok(device),
-        Err(_) => Err(ProgramFault::OutOfMemory),
-    }
-}
 
 /// Prints one line, and returns this status.
 pub fn print_line(rt: &HostRuntime, line: String, status: u8) -> Result<ExitCode, ProgramFault> {
@@ -60,12 +46,6 @@ pub fn print_unexplained(
         }
         Unexplained::OutOfMemory => Err(ProgramFault::OutOfMemory),
     }
-}
-
-/// Prints that nothing listens on the port, and returns the status.
-pub fn report_no_daemon(rt: &HostRuntime, port: u16) -> Result<ExitCode, ProgramFault> {
-    let text = format!(in rt.alloc(); "cannot connect to port {port}")?;
-    report(rt, text.as_str())
 }
 
 /// The place that a word names; none where it names none.

@@ -1,15 +1,13 @@
 //! `panad history`: all that was reported of a file as a graph, by a journal or a daemon.
 
-use crate::asking::{asker, place_of, print_line, print_unexplained, refuse_place};
-use crate::faults::report;
+use crate::asking::{place_of, print_line, print_unexplained, refuse_place};
 use crate::inquiry::{Inquiry, ask_keeper};
-use crate::keeper::Keeper;
-use crate::options::keeper_of;
 use crate::picture_file::{may_write_picture, write_picture};
 use pana_arguments::HistoryArguments;
 use pana_calls::Session;
 use pana_copies::Place;
 use pana_history::{Form, History, history_on};
+use pana_keeper::{Keeper, asker, keeper_of, report};
 use pana_streams::{ProgramFault, print_text};
 use std::process::ExitCode;
 

@@ -1,10 +1,8 @@
 //! What is asked of who keeps the reports, or reported to them.
 
-use crate::client::connect;
-use crate::faults::report;
-use crate::keeper::Keeper;
 use pana_calls::Session;
 use pana_hall::Hall;
+use pana_keeper::{Keeper, connect, report};
 use pana_store_file::{LogPlace, NoStore, open_hall, open_shared, open_store, read_shared};
 use pana_streams::ProgramFault;
 use std::process::ExitCode;

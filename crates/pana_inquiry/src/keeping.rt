@@ -1,7 +1,6 @@
 //! Standard input, served on a journal that is kept in a file or in a log that others append to.
 
-use crate::faults::report as report_fault;
-use crate::printing::print_reported;
+use pana_keeper::{print_reported, report as report_fault};
 use pana_log::FileDevice;
 use pana_store::{Store, serve_kept};
 use pana_store_file::{LogPlace, LogStore, NoStore, open_shared, open_store};

@@ -1,15 +1,12 @@
 //! `panad log copy`: a journal is read, and made once more where there is none.
 
-use crate::asking::{asker, print_line};
-use crate::faults::{report, report_refusal};
+use crate::asking::print_line;
 use crate::inquiry::{Inquiry, ask_keeper, report_to_keeper};
-use crate::keeper::Keeper;
-use crate::options::keeper_of;
-use crate::refusing::{fault_of_log, refuse};
 use pana_arguments::{CopyArguments, KeptBy};
 use pana_calls::{NoAnswer, Session};
 use pana_history::journal_of;
 use pana_journal::{Entry, EntryList};
+use pana_keeper::{Keeper, asker, fault_of_log, keeper_of, refuse, report, report_refusal};
 use pana_shared::ReadFault;
 use pana_shared_store::{FillFault, fill};
 use pana_store_file::{LogPlace, log_at};

@@ -1,13 +1,12 @@
 //! `panad may-overwrite`: whether a copy may be overwritten with another one, by a journal or a daemon.
 
-use crate::asking::{asker, place_of, print_fault, print_line, refuse_place};
+use crate::asking::{place_of, print_fault, print_line, refuse_place};
 use crate::inquiry::{Inquiry, ask_keeper};
-use crate::keeper::Keeper;
-use crate::options::keeper_of;
 use pana_arguments::OverwriteArguments;
 use pana_ask::may_overwrite;
 use pana_calls::Session;
 use pana_copies::Place;
+use pana_keeper::{Keeper, asker, keeper_of};
 use pana_streams::ProgramFault;
 use std::process::ExitCode;
 

@@ -1,8 +1,8 @@
 //! A session at a daemon, over one connection after another.
 
-use crate::client::{DaemonClient, connect};
 use pana_calls::{Answer, Call, NoAnswer, Query, Reply, Session};
 use pana_copies::DeviceName;
+use pana_keeper::{DaemonClient, connect};
 use std::{io, mem};
 
 /// A session at the daemon on a port of 127.0.0.1. Where no entry has come for a question that waited, it leaves the connection to

@@ -2,13 +2,11 @@
 
 use crate::asking::{print_fault, print_line};
 use crate::inquiry::{Inquiry, report_to_keeper};
-use crate::keeper::Keeper;
-use crate::options::keeper_of;
-use crate::refusing::refuse;
 use pana_arguments::ReportArguments;
 use pana_ask::{PlacedReport, ReportWord, Words, WordsFault, read_report, report_on};
 use pana_calls::Session;
 use pana_copies::DeviceName;
+use pana_keeper::{Keeper, keeper_of, refuse};
 use pana_streams::ProgramFault;
 use std::alloc::{AllocError, Global};
 use std::process::ExitCode;

@@ -1,13 +1,11 @@
 //! `panad show` of a journal or a daemon.
 
-use crate::asking::asker;
 use crate::inquiry::{Inquiry, ask_keeper};
-use crate::keeper::Keeper;
-use crate::printing::{print_out_tables, print_reported};
 use pana_arguments::Wanted;
 use pana_calls::Session;
 use pana_commands::{Printout, Untracked, table_on, tables_on};
 use pana_copies::DeviceName;
+use pana_keeper::{Keeper, asker, print_out_tables, print_reported};
 use pana_streams::{ProgramFault, Tables, terminal_width};
 use std::process::ExitCode;
 

@@ -1,15 +1,12 @@
 //! `panad status`: what is obsolete or in conflict, by a journal or a daemon.
 
-use crate::asking::{asker, refuse_place};
-use crate::faults::report;
+use crate::asking::refuse_place;
 use crate::inquiry::{Inquiry, ask_keeper};
-use crate::keeper::Keeper;
-use crate::options::{form_of, keeper_of};
-use crate::printing::print_out_tables;
 use pana_arguments::StatusArguments;
 use pana_calls::Session;
 use pana_commands::{Untracked, status_on};
 use pana_copies::DeviceName;
+use pana_keeper::{Keeper, asker, form_of, keeper_of, print_out_tables, report};
 use pana_streams::{ProgramFault, Tables};
 use std::process::ExitCode;
 

@@ -1,13 +1,11 @@
 //! `panad watch`: the entries that a daemon's journal gets, as they come, and the families that become split or whole.
 
-use crate::asking::{asker, report_no_daemon};
-use crate::faults::report;
-use crate::keeper::Keeper;
 use crate::keeping::READS;
 use crate::redialing::Redialing;
 use pana_arguments::WatchArguments;
 use pana_copies::DeviceName;
 use pana_journal::Entry;
+use pana_keeper::{Keeper, asker, report, report_no_daemon};
 use pana_streams::{ProgramFault, print_text};
 use pana_watch::{Watch, WatchFault, entry_lines};
 use std::process::ExitCode;

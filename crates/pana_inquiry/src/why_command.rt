@@ -1,13 +1,12 @@
 //! `panad why`: what each of two copies knows that the other lacks, by a journal or a daemon.
 
-use crate::asking::{asker, place_of, print_line, print_unexplained, refuse_place};
+use crate::asking::{place_of, print_line, print_unexplained, refuse_place};
 use crate::inquiry::{Inquiry, ask_keeper};
-use crate::keeper::Keeper;
-use crate::options::keeper_of;
 use pana_arguments::WhyArguments;
 use pana_calls::Session;
 use pana_copies::Place;
 use pana_history::why_on;
+use pana_keeper::{Keeper, asker, keeper_of};
 use pana_streams::ProgramFault;
 use std::process::ExitCode;
 

@@ -2,10 +2,6 @@
 #![tactic(auto)]
 
 mod command;
-mod daemon;
-mod serve_command;
-mod track;
-mod track_command;
 
 use std::process::ExitCode;
 

@@ -4,7 +4,7 @@ use crate::daemon::{self, LogWishes};
 use pana_arguments::{KeptBy, ServeArguments};
 use pana_daemon::{Looks, Patience};
 use pana_files::{OwnFile, RootPatterns, fault_of_roots, passed_over, root_patterns, slices_of};
-use pana_inquiry::refuse;
+use pana_keeper::refuse;
 use pana_roots::{Root, roots_of};
 use pana_serve::Wishes;
 use pana_streams::ProgramFault;

@@ -5,7 +5,7 @@ use pana_arguments::VERSION;
 use pana_calls::Session;
 use pana_commands::{Printout, StatusForm, Untracked, track_on};
 use pana_files::{Printed, ReadingWishes, TrackRun, may_keep_sums, read_folders};
-use pana_inquiry::{
+use pana_keeper::{
     FAULT, Keeper, asker, connect, print_out_tables, report, report_no_daemon, report_refusal,
 };
 use pana_roots::Root;

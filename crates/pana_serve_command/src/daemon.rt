@@ -2,7 +2,7 @@
 
 use pana_commands::Printout;
 use pana_files::{PassedOver, SystemDisks};
-use pana_inquiry::{FAULT, print_out};
+use pana_keeper::{FAULT, print_out};
 use pana_log::FileDevice;
 use pana_serve::{Outcome, System, Wishes, serve_on};
 use pana_store::Store;

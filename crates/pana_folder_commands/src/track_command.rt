@@ -3,7 +3,7 @@
 use crate::track::{TrackWishes, track};
 use pana_arguments::TrackArguments;
 use pana_files::{ReadingWishes, fault_of_roots};
-use pana_inquiry::{form_of, keeper_of, refuse};
+use pana_keeper::{form_of, keeper_of, refuse};
 use pana_roots::{Root, RootFault, roots_of};
 use pana_streams::ProgramFault;
 use std::marker::Sync;

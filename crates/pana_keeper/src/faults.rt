@@ -21,3 +21,9 @@ pub fn report_refusal(rt: &HostRuntime, refusal: NoStore) -> Result<ExitCode, Pr
         NoStore::Fault(fault) => Err(fault),
     }
 }
+
+/// Prints that nothing listens on the port, and returns the status.
+pub fn report_no_daemon(rt: &HostRuntime, port: u16) -> Result<ExitCode, ProgramFault> {
+    let text = format!(in rt.alloc(); "cannot connect to port {port}")?;
+    report(rt, text.as_str())
+}
