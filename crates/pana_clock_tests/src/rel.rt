@@ -11,19 +11,19 @@ fn conflict(rt: HostRuntime) -> Result<(), Fail> {
     table.edited(1);
     assert_eq!(rt; table.rel(1, 2), Rel::Newer);
     assert_eq!(rt; table.rel(2, 1), Rel::Older);
-    assert!(rt; !table.split());
+    assert!(rt; !table.board()?.split);
     table.edited(2);
     assert_eq!(rt; table.rel(1, 2), Rel::Conflict);
-    assert!(rt; table.split());
     let counts = Counts {
         above: 0,
         below: 0,
         equal: 0,
         conflict: 1,
     };
-    assert_eq!(rt; table.counts(2), counts);
-    let newest = table.newest()?;
-    assert_eq!(rt; newest.as_slice(), [1, 2].as_slice());
+    let board = table.board()?;
+    assert_eq!(rt; board.counts.as_slice(), [counts, counts].as_slice());
+    assert_eq!(rt; board.newest.as_slice(), [1, 2].as_slice());
+    assert!(rt; board.split);
     Ok(())
 }
 

@@ -6,14 +6,17 @@ use crate::name_fault::NameFault;
 use std::alloc::{AllocError, Global};
 use std::hash::{Hash, Hasher};
 use std::marker::Model;
+use std::sync::ArcStr;
 
 /// The longest path, in bytes.
 const LONGEST_PATH: usize = 1024;
 
 /// The path of a copy on its device: 1 to 1,024 bytes of UTF-8 with no character below U+0020 and no U+007F.
+///
+/// Its copies share its text.
 #[derive(Debug)]
 pub struct CopyPath {
-    text: String,
+    text: ArcStr,
 }
 
 impl Drop for CopyPath {
@@ -23,14 +26,15 @@ impl Drop for CopyPath {
 }
 
 impl Model for CopyPath {
-    ghost use Rattle.std.specs.Prelude.{◌≡◌, List, ℕ, string_bytes, true};
+    ghost use Rattle.std.specs.Prelude.{◌≡◌, List, ℕ, true};
+    ghost use Rattle.std.specs.Arc.{arc_str_bytes};
     ghost use Rattle.pana_copies.specs.Names.{is_path};
 
     ghost Value = { List ℕ };
 
-    ghost view = { λ path. string_bytes path.text };
+    ghost view = { λ path. arc_str_bytes path.text };
 
-    ghost invariant = { λ path. is_path (string_bytes path.text) ≡ true };
+    ghost invariant = { λ path. is_path (arc_str_bytes path.text) ≡ true };
 }
 
 fn is_path_byte(byte: u8) -> bool
@@ -65,7 +69,7 @@ impl CopyPath {
         if !is_path(text) {
             return Err(NameFault::BadPath);
         }
-        match String::from_str(alloc, text) {
+        match ArcStr::from_str(alloc, text) {
             Ok(text) => Ok(CopyPath { text }),
             Err(_) => Err(NameFault::OutOfMemory),
         }
@@ -79,7 +83,7 @@ impl CopyPath {
         self.text.as_str()
     }
 
-    /// The same path once more. Fails only where memory runs out.
+    /// The same path once more, which takes no memory. Fails only where there are 2^63 already.
     pub fn copy_of(&self) -> Result<CopyPath, AllocError>
         ensures { IfOk result (λ path. path ≡ self.now) }
     {

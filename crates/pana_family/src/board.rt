@@ -4,7 +4,7 @@ ghost use Rattle.pana_rel.specs.{Board.counts_of, Board.is_split, Board.newest_o
 ghost use Rattle.pana_family.specs.Board.{row_of};
 
 use pana_list::PlainList;
-use pana_rel::PairTable;
+use pana_rel::{Counts, PairBoard, PairTable};
 use std::alloc::{AllocError, Global};
 
 /// A copy on a board: how many other copies of its family are newer than it, older, equal and in conflict with it.
@@ -28,12 +28,13 @@ pub struct FamilyBoard {
     pub split: bool,
 }
 
-/// The row of the copy at a place.
-fn row_at(pairs: &PairTable, at: usize) -> CopyCounts
-    requires { at < length pairs.now.copies }
+/// The row of the copy at a place, where these are the counts of all.
+fn row_at(pairs: &PairTable, counts: &[Counts], at: usize) -> CopyCounts
+    requires within { at < length pairs.now.copies }
+    requires counts { counts.now ≡ map (counts_of own_number (rel_of pairs.now) pairs.now.copies) pairs.now.copies }
     ensures { result ≡ row_of (slice_index_or pairs.now.copies at 0) (counts_of own_number (rel_of pairs.now) pairs.now.copies (slice_index_or pairs.now.copies at 0)) }
 {
-    let counts = pairs.counts_at(at);
+    let counts = counts[at];
     CopyCounts {
         copy: pairs.copies()[at],
         newer: counts.above,
@@ -43,13 +44,18 @@ fn row_at(pairs: &PairTable, at: usize) -> CopyCounts
     }
 }
 
-fn rows_of(alloc: Global, pairs: &PairTable) -> Result<Vec<CopyCounts>, AllocError>
+fn rows_of(
+    alloc: Global,
+    pairs: &PairTable,
+    counts: &[Counts],
+) -> Result<Vec<CopyCounts>, AllocError>
+    requires { counts.now ≡ map (counts_of own_number (rel_of pairs.now) pairs.now.copies) pairs.now.copies }
     ensures { IfOk result (λ rows. rows.items ≡ map (λ copy. row_of copy (counts_of own_number (rel_of pairs.now) pairs.now.copies copy)) pairs.now.copies) }
 {
     let count = pairs.copies().len();
     let mut rows = Vec::with_capacity(alloc, count)?;
     for at in 0..count {
-        rows.push(row_at(pairs, at))?;
+        rows.push(row_at(pairs, counts, at))?;
     }
     Ok(rows)
 }
@@ -60,9 +66,15 @@ pub fn board_of(alloc: Global, pairs: &PairTable) -> Result<FamilyBoard, AllocEr
     ensures newest { IfOk result (λ board. board.newest ≡ newest_of own_number (rel_of pairs.now) pairs.now.copies) }
     ensures split { IfOk result (λ board. board.split ≡ is_split own_number (rel_of pairs.now) pairs.now.copies) }
 {
+    let PairBoard {
+        counts,
+        newest,
+        split,
+    } = pairs.board()?;
+    let rows = rows_of(alloc, pairs, counts.as_slice())?;
     Ok(FamilyBoard {
-        rows: PlainList::from_vec(rows_of(alloc, pairs)?),
-        newest: PlainList::from_vec(pairs.newest()?),
-        split: pairs.split(),
+        rows: PlainList::from_vec(rows),
+        newest: PlainList::from_vec(newest),
+        split,
     })
 }

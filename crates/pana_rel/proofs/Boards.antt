@@ -19,11 +19,11 @@ pub contains_more : (x : ℕ) (xs : List ℕ) (a : ℕ) → Contains xs a → Co
 contains_more x xs a here = (suc here.0, omega (arith, here.1), here.2)
 
 -- 1 for an item that passes
-abbrev one_of : Bool → ℕ
+abbrev pub one_of : Bool → ℕ
 one_of t = if t then 1 else 0
 
 -- a count of the first and the rest
-count_cons : {X : Type 0} (p : X → Bool) (x : X) (xs : List X) → count_by p (x ∷ xs) ≡ (one_of (p x)) + count_by p xs
+pub count_cons : {X : Type 0} (p : X → Bool) (x : X) (xs : List X) → count_by p (x ∷ xs) ≡ (one_of (p x)) + count_by p xs
 count_cons p x xs = sum_by-cons (λ y. one_of (p y)) x xs
 
 -- a copy in the whole is the first or in the rest

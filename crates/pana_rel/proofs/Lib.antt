@@ -2,6 +2,7 @@ pub mod Alike
 pub mod Boards
 pub mod Calls
 pub mod Changes
+pub mod Counted
 pub mod Insertions
 pub mod Orders
 pub mod Places

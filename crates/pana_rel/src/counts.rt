@@ -10,3 +10,13 @@ pub struct Counts {
     pub equal: u64,
     pub conflict: u64,
 }
+
+/// How each copy of a table relates to the others, which are the newest, and whether two of these are in conflict.
+#[derive(Drop)]
+pub struct PairBoard {
+    /// For each copy, by rising number.
+    pub counts: Vec<Counts>,
+    /// The copies to which none is newer, by rising number.
+    pub newest: Vec<u64>,
+    pub split: bool,
+}

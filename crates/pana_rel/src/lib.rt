@@ -7,5 +7,5 @@ mod pair_table;
 mod row;
 mod rows;
 
-pub use crate::counts::Counts;
+pub use crate::counts::{Counts, PairBoard};
 pub use crate::pair_table::PairTable;

@@ -1,12 +1,12 @@
 //! How each of some copies relates to each.
-ghost use Rattle.std.specs.Prelude.{◌≡◌, ℕ, ◌+◌, ◌<◌, ◌≤◌, [], ◌∷◌, Contains, IfOk, OnErr, OnOk, length, slice_index_or};
+ghost use Rattle.std.specs.Prelude.{◌≡◌, ℕ, ◌+◌, ◌<◌, ◌≤◌, [], ◌∷◌, Contains, IfOk, OnErr, OnOk, length, map, slice_index_or};
 ghost use Rattle.pana_event.specs.declared.rel.Rel.TheVariants.{Equal};
 ghost use Rattle.pana_event.specs.Relation.{reverse_of};
 ghost use Rattle.pana_rel.specs.Board.{counts_of, is_split, newest_of};
 ghost use Rattle.pana_rel.specs.Pairs.{edited_row, own_number, place_of, rel_at, rel_of, with_copy, with_row, without, Holds};
 ghost use Rattle.pana_rel.specs.inner.Square.{IsGap};
 
-use crate::counts::Counts;
+use crate::counts::{Counts, PairBoard};
 use crate::row::Row;
 use crate::rows;
 use pana_event::Rel;
@@ -194,44 +194,35 @@ impl PairTable {
         self.rows[self.place(a)].get(self.place(b))
     }
 
-    /// How many other copies are newer than the copy at a place, older, equal and in conflict. Takes no memory; O(copies).
-    pub fn counts_at(&self, at: usize) -> Counts
-        requires { at < length self.now.copies }
-        ensures { result ≡ counts_of own_number (rel_of self.now) self.now.copies (slice_index_or self.now.copies at 0) }
-    {
-        let counts = self.rows[at].counts();
-        Counts {
-            equal: counts.equal - 1,
-            ..counts
-        }
-    }
-
-    /// How many other copies are newer than a copy, older, equal and in conflict. Takes no memory; O(copies).
-    pub fn counts(&self, copy: u64) -> Counts
-        requires { Contains self.now.copies copy }
-        ensures { result ≡ counts_of own_number (rel_of self.now) self.now.copies copy }
-    {
-        self.counts_at(self.place(copy))
-    }
-
-    /// Whether two of the newest copies are in conflict. Takes no memory; O(copies) for each copy.
-    pub fn split(&self) -> bool
-        ensures { result ≡ is_split own_number (rel_of self.now) self.now.copies }
-    {
-        rows::is_split(&self.rows)
-    }
-
-    /// The copies to which none is newer, by rising number. O(copies) for each copy.
+    /// How each copy relates to the others, which are the newest, and whether these are split. It visits each relation once, many at a
+    /// time, and those of newest copies that are in conflict once more.
     ///
     /// # Errors
     ///
     /// `AllocError` where an allocation failed.
-    pub fn newest(&self) -> Result<Vec<u64>, AllocError>
+    pub fn board(&self) -> Result<PairBoard, AllocError>
+        ensures counts { IfOk result (λ board. board.counts.items ≡ map (counts_of own_number (rel_of self.now) self.now.copies) self.now.copies) }
+        ensures newest { IfOk result (λ board. board.newest.items ≡ newest_of own_number (rel_of self.now) self.now.copies) }
+        ensures split { IfOk result (λ board. board.split ≡ is_split own_number (rel_of self.now) self.now.copies) }
+    {
+        let counts = rows::counts_of(self.alloc, &self.rows)?;
+        let newest = self.newest(counts.as_slice())?;
+        let split = rows::is_split(&self.rows, counts.as_slice());
+        Ok(PairBoard {
+            counts,
+            newest,
+            split,
+        })
+    }
+
+    /// The copies to which none is newer, by rising number, where these are the counts of all. Fails only where memory runs out.
+    fn newest(&self, counts: &[Counts]) -> Result<Vec<u64>, AllocError>
+        requires { counts.now ≡ map (counts_of own_number (rel_of self.now) self.now.copies) self.now.copies }
         ensures { IfOk result (λ newest. newest.items ≡ newest_of own_number (rel_of self.now) self.now.copies) }
     {
         let mut newest = Vec::new(self.alloc);
-        for at in 0..self.rows.len() {
-            if rows::is_newest(&self.rows, at) {
+        for at in 0..self.copies.len() {
+            if counts[at].above == 0 {
                 newest.push(self.copies[at])?;
             }
         }

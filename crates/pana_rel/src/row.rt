@@ -1,7 +1,7 @@
 //! The relations of one copy to all.
 ghost use Rattle.std.specs.Prelude.{◌≡◌, ◌+◌, ◌<◌, ◌≤◌, ◌++◌, [], ◌∷◌, OnOk, IfOk, count_by, length, slice_index_or, slice_set};
-ghost use Rattle.std.specs.List.{insert, remove, list_any};
-ghost use Rattle.pana_event.specs.declared.rel.Rel.TheVariants.{Equal, Older};
+ghost use Rattle.std.specs.List.{insert, remove};
+ghost use Rattle.pana_event.specs.declared.rel.Rel.TheVariants.{Equal, Older, Newer};
 ghost use Rattle.pana_rel.specs.Board.{is_rel};
 ghost use Rattle.pana_rel.specs.inner.Square.{AreCounted};
 
@@ -14,16 +14,34 @@ use std::marker::Model;
 /// that none is left over there.
 const MOST_AT_ONCE: usize = 192;
 
-/// How many of a few relations are of one kind.
-fn count_few(rels: &[Rel], wanted: Rel) -> u8
+/// How many of a few relations are of each kind, but of Conflict.
+#[derive(Clone, Copy)]
+struct FewKinds {
+    older: u8,
+    newer: u8,
+    equal: u8,
+}
+
+/// Counts them, each kind by itself, so that the processor does it for many at a time.
+fn kinds_of_few(rels: &[Rel]) -> FewKinds
     requires { length rels.now ≤ 255 }
-    ensures { result ≡ count_by (λ rel. is_rel rel wanted) rels.now }
+    ensures older { result.older ≡ count_by (λ rel. is_rel rel Older) rels.now }
+    ensures newer { result.newer ≡ count_by (λ rel. is_rel rel Newer) rels.now }
+    ensures equal { result.equal ≡ count_by (λ rel. is_rel rel Equal) rels.now }
 {
-    let mut count: u8 = 0;
+    let mut older: u8 = 0;
+    let mut newer: u8 = 0;
+    let mut equal: u8 = 0;
     for rel in rels {
-        count += u8::from(*rel == wanted);
+        older += u8::from(*rel == Rel::Older);
+        newer += u8::from(*rel == Rel::Newer);
+        equal += u8::from(*rel == Rel::Equal);
     }
-    count
+    FewKinds {
+        older,
+        newer,
+        equal,
+    }
 }
 
 /// The relations of a copy to all copies in order, itself among them, a byte each.
@@ -128,36 +146,30 @@ impl Row {
         self.rels.clear();
     }
 
-    /// How many relations there are of one kind. Takes no memory; visits them.
-    fn count(&self, wanted: Rel) -> u64
-        ensures { result ≡ count_by (λ rel. is_rel rel wanted) self.now.items }
-    {
-        let mut rest = self.as_slice();
-        let mut count: u64 = 0;
-        while rest.len() > MOST_AT_ONCE {
-            let (few, others) = rest.split_at(MOST_AT_ONCE);
-            count += u64::from(count_few(few, wanted));
-            rest = others;
-        }
-        count + u64::from(count_few(rest, wanted))
-    }
-
-    /// How many relations there are of each kind. Takes no memory; visits them once for each kind.
+    /// How many other copies are newer than the one whose row this is, older, equal and in conflict. Takes no memory; visits the
+    /// relations once.
     pub(crate) fn counts(&self) -> Counts
+        requires itself { 0 < count_by (λ rel. is_rel rel Equal) self.now.items }
         ensures { AreCounted self.now.items result }
     {
-        Counts {
-            above: self.count(Rel::Older),
-            below: self.count(Rel::Newer),
-            equal: self.count(Rel::Equal),
-            conflict: self.count(Rel::Conflict),
+        let mut rest = self.as_slice();
+        let mut older: u64 = 0;
+        let mut newer: u64 = 0;
+        let mut equal: u64 = 0;
+        while !rest.is_empty() {
+            let (few, others) = rest.split_at(rest.len().min(MOST_AT_ONCE));
+            let kinds = kinds_of_few(few);
+            older += u64::from(kinds.older);
+            newer += u64::from(kinds.newer);
+            equal += u64::from(kinds.equal);
+            rest = others;
         }
-    }
-
-    /// Whether the copy is older than any. Takes no memory; visits the relations, many at a time.
-    pub(crate) fn is_obsolete(&self) -> bool
-        ensures { result ≡ list_any (λ rel. is_rel rel Older) self.now.items }
-    {
-        self.count(Rel::Older) > 0
+        let conflict = self.len() as u64 - older - newer - equal;
+        Counts {
+            above: older,
+            below: newer,
+            equal: equal - 1,
+            conflict,
+        }
     }
 }

@@ -1,14 +1,15 @@
 //! The rows of all copies, by their places.
-ghost use Rattle.std.specs.Prelude.{◌≡◌, ℕ, ◌+◌, ◌<◌, ◌≤◌, ◌↔◌, false, OnOk, IsTrue, length, vec_len, vec_capacity, slice_index_or, slice_set};
+ghost use Rattle.std.specs.Prelude.{◌≡◌, ℕ, ◌+◌, ◌<◌, ◌≤◌, ◌↔◌, false, IfOk, OnOk, IsTrue, length, vec_len, vec_capacity, slice_index_or, slice_set};
 ghost use Rattle.std.specs.List.{insert, remove};
 ghost use Rattle.pana_event.specs.declared.rel.Rel.TheVariants.{Equal};
 ghost use Rattle.pana_event.specs.Relation.{reverse_of};
 ghost use Rattle.pana_rel.specs.Pairs.{edited_rel};
-ghost use Rattle.pana_rel.specs.inner.Square.{row_in, AreInserted, HaveRoom, IsTop, IsTorn, IsWide, Meets};
+ghost use Rattle.pana_rel.specs.inner.Square.{row_in, AreAllCounted, AreInserted, AreSelfEqual, HaveRoom, IsTop, IsTorn, IsWide, Meets};
 
+use crate::counts::Counts;
 use crate::row::Row;
 use pana_event::Rel;
-use std::alloc::AllocError;
+use std::alloc::{AllocError, Global};
 
 /// How a copy that was edited relates to another, from how it did before.
 fn edited(rel: Rel) -> Rel
@@ -135,46 +136,73 @@ pub(crate) fn close_column(rows: &mut [Row], at: usize)
     }
 }
 
-/// Whether no copy is newer than the one at this place. Takes no memory; visits its relations.
-pub(crate) fn is_newest(rows: &[Row], at: usize) -> bool
-    requires { at < length rows.now }
-    ensures { IsTrue result ↔ IsTop (row_in rows.now at).items }
+/// How many other copies are newer than each copy, older, equal and in conflict. Fails only where memory runs out.
+pub(crate) fn counts_of(alloc: Global, rows: &[Row]) -> Result<Vec<Counts>, AllocError>
+    requires wide { IsWide rows.now }
+    requires itself { AreSelfEqual rows.now }
+    ensures { IfOk result (λ counts. AreAllCounted rows.now counts.items) }
 {
-    !rows[at].is_obsolete()
+    let mut counts = Vec::with_capacity(alloc, rows.len())?;
+    for at in 0..rows.len() {
+        counts.push(rows[at].counts())?;
+    }
+    Ok(counts)
 }
 
-/// Whether the copy at this place is in conflict with one to which none is newer.
-fn meets_newest(rows: &[Row], at: usize) -> bool
+/// Whether no copy is newer than the one at this place.
+fn is_newest(rows: &[Row], counts: &[Counts], at: usize) -> bool
+    requires within { at < length rows.now }
+    requires counted { AreAllCounted rows.now counts.now }
+    ensures { IsTrue result ↔ IsTop (row_in rows.now at).items }
+{
+    counts[at].above == 0
+}
+
+/// Whether the copy at this place is in conflict with one to which none is newer. Takes no memory; visits its relations.
+fn meets_newest(rows: &[Row], counts: &[Counts], at: usize) -> bool
     requires within { at < length rows.now }
     requires wide { IsWide rows.now }
+    requires counted { AreAllCounted rows.now counts.now }
     ensures { IsTrue result ↔ Meets rows.now at }
 {
     for other in 0..rows.len() {
-        if rows[at].get(other) == Rel::Conflict && is_newest(rows, other) {
+        if rows[at].get(other) == Rel::Conflict && is_newest(rows, counts, other) {
             return true;
         }
     }
     false
 }
 
-/// Whether to the copy at this place none is newer, and it is in conflict with another such copy.
-fn is_torn_at(rows: &[Row], at: usize) -> bool
+/// Whether the copy at this place is in conflict with any.
+fn has_conflict(rows: &[Row], counts: &[Counts], at: usize) -> bool
     requires within { at < length rows.now }
     requires wide { IsWide rows.now }
+    requires counted { AreAllCounted rows.now counts.now }
+    ensures { result ≡ false → ¬ Meets rows.now at }
+{
+    counts[at].conflict > 0
+}
+
+/// Whether to the copy at this place none is newer, and it is in conflict with another such copy.
+fn is_torn_at(rows: &[Row], counts: &[Counts], at: usize) -> bool
+    requires within { at < length rows.now }
+    requires wide { IsWide rows.now }
+    requires counted { AreAllCounted rows.now counts.now }
     ensures yes { IsTrue result → IsTop (row_in rows.now at).items × Meets rows.now at }
     ensures no { result ≡ false → IsTop (row_in rows.now at).items → ¬ Meets rows.now at }
 {
-    is_newest(rows, at) && meets_newest(rows, at)
+    is_newest(rows, counts, at) && has_conflict(rows, counts, at) && meets_newest(rows, counts, at)
 }
 
-/// Whether two copies are in conflict to which none is newer. Takes no memory; visits the relations of
-/// the newest copies, up to the first two that are in conflict.
-pub(crate) fn is_split(rows: &[Row]) -> bool
-    requires { IsWide rows.now }
+/// Whether two copies are in conflict to which none is newer. Takes no memory; visits the relations of the newest copies that are in
+/// conflict with any, up to the first two that are so with each other.
+pub(crate) fn is_split(rows: &[Row], counts: &[Counts]) -> bool
+    requires wide { IsWide rows.now }
+    requires counted { AreAllCounted rows.now counts.now }
     ensures { IsTrue result ↔ IsTorn rows.now }
 {
     for at in 0..rows.len() {
-        if is_torn_at(rows, at) {
+        if is_torn_at(rows, counts, at) {
             return true;
         }
     }

@@ -54,6 +54,9 @@ impl<T: WriteJson> WriteJson for Option<T> {
 }
 
 /// Writes a member: its name and its content. Fails only where memory runs out, as those below.
+///
+/// These are inlined, so that each name is a constant where it is written, and to look for what is escaped in it takes no time.
+#[inline(always)]
 pub(crate) fn write_number(
     out: &mut Writer<Global>,
     name: &str,
@@ -87,6 +90,7 @@ fn digit(number: u64) -> Option<&'static str>
 }
 
 /// The same of a number that most often has one digit, which is written faster.
+#[inline(always)]
 pub(crate) fn write_count(
     out: &mut Writer<Global>,
     name: &str,
@@ -104,6 +108,7 @@ pub(crate) fn write_count(
 }
 
 /// Writes a member where its content is given, and else nothing.
+#[inline(always)]
 pub(crate) fn write_number_if_given(
     out: &mut Writer<Global>,
     name: &str,
@@ -119,6 +124,7 @@ pub(crate) fn write_number_if_given(
     }
 }
 
+#[inline(always)]
 pub(crate) fn write_text(out: &mut Writer<Global>, name: &str, text: &str) -> Result<(), AllocError>
     ensures tokens { OnOk result (out.new.tokens ≡ out.old.tokens ++ key name.now ∷ Token.string text.now ∷ []) }
     ensures before { OnOk result (out.new.before ≡ out.old.before) }
@@ -127,6 +133,7 @@ pub(crate) fn write_text(out: &mut Writer<Global>, name: &str, text: &str) -> Re
     out.string(text)
 }
 
+#[inline(always)]
 pub(crate) fn write_flag(out: &mut Writer<Global>, name: &str, flag: bool) -> Result<(), AllocError>
     ensures tokens { OnOk result (out.new.tokens ≡ out.old.tokens ++ key name.now ∷ Token.boolean flag ∷ []) }
     ensures before { OnOk result (out.new.before ≡ out.old.before) }
@@ -136,6 +143,7 @@ pub(crate) fn write_flag(out: &mut Writer<Global>, name: &str, flag: bool) -> Re
 }
 
 /// Writes a member where its content is given, and else nothing.
+#[inline(always)]
 pub(crate) fn write_sum(
     alloc: Global,
     out: &mut Writer<Global>,

@@ -66,6 +66,7 @@ pub(crate) fn write_report<'a>(
 }
 
 /// Writes the member of a place's device where the place is given, and else nothing.
+#[inline(always)]
 fn write_device(out: &mut Writer<Global>, place: Option<&Place>) -> Result<(), AllocError>
     ensures tokens { OnOk result (out.new.tokens ≡ out.old.tokens ++ text_tokens (codes "device") (option_map (λ p. p.device) (option_copied place.entry))) }
     ensures before { OnOk result (out.new.before ≡ out.old.before) }
@@ -78,6 +79,7 @@ fn write_device(out: &mut Writer<Global>, place: Option<&Place>) -> Result<(), A
 }
 
 /// Writes that of its path.
+#[inline(always)]
 fn write_path(out: &mut Writer<Global>, place: Option<&Place>) -> Result<(), AllocError>
     ensures tokens { OnOk result (out.new.tokens ≡ out.old.tokens ++ text_tokens (codes "path") (option_map (λ p. p.path) (option_copied place.entry))) }
     ensures before { OnOk result (out.new.before ≡ out.old.before) }

@@ -1,5 +1,5 @@
 -- The rows of a table, by the places of its copies.
-use Rattle.std.specs.Prelude.{◌≡◌, ℕ, zero, suc, ◌<◌, ◌≤◌, ◌+◌, false, List, [], length, map, slice_index_or, count_by, Contains}
+use Rattle.std.specs.Prelude.{◌≡◌, ℕ, zero, suc, ◌<◌, ◌≤◌, ◌+◌, false, List, [], length, map, slice_index_or, count_by, Contains, if◌then◌else◌}
 use Rattle.std.specs.List.{insert, list_any}
 use Rattle.pana_event.specs.declared.rel.Rel.{Rel}
 use Rattle.pana_event.specs.declared.rel.Rel.TheVariants.{Equal, Older, Newer, Conflict}
@@ -65,16 +65,29 @@ pub record AreSpare (rows spare : List Relations) : Type 0 where
   pub rooms : HaveRoom (length rows + length spare) rows
   pub own : HaveRoom (length rows + length spare) spare
 
--- how many copies there are to which the copy relates so: those above it are the ones than which it is older
+-- how many other copies there are to which the copy relates so: those above it are the ones than which it is older
 abbrev pub number_of : Rel → Counts → ℕ
 number_of Equal counts = counts.equal
 number_of Older counts = counts.above
 number_of Newer counts = counts.below
 number_of Conflict counts = counts.conflict
 
--- the counts are those of these relations
+-- the counts are those of these relations of a copy, of which one is to itself
 abbrev pub AreCounted : List Rel → Counts → Type 0
-AreCounted rels counts = (wanted : Rel) → number_of wanted counts ≡ count_by (λ rel. is_rel rel wanted) rels
+AreCounted rels counts = (wanted : Rel) → number_of wanted counts + (if is_rel wanted Equal then 1 else 0) ≡ count_by (λ rel. is_rel rel wanted) rels
+
+-- the counts at a place
+abbrev pub counts_in : List Counts → ℕ → Counts
+counts_in counts i = slice_index_or counts i (record { above = 0; below = 0; equal = 0; conflict = 0 })
+
+-- each row is counted at its place
+pub record AreAllCounted (rows : List Relations) (counts : List Counts) : Type 0 where
+  pub long : length counts ≡ length rows
+  pub each : (i : ℕ) → i < length rows → AreCounted (row_in rows i).items (counts_in counts i)
+
+-- each copy is Equal to itself
+abbrev pub AreSelfEqual : List Relations → Type 0
+AreSelfEqual rows = (i : ℕ) → i < length rows → slice_index_or (row_in rows i).items i Equal ≡ Equal
 
 -- no copy is newer than the one of this row
 abbrev pub IsTop : List Rel → Type 0
