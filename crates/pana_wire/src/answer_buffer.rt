@@ -32,7 +32,7 @@ impl AnswerBuffer {
     }
 
     /// Whether there is room for an answer of this text, and its newline.
-    pub fn has_room(&self, text: &str) -> bool
+    pub fn has_room(&self, text: &[u8]) -> bool
         ensures { result ≡ nat_lt (length self.now + length text.now) 65536 }
     {
         let room = MOST_HELD - self.bytes.len();
@@ -40,14 +40,14 @@ impl AnswerBuffer {
     }
 
     /// Holds one answer more, where there is room for it.
-    pub fn hold(&mut self, text: &str) -> bool
+    pub fn hold(&mut self, text: &[u8]) -> bool
         ensures held { self.new ≡ (if result then self.old ++ (text.now ++ 10 ∷ []) else self.old) }
         ensures room { result ≡ nat_lt (length self.old + length text.now) 65536 }
     {
         if !self.has_room(text) {
             return false;
         }
-        self.bytes.extend_from_slice(text.as_bytes()).unwrap();
+        self.bytes.extend_from_slice(text).unwrap();
         self.bytes.push_reserved(b'\n');
         true
     }

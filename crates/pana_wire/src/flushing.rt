@@ -12,13 +12,13 @@ use std::io::Write;
 pub(crate) fn write_line<W: Write, S: Session>(
     writer: &mut Tap<W>,
     session: &S,
-    text: &str,
+    text: &[u8],
 ) -> Result<(), ServeFault>
     requires { has_failed writer.old ≡ false }
     ensures ok { OnOk result (Writes W.contents (S.moment session.now) writer.old writer.new (text.now ++ 10 ∷ [])) }
     ensures err { IfErr result (WritesPrefix W.contents (S.moment session.now) writer.old writer.new (text.now ++ 10 ∷ [])) }
 {
-    write_whole(writer, session, text.as_bytes())?;
+    write_whole(writer, session, text)?;
     write_out(writer, session, b"\n")
 }
 

@@ -1,5 +1,6 @@
 //! Texts in JSON, token by token, with no blank.
 ghost use Rattle.std.specs.Prelude.{◌≡◌, ◌<◌, ◌^◌, ◌∷◌, [], ◌++◌, decimal, IfOk, IfSome, OnOk, option_copied, map, string_bytes};
+ghost use Rattle.std.specs.Str.{IsUtf8};
 ghost use Rattle.json.specs.Print.{print};
 ghost use Rattle.json.specs.Token as Token;
 ghost use Rattle.json.specs.Token.{key};
@@ -19,7 +20,7 @@ pub(crate) trait WriteJson {
     ghost use Rattle.std.specs.Prelude.{◌≡◌, ◌++◌, OnOk};
     ghost use Rattle.json.specs.Tree.{json_tokens};
     ghost use Rattle.serde_json.specs.Data.{Data};
-    ghost use Rattle.serde_json.specs.Written.{outline};
+    ghost use Rattle.serde_json.specs.Written.{compact_text, outline};
 
     // The value that it stands for.
     ghost json: { Self → Data };
@@ -204,16 +205,17 @@ pub(crate) fn member_text<T: WriteJson>(
     room: Vec<u8>,
     name: &str,
     content: &T,
-) -> Result<String, AllocError>
+) -> Result<Vec<u8>, AllocError>
     requires { room.items ≡ [] }
-    ensures { IfOk result (λ text. string_bytes text ≡ compact_text (object (member name.now (T.json content.now) no_members))) }
+    ensures text { IfOk result (λ bytes. bytes.items ≡ compact_text (object (member name.now (T.json content.now) no_members))) }
+    ensures utf8 { IfOk result (λ bytes. IsUtf8 bytes.items) }
 {
     let mut out = begun_text(room);
     out.begin_object()?;
     out.key(name)?;
     content.write(alloc, &mut out)?;
     out.end_object()?;
-    Ok(written_text(out))
+    Ok(written_bytes(out))
 }
 
 /// The text of an object whose one member is an array of these, in the room that is given. Fails only where memory runs out.
@@ -222,16 +224,37 @@ pub(crate) fn list_text<T: WriteJson>(
     room: Vec<u8>,
     name: &str,
     items: &[T],
-) -> Result<String, AllocError>
+) -> Result<Vec<u8>, AllocError>
     requires { room.items ≡ [] }
-    ensures { IfOk result (λ text. string_bytes text ≡ compact_text (object (member name.now (array (items_of (map T.json items.now))) no_members))) }
+    ensures text { IfOk result (λ bytes. bytes.items ≡ compact_text (object (member name.now (array (items_of (map T.json items.now))) no_members))) }
+    ensures utf8 { IfOk result (λ bytes. IsUtf8 bytes.items) }
 {
     let mut out = begun_text(room);
     out.begin_object()?;
     out.key(name)?;
     write_list(alloc, &mut out, items)?;
     out.end_object()?;
-    Ok(written_text(out))
+    Ok(written_bytes(out))
+}
+
+/// The bytes that were written. Takes no memory.
+pub(crate) fn written_bytes(out: Writer<Global>) -> Vec<u8>
+    requires { out.before ≡ [] }
+    ensures bytes { result.items ≡ print out.tokens }
+    ensures utf8 { IsUtf8 result.items }
+{
+    out.into_inner()
+}
+
+/// The text that these bytes are. Takes no memory.
+pub(crate) fn text_of(bytes: Vec<u8>) -> String
+    requires { IsUtf8 bytes.items }
+    ensures { string_bytes result ≡ bytes.items }
+{
+    match String::from_utf8(bytes) {
+        Ok(text) => text,
+        Err(_) => unreachable!(),
+    }
 }
 
 /// What was written, as text. Takes no memory.
@@ -239,8 +262,5 @@ pub(crate) fn written_text(out: Writer<Global>) -> String
     requires { out.before ≡ [] }
     ensures { string_bytes result ≡ print out.tokens }
 {
-    match String::from_utf8(out.into_inner()) {
-        Ok(text) => text,
-        Err(_) => unreachable!(),
-    }
+    text_of(written_bytes(out))
 }

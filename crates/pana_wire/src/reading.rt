@@ -58,8 +58,8 @@ impl LineReader {
     }
 
     /// Keeps the room of a text for the next one. Takes no memory.
-    pub(crate) fn give_back(&mut self, text: String) {
-        self.room = text.into_bytes();
+    pub(crate) fn give_back(&mut self, text: Vec<u8>) {
+        self.room = text;
     }
 
     /// Where memory is taken from.

@@ -1,4 +1,4 @@
-ghost use Rattle.std.specs.Prelude.{◌≡◌, ◌+◌, ◌^◌, ◌<◌, ◌≤◌, ◌⊎◌, List, ℕ, [], ◌∷◌, ◌++◌, length, false, IfOk, IfErr, OnOk, string_bytes};
+ghost use Rattle.std.specs.Prelude.{◌≡◌, ◌+◌, ◌^◌, ◌<◌, ◌≤◌, ◌⊎◌, List, ℕ, [], ◌∷◌, ◌++◌, length, false, IfOk, IfErr, OnOk};
 ghost use Rattle.pana_calls.specs.Session.{one};
 ghost use Rattle.pana_calls.specs.declared.answer.Answer.{Answer};
 ghost use Rattle.pana_wire.specs.Answer.{answer_text};
@@ -366,14 +366,14 @@ fn answer<W: Write, S: Session>(
     let Message { by, call } = match lines.read(held) {
         Ok(message) => message,
         Err(fault) => {
-            put(answers, writer, session, fault.answer())?;
+            put(answers, writer, session, fault.answer().as_bytes())?;
             return Ok(Served { lines: 1, calls: 0 });
         }
     };
     let room = lines.take_room();
     match make(lines.alloc(), room, session, &by, call) {
         Ok(text) => {
-            put(answers, writer, session, text.as_str())?;
+            put(answers, writer, session, text.as_slice())?;
             lines.give_back(text);
         }
         Err(fault) => {
@@ -384,16 +384,16 @@ fn answer<W: Write, S: Session>(
     Ok(Served { lines: 1, calls: 1 })
 }
 
-/// Makes a call; the text of its answer, in the room that is given.
+/// Makes a call; the bytes of its answer's text, in the room that is given.
 fn make<S: Session>(
     alloc: Global,
     room: Vec<u8>,
     session: &mut S,
     by: &DeviceName,
     call: Call,
-) -> Result<String, ServeFault>
+) -> Result<Vec<u8>, ServeFault>
     requires { room.items ≡ [] }
-    ensures answer { IfOk result (λ text. (answer : Answer) × S.step session.old by.now call answer session.new × (string_bytes text ≡ answer_text answer)) }
+    ensures answer { IfOk result (λ text. (answer : Answer) × S.step session.old by.now call answer session.new × (text.items ≡ answer_text answer)) }
     ensures fault { IfErr result (IsLost S.step (one S.fails) session.old by.now call session.new) }
 {
     let Ok(answer) = session.call(by, call) else {
@@ -410,7 +410,7 @@ fn put<W: Write, S: Session>(
     answers: &mut AnswerBuffer,
     writer: &mut Tap<W>,
     session: &mut S,
-    text: &str,
+    text: &[u8],
 ) -> Result<(), ServeFault>
     requires { has_failed writer.old ≡ false }
     ensures ok { OnOk result (Puts W.contents S.step S.keeps_together S.fails S.settles S.breaks_off S.moment writer.old writer.new session.old session.new answers.old answers.new (text.now ++ 10 ∷ [])) }

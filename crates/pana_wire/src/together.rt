@@ -15,7 +15,7 @@ use crate::reading::LineReader;
 use crate::round::Round;
 use crate::serving::{ServeFault, Served, take_line, take_lines};
 use crate::tap::Tap;
-use crate::writing::encode_answer;
+use crate::writing::answer_bytes;
 use pana_calls::{Answer, Session};
 use std::alloc::{AllocError, Global};
 use std::io::Write;
@@ -206,21 +206,21 @@ fn write_one<'a>(
     ensures err { OnErr result (texts.new.items ≡ texts.old.items) }
 {
     if let Some(fault) = fault {
-        add(texts, fault.answer())?;
+        add(texts, fault.answer().as_bytes())?;
         return Ok(answers);
     }
     let Some((answer, left)) = answers.split_first() else {
         return Err(ServeFault::NoAnswer);
     };
-    let Ok(text) = encode_answer(alloc, answer) else {
+    let Ok(text) = answer_bytes(alloc, answer) else {
         return Err(ServeFault::OutOfMemory);
     };
-    add(texts, text.as_str())?;
+    add(texts, text.as_slice())?;
     Ok(left)
 }
 
 /// Adds a text and a newline.
-fn add(texts: &mut Vec<u8>, text: &str) -> Result<(), ServeFault>
+fn add(texts: &mut Vec<u8>, text: &[u8]) -> Result<(), ServeFault>
     ensures ok { OnOk result (texts.new.items ≡ texts.old.items ++ (text.now ++ 10 ∷ [])) }
     ensures fault { IfErr result (λ fault. fault ≡ ServeFault.OutOfMemory) }
     ensures err { OnErr result (texts.new.items ≡ texts.old.items) }
@@ -228,7 +228,7 @@ fn add(texts: &mut Vec<u8>, text: &str) -> Result<(), ServeFault>
     if texts.reserve(text.len() + 1).is_err() {
         return Err(ServeFault::OutOfMemory);
     }
-    texts.extend_from_slice(text.as_bytes()).unwrap();
+    texts.extend_from_slice(text).unwrap();
     texts.push_reserved(b'\n');
     Ok(())
 }

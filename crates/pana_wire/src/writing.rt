@@ -1,4 +1,5 @@
 ghost use Rattle.std.specs.Prelude.{◌≡◌, IfOk, [], string_bytes};
+ghost use Rattle.std.specs.Str.{IsUtf8};
 ghost use Rattle.pana_calls.specs.declared.reply.Reply.TheVariants.{Did, Journal, Pair, Refused};
 ghost use Rattle.pana_wire.specs.Dump.{IsReadBack, entries_text};
 ghost use Rattle.pana_wire.specs.Answer.{answer_text};
@@ -6,8 +7,8 @@ ghost use Rattle.pana_wire.specs.Reply.{reply_text};
 
 use crate::entry_writing::write_entries;
 use crate::json_writing::{
-    begun_text, first_room, list_text, member_text, write_number, write_number_if_given,
-    write_text, written_text,
+    begun_text, first_room, list_text, member_text, text_of, write_number, write_number_if_given,
+    write_text, written_bytes,
 };
 use crate::word::kind_word;
 use pana_calls::{Answer, Cause, Reply};
@@ -27,14 +28,16 @@ pub fn encode(alloc: Global, reply: &Reply) -> Result<String, AllocError>
     ensures text { IfOk result (λ text. string_bytes text ≡ reply_text reply.now) }
     ensures back { IfOk result (λ text. IsReadBack reply.now (string_bytes text)) }
 {
-    encode_in(alloc, first_room(alloc)?, reply)
+    let bytes = encode_in(alloc, first_room(alloc)?, reply)?;
+    Ok(text_of(bytes))
 }
 
-/// The same in the room that is given.
-fn encode_in(alloc: Global, room: Vec<u8>, reply: &Reply) -> Result<String, AllocError>
+/// The bytes of the same text, in the room that is given.
+fn encode_in(alloc: Global, room: Vec<u8>, reply: &Reply) -> Result<Vec<u8>, AllocError>
     requires { room.items ≡ [] }
-    ensures text { IfOk result (λ text. string_bytes text ≡ reply_text reply.now) }
-    ensures back { IfOk result (λ text. IsReadBack reply.now (string_bytes text)) }
+    ensures text { IfOk result (λ bytes. bytes.items ≡ reply_text reply.now) }
+    ensures back { IfOk result (λ bytes. IsReadBack reply.now bytes.items) }
+    ensures utf8 { IfOk result (λ bytes. IsUtf8 bytes.items) }
 {
     match reply {
         Reply::Done { entry } => member_text(alloc, room, "done", entry),
@@ -59,50 +62,62 @@ fn encode_in(alloc: Global, room: Vec<u8>, reply: &Reply) -> Result<String, Allo
 pub fn encode_answer(alloc: Global, answer: &Answer) -> Result<String, AllocError>
     ensures { IfOk result (λ text. string_bytes text ≡ answer_text answer.now) }
 {
+    let bytes = encode_answer_in(alloc, first_room(alloc)?, answer)?;
+    Ok(text_of(bytes))
+}
+
+/// The bytes of the same text.
+pub(crate) fn answer_bytes(alloc: Global, answer: &Answer) -> Result<Vec<u8>, AllocError>
+    ensures { IfOk result (λ bytes. bytes.items ≡ answer_text answer.now) }
+{
     encode_answer_in(alloc, first_room(alloc)?, answer)
 }
 
-/// The same in the room that is given.
+/// The bytes of the same text, in the room that is given.
 pub(crate) fn encode_answer_in(
     alloc: Global,
     room: Vec<u8>,
     answer: &Answer,
-) -> Result<String, AllocError>
+) -> Result<Vec<u8>, AllocError>
     requires { room.items ≡ [] }
-    ensures { IfOk result (λ text. string_bytes text ≡ answer_text answer.now) }
+    ensures text { IfOk result (λ bytes. bytes.items ≡ answer_text answer.now) }
+    ensures utf8 { IfOk result (λ bytes. IsUtf8 bytes.items) }
 {
     match answer {
         Answer::Given(reply) => encode_in(alloc, room, reply),
-        Answer::NotKept => String::from_str(alloc, NOT_KEPT),
+        Answer::NotKept => Ok(String::from_str(alloc, NOT_KEPT)?.into_bytes()),
     }
 }
 
-fn did_text(room: Vec<u8>, kind: ReportKind, entry: u64) -> Result<String, AllocError>
+fn did_text(room: Vec<u8>, kind: ReportKind, entry: u64) -> Result<Vec<u8>, AllocError>
     requires { room.items ≡ [] }
-    ensures { IfOk result (λ text. string_bytes text ≡ reply_text (Did kind entry)) }
+    ensures text { IfOk result (λ bytes. bytes.items ≡ reply_text (Did kind entry)) }
+    ensures utf8 { IfOk result (λ bytes. IsUtf8 bytes.items) }
 {
     let mut out = begun_text(room);
     out.begin_object()?;
     write_text(&mut out, "did", kind_word(kind).name())?;
     write_number(&mut out, "done", entry)?;
     out.end_object()?;
-    Ok(written_text(out))
+    Ok(written_bytes(out))
 }
 
-fn pair_text(room: Vec<u8>, rel: Rel) -> Result<String, AllocError>
+fn pair_text(room: Vec<u8>, rel: Rel) -> Result<Vec<u8>, AllocError>
     requires { room.items ≡ [] }
-    ensures { IfOk result (λ text. string_bytes text ≡ reply_text (Pair rel)) }
+    ensures text { IfOk result (λ bytes. bytes.items ≡ reply_text (Pair rel)) }
+    ensures utf8 { IfOk result (λ bytes. IsUtf8 bytes.items) }
 {
     let mut out = begun_text(room);
     out.begin_object()?;
     write_text(&mut out, "pair", rel.name())?;
     out.end_object()?;
-    Ok(written_text(out))
+    Ok(written_bytes(out))
 }
 
-fn refused_text(room: Vec<u8>, cause: &Cause) -> Result<String, AllocError>
+fn refused_text(room: Vec<u8>, cause: &Cause) -> Result<Vec<u8>, AllocError>
     requires { room.items ≡ [] }
-    ensures { IfOk result (λ text. string_bytes text ≡ reply_text (Refused cause.now)) }
+    ensures text { IfOk result (λ bytes. bytes.items ≡ reply_text (Refused cause.now)) }
+    ensures utf8 { IfOk result (λ bytes. IsUtf8 bytes.items) }
 {
     let mut out = begun_text(room);
     out.begin_object()?;
@@ -110,18 +125,19 @@ fn refused_text(room: Vec<u8>, cause: &Cause) -> Result<String, AllocError>
     write_number_if_given(&mut out, "copy", cause.copy())?;
     write_text(&mut out, "refused", cause.name())?;
     out.end_object()?;
-    Ok(written_text(out))
+    Ok(written_bytes(out))
 }
 
-fn journal_text(alloc: Global, room: Vec<u8>, entries: &[Entry]) -> Result<String, AllocError>
+fn journal_text(alloc: Global, room: Vec<u8>, entries: &[Entry]) -> Result<Vec<u8>, AllocError>
     requires { room.items ≡ [] }
-    ensures text { IfOk result (λ text. string_bytes text ≡ entries_text entries.now) }
-    ensures back { IfOk result (λ text. IsReadBack (Journal entries.now) (string_bytes text)) }
+    ensures text { IfOk result (λ bytes. bytes.items ≡ entries_text entries.now) }
+    ensures back { IfOk result (λ bytes. IsReadBack (Journal entries.now) bytes.items) }
+    ensures utf8 { IfOk result (λ bytes. IsUtf8 bytes.items) }
 {
     let mut out = begun_text(room);
     out.begin_object()?;
     out.key("entries")?;
     write_entries(alloc, &mut out, entries)?;
     out.end_object()?;
-    Ok(written_text(out))
+    Ok(written_bytes(out))
 }

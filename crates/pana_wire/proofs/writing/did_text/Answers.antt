@@ -9,9 +9,9 @@ use Rattle.serde_json.proofs.Texts.{print-outline}
 use Rattle.pana_wire.proofs.Pieces.{both_written}
 use Rattle.pana_wire.proofs.writing.did_text.Goals as goal
 
-pub returns : goal.returns
+pub returns-clause-text : goal.returns-clause-text
 unfolding reply_text reply_data
-returns c =
+returns-clause-text c =
     let named = c.name.ensures ∙ ap word_name c.kind_word.ensures in
     let text : List ℕ → List ℕ = λ (name : List ℕ). print (begin_object ∷ key (codes "did") ∷ string name ∷ key (codes "done") ∷ number (decimal c.args.entry) ∷ end_object ∷ []) in
     let begun : List Token = c.begun_text-out.result.tokens in
@@ -29,4 +29,4 @@ returns c =
     (both_written did_at done_at end_at done_part end_part c.in_ok-write_number.ensures.tokens
     c.in_ok-end_object.ensures.ok)))
     ∙ ap (λ (ts : List Token). ts ++ (begin_part ++ (did_part ++ (done_part ++ end_part)))) c.begun_text-out.ensures.tokens in
-    c.written_text.ensures ∙ ap print whole ∙ ap text named ∙ print-outline (reply_data (Did c.args.kind c.args.entry))
+    c.written_bytes.ensures.bytes ∙ ap print whole ∙ ap text named ∙ print-outline (reply_data (Did c.args.kind c.args.entry))

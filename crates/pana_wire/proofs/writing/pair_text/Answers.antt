@@ -8,9 +8,9 @@ use Rattle.serde_json.proofs.Texts.{print-outline}
 use Rattle.pana_wire.proofs.Pieces.{both_written}
 use Rattle.pana_wire.proofs.writing.pair_text.Goals as goal
 
-pub returns : goal.returns
+pub returns-clause-text : goal.returns-clause-text
 unfolding reply_text reply_data
-returns c =
+returns-clause-text c =
     let text : List ℕ → List ℕ = λ (name : List ℕ). print (begin_object ∷ key (codes "pair") ∷ string name ∷ end_object ∷ []) in
     let begun : List Token = c.begun_text-out.result.tokens in
     let begin_at : List Token = c.begin_object.new.self.tokens in
@@ -24,4 +24,4 @@ returns c =
     (both_written begin_at pair_at end_at pair_part end_part c.in_ok-write_text.ensures.tokens
     c.in_ok-end_object.ensures.ok))
     ∙ ap (λ (ts : List Token). ts ++ (begin_part ++ (pair_part ++ end_part))) c.begun_text-out.ensures.tokens in
-    c.written_text.ensures ∙ ap print whole ∙ ap text c.name.ensures ∙ print-outline (reply_data (Pair c.args.rel))
+    c.written_bytes.ensures.bytes ∙ ap print whole ∙ ap text c.name.ensures ∙ print-outline (reply_data (Pair c.args.rel))

@@ -25,8 +25,8 @@ tokens_of : (code : ℕ) (copy : Option ℕ) (name : List ℕ) →
 tokens_of code None name = refl
 tokens_of code (Some copy) name = refl
 
-pub returns : goal.returns
-returns c =
+pub returns-clause-text : goal.returns-clause-text
+returns-clause-text c =
     let code = c.from.result in
     let copy = c.copy.result in
     let name = c.name.result.now in
@@ -48,5 +48,5 @@ returns c =
     (both_written copy_at refused_at end_at refused_part end_part c.in_ok-write_text.ensures.tokens
     c.in_ok-end_object.ensures.ok))))
     ∙ ap (λ (ts : List Token). ts ++ (begin_part ++ (code_part ++ (copy_part ++ (refused_part ++ end_part))))) c.begun_text-out.ensures.tokens in
-    c.written_text.ensures ∙ ap print (whole ∙ tokens_of code copy name) ∙ print-outline (refusal_data code copy name)
+    c.written_bytes.ensures.bytes ∙ ap print (whole ∙ tokens_of code copy name) ∙ print-outline (refusal_data code copy name)
     ∙ is_refusal c.args.cause.now code copy name (c.from.ensures ∙ c.code.ensures) c.copy.ensures c.name.ensures
