@@ -77,8 +77,9 @@ impl State {
         requires kept { IsHeld self.now }
         ensures { IfOk result (λ rows. rows.items ≡ family_rows self.now.journal.entries (living self.now.journal.entries)) }
     {
-        let mut rows = Vec::new(alloc);
-        for it in self.families.as_slice() {
+        let families = self.families.as_slice();
+        let mut rows = Vec::with_capacity(alloc, families.len())?;
+        for it in families {
             if it.has_copies() {
                 rows.push(family_row(it)?)?;
             }

@@ -108,8 +108,9 @@ impl Journal {
         ensures { IfOk result (λ list. list ≡ page self.now.entries from) }
     {
         let alloc = *self.entries.allocator();
-        let mut copies = Vec::new(alloc);
-        for entry in self.page(from) {
+        let entries = self.page(from);
+        let mut copies = Vec::with_capacity(alloc, entries.len())?;
+        for entry in entries {
             copies.push(entry.copy_of(alloc)?)?;
         }
         Ok(EntryList::from_vec(copies))
