@@ -11,7 +11,7 @@ loop-it-preserved c =
     let list = c.args.self.now.families.list.items in
     let i = c.loop-it.it-index in
     let it = c.it-item.result in
-    let items : c.as_slice-it-items.result.now ≡ list = c.as_slice-it-items.ensures in
+    let items : c.as_slice-families.result.now ≡ list = c.as_slice-families.ensures in
     let same : it ≡ slice_index_or list i it = c.it-item.is ∙ ap (λ (l : List ListedFamily). slice_index_or l i it) items in
     let within : i < length list = subst (λ (l : List ListedFamily). i < length l) items c.loop-it-test.true in
     let own : listed it ≡ family_of journal (listed it).number =
@@ -41,4 +41,4 @@ loop-it-preserved c =
     ]
 
 pub returns : goal.returns
-returns c = grind (arith, nat_tests, take_all, rows_of_families, numbers_own, c.as_slice-it-items.ensures, c.loop-it-test.false, c.loop-it.invariant, c.requires.kept.listed)
+returns c = grind (arith, nat_tests, take_all, rows_of_families, numbers_own, c.as_slice-families.ensures, c.loop-it-test.false, c.loop-it.invariant, c.requires.kept.listed)
