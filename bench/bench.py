@@ -4,7 +4,7 @@
 usage: bench.py PROGRAM [--beside OTHER] [--only NAME,..] [--scale X] [--rounds N] [--seed S]
 PROGRAM is the built program, .build/panad. OTHER is another program with the command `run`, if there is one to compare
 with. Beside it run a bare echo of lines (echo.c), `jq -c .`, `sha256sum` and a Redis server, each where it is there.
-All are given the same lines, in turn, and of N rounds (3) the best counts, so other work on the machine shows little.
+All are given the same lines, in turn, and of N rounds (20) the best counts, so other work on the machine shows little.
 Processor time is what the kernel counts for the process, user and system together. Of lines the time for what comes
 before, which is measured by itself, is taken off. It judges nothing.
 """
@@ -170,7 +170,7 @@ def main(words):
     parser.add_argument("--beside", metavar="OTHER", type=lambda it: str(Path(it).resolve()))
     parser.add_argument("--only", metavar="NAME,..", type=lambda it: it.split(","), default=[])
     parser.add_argument("--scale", type=float, default=1.0)
-    parser.add_argument("--rounds", type=int, default=3)
+    parser.add_argument("--rounds", type=int, default=20)
     parser.add_argument("--seed", default="1")
     options = parser.parse_args(words)
     with tempfile.TemporaryDirectory(dir=ROOMS if ROOMS.is_dir() else None) as room:

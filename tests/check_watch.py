@@ -7,6 +7,7 @@ The last line is 'N passed, M failed'.
 from __future__ import annotations
 
 import contextlib
+import os
 import socket
 import subprocess
 import sys
@@ -14,7 +15,7 @@ import threading
 import time
 
 from check_track_port import SILENT, Server
-from daemon import SECONDS, Client, Daemon, line_of
+from daemon import HERE, SECONDS, Client, Daemon, line_of
 from harness import Broken, differs, run_checks
 
 WORKERS = 16
@@ -152,6 +153,32 @@ def make_way(program, _):
         yield from differs(ended, WORKERS - got.count(entry))
 
 
+def goes_on(program, room):
+    """Where an entry comes while a wait makes way, it is answered with that, and its connection goes on."""
+    library = room / "slow.so"
+    subprocess.run(["cc", "-shared", "-fPIC", "-o", library, HERE / "slow_sync.c"], check=True, timeout=SECONDS)
+    slow = {**os.environ, "LD_PRELOAD": str(library), "SLOW_SYNC": "1500"}
+    with Daemon(program, "--journal", str(room / "journal"), env=slow) as daemon, contextlib.ExitStack() as stack:
+        first, second, *waiting = [stack.enter_context(daemon.client()) for _ in range(WORKERS)]
+        for it in waiting:
+            awaiting(it, 2, 3600)
+        yield from silent(waiting[0], 0.3)
+        # While this one is kept nothing is asked: the second entry is made behind it, and before the waits that make way come.
+        first.send(line_of("usb", "register", **PLAN))
+        yield from silent(first, 0.3)
+        second.send(line_of("usb", "register", device="usb", path="b"))
+        yield from silent(second, 0.5)
+        further = stack.enter_context(daemon.client())
+        further.send(line_of("desk", "families"))
+        yield from differs([it.answer()["done"] for it in (first, second)], [1, 2])
+        for it in waiting:
+            yield from differs([entry["number"] for entry in it.answer()["entries"]], [2])
+        for it in waiting:
+            yield from differs(len(it.ask("desk", "families")["families"]), 2)
+        first.close()
+        yield from differs(len(further.answer()["families"]), 2)
+
+
 def shown(program, _):
     """Each kind of entry has its line, and families that become split or whole are shown; so they are from an entry on."""
     lines = [
@@ -281,7 +308,7 @@ def no_daemon(program, _):
             yield from differs(watch.ended(), (3, wanted, SILENT))
 
 
-CHECKS = (answers, kept, make_way, shown, behind, all_see_all, gone, no_daemon)
+CHECKS = (answers, kept, make_way, goes_on, shown, behind, all_see_all, gone, no_daemon)
 
 
 if __name__ == "__main__":

@@ -13,14 +13,16 @@ from concurrent.futures import ThreadPoolExecutor
 
 PARTS = ("incremental", "rlib")
 PACKED = "kept-work.tgz"
+# Provers come first: at the end of a build some processors have nothing else to do.
+AFTER_PROVERS = ("nice", "-n", "19")
 # A crate whose kept work is a build's own has this file in out/, also where the build was interrupted.
 MARK = "built-for-the-program"
 
 
-def tar(*words):
-    """Whether tar does so."""
+def tar(*words, before=()):
+    """Whether tar does so, run by the command before it, if there is one."""
     how = {"stdin": subprocess.DEVNULL, "stdout": subprocess.DEVNULL, "stderr": subprocess.DEVNULL}
-    return subprocess.run(["tar", "-I", "gzip -1", *words], **how).returncode == 0
+    return subprocess.run([*before, "tar", "-I", "gzip -1", *words], **how).returncode == 0
 
 
 def unpack(out):
@@ -43,7 +45,7 @@ def pack(out):
     """Packs what a build has kept in a crate's folder out/, where it is the build's own. Nothing is taken away yet."""
     if (out / MARK).exists() and (out / "incremental").is_dir():
         new = out / f"{PACKED}.new"
-        if tar("-C", out, "-cf", new, "incremental"):
+        if tar("-C", out, "-cf", new, "incremental", before=AFTER_PROVERS):
             new.replace(out / PACKED)
         else:
             new.unlink(missing_ok=True)

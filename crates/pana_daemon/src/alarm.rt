@@ -193,7 +193,7 @@ impl Supervisor for Alarm<'_> {
         self.waiting.note(entry);
     }
 
-    fn begin(&self, caller: u32) {
+    fn stay(&self, caller: u32) {
         self.waiting.stay(caller);
     }
 

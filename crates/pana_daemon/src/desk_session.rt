@@ -5,7 +5,7 @@ ghost use Rattle.std.specs.Prelude.{◌≡◌, ◌+◌, ◌≤◌, ◌<◌, ◌+
 use crate::request::{CallList, Request, Response, room_for};
 use crate::shared::Shared;
 use crate::supervisor::Supervisor;
-use crate::waiting::{awaited_by, made_by};
+use crate::waiting::{awaited_by, has_entries, made_by};
 use pana_calls::{Answer, Call, Message, NoAnswer, Session};
 use pana_copies::DeviceName;
 use pana_turn::{Desk, Pass};
@@ -101,10 +101,14 @@ impl<'a, S: Session + Drop, T, G> DeskSession<'a, S, T, G> {
     }
 }
 
-/// Waits for the entry that the call waits for, if it does.
-fn wait_for<T: Wait, G: Supervisor>(rt: &T, supervisor: &G, caller: u32, call: &Call) {
-    if let Some((entry, seconds)) = awaited_by(call) {
-        supervisor.wait(rt, caller, entry, seconds);
+/// Waits for the entry that the call waits for, and returns whether it waits for one.
+fn wait_for<T: Wait, G: Supervisor>(rt: &T, supervisor: &G, caller: u32, call: &Call) -> bool {
+    match awaited_by(call) {
+        Some((entry, seconds)) => {
+            supervisor.wait(rt, caller, entry, seconds);
+            true
+        }
+        None => false,
     }
 }
 
@@ -224,7 +228,7 @@ impl<S: Session + Drop, T: Wait, G: Supervisor> Session for DeskSession<'_, S, T
     {
         self.calls = self.calls.saturating_add(1);
         self.supervisor.before(self.caller, self.calls);
-        wait_for(self.rt, self.supervisor, self.caller, &call);
+        let waits = wait_for(self.rt, self.supervisor, self.caller, &call);
         let message = Message {
             by: by.copy_of(),
             call,
@@ -233,6 +237,9 @@ impl<S: Session + Drop, T: Wait, G: Supervisor> Session for DeskSession<'_, S, T
             Response::Answer(answer) => {
                 self.supervisor.after(self.caller, self.calls);
                 note(self.supervisor, &answer);
+                if waits && has_entries(&answer) {
+                    self.supervisor.stay(self.caller);
+                }
                 Ok(answer)
             }
             Response::Nothing { .. } => Err(NoAnswer),

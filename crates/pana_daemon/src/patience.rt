@@ -66,7 +66,7 @@ impl<'a, T: Clock, G: Supervisor> Visit<'a, T, G> {
         stream: TcpStream,
         patience: Patience,
     ) -> Visit<'a, T, G> {
-        supervisor.begin(caller);
+        supervisor.stay(caller);
         Visit {
             rt,
             supervisor,

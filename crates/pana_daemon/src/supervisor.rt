@@ -22,8 +22,9 @@ pub trait Supervisor {
     /// After an answer by which the journal has this entry.
     fn note(&self, _entry: u64) {}
 
-    /// Before the first read of a connection that the caller is to serve.
-    fn begin(&self, _caller: u32) {}
+    /// Before the first read of a connection that the caller is to serve, and after a wait of the caller's whose answer has entries:
+    /// the connection isn't to end.
+    fn stay(&self, _caller: u32) {}
 
     /// Whether the caller's connection is to end, since its wait kept others waiting.
     fn makes_way(&self, _caller: u32) -> bool {

@@ -27,6 +27,14 @@ pub(crate) fn made_by(answer: &Answer) -> Option<u64>
     }
 }
 
+/// Whether the answer has entries of the journal.
+pub(crate) fn has_entries(answer: &Answer) -> bool {
+    match answer {
+        Answer::Given(Reply::Journal(entries)) => !entries.as_slice().is_empty(),
+        _ => false,
+    }
+}
+
 /// For how many seconds a wait lasts at most where the journal grows by others' calls too: these are seen only once a call is made.
 const LOOK: u64 = 1;
 
@@ -96,7 +104,7 @@ impl Waiting {
         self.leaving.fetch_or(bit_of(caller), Ordering::SeqCst);
     }
 
-    /// Notes that the caller has a new connection.
+    /// Notes that the caller's connection isn't to end.
     pub(crate) fn stay(&self, caller: u32) {
         self.leaving.fetch_and(!bit_of(caller), Ordering::SeqCst);
     }

@@ -120,7 +120,7 @@ followed_from rows new ns pairs up down same p = grind (arith, nat_tests, seen_r
 
 -- a change alters nothing that is seen but at its numbers
 pub looks_same : (c : Change) (rows : ℕ → Option StampRow) (n : ℕ) → has (numbers_in c) n ≡ false → look (changed c rows n) ≡ look (rows n)
-looks_same (Rows news) rows n out = ap look (placed_else news.items rows n out)
+looks_same (Rows news) rows n out = ap look (placed_else news.value.items rows n out)
   where
     placed_else : (xs : List Exchange) (rows : ℕ → Option StampRow) (n : ℕ) → has (map number_of xs) n ≡ false → placed_all xs rows n ≡ rows n
     placed_else [] rows n out = refl

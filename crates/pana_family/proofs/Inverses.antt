@@ -202,7 +202,7 @@ rising_exchanged_all (Take n ∷ news) rows up = rising_exchanged_all news (drop
 pub row_after : (c : Change) (rows : List StampRow) → row_at (after c rows) ≡ changed c (row_at rows)
 row_after (Renew copy event touch) rows = row_renewed copy (with_event event touch) rows (λ r. refl)
 row_after (Touch copy touch) rows = row_renewed copy (with_touch touch) rows (λ r. refl)
-row_after (Rows news) rows = row_exchanged_all news.items rows
+row_after (Rows news) rows = row_exchanged_all news.value.items rows
 
 pub rising_after : (c : Change) (rows : List StampRow) → IsRising 0 rows → IsRising 0 (after c rows)
 rising_after c rows up = grind (arith, nat_tests, rising_renewed, rising_exchanged_all)

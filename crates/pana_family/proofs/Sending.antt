@@ -54,7 +54,7 @@ exchange_send : IsSend exchange.the_row
 exchange_send = variants_send exchange.enum ((row_send, tt), ((search sendable, tt), tt))
 
 pub change_send : IsSend change.the_row
-change_send = variants_send change.enum ((search sendable, (event_send, (search sendable, tt))), ((search sendable, (search sendable, tt)), ((small_vecs.the_send exchange.the_row (number 2) globals.the_row heap.ghosts exchange_send global.the_send frees.the_frees, tt), tt)))
+change_send = variants_send change.enum ((search sendable, (event_send, (search sendable, tt))), ((search sendable, (search sendable, tt)), ((boxes.the_send _ _ _ (small_vecs.the_send exchange.the_row (number 2) globals.the_row heap.ghosts exchange_send global.the_send frees.the_frees) global.the_send frees.the_frees, tt), tt)))
 
 pub family_send : IsSend family.the_row
 family_send = view_send _ _ _ _ _ (declared_send family_inside.the_type (global.the_send, (vecs.the_send _ _ _ row_send global.the_send frees.the_frees, (pair_tables.the_send, tt))))

@@ -21,7 +21,7 @@ number_of (Take n) = n
 abbrev pub numbers_in : Change → List ℕ
 numbers_in (Renew copy event touch) = copy ∷ []
 numbers_in (Touch copy touch) = []
-numbers_in (Rows news) = map number_of news.items
+numbers_in (Rows news) = map number_of news.value.items
 
 -- the row that stands there afterwards
 abbrev pub row_of : Exchange → Option StampRow
@@ -63,7 +63,7 @@ with_touch touch r = record { copy = r.copy; holder = r.holder; stamp = r.stamp;
 abbrev pub changed : Change → (ℕ → Option StampRow) → ℕ → Option StampRow
 changed (Renew copy event touch) rows = mapped copy (with_event event touch) rows
 changed (Touch copy touch) rows = mapped copy (with_touch touch) rows
-changed (Rows news) rows = placed_all news.items rows
+changed (Rows news) rows = placed_all news.value.items rows
 
 -- the change that gives a row its event and touch back
 abbrev pub event_back : Change → ℕ → Option StampRow → Change
@@ -79,7 +79,7 @@ touch_back same copy (Some r) = Touch copy r.touch
 abbrev pub inverse : Change → (ℕ → Option StampRow) → Change
 inverse (Renew copy event touch) rows = event_back (Renew copy event touch) copy (rows copy)
 inverse (Touch copy touch) rows = touch_back (Touch copy touch) copy (rows copy)
-inverse (Rows news) rows = Rows (record { items = reverse (formers news.items rows); capacity = news.capacity })
+inverse (Rows news) rows = Rows (record { ptr = news.ptr; alloc = news.alloc; value = record { items = reverse (formers news.value.items rows); capacity = news.value.capacity } })
 
 -- whether a row is put
 abbrev pub is_put : Exchange → Bool
@@ -94,7 +94,7 @@ puts news = count_by is_put news
 abbrev pub room_of : Change → ℕ
 room_of (Renew copy event touch) = 0
 room_of (Touch copy touch) = 0
-room_of (Rows news) = puts news.items
+room_of (Rows news) = puts news.value.items
 
 -- a list of rows after an exchange
 abbrev pub exchanged : Exchange → List StampRow → List StampRow
@@ -110,7 +110,7 @@ exchanged_all (x ∷ news) rows = exchanged_all news (exchanged x rows)
 abbrev pub after : Change → List StampRow → List StampRow
 after (Renew copy event touch) rows = renewed copy (with_event event touch) rows
 after (Touch copy touch) rows = renewed copy (with_touch touch) rows
-after (Rows news) rows = exchanged_all news.items rows
+after (Rows news) rows = exchanged_all news.value.items rows
 
 -- how many rows, and how many copies, take no memory
 pub record Room : Type 0 where

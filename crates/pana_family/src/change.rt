@@ -34,7 +34,8 @@ pub enum Change {
     /// The copy has this touch.
     Touch(u64, u64),
     /// Rows are exchanged, one after another.
-    Rows(SmallVec<Exchange, 2>),
+    // In a box, so that an edit, the change that comes most, isn't moved with room for two rows.
+    Rows(Box<SmallVec<Exchange, 2>>),
 }
 
 /// Whether the exchange puts a row.

@@ -94,7 +94,7 @@ impl Family {
         let family = Family::of_rows(alloc, PlainList::from_vec(items))?;
         let mut news = SmallVec::new(alloc);
         news.push_reserved(Exchange::Take(entry));
-        Ok((family, Change::Rows(news)))
+        Ok((family, Change::Rows(Box::new(alloc, news)?)))
     }
 
     /// A family of these rows. Compares the stamps of each two copies.

@@ -53,7 +53,7 @@ fn duplicate_change(
         stamp: given,
         touch: entry,
     }));
-    Ok(Change::Rows(news))
+    Ok(Change::Rows(Box::new(alloc, news)?))
 }
 
 /// What two copies own and know together.

@@ -274,16 +274,20 @@ fn exchanges(
 
 /// The change of these exchanges, and behind them the row that comes, if one does.
 #[tactic(auto, using(crate::proofs::Planned::exchanged_more))]
-fn with_row(news: SmallVec<Exchange, 2>, came: Option<StampRow>) -> Result<Change, AllocError>
+fn with_row(
+    alloc: Global,
+    news: SmallVec<Exchange, 2>,
+    came: Option<StampRow>,
+) -> Result<Change, AllocError>
     ensures { IfOk result (λ change. (rows : List OfRow) → after change rows ≡ came_behind came (exchanged_all news.items rows)) }
 {
     match came {
         Some(row) => {
             let mut news = news;
             news.push(Exchange::Put(row))?;
-            Ok(Change::Rows(news))
+            Ok(Change::Rows(Box::new(alloc, news)?))
         }
-        None => Ok(Change::Rows(news)),
+        None => Ok(Change::Rows(Box::new(alloc, news)?)),
     }
 }
 
@@ -305,7 +309,7 @@ pub fn settle_change(
     let news = exchanges(alloc, rows, entry, &plan);
     drop(plan);
     match news {
-        Ok(news) => with_row(news, came),
+        Ok(news) => with_row(alloc, news, came),
         Err(fault) => {
             drop(came);
             Err(fault)

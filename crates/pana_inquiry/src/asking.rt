@@ -1,22 +1,11 @@
 //! What commands that ask or report by place have in common.
 
 use pana_ask::{AskFault, read_place, unknown_line};
-use pana_commands::Printout;
 use pana_copies::{NameFault, Place};
 use pana_history::Unexplained;
-use pana_keeper::{Keeper, print_out, refuse, report};
+use pana_keeper::{Keeper, print_line, refuse, report};
 use pana_streams::ProgramFault;
 use std::process::ExitCode;
-
-/// Prints one line, and returns this status.
-pub fn print_line(rt: &HostRuntime, line: String, status: u8) -> Result<ExitCode, ProgramFault> {
-    let printout = Printout {
-        out: line,
-        err: String::new(rt.alloc()),
-        status,
-    };
-    print_out(rt, &printout)
-}
 
 /// Prints why nothing comes of what was asked or reported, and returns the status: 1 where no copy is at a place, and 3 where
 /// there is no answer.

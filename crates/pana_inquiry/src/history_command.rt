@@ -1,13 +1,12 @@
 //! `panad history`: all that was reported of a file as a graph, by a journal or a daemon.
 
-use crate::asking::{place_of, print_line, print_unexplained, refuse_place};
-use crate::inquiry::{Inquiry, ask_keeper};
+use crate::asking::{place_of, print_unexplained, refuse_place};
 use crate::picture_file::{may_write_picture, write_picture};
 use pana_arguments::HistoryArguments;
 use pana_calls::Session;
 use pana_copies::Place;
 use pana_history::{Form, History, history_on};
-use pana_keeper::{Keeper, asker, keeper_of, report};
+use pana_keeper::{Inquiry, Keeper, Sessions, asker, keeper_of, print_line, report};
 use pana_streams::{ProgramFault, print_text};
 use std::process::ExitCode;
 
@@ -80,8 +79,9 @@ impl Inquiry for Asked<'_> {
 }
 
 /// Asks about the place. A file that has something else than a picture is left as it is.
-fn ask(
+fn ask<K: Sessions>(
     rt: &HostRuntime,
+    sessions: &K,
     place: &Place,
     arguments: HistoryArguments<'_>,
 ) -> Result<ExitCode, ProgramFault> {
@@ -93,13 +93,17 @@ fn ask(
         Some(name) => Target::Picture(name),
         None => Target::Output,
     };
-    ask_keeper(rt, keeper_of(arguments.kept_by), Asked { place, target })
+    sessions.ask(rt, keeper_of(arguments.kept_by), Asked { place, target })
 }
 
 /// Asks about the place that the words name, or refuses the words.
-pub fn run(rt: &HostRuntime, arguments: HistoryArguments<'_>) -> Result<ExitCode, ProgramFault> {
+pub fn run<K: Sessions>(
+    rt: &HostRuntime,
+    sessions: &K,
+    arguments: HistoryArguments<'_>,
+) -> Result<ExitCode, ProgramFault> {
     match place_of(rt, arguments.place)? {
-        Some(place) => ask(rt, &place, arguments),
+        Some(place) => ask(rt, sessions, &place, arguments),
         None => refuse_place(rt, arguments.place),
     }
 }

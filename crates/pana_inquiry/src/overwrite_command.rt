@@ -1,12 +1,11 @@
 //! `panad may-overwrite`: whether a copy may be overwritten with another one, by a journal or a daemon.
 
-use crate::asking::{place_of, print_fault, print_line, refuse_place};
-use crate::inquiry::{Inquiry, ask_keeper};
+use crate::asking::{place_of, print_fault, refuse_place};
 use pana_arguments::OverwriteArguments;
 use pana_ask::may_overwrite;
 use pana_calls::Session;
 use pana_copies::Place;
-use pana_keeper::{Keeper, asker, keeper_of};
+use pana_keeper::{Inquiry, Keeper, Sessions, asker, keeper_of, print_line};
 use pana_streams::ProgramFault;
 use std::process::ExitCode;
 
@@ -36,7 +35,11 @@ impl Inquiry for Overwrite<'_> {
 }
 
 /// Asks about the places that the words name, or refuses the words.
-pub fn run(rt: &HostRuntime, arguments: OverwriteArguments<'_>) -> Result<ExitCode, ProgramFault> {
+pub fn run<K: Sessions>(
+    rt: &HostRuntime,
+    sessions: &K,
+    arguments: OverwriteArguments<'_>,
+) -> Result<ExitCode, ProgramFault> {
     let Some(target) = place_of(rt, arguments.target)? else {
         return refuse_place(rt, arguments.target);
     };
@@ -47,5 +50,5 @@ pub fn run(rt: &HostRuntime, arguments: OverwriteArguments<'_>) -> Result<ExitCo
         target: &target,
         source: &source,
     };
-    ask_keeper(rt, keeper_of(arguments.kept_by), overwrite)
+    sessions.ask(rt, keeper_of(arguments.kept_by), overwrite)
 }

@@ -1,12 +1,11 @@
 //! `panad report`: one report, to the store of a journal or a daemon.
 
-use crate::asking::{print_fault, print_line};
-use crate::inquiry::{Inquiry, report_to_keeper};
+use crate::asking::print_fault;
 use pana_arguments::ReportArguments;
 use pana_ask::{PlacedReport, ReportWord, Words, WordsFault, read_report, report_on};
 use pana_calls::Session;
 use pana_copies::DeviceName;
-use pana_keeper::{Keeper, keeper_of, refuse};
+use pana_keeper::{Inquiry, Keeper, Sessions, keeper_of, print_line, refuse};
 use pana_streams::ProgramFault;
 use std::alloc::{AllocError, Global};
 use std::process::ExitCode;
@@ -87,21 +86,26 @@ fn reporter_of(name: Option<&str>, what: &PlacedReport) -> Option<DeviceName> {
 }
 
 /// Reports this, or refuses the words.
-fn make(
+fn make<K: Sessions>(
     rt: &HostRuntime,
+    sessions: &K,
     arguments: ReportArguments<'_>,
     what: PlacedReport,
 ) -> Result<ExitCode, ProgramFault> {
     match reporter_of(arguments.by, &what) {
-        Some(by) => report_to_keeper(rt, keeper_of(arguments.kept_by), Made { by, what }),
+        Some(by) => sessions.report(rt, keeper_of(arguments.kept_by), Made { by, what }),
         None => refuse(rt, "--by has to name the device that reports"),
     }
 }
 
 /// Reports what the words say, or refuses them.
-pub fn run(rt: &HostRuntime, arguments: ReportArguments<'_>) -> Result<ExitCode, ProgramFault> {
+pub fn run<K: Sessions>(
+    rt: &HostRuntime,
+    sessions: &K,
+    arguments: ReportArguments<'_>,
+) -> Result<ExitCode, ProgramFault> {
     match said(rt.alloc(), arguments) {
-        Ok(what) => make(rt, arguments, what),
+        Ok(what) => make(rt, sessions, arguments, what),
         Err(fault) => refuse_words(rt, fault),
     }
 }

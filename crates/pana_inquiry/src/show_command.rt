@@ -1,11 +1,10 @@
 //! `panad show` of a journal or a daemon.
 
-use crate::inquiry::{Inquiry, ask_keeper};
 use pana_arguments::Wanted;
 use pana_calls::Session;
 use pana_commands::{Printout, Untracked, table_on, tables_on};
 use pana_copies::DeviceName;
-use pana_keeper::{Keeper, asker, print_out_tables, print_reported};
+use pana_keeper::{Inquiry, Keeper, Sessions, asker, print_out_tables, print_reported};
 use pana_streams::{ProgramFault, Tables, terminal_width};
 use std::process::ExitCode;
 
@@ -51,10 +50,11 @@ impl Inquiry for Shown {
 }
 
 /// Prints the tables of who keeps the reports.
-pub fn show_tables(
+pub fn show_tables<K: Sessions>(
     rt: &HostRuntime,
+    sessions: &K,
     keeper: Keeper<'_>,
     wanted: Wanted,
 ) -> Result<ExitCode, ProgramFault> {
-    ask_keeper(rt, keeper, Shown { wanted })
+    sessions.ask(rt, keeper, Shown { wanted })
 }

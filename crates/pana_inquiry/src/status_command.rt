@@ -1,12 +1,11 @@
 //! `panad status`: what is obsolete or in conflict, by a journal or a daemon.
 
 use crate::asking::refuse_place;
-use crate::inquiry::{Inquiry, ask_keeper};
 use pana_arguments::StatusArguments;
 use pana_calls::Session;
 use pana_commands::{Untracked, status_on};
 use pana_copies::DeviceName;
-use pana_keeper::{Keeper, asker, form_of, keeper_of, print_out_tables, report};
+use pana_keeper::{Inquiry, Keeper, Sessions, asker, form_of, keeper_of, print_out_tables, report};
 use pana_streams::{ProgramFault, Tables};
 use std::process::ExitCode;
 
@@ -60,9 +59,13 @@ impl Inquiry for Asked<'_> {
 }
 
 /// Shows what the words ask for, or refuses them.
-pub fn run(rt: &HostRuntime, arguments: StatusArguments<'_>) -> Result<ExitCode, ProgramFault> {
+pub fn run<K: Sessions>(
+    rt: &HostRuntime,
+    sessions: &K,
+    arguments: StatusArguments<'_>,
+) -> Result<ExitCode, ProgramFault> {
     match first_bad(arguments.places) {
         Some(word) => refuse_place(rt, word),
-        None => ask_keeper(rt, keeper_of(arguments.kept_by), Asked { arguments }),
+        None => sessions.ask(rt, keeper_of(arguments.kept_by), Asked { arguments }),
     }
 }

@@ -1,12 +1,11 @@
 //! `panad why`: what each of two copies knows that the other lacks, by a journal or a daemon.
 
-use crate::asking::{place_of, print_line, print_unexplained, refuse_place};
-use crate::inquiry::{Inquiry, ask_keeper};
+use crate::asking::{place_of, print_unexplained, refuse_place};
 use pana_arguments::WhyArguments;
 use pana_calls::Session;
 use pana_copies::Place;
 use pana_history::why_on;
-use pana_keeper::{Keeper, asker, keeper_of};
+use pana_keeper::{Inquiry, Keeper, Sessions, asker, keeper_of, print_line};
 use pana_streams::ProgramFault;
 use std::process::ExitCode;
 
@@ -36,7 +35,11 @@ impl Inquiry for Why<'_> {
 }
 
 /// Asks about the places that the words name, or refuses the words.
-pub fn run(rt: &HostRuntime, arguments: WhyArguments<'_>) -> Result<ExitCode, ProgramFault> {
+pub fn run<K: Sessions>(
+    rt: &HostRuntime,
+    sessions: &K,
+    arguments: WhyArguments<'_>,
+) -> Result<ExitCode, ProgramFault> {
     let Some(ours) = place_of(rt, arguments.first)? else {
         return refuse_place(rt, arguments.first);
     };
@@ -47,5 +50,5 @@ pub fn run(rt: &HostRuntime, arguments: WhyArguments<'_>) -> Result<ExitCode, Pr
         first: &ours,
         second: &theirs,
     };
-    ask_keeper(rt, keeper_of(arguments.kept_by), why)
+    sessions.ask(rt, keeper_of(arguments.kept_by), why)
 }

@@ -18,6 +18,16 @@ pub fn print_out(rt: &HostRuntime, printout: &Printout) -> Result<ExitCode, Prog
     complain_out(rt, &printout.err, printout.status)
 }
 
+/// Prints one line, and returns this status.
+pub fn print_line(rt: &HostRuntime, line: String, status: u8) -> Result<ExitCode, ProgramFault> {
+    let printout = Printout {
+        out: line,
+        err: String::new(rt.alloc()),
+        status,
+    };
+    print_out(rt, &printout)
+}
+
 /// Prints a line about this text on standard error, and returns its status.
 pub fn print_reported(rt: &HostRuntime, text: &str) -> Result<ExitCode, ProgramFault> {
     print_out(rt, &Printout::reported(rt.alloc(), &text)?)

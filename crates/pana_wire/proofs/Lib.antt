@@ -22,3 +22,4 @@ pub mod Pieces
 pub mod ReportTokens
 pub mod FlatObject
 pub mod FlatEntries
+pub mod Prompt

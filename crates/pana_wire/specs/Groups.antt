@@ -1,6 +1,6 @@
 -- What a session writes whose calls are settled in groups: the calls of a group are made one after another, then the session
 -- settles, which keeps what they have made, and only then their answers are written.
-use Rattle.std.specs.Prelude.{◌≡◌, ℕ, ◌+◌, List, [], ◌∷◌, ◌++◌, length, Option, ◌⊎◌, Bool, true, false}
+use Rattle.std.specs.Prelude.{◌≡◌, ℕ, ◌+◌, ◌≤◌, List, [], ◌∷◌, ◌++◌, length, take, Option, ◌⊎◌, Bool, true, false}
 use mathlib.Core.List.{IsPrefix}
 use Rattle.std.specs.Io.KnownBytes.{Consumes, IsAtEnd}
 use Rattle.pana_calls.specs.declared.call.Call.{Call}
@@ -12,7 +12,7 @@ use Rattle.pana_wire.specs.declared.serving.ServeFault.{ServeFault}
 use Rattle.pana_wire.specs.declared.serving.ServeFault.TheVariants.{Read, Write, OutOfMemory, NoAnswer, Turns}
 use Rattle.pana_wire.specs.Lines.{ended, lines_of}
 use Rattle.pana_wire.specs.Session.{AnswersLines, Made, LosesNext, FailsNext, MayCallNext, HasCause, lines_come}
-use Rattle.pana_wire.specs.Tap.{Note, inside, has_failed, has_ended, noted_at, IsNoted}
+use Rattle.pana_wire.specs.Tap.{Ask, Note, asked, inside, has_failed, has_ended, is_flushed, noted, noted_at, IsNoted}
 
 -- the lines of groups, one group after another
 abbrev pub joined : List (List (List ℕ)) → List (List ℕ)
@@ -69,6 +69,29 @@ EndsGroupsBy step together fails settles breaks_off moment OutOfMemory met old i
 EndsGroupsBy step together fails settles breaks_off moment NoAnswer met old input notes new = BreaksAmong step together fails settles breaks_off moment NoAnswer old (lines_come met input) notes new
 EndsGroupsBy step together fails settles breaks_off moment Turns met old input notes new = (steps : ℕ) × AnswersAll step settles moment old (ended [] input) notes new steps
 
+-- before each of these reads, the first of which comes behind so many bytes, all that was written was flushed, and the bytes that
+-- were read are answered by what was written
+abbrev pub AreInTime : (ℕ → ℕ → Type 0) → ℕ → List Ask → Type 0
+AreInTime answered given [] = Unit {0}
+AreInTime answered given (ask ∷ asks) = (ask.flushed ≡ true) × answered given ask.written × AreInTime answered (given + ask.gave) asks
+
+-- the lines that end in so many bytes of the input are answered by so many notes, the first ones of which were there before
+abbrev pub AreAnswered : {S : Type 0} → (S → List ℕ → Call → Answer → S → Type 0) → (S → S → Type 0) → (S → ℕ) → S → ℕ → List ℕ → List Note → ℕ → ℕ → Type 0
+AreAnswered {S = S} step settles moment old before input notes given written = (own : ℕ) × (written ≡ before + own) × (given ≤ length input) × (own ≤ length notes)
+    × ((mid : S) × (steps : ℕ) × AnswersAll step settles moment old (ended [] (take given input)) (take own notes) mid steps)
+
+-- how many bytes reads gave
+abbrev pub all_given : List Ask → ℕ
+all_given [] = 0
+all_given (ask ∷ asks) = ask.gave + all_given asks
+
+-- before each read all lines that have ended are answered, and the answers are flushed, if all was flushed at the start
+pub record IsPrompt {R W S : Type 0} (step : S → List ℕ → Call → Answer → S → Type 0) (settles : S → S → Type 0) (moment : S → ℕ) (reader_old reader_new : Tap R) (writer_old : Tap W) (old : S) (input : List ℕ) (notes : List Note) : Type 0 where
+  pub asks : List Ask
+  pub reads : asked reader_new ≡ asked reader_old ++ asks
+  pub given : all_given asks ≡ length input
+  pub in_time : is_flushed writer_old ≡ true → AreInTime (AreAnswered step settles moment old (length (noted writer_old)) input notes) 0 asks
+
 -- the reader is read to its end, its lines are answered in groups, and nothing else is written
 pub record ServesGroups {R W S : Type 0} (remaining : R → Option (List ℕ)) (contents : W → Option (List ℕ)) (step : S → List ℕ → Call → Answer → S → Type 0) (settles : S → S → Type 0) (moment : S → ℕ)
     (reader_old reader_new : Tap R) (writer_old writer_new : Tap W) (old new : S) (served : Served) : Type 0 where
@@ -82,6 +105,7 @@ pub record ServesGroups {R W S : Type 0} (remaining : R → Option (List ℕ)) (
   pub lines : served.lines ≡ length (lines_of input)
   pub reader_works : has_failed reader_new ≡ false
   pub writer_works : has_failed writer_new ≡ false
+  pub prompt : IsPrompt step settles moment reader_old reader_new writer_old old input notes
 
 -- serving stops with the fault, where it may make so many reads
 pub record StopsGroups {R W S : Type 0} (remaining : R → Option (List ℕ)) (contents : W → Option (List ℕ)) (step : S → List ℕ → Call → Answer → S → Type 0) (together : Bool) (fails : S → List Message → S → Type 0)
@@ -92,3 +116,4 @@ pub record StopsGroups {R W S : Type 0} (remaining : R → Option (List ℕ)) (c
   pub writes : IsNoted contents writer_old writer_new notes
   pub ends : EndsGroupsBy step together fails settles breaks_off moment fault (has_ended reader_new) old input notes new
   pub cause : HasCause fault most reader_old reader_new (has_failed writer_new)
+  pub prompt : IsPrompt step settles moment reader_old reader_new writer_old old input notes

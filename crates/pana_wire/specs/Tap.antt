@@ -1,5 +1,5 @@
 -- What a tap wraps, and what was done through it.
-use Rattle.std.specs.Prelude.{◌≡◌, ℕ, ◌+◌, ◌-◌, ◌^◌, ◌≤◌, ◌==◌, ◌&&◌, not, min, max, Bool, true, false, List, [], ◌∷◌, ◌++◌, length, take, map, Option, Result, Ok, Err}
+use Rattle.std.specs.Prelude.{◌≡◌, ℕ, ◌+◌, ◌-◌, ◌^◌, ◌≤◌, ◌==◌, ◌&&◌, if◌then◌else◌, not, min, max, Bool, true, false, List, [], ◌∷◌, ◌++◌, length, take, map, Option, Result, Ok, Err}
 use Rattle.std.specs.Io.KnownBytes.{Appends}
 use Rattle.pana_wire.specs.declared.tap.Tap.{Tap}
 
@@ -14,6 +14,10 @@ has_failed tap = tap.failed
 -- whether a read through the tap met the end: with room for a byte it gave none
 abbrev pub has_ended : {T : Type 0} → Tap T → Bool
 has_ended tap = tap.ended
+
+-- whether all that the writer took was flushed since
+abbrev pub is_flushed : {T : Type 0} → Tap T → Bool
+is_flushed tap = tap.flushed
 
 -- a byte that a writer took, and the moment of the session then
 pub record Note : Type 0 where
@@ -42,12 +46,40 @@ notes_in (byte ∷ moment ∷ numbers) = notes_in numbers ++ record { byte = byt
 abbrev pub noted : {T : Type 0} → Tap T → List Note
 noted tap = notes_in tap.notes.numbers
 
+-- a read through a tap: how many bytes it gave, how many notes the writer's tap had before it, and whether all that this took was
+-- flushed
+pub record Ask : Type 0 where
+  pub gave : ℕ
+  pub written : ℕ
+  pub flushed : Bool
+
+-- how a tag holds reads: for each its three numbers, the last one first
+abbrev pub ask_more : List ℕ → ℕ → ℕ → Bool → List ℕ
+ask_more numbers gave written flushed = gave ∷ written ∷ (if flushed then 1 else 0) ∷ numbers
+
+abbrev pub asks_in : List ℕ → List Ask
+asks_in [] = []
+asks_in (gave ∷ []) = []
+asks_in (gave ∷ written ∷ []) = []
+asks_in (gave ∷ written ∷ flushed ∷ numbers) = asks_in numbers ++ record { gave = gave; written = written; flushed = flushed == 1 } ∷ []
+
+-- the reads through the tap, in order
+abbrev pub asked : {T : Type 0} → Tap T → List Ask
+asked tap = asks_in tap.asks.numbers
+
+-- how many bytes a read gave
+abbrev pub given : {E : Type 0} → Result ℕ E → ℕ
+given (Ok count) = count
+given (Err e) = 0
+
 -- nothing was done through the tap
 pub record IsUnused {T : Type 0} (tap : Tap T) : Type 0 where
   pub failed : tap.failed ≡ false
   pub ended : tap.ended ≡ false
   pub reads : tap.reads ≡ 0
+  pub flushed : tap.flushed ≡ true
   pub notes : noted tap ≡ []
+  pub asks : asked tap ≡ []
 
 -- a read with room for a byte that gave none
 abbrev pub read_none : {E : Type 0} → Result ℕ E → List ℕ → Bool

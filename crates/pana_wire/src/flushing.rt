@@ -1,6 +1,6 @@
 //! Writing bytes to a tap.
-ghost use Rattle.std.specs.Prelude.{◌≡◌, [], ◌∷◌, ◌++◌, false, IfErr, OnOk};
-ghost use Rattle.pana_wire.specs.Tap.{has_failed};
+ghost use Rattle.std.specs.Prelude.{◌≡◌, [], ◌∷◌, ◌++◌, false, true, IfErr, OnOk};
+ghost use Rattle.pana_wire.specs.Tap.{has_failed, is_flushed};
 ghost use Rattle.pana_wire.specs.inner.Writing.{Writes, WritesPrefix};
 
 use crate::serving::ServeFault;
@@ -17,6 +17,7 @@ pub(crate) fn write_line<W: Write, S: Session>(
     requires { has_failed writer.old ≡ false }
     ensures ok { OnOk result (Writes W.contents (S.moment session.now) writer.old writer.new (text.now ++ 10 ∷ [])) }
     ensures err { IfErr result (WritesPrefix W.contents (S.moment session.now) writer.old writer.new (text.now ++ 10 ∷ [])) }
+    ensures flushed { OnOk result (is_flushed writer.new ≡ true) }
 {
     write_whole(writer, session, text)?;
     write_out(writer, session, b"\n")
@@ -31,6 +32,7 @@ pub(crate) fn write_out<W: Write, S: Session>(
     requires { has_failed writer.old ≡ false }
     ensures ok { OnOk result (Writes W.contents (S.moment session.now) writer.old writer.new bytes.now) }
     ensures err { IfErr result (WritesPrefix W.contents (S.moment session.now) writer.old writer.new bytes.now) }
+    ensures flushed { OnOk result (is_flushed writer.new ≡ true) }
 {
     write_whole(writer, session, bytes)?;
     match writer.flush() {

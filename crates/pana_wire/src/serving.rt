@@ -1,8 +1,8 @@
-ghost use Rattle.std.specs.Prelude.{◌≡◌, ◌+◌, ◌^◌, ◌<◌, ◌≤◌, ◌⊎◌, List, ℕ, [], ◌∷◌, ◌++◌, length, false, IfOk, IfErr, OnOk};
+ghost use Rattle.std.specs.Prelude.{◌≡◌, ◌+◌, ◌^◌, ◌<◌, ◌≤◌, ◌⊎◌, List, ℕ, [], ◌∷◌, ◌++◌, length, false, true, IfOk, IfErr, OnOk};
 ghost use Rattle.pana_calls.specs.Session.{one};
 ghost use Rattle.pana_calls.specs.declared.answer.Answer.{Answer};
 ghost use Rattle.pana_wire.specs.Answer.{answer_text};
-ghost use Rattle.pana_wire.specs.Tap.{has_failed, MadeAtMost};
+ghost use Rattle.pana_wire.specs.Tap.{has_failed, is_flushed, MadeAtMost};
 ghost use Rattle.pana_wire.specs.Groups.{ServesGroups, StopsGroups};
 ghost use Rattle.pana_wire.specs.Lines.{ended, unended, last_line};
 ghost use Rattle.pana_wire.specs.Session.{Serves, Stops, NeverBegins};
@@ -124,6 +124,7 @@ pub fn serve_groups<R: Read, W: Write, S: Session>(
         ⊎ StopsGroups R.remaining W.contents S.step S.keeps_together S.fails S.settles S.breaks_off S.moment reads
         reader.old reader.new writer.old writer.new session.old session.new fault) }
     ensures reads { MadeAtMost reads reader.old reader.new }
+    ensures flushed { OnOk result (is_flushed writer.old ≡ true → is_flushed writer.new ≡ true) }
 {
     let Ok(buffers) = Buffers::new(alloc) else {
         return Err(ServeFault::OutOfMemory);
@@ -216,10 +217,11 @@ fn serve_lines<R: Read, W: Write, S: Session>(
     ensures fault { IfErr result (StopsGroups R.remaining W.contents S.step S.keeps_together S.fails S.settles S.breaks_off S.moment reads
         reader.old reader.new writer.old writer.new session.old session.new) }
     ensures reads { MadeAtMost reads reader.old reader.new }
+    ensures flushed { OnOk result (is_flushed writer.old ≡ true → is_flushed writer.new ≡ true) }
 {
     let mut served = Served::NOTHING;
     for _ in 0..reads {
-        match reader.read(piece) {
+        match reader.read_behind(writer, piece) {
             Err(_) => return Err(ServeFault::Read),
             Ok(0) => {
                 let last = finish(lines, answers, writer, session, held)?;
@@ -252,6 +254,7 @@ fn take_piece<W: Write, S: Session>(
     ensures lines { IfOk result (λ served. (begun : List ℕ) → served.lines ≡ length (ended begun piece.now)) }
     ensures few { IfOk result (λ served. (served.calls ≤ served.lines) × (served.lines ≤ length piece.now)) }
     ensures works { OnOk result (has_failed writer.new ≡ false) }
+    ensures flushed { OnOk result (is_flushed writer.old ≡ true → is_flushed writer.new ≡ true) }
     ensures empty { OnOk result (answers.new ≡ []) }
     ensures out { IfErr result (IsOutFault (has_failed writer.new)) }
 {
@@ -278,6 +281,7 @@ pub(crate) fn take_lines<W: Write, S: Session>(
     ensures lines { IfOk result (λ served. (begun : List ℕ) → served.lines ≡ length (ended begun piece.now)) }
     ensures few { IfOk result (λ served. (served.calls ≤ served.lines) × (served.lines ≤ length piece.now)) }
     ensures works { OnOk result (has_failed writer.new ≡ false) }
+    ensures flushed { OnOk result (is_flushed writer.old ≡ true → is_flushed writer.new ≡ true) }
     ensures out { IfErr result (IsOutFault (has_failed writer.new)) }
 {
     let mut served = Served::NOTHING;
@@ -308,6 +312,7 @@ pub(crate) fn take_line<W: Write, S: Session>(
     ensures held { OnOk result (held.new ≡ []) }
     ensures few { IfOk result (λ served. (served.calls ≤ 1) × (served.lines ≡ 1)) }
     ensures works { OnOk result (has_failed writer.new ≡ false) }
+    ensures flushed { OnOk result (is_flushed writer.old ≡ true → is_flushed writer.new ≡ true) }
     ensures out { IfErr result (IsOutFault (has_failed writer.new)) }
 {
     if held.is_empty() {
@@ -336,6 +341,7 @@ fn finish<W: Write, S: Session>(
     ensures lines { IfOk result (λ served. (line : List ℕ) → IsHeldOf held.now line → served.lines ≡ length (last_line line)) }
     ensures few { IfOk result (λ served. (served.calls ≤ 1) × (served.lines ≤ 1)) }
     ensures works { OnOk result (has_failed writer.new ≡ false) }
+    ensures flushed { OnOk result (is_flushed writer.old ≡ true → is_flushed writer.new ≡ true) }
     ensures out { IfErr result (IsOutFault (has_failed writer.new)) }
 {
     if held.is_empty() {
@@ -361,6 +367,7 @@ fn answer<W: Write, S: Session>(
         writer.old writer.new session.old session.new answers.old (line ∷ []) fault) }
     ensures few { IfOk result (λ served. (served.calls ≤ 1) × (served.lines ≡ 1)) }
     ensures works { OnOk result (has_failed writer.new ≡ false) }
+    ensures flushed { OnOk result (is_flushed writer.old ≡ true → is_flushed writer.new ≡ true) }
     ensures out { IfErr result (IsOutFault (has_failed writer.new)) }
 {
     let Message { by, call } = match lines.read(held) {
@@ -416,6 +423,7 @@ fn put<W: Write, S: Session>(
     ensures ok { OnOk result (Puts W.contents S.step S.keeps_together S.fails S.settles S.breaks_off S.moment writer.old writer.new session.old session.new answers.old answers.new (text.now ++ 10 ∷ [])) }
     ensures err { IfErr result (Holds W.contents S.step S.keeps_together S.fails S.settles S.breaks_off S.moment writer.old writer.new session.old session.new (answers.old ++ (text.now ++ 10 ∷ []))) }
     ensures works { OnOk result (has_failed writer.new ≡ false) }
+    ensures flushed { OnOk result (is_flushed writer.old ≡ true → is_flushed writer.new ≡ true) }
     ensures out { IfErr result (IsOutFault (has_failed writer.new)) }
 {
     if answers.hold(text) {
@@ -441,6 +449,7 @@ fn send<W: Write, S: Session>(
     ensures empty { OnOk result (answers.new ≡ []) }
     ensures err { IfErr result (Holds W.contents S.step S.keeps_together S.fails S.settles S.breaks_off S.moment writer.old writer.new session.old session.new answers.old) }
     ensures works { OnOk result (has_failed writer.new ≡ false) }
+    ensures flushed { OnOk result (is_flushed writer.old ≡ true → is_flushed writer.new ≡ true) }
     ensures out { IfErr result (IsOutFault (has_failed writer.new)) }
 {
     if answers.is_empty() {
@@ -460,6 +469,7 @@ fn release<W: Write, S: Session>(
     ensures empty { OnOk result (answers.new ≡ []) }
     ensures err { IfErr result (Holds W.contents S.step S.keeps_together S.fails S.settles S.breaks_off S.moment writer.old writer.new session.old session.new answers.old) }
     ensures works { OnOk result (has_failed writer.new ≡ false) }
+    ensures flushed { OnOk result (is_flushed writer.old ≡ true → is_flushed writer.new ≡ true) }
     ensures out { IfErr result (IsOutFault (has_failed writer.new)) }
 {
     if session.settle().is_err() {

@@ -17,7 +17,9 @@ pub struct Tap<T> {
     failed: bool,
     ended: bool,
     reads: u64,
+    flushed: bool,
     notes: Tag,
+    asks: Tag,
 }
 
 // Bytes that a writer took in a session, and what was noted before.
@@ -37,6 +39,24 @@ impl<'a, S: Session> Names<Taken<'a, S>> for More {
     ghost numbers = { λ taken. note_all (S.moment taken.session.now) taken.bytes.now taken.notes.now.numbers };
 }
 
+// A read of a reader, and what was asked of it before.
+#[derive(Drop)]
+struct Asked<'a, W> {
+    asks: &'a Tag,
+    writer: &'a Tap<W>,
+    gave: usize,
+}
+
+// The reads with this one.
+struct OneMore;
+
+impl<'a, W> Names<Asked<'a, W>> for OneMore {
+    ghost use Rattle.std.specs.Prelude.{length};
+    ghost use Rattle.pana_wire.specs.Tap.{ask_more, is_flushed, noted};
+
+    ghost numbers = { λ it. ask_more it.asks.now.numbers it.gave (length (noted it.writer.now)) (is_flushed it.writer.now) };
+}
+
 impl<T> Tap<T> {
     ghost use Rattle.pana_wire.specs.Tap.{inside, has_failed, has_ended, IsUnused};
 
@@ -50,7 +70,9 @@ impl<T> Tap<T> {
             failed: false,
             ended: false,
             reads: 0,
+            flushed: true,
             notes: Tag::empty(),
+            asks: Tag::empty(),
         }
     }
 
@@ -63,7 +85,9 @@ impl<T> Tap<T> {
             failed: _,
             ended: _,
             reads: _,
+            flushed: _,
             notes: _,
+            asks: _,
         } = self;
         inner
     }
@@ -86,12 +110,13 @@ impl<T> Tap<T> {
 }
 
 impl<W> Tap<W> {
-    ghost use Rattle.pana_wire.specs.Tap.{inside, has_failed, noted, noted_at, IsUnread};
+    ghost use Rattle.pana_wire.specs.Tap.{inside, has_failed, is_flushed, noted, noted_at, IsUnread};
 
     #[tactic(auto, using(crate::proofs::Notes::notes_more))]
     fn note<S: Session>(&mut self, session: &S, bytes: &[u8])
         ensures inside { inside self.new ≡ inside self.old }
         ensures failed { has_failed self.new ≡ has_failed self.old }
+        ensures flushed { is_flushed self.new ≡ is_flushed self.old }
         ensures unread { IsUnread self.old self.new }
         ensures noted { noted self.new ≡ noted self.old ++ noted_at (S.moment session.now) bytes.now }
     {
@@ -105,7 +130,8 @@ impl<W> Tap<W> {
 }
 
 impl<R: Read> Tap<R> {
-    ghost use Rattle.pana_wire.specs.Tap.{inside, has_failed, has_ended, noted, read_none, MadeReads};
+    ghost use Rattle.std.specs.Prelude.{length, [], ◌∷◌};
+    ghost use Rattle.pana_wire.specs.Tap.{inside, has_failed, has_ended, is_flushed, noted, asked, given, read_none, MadeReads};
 
     /// Reads into the buffer, as the reader does.
     pub fn read(&mut self, buffer: &mut [u8]) -> io::Result<usize>
@@ -115,6 +141,7 @@ impl<R: Read> Tap<R> {
         ensures ended { has_ended self.new ≡ (has_ended self.old || read_none result buffer.new) }
         ensures count { MadeReads 1 self.old self.new }
         ensures noted { noted self.new ≡ noted self.old }
+        ensures asked { asked self.new ≡ asked self.old }
     {
         self.reads = self.reads.saturating_add(1);
         let result = self.inner.read(buffer);
@@ -125,23 +152,48 @@ impl<R: Read> Tap<R> {
         }
         result
     }
+
+    /// Reads so, and notes how far the writer has come.
+    pub fn read_behind<W>(&mut self, writer: &Tap<W>, buffer: &mut [u8]) -> io::Result<usize>
+        ensures bound { ReadsAtMost result buffer.new }
+        ensures bytes { ReadConsumes (R.remaining (inside self.old)) (R.remaining (inside self.new)) result buffer.new }
+        ensures failed { has_failed self.new ≡ (has_failed self.old || is_err result) }
+        ensures ended { has_ended self.new ≡ (has_ended self.old || read_none result buffer.new) }
+        ensures count { MadeReads 1 self.old self.new }
+        ensures noted { noted self.new ≡ noted self.old }
+        ensures asked { asked self.new ≡ asked self.old ++ record { gave = given result; written = length (noted writer.now); flushed = is_flushed writer.now } ∷ [] }
+    {
+        let result = self.read(buffer);
+        let asked = Asked {
+            asks: &self.asks,
+            writer,
+            gave: *result.as_ref().unwrap_or(&0),
+        };
+        self.asks = Tag::of::<Asked<W>, OneMore>(&asked);
+        result
+    }
 }
 
 impl<W: Write> Tap<W> {
-    ghost use Rattle.pana_wire.specs.Tap.{inside, has_failed, noted, noted_at, bytes_taken, write_failed, IsUnread};
+    ghost use Rattle.std.specs.Prelude.{◌==◌, ◌&&◌, length, true, OnOk};
+    ghost use Rattle.pana_wire.specs.Tap.{inside, has_failed, is_flushed, noted, noted_at, bytes_taken, write_failed, IsUnread};
 
     /// Writes some of the bytes, as the writer does, and notes those that it took at the session's moment.
     pub fn write<S: Session>(&mut self, session: &S, bytes: &[u8]) -> io::Result<usize>
         ensures bound { WritesAtMost result bytes.now }
         ensures bytes { WriteAppends (W.contents (inside self.old)) (W.contents (inside self.new)) result bytes.now }
         ensures failed { has_failed self.new ≡ (has_failed self.old || write_failed result bytes.now) }
+        ensures flushed { is_flushed self.new ≡ (is_flushed self.old && (length (bytes_taken result bytes.now) == 0)) }
         ensures unread { IsUnread self.old self.new }
         ensures noted { noted self.new ≡ noted self.old ++ noted_at (S.moment session.now) (bytes_taken result bytes.now) }
     {
         let result = self.inner.write(bytes);
         match &result {
             Ok(0) if !bytes.is_empty() => self.failed = true,
-            Ok(taken) => self.note(session, &bytes[..*taken]),
+            Ok(taken) => {
+                self.flushed = self.flushed && *taken == 0;
+                self.note(session, &bytes[..*taken])
+            }
             Err(_) => self.failed = true,
         }
         result
@@ -151,12 +203,14 @@ impl<W: Write> Tap<W> {
     pub fn flush(&mut self) -> io::Result<()>
         ensures bytes { Keeps (W.contents (inside self.old)) (W.contents (inside self.new)) }
         ensures failed { has_failed self.new ≡ (has_failed self.old || is_err result) }
+        ensures flushed { OnOk result (is_flushed self.new ≡ true) }
         ensures unread { IsUnread self.old self.new }
         ensures noted { noted self.new ≡ noted self.old }
     {
         let result = self.inner.flush();
-        if result.is_err() {
-            self.failed = true;
+        match &result {
+            Ok(()) => self.flushed = true,
+            Err(_) => self.failed = true,
         }
         result
     }

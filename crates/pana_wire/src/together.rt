@@ -1,6 +1,6 @@
 //! Lines whose calls are made together, where the session keeps together what they make.
 ghost use Rattle.std.specs.Prelude.{◌≡◌, ◌<◌, ◌≤◌, ◌+◌, ◌==◌, List, ℕ, [], ◌++◌, ◌∷◌, Some, length, position, false, true, IfOk, IfErr, OnErr, OnOk};
-ghost use Rattle.pana_wire.specs.Tap.{has_failed};
+ghost use Rattle.pana_wire.specs.Tap.{has_failed, is_flushed};
 ghost use Rattle.pana_wire.specs.Lines.{ended, unended};
 ghost use Rattle.pana_wire.specs.Session.{AnswersLines};
 ghost use Rattle.pana_wire.specs.inner.Progress.{Advances, BreaksNext, Holds, IsHeldOf, IsOutFault, Puts, Releases};
@@ -38,6 +38,7 @@ pub(crate) fn take_ended<W: Write, S: Session>(
     ensures lines { IfOk result (λ served. (begun : List ℕ) → served.lines ≡ length (ended begun piece.now)) }
     ensures few { IfOk result (λ served. (served.calls ≤ served.lines) × (served.lines ≤ length piece.now)) }
     ensures works { OnOk result (has_failed writer.new ≡ false) }
+    ensures flushed { OnOk result (is_flushed writer.old ≡ true → is_flushed writer.new ≡ true) }
     ensures out { IfErr result (IsOutFault (has_failed writer.new)) }
 {
     if session.keeps_together() {
@@ -66,6 +67,7 @@ fn take_together<W: Write, S: Session>(
     ensures lines { IfOk result (λ served. (begun : List ℕ) → served.lines ≡ length (ended begun piece.now)) }
     ensures few { IfOk result (λ served. (served.calls ≤ served.lines) × (served.lines ≤ length piece.now)) }
     ensures works { OnOk result (has_failed writer.new ≡ false) }
+    ensures flushed { OnOk result (is_flushed writer.old ≡ true → is_flushed writer.new ≡ true) }
     ensures out { IfErr result (IsOutFault (has_failed writer.new)) }
 {
     let mut served = Served::NOTHING;
@@ -107,6 +109,7 @@ fn take_some<'a, W: Write, S: Session>(
     ensures lines { IfOk result (λ taken. (begun now : List ℕ) → length (ended begun piece.now) ≡ taken.served.lines + length (ended now taken.rest.now)) }
     ensures few { IfOk result (λ taken. (taken.served.calls ≤ taken.served.lines) × (taken.served.lines + length taken.rest.now ≤ length piece.now) × (1 ≤ taken.served.lines)) }
     ensures works { OnOk result (has_failed writer.new ≡ false) }
+    ensures flushed { OnOk result (is_flushed writer.old ≡ true → is_flushed writer.new ≡ true) }
     ensures out { IfErr result (IsOutFault (has_failed writer.new)) }
 {
     let Ok(mut round) = Round::new(lines.alloc()) else {
@@ -135,6 +138,7 @@ fn answer_round<W: Write, S: Session>(
         writer.old writer.new session.old session.new answers.old lines fault) }
     ensures few { IfOk result (λ served. (served.calls ≤ served.lines) × (served.lines ≡ length round.faults)) }
     ensures works { OnOk result (has_failed writer.new ≡ false) }
+    ensures flushed { OnOk result (is_flushed writer.old ≡ true → is_flushed writer.new ≡ true) }
     ensures out { IfErr result (IsOutFault (has_failed writer.new)) }
 {
     let mut texts = Vec::new(alloc);
@@ -244,6 +248,7 @@ fn put_texts<W: Write, S: Session>(
     ensures ok { OnOk result (Puts W.contents S.step S.keeps_together S.fails S.settles S.breaks_off S.moment writer.old writer.new session.old session.new answers.old answers.new texts.now) }
     ensures err { IfErr result (Holds W.contents S.step S.keeps_together S.fails S.settles S.breaks_off S.moment writer.old writer.new session.old session.new (answers.old ++ texts.now)) }
     ensures works { OnOk result (has_failed writer.new ≡ false) }
+    ensures flushed { OnOk result (is_flushed writer.old ≡ true → is_flushed writer.new ≡ true) }
     ensures out { IfErr result (IsOutFault (has_failed writer.new)) }
 {
     if answers.hold_all(texts) {
@@ -264,6 +269,7 @@ fn release_texts<W: Write, S: Session>(
     ensures empty { OnOk result (answers.new ≡ []) }
     ensures err { IfErr result (Holds W.contents S.step S.keeps_together S.fails S.settles S.breaks_off S.moment writer.old writer.new session.old session.new (answers.old ++ texts.now)) }
     ensures works { OnOk result (has_failed writer.new ≡ false) }
+    ensures flushed { OnOk result (is_flushed writer.old ≡ true → is_flushed writer.new ≡ true) }
     ensures out { IfErr result (IsOutFault (has_failed writer.new)) }
 {
     if session.settle().is_err() {

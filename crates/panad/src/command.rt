@@ -3,10 +3,10 @@
 use pana_arguments::{Arguments, CommandLine, CommandName, Unread, command_named};
 use pana_folder_commands::{scan_command, track_command};
 use pana_inquiry::{
-    history_command, lines_command, log_copy, overwrite_command, report_command, status_command,
-    watch_command, why_command,
+    history_command, overwrite_command, report_command, status_command, tables_command, why_command,
 };
 use pana_keeper::{FAULT, explain, fault_of_log, refuse};
+use pana_sessions::{KeptSessions, log_copy, run_command, watch_command};
 use pana_streams::{ProgramFault, take_standard_descriptors};
 use std::env::Env;
 use std::marker::Sync;
@@ -65,19 +65,20 @@ fn obey_arguments<T: Threads + Wait + Clock + Sync>(
     threads: &T,
     arguments: Arguments<'_>,
 ) -> Result<ExitCode, ProgramFault> {
+    let sessions = &KeptSessions;
     match arguments {
-        Arguments::Run(arguments) => lines_command::run(rt, arguments),
-        Arguments::Show(arguments) => lines_command::show(rt, arguments),
-        Arguments::Load(arguments) => lines_command::load(rt, arguments),
+        Arguments::Run(arguments) => run_command::run(rt, arguments),
+        Arguments::Show(arguments) => tables_command::show(rt, sessions, arguments),
+        Arguments::Load(arguments) => tables_command::load(rt, arguments),
         Arguments::Scan(arguments) => scan_command::run(rt, arguments),
-        Arguments::Compare(arguments) => lines_command::compare(rt, arguments),
+        Arguments::Compare(arguments) => tables_command::compare(rt, arguments),
         Arguments::Serve(arguments) => pana_serve_command::run(rt, threads, arguments),
         Arguments::Track(arguments) => track_command::run(rt, threads, arguments),
-        Arguments::Status(arguments) => status_command::run(rt, arguments),
-        Arguments::MayOverwrite(arguments) => overwrite_command::run(rt, arguments),
-        Arguments::Why(arguments) => why_command::run(rt, arguments),
-        Arguments::History(arguments) => history_command::run(rt, arguments),
-        Arguments::Report(arguments) => report_command::run(rt, arguments),
+        Arguments::Status(arguments) => status_command::run(rt, sessions, arguments),
+        Arguments::MayOverwrite(arguments) => overwrite_command::run(rt, sessions, arguments),
+        Arguments::Why(arguments) => why_command::run(rt, sessions, arguments),
+        Arguments::History(arguments) => history_command::run(rt, sessions, arguments),
+        Arguments::Report(arguments) => report_command::run(rt, sessions, arguments),
         Arguments::Watch(arguments) => watch_command::run(rt, arguments),
         Arguments::LogCopy(arguments) => log_copy::run(rt, arguments),
     }

@@ -15,6 +15,7 @@ loop-end-init g c = record {
   calls = search rules;
   few = search rules;
   works = search rules;
+  flushed = λ so. so;
 }
 
 pub loop-end-preserved : goal.loop-end-preserved
@@ -45,6 +46,7 @@ loop-end-preserved g c =
       calls = omega (arith, calls, lines, few.0, few.1, so.calls);
       few = omega (arith, lines, few.1, so.few, length-take (length rest - (end + 1)) (drop (end + 1) rest), length-drop (end + 1) rest, (found_within rest end found).1, (found_within rest end found).0);
       works = c.in_ok-answered.ensures.works;
+      flushed = λ begun. c.in_ok-answered.ensures.flushed (so.flushed begun);
     }
 
 pub returns-in_err-answered-clause-fault : goal.returns-in_err-answered-clause-fault

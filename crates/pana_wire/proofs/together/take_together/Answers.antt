@@ -22,6 +22,7 @@ loop-end-init g c = record {
   calls = search rules;
   few = search rules;
   works = search rules;
+  flushed = λ so. so;
 }
 
 pub loop-end-preserved : goal.loop-end-preserved
@@ -50,6 +51,7 @@ loop-end-preserved g c =
       calls = omega (arith, calls, lines, few.0, so.calls);
       few = omega (arith, lines, few.1, so.few);
       works = c.in_ok-taken.ensures.works;
+      flushed = λ begun. c.in_ok-taken.ensures.flushed (so.flushed begun);
     }
 
 pub returns-in_err-taken-clause-fault : goal.returns-in_err-taken-clause-fault

@@ -1,7 +1,7 @@
 -- The lines that have ended are answered, and what came since is held.
-use Rattle.std.proofs.Common.{◌≡◌, ℕ, ◌+◌, ◌≤◌, List, false, length}
+use Rattle.std.proofs.Common.{◌≡◌, ℕ, ◌+◌, ◌≤◌, List, false, true, length}
 use Rattle.pana_wire.specs.Lines.{ended}
-use Rattle.pana_wire.specs.Tap.{has_failed}
+use Rattle.pana_wire.specs.Tap.{has_failed, is_flushed}
 use Rattle.pana_wire.specs.inner.Progress.{Advances, IsHeldOf}
 use Rattle.pana_wire.specs.inner.Rounds.{IsCut}
 use Rattle.pana_wire.proofs.together.take_together.Given as goal
@@ -15,6 +15,7 @@ invariant-loop-end g l = record {
   calls : l.served.calls ≤ l.served.lines;
   few : l.served.lines + length l.rest ≤ length l.piece;
   works : has_failed l.writer ≡ false;
+  flushed : is_flushed l.fn.writer ≡ true → is_flushed l.writer ≡ true;
 }
 
 abbrev pub decreases-loop-end : goal.decreases-loop-end

@@ -1,12 +1,13 @@
 //! `panad log copy`: a journal is read, and made once more where there is none.
 
-use crate::asking::print_line;
-use crate::inquiry::{Inquiry, ask_keeper, report_to_keeper};
+use crate::sessions::{session_to_ask, session_to_report};
 use pana_arguments::{CopyArguments, KeptBy};
-use pana_calls::{NoAnswer, Session};
+use pana_calls::NoAnswer;
 use pana_history::journal_of;
-use pana_journal::{Entry, EntryList};
-use pana_keeper::{Keeper, asker, fault_of_log, keeper_of, refuse, report, report_refusal};
+use pana_journal::Entry;
+use pana_keeper::{
+    Keeper, asker, fault_of_log, keeper_of, print_line, refuse, report, report_refusal,
+};
 use pana_shared::ReadFault;
 use pana_shared_store::{FillFault, fill};
 use pana_store_file::{LogPlace, log_at};
@@ -33,23 +34,18 @@ fn report_end(
     }
 }
 
-/// A journal that is to be made.
-#[derive(Drop)]
-struct Target {
-    entries: EntryList,
-}
-
-impl Inquiry for Target {
-    /// Makes the entries, and prints how many they are.
-    fn make<S: Session>(
-        self,
-        rt: &HostRuntime,
-        session: &mut S,
-        keeper: Keeper<'_>,
-    ) -> Result<ExitCode, ProgramFault> {
-        let entries = self.entries.as_slice();
-        let end = transfer(rt.alloc(), session, &asker()?, entries);
-        report_end(rt, keeper, entries.len(), end)
+/// Reports the entries one by one, and prints how many they are.
+fn report_all(
+    rt: &HostRuntime,
+    to: Keeper<'_>,
+    entries: &[Entry],
+) -> Result<ExitCode, ProgramFault> {
+    match session_to_report(rt, to) {
+        Ok(mut session) => {
+            let end = transfer(rt.alloc(), &mut session, &asker()?, entries);
+            report_end(rt, to, entries.len(), end)
+        }
+        Err(refusal) => report_refusal(rt, refusal),
     }
 }
 
@@ -81,32 +77,23 @@ fn fill_log(
 }
 
 /// Makes the entries of a journal where it is kept.
-fn make_at(rt: &HostRuntime, to: Keeper<'_>, entries: EntryList) -> Result<ExitCode, ProgramFault> {
+fn make_at(rt: &HostRuntime, to: Keeper<'_>, entries: &[Entry]) -> Result<ExitCode, ProgramFault> {
     match to {
-        Keeper::Log(place) => fill_log(rt, place, entries.as_slice()),
-        to => report_to_keeper(rt, to, Target { entries }),
+        Keeper::Log(place) => fill_log(rt, place, entries),
+        to => report_all(rt, to, entries),
     }
 }
 
-/// A journal that is read, to be made there.
-#[derive(Drop)]
-struct Source<'a> {
-    to: Keeper<'a>,
-}
-
-impl Inquiry for Source<'_> {
-    /// Reads the journal, and has it made.
-    fn make<S: Session>(
-        self,
-        rt: &HostRuntime,
-        session: &mut S,
-        keeper: Keeper<'_>,
-    ) -> Result<ExitCode, ProgramFault> {
-        match journal_of(rt.alloc(), session, &asker()?) {
-            Ok(Some(entries)) => make_at(rt, self.to, entries),
-            Ok(None) => Err(ProgramFault::OutOfMemory),
-            Err(NoAnswer) => report(rt, keeper.no_answer()),
-        }
+/// Reads a journal, and makes it where it is to be kept.
+fn copy(rt: &HostRuntime, from: Keeper<'_>, to: Keeper<'_>) -> Result<ExitCode, ProgramFault> {
+    let mut session = match session_to_ask(rt, from) {
+        Ok(session) => session,
+        Err(refusal) => return report_refusal(rt, refusal),
+    };
+    match journal_of(rt.alloc(), &mut session, &asker()?) {
+        Ok(Some(entries)) => make_at(rt, to, entries.as_slice()),
+        Ok(None) => Err(ProgramFault::OutOfMemory),
+        Err(NoAnswer) => report(rt, from.no_answer()),
     }
 }
 
@@ -127,6 +114,6 @@ pub fn run(rt: &HostRuntime, arguments: CopyArguments<'_>) -> Result<ExitCode, P
     let CopyArguments { from, to } = arguments;
     match fault_of_words(rt, from, to)? {
         Some(reason) => refuse(rt, reason.as_str()),
-        None => ask_keeper(rt, keeper_of(from), Source { to: keeper_of(to) }),
+        None => copy(rt, keeper_of(from), keeper_of(to)),
     }
 }

@@ -1,31 +1,14 @@
-//! The commands that answer lines, or print the tables of a journal: `run`, `show`, `load`; and `compare`.
+//! The commands that print the tables of a journal: `show` and `load`; and `compare`.
 
 use crate::input::{bytes_of, bytes_of_input, cannot_read};
-use crate::keeping::{READS, run_kept, run_shared};
 use crate::show_command::show_tables;
-use pana_arguments::{CompareArguments, KeptBy, LoadArguments, RunArguments, ShowArguments};
-use pana_commands::{compare_on, load_on, run_on, show_on};
-use pana_keeper::{keeper_of, place_of, print_out, print_out_tables, print_reported};
+use pana_arguments::{CompareArguments, LoadArguments, ShowArguments};
+use pana_commands::{compare_on, load_on, show_on};
+use pana_keeper::{Sessions, keeper_of, print_out, print_out_tables, print_reported};
 use pana_log::ends_journal;
 use pana_store::before_end;
-use pana_streams::{ProgramFault, Tables, output, terminal_width};
-use pana_wire::Tap;
+use pana_streams::{ProgramFault, Tables, terminal_width};
 use std::process::ExitCode;
-
-/// Answers lines of standard input.
-pub fn run(rt: &HostRuntime, arguments: RunArguments<'_>) -> Result<ExitCode, ProgramFault> {
-    match arguments.kept_by {
-        Some(KeptBy::Journal(name)) => return run_kept(rt, name),
-        Some(KeptBy::Log(log)) => return run_shared(rt, place_of(log)),
-        _ => {}
-    }
-    let mut reader = Tap::new(rt.reader());
-    let mut writer = Tap::new(output(rt)?);
-    match run_on(rt.alloc(), &mut reader, &mut writer, READS) {
-        Ok(_) => Ok(ExitCode::SUCCESS),
-        Err(fault) => Err(ProgramFault::of_serving(fault)),
-    }
-}
 
 /// Prints the tables of the journal that lines leave, of a file or of standard input.
 fn show_lines(rt: &HostRuntime, file: Option<&str>) -> Result<ExitCode, ProgramFault> {
@@ -41,10 +24,19 @@ fn show_lines(rt: &HostRuntime, file: Option<&str>) -> Result<ExitCode, ProgramF
 }
 
 /// Prints tables.
-pub fn show(rt: &HostRuntime, arguments: ShowArguments<'_>) -> Result<ExitCode, ProgramFault> {
+pub fn show<K: Sessions>(
+    rt: &HostRuntime,
+    sessions: &K,
+    arguments: ShowArguments<'_>,
+) -> Result<ExitCode, ProgramFault> {
     match arguments {
         ShowArguments::OfLines(file) => show_lines(rt, file),
-        ShowArguments::Kept(kept_by, wanted) => show_tables(rt, keeper_of(kept_by), wanted),
+        ShowArguments::Kept(kept_by, wanted) => show_tables(
+            rt,
+            sessions,
+            keeper_of(kept_by),
+            wanted,
+        ),
     }
 }
 
