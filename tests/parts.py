@@ -48,7 +48,7 @@ PARTS = (
     ("what a terminal gets", "check_terminal.py", "=panad"),
     ("disks that fail", "check_disks.py", "=panad"),
     ("sixteen clients at once", "check_clients.py", "=panad"),
-    ("the memory of many copies", "check_memory.py", "=panad"),
+    ("the memory of many copies, and allocations", "check_memory.py", "=panad"),
     ("the pages' commands", "check_pages.py", "+panad", *(f"+{it}" for it in PAGES)),
     ("a tunnel to the daemon", "check_tunnel.py", "=panad"),
     ("completions and the service", "check_share.py", "=panad"),

@@ -1,5 +1,5 @@
 ghost use Rattle.std.specs.Prelude.{◌≡◌, IfSome};
-ghost use Rattle.pana_calls.specs.Parts.{board_in, counts_in, families_in, holdings_in, journal_in, standing_in, status_in};
+ghost use Rattle.pana_calls.specs.Parts.{board_in, counts_in, families_in, holdings_in, journal_in, status_in};
 ghost use Rattle.pana_calls.specs.declared.answer.Answer.TheVariants.{Given};
 ghost use Rattle.pana_calls.specs.declared.reply.Reply.TheVariants as replies;
 
@@ -8,7 +8,7 @@ use crate::family_row::FamilyRow;
 use crate::hall_counts::HallCounts;
 use crate::holding::HoldingList;
 use crate::reply::Reply;
-use crate::standing::{CopyStanding, StatusRow};
+use crate::standing::StatusRow;
 use pana_journal::EntryList;
 use pana_list::PlainList;
 use std::error::Error;
@@ -61,17 +61,6 @@ impl Answer {
     {
         match self {
             Answer::Given(reply) => reply.into_holdings(),
-            Answer::NotKept => None,
-        }
-    }
-
-    /// How the copy at the place stands, if one is there that it has, if it is such an answer.
-    pub fn into_standing(self) -> Option<Option<CopyStanding>>
-        ensures part { result ≡ standing_in self }
-        ensures answer { IfSome result (λ standing. self ≡ Given (replies.At standing)) }
-    {
-        match self {
-            Answer::Given(reply) => reply.into_standing(),
             Answer::NotKept => None,
         }
     }

@@ -39,3 +39,18 @@ fn puts_in_between(rt: HostRuntime) -> Result<(), Fail> {
     assert_eq!(rt; table.rel(3, 2), Rel::Conflict);
     Ok(())
 }
+
+#[test]
+fn sets_like(rt: HostRuntime) -> Result<(), Fail> {
+    let mut table = PairTable::new(rt.alloc(), 1)?;
+    table.reserve()?;
+    table.insert_like(1, 2);
+    table.reserve()?;
+    table.insert_row(3, [Rel::Older, Rel::Conflict].as_slice());
+    table.edited(1);
+    table.set_like(1, 2);
+    assert_eq!(rt; table.rel(1, 2), Rel::Equal);
+    assert_eq!(rt; table.rel(2, 3), Rel::Newer);
+    assert_eq!(rt; table.rel(3, 2), Rel::Older);
+    Ok(())
+}

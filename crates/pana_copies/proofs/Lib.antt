@@ -7,3 +7,4 @@ pub mod DeviceBytes
 pub mod DeviceText
 pub mod SumOrder
 pub mod Sums
+pub mod SumDigits

@@ -7,16 +7,11 @@ ghost use Rattle.pana_copies.specs.Sums.{is_sum, is_sum_digit};
 ghost use Rattle.pana_copies.specs.inner.SumBytes.{AreSumBytes};
 
 use crate::name_fault::NameFault;
+use crate::sum_text::{BYTES, DIGITS, SumText};
 use hex::{decode_to_slice, encode, encode_to_slice};
 use std::alloc::{AllocError, Global};
 use std::cmp::Ordering;
 use std::marker::Model;
-
-/// How many digits a sum has.
-const DIGITS: usize = 64;
-
-/// How many bytes they stand for.
-const BYTES: usize = 32;
 
 /// The SHA-256 of a file's bytes: 64 of `0` to `9` and `a` to `f`.
 ///
@@ -149,6 +144,14 @@ impl Sum {
         ensures { result ≡ slice_cmp nat_cmp self.now other.now }
     {
         self.bytes.as_slice().cmp(other.bytes.as_slice())
+    }
+
+    /// The sum's digits. Takes no memory.
+    pub fn digits(&self) -> SumText
+        ensures text { result ≡ self.now }
+        ensures sum { is_sum self.now ≡ true }
+    {
+        SumText::of_bytes(&self.bytes)
     }
 
     /// The sum as text. Fails only where memory runs out.

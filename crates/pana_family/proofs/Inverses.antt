@@ -1,9 +1,9 @@
 -- Each change of rows has an inverse.
-use Rattle.pana_family.proofs.Words.{◌≡◌, ◌≢◌, ◌==◌, ◌+◌, ◌<◌, ℕ, Bool, true, false, cond, Option, Some, None, List, [], ◌∷◌, ◌++◌, length, take, drop, reverse, suc, zero, ◌||◌, position, IfSome}
-use Rattle.pana_family.proofs.Words.{slice_index_or, option_map, list_any, refl, sym, ap, subst, ◌∙◌, inl, inr, arith, get_or, set, append_assoc, take_more, at_drop_more, eq-eqb, nat_tests, StampRow}
+use Rattle.pana_family.proofs.Words.{◌≡◌, ◌≢◌, ◌==◌, ◌+◌, ◌<◌, ℕ, true, false, cond, Option, Some, None, List, [], ◌∷◌, ◌++◌, length, take, drop, reverse, suc, zero, ◌||◌, position, IfSome}
+use Rattle.pana_family.proofs.Words.{slice_index_or, option_map, list_any, refl, sym, ap, subst, ◌∙◌, inl, inr, arith, get_or, set, append_assoc, take_more, at_drop_more, nat_tests, StampRow}
 use Rattle.pana_family.proofs.Words.{Exchange, Put, Take, Change, Rows, In, IsRising, dropped, put_back, renewed, row_at, number_of, placed, placed_all, formers, puts, mapped, with_event, with_touch}
 use Rattle.pana_family.proofs.Words.{changed, inverse, exchanged_all, after, IfNone, reverse-append, length-take-le, set_at, get_or_at, at_number, is_put}
-use Rattle.std.proofs.{Math.Path.fun_ext, lemmas.List.Sums.sum_by-append}
+use Rattle.std.proofs.{Math.Path.fun_ext}
 use Rattle.pana_family.specs.declared.change.Change.TheVariants.{Event as Renew, Touch}
 use Rattle.pana_family.proofs.{Members.above_low, Backs.same_rows, Backs.rising_put}
 use Rattle.pana_family.proofs.Places.{in_at, is_found, rising_dropped, row_in_at, first_found}
@@ -80,14 +80,6 @@ search_found n o rows up is = grind (arith, nat_tests, none_at, first_found, is_
 pub absent_at : (n at : ℕ) (d : StampRow) (rows : List StampRow) → IsRising 0 rows → row_at rows n ≡ None → at < length rows → (get_or rows at d).copy ≢ n
 absent_at n at d rows up none within e = grind (arith, nat_tests, row_in_at, in_at)
 
-pub none_dropped : (n : ℕ) (rows : List StampRow) → row_at (dropped n rows) n ≡ None
-none_dropped n rows = ap (λ (f : ℕ → Option StampRow). f n) (row_dropped n rows) ∙ ap (λ (b : Bool). cond b None (row_at rows n)) (eq-eqb n n refl)
-
--- a row that is put where another was taken out
-pub row_exchanged : (x : StampRow) (rows : List StampRow) → row_at (put_back x (dropped x.copy rows)) ≡ placed (Put x) (row_at rows)
-row_exchanged x rows = row_put x (dropped x.copy rows) ∙ ap (placed (Put x)) (row_dropped x.copy rows)
-    ∙ fun_ext (λ n. grind (arith, nat_tests))
-
 -- One exchange after another.
 
 formers_more : (xs : List Exchange) (x : Exchange) (rows : ℕ → Option StampRow) → formers (xs ++ x ∷ []) rows ≡ formers xs rows ++ at_number (number_of x) (placed_all xs rows (number_of x)) ∷ []
@@ -163,6 +155,17 @@ mapped_at c at f r x rows seen up same within found read is keeps =
       rising_set 0 at x r rows up here.0 (grind (arith, nat_tests)),
       ap (λ (q : StampRow). row_at (set rows at q)) made ∙ set_mapped 0 c at f r rows up here.0 named keeps,
     )
+
+-- a row that takes the place of the one with its number
+pub replaced_at : (at : ℕ) (r x : StampRow) (rows seen : List StampRow) → IsRising 0 rows → seen ≡ rows → at < length seen → row_at seen x.copy ≡ Some (get_or seen at r) → r ≡ get_or rows at r
+    → IsRising 0 (set rows at x) × (row_at (set rows at x) ≡ placed (Put x) (row_at rows)) × (row_at rows x.copy ≡ Some r)
+replaced_at at r x rows seen up same within found read =
+    let f : StampRow → StampRow = λ q. record { copy = q.copy; holder = x.holder; stamp = x.stamp; touch = x.touch } in
+    let here : row_at rows x.copy ≡ Some r = grind (arith, nat_tests) in
+    let named : r.copy ≡ x.copy = named_at rows x.copy r here in
+    let made : x ≡ f r = ap (λ (n : ℕ). record { copy = n; holder = x.holder; stamp = x.stamp; touch = x.touch }) (sym named) in
+    let both = mapped_at x.copy at f r x rows seen up same within found read made (λ q. refl) in
+    (both.0, both.1 ∙ fun_ext (λ n. grind (arith, nat_tests)), here)
 
 -- Lists of rows.
 

@@ -1,14 +1,17 @@
 -- The table of relations after a Reconcile and a Merge.
 use Rattle.pana_family.proofs.Words.{◌≡◌, ◌≢◌, ◌↔◌, ℕ, ◌≤◌, Bool, true, false, cond, ◌||◌, ◌==◌, List, [], ◌∷◌, ◌++◌, ◌⊎◌, Some, None, Contains, filter_map, refl, sym, ap, subst, ◌∙◌, inl, inr, arith}
 use Rattle.pana_family.proofs.Words.{cases_Bool, eqb-true, eqb-false, ne_eqb, or_cases, or_parts, nat_tests, Id, AtPoints, IsSum, Event, IsSound, IsJoin, level, IsBelow, is_leq, IsRelation}
-use Rattle.pana_family.proofs.Words.{leq-is-below, below-is-leq, and_parts, tested_relation, Rel, Equal, Older, Newer, Conflict, Table, Holds, rel_of, with_copy, with_row, without, IsRaised, Stamp, StampRow, Merge, Reconcile, has, In}
+use Rattle.pana_family.proofs.Words.{leq-is-below, below-is-leq, and_parts, tested_relation, Rel, Equal, Older, Newer, Conflict, Table, Holds, rel_of, with_row, IsRaised, Stamp, StampRow, Merge, Reconcile, has, In}
 use Rattle.pana_family.proofs.Words.{IsRising, lives, row_in, is_copy, ArePaired, AreCompared, HasCopies, IsReady, is_other, first_part, joined_stamp, reported_rows, second_part, settled, shared, updated_stamp}
 use Rattle.std.proofs.lemmas.Bool.{and_from}
+use Rattle.pana_family.proofs.Words.{◌+◌, ◌<◌, zero, suc, length, map, filter, take, nat_lt, get_or, copy_rows}
 use Rattle.pana_event.proofs.Sound.{IsJoin-joined}
 use Rattle.pana_family.specs.inner.Uniting.{IsUniting, IsDecided, are_below, is_at_least, is_at_most, is_one_above}
 use Rattle.pana_id.specs.Id.{has as owns}
-use Rattle.pana_family.proofs.{Members.in_append, Members.in_left, Members.not_held, Members.one_row, Places.free_from, Images.in_made, Images.to_made, Compared.row_compared, Following.all_followed}
-use Rattle.pana_family.proofs.Copies.{in_with_copy, in_without_copy, lives_from, living_at, with_copy_new, with_copy_old, without_other}
+use Rattle.pana_rel.specs.Pairs.{liked_row, place_of}
+use Rattle.pana_rel.proofs.Places.{place_within}
+use Rattle.pana_family.proofs.{Places.in_read, Members.above_low, Members.in_append, Members.in_left, Members.not_held, Members.one_row, Places.free_from, Images.in_made, Images.to_made, Compared.row_compared, Following.all_followed}
+use Rattle.pana_family.proofs.Copies.{ByPlaces, copies_are, lives_from, living_at}
 use Rattle.pana_family.proofs.{Keeps.merge_raised, Keeps.two_rows, Shares.AreTwo, Shares.whole_is}
 
 -- Two events.
@@ -38,6 +41,43 @@ decided e f known below above s t is same tested =
 -- another copy's row
 pub other_is : (copy : ℕ) (r : StampRow) → is_other copy r ≡ true → (r.holder ≡ None) × (r.copy ≢ copy)
 other_is copy r is = grind (arith, nat_tests, free_from)
+
+-- Places among the copies.
+
+-- the copy of a row at i, where that of c comes before all
+place_before : (c low i : ℕ) (r : StampRow) (rows : List StampRow) → IsRising low rows → c < low → i < length rows → r ≡ get_or rows i r → is_copy r.holder ≡ true
+    → place_of r.copy (map (λ q. q.copy) (copy_rows rows)) ≡ length (filter (is_other c) (take i rows))
+place_before c low i r [] up below within is free = absurd (omega arith)
+place_before c low zero r (q ∷ rows) up below within is free = grind (arith, nat_tests)
+place_before c low (suc i) r (q ∷ rows) up below within is free =
+    let more = place_before c (q.copy + 1) i r rows up.1 (omega (arith, up.0)) (omega arith) is free in
+    let later : q.copy < r.copy = omega (arith, above_low (q.copy + 1) rows r up.1 (in_read rows i r (omega arith) is)) in
+    grind (arith, nat_tests)
+
+-- the copy of another row at i, by the others before it
+place_among : (low i : ℕ) (row r : StampRow) (rows : List StampRow) → IsRising low rows → In row rows → row.holder ≡ None → i < length rows → r ≡ get_or rows i r → is_other row.copy r ≡ true
+    → place_of r.copy (map (λ q. q.copy) (copy_rows rows)) ≡ length (filter (is_other row.copy) (take i rows)) + cond (nat_lt row.copy r.copy) 1 0
+place_among low i row r [] up here free within is other = absurd here
+place_among low zero row r (q ∷ rows) up here free within is other = grind (arith, nat_tests, above_low)
+place_among low (suc i) row r (q ∷ rows) up here free within is other =
+    let later : q.copy < r.copy = omega (arith, above_low (q.copy + 1) rows r up.1 (in_read rows i r (omega arith) is)) in
+    elim here [
+      | inl e ↦
+          let rest = place_before row.copy (q.copy + 1) i r rows up.1 (grind (arith, nat_tests)) (omega arith) is (grind (arith, nat_tests)) in
+          grind (arith, nat_tests)
+      | inr j ↦
+          let rest = place_among (q.copy + 1) i row r rows up.1 j free (omega arith) is other in
+          let after : q.copy < row.copy = omega (arith, above_low (q.copy + 1) rows row up.1 j) in
+          grind (arith, nat_tests)
+    ]
+
+-- where the table has the copy of another row at i
+pub placed : (rows : List StampRow) (copies : List ℕ) (row r : StampRow) (i at : ℕ) → IsRising 0 rows → ByPlaces copies → ((c : ℕ) → Contains copies c ↔ (lives rows c ≡ true)) → In row rows → row.holder ≡ None
+    → i < length rows → r ≡ get_or rows i r → is_other row.copy r ≡ true → at ≡ length (filter (is_other row.copy) (take i rows)) + cond (nat_lt row.copy r.copy) 1 0 → (place_of r.copy copies ≡ at) × (at < length copies)
+placed rows copies row r i at up places has_copies here free within is other at_is =
+    let place : place_of r.copy copies ≡ at = ap (place_of r.copy) (copies_are rows copies up places has_copies) ∙ place_among 0 i row r rows up here free within is other ∙ sym at_is in
+    let there : Contains copies r.copy = (has_copies r.copy).1 (lives_from rows r (in_read rows i r within is) (other_is row.copy r other).0) in
+    (place, omega (arith, place, place_within copies r.copy there))
 
 -- Unions.
 
@@ -202,43 +242,27 @@ merge_uniting n a b rows new pairs w is p =
 
 -- The second copy.
 
--- it is taken out, and put in as the first
-pub put_like : (rows : List StampRow) (a b : ℕ) (old mid new : Table) → IsRising 0 rows → lives rows a ≡ true → lives rows b ≡ true → a ≢ b → HasCopies rows old → AreCompared (b ∷ []) rows old
+-- it was set like the first
+pub made_like : (rows : List StampRow) (a b : ℕ) (old new : Table) → IsRising 0 rows → lives rows a ≡ true → lives rows b ≡ true → a ≢ b → HasCopies rows old → AreCompared (b ∷ []) rows old
     → ((x y : StampRow) → In x rows → In y rows → x.copy ≡ a → y.copy ≡ b → x.stamp.event ≡ y.stamp.event)
-    → mid.copies ≡ without b old.copies → Holds mid (rel_of old) → ((c : ℕ) → Contains mid.copies c → rel_of mid c c ≡ Equal)
-    → new.copies ≡ with_copy b mid.copies → Holds new (with_row b (rel_of mid a) (rel_of mid)) → ArePaired rows new
-put_like rows a b old mid new up first second differ copies was same out holds itself put holds' =
+    → ((c : ℕ) → Contains old.copies c → rel_of old c c ≡ Equal) → new.copies ≡ old.copies → Holds new (with_row b (liked_row b (rel_of old a)) (rel_of old)) → ArePaired rows new
+made_like rows a b old new up first second differ copies was same itself kept holds =
     let x = living_at rows a first in
     let y = living_at rows b second in
-    let in_mid : (c : ℕ) → lives rows c ≡ true → c ≢ b → Contains mid.copies c = λ c alive ne. subst (λ (cs : List ℕ). Contains cs c) (sym out) (without_other b c old.copies ((copies c).1 alive) ne) in
-    let has_all : HasCopies rows new = λ c. (
-      (λ here. elim (in_with_copy b c mid.copies (subst (λ (cs : List ℕ). Contains cs c) put here)) [
-        | inl e ↦ subst (λ (k : ℕ). lives rows k ≡ true) (sym e) second
-        | inr k ↦ (copies c).0 (in_without_copy b c old.copies (subst (λ (cs : List ℕ). Contains cs c) out k)).0
-      ]),
-      λ alive. subst (λ (cs : List ℕ). Contains cs c) (sym put) (elim (cases_Bool (c == b)) [
-        | inl e ↦ subst (Contains (with_copy b mid.copies)) (sym (eqb-true c b e)) (with_copy_new b mid.copies)
-        | inr ne ↦ with_copy_old b c mid.copies (in_mid c alive (eqb-false c b ne))
-      ]),
-    ) in
+    let has_all : HasCopies rows new = subst (λ (cs : List ℕ). (c : ℕ) → Contains cs c ↔ (lives rows c ≡ true)) (sym kept) copies in
     let other : (c : ℕ) → c ≢ b → has (b ∷ []) c ≡ false = λ c ne. ap (λ (v : Bool). v || false) (ne_eqb b c (λ e. ne (sym e))) in
-    let kept : (c d : ℕ) → lives rows c ≡ true → lives rows d ≡ true → c ≢ b → d ≢ b → rel_of mid c d ≡ rel_of old c d = λ c d one two nc nd. holds c d (in_mid c one nc) (in_mid d two nd) in
-    let mid_rels : AreCompared (b ∷ []) rows mid = λ r q i j free also ne o o'.
-    let nr : r.copy ≢ b = λ e. eqb-false b r.copy (or_parts (b == r.copy) false o).0 (sym e) in
-    let nq : q.copy ≢ b = λ e. eqb-false b q.copy (or_parts (b == q.copy) false o').0 (sym e) in
-    subst (IsRelation r.stamp.event q.stamp.event) (sym (kept r.copy q.copy (lives_from rows r i free) (lives_from rows q j also) nr nq)) (was r q i j free also ne o o') in
     all_followed rows new has_all
-    (row_compared b y.0 (rel_of mid a) rows mid new [] up y.1 y.2 has_all holds'
-    (λ z i free ne. subst (λ (e : Event). IsRelation e z.stamp.event (rel_of mid a z.copy)) (same x.0 y.0 x.1 y.1 x.2 y.2)
-    (elim (cases_Bool (z.copy == a)) [
+    (row_compared b y.0 (liked_row b (rel_of old a)) rows old new [] up y.1 y.2 has_all holds
+    (λ z i free ne. subst (λ (e : Event). IsRelation e z.stamp.event (liked_row b (rel_of old a) z.copy)) (same x.0 y.0 x.1 y.1 x.2 y.2)
+    (rw (ne_eqb z.copy b ne) (elim (cases_Bool (z.copy == a)) [
       | inl e ↦
           let is : z.copy ≡ a = eqb-true z.copy a e in
           let one : z ≡ x.0 = one_row 0 rows z x.0 up i x.1 (is ∙ sym x.2) in
-          subst (IsRelation x.0.stamp.event z.stamp.event) (sym (ap (rel_of mid a) is ∙ itself a (in_mid a first differ)))
+          subst (IsRelation x.0.stamp.event z.stamp.event) (sym (ap (rel_of old a) is ∙ itself a ((copies a).1 first)))
           (subst (λ (q : StampRow). IsRelation x.0.stamp.event q.stamp.event Equal) (sym one) (record { levels = λ p long. omega arith }, record { levels = λ p long. omega arith }))
       | inr na ↦
           let ne_a : x.0.copy ≢ z.copy = λ e. eqb-false z.copy a na (sym e ∙ x.2) in
-          subst (λ (k : ℕ). IsRelation x.0.stamp.event z.stamp.event (rel_of mid k z.copy)) x.2
-          (mid_rels x.0 z x.1 i x.3 free ne_a (other x.0.copy (λ e. differ (sym x.2 ∙ e))) (other z.copy ne))
-    ]))
-    mid_rels)
+          subst (λ (k : ℕ). IsRelation x.0.stamp.event z.stamp.event (rel_of old k z.copy)) x.2
+          (was x.0 z x.1 i x.3 free ne_a (other x.0.copy (λ e. differ (sym x.2 ∙ e))) (other z.copy ne))
+    ])))
+    was)

@@ -75,7 +75,7 @@ abbrev pub touch_back : Change → ℕ → Option StampRow → Change
 touch_back same copy None = same
 touch_back same copy (Some r) = Touch copy r.touch
 
--- the change that takes a change of these rows back
+-- the change that takes a change of these rows back, its rows in the same box
 abbrev pub inverse : Change → (ℕ → Option StampRow) → Change
 inverse (Renew copy event touch) rows = event_back (Renew copy event touch) copy (rows copy)
 inverse (Touch copy touch) rows = touch_back (Touch copy touch) copy (rows copy)

@@ -10,7 +10,7 @@ ghost use Rattle.pana_family.specs.Rows.{AreBefore, copy_rows, divides, held_row
 
 use crate::board::{FamilyBoard, board_of};
 use crate::family::Family;
-use crate::searching::{are_before, copy_numbers, count_copies, held_count, index_of, lives};
+use crate::searching::{are_before, count_copies, held_count, index_of, lives};
 use crate::stamps::{all_valid, stamps_of};
 use pana_calls::CopyStamp;
 use pana_event::Rel;
@@ -40,16 +40,11 @@ impl Family {
         count_copies(&self.items)
     }
 
-    /// The numbers of the living copies, by rising number.
-    ///
-    /// # Errors
-    ///
-    /// `AllocError` where an allocation failed.
-    pub fn living(&self) -> Result<PlainList<u64>, AllocError>
-        ensures { IfOk result (λ numbers. numbers ≡ map (λ row. row.copy) (copy_rows self.now.rows)) }
+    /// The numbers of the living copies, by rising number. Takes no memory; O(1).
+    pub fn living(&self) -> &[u64]
+        ensures { result.now ≡ map (λ row. row.copy) (copy_rows self.now.rows) }
     {
-        let numbers = copy_numbers(self.alloc, &self.items)?;
-        Ok(PlainList::from_vec(numbers))
+        self.pairs.copies()
     }
 
     /// How many parcels the copy holds. Takes no memory.

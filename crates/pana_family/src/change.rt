@@ -2,6 +2,7 @@
 ghost use Rattle.std.specs.Prelude.{◌≡◌, ◌+◌, ◌<◌, ◌≤◌, None, count_by, length, reverse, vec_len, vec_capacity, [], ◌∷◌};
 ghost use Rattle.std.specs.Option.{option_len};
 ghost use Rattle.pana_family.specs.Rows.{IsRising, dropped, put_back, row_at};
+ghost use Rattle.pana_family.specs.declared.change.Exchange.TheVariants.{Put};
 ghost use Rattle.pana_family.specs.Change.{number_of, at_number, placed, placed_all, formers, is_put, puts, changed, inverse, room_of};
 
 use crate::making::renew;
@@ -115,6 +116,25 @@ fn take_row(items: &mut Vec<StampRow>, copy: u64) -> Option<StampRow>
     }
 }
 
+/// Puts a row at its number, and returns the row that stood there, if there was one. Takes no memory.
+fn put_row(items: &mut Vec<StampRow>, row: StampRow) -> Option<StampRow>
+    requires rising { IsRising 0 items.old.items }
+    requires room { vec_len items.old + 1 ≤ vec_capacity items.old }
+    ensures rising { IsRising 0 items.new.items }
+    ensures rows { row_at items.new.items ≡ placed (Put row) (row_at items.old.items) }
+    ensures former { result ≡ row_at items.old.items row.copy }
+    ensures len { vec_len items.new + option_len result ≡ vec_len items.old + 1 }
+    ensures capacity { vec_capacity items.old ≤ vec_capacity items.new }
+{
+    match row_position(items, row.copy) {
+        Some(at) => Some(mem::replace(&mut items[at], row)),
+        None => {
+            insert_row(items, row);
+            None
+        }
+    }
+}
+
 /// Exchanges the row at one number, and returns the exchange that takes it back. Takes no memory.
 fn exchange_one(items: &mut Vec<StampRow>, new: Exchange) -> Exchange
     requires rising { IsRising 0 items.old.items }
@@ -128,14 +148,9 @@ fn exchange_one(items: &mut Vec<StampRow>, new: Exchange) -> Exchange
     match new {
         Exchange::Put(row) => {
             let number = row.copy;
-            let former = take_row(items, number);
-            insert_row(items, row);
-            at_number(number, former)
+            at_number(number, put_row(items, row))
         }
-        Exchange::Take(number) => {
-            let former = take_row(items, number);
-            at_number(number, former)
-        }
+        Exchange::Take(number) => at_number(number, take_row(items, number)),
     }
 }
 

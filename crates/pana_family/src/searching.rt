@@ -1,12 +1,11 @@
 //! Finding rows.
-ghost use Rattle.std.specs.Prelude.{◌≡◌, ◌<◌, ◌==◌, ◌&&◌, true, Some, None, IfSome, IfNone, length, nat_le, position, slice_index_or, count_by, IsTrue, ◌↔◌, IfOk, map};
+ghost use Rattle.std.specs.Prelude.{◌≡◌, ◌<◌, ◌==◌, ◌&&◌, true, Some, None, IfSome, IfNone, length, nat_le, position, slice_index_or, count_by, IsTrue, ◌↔◌};
 ghost use Rattle.std.specs.List.{position_or_len, list_all};
 ghost use Rattle.pana_family.specs.declared.row.StampRow.{StampRow as RowValue};
 ghost use Rattle.pana_family.specs.Rows.{row_at, IsRising, lives, copy_rows, held_rows, AreBefore, is_below};
 ghost use Rattle.pana_family.specs.{inner.Making.IsRowOf, Holders.is_copy, Holders.is_held};
 
 use crate::row::StampRow;
-use std::alloc::{AllocError, Global};
 
 /// Whether the row is a copy's, and not a parcel's.
 pub fn is_copy(row: &StampRow) -> bool
@@ -132,17 +131,4 @@ fn all_before(rows: &[StampRow], entry: u64) -> bool
     ensures { result ≡ list_all (is_below entry) rows.now }
 {
     rows.iter().all(|row| is_before(row, entry))
-}
-
-/// The numbers of the copies.
-pub fn copy_numbers(alloc: Global, rows: &[StampRow]) -> Result<Vec<u64>, AllocError>
-    ensures { IfOk result (λ numbers. numbers.items ≡ map (λ row. row.copy) (copy_rows rows.now)) }
-{
-    let mut numbers = Vec::new(alloc);
-    for row in rows {
-        if is_copy(row) {
-            numbers.push(row.copy)?;
-        }
-    }
-    Ok(numbers)
 }

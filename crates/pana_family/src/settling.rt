@@ -1,5 +1,5 @@
 //! Settling copies: what becomes of each row when copies get the ids of the parcels that end.
-ghost use Rattle.std.specs.Prelude.{◌≡◌, ◌++◌, List, Some, filter_map, IfOk, IfSome, OnOk};
+ghost use Rattle.std.specs.Prelude.{◌≡◌, ◌++◌, ℕ, true, List, Some, filter_map, IfOk, IfSome, OnOk};
 ghost use Rattle.std.specs.Option.{option_to_list};
 ghost use Rattle.pana_id.specs.Id.{sum_of, SharesNoPoint};
 ghost use Rattle.pana_family.specs.declared.row.StampRow.{StampRow as OfRow};
@@ -11,7 +11,7 @@ ghost use Rattle.pana_family.specs.inner.Exchanging.{AddsPlanned, came_behind};
 use crate::change::{Change, Exchange};
 use crate::making::copy_of;
 use crate::row::StampRow;
-use crate::searching::is_held;
+use crate::searching::{is_copy, is_held};
 use pana_event::EventTree;
 use pana_id::IdTree;
 use pana_stamp::Stamp;
@@ -253,6 +253,18 @@ fn add_exchange(
     }
 }
 
+/// Whether the row is that of a copy which the plan doesn't name, so that it stays.
+fn is_apart(row: &StampRow, plan: &Plan) -> bool
+    ensures { (entry : ℕ) (rows : List OfRow) → result ≡ true → planned entry plan.now rows row.now ≡ Some row.now }
+{
+    let (first, second) = match plan {
+        Plan::Share(a, b, _, _) => (*a, *b),
+        Plan::Lose(copy) => (*copy, *copy),
+        Plan::Bequeath(copy, heir, _) => (*copy, *heir),
+    };
+    is_copy(row) && row.copy != first && row.copy != second
+}
+
 /// The exchanges that leave of each row what becomes of it by the plan.
 fn exchanges(
     alloc: Global,
@@ -267,7 +279,9 @@ fn exchanges(
 {
     let mut news = SmallVec::new(alloc);
     for row in rows {
-        add_exchange(alloc, rows, row, entry, plan, &mut news)?;
+        if !is_apart(row, plan) {
+            add_exchange(alloc, rows, row, entry, plan, &mut news)?;
+        }
     }
     Ok(news)
 }

@@ -1,5 +1,5 @@
 //! The table of relations after two copies have come to share what both know.
-ghost use Rattle.std.specs.Prelude.{◌≡◌, ◌≢◌, ℕ, ◌∷◌, [], ◌≤◌, true, None, List, Contains, length, take, filter};
+ghost use Rattle.std.specs.Prelude.{◌≡◌, ◌≢◌, ℕ, ◌+◌, ◌<◌, ◌^◌, ◌∷◌, [], ◌≤◌, nat_lt, if◌then◌else◌, true, None, List, Contains, length, take, filter};
 ghost use Rattle.pana_event.specs.Order.{IsBelow, is_leq};
 ghost use Rattle.pana_rel.specs.Pairs.{rel_of};
 ghost use Rattle.pana_family.specs.declared.row.StampRow.{StampRow as RowValue};
@@ -92,6 +92,19 @@ fn united_relation(
     decided_relation(row, other, below, above)
 }
 
+/// The place of another row's copy among all copies, which are in the order of their rows, where so many but this row's own
+/// come before it.
+fn place_behind(row: &StampRow, other: &StampRow, others: usize) -> usize
+    requires { others + 1 < 2 ^ 64 }
+    ensures { result ≡ others + (if nat_lt row.now.copy other.now.copy then 1 else 0) }
+{
+    if row.copy < other.copy {
+        others + 1
+    } else {
+        others
+    }
+}
+
 /// Writes down how the copy of a row that was united with `b` relates to the other copies, in their order. Returns how
 /// many they are.
 fn write_united(
@@ -103,6 +116,7 @@ fn write_united(
     rels: &mut [Rel],
 ) -> usize
     requires room { length (filter (is_other row.now.copy) rows.now) ≤ length rels.old }
+    requires rising { IsRising 0 rows.now }
     requires copies { HasCopies rows.now pairs.now }
     requires here { In row.now rows.now }
     requires free { row.now.holder ≡ None }
@@ -111,12 +125,13 @@ fn write_united(
     ensures within { result ≤ length rels.new }
     ensures rels { take result rels.new ≡ relations row.now rows.now }
 {
+    let _ = pairs.copies();
     let first = pairs.row(row.copy);
     let second = pairs.row(b);
     let mut count = 0;
     for other in rows {
         if is_other(other, row.copy) {
-            let at = pairs.place(other.copy);
+            let at = place_behind(row, other, count);
             rels[count] = united_relation(row, other, b, first[at], second[at], updated);
             count += 1;
         }
@@ -157,9 +172,8 @@ fn set_like(rows: &[StampRow], pairs: &mut PairTable, a: u64, b: u64)
     ensures paired { ArePaired rows.now pairs.new }
     ensures room { most pairs.new ≡ most pairs.old }
 {
-    pairs.drop_copy(b);
     let _ = pairs.copies();
-    pairs.insert_like(a, b);
+    pairs.set_like(a, b);
 }
 
 /// Makes the table that of the rows, in which `a` and `b` have come to share what both know, and an update besides where

@@ -1,5 +1,5 @@
 //! How the copies of a family relate to one of them, and what that makes of it.
-ghost use Rattle.std.specs.Prelude.{◌≡◌, IfOk, count_by, find, map};
+ghost use Rattle.std.specs.Prelude.{◌≡◌, count_by, find, map};
 ghost use Rattle.pana_event.specs.declared.rel.Rel.TheVariants as rels;
 ghost use Rattle.pana_family.specs.{Rows.copy_rows, Updates.has};
 ghost use Rattle.pana_rel.specs.Board.{is_rel};
@@ -9,9 +9,9 @@ ghost use Rattle.pana_hall.specs.inner.Relatives.{counts_in, first_number, relat
 use crate::listed_family::ListedFamily;
 use pana_calls::CopyState;
 use pana_event::Rel;
-use pana_list::PlainList;
 use pana_rel::Counts;
-use std::alloc::{AllocError, Global};
+use smallvec::SmallVec;
+use std::slice;
 
 /// A copy, and how it relates to another of its family.
 #[derive(Clone, Copy)]
@@ -20,13 +20,25 @@ pub struct Relative {
     pub rel: Rel,
 }
 
+impl Default for Relative {
+    fn default() -> Relative {
+        Relative {
+            copy: 0,
+            rel: Rel::Equal,
+        }
+    }
+}
+
+/// The relatives of a copy. Those of most copies have room in the list itself.
+pub type Relatives = SmallVec<Relative, 8>;
+
 impl ListedFamily {
-    /// The numbers of the living copies, by rising number. Fails only where memory runs out.
-    pub fn living(&self, alloc: Global) -> Result<PlainList<u64>, AllocError>
-        ensures { IfOk result (λ numbers. numbers ≡ map (λ row. row.copy) (copy_rows (listed self.now).rows)) }
+    /// The numbers of the living copies, by rising number. Takes no memory; O(1).
+    pub fn living(&self) -> &[u64]
+        ensures { result.now ≡ map (λ row. row.copy) (copy_rows (listed self.now).rows) }
     {
         match self {
-            ListedFamily::New(entry) => Ok(PlainList::from_vec(vec![in alloc; *entry]?)),
+            ListedFamily::New(entry) => slice::from_ref(entry),
             ListedFamily::Changed(it) => it.family().living(),
         }
     }

@@ -6,11 +6,12 @@ ghost use Rattle.pana_hall.specs.{Living.copy_in, Living.living, Refusal.query_r
 ghost use Rattle.pana_hall.specs.Status.{is_asked, is_newest, standing_at, standing_of, state_among, status_row, status_rows};
 ghost use Rattle.pana_hall.specs.inner.Relatives.{first_number, placed_at, relative, relatives_of, newest_with, replaces, row_in, with_in};
 
-use crate::relating::{Relative, counts_of, first_in_conflict, first_newest, state_of};
+use crate::relating::{Relative, Relatives, counts_of, first_in_conflict, first_newest, state_of};
 use crate::state::State;
 use pana_calls::{CopyStanding, CopyState, PlacedCopy, Query, StatusRow};
 use pana_copies::{DeviceName, Place};
 use pana_event::Rel;
+use smallvec::SmallVec;
 use std::alloc::{AllocError, Global};
 
 /// How many rows a status has at most.
@@ -23,12 +24,13 @@ impl State {
         alloc: Global,
         copy: u64,
         numbers: &[u64],
-    ) -> Result<Vec<Relative>, AllocError>
+    ) -> Result<Relatives, AllocError>
         requires kept { IsHeld self.now }
         requires free { AllByRecursion (λ other. query_refusal self.now.journal.entries (living self.now.journal.entries) (Query.Pair other copy) ≡ None) numbers.now }
         ensures { IfOk result (λ made. made.items ≡ map (relative (living self.now.journal.entries) copy) numbers.now) }
     {
-        let mut made = Vec::with_capacity(alloc, numbers.len())?;
+        let mut made = SmallVec::new(alloc);
+        made.reserve(numbers.len())?;
         for other in numbers {
             made.push(Relative {
                 copy: *other,
@@ -39,13 +41,12 @@ impl State {
     }
 
     /// The living copies of a living copy's family, by rising number, each with how it relates to that. O(n log n) for n copies.
-    pub fn relatives(&self, alloc: Global, copy: u64) -> Result<Vec<Relative>, AllocError>
+    pub fn relatives(&self, alloc: Global, copy: u64) -> Result<Relatives, AllocError>
         requires kept { IsHeld self.now }
         requires lives { IsSome (copy_in (living self.now.journal.entries) copy) }
         ensures { IfOk result (λ made. made.items ≡ relatives_of self.now.journal.entries copy) }
     {
-        let numbers = self.family(copy).living(alloc)?;
-        self.relatives_among(alloc, copy, numbers.as_slice())
+        self.relatives_among(alloc, copy, self.family(copy).living())
     }
 
     /// How a living copy stands among the copies of its family.

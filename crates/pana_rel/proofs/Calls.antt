@@ -1,5 +1,5 @@
 -- What the calls of a table return, from its copies and rows.
-use Rattle.std.proofs.Common.{◌≡◌, ℕ, Bool, true, false, ◌+◌, ◌-◌, ◌<◌, ◌≤◌, List, [], ◌∷◌, ◌++◌, length, get_or, take, refl, ap, sym, subst, ◌∙◌, inl, inr, arith}
+use Rattle.std.proofs.Common.{◌≡◌, ℕ, Bool, true, false, ◌+◌, ◌-◌, ◌<◌, List, [], ◌∷◌, ◌++◌, length, get_or, take, refl, ap, sym, subst, ◌∙◌, arith}
 use Rattle.std.specs.Prelude.{◌↔◌, if◌then◌else◌, Contains, filter, count_by, map}
 use Rattle.std.proofs.lemmas.List.{append-nil, ext_get_or, get_or-map, get_or_read, length-map}
 use Rattle.std.proofs.lemmas.List.Elements.{filter_more}
@@ -7,7 +7,7 @@ use Rattle.pana_event.specs.declared.rel.Rel.{Rel}
 use Rattle.pana_event.specs.declared.rel.Rel.TheVariants.{Equal, Older, Newer, Conflict}
 use Rattle.pana_event.specs.Relation.{reverse_of}
 use Rattle.pana_rel.specs.declared.counts.Counts.{Counts}
-use Rattle.pana_rel.specs.Board.{counts_of, is_rel, is_split, relates}
+use Rattle.pana_rel.specs.Board.{counts_of, is_split, relates}
 use Rattle.pana_rel.specs.Pairs.{Table, own_number, place_of, rel_at, rel_of}
 use Rattle.pana_rel.specs.inner.Square.{Relations, counts_in, rel_in, row_in, table_of, AreAllCounted, AreCounted, AreSelfEqual, IsKept, IsTorn}
 use Rattle.pana_rel.proofs.Boards.{copy_at, counted_equal, counted_others, split_is}

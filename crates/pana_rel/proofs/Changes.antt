@@ -8,7 +8,7 @@ use Rattle.std.proofs.lemmas.List.Edits.{length-insert, length-remove, get_or-in
 use Rattle.pana_event.specs.declared.rel.Rel.{Rel}
 use Rattle.pana_event.specs.declared.rel.Rel.TheVariants.{Equal}
 use Rattle.pana_event.specs.Relation.{reverse_of}
-use Rattle.pana_rel.specs.Pairs.{Table, edited_rel, edited_row, place_of, rel_at, rel_of, with_row, without}
+use Rattle.pana_rel.specs.Pairs.{Table, edited_rel, edited_row, liked_row, place_of, rel_at, rel_of, with_row, without}
 use Rattle.pana_rel.specs.inner.Square.{Relations, rel_in, row_in, table_of, up, IsKept, IsWide}
 use Rattle.pana_rel.proofs.Orders.{contains_remove, others_at, rising_remove, without_is}
 use Rattle.pana_rel.proofs.Places.{place_reads, place_within, same_place, up_remove, up_within}
@@ -128,6 +128,41 @@ filled_call cs rows slice new final room now copy at rels row kept view filled s
     λ b there. ap (λ r. get_or r (place_of b cs) Equal) filled ∙ ap (λ k. get_or (insert rels k Equal) (place_of b cs) Equal) place
     ∙ sym (others_at cs rels copy b kept.rising here long there) in
     record { kept = done.kept; holds = holds_row cs final copy (rel_at cs row.items) (rel_at (without copy cs) rels) rel done.holds alike })
+
+-- what a copy that was made like another leaves
+abbrev pub Likens : List ℕ → List Relations → ℕ → ℕ → ℕ → ℕ → List ℕ → (ℕ → ℕ → Rel) → Type 0
+Likens cs final source copy from at copies rel =
+    Contains copies source → Contains copies copy → from ≡ place_of source copies → at ≡ place_of copy copies → IsReplaced cs final copy (liked_row copy (rel source)) rel
+
+pub likened_call : (cs : List ℕ) (rows slice new final : List Relations) (room : ℕ) (now : Table) (source copy from at : ℕ) → IsKept cs rows → table_of cs rows room ≡ now
+    → slice ≡ rows → length new ≡ length slice → (row_in new at).items ≡ slice_set (row_in slice from).items at Equal
+    → ((i : ℕ) → i < length slice → ¬ (i ≡ at) → (row_in new i).items ≡ slice_set (row_in slice i).items at (reverse_of (get_or (row_in slice from).items i Equal)))
+    → final ≡ new → Likens cs final source copy from at now.copies (rel_of now)
+likened_call cs rows slice new final room now source copy from at kept view same tall own others end =
+    at_table cs rows room now (Likens cs final source copy from at) view (λ there here from_is place.
+    let rel = rel_in cs rows in
+    let given : List Rel = slice_set (row_in rows from).items at Equal in
+    let within : at < length rows = omega (arith, place, kept.tall, place_within cs copy here) in
+    let wide : length (row_in rows from).items ≡ length rows = kept.wide from (omega (arith, from_is, kept.tall, place_within cs source there)) in
+    let m : AreMirrored rows final at given = record {
+      tall = ap length end ∙ tall ∙ ap length same;
+      own = ap (λ r. (row_in r at).items) end ∙ own ∙ ap (λ r. slice_set (row_in r from).items at Equal) same;
+      others = λ i h apart. ap (λ r. (row_in r i).items) end ∙ others i (omega (arith, h, ap length same)) apart
+          ∙ ap (λ r. slice_set (row_in r i).items at (reverse_of (get_or (row_in r from).items i Equal))) same
+          ∙ ap (λ x. slice_set (row_in rows i).items at (reverse_of x)) (sym (get_or-set_other (row_in rows from).items at i Equal Equal apart));
+    } in
+    let equal : get_or given (place_of copy cs) Equal ≡ Equal =
+    ap (λ k. get_or given k Equal) (sym place) ∙ get_or-set_same (row_in rows from).items at Equal Equal (omega (arith, within, wide)) in
+    let long : length given ≡ length cs = length-set (row_in rows from).items at Equal ∙ wide ∙ kept.tall in
+    let done = replaced cs rows final copy given kept here long equal (subst (λ k. AreMirrored rows final k given) place m) in
+    let alike : (b : ℕ) → Contains cs b → rel_at cs given b ≡ liked_row copy (rel source) b =
+    λ b inb. (elim (cases_eq b copy) [
+      | inl one ↦ ap (λ c. get_or given (place_of c cs) Equal) one ∙ equal ∙ sym (rw (eq-eqb b copy one) refl)
+      | inr two ↦
+          get_or-set_other (row_in rows from).items at (place_of b cs) Equal Equal (λ p. two (same_place cs b copy inb here (p ∙ place)))
+          ∙ ap (λ k. get_or (row_in rows k).items (place_of b cs) Equal) from_is ∙ sym (rw (ne_eqb b copy two) refl)
+    ]) in
+    record { kept = done.kept; holds = holds_row cs final copy (rel_at cs given) (liked_row copy (rel source)) rel done.holds alike })
 
 -- a copy's row has Equal in its own place
 abbrev pub Owns : ℕ → ℕ → Relations → List ℕ → (ℕ → ℕ → Rel) → Type 0

@@ -42,6 +42,10 @@ edited_rel Conflict = Conflict
 abbrev pub edited_row : ℕ → (ℕ → Rel) → ℕ → Rel
 edited_row copy row other = if other == copy then Equal else edited_rel (row other)
 
+-- the relations of a copy that relates to the others as one with these does, and is equal to that one
+abbrev pub liked_row : ℕ → (ℕ → Rel) → ℕ → Rel
+liked_row copy row other = if other == copy then Equal else row other
+
 -- the copies without one
 abbrev pub without : ℕ → List ℕ → List ℕ
 without copy copies = filter (λ other. not (other == copy)) copies

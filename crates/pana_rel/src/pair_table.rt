@@ -1,9 +1,9 @@
 //! How each of some copies relates to each.
-ghost use Rattle.std.specs.Prelude.{◌≡◌, ℕ, ◌+◌, ◌<◌, ◌≤◌, [], ◌∷◌, Contains, IfOk, OnErr, OnOk, length, map, slice_index_or};
+ghost use Rattle.std.specs.Prelude.{◌≡◌, ◌≢◌, ℕ, ◌+◌, ◌<◌, ◌≤◌, [], ◌∷◌, Contains, IfOk, OnErr, OnOk, length, map, slice_index_or};
 ghost use Rattle.pana_event.specs.declared.rel.Rel.TheVariants.{Equal};
 ghost use Rattle.pana_event.specs.Relation.{reverse_of};
 ghost use Rattle.pana_rel.specs.Board.{counts_of, is_split, newest_of};
-ghost use Rattle.pana_rel.specs.Pairs.{edited_row, own_number, place_of, rel_at, rel_of, with_copy, with_row, without, Holds};
+ghost use Rattle.pana_rel.specs.Pairs.{edited_row, liked_row, own_number, place_of, rel_at, rel_of, with_copy, with_row, without, Holds};
 ghost use Rattle.pana_rel.specs.inner.Square.{IsGap};
 
 use crate::counts::{Counts, PairBoard};
@@ -166,6 +166,20 @@ impl PairTable {
         rows::mirror(&mut self.rows, at);
     }
 
+    /// Makes a copy relate to the others as another does, and Equal to that one. Takes no memory; O(copies).
+    pub fn set_like(&mut self, source: u64, copy: u64)
+        requires source { Contains self.old.copies source }
+        requires copy { Contains self.old.copies copy }
+        requires differ { source ≢ copy }
+        ensures copies { self.new.copies ≡ self.old.copies }
+        ensures pairs { Holds self.new (with_row copy (liked_row copy (rel_of self.old source)) (rel_of self.old)) }
+        ensures room { self.new.room ≡ self.old.room }
+    {
+        let from = self.place(source);
+        let at = self.place(copy);
+        rows::set_like(self.alloc, &mut self.rows, from, at);
+    }
+
     /// Takes a copy out, and leaves room for one more. Takes no memory; O(copies) where it has the greatest number,
     /// else it moves what comes behind it.
     pub fn drop_copy(&mut self, copy: u64)
@@ -239,7 +253,7 @@ impl PairTable {
     }
 
     /// The place of a copy among all copies. Takes no memory; O(log copies).
-    pub fn place(&self, copy: u64) -> usize
+    fn place(&self, copy: u64) -> usize
         requires { Contains self.now.copies copy }
         ensures place { result ≡ place_of copy self.now.copies }
         ensures within { result < length self.now.copies }

@@ -70,6 +70,15 @@ impl Row {
         })
     }
 
+    /// A row without relations or room. Takes no memory; O(1).
+    pub(crate) fn empty(alloc: Global) -> Row
+        ensures { result.items ≡ [] }
+    {
+        Row {
+            rels: Vec::new(alloc),
+        }
+    }
+
     /// The relations. Takes no memory; O(1).
     pub(crate) fn as_slice(&self) -> &[Rel]
         ensures { result.now ≡ self.now.items }
@@ -99,6 +108,17 @@ impl Row {
         ensures room { self.new.room ≡ self.old.room }
     {
         self.rels[at] = rel;
+    }
+
+    /// Puts as many other relations in the place of these, and Equal to the copy at a place. Takes no memory.
+    pub(crate) fn set_all(&mut self, rels: &[Rel], at: usize)
+        requires long { length self.old.items ≡ length rels.now }
+        requires within { at < length rels.now }
+        ensures items { self.new.items ≡ slice_set rels.now at Equal }
+        ensures room { self.new.room ≡ self.old.room }
+    {
+        self.rels.as_mut_slice().copy_from_slice(rels);
+        self.rels[at] = Rel::Equal;
     }
 
     /// Makes room for one more relation. What fails changes no relation.

@@ -10,6 +10,7 @@ use crate::counts::Counts;
 use crate::row::Row;
 use pana_event::Rel;
 use std::alloc::{AllocError, Global};
+use std::mem;
 
 /// How a copy that was edited relates to another, from how it did before.
 fn edited(rel: Rel) -> Rel
@@ -68,6 +69,37 @@ pub(crate) fn mirror(rows: &mut [Row], at: usize)
             rows[i].set(at, rel.reversed());
         }
     }
+}
+
+/// Makes the row at a place that of another place, but Equal to its own copy. Takes no memory.
+fn copy_row(alloc: Global, rows: &mut [Row], from: usize, at: usize)
+    requires from { from < length rows.old }
+    requires at { at < length rows.old }
+    requires differ { ¬ (from ≡ at) }
+    requires wide { IsWide rows.old }
+    ensures tall { length rows.new ≡ length rows.old }
+    ensures rooms { (i : ℕ) → (row_in rows.new i).room ≡ (row_in rows.old i).room }
+    ensures own { (row_in rows.new at).items ≡ slice_set (row_in rows.old from).items at Equal }
+    ensures others { (i : ℕ) → ¬ (i ≡ at) → row_in rows.new i ≡ row_in rows.old i }
+{
+    let mut row = mem::replace(&mut rows[at], Row::empty(alloc));
+    row.set_all(rows[from].as_slice(), at);
+    rows[at] = row;
+}
+
+/// Makes the copy at a place relate to the others as that at another place does, and Equal to that one. Takes no memory.
+pub(crate) fn set_like(alloc: Global, rows: &mut [Row], from: usize, at: usize)
+    requires from { from < length rows.old }
+    requires at { at < length rows.old }
+    requires differ { ¬ (from ≡ at) }
+    requires wide { IsWide rows.old }
+    ensures tall { length rows.new ≡ length rows.old }
+    ensures rooms { (i : ℕ) → (row_in rows.new i).room ≡ (row_in rows.old i).room }
+    ensures own { (row_in rows.new at).items ≡ slice_set (row_in rows.old from).items at Equal }
+    ensures others { (i : ℕ) → i < length rows.old → ¬ (i ≡ at) → (row_in rows.new i).items ≡ slice_set (row_in rows.old i).items at (reverse_of (slice_index_or (row_in rows.old from).items i Equal)) }
+{
+    copy_row(alloc, rows, from, at);
+    mirror(rows, at);
 }
 
 /// Makes room in each row for one more relation. What fails changes no relation.

@@ -9,30 +9,46 @@ use itoa::Buffer;
 use pana_stamp::Stamp;
 use std::alloc::{AllocError, Global};
 
+/// How many bytes a text has room for at first. Few texts are longer.
+const FIRST_ROOM: usize = 128;
+
 /// Appends the text of an id.
 #[tactic(auto, using(crate::proofs::Appends::appends))]
 fn write_id(text: &mut String, id: &pana_id::Node) -> Result<(), AllocError>
     ensures { OnOk result (string_bytes text.new ≡ string_bytes text.old ++ id_text (id_of id.now)) }
 {
     match id {
-        pana_id::Node::Zero => text.push_str("0"),
-        pana_id::Node::One => text.push_str("1"),
+        pana_id::Node::Zero => text.push('0'),
+        pana_id::Node::One => text.push('1'),
         pana_id::Node::Pair(halves) => {
-            text.push_str("(")?;
+            text.push('(')?;
             write_id(text, &halves.left)?;
-            text.push_str(",")?;
+            text.push(',')?;
             write_id(text, &halves.right)?;
-            text.push_str(")")
+            text.push(')')
         }
     }
 }
 
-/// Appends the digits of a number.
-fn write_number(text: &mut String, number: u64) -> Result<(), AllocError>
+/// Appends the digits of any number: apart, since most have one digit and need no buffer.
+#[inline(never)]
+fn write_digits(text: &mut String, number: u64) -> Result<(), AllocError>
     ensures { OnOk result (string_bytes text.new ≡ string_bytes text.old ++ decimal number) }
 {
     let mut digits = Buffer::new();
     text.push_str(digits.format(number))
+}
+
+/// Appends the digits of a number.
+#[tactic(auto, using(std::proofs::lemmas::Fmt::decimal_digit))]
+#[inline(always)]
+fn write_number(text: &mut String, number: u64) -> Result<(), AllocError>
+    ensures { OnOk result (string_bytes text.new ≡ string_bytes text.old ++ decimal number) }
+{
+    if number < 10 {
+        return text.push((b'0' + number as u8) as char);
+    }
+    write_digits(text, number)
 }
 
 /// Appends the text of an event.
@@ -43,13 +59,13 @@ fn write_event(text: &mut String, event: &pana_event::Node) -> Result<(), AllocE
     match event {
         pana_event::Node::Leaf(number) => write_number(text, *number),
         pana_event::Node::Fork(number, halves) => {
-            text.push_str("(")?;
+            text.push('(')?;
             write_number(text, *number)?;
-            text.push_str(",")?;
+            text.push(',')?;
             write_event(text, &halves.left)?;
-            text.push_str(",")?;
+            text.push(',')?;
             write_event(text, &halves.right)?;
-            text.push_str(")")
+            text.push(')')
         }
     }
 }
@@ -58,16 +74,16 @@ fn write_event(text: &mut String, event: &pana_event::Node) -> Result<(), AllocE
 ///
 /// # Errors
 ///
-/// `AllocError` where an allocation failed. Visits each node once.
+/// `AllocError` where an allocation failed. Visits each node once. A text of up to 128 bytes takes one allocation.
 #[tactic(auto, using(crate::proofs::Appends::appends))]
 pub fn write(alloc: Global, stamp: &Stamp) -> Result<String, AllocError>
     ensures { IfOk result (λ text. string_bytes text ≡ stamp_text stamp.now.id stamp.now.event) }
 {
-    let mut text = String::new(alloc);
-    text.push_str("(")?;
+    let mut text = String::with_capacity(alloc, FIRST_ROOM)?;
+    text.push('(')?;
     write_id(&mut text, stamp.id().node())?;
-    text.push_str(",")?;
+    text.push(',')?;
     write_event(&mut text, stamp.event_tree().node())?;
-    text.push_str(")")?;
+    text.push(')')?;
     Ok(text)
 }

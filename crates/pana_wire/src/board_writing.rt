@@ -11,7 +11,7 @@ impl WriteJson for BoardRow {
 
     ghost json = { row_data };
 
-    fn write(&self, _alloc: Global, out: &mut Writer<Global>) -> Result<(), AllocError> {
+    fn write(&self, out: &mut Writer<Global>) -> Result<(), AllocError> {
         out.begin_object()?;
         write_count(out, "conflict", self.conflict)?;
         write_number(out, "copy", self.copy)?;
@@ -29,13 +29,13 @@ impl WriteJson for BoardView {
 
     ghost json = { board_data };
 
-    fn write(&self, alloc: Global, out: &mut Writer<Global>) -> Result<(), AllocError> {
+    fn write(&self, out: &mut Writer<Global>) -> Result<(), AllocError> {
         out.begin_object()?;
         out.key("copies")?;
-        write_list(alloc, out, self.rows.as_slice())?;
+        write_list(out, self.rows.as_slice())?;
         write_number(out, "family", self.family)?;
         out.key("newest")?;
-        write_list(alloc, out, self.newest.as_slice())?;
+        write_list(out, self.newest.as_slice())?;
         write_flag(out, "split", self.split)?;
         out.end_object()
     }
@@ -47,7 +47,7 @@ impl WriteJson for FamilyRow {
     ghost json = { family_data };
 
     #[tactic(auto, unfolding(crate::specs::Reply::family_data))]
-    fn write(&self, _alloc: Global, out: &mut Writer<Global>) -> Result<(), AllocError> {
+    fn write(&self, out: &mut Writer<Global>) -> Result<(), AllocError> {
         out.begin_object()?;
         write_count(out, "copies", self.copies)?;
         write_number(out, "family", self.family)?;
@@ -62,7 +62,7 @@ impl WriteJson for CopyStamp {
 
     ghost json = { stamp_data };
 
-    fn write(&self, _alloc: Global, out: &mut Writer<Global>) -> Result<(), AllocError> {
+    fn write(&self, out: &mut Writer<Global>) -> Result<(), AllocError> {
         out.begin_object()?;
         write_number(out, "copy", self.copy)?;
         write_text(out, "stamp", self.text.as_str())?;

@@ -15,33 +15,25 @@ use std::alloc::{AllocError, Global};
 
 /// Writes the object of an entry. Fails only where memory runs out.
 #[tactic(auto, unfolding(crate::specs::Report::entry_data))]
-pub(crate) fn write_entry(
-    alloc: Global,
-    out: &mut Writer<Global>,
-    entry: &Entry,
-) -> Result<(), AllocError>
+pub(crate) fn write_entry(out: &mut Writer<Global>, entry: &Entry) -> Result<(), AllocError>
     ensures tokens { OnOk result (out.new.tokens ≡ out.old.tokens ++ json_tokens (outline (entry_data entry.now))) }
     ensures before { OnOk result (out.new.before ≡ out.old.before) }
     ensures known { OnOk result (IsKnown entry.now) }
 {
-    write_report(alloc, out, &entry.by, &entry.report, Some(entry.number))?;
+    write_report(out, &entry.by, &entry.report, Some(entry.number))?;
     Ok(())
 }
 
 /// Writes an array of the objects of these entries. Fails only where memory runs out.
 #[tactic(auto, unfolding(crate::specs::Reply::entries_data))]
-pub(crate) fn write_entries(
-    alloc: Global,
-    out: &mut Writer<Global>,
-    entries: &[Entry],
-) -> Result<(), AllocError>
+pub(crate) fn write_entries(out: &mut Writer<Global>, entries: &[Entry]) -> Result<(), AllocError>
     ensures tokens { OnOk result (out.new.tokens ≡ out.old.tokens ++ json_tokens (outline (entries_data entries.now))) }
     ensures before { OnOk result (out.new.before ≡ out.old.before) }
     ensures known { OnOk result (All IsKnown entries.now) }
 {
     out.begin_array()?;
     for entry in entries {
-        write_entry(alloc, out, entry)?;
+        write_entry(out, entry)?;
     }
     out.end_array()?;
     Ok(())
@@ -52,6 +44,6 @@ pub(crate) fn encode_one(alloc: Global, entry: &Entry) -> Result<String, AllocEr
     ensures { IfOk result (λ text. IsTextOf entry.now (string_bytes text)) }
 {
     let mut out = begun_text(first_room(alloc)?);
-    write_entry(alloc, &mut out, entry)?;
+    write_entry(&mut out, entry)?;
     Ok(written_text(out))
 }

@@ -1,5 +1,5 @@
 //! Flat objects: objects in JSON of texts, whole numbers and `null` alone.
-ghost use Rattle.std.specs.Prelude.{◌≡◌, ◌==◌, ◌∷◌, IfSome, Some, option_map, slice_index};
+ghost use Rattle.std.specs.Prelude.{◌≡◌, ◌==◌, [], ◌∷◌, IfSome, Some, option_map, slice_index};
 ghost use Rattle.json.specs.Print.{IsNumber};
 ghost use Rattle.json.specs.Token.{end_object};
 ghost use Rattle.serde_json.specs.Data.{unsigned};
@@ -11,10 +11,8 @@ use crate::field::Field;
 use crate::object::Object;
 use fast_float::Numeral;
 use json::{Reader, Scratch, Token, is_number};
+use smallvec::SmallVec;
 use std::alloc::Global;
-
-/// How many members an object has room for at first.
-const MOST_MEMBERS: usize = 8;
 
 /// What a member has.
 #[derive(Clone, Copy)]
@@ -31,47 +29,82 @@ pub struct Member<'a> {
     pub content: Content<'a>,
 }
 
+impl<'a> Default for Member<'a> {
+    fn default() -> Member<'a> {
+        Member {
+            name: "",
+            content: Content::Null,
+        }
+    }
+}
+
+/// Members in their order. A line of most words has no more than there is room for in the list itself.
+pub type Members<'a> = SmallVec<Member<'a>, 6>;
+
 /// An object whose members have texts, numbers of 64 bits or `null`. Its texts are borrowed.
 #[derive(Drop)]
 pub struct FlatObject<'a> {
-    pub members: Vec<Member<'a>>,
+    pub members: Members<'a>,
 }
 
-/// The flat object that a text is, where it is one, and memory suffices to read it.
-pub fn flat_object<'a>(
-    alloc: Global,
+impl<'a> FlatObject<'a> {
+    /// No member yet. Takes no memory.
+    pub fn new(alloc: Global) -> FlatObject<'a>
+        ensures { result.members.items ≡ [] }
+    {
+        FlatObject {
+            members: SmallVec::new(alloc),
+        }
+    }
+}
+
+/// Reads the members of the flat object that a text is; none where it isn't one, or memory doesn't suffice to read it.
+// The object is lent, since it is large to be moved.
+pub fn read_flat<'a>(
     text: &'a str,
     scratch: &'a mut Scratch<Global>,
-) -> Option<FlatObject<'a>>
-    ensures { IfSome result (λ object. read text.now ≡ Some (flat_json object)) }
+    object: &mut FlatObject<'a>,
+) -> Option<()>
+    requires { object.old.members.items ≡ [] }
+    ensures { IfSome result (λ _. read text.now ≡ Some (flat_json object.new)) }
 {
     let mut reader = Reader::new(text, scratch).ok()?;
     let Some(Token::BeginObject) = reader.next() else {
         return None;
     };
-    let members = members_in(alloc, &mut reader)?;
+    read_members(&mut reader, &mut object.members)?;
     match reader.next() {
         Some(_) => None,
-        None => Some(FlatObject { members }),
+        None => Some(()),
     }
 }
 
-/// The members up to the brace behind the last.
-pub fn members_in<'a>(alloc: Global, reader: &mut Reader<'a>) -> Option<Vec<Member<'a>>>
-    ensures tokens { IfSome result (λ members. reader.old ≡ members_then members.items (end_object ∷ reader.new)) }
-    ensures sound { IfSome result (λ members. AreSound members.items) }
+/// Reads members up to the brace behind the last.
+pub fn read_members<'a>(reader: &mut Reader<'a>, members: &mut Members<'a>) -> Option<()>
+    requires { members.old.items ≡ [] }
+    ensures tokens { IfSome result (λ _. reader.old ≡ members_then members.new.items (end_object ∷ reader.new)) }
+    ensures sound { IfSome result (λ _. AreSound members.new.items) }
 {
-    let mut members = Vec::with_capacity(alloc, MOST_MEMBERS).ok()?;
     loop {
         match reader.next()? {
             Token::Key(name) => {
                 let content = content_in(reader)?;
                 members.push(Member { name, content }).ok()?;
             }
-            Token::EndObject => return Some(members),
+            Token::EndObject => return Some(()),
             _ => return None,
         }
     }
+}
+
+/// The members up to the brace behind the last.
+pub fn members_in<'a>(alloc: Global, reader: &mut Reader<'a>) -> Option<Members<'a>>
+    ensures tokens { IfSome result (λ members. reader.old ≡ members_then members.items (end_object ∷ reader.new)) }
+    ensures sound { IfSome result (λ members. AreSound members.items) }
+{
+    let mut members = SmallVec::new(alloc);
+    read_members(reader, &mut members)?;
+    Some(members)
 }
 
 fn content_in<'a>(reader: &mut Reader<'a>) -> Option<Content<'a>>
@@ -108,7 +141,7 @@ impl<'a> FlatObject<'a> {
         ensures { option_map content_data result ≡ get name.now (flat_json self.now) }
     {
         let mut found = None;
-        for member in &self.members {
+        for member in self.members.as_slice() {
             if member.name == name {
                 found = Some(member.content);
             }

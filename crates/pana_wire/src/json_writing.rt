@@ -26,7 +26,7 @@ pub(crate) trait WriteJson {
     ghost json: { Self → Data };
 
     /// Writes its tokens behind what is written. Fails only where memory runs out.
-    fn write(&self, alloc: Global, out: &mut Writer<Global>) -> Result<(), AllocError>
+    fn write(&self, out: &mut Writer<Global>) -> Result<(), AllocError>
         ensures tokens { OnOk result (out.new.tokens ≡ out.old.tokens ++ json_tokens (outline (json self.now))) }
         ensures before { OnOk result (out.new.before ≡ out.old.before) };
 }
@@ -36,7 +36,7 @@ impl WriteJson for u64 {
 
     ghost json = { number_data };
 
-    fn write(&self, _alloc: Global, out: &mut Writer<Global>) -> Result<(), AllocError> {
+    fn write(&self, out: &mut Writer<Global>) -> Result<(), AllocError> {
         out.u64(*self)
     }
 }
@@ -46,9 +46,9 @@ impl<T: WriteJson> WriteJson for Option<T> {
 
     ghost json = { data_or_null T.json };
 
-    fn write(&self, alloc: Global, out: &mut Writer<Global>) -> Result<(), AllocError> {
+    fn write(&self, out: &mut Writer<Global>) -> Result<(), AllocError> {
         match self {
-            Some(content) => content.write(alloc, out),
+            Some(content) => content.write(out),
             None => out.null(),
         }
     }
@@ -56,7 +56,8 @@ impl<T: WriteJson> WriteJson for Option<T> {
 
 /// Writes a member: its name and its content. Fails only where memory runs out, as those below.
 ///
-/// These are inlined, so that each name is a constant where it is written, and to look for what is escaped in it takes no time.
+/// These are inlined, so that each name is a constant where it is written: then LLVM can inline the kit's `key` too, and nothing is
+/// looked for that is escaped in it.
 #[inline(always)]
 pub(crate) fn write_number(
     out: &mut Writer<Global>,
@@ -146,7 +147,6 @@ pub(crate) fn write_flag(out: &mut Writer<Global>, name: &str, flag: bool) -> Re
 /// Writes a member where its content is given, and else nothing.
 #[inline(always)]
 pub(crate) fn write_sum(
-    alloc: Global,
     out: &mut Writer<Global>,
     name: &str,
     sum: Option<&Sum>,
@@ -156,17 +156,13 @@ pub(crate) fn write_sum(
     ensures sum { OnOk result (IsSumOrNone (option_copied sum.entry)) }
 {
     match sum {
-        Some(sum) => {
-            let text = sum.text(alloc)?;
-            write_text(out, name, text.as_str())
-        }
+        Some(sum) => write_text(out, name, sum.digits().as_str()),
         None => Ok(()),
     }
 }
 
 /// Writes an array of these. Fails only where memory runs out.
 pub(crate) fn write_list<T: WriteJson>(
-    alloc: Global,
     out: &mut Writer<Global>,
     items: &[T],
 ) -> Result<(), AllocError>
@@ -175,7 +171,7 @@ pub(crate) fn write_list<T: WriteJson>(
 {
     out.begin_array()?;
     for item in items {
-        item.write(alloc, out)?;
+        item.write(out)?;
     }
     out.end_array()
 }
@@ -201,7 +197,6 @@ pub(crate) fn begun_text(room: Vec<u8>) -> Writer<Global>
 
 /// The text of an object with one member, in the room that is given. Fails only where memory runs out.
 pub(crate) fn member_text<T: WriteJson>(
-    alloc: Global,
     room: Vec<u8>,
     name: &str,
     content: &T,
@@ -213,14 +208,13 @@ pub(crate) fn member_text<T: WriteJson>(
     let mut out = begun_text(room);
     out.begin_object()?;
     out.key(name)?;
-    content.write(alloc, &mut out)?;
+    content.write(&mut out)?;
     out.end_object()?;
     Ok(written_bytes(out))
 }
 
 /// The text of an object whose one member is an array of these, in the room that is given. Fails only where memory runs out.
 pub(crate) fn list_text<T: WriteJson>(
-    alloc: Global,
     room: Vec<u8>,
     name: &str,
     items: &[T],
@@ -232,7 +226,7 @@ pub(crate) fn list_text<T: WriteJson>(
     let mut out = begun_text(room);
     out.begin_object()?;
     out.key(name)?;
-    write_list(alloc, &mut out, items)?;
+    write_list(&mut out, items)?;
     out.end_object()?;
     Ok(written_bytes(out))
 }

@@ -4,7 +4,7 @@ ghost use Rattle.pana_wire.specs.Line.{Gives, IsText, Shows, text_within, data_i
 
 use crate::fault::WireFault;
 use crate::field::Field;
-use crate::flat_object::flat_object;
+use crate::flat_object::{FlatObject, read_flat};
 use crate::object::Object;
 use crate::word::{Word, word_of};
 use json::Scratch;
@@ -77,7 +77,8 @@ impl LineReader {
     {
         let LineReader { alloc, scratch, .. } = self;
         let text = text_within(line, LONGEST_LINE)?;
-        if let Some(object) = flat_object(*alloc, text, scratch) {
+        let mut object = FlatObject::new(*alloc);
+        if let Some(()) = read_flat(text, scratch, &mut object) {
             return message_in(*alloc, &object);
         }
         let value = value_in(*alloc, text)?;

@@ -21,12 +21,12 @@ impl WriteJson for Holding {
 
     ghost json = { holding_data };
 
-    fn write(&self, alloc: Global, out: &mut Writer<Global>) -> Result<(), AllocError> {
+    fn write(&self, out: &mut Writer<Global>) -> Result<(), AllocError> {
         out.begin_object()?;
         write_number(out, "copy", self.copy)?;
         write_number(out, "family", self.family)?;
         write_text(out, "path", self.path.as_str())?;
-        write_sum(alloc, out, "sum", lent(&self.sum))?;
+        write_sum(out, "sum", lent(&self.sum))?;
         write_number(out, "touch", self.touch)?;
         out.end_object()
     }
@@ -37,7 +37,7 @@ impl WriteJson for CopyStanding {
 
     ghost json = { λ standing. with_sum standing.sum (standing_data standing) };
 
-    fn write(&self, alloc: Global, out: &mut Writer<Global>) -> Result<(), AllocError> {
+    fn write(&self, out: &mut Writer<Global>) -> Result<(), AllocError> {
         out.begin_object()?;
         write_number(out, "conflict", self.conflict)?;
         write_number(out, "copy", self.copy)?;
@@ -46,7 +46,7 @@ impl WriteJson for CopyStanding {
         write_number(out, "newer", self.newer)?;
         write_number(out, "older", self.older)?;
         write_text(out, "state", self.state.name())?;
-        write_sum(alloc, out, "sum", lent(&self.sum))?;
+        write_sum(out, "sum", lent(&self.sum))?;
         out.end_object()
     }
 }
@@ -56,7 +56,7 @@ impl WriteJson for StatusRow {
 
     ghost json = { status_row_data };
 
-    fn write(&self, _alloc: Global, out: &mut Writer<Global>) -> Result<(), AllocError> {
+    fn write(&self, out: &mut Writer<Global>) -> Result<(), AllocError> {
         out.begin_object()?;
         write_number(out, "copy", self.copy)?;
         write_text(out, "device", self.place.device.as_str())?;
@@ -78,7 +78,7 @@ impl WriteJson for HallCounts {
     ghost json = { counts_data };
 
     #[tactic(auto, unfolding(crate::specs::Reply::counts_data))]
-    fn write(&self, _alloc: Global, out: &mut Writer<Global>) -> Result<(), AllocError> {
+    fn write(&self, out: &mut Writer<Global>) -> Result<(), AllocError> {
         out.begin_object()?;
         write_number(out, "copies", self.copies)?;
         write_number(out, "devices", self.devices)?;

@@ -31,31 +31,6 @@ pub enum Word {
     Counts,
 }
 
-/// All words.
-const WORDS: [Word; 21] = [
-    Word::Register,
-    Word::Duplicate,
-    Word::Edit,
-    Word::Reconcile,
-    Word::Merge,
-    Word::Relocate,
-    Word::Remove,
-    Word::Note,
-    Word::Confirm,
-    Word::Withdraw,
-    Word::Found,
-    Word::Missing,
-    Word::Families,
-    Word::Board,
-    Word::Stamps,
-    Word::Pair,
-    Word::Holdings,
-    Word::At,
-    Word::Status,
-    Word::Journal,
-    Word::Counts,
-];
-
 impl Word {
     /// The word as it is spelled. Takes no memory.
     pub fn name(self) -> &'static str
@@ -121,7 +96,30 @@ impl Word {
 pub fn word_of(text: &str) -> Option<Word>
     ensures { result ≡ word_of text.now }
 {
-    WORDS.iter().copied().find(|word| word.name() == text)
+    match text {
+        "register" => Some(Word::Register),
+        "duplicate" => Some(Word::Duplicate),
+        "edit" => Some(Word::Edit),
+        "reconcile" => Some(Word::Reconcile),
+        "merge" => Some(Word::Merge),
+        "relocate" => Some(Word::Relocate),
+        "remove" => Some(Word::Remove),
+        "note" => Some(Word::Note),
+        "confirm" => Some(Word::Confirm),
+        "withdraw" => Some(Word::Withdraw),
+        "found" => Some(Word::Found),
+        "missing" => Some(Word::Missing),
+        "families" => Some(Word::Families),
+        "board" => Some(Word::Board),
+        "stamps" => Some(Word::Stamps),
+        "pair" => Some(Word::Pair),
+        "holdings" => Some(Word::Holdings),
+        "at" => Some(Word::At),
+        "status" => Some(Word::Status),
+        "journal" => Some(Word::Journal),
+        "counts" => Some(Word::Counts),
+        _ => None,
+    }
 }
 
 /// The word for reports of this kind. Takes no memory.

@@ -23,35 +23,35 @@ const NOT_KEPT: &str = "{\"code\":14,\"refused\":\"NotKept\"}";
 /// reads the line of a `Journal` back as its entries, where there are at most 100, as a hall returns, or the line has at
 /// most 1,048,576 bytes.
 ///
-/// It takes memory for its text, and for the digits of one sum at a time, and fails only where that runs out.
+/// It takes memory for its text, and fails only where that runs out.
 pub fn encode(alloc: Global, reply: &Reply) -> Result<String, AllocError>
     ensures text { IfOk result (λ text. string_bytes text ≡ reply_text reply.now) }
     ensures back { IfOk result (λ text. IsReadBack reply.now (string_bytes text)) }
 {
-    let bytes = encode_in(alloc, first_room(alloc)?, reply)?;
+    let bytes = encode_in(first_room(alloc)?, reply)?;
     Ok(text_of(bytes))
 }
 
 /// The bytes of the same text, in the room that is given.
-fn encode_in(alloc: Global, room: Vec<u8>, reply: &Reply) -> Result<Vec<u8>, AllocError>
+fn encode_in(room: Vec<u8>, reply: &Reply) -> Result<Vec<u8>, AllocError>
     requires { room.items ≡ [] }
     ensures text { IfOk result (λ bytes. bytes.items ≡ reply_text reply.now) }
     ensures back { IfOk result (λ bytes. IsReadBack reply.now bytes.items) }
     ensures utf8 { IfOk result (λ bytes. IsUtf8 bytes.items) }
 {
     match reply {
-        Reply::Done { entry } => member_text(alloc, room, "done", entry),
+        Reply::Done { entry } => member_text(room, "done", entry),
         Reply::Did { kind, entry } => did_text(room, *kind, *entry),
-        Reply::Known { copy } => member_text(alloc, room, "known", copy),
-        Reply::Families(rows) => list_text(alloc, room, "families", rows.as_slice()),
-        Reply::Board(board) => member_text(alloc, room, "board", board),
-        Reply::Stamps(stamps) => list_text(alloc, room, "stamps", stamps.as_slice()),
+        Reply::Known { copy } => member_text(room, "known", copy),
+        Reply::Families(rows) => list_text(room, "families", rows.as_slice()),
+        Reply::Board(board) => member_text(room, "board", board),
+        Reply::Stamps(stamps) => list_text(room, "stamps", stamps.as_slice()),
         Reply::Pair(rel) => pair_text(room, *rel),
-        Reply::Holdings(holdings) => list_text(alloc, room, "holdings", holdings.as_slice()),
-        Reply::At(standing) => member_text(alloc, room, "at", standing),
-        Reply::Status(rows) => list_text(alloc, room, "status", rows.as_slice()),
-        Reply::Journal(entries) => journal_text(alloc, room, entries.as_slice()),
-        Reply::Counts(counts) => member_text(alloc, room, "counts", counts),
+        Reply::Holdings(holdings) => list_text(room, "holdings", holdings.as_slice()),
+        Reply::At(standing) => member_text(room, "at", standing),
+        Reply::Status(rows) => list_text(room, "status", rows.as_slice()),
+        Reply::Journal(entries) => journal_text(room, entries.as_slice()),
+        Reply::Counts(counts) => member_text(room, "counts", counts),
         Reply::Refused(cause) => refused_text(room, cause),
     }
 }
@@ -62,13 +62,13 @@ fn encode_in(alloc: Global, room: Vec<u8>, reply: &Reply) -> Result<Vec<u8>, All
 pub fn encode_answer(alloc: Global, answer: &Answer) -> Result<String, AllocError>
     ensures { IfOk result (λ text. string_bytes text ≡ answer_text answer.now) }
 {
-    let bytes = encode_answer_in(alloc, first_room(alloc)?, answer)?;
-    Ok(text_of(bytes))
+    Ok(text_of(answer_bytes(alloc, answer)?))
 }
 
 /// The bytes of the same text.
 pub(crate) fn answer_bytes(alloc: Global, answer: &Answer) -> Result<Vec<u8>, AllocError>
-    ensures { IfOk result (λ bytes. bytes.items ≡ answer_text answer.now) }
+    ensures text { IfOk result (λ bytes. bytes.items ≡ answer_text answer.now) }
+    ensures utf8 { IfOk result (λ bytes. IsUtf8 bytes.items) }
 {
     encode_answer_in(alloc, first_room(alloc)?, answer)
 }
@@ -84,7 +84,7 @@ pub(crate) fn encode_answer_in(
     ensures utf8 { IfOk result (λ bytes. IsUtf8 bytes.items) }
 {
     match answer {
-        Answer::Given(reply) => encode_in(alloc, room, reply),
+        Answer::Given(reply) => encode_in(room, reply),
         Answer::NotKept => Ok(String::from_str(alloc, NOT_KEPT)?.into_bytes()),
     }
 }
@@ -128,7 +128,7 @@ fn refused_text(room: Vec<u8>, cause: &Cause) -> Result<Vec<u8>, AllocError>
     Ok(written_bytes(out))
 }
 
-fn journal_text(alloc: Global, room: Vec<u8>, entries: &[Entry]) -> Result<Vec<u8>, AllocError>
+fn journal_text(room: Vec<u8>, entries: &[Entry]) -> Result<Vec<u8>, AllocError>
     requires { room.items ≡ [] }
     ensures text { IfOk result (λ bytes. bytes.items ≡ entries_text entries.now) }
     ensures back { IfOk result (λ bytes. IsReadBack (Journal entries.now) bytes.items) }
@@ -137,7 +137,7 @@ fn journal_text(alloc: Global, room: Vec<u8>, entries: &[Entry]) -> Result<Vec<u
     let mut out = begun_text(room);
     out.begin_object()?;
     out.key("entries")?;
-    write_entries(alloc, &mut out, entries)?;
+    write_entries(&mut out, entries)?;
     out.end_object()?;
     Ok(written_bytes(out))
 }

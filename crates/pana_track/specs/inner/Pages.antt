@@ -1,12 +1,11 @@
 -- One page, and where no further one is answered.
-use Rattle.std.specs.Prelude.{◌≡◌, ℕ, List, Option, Some, None}
+use Rattle.std.specs.Prelude.{◌≡◌, ℕ, List, Option, None}
 use Rattle.pana_calls.specs.declared.call.Call.{Call}
 use Rattle.pana_calls.specs.declared.call.Call.TheVariants as questions
 use Rattle.pana_calls.specs.declared.call.Query.TheVariants as queries
 use Rattle.pana_calls.specs.Parts.{status_in}
 use Rattle.pana_calls.specs.declared.standing.StatusRow.{StatusRow}
 use Rattle.pana_calls.specs.declared.answer.Answer.{Answer}
-use Rattle.pana_calls.specs.declared.answer.Answer.TheVariants.{Given}
 use Rattle.pana_track.specs.Calls.{Asked, Makes}
 
 -- the device asks for a page

@@ -1,13 +1,11 @@
 -- What answers have.
-use Rattle.std.specs.Prelude.{◌≡◌, ℕ, List, ◌∷◌, Option, Some, None}
+use Rattle.std.specs.Prelude.{◌≡◌, ℕ, List, ◌∷◌, Option}
 use Rattle.pana_journal.specs.declared.entry.Entry.{Entry}
-use Rattle.pana_calls.specs.declared.board.BoardView.{BoardView}
-use Rattle.pana_calls.specs.declared.family_row.FamilyRow.{FamilyRow}
 use Rattle.pana_calls.specs.declared.call.Call.{Call}
 use Rattle.pana_calls.specs.declared.call.Call.TheVariants as calls
 use Rattle.pana_calls.specs.declared.call.Query.TheVariants as queries
 use Rattle.pana_journal.specs.Reports.{subject}
-use Rattle.pana_calls.specs.declared.reply.Reply.TheVariants.{Board, Families, Journal}
+use Rattle.pana_calls.specs.declared.reply.Reply.TheVariants.{Journal}
 use Rattle.pana_calls.specs.declared.answer.Answer.{Answer}
 use Rattle.pana_calls.specs.declared.answer.Answer.TheVariants.{Given}
 

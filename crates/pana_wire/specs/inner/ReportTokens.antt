@@ -12,13 +12,13 @@ use Rattle.pana_wire.specs.Report.{number_data, put_report}
 use Rattle.pana_wire.specs.inner.Pieces.{number_tokens, text_tokens}
 
 -- the numbers in a report
-abbrev with_copy : Option ℕ → Option ℕ → Numbers
+abbrev pub with_copy : Option ℕ → Option ℕ → Numbers
 with_copy copy heir = record { a = None; b = None; copy = copy; entry = None; heir = heir }
 
-abbrev with_pair : ℕ → ℕ → Numbers
+abbrev pub with_pair : ℕ → ℕ → Numbers
 with_pair a b = record { a = Some a; b = Some b; copy = None; entry = None; heir = None }
 
-abbrev with_entry : ℕ → Numbers
+abbrev pub with_entry : ℕ → Numbers
 with_entry entry = record { a = None; b = None; copy = None; entry = Some entry; heir = None }
 
 abbrev pub numbers_of : Report → Numbers

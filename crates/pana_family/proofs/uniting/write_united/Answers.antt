@@ -1,10 +1,11 @@
 use Rattle.std.proofs.Common.{get_or}
 use Rattle.pana_family.proofs.Words.{nat_tests, refl, ap, sym, ◌∙◌, ◌≡◌, ◌<◌, ◌∷◌, [], ◌++◌, ◌+◌, ℕ, Bool, true, List, take, map, filter, length, arith, length-append, map-append, Rel, Equal, rel_of, StampRow, is_other}
 use Rattle.pana_family.proofs.Words.{row_relation, take_more_set}
-use Rattle.pana_family.proofs.{Copies.lives_from, Places.in_read, United.other_is}
+use Rattle.pana_rel.specs.Pairs.{place_of}
+use Rattle.pana_family.proofs.{Copies.lives_from, Places.in_read, United.other_is, United.placed}
 use Rattle.pana_family.proofs.Compared.{none_more, one_more, room_for_one}
 use Rattle.pana_family.proofs.uniting.write_united.Goals as goal
-use Rattle.pana_family.proofs.uniting.write_united.Goals.{then-is_other, else-is_other}
+use Rattle.pana_family.proofs.uniting.write_united.Goals.{After-place_behind-at, then-is_other, else-is_other}
 
 pub bounds-rels-count : goal.bounds-rels-count
 bounds-rels-count c = grind (arith, nat_tests, room_for_one)
@@ -40,11 +41,17 @@ loop-other-preserved c =
 pub row-first-requires : goal.row-first-requires
 row-first-requires c = (c.requires.copies c.args.row.now.copy).1 (lives_from c.args.rows.now c.args.row.now c.requires.here c.requires.free)
 
-pub place-at-requires : goal.place-at-requires
-place-at-requires c =
-    let r : StampRow = c.other-item.result in
-    let there = in_read c.args.rows.now c.loop-other.other-index r c.loop-other-test.true c.other-item.is in
-    (c.requires.copies r.copy).1 (lives_from c.args.rows.now r there (other_is c.args.row.now.copy r (sym c.is_other.ensures ∙ c.if-is_other.true)).0)
+-- the place of the other copy
+place : (c : After-place_behind-at) → (place_of c.other-item.result.copy c.args.pairs.now.copies ≡ c.place_behind-at.result) × (c.place_behind-at.result < length c.args.pairs.now.copies)
+place c =
+    placed c.args.rows.now c.args.pairs.now.copies c.args.row.now c.other-item.result c.loop-other.other-index c.place_behind-at.result c.requires.rising c.copies.ensures.rising c.requires.copies c.requires.here c.requires.free
+    c.loop-other-test.true c.other-item.is (sym c.is_other.ensures ∙ c.if-is_other.true) (omega (arith, c.place_behind-at.ensures, c.loop-other.invariant.count_is))
+
+pub bounds-first-at : goal.bounds-first-at
+bounds-first-at c = omega (arith, (place c).1, c.row-first.ensures.long)
+
+pub bounds-second-at : goal.bounds-second-at
+bounds-second-at c = omega (arith, (place c.before).1, c.row-second.ensures.long)
 
 pub united_relation-requires-clause-same : goal.united_relation-requires-clause-same
 united_relation-requires-clause-same c = λ e.
@@ -55,6 +62,7 @@ pub united_relation-requires-clause-decided : goal.united_relation-requires-clau
 united_relation-requires-clause-decided c = λ ne.
     let r : StampRow = c.other-item.result in
     let o = other_is c.args.row.now.copy r (sym c.is_other.ensures ∙ c.if-is_other.true) in
-    let at_first : get_or c.row-first.result.now c.place-at.result Equal ≡ rel_of c.args.pairs.now c.args.row.now.copy r.copy = ap (λ k. get_or c.row-first.result.now k Equal) c.place-at.ensures.place ∙ c.row-first.ensures.rels r.copy in
-    let at_second : get_or c.row-second.result.now c.place-at.result Equal ≡ rel_of c.args.pairs.now c.args.b r.copy = ap (λ k. get_or c.row-second.result.now k Equal) c.place-at.ensures.place ∙ c.row-second.ensures.rels r.copy in
+    let at : place_of r.copy c.args.pairs.now.copies ≡ c.place_behind-at.result = (place c.before.before).0 in
+    let at_first : get_or c.row-first.result.now c.place_behind-at.result Equal ≡ rel_of c.args.pairs.now c.args.row.now.copy r.copy = ap (λ k. get_or c.row-first.result.now k Equal) (sym at) ∙ c.row-first.ensures.rels r.copy in
+    let at_second : get_or c.row-second.result.now c.place_behind-at.result Equal ≡ rel_of c.args.pairs.now c.args.b r.copy = ap (λ k. get_or c.row-second.result.now k Equal) (sym at) ∙ c.row-second.ensures.rels r.copy in
     rw (at_first, at_second) (c.requires.united.decided c.args.row.now r c.requires.here (in_read c.args.rows.now c.loop-other.other-index r c.loop-other-test.true c.other-item.is) o.0 refl o.1 ne)

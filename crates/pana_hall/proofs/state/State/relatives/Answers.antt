@@ -13,11 +13,11 @@ pub relatives_among-requires-clause-free : goal.relatives_among-requires-clause-
 relatives_among-requires-clause-free c =
     let journal = c.args.self.now.journal.entries in
     subst (AllByRecursion (λ other. first (unknown other (living journal) ∷ unknown c.args.copy (living journal) ∷ other_family other c.args.copy (living journal) ∷ []) ≡ None))
-    (sym (c.as_slice.ensures ∙ c.in_ok-numbers.ensures ∙ numbers_is journal c.args.copy _ c.requires.kept.accepted c.family.ensures))
+    (sym (c.living.ensures ∙ numbers_is journal c.args.copy _ c.requires.kept.accepted c.family.ensures))
     (all_compared journal c.args.copy c.requires.kept.accepted c.requires.lives)
 
 pub returns : goal.returns
 returns c =
     let journal = c.args.self.now.journal.entries in
-    let numbers = c.as_slice.ensures ∙ c.in_ok-numbers.ensures ∙ numbers_is journal c.args.copy _ c.requires.kept.accepted c.family.ensures in
+    let numbers = c.living.ensures ∙ numbers_is journal c.args.copy _ c.requires.kept.accepted c.family.ensures in
     IfOk-weaker c.relatives_among.result _ _ (λ made h. h ∙ ap (map (relative (living journal) c.args.copy)) numbers) c.relatives_among.ensures

@@ -10,7 +10,7 @@ returns-then-is_simply_newest c =
     let journal = c.args.self.now.journal.entries in
     let copy = has_copy _ c.requires.lives in
     let state : c.state_of-state.result ≡ state_of (counts_in (relatives_of journal c.args.copy) c.args.copy) =
-    c.state_of-state.ensures ∙ ap state_of (c.counts_of.ensures ∙ ap (λ l. counts_in l c.args.copy) (c.as_slice.ensures.value ∙ c.in_ok-relatives.ensures)) in
+    c.state_of-state.ensures ∙ ap state_of (c.counts_of.ensures ∙ ap (λ l. counts_in l c.args.copy) (c.as_slice.ensures ∙ c.in_ok-relatives.ensures)) in
     row_not journal c.args.copy copy.0 c.requires.kept.accepted copy.1 (ap is_newest (sym state) ∙ sym c.is_simply_newest.ensures ∙ c.if-is_simply_newest.true)
 
 pub placed-requires-2 : goal.placed-requires-2
@@ -18,7 +18,7 @@ placed-requires-2 c =
     let journal = c.args.self.now.journal.entries in
     let copy = has_copy _ c.requires.lives in
     let with : c.in_ok-with.with ≡ with_in journal c.args.copy (relatives_of journal c.args.copy) c.state_of-state.result =
-    c.in_ok-with.ensures ∙ ap (λ l. with_in journal c.args.copy l c.state_of-state.result) (c.as_slice-2.ensures.value ∙ c.in_ok-relatives.ensures) in
+    c.in_ok-with.ensures ∙ ap (λ l. with_in journal c.args.copy l c.state_of-state.result) (c.as_slice-2.ensures ∙ c.in_ok-relatives.ensures) in
     subst (λ k. IsSome (kept c.args.self.now.copies k)) (sym with) (with_kept journal c.args.copy copy.0 c.args.self.now.copies c.state_of-state.result c.requires.kept.accepted c.requires.kept.spots copy.1)
 
 pub returns : goal.returns
@@ -28,9 +28,9 @@ returns c =
     let state = c.state_of-state.result in
     let copy = has_copy _ c.requires.lives in
     let with : c.in_ok-placed.field-0 ≡ placed_at copies (with_in journal c.args.copy (relatives_of journal c.args.copy) state) =
-    c.in_ok-placed.ensures ∙ ap (placed_at copies) (c.in_ok-with.ensures ∙ ap (λ l. with_in journal c.args.copy l state) (c.as_slice-2.ensures.value ∙ c.in_ok-relatives.ensures)) in
+    c.in_ok-placed.ensures ∙ ap (placed_at copies) (c.in_ok-with.ensures ∙ ap (λ l. with_in journal c.args.copy l state) (c.as_slice-2.ensures ∙ c.in_ok-relatives.ensures)) in
     row_is journal c.args.copy copy.0 copies state _ c.requires.kept.accepted c.requires.kept.spots copy.1
-    (c.state_of-state.ensures ∙ ap state_of (c.counts_of.ensures ∙ ap (λ l. counts_in l c.args.copy) (c.as_slice.ensures.value ∙ c.in_ok-relatives.ensures)))
+    (c.state_of-state.ensures ∙ ap state_of (c.counts_of.ensures ∙ ap (λ l. counts_in l c.args.copy) (c.as_slice.ensures ∙ c.in_ok-relatives.ensures)))
     (sym c.is_simply_newest.ensures ∙ c.if-is_simply_newest.false)
     (ap₂ (row_with state) c.in_ok-copy.ensures with)
   where

@@ -16,7 +16,7 @@ returns c =
     let copy = has_copy _ c.requires.lives in
     standing_is journal c.args.copy copy.0 _ c.requires.kept.accepted copy.1
     (made_of c.args.copy c.number.result (families journal c.args.copy) c.counts_of-counts.result _ c.state_of.result c.in_ok-sum_of.field-0 _ (c.number.ensures ∙ ap (λ (k : KeptRows). k.number) c.family.ensures)
-    (c.counts_of-counts.ensures ∙ ap (λ l. counts_in l c.args.copy) (c.as_slice.ensures.value ∙ c.in_ok-relatives.ensures)) c.state_of.ensures c.in_ok-sum_of.ensures)
+    (c.counts_of-counts.ensures ∙ ap (λ l. counts_in l c.args.copy) (c.as_slice.ensures ∙ c.in_ok-relatives.ensures)) c.state_of.ensures c.in_ok-sum_of.ensures)
   where
     made_of : (n family own : ℕ) (counts k : Counts) (state : CopyState) (sum s : Option (List ℕ)) → family ≡ own → counts ≡ k → state ≡ state_of counts → sum ≡ s
         → record { copy = n; family = family; newer = counts.above; older = counts.below; equal = counts.equal; conflict = counts.conflict; state = state; sum = sum } ≡ standing_by n own k s

@@ -1,4 +1,4 @@
-use Rattle.std.proofs.Common.{◌≡◌, ◌-◌, min, length, take, drop, sym, ap, ◌∙◌, arith}
+use Rattle.std.proofs.Common.{◌≡◌, ◌-◌, min, length, take, drop, ap, ◌∙◌, arith}
 use Rattle.pana_journal.proofs.Pages.{take_rest_min}
 use Rattle.pana_journal.proofs.journal.Journal.page.Goals as goal
 

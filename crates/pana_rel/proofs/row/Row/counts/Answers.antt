@@ -1,5 +1,5 @@
 -- The kind that isn't counted is what is left of all.
-use Rattle.std.proofs.Common.{◌≡◌, length, arith, ◌∙◌, sym}
+use Rattle.std.proofs.Common.{length, arith, ◌∙◌, sym}
 use Rattle.std.proofs.lemmas.Bool.{eqb-true}
 use Rattle.pana_event.specs.declared.rel.Rel.TheVariants.{Equal, Older, Newer, Conflict}
 use Rattle.pana_rel.proofs.Counted.{AreOut, counted_out}

@@ -11,4 +11,4 @@ unfolding line_says text_in data_in object_in
 flat_says line text o within is = rw (within, is) refl
 
 pub returns-in-Some-clause-exact : goal.returns-in-Some-clause-exact
-returns-in-Some-clause-exact c = rw (flat_says _ _ c.in-Some.object c.in_ok-text.ensures.exact c.in-Some.ensures) c.message_in.ensures
+returns-in-Some-clause-exact c = rw (flat_says _ _ c.read_flat.new.object c.in_ok-text.ensures.exact c.in-Some.ensures) c.message_in.ensures

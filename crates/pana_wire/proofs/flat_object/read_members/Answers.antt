@@ -4,11 +4,11 @@ use Rattle.json.specs.Token.{Token, key}
 use Rattle.pana_wire.specs.declared.flat_object.Member.{Member}
 use Rattle.pana_wire.specs.inner.FlatObject.{content_token, members_then}
 use Rattle.pana_wire.proofs.FlatObject.{one_more, sound_push}
-use Rattle.pana_wire.proofs.flat_object.members_in.Goals as goal
+use Rattle.pana_wire.proofs.flat_object.read_members.Goals as goal
 
-pub loop-members-preserved : goal.loop-members-preserved
-loop-members-preserved c =
-    let l = c.loop-members in
+pub loop-name-preserved : goal.loop-name-preserved
+loop-name-preserved c =
+    let l = c.loop-name in
     let ms = l.members.items in
     let found = c.in_ok-content-in-Key in
     let m : Member = record { name = c.in-Key.name; content = found.content } in

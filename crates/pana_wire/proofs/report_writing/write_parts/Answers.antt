@@ -1,17 +1,15 @@
 use Rattle.std.proofs.Common.{rules, ◌∙◌, [], ◌∷◌, ◌++◌, List, ap}
 use Rattle.std.specs.Prelude.{codes, option_copied, option_map}
 use Rattle.json.specs.Token.{Token, begin_object, end_object, key, string}
-use Rattle.pana_wire.specs.Word.{word_name}
-use Rattle.pana_wire.specs.Report.{kind_word}
 use Rattle.pana_wire.specs.inner.Pieces.{number_tokens, text_tokens}
 use Rattle.pana_wire.proofs.Pieces.{both_written}
 use Rattle.pana_wire.proofs.ReportTokens.{IsKnownOf, written}
-use Rattle.pana_wire.proofs.report_writing.write_report.Goals as goal
+use Rattle.pana_wire.proofs.report_writing.write_parts.Goals as goal
 
 pub returns : goal.returns
 returns c =
-    let numbers = c.numbers_of-numbers.result in
-    let place = option_copied c.given_place-place.result in
+    let numbers = c.args.numbers in
+    let place = option_copied c.args.place in
     let sum = option_copied c.sum.result in
     let known : IsKnownOf numbers place sum c.args.number = record {
       a = c.in_ok-write_number_if_given.ensures.number;
@@ -24,8 +22,7 @@ returns c =
       path = c.in_ok-write_path.ensures.path;
       sum = c.in_ok-write_sum.ensures.sum;
     } in
-    let word = c.name.ensures ∙ ap word_name (c.kind_word.ensures ∙ ap kind_word c.kind.ensures) in
-    let is = written c.as_str.result.now numbers place c.name.result.now sum c.args.by.now c.args.report.now c.args.number c.as_str.ensures.text c.numbers_of-numbers.ensures c.given_place-place.ensures word c.sum.ensures known in
+    let is = written c.as_str.result.now numbers place c.args.word.now sum c.args.by.now c.args.report.now c.args.number c.as_str.ensures.text c.requires.numbers c.requires.place c.requires.word c.sum.ensures known in
     let begin_at : List Token = c.begin_object.new.self.tokens in
     let a_at : List Token = c.write_number_if_given.new.out.tokens in
     let b_at : List Token = c.write_number_if_given-2.new.out.tokens in
@@ -45,7 +42,7 @@ returns c =
     let by_part : List Token = key (codes "by") ∷ string c.as_str.result.now ∷ [] in
     let copy_part : List Token = number_tokens (codes "copy") numbers.copy in
     let device_part : List Token = text_tokens (codes "device") (option_map (λ p. p.device) place) in
-    let do_part : List Token = key (codes "do") ∷ string c.name.result.now ∷ [] in
+    let do_part : List Token = key (codes "do") ∷ string c.args.word.now ∷ [] in
     let entry_part : List Token = number_tokens (codes "entry") numbers.entry in
     let heir_part : List Token = number_tokens (codes "heir") numbers.heir in
     let number_part : List Token = number_tokens (codes "number") c.args.number in
