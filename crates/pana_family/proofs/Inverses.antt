@@ -3,7 +3,7 @@ use Rattle.pana_family.proofs.Words.{◌≡◌, ◌≢◌, ◌==◌, ◌+◌, �
 use Rattle.pana_family.proofs.Words.{slice_index_or, option_map, list_any, refl, sym, ap, subst, ◌∙◌, inl, inr, arith, get_or, set, append_assoc, take_more, at_drop_more, nat_tests, StampRow}
 use Rattle.pana_family.proofs.Words.{Exchange, Put, Take, Change, Rows, In, IsRising, dropped, put_back, renewed, row_at, number_of, placed, placed_all, formers, puts, mapped, with_event, with_touch}
 use Rattle.pana_family.proofs.Words.{changed, inverse, exchanged_all, after, IfNone, reverse-append, length-take-le, set_at, get_or_at, at_number, is_put}
-use Rattle.std.proofs.{Math.Path.fun_ext}
+use Rattle.std.proofs.{Math.Path.fun_ext, lemmas.List.Sums.sum_by-append}
 use Rattle.pana_family.specs.declared.change.Change.TheVariants.{Event as Renew, Touch}
 use Rattle.pana_family.proofs.{Members.above_low, Backs.same_rows, Backs.rising_put}
 use Rattle.pana_family.proofs.Places.{in_at, is_found, rising_dropped, row_in_at, first_found}
