@@ -19,6 +19,8 @@ from daemon import HERE, SECONDS, Client, Daemon, line_of
 from harness import Broken, differs, run_checks
 
 WORKERS = 16
+# How many clients report while an entry is kept.
+OTHERS = 8
 PLAN = {"device": "usb", "path": "plan.txt"}
 FIRST = {"by": "usb", "device": "usb", "do": "register", "number": 1, "path": "plan.txt"}
 
@@ -154,29 +156,37 @@ def make_way(program, _):
 
 
 def goes_on(program, room):
-    """Where an entry comes while a wait makes way, it is answered with that, and its connection goes on."""
+    """Where an entry comes while a wait makes way, it is answered with that and its connection goes on; else it ends."""
     library = room / "slow.so"
     subprocess.run(["cc", "-shared", "-fPIC", "-o", library, HERE / "slow_sync.c"], check=True, timeout=SECONDS)
     slow = {**os.environ, "LD_PRELOAD": str(library), "SLOW_SYNC": "1500"}
     with Daemon(program, "--journal", str(room / "journal"), env=slow) as daemon, contextlib.ExitStack() as stack:
-        first, second, *waiting = [stack.enter_context(daemon.client()) for _ in range(WORKERS)]
+        first, *clients = [stack.enter_context(daemon.client()) for _ in range(WORKERS)]
+        others, waiting = clients[:OTHERS], clients[OTHERS:]
         for it in waiting:
             awaiting(it, 2, 3600)
         yield from silent(waiting[0], 0.3)
-        # While this one is kept nothing is asked: the second entry is made behind it, and before the waits that make way come.
+        # While the first entry is kept no call is made. Behind it come the others' entries and the wait that makes way, in any
+        # order, so nearly always an entry is there before that wait is asked.
         first.send(line_of("usb", "register", **PLAN))
         yield from silent(first, 0.3)
-        second.send(line_of("usb", "register", device="usb", path="b"))
-        yield from silent(second, 0.5)
+        for number, it in enumerate(others):
+            it.send(line_of("usb", "register", device="usb", path=str(number)))
+        yield from silent(others[0], 0.5)
         further = stack.enter_context(daemon.client())
         further.send(line_of("desk", "families"))
-        yield from differs([it.answer()["done"] for it in (first, second)], [1, 2])
-        for it in waiting:
-            yield from differs([entry["number"] for entry in it.answer()["entries"]], [2])
-        for it in waiting:
-            yield from differs(len(it.ask("desk", "families")["families"]), 2)
+        yield from differs(first.answer(), {"done": 1})
+        yield from differs(sorted(it.answer()["done"] for it in others), [*range(2, OTHERS + 2)])
+        got = [(it, [entry["number"] for entry in it.answer()["entries"]]) for it in waiting]
+        yield from differs(sum(not numbers for _, numbers in got) <= 1, True)
+        for it, numbers in got:
+            if numbers:
+                yield from differs(numbers, [*range(2, numbers[-1] + 1)])
+                yield from differs(len(it.ask("desk", "families")["families"]), OTHERS + 1)
+            else:
+                yield from differs(it.socket.recv(1), b"")
         first.close()
-        yield from differs(len(further.answer()["families"]), 2)
+        yield from differs("families" in further.answer(), True)
 
 
 def shown(program, _):
