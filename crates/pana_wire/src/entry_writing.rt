@@ -14,7 +14,6 @@ use pana_journal::Entry;
 use std::alloc::{AllocError, Global};
 
 /// Writes the object of an entry. Fails only where memory runs out.
-#[inline(always)]
 #[tactic(auto, unfolding(crate::specs::Report::entry_data))]
 pub(crate) fn write_entry(out: &mut Writer<Global>, entry: &Entry) -> Result<(), AllocError>
     ensures tokens { OnOk result (out.new.tokens ≡ out.old.tokens ++ json_tokens (outline (entry_data entry.now))) }

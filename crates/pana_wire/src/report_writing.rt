@@ -34,9 +34,7 @@ pub fn encode_call(alloc: Global, by: &DeviceName, report: &Report) -> Result<St
 }
 
 /// Writes the object of a device's report, with a number where it is that of an entry. Fails only where memory runs out.
-// Each word has an arm of its own, so that what its reports lack costs nothing where they are written. It is inlined, as LLVM inlines
-// the kit's `key` in a loop and not where it finds that an arm is rarely come to.
-#[inline(always)]
+// Each word has an arm of its own, so that what its reports lack costs nothing where they are written.
 pub(crate) fn write_report<'a>(
     out: &mut Writer<Global>,
     by: &'a DeviceName,
