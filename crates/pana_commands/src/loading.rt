@@ -12,7 +12,7 @@ use crate::printout::Printout;
 use crate::tables::tables_of;
 use pana_hall::{Hall, LoadFault};
 use pana_journal::EntryList;
-use pana_seal::{SealFault, read_seals};
+use pana_seal::{SealFault, check_seals};
 use pana_wire::{decode_dump_lines, split_lines};
 use std::alloc::{AllocError, Global};
 
@@ -78,8 +78,8 @@ pub fn load_on(alloc: Global, terminal: Option<usize>, bytes: &[u8]) -> Result<P
     ensures { IfOk result (AnswersDump terminal bytes.now) }
 {
     let lines = split_lines(alloc, bytes)?;
-    match read_seals(alloc, lines.as_slice()) {
-        Ok(_) => answer_lines(alloc, terminal, lines.as_slice()),
+    match check_seals(alloc, lines.as_slice()) {
+        Ok(()) => answer_lines(alloc, terminal, lines.as_slice()),
         Err(SealFault::Damaged { line }) => {
             Printout::reported(alloc, &SealFault::Damaged { line })
         }

@@ -3,12 +3,13 @@ use Rattle.std.proofs.Common.{◌≡◌, ◌⊎◌, inl, inr, ⊎_elim, ℕ, ◌
 use Rattle.std.specs.List.{list_any}
 use Rattle.std.specs.Borrow.{Bor}
 use Rattle.std.proofs.lemmas.List.{map-append, take-append-drop}
+use Rattle.std.proofs.lemmas.List.Folds.{list_any-append}
 use Rattle.pana_log.specs.Lines.{text_of}
 use Rattle.pana_log.proofs.Settled.{text_of-append}
 use Rattle.pana_wire.specs.Lines.{texts}
 use Rattle.pana_wire.proofs.Said.{texts_next, texts_before}
 use Rattle.pana_seal.specs.declared.sealer.Sealer.{Sealer}
-use Rattle.pana_seal.specs.Seal.{Covers, is_sealed, demands_seals, is_due, IsIntact, IsDamagedAt}
+use Rattle.pana_seal.specs.Seal.{Covers, is_marked, is_sealed, demands_seals, is_due, IsIntact, IsDamagedAt}
 
 empty_not : {P : Type 0} {A : Type 0} (ys : List A) (y : A) (zs : List A) → [] ≡ ys ++ y ∷ zs → P
 empty_not [] y zs is = absurd (cc)
@@ -103,3 +104,28 @@ damaged_at lines index d within are due broken = record {
 
 pub either_like : (a b m : Bool) → a ≡ b → (a || m) ≡ true → (b || m) ≡ true
 either_like a b m same is = ap (λ (x : Bool). x || m) (sym same) ∙ is
+
+-- Lines of which none demands seals.
+
+either_right : (a b : Bool) → (a || b) ≡ false → b ≡ false
+either_right false b none = none
+either_right true b none = absurd (cc)
+
+either_left : (a b : Bool) → (a || b) ≡ false → a ≡ false
+either_left false b none = refl
+either_left true b none = absurd (cc)
+
+either_none : (a b : Bool) → a ≡ false → b ≡ false → (a || b) ≡ false
+either_none a b one two = rw (one, two) refl
+
+-- what is marked demands seals itself
+due_demands : (earlier : List (List ℕ)) (line : List ℕ) (later : List (List ℕ)) → list_any demands_seals (earlier ++ line ∷ later) ≡ false → is_due earlier line ≡ false
+due_demands earlier line later none =
+    let parts : (list_any demands_seals earlier || (demands_seals line || list_any demands_seals later)) ≡ false = sym (list_any-append demands_seals earlier (line ∷ later)) ∙ none in
+    let own : demands_seals line ≡ false = either_left (demands_seals line) _ (either_right (list_any demands_seals earlier) _ parts) in
+    either_none _ _ (either_left (list_any demands_seals earlier) _ parts) (either_right _ (is_marked line) own)
+
+pub intact_undemanded : (lines : List (List ℕ)) → list_any demands_seals lines ≡ false → IsIntact lines
+intact_undemanded lines none earlier line later whole due =
+    let never : is_due earlier line ≡ false = due_demands earlier line later (subst (λ (ls : List (List ℕ)). list_any demands_seals ls ≡ false) whole none) in
+    absurd (cc)

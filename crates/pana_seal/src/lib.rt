@@ -6,6 +6,6 @@ mod reading;
 mod seal_fault;
 mod sealer;
 
-pub use crate::reading::read_seals;
+pub use crate::reading::{check_seals, read_seals};
 pub use crate::seal_fault::SealFault;
 pub use crate::sealer::Sealer;

@@ -1,5 +1,6 @@
 //! The seals of a file's lines.
 ghost use Rattle.std.specs.Prelude.{◌≡◌, ◌||◌, ◌++◌, not, List, ℕ, IfOk, IfErr, OnOk};
+ghost use Rattle.std.specs.List.{list_any};
 ghost use Rattle.pana_log.specs.Lines.{text_of};
 ghost use Rattle.pana_wire.specs.Lines.{texts};
 ghost use Rattle.pana_seal.specs.Seal.{Covers, is_marked, is_sealed, demands_seals, IsIntact, IsSealFault};
@@ -32,6 +33,35 @@ pub fn read_seals(alloc: Global, lines: &[&[u8]]) -> Result<Sealer, SealFault>
         sealer.push(b"\n");
     }
     Ok(sealer)
+}
+
+/// Sees that the lines of a file are as they were sealed, as `read_seals` does, and takes none up: where none has to be sealed no byte
+/// is hashed. O(n) in the bytes.
+///
+/// # Errors
+///
+/// Those of `read_seals`.
+pub fn check_seals(alloc: Global, lines: &[&[u8]]) -> Result<(), SealFault>
+    ensures intact { OnOk result (IsIntact (texts lines.now)) }
+    ensures fault { IfErr result (IsSealFault (texts lines.now)) }
+{
+    if !demand_seals(lines) {
+        return Ok(());
+    }
+    read_seals(alloc, lines)?;
+    Ok(())
+}
+
+/// Whether any of these lines has to be sealed, or those behind it.
+fn demand_seals(lines: &[&[u8]]) -> bool
+    ensures { result ≡ list_any demands_seals (texts lines.now) }
+{
+    for line in lines {
+        if demands_seals(line) {
+            return true;
+        }
+    }
+    false
 }
 
 /// Takes up a line, and returns whether it is sealed, where it has to be: since lines before it demand it, or it looks so itself.
