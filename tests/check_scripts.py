@@ -49,6 +49,8 @@ printf '%s passed, %s failed\\n' "$passed" "$failed"
 [ "$failed" -eq 0 ]"""
 WELL = f'case "$1" in lib) {LIB} ;; run) {PROGRAM} ;; ci) {CI} ;; must-fail) {EDITS} ;; esac'
 STUB = "print('1 passed, 0 failed')\n"
+PROMISE = "use {}::Count;\n\npub fn sum() -> Count\n    ensures {{ result ≡ {} }}\n{{\n    {}\n}}\n"
+PRIVATE = "use low::other::one;\n\nfn more() -> u64\n    ensures { result ≡ 1 }\n{\n    one()\n}\n"
 # What is no stub: the scripts that the checks look at.
 REAL = {"edits.py", "gate.py", "parts.py", "quick.py", "try_edits.py"}
 
@@ -298,15 +300,19 @@ def untried_edits(kit):
 
 
 def stale_edits(kit):
-    """./test tries the edits again where their crate, one below it, the edit or the kit has changed, or a line's sum is wrong, but for a kit that it had before."""
+    """./test tries the edits again where their crate, what one below it promises, the edit or the kit has changed, or a line's sum is wrong, but for a kit that it had before."""
     kit.has_edits(10, "refused")
     kit.run("./test")
     first = kit.record()
     low, high = ([it.split()[0] for it in first if it.startswith(crate)] for crate in ("low", "high"))
     file = kit.repository / "tests" / "edits-tried"
+    source = kit.repository / "crates/low/src/lib.rt"
     changes = (
         (lambda: (kit.repository / "crates/high/src/lib.rt").write_text("//! Something.\n"), high),
-        (lambda: (kit.repository / "crates/low/src/lib.rt").write_text("//! Something.\n"), low + high),
+        (lambda: source.write_text(f"//! Something.\n{PROMISE.format('low', 4, 4)}"), low + high),
+        (lambda: source.write_text(f"//! Another thing.\n{PROMISE.format('low', 4, '2 + 2')}{PRIVATE}"), low),
+        (lambda: source.write_text(f"//! Another thing.\n{PROMISE.format('low', 5, '2 + 2')}{PRIVATE}"), low + high),
+        (lambda: source.write_text(f"//! Another thing.\n{PROMISE.format('low::whole', 5, '2 + 2')}{PRIVATE}"), low + high),
         (lambda: (kit.repository / "crates" / low[0].replace("/", "/must-fail/")).write_text("refused\n\n"), low[:1]),
         (lambda: file.write_text("".join(f"{it.split()[0]} {'0' * 64 if it.startswith(high[0]) else it.split()[1]}\n" for it in kit.record())), high[:1]),
         (lambda: file.write_text("".join(f"{it}\n" for it in kit.record() if not it.startswith(high[1]))), high[1:2]),

@@ -96,7 +96,8 @@ impl DeviceName {
         ensures text { result.now ≡ self.now }
         ensures device { is_device self.now ≡ true }
     {
-        str::from_utf8(self.as_bytes()).unwrap()
+        // to check it once more took an eighth of a page of entries
+        unsafe { str::from_utf8_unchecked(self.as_bytes()) }
     }
 
     /// The same name once more. Takes no memory.

@@ -1,5 +1,5 @@
 //! The seals of a file's lines.
-ghost use Rattle.std.specs.Prelude.{◌≡◌, ◌||◌, ◌++◌, not, List, ℕ, IfOk, IfErr, OnOk};
+ghost use Rattle.std.specs.Prelude.{◌≡◌, ◌||◌, ◌++◌, not, true, List, ℕ, IfOk, IfErr, OnOk};
 ghost use Rattle.std.specs.List.{list_any};
 ghost use Rattle.pana_log.specs.Lines.{text_of};
 ghost use Rattle.pana_wire.specs.Lines.{texts};
@@ -40,10 +40,11 @@ pub fn read_seals(alloc: Global, lines: &[&[u8]]) -> Result<Sealer, SealFault>
 ///
 /// # Errors
 ///
-/// Those of `read_seals`.
+/// Those of `read_seals`, where a line has to be sealed, and else none.
 pub fn check_seals(alloc: Global, lines: &[&[u8]]) -> Result<(), SealFault>
     ensures intact { OnOk result (IsIntact (texts lines.now)) }
     ensures fault { IfErr result (IsSealFault (texts lines.now)) }
+    ensures needed { IfErr result (λ _. list_any demands_seals (texts lines.now) ≡ true) }
 {
     if !demand_seals(lines) {
         return Ok(());

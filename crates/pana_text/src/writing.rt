@@ -70,11 +70,12 @@ fn write_event(text: &mut String, event: &pana_event::Node) -> Result<(), AllocE
     }
 }
 
-/// The one text of the stamp, appended piece by piece to one `String`.
+/// The one text of the stamp, appended piece by piece to one `String`. Visits each node once. A text of up to 128 bytes takes one
+/// allocation.
 ///
 /// # Errors
 ///
-/// `AllocError` where an allocation failed. Visits each node once. A text of up to 128 bytes takes one allocation.
+/// `AllocError` where an allocation failed.
 #[tactic(auto, using(crate::proofs::Appends::appends))]
 pub fn write(alloc: Global, stamp: &Stamp) -> Result<String, AllocError>
     ensures { IfOk result (λ text. string_bytes text ≡ stamp_text stamp.now.id stamp.now.event) }

@@ -13,14 +13,14 @@ use json::Writer;
 use pana_journal::Entry;
 use std::alloc::{AllocError, Global};
 
-/// Writes the object of an entry. Fails only where memory runs out.
+/// Writes the object of an entry of a page. Fails only where memory runs out.
 #[tactic(auto, unfolding(crate::specs::Report::entry_data))]
-pub(crate) fn write_entry(out: &mut Writer<Global>, entry: &Entry) -> Result<(), AllocError>
+fn write_entry(out: &mut Writer<Global>, entry: &Entry) -> Result<(), AllocError>
     ensures tokens { OnOk result (out.new.tokens ≡ out.old.tokens ++ json_tokens (outline (entry_data entry.now))) }
     ensures before { OnOk result (out.new.before ≡ out.old.before) }
     ensures known { OnOk result (IsKnown entry.now) }
 {
-    write_report(out, &entry.by, &entry.report, Some(entry.number))?;
+    write_report::<true>(out, &entry.by, &entry.report, Some(entry.number))?;
     Ok(())
 }
 
@@ -44,6 +44,6 @@ pub(crate) fn encode_one(alloc: Global, entry: &Entry) -> Result<String, AllocEr
     ensures { IfOk result (λ text. IsTextOf entry.now (string_bytes text)) }
 {
     let mut out = begun_text(first_room(alloc)?);
-    write_entry(&mut out, entry)?;
+    write_report::<false>(&mut out, &entry.by, &entry.report, Some(entry.number))?;
     Ok(written_text(out))
 }

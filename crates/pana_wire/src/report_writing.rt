@@ -29,13 +29,15 @@ pub fn encode_call(alloc: Global, by: &DeviceName, report: &Report) -> Result<St
     ensures back { IfOk result (λ text. line_says (string_bytes text) ≡ Ok (record { by = by.now; call = Call.Report report.now })) }
 {
     let mut out = begun_text(first_room(alloc)?);
-    write_report(&mut out, by, report, None)?;
+    write_report::<false>(&mut out, by, report, None)?;
     Ok(written_text(out))
 }
 
 /// Writes the object of a device's report, with a number where it is that of an entry. Fails only where memory runs out.
-// Each word has an arm of its own, so that what its reports lack costs nothing where they are written.
-pub(crate) fn write_report<'a>(
+// Each word has an arm of its own, so that what its reports lack costs nothing where they are written. Pages have a copy of the
+// function for themselves (`IN_PAGE`, which changes nothing else): with one caller it is inlined in the loop over a page, and the
+// kit's `key` in it, which spares a third of what a page costs.
+pub(crate) fn write_report<'a, const IN_PAGE: bool>(
     out: &mut Writer<Global>,
     by: &'a DeviceName,
     report: &'a Report,

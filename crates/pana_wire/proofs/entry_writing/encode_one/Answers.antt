@@ -9,12 +9,13 @@ use Rattle.pana_wire.specs.Report.{entry_data}
 use Rattle.pana_wire.proofs.entry_writing.encode_one.Goals as goal
 
 pub returns : goal.returns
+unfolding entry_data
 returns c =
     let values = entry_data c.args.entry.now in
-    let tokens : c.write_entry.new.out.tokens ≡ json_tokens (outline values) = c.in_ok-write_entry.ensures.tokens ∙ ap (λ (ts : List Token). ts ++ json_tokens (outline values)) c.begun_text-out.ensures.tokens in
+    let tokens : c.write_report.new.out.tokens ≡ json_tokens (outline values) = c.in_ok-write_report.ensures.tokens ∙ ap (λ (ts : List Token). ts ++ json_tokens (outline values)) c.begun_text-out.ensures.tokens in
     record {
       same = c.written_text.ensures ∙ ap print tokens ∙ print-outline values;
-      names = c.in_ok-write_entry.ensures.known.names;
-      reads = c.in_ok-write_entry.ensures.known.reads;
+      names = (c.in_ok-write_report.ensures.by, c.in_ok-write_report.ensures.names);
+      reads = c.in_ok-write_report.ensures.reads;
       utf8 = IsUtf8-string_bytes c.written_text.result;
     }
