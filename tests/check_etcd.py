@@ -31,6 +31,8 @@ CALLS = 40
 KILLS, DOWN, UP = 6, 1.0, 0.5
 # For how many seconds an answer is waited for at least where none comes, and at most on a busy machine.
 PATIENCE, LONGEST = 9, 25
+# For how many seconds a call waits while members of a busy machine choose a leader.
+CHOICE = 40
 LAPTOP, USB, DESK = "laptop:plan.txt", "usb:plan.txt", "desk:notes.txt"
 LINES = (
     line_of("laptop", "register", device="laptop", path="plan.txt"),
@@ -71,11 +73,11 @@ COMMANDS = (
 
 
 class Run:
-    """A session by a run of its own on a log."""
+    """A session by a run of its own on a log, with these words beside."""
 
-    def __init__(self, program, address):
+    def __init__(self, program, address, *words):
         pipe = subprocess.PIPE
-        self.run = subprocess.Popen([program, "run", "--log", address], stdin=pipe, stdout=pipe, stderr=pipe, bufsize=0)
+        self.run = subprocess.Popen([program, "run", "--log", address, *words], stdin=pipe, stdout=pipe, stderr=pipe, bufsize=0)
 
     def __enter__(self):
         return self
@@ -102,6 +104,14 @@ class Run:
         rest = self.run.stdout.read()
         self.run.wait(timeout=SECONDS)
         return self.run.returncode, rest, self.run.stderr.read().decode()
+
+    def told(self):
+        """What it has printed on standard error, once it has ended, by itself or not."""
+        self.run.stdin.close()
+        with contextlib.suppress(subprocess.TimeoutExpired):
+            self.run.wait(timeout=1)
+        self.run.kill()
+        return self.run.stderr.read().decode()
 
     def close(self):
         self.run.kill()
@@ -132,8 +142,8 @@ class Setting:
         # What waits longest runs beside the other checks.
         self.waiting = pool.submit(faults_of, no_answers, self)
 
-    def session(self, address):
-        return Run(self.program, address)
+    def session(self, address, *words):
+        return Run(self.program, address, *words)
 
     def run(self, *words, given=b""):
         """The status of a run, what it prints, and what it reports on standard error."""
@@ -299,7 +309,7 @@ class Reporter(threading.Thread):
                 self.faults += differs(found[0]["touch"], self.done[-1])
                 self.longest = max(self.longest, time.monotonic() - begun)
         except (OSError, Broken, ValueError, KeyError) as error:
-            self.faults.append(f"{self.by} ended after {len(self.done)} reports: {error!r:.200}")
+            self.faults.append(f"{self.by} ended after {len(self.done)} reports: {error!r:.200}, {self.session.told()!r:.200}")
 
 
 def killed(setting, room):
@@ -308,7 +318,7 @@ def killed(setting, room):
     with contextlib.ExitStack() as open_:
         members = open_.enter_context(Members(room, 3))
         address = members.address("killed")
-        sessions = [open_.enter_context(setting.session(address)) for _ in range(7)]
+        sessions = [open_.enter_context(setting.session(address, "--patience", str(CHOICE))) for _ in range(7)]
         reporters = [Reporter(it, f"c{at}", over) for at, it in enumerate(sessions)]
         open_.callback(over.set)
         for it in reporters:
@@ -324,6 +334,8 @@ def killed(setting, room):
         over.set()
         for it in reporters:
             it.join()
+        for it in reporters[:6]:
+            yield from it.faults
         entries = entries_of(sessions[0])
         yield from differs(entries_of(sessions[1]), entries)
         yield from differs(len(members.values("killed")), len(entries))
@@ -334,8 +346,6 @@ def killed(setting, room):
             # Its last report may have been put, and has no answer.
             yield from differs((it.by, len(own) - len(it.done) in (0, 1) or own), (it.by, True))
             own = own[: len(it.done)]
-        else:
-            yield from it.faults
         yield from differs((it.by, it.done), (it.by, own))
     # Who is answered at all is answered between the kills too.
     least = min(len(it.done) for it in reporters[:6])

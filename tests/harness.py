@@ -21,13 +21,14 @@ def differs(got, wanted):
 
 def faults_of(check, setting):
     """What a check finds in a folder of its own, with what it is given beside."""
-    room = Path(tempfile.mkdtemp())
+    room, found = Path(tempfile.mkdtemp()), []
     try:
-        return list(check(setting, room))
+        found.extend(check(setting, room))
     except (OSError, subprocess.SubprocessError, ValueError, KeyError, Broken) as error:
-        return [f"{type(error).__name__}: {error}"]
+        found.append(f"{type(error).__name__}: {error}")
     finally:
         shutil.rmtree(room, ignore_errors=True)
+    return found
 
 
 def run_with(setting, checks):
