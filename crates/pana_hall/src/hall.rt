@@ -1,10 +1,11 @@
 ghost use Rattle.std.specs.Prelude.{◌≡◌, ◌≤◌, [], length, IfOk, OnErr};
+ghost use Rattle.pana_journal.specs.Entries.{entry_at};
 ghost use Rattle.pana_hall.specs.{Accepted.IsAccepted, Permit.Permits, Permit.journal_after, Refusal.refusal, Run.RunsTo};
 
 use crate::state::State;
 use pana_calls::{Call, Cause, Reply};
 use pana_copies::DeviceName;
-use pana_journal::{Entry, Report};
+use pana_journal::{KeptEntry, Report};
 use std::alloc::{AllocError, Global};
 use std::collections::VecDeque;
 use std::marker::Model;
@@ -65,11 +66,11 @@ impl Hall {
         self.state.report_refusal(by, report)
     }
 
-    /// The journal's entries in order. Takes no memory.
-    pub fn journal(&self) -> &[Entry]
-        ensures { result.now ≡ self.now }
+    /// The journal's entry with this number, if there is one. Takes no memory.
+    pub fn entry(&self, number: u64) -> Option<KeptEntry<'_>>
+        ensures { result ≡ entry_at self.now number }
     {
-        self.state.journal.as_slice()
+        self.state.journal.entry(number)
     }
 
     /// How many entries the journal has, at most 1,000,000. Takes no memory.

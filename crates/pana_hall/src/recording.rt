@@ -104,7 +104,8 @@ fn settle(
     match report {
         Report::Confirm { entry } => it.confirm(*entry),
         Report::Withdraw { entry } => {
-            withdraw(it, copies, *entry, &journal.entry(*entry).unwrap().report)
+            let kept = journal.entry(*entry).unwrap();
+            withdraw(it, copies, *entry, kept.report())
         }
         _ => unreachable!(),
     }

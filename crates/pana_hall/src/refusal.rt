@@ -1,7 +1,7 @@
 //! Why calls are refused, memory aside. None of this takes memory.
 ghost use Rattle.std.specs.Prelude.{◌≡◌, ◌==◌, not, [], ◌∷◌, true, None, Some, Option, ℕ};
 ghost use Rattle.pana_hall.specs.{inner.Spots.IsThere, inner.Spots.other_there, Accepted.IsAccepted, Living.living, Pending.is_last};
-ghost use Rattle.pana_hall.specs.{Effective.is_of_copies, inner.Kept.AreSpots, inner.State.IsHeld};
+ghost use Rattle.pana_hall.specs.{Effective.is_of_copies, Family.is_register, inner.Kept.AreSpots, inner.State.IsHeld};
 ghost use Rattle.pana_journal.specs.declared.report.Report.TheVariants as reports;
 ghost use Rattle.pana_hall.specs.Refusal.{first, full, unknown, same, other_family, taken, family_full, too_deep, unknown_entry, not_yours, pending_with, settled, settled_or_followed, displaced, taken_since, unknown_family, report_refusal, query_refusal};
 
@@ -36,6 +36,13 @@ fn is_of_copies(report: &Report) -> bool
     ensures { result ≡ is_of_copies report.now }
 {
     !matches!(report, Report::Confirm { .. } | Report::Withdraw { .. })
+}
+
+/// Whether it begins a family.
+fn is_register(report: &Report) -> bool
+    ensures { result ≡ is_register report.now }
+{
+    matches!(report, Report::Register { .. })
 }
 
 /// The copy that a report moves or removes.
@@ -105,17 +112,18 @@ impl State {
     fn unknown_entry(&self, number: u64) -> Option<Cause>
         ensures { result ≡ unknown_entry number self.now.journal.entries }
     {
-        match self.journal.entry(number) {
-            Some(entry) if is_of_copies(&entry.report) => None,
-            _ => Some(Cause::UnknownEntry),
-        }
+        let is_known = match self.journal.entry(number) {
+            Some(entry) => is_of_copies(entry.report()),
+            None => false,
+        };
+        (!is_known).then_some(Cause::UnknownEntry)
     }
 
     fn not_yours(&self, by: &DeviceName, number: u64) -> Option<Cause>
         ensures { result ≡ not_yours by.now number self.now.journal.entries }
     {
         let entry = self.journal.entry(number)?;
-        (entry.by != *by).then_some(Cause::NotYours)
+        (*entry.by() != *by).then_some(Cause::NotYours)
     }
 
     #[tactic(auto, using(crate::proofs::Listed::entry_within, crate::proofs::Answered::none_pending))]
@@ -156,7 +164,8 @@ impl State {
         requires last { is_last number (pending_with 8 number self.now.journal.entries) ≡ true }
         ensures { result ≡ taken_since number self.now.journal.entries }
     {
-        let copy = displaced(&self.journal.entry(number)?.report)?;
+        let entry = self.journal.entry(number)?;
+        let copy = displaced(entry.report())?;
         self.taken_from(copy, self.family(number).last_place()?)
     }
 
@@ -226,10 +235,11 @@ impl State {
     fn unknown_family(&self, number: u64) -> Option<Cause>
         ensures { result ≡ unknown_family number self.now.journal.entries }
     {
-        match self.journal.entry(number) {
-            Some(entry) if matches!(entry.report, Report::Register { .. }) => None,
-            _ => Some(Cause::UnknownFamily),
-        }
+        let is_known = match self.journal.entry(number) {
+            Some(entry) => is_register(entry.report()),
+            None => false,
+        };
+        (!is_known).then_some(Cause::UnknownFamily)
     }
 
     /// Why a query is refused.

@@ -16,7 +16,7 @@ impl State {
     pub fn sum_by(&self, entry: u32) -> Option<&Sum>
         ensures { option_copied result ≡ option_and_then (λ e. given_sum e.report) (entry_at self.now.journal.entries entry) }
     {
-        self.journal.entry(u64::from(entry))?.report.sum()
+        self.journal.sum(u64::from(entry))
     }
 
     /// The entry that says what both copies hold, where they hold the same.
@@ -67,8 +67,8 @@ impl State {
         match report {
             Report::Withdraw { entry } => {
                 let (first, second) = self.family(*entry).last_said();
-                let report = &self.journal.entry(*entry).unwrap().report;
-                sayings_of(*entry, report, first, second)
+                let kept = self.journal.entry(*entry).unwrap();
+                sayings_of(*entry, kept.report(), first, second)
             }
             _ => {
                 let said = self.content_by(by, report);

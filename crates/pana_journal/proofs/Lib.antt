@@ -1,2 +1,3 @@
+pub mod Lines
+pub mod Kept
 pub mod Pages
-pub mod Numbers

@@ -1,12 +1,38 @@
 -- A page of a list.
-use Rattle.std.proofs.Common.{◌≡◌, ℕ, ◌-◌, min, List, length, take, drop, ap, ◌∙◌, arith}
-use Rattle.std.proofs.lemmas.List.{drop_min, take_min, take_all, length-drop}
+use Rattle.std.specs.Prelude.{◌≡◌, ℕ, suc, ◌+◌, ◌-◌, ◌<◌, ◌≤◌, min, List, [], ◌∷◌, ◌++◌, length, take, drop, Option, Some, None, IsSome, slice_get}
+use Rattle.std.proofs.Common.{refl, subst, ap, ◌∙◌, sym, arith}
+use Rattle.std.proofs.lemmas.List.{drop_min, take_min, length-drop}
+use Rattle.std.proofs.lemmas.Option.{slice_get-get_or}
+use Rattle.pana_journal.specs.declared.entry.Entry.{Entry}
+use Rattle.pana_journal.specs.Entries.{entry_at, page}
+use Rattle.pana_journal.proofs.Lines.{if_later, take_next}
 
--- the first n of what lies behind the first m
-pub take_rest_min : {X : Type 0} (n m i k : ℕ) (xs : List X) → i ≡ min m (length xs) → k ≡ min n (length (take (length xs - i) (drop i xs)))
-    → take k (take (length xs - i) (drop i xs)) ≡ take n (drop m xs)
-take_rest_min n m i k xs first count =
-    let whole : take (length xs - i) (drop i xs) ≡ drop i xs = take_all (length xs - i) (drop i xs) (omega (arith, length-drop i xs)) in
-    ap (λ j. take j (take (length xs - i) (drop i xs))) count
-    ∙ take_min n (take (length xs - i) (drop i xs))
-    ∙ ap (take n) (whole ∙ ap (λ j. drop j xs) first ∙ drop_min m xs)
+-- the entry behind the first so many
+pub entry_behind : (entries : List Entry) (i : ℕ) → entry_at entries (i + 1) ≡ slice_get entries i
+entry_behind entries i =
+    let next : i + 1 ≡ suc i = omega arith in
+    let before : suc i - 1 ≡ i = omega arith in
+    ap (entry_at entries) next ∙ if_later i None (slice_get entries (suc i - 1)) ∙ ap (slice_get entries) before
+
+-- within a list something stands
+pub some_behind : (entries : List Entry) (i : ℕ) (found : Option Entry) → i < length entries → found ≡ entry_at entries (i + 1) → IsSome found
+some_behind [] i found within is = absurd (omega (arith, within))
+some_behind (e ∷ entries) i found within is = subst IsSome (sym (is ∙ entry_behind (e ∷ entries) i ∙ slice_get-get_or (e ∷ entries) i e within)) refl
+
+-- what a loop has copied, and one more
+pub page_next : (entries : List Entry) (first i : ℕ) (entry : Entry) → first ≤ i → entry_at entries (i + 1) ≡ Some entry
+    → take (i - first) (drop first entries) ++ entry ∷ [] ≡ take (i + 1 - first) (drop first entries)
+page_next entries first i entry within at =
+    let same : first + (i - first) ≡ i = omega (arith, within) in
+    let more : suc (i - first) ≡ i + 1 - first = omega (arith, within) in
+    sym (take_next entries first (i - first) entry (ap (slice_get entries) same ∙ sym (entry_behind entries i) ∙ at)) ∙ ap (λ j. take j (drop first entries)) more
+
+-- all that was copied is the page
+pub page_is : (entries : List Entry) (from first count number : ℕ) → first ≡ min (from - 1) (length entries) → count ≡ min 100 (length entries - first) → number ≡ first + count
+    → take (number - first) (drop first entries) ≡ page entries from
+page_is entries from first count number begins counts ends =
+    let rest : length (drop first entries) ≡ length entries - first = length-drop first entries in
+    let all : number - first ≡ min 100 (length (drop first entries)) = omega (arith, rest, counts, ends) in
+    ap (λ j. take j (drop first entries)) all
+    ∙ take_min 100 (drop first entries)
+    ∙ ap (take 100) (ap (λ j. drop j entries) begins ∙ drop_min (from - 1) entries)

@@ -1,5 +1,5 @@
 -- The journal as a list of entries.
-use Rattle.std.specs.Prelude.{◌≡◌, ◌==◌, ℕ, ◌+◌, ◌-◌, min, List, if◌then◌else◌, take, drop, Option, Some, None, slice_get}
+use Rattle.std.specs.Prelude.{◌≡◌, ◌==◌, ℕ, ◌+◌, ◌-◌, List, if◌then◌else◌, take, drop, Option, Some, None, slice_get}
 use Rattle.pana_journal.specs.declared.entry.Entry.{Entry}
 
 -- what contracts see of a journal: its entries, and for how many more room is reserved
@@ -14,10 +14,6 @@ IsNumbered entries = (i : ℕ) (entry : Entry) → slice_get entries i ≡ Some 
 -- the entry with this number
 abbrev pub entry_at : List Entry → ℕ → Option Entry
 entry_at entries number = if number == 0 then None else slice_get entries (number - 1)
-
--- for how many entries more there is memory, of the 1,000,000 that a journal takes
-abbrev pub room_of : (length capacity : ℕ) → ℕ
-room_of length capacity = min (capacity - length) (1000000 - length)
 
 -- the entries from a number on, at most 100; 0 counts as 1
 abbrev pub page : List Entry → ℕ → List Entry

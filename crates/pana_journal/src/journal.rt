@@ -1,18 +1,21 @@
-ghost use Rattle.std.specs.Prelude.{◌≡◌, ◌+◌, ◌<◌, ◌≤◌, ◌↔◌, [], ◌∷◌, ◌++◌, length, nat_le, option_copied, IfSome, IfOk, OnOk, OnErr, IsErrOf};
+ghost use Rattle.std.specs.Prelude.{◌≡◌, ◌+◌, ◌-◌, ◌<◌, ◌≤◌, ◌↔◌, ◌==◌, [], ◌∷◌, ◌++◌, length, nat_le, None, option_copied, option_map, option_and_then, slice_get, if◌then◌else◌, IfOk, OnOk, OnErr, IsErrOf};
+ghost use Rattle.pana_journal.specs.Reports.{given_sum};
 
 use crate::entry::Entry;
+use crate::kept_entry::KeptEntry;
+use crate::line::{Line, keep_name, keep_report, report_kept, sum_kept};
 use crate::report::Report;
-use pana_copies::DeviceName;
+use pana_copies::{DeviceName, Sum};
 use pana_list::PlainList;
 use std::alloc::{AllocError, Global};
 use std::marker::Model;
 use thiserror::Error;
 
 /// How many entries a journal takes.
-const MOST_ENTRIES: usize = 1_000_000;
+const MOST_ENTRIES: u64 = 1_000_000;
 
 /// How many entries a page of the journal has at most.
-const PAGE: usize = 100;
+const PAGE: u64 = 100;
 
 /// Entries of a journal.
 pub type EntryList = PlainList<Entry>;
@@ -28,26 +31,50 @@ pub enum JournalFault {
 
 /// The entries in order, numbered from 1 without gaps.
 ///
-/// An entry goes in by two calls: `reserve`, which may fail, and then `append`, which can't.
+/// An entry goes in by two calls: `reserve`, which may fail, and then `append`, which can't. It takes 16 bytes, and 72 more where
+/// it isn't an Edit, a Reconcile or a Merge without a sum.
 pub struct Journal {
-    entries: Vec<Entry>,
+    /// The names of devices that have reported, some more than once.
+    names: Vec<DeviceName>,
+    /// The reports that lines have no room for.
+    others: Vec<Report>,
+    lines: Vec<Line>,
+    /// For how many entries more there is room in each of them.
+    room: usize,
+}
+
+/// The line of the entry with this number, if there is one.
+fn line_at(lines: &[Line], number: u64) -> Option<&Line>
+    ensures { option_copied result ≡ (if number == 0 then None else slice_get lines.now (number - 1)) }
+{
+    lines.get(number.checked_sub(1)? as usize)
 }
 
 impl Drop for Journal {
     fn drop(self) {
-        let Journal { entries: _ } = self;
+        let Journal {
+            names: _,
+            others: _,
+            lines: _,
+            room: _,
+        } = self;
     }
 }
 
 impl Model for Journal {
-    ghost use Rattle.std.specs.Prelude.{◌≤◌, vec_len, vec_capacity};
-    ghost use Rattle.pana_journal.specs.Entries.{Contents, IsNumbered, room_of};
+    ghost use Rattle.std.specs.Prelude.{◌≤◌, ◌+◌, vec_len, vec_capacity};
+    ghost use Rattle.pana_journal.specs.Entries.{Contents};
+    ghost use Rattle.pana_journal.specs.inner.Lines.{AreThere, HasRoom, entries_kept};
 
     ghost Value = { Contents };
 
-    ghost view = { λ j. record { entries = j.entries.items; room = room_of (vec_len j.entries) (vec_capacity j.entries) } };
+    ghost view = { λ j. record { entries = entries_kept j.names.items j.others.items 1 j.lines.items; room = j.room } };
 
-    ghost invariant = { λ j. (vec_len j.entries ≤ 1000000) × IsNumbered j.entries.items };
+    ghost invariant = { λ j. AreThere j.names.items j.others.items j.lines.items
+        × HasRoom (vec_len j.lines) j.room (vec_len j.names) (vec_capacity j.names)
+        × HasRoom (vec_len j.lines) j.room (vec_len j.others) (vec_capacity j.others)
+        × HasRoom (vec_len j.lines) j.room (vec_len j.lines) (vec_capacity j.lines)
+        × (vec_len j.lines + j.room ≤ 1000000) };
 }
 
 impl Journal {
@@ -58,8 +85,24 @@ impl Journal {
         ensures { result.entries ≡ [] }
     {
         Journal {
-            entries: Vec::new(alloc),
+            names: Vec::new(alloc),
+            others: Vec::new(alloc),
+            lines: Vec::new(alloc),
+            room: 0,
         }
+    }
+
+    fn reserve_lists(&mut self, count: usize) -> Result<(), AllocError>
+        requires { length self.old.entries + count ≤ 1000000 }
+        ensures entries { self.new.entries ≡ self.old.entries }
+        ensures ok { OnOk result (count ≤ self.new.room) }
+        ensures err { OnErr result (self.new ≡ self.old) }
+    {
+        self.lines.reserve(count)?;
+        self.names.reserve(count)?;
+        self.others.reserve(count)?;
+        self.room = self.room.max(count);
+        Ok(())
     }
 
     /// Reserves room for so many entries more, which stays until it is used.
@@ -73,10 +116,10 @@ impl Journal {
         ensures full { IsErrOf result JournalFault.JournalFull ↔ (1000000 < length self.old.entries + count) }
         ensures err { OnErr result (self.new ≡ self.old) }
     {
-        if MOST_ENTRIES - self.entries.len() < count {
+        if MOST_ENTRIES - self.length() < count as u64 {
             return Err(JournalFault::JournalFull);
         }
-        match self.entries.reserve(count) {
+        match self.reserve_lists(count) {
             Ok(()) => Ok(()),
             Err(_) => Err(JournalFault::OutOfMemory),
         }
@@ -89,17 +132,28 @@ impl Journal {
         ensures entries { self.new.entries ≡ self.old.entries ++ record { number = result; by = by; report = report } ∷ [] }
         ensures room { self.old.room ≤ self.new.room + 1 }
     {
-        let number = self.length() + 1;
-        self.entries.push_reserved(Entry { number, by, report });
-        number
+        let by = keep_name(&mut self.names, by);
+        let report = keep_report(&mut self.others, report);
+        self.lines.push_reserved(Line { by, report });
+        self.room -= 1;
+        self.length()
     }
 
     /// The entry with this number, if there is one. Takes no memory.
-    pub fn entry(&self, number: u64) -> Option<&Entry>
-        ensures entry { option_copied result ≡ entry_at self.now.entries number }
-        ensures number { IfSome result (λ entry. entry.now.number ≡ number) }
+    pub fn entry(&self, number: u64) -> Option<KeptEntry<'_>>
+        ensures { result ≡ entry_at self.now.entries number }
     {
-        self.entries.get(number.checked_sub(1)? as usize)
+        let line = line_at(self.lines.as_slice(), number)?;
+        let report = report_kept(line.report, self.others.as_slice());
+        Some(KeptEntry::new(number, &self.names[line.by as usize], report))
+    }
+
+    /// The sum that the entry with this number gives, if there is one and it does. Takes no memory.
+    pub fn sum(&self, number: u64) -> Option<&Sum>
+        ensures { option_copied result ≡ option_and_then (λ entry. given_sum entry.report) (entry_at self.now.entries number) }
+    {
+        let line = line_at(self.lines.as_slice(), number)?;
+        sum_kept(line.report, self.others.as_slice())
     }
 
     /// The entries from this number on, at most 100; 0 counts as 1, and there is none past the end. Fails only where
@@ -107,29 +161,15 @@ impl Journal {
     pub fn slice(&self, from: u64) -> Result<EntryList, AllocError>
         ensures { IfOk result (λ list. list ≡ page self.now.entries from) }
     {
-        let alloc = *self.entries.allocator();
-        let entries = self.page(from);
-        let mut copies = Vec::with_capacity(alloc, entries.len())?;
-        for entry in entries {
-            copies.push(entry.copy_of(alloc)?)?;
+        let first = from.saturating_sub(1).min(self.length());
+        let count = PAGE.min(self.length() - first);
+        let alloc = *self.lines.allocator();
+        let mut copies = Vec::with_capacity(alloc, count as usize)?;
+        for number in first..first + count {
+            let entry = self.entry(number + 1).unwrap().copy_of(alloc)?;
+            copies.push(entry)?;
         }
         Ok(EntryList::from_vec(copies))
-    }
-
-    /// All entries in order. Takes no memory.
-    pub fn as_slice(&self) -> &[Entry]
-        ensures entries { result.now ≡ self.now.entries }
-        ensures numbered { IsNumbered self.now.entries }
-    {
-        self.entries.as_slice()
-    }
-
-    fn page(&self, from: u64) -> &[Entry]
-        ensures { result.now ≡ page self.now.entries from }
-    {
-        let first = (from.saturating_sub(1) as usize).min(self.entries.len());
-        let rest = &self.entries[first..];
-        &rest[..PAGE.min(rest.len())]
     }
 
     /// How many entries there are, at most 1,000,000. Takes no memory.
@@ -138,13 +178,13 @@ impl Journal {
         ensures within { length self.now.entries ≤ 1000000 }
         ensures numbered { IsNumbered self.now.entries }
     {
-        self.entries.len() as u64
+        self.lines.len() as u64
     }
 
     /// Whether the journal has all the 1,000,000 entries that it takes. Takes no memory.
     pub fn is_full(&self) -> bool
         ensures { result ≡ nat_le 1000000 (length self.now.entries) }
     {
-        self.entries.len() >= MOST_ENTRIES
+        self.length() >= MOST_ENTRIES
     }
 }

@@ -1,5 +1,6 @@
 //! A hall that has more than its log is made anew.
-ghost use Rattle.std.specs.Prelude.{◌≡◌, ◌++◌, None, take, IfErr, IfOk, OnOk};
+ghost use Rattle.std.specs.Prelude.{◌≡◌, [], None, Some, IsSome, take, IfErr, IfOk, OnOk};
+ghost use Rattle.pana_journal.specs.Entries.{entry_at};
 ghost use Rattle.pana_shared.specs.declared.read_fault.ReadFault.TheVariants.{OutOfMemory};
 ghost use Rattle.pana_shared_store.specs.inner.Groups.{shown};
 
@@ -10,28 +11,45 @@ use pana_journal::Entry;
 use pana_shared::ReadFault;
 use std::alloc::Global;
 
-/// Makes the entries the next ones of the hall's journal.
+/// A copy of an entry that the hall's journal has.
 ///
 /// # Errors
 ///
-/// As `follow`, at the first that can't be followed.
-fn follow_entries(alloc: Global, hall: &mut Hall, entries: &[Entry]) -> Result<(), ReadFault>
-    ensures { OnOk result (hall.new ≡ hall.old ++ entries.now) }
+/// `OutOfMemory`.
+fn copy_of(alloc: Global, hall: &Hall, number: u64) -> Result<Entry, ReadFault>
+    requires { IsSome (entry_at hall.now number) }
+    ensures { IfOk result (λ entry. Some entry ≡ entry_at hall.now number) }
 {
-    for entry in entries {
-        follow(alloc, hall, entry)?;
+    match hall.entry(number).unwrap().copy_of(alloc) {
+        Ok(entry) => Ok(entry),
+        Err(_) => Err(ReadFault::OutOfMemory),
+    }
+}
+
+/// Makes the first so many entries of the other hall's journal the first ones of this one's, which is empty.
+///
+/// # Errors
+///
+/// As `follow`, at the first that can't be followed; `OutOfMemory`.
+fn follow_first(alloc: Global, hall: &mut Hall, other: &Hall, count: u64) -> Result<(), ReadFault>
+    requires { hall.old ≡ [] }
+    ensures { OnOk result (hall.new ≡ take count other.now) }
+{
+    for index in 0..count.min(other.length()) {
+        let entry = copy_of(alloc, other, index + 1)?;
+        follow(alloc, hall, &entry)?;
     }
     Ok(())
 }
 
-/// The hall of the entries, which are those of a journal: so only memory may run out for it.
-fn hall_of(alloc: Global, entries: &[Entry]) -> Result<Hall, ReadFault>
-    ensures { IfOk result (λ hall. hall ≡ entries.now) }
+/// A hall of the first so many entries of another one's journal: so only memory may run out for it.
+fn hall_of(alloc: Global, other: &Hall, count: u64) -> Result<Hall, ReadFault>
+    ensures { IfOk result (λ hall. hall ≡ take count other.now) }
 {
     let Ok(mut hall) = Hall::new(alloc) else {
         return Err(ReadFault::OutOfMemory);
     };
-    if let Err(fault) = follow_entries(alloc, &mut hall, entries) {
+    if let Err(fault) = follow_first(alloc, &mut hall, other, count) {
         drop(hall);
         return Err(fault);
     }
@@ -55,9 +73,7 @@ pub(crate) fn remake(
     let Some(count) = *kept else {
         return Ok(());
     };
-    let journal = hall.journal();
-    let first = (count as usize).min(journal.len());
-    let Ok(made) = hall_of(alloc, &journal[..first]) else {
+    let Ok(made) = hall_of(alloc, hall, count) else {
         return Err(ReadFault::OutOfMemory);
     };
     put_into(hall, made);

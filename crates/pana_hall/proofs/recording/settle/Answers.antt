@@ -1,4 +1,4 @@
-use Rattle.pana_hall.proofs.Words.{nat_tests, arith, ◌≡◌, Some, option_copied, sym, ap, ◌∙◌, subst, last_place, listed, CanUndo}
+use Rattle.pana_hall.proofs.Words.{nat_tests, arith, ◌≡◌, Some, sym, ap, ◌∙◌, subst, last_place, listed, CanUndo}
 use Rattle.pana_hall.specs.inner.Next.{is_edit}
 use Rattle.pana_hall.proofs.Ready.{as_is, opened, can_undo, undone_spots, family_confirmed, family_withdrawn, spots_confirm}
 use Rattle.pana_hall.proofs.recording.settle.Goals as goal
@@ -7,9 +7,10 @@ pub withdraw-requires-clause-undo : goal.withdraw-requires-clause-undo
 withdraw-requires-clause-undo c =
     let ready = as_is c.requires.ready c.in-Withdraw.is in
     let o = opened ready in
-    let both : Some o.ends.last ≡ Some c.unwrap.result.now = sym o.ends.at ∙ sym c.entry.ensures.entry ∙ ap option_copied c.unwrap.ensures in
-    let same : o.ends.last ≡ c.unwrap.result.now = cc in
-    subst (λ e. CanUndo c.in-Withdraw.entry e.report (listed c.args.it.now).number (last_place (listed c.args.it.now).undo) c.args.copies.now) same (can_undo ready)
+    let both : Some o.ends.last ≡ Some c.unwrap-kept.result = sym o.ends.at ∙ sym c.entry.ensures ∙ c.unwrap-kept.ensures in
+    let last : o.ends.last ≡ c.unwrap-kept.result = cc in
+    let same : o.ends.last.report ≡ c.report.result.now = ap (λ e. e.report) last ∙ sym c.report.ensures in
+    subst (λ r. CanUndo c.in-Withdraw.entry r (listed c.args.it.now).number (last_place (listed c.args.it.now).undo) c.args.copies.now) same (can_undo ready)
 
 pub withdraw-requires-clause-room : goal.withdraw-requires-clause-room
 withdraw-requires-clause-room c = c.requires.room (ap is_edit c.in-Withdraw.is)

@@ -1,0 +1,156 @@
+//! What a journal keeps of an entry: most are edits, reconciles and merges without a sum, and take 16 bytes.
+ghost use Rattle.std.specs.Prelude.{◌≡◌, ℕ, ◌+◌, ◌<◌, ◌≤◌, List, length, IfSome, Some, slice_get, option_copied, vec_len, vec_capacity};
+ghost use Rattle.std.specs.Cow.{cow_value};
+ghost use Rattle.pana_journal.specs.declared.report.Report.{Report as AReport};
+ghost use Rattle.pana_journal.specs.{inner.Lines.IsThere, inner.Lines.Keeps, inner.Lines.report_kept, Reports.given_sum};
+
+use crate::report::Report;
+use pana_copies::{DeviceName, Sum};
+use std::borrow::Cow;
+
+/// Of how many names at the end of a list one is looked for.
+const RECENT: usize = 16;
+
+/// An entry without its number.
+#[derive(Clone, Copy)]
+pub(crate) struct Line {
+    /// The index of the device's name in a list of names.
+    pub(crate) by: u32,
+    pub(crate) report: Kept,
+}
+
+const _: () = prove!(size_of::<Line>() == 16);
+
+/// A report, beside a list of those that aren't one of the first three.
+#[derive(Clone, Copy)]
+pub(crate) enum Kept {
+    /// An Edit without a sum.
+    Edit { copy: u32 },
+    /// A Reconcile without a sum.
+    Reconcile { a: u32, b: u32 },
+    /// A Merge without a sum.
+    Merge { a: u32, b: u32 },
+    /// The report at this index of the list.
+    Other { index: u32 },
+}
+
+/// The number in half the bytes, if it has room there.
+fn short(number: u64) -> Option<u32>
+    ensures { IfSome result (λ it. it ≡ number) }
+{
+    u32::try_from(number).ok()
+}
+
+/// Two numbers in half the bytes, if they have room there.
+fn short_pair(a: u64, b: u64) -> Option<(u32, u32)>
+    ensures { IfSome result (λ it. (it.0 ≡ a) × (it.1 ≡ b)) }
+{
+    Some((short(a)?, short(b)?))
+}
+
+/// The report without a list, where it can be kept so.
+fn kept_alone(report: &Report) -> Option<Kept>
+    ensures is { IfSome result (λ kept. (others : List AReport) → report_kept others kept ≡ report.now) }
+    ensures there { IfSome result (λ kept. (others : ℕ) → IsThere others kept) }
+{
+    match report {
+        Report::Edit { copy, sum: None } => Some(Kept::Edit {
+            copy: short(*copy)?,
+        }),
+        Report::Reconcile { a, b, sum: None } => {
+            let (a, b) = short_pair(*a, *b)?;
+            Some(Kept::Reconcile { a, b })
+        }
+        Report::Merge { a, b, sum: None } => {
+            let (a, b) = short_pair(*a, *b)?;
+            Some(Kept::Merge { a, b })
+        }
+        _ => None,
+    }
+}
+
+/// Keeps a report, at the end of the list of others where it can't be kept without. Takes no memory.
+pub(crate) fn keep_report(others: &mut Vec<Report>, report: Report) -> Kept
+    requires room { vec_len others.old < vec_capacity others.old }
+    requires few { vec_len others.old ≤ 1000000 }
+    ensures is { report_kept others.new.items result ≡ report }
+    ensures there { IsThere (length others.new.items) result }
+    ensures keeps { Keeps others.old.items others.new.items }
+    ensures more { vec_len others.new ≤ vec_len others.old + 1 }
+    ensures least { length others.old.items ≤ length others.new.items }
+    ensures capacity { vec_capacity others.new ≡ vec_capacity others.old }
+{
+    if let Some(kept) = kept_alone(&report) {
+        drop(report);
+        return kept;
+    }
+    let index = others.len() as u32;
+    others.push_reserved(report);
+    Kept::Other { index }
+}
+
+/// The index of this name among the last ones, if it is one of them.
+fn recent_index(names: &[DeviceName], by: &DeviceName) -> Option<usize>
+    ensures { IfSome result (λ index. slice_get names.now index ≡ Some by.now) }
+{
+    for back in 1..=RECENT.min(names.len()) {
+        let index = names.len() - back;
+        if names[index] == *by {
+            return Some(index);
+        }
+    }
+    None
+}
+
+/// Keeps a name, at the end of the list where it isn't one of the last ones, and returns its index. Takes no memory.
+pub(crate) fn keep_name(names: &mut Vec<DeviceName>, by: DeviceName) -> u32
+    requires room { vec_len names.old < vec_capacity names.old }
+    requires few { vec_len names.old ≤ 1000000 }
+    ensures is { slice_get names.new.items result ≡ Some by }
+    ensures keeps { Keeps names.old.items names.new.items }
+    ensures more { vec_len names.new ≤ vec_len names.old + 1 }
+    ensures least { length names.old.items ≤ length names.new.items }
+    ensures capacity { vec_capacity names.new ≡ vec_capacity names.old }
+{
+    if let Some(index) = recent_index(names.as_slice(), &by) {
+        return index as u32;
+    }
+    let index = names.len() as u32;
+    names.push_reserved(by);
+    index
+}
+
+/// The report that is kept so. Takes no memory.
+pub(crate) fn report_kept(kept: Kept, others: &[Report]) -> Cow<'_, Report>
+    requires { IsThere (length others.now) kept }
+    ensures { cow_value result ≡ report_kept others.now kept }
+{
+    match kept {
+        Kept::Edit { copy } => Cow::Owned(Report::Edit {
+            copy: u64::from(copy),
+            sum: None,
+        }),
+        Kept::Reconcile { a, b } => Cow::Owned(Report::Reconcile {
+            a: u64::from(a),
+            b: u64::from(b),
+            sum: None,
+        }),
+        Kept::Merge { a, b } => Cow::Owned(Report::Merge {
+            a: u64::from(a),
+            b: u64::from(b),
+            sum: None,
+        }),
+        Kept::Other { index } => Cow::Borrowed(&others[index as usize]),
+    }
+}
+
+/// The sum that is kept with a report, if it gives one. Takes no memory.
+pub(crate) fn sum_kept(kept: Kept, others: &[Report]) -> Option<&Sum>
+    requires { IsThere (length others.now) kept }
+    ensures { option_copied result ≡ given_sum (report_kept others.now kept) }
+{
+    match kept {
+        Kept::Other { index } => others[index as usize].sum(),
+        Kept::Edit { .. } | Kept::Reconcile { .. } | Kept::Merge { .. } => None,
+    }
+}
