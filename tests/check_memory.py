@@ -20,7 +20,8 @@ sys.path.insert(0, str(HERE / "failed_allocations"))
 from failing import Report, compiled  # noqa: E402
 
 COPIES = 300_000
-MOST = 400
+# The most bytes for a registered copy, and for an edit.
+MOST, MOST_EDIT = 400, 40
 FEW, MANY = 1000, 20_000
 PATH = "pictures/2026/holidays/{:07}"
 # The most memory that a process has had so far, in kilobytes.
@@ -61,6 +62,15 @@ def registered(program, _room):
     each = (peak(program, lines) - peak(program, lines[:few])) / (COPIES - few)
     print(f"{each:.0f} bytes a registered copy")
     yield from differs(each <= MOST, True)
+
+
+def edited(program, _room):
+    """An edit takes at most 40 bytes, in the journal and beside it."""
+    lines = [register(0), *[line_of("laptop", "edit", copy=1)] * COPIES]
+    few = 1000
+    each = (peak(program, lines) - peak(program, lines[:few])) / (len(lines) - few)
+    print(f"{each:.0f} bytes an edit")
+    yield from differs(each <= MOST_EDIT, True)
 
 
 def allocations(program, library, lines):
@@ -105,7 +115,7 @@ def allocated(program, room):
         yield from differs(each <= most + (most and 0.01), True)
 
 
-CHECKS = (registered, allocated)
+CHECKS = (registered, edited, allocated)
 
 
 if __name__ == "__main__":

@@ -51,8 +51,10 @@ WELL = f'case "$1" in lib) {LIB} ;; run) {PROGRAM} ;; ci) {CI} ;; must-fail) {ED
 STUB = "print('1 passed, 0 failed')\n"
 PROMISE = "use {}::Count;\n\npub fn sum() -> Count\n    ensures {{ result ≡ {} }}\n{{\n    {}\n}}\n"
 PRIVATE = "use low::other::one;\n\nfn more() -> u64\n    ensures { result ≡ 1 }\n{\n    one()\n}\n"
+CALLER = "use low::sum;\n\npub fn high() -> u64\n    ensures { result ≡ 4 }\n{\n    sum()\n}\n"
+OTHER = "\npub fn other() -> u64\n    ensures { result ≡ 1 }\n{\n    1\n}\n"
 # What is no stub: the scripts that the checks look at.
-REAL = {"edits.py", "gate.py", "parts.py", "quick.py", "try_edits.py"}
+REAL = {"edits.py", "gate.py", "parts.py", "promises.py", "quick.py", "try_edits.py"}
 
 
 class Kit:
@@ -300,7 +302,7 @@ def untried_edits(kit):
 
 
 def stale_edits(kit):
-    """./test tries the edits again where their crate, what one below it promises, the edit or the kit has changed, or a line's sum is wrong, but for a kit that it had before."""
+    """./test tries the edits again where their crate, what it comes to of one below, the edit or the kit has changed, or a line's sum is wrong, but for a kit that it had before."""
     kit.has_edits(10, "refused")
     kit.run("./test")
     first = kit.record()
@@ -308,11 +310,12 @@ def stale_edits(kit):
     file = kit.repository / "tests" / "edits-tried"
     source = kit.repository / "crates/low/src/lib.rt"
     changes = (
-        (lambda: (kit.repository / "crates/high/src/lib.rt").write_text("//! Something.\n"), high),
+        (lambda: (kit.repository / "crates/high/src/lib.rt").write_text(CALLER), high),
         (lambda: source.write_text(f"//! Something.\n{PROMISE.format('low', 4, 4)}"), low + high),
         (lambda: source.write_text(f"//! Another thing.\n{PROMISE.format('low', 4, '2 + 2')}{PRIVATE}"), low),
         (lambda: source.write_text(f"//! Another thing.\n{PROMISE.format('low', 5, '2 + 2')}{PRIVATE}"), low + high),
         (lambda: source.write_text(f"//! Another thing.\n{PROMISE.format('low::whole', 5, '2 + 2')}{PRIVATE}"), low + high),
+        (lambda: source.write_text(f"//! Another thing.\n{PROMISE.format('low::whole', 5, '2 + 2')}{OTHER}"), low),
         (lambda: (kit.repository / "crates" / low[0].replace("/", "/must-fail/")).write_text("refused\n\n"), low[:1]),
         (lambda: file.write_text("".join(f"{it.split()[0]} {'0' * 64 if it.startswith(high[0]) else it.split()[1]}\n" for it in kit.record())), high[:1]),
         (lambda: file.write_text("".join(f"{it}\n" for it in kit.record() if not it.startswith(high[1]))), high[1:2]),

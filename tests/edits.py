@@ -1,6 +1,6 @@
 """The must-fail edits, and the record of those that a clause refused: tests/edits-tried.
 
-What becomes of an edit follows from its text, its crate, what the crates below promise, and the kit. So a line of the
+What becomes of an edit follows from its text, its crate, what of the crates below it can come to (promises.py), and the kit. So a line of the
 record has the edit's name and one sum of all these, and the edit need not be tried again while its sum is the same.
 Behind it stands the sum before, since machines may have two kits: each finds the sum of its own.
 A line is written where a run saw the edit refused. A twentieth of those that need not be tried are tried all the same,
@@ -10,29 +10,17 @@ from __future__ import annotations
 
 import hashlib
 import os
-import re
 import sys
 import time
 from pathlib import Path
 
 TOP = Path(__file__).resolve().parent.parent
 sys.path.insert(0, str(TOP / "tools"))
+import promises  # noqa: E402
 import prove  # noqa: E402
 
 RECORD = TOP / "tests" / "edits-tried"
 PARTS = ("src", "specs", "proofs")
-# A function that has clauses: after `rt fmt` its body stands between two lines of one brace each, as deep as its head.
-FUNCTION = re.compile(
-    r"^(?P<depth> *)(?P<public>pub )?(?P<inner>pub\([^)]*\) )?(?:const )?fn (?:(?!(?P=depth)\}).*\n)*?"
-    r"(?P=depth)\{\n(?P<body>(?:(?!(?P=depth)\}$).*\n)*)(?P=depth)\}\n",
-    re.MULTILINE,
-)
-# What no other crate sees of a file: comments, how a body is compiled or proved, and empty lines.
-UNSEEN = re.compile(r"^ *//.*\n|^ *#\[(?:inline|cold|tactic).*\]\n|^\n", re.MULTILINE)
-USE = re.compile(r"^use ([^;]*);\n", re.MULTILINE)
-WORD = re.compile(r"\w+")
-# Words of a `use` that name nothing which a file uses.
-ROOTS = {"crate", "self", "std", "super"}
 TWENTIETHS = 20
 SUMS_KEPT = 2
 SECONDS_A_DAY = 86_400
@@ -59,31 +47,12 @@ def crate_sum(kit, name):
     return sum_of([Path(kit) / "KIT-ID", *files], [(it, prove.uses()[it]) for it in below])
 
 
-def promise(found):
-    """What is left of a function, a match of FUNCTION, where only its clauses are of interest: nothing if no other crate can call it."""
-    if found["inner"] or not (found["public"] or found["depth"]):
-        return ""
-    return found.string[found.start() : found.start("body")]
-
-
-def promises(file):
-    """What other crates can rest on in a file of a crate: of a source what is left without comments and bodies that have clauses,
-    and without the `use` of what these alone name; and all of a file of definitions or lemmas. Answers to the goals of one
-    function, in folders of `proofs/`, are nothing to them."""
-    text = file.read_text(encoding="utf-8")
-    if file.suffix == ".rt":
-        left = FUNCTION.sub(promise, UNSEEN.sub("", text))
-        named = {*WORD.findall(USE.sub("", left))} - ROOTS
-        return USE.sub(lambda found: found[0] if named & {*WORD.findall(found[1])} else "", left)
-    of_one = "proofs" in file.relative_to(TOP).parts and file.parent.name != "proofs"
-    return "" if of_one else text
-
-
 def edits_sum(kit, name):
-    """One sum of all that the verdicts on the crate's edits rest on: its files, what those of the crates below promise, and the kit."""
+    """One sum of all that the verdicts on the crate's edits rest on: its files, what it comes to of what the crates below declare, and the kit."""
     below = prove.with_those_below([name])
-    promised = [(it, [*filter(None, map(promises, sources(it)))]) for it in below if it != name]
-    return sum_of([Path(kit) / "KIT-ID", *sources(name)], promised, [(it, prove.uses()[it]) for it in below])
+    declared = [found for it in below if it != name for file in sources(it) for found in promises.declarations(file)]
+    keys = promises.keys_of([*sources(name), *(TOP / "crates" / name / "must-fail").glob("*.edit")])
+    return sum_of([Path(kit) / "KIT-ID", *sources(name)], promises.reached(keys, declared), [(it, prove.uses()[it]) for it in below])
 
 
 def names():

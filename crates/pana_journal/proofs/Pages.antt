@@ -1,11 +1,14 @@
 -- A page of a list.
-use Rattle.std.specs.Prelude.{◌≡◌, ℕ, suc, ◌+◌, ◌-◌, ◌<◌, ◌≤◌, min, List, [], ◌∷◌, ◌++◌, length, take, drop, Option, Some, None, IsSome, slice_get}
+use Rattle.std.specs.Prelude.{◌≡◌, ℕ, suc, ◌+◌, ◌-◌, ◌<◌, ◌≤◌, min, List, [], ◌∷◌, ◌++◌, length, take, drop, Option, Some, None, IsSome, slice_get, option_map}
 use Rattle.std.proofs.Common.{refl, subst, ap, ◌∙◌, sym, arith}
 use Rattle.std.proofs.lemmas.List.{drop_min, take_min, length-drop}
 use Rattle.std.proofs.lemmas.Option.{slice_get-get_or}
 use Rattle.pana_journal.specs.declared.entry.Entry.{Entry}
+use Rattle.pana_journal.specs.declared.report.Report.{Report}
+use Rattle.pana_journal.specs.declared.line.Line.{Line}
+use Rattle.pana_journal.specs.inner.Lines.{entries_kept, entry_kept}
 use Rattle.pana_journal.specs.Entries.{entry_at, page}
-use Rattle.pana_journal.proofs.Lines.{if_later, take_next}
+use Rattle.pana_journal.proofs.Lines.{entry_get, if_later, take_next}
 
 -- the entry behind the first so many
 pub entry_behind : (entries : List Entry) (i : ℕ) → entry_at entries (i + 1) ≡ slice_get entries i
@@ -13,11 +16,6 @@ entry_behind entries i =
     let next : i + 1 ≡ suc i = omega arith in
     let before : suc i - 1 ≡ i = omega arith in
     ap (entry_at entries) next ∙ if_later i None (slice_get entries (suc i - 1)) ∙ ap (slice_get entries) before
-
--- within a list something stands
-pub some_behind : (entries : List Entry) (i : ℕ) (found : Option Entry) → i < length entries → found ≡ entry_at entries (i + 1) → IsSome found
-some_behind [] i found within is = absurd (omega (arith, within))
-some_behind (e ∷ entries) i found within is = subst IsSome (sym (is ∙ entry_behind (e ∷ entries) i ∙ slice_get-get_or (e ∷ entries) i e within)) refl
 
 -- what a loop has copied, and one more
 pub page_next : (entries : List Entry) (first i : ℕ) (entry : Entry) → first ≤ i → entry_at entries (i + 1) ≡ Some entry
@@ -36,3 +34,13 @@ page_is entries from first count number begins counts ends =
     ap (λ j. take j (drop first entries)) all
     ∙ take_min 100 (drop first entries)
     ∙ ap (take 100) (ap (λ j. drop j entries) begins ∙ drop_min (from - 1) entries)
+
+-- the entry of a line
+pub kept_behind : (names : List (List ℕ)) (others : List Report) (lines : List Line) (i : ℕ) (line : Line) → slice_get lines i ≡ Some line
+    → entry_at (entries_kept names others 1 lines) (i + 1) ≡ Some (entry_kept names others (i + 1) line)
+kept_behind names others lines i line at =
+    let same : 1 + i ≡ i + 1 = omega arith in
+    entry_behind (entries_kept names others 1 lines) i
+    ∙ entry_get names others 1 lines i
+    ∙ ap (option_map (entry_kept names others (1 + i))) at
+    ∙ ap (λ n. Some (entry_kept names others n line)) same

@@ -1,9 +1,9 @@
-ghost use Rattle.std.specs.Prelude.{◌≡◌, ◌+◌, ◌-◌, ◌<◌, ◌≤◌, ◌↔◌, ◌==◌, [], ◌∷◌, ◌++◌, length, nat_le, None, option_copied, option_map, option_and_then, slice_get, if◌then◌else◌, IfOk, OnOk, OnErr, IsErrOf};
+ghost use Rattle.std.specs.Prelude.{◌≡◌, ◌+◌, ◌-◌, ◌<◌, ◌≤◌, ◌↔◌, ◌==◌, [], ◌∷◌, ◌++◌, length, nat_le, None, Some, option_copied, option_map, option_and_then, slice_get, if◌then◌else◌, IfOk, OnOk, OnErr, IsErrOf};
 ghost use Rattle.pana_journal.specs.Reports.{given_sum};
 
 use crate::entry::Entry;
 use crate::kept_entry::KeptEntry;
-use crate::line::{Line, keep_name, keep_report, report_kept, sum_kept};
+use crate::line::{Line, keep_name, keep_report, report_copy, report_kept, sum_kept};
 use crate::report::Report;
 use pana_copies::{DeviceName, Sum};
 use pana_list::PlainList;
@@ -156,6 +156,20 @@ impl Journal {
         sum_kept(line.report, self.others.as_slice())
     }
 
+    /// A copy of the entry behind the first so many.
+    fn copy_behind(&self, alloc: Global, index: u64) -> Result<Entry, AllocError>
+        requires { index < length self.now.entries }
+        ensures { IfOk result (λ entry. entry_at self.now.entries (index + 1) ≡ Some entry) }
+    {
+        let line = self.lines[index as usize];
+        let report = report_copy(alloc, line.report, self.others.as_slice())?;
+        Ok(Entry {
+            number: index + 1,
+            by: self.names[line.by as usize].copy_of(),
+            report,
+        })
+    }
+
     /// The entries from this number on, at most 100; 0 counts as 1, and there is none past the end. Fails only where
     /// memory runs out.
     pub fn slice(&self, from: u64) -> Result<EntryList, AllocError>
@@ -165,9 +179,8 @@ impl Journal {
         let count = PAGE.min(self.length() - first);
         let alloc = *self.lines.allocator();
         let mut copies = Vec::with_capacity(alloc, count as usize)?;
-        for number in first..first + count {
-            let entry = self.entry(number + 1).unwrap().copy_of(alloc)?;
-            copies.push(entry)?;
+        for index in first..first + count {
+            copies.push(self.copy_behind(alloc, index)?)?;
         }
         Ok(EntryList::from_vec(copies))
     }

@@ -1,11 +1,12 @@
 //! What a journal keeps of an entry: most are edits, reconciles and merges without a sum, and take 16 bytes.
-ghost use Rattle.std.specs.Prelude.{◌≡◌, ℕ, ◌+◌, ◌<◌, ◌≤◌, List, length, IfSome, Some, slice_get, option_copied, vec_len, vec_capacity};
+ghost use Rattle.std.specs.Prelude.{◌≡◌, ℕ, ◌+◌, ◌<◌, ◌≤◌, List, length, IfSome, IfOk, Some, slice_get, option_copied, vec_len, vec_capacity};
 ghost use Rattle.std.specs.Cow.{cow_value};
 ghost use Rattle.pana_journal.specs.declared.report.Report.{Report as AReport};
 ghost use Rattle.pana_journal.specs.{inner.Lines.IsThere, inner.Lines.Keeps, inner.Lines.report_kept, Reports.given_sum};
 
 use crate::report::Report;
 use pana_copies::{DeviceName, Sum};
+use std::alloc::{AllocError, Global};
 use std::borrow::Cow;
 
 /// Of how many names at the end of a list one is looked for.
@@ -141,6 +142,35 @@ pub(crate) fn report_kept(kept: Kept, others: &[Report]) -> Cow<'_, Report>
             sum: None,
         }),
         Kept::Other { index } => Cow::Borrowed(&others[index as usize]),
+    }
+}
+
+/// A copy of the report that is kept so. Fails only where memory runs out.
+// Apart from `report_kept`, since a page has a hundred of them.
+pub(crate) fn report_copy(
+    alloc: Global,
+    kept: Kept,
+    others: &[Report],
+) -> Result<Report, AllocError>
+    requires { IsThere (length others.now) kept }
+    ensures { IfOk result (λ report. report ≡ report_kept others.now kept) }
+{
+    match kept {
+        Kept::Edit { copy } => Ok(Report::Edit {
+            copy: u64::from(copy),
+            sum: None,
+        }),
+        Kept::Reconcile { a, b } => Ok(Report::Reconcile {
+            a: u64::from(a),
+            b: u64::from(b),
+            sum: None,
+        }),
+        Kept::Merge { a, b } => Ok(Report::Merge {
+            a: u64::from(a),
+            b: u64::from(b),
+            sum: None,
+        }),
+        Kept::Other { index } => others[index as usize].copy_of(alloc),
     }
 }
 

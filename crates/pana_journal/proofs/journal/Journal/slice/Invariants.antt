@@ -1,5 +1,5 @@
 use Rattle.std.proofs.Common.{◌≡◌, ◌-◌, take, drop}
 use Rattle.pana_journal.proofs.journal.Journal.slice.Given as goal
 
-abbrev pub invariant-loop-number : goal.invariant-loop-number
-invariant-loop-number l = l.copies.items ≡ take (l.number - l.first) (drop l.first l.self.entries)
+abbrev pub invariant-loop-index : goal.invariant-loop-index
+invariant-loop-index l = l.copies.items ≡ take (l.index - l.first) (drop l.first l.self.entries)
