@@ -105,7 +105,7 @@ class Run:
         self.run.wait(timeout=SECONDS)
         return self.run.returncode, rest, self.run.stderr.read().decode()
 
-    def told(self):
+    def printed(self):
         """What it has printed on standard error, once it has ended, by itself or not."""
         self.run.stdin.close()
         with contextlib.suppress(subprocess.TimeoutExpired):
@@ -309,7 +309,7 @@ class Reporter(threading.Thread):
                 self.faults += differs(found[0]["touch"], self.done[-1])
                 self.longest = max(self.longest, time.monotonic() - begun)
         except (OSError, Broken, ValueError, KeyError) as error:
-            self.faults.append(f"{self.by} ended after {len(self.done)} reports: {error!r:.200}, {self.session.told()!r:.200}")
+            self.faults.append(f"{self.by} ended after {len(self.done)} reports: {error!r:.200}, {self.session.printed()!r:.200}")
 
 
 def killed(setting, room):

@@ -1,5 +1,5 @@
 -- Entries that are kept by lines, lists of names and of other reports.
-use Rattle.std.specs.Prelude.{◌≡◌, ℕ, zero, suc, ◌+◌, ◌-◌, ◌==◌, ◌<◌, ◌≤◌, List, [], ◌∷◌, ◌++◌, if◌then◌else◌, length, get_or, Option, Some, None, slice_get, option_map, unwrap_or, take, drop}
+use Rattle.std.specs.Prelude.{◌≡◌, ℕ, zero, suc, ◌+◌, ◌-◌, ◌==◌, ◌<◌, List, [], ◌∷◌, ◌++◌, if◌then◌else◌, length, get_or, Option, Some, None, slice_get, option_map, unwrap_or, take, drop}
 use Rattle.std.proofs.Common.{refl, ap, arith, sym, ◌∙◌, subst}
 use Rattle.std.proofs.lemmas.Bool.Decides.{nat_tests}
 use Rattle.std.proofs.lemmas.Option.{unwrap_or-slice_get}
@@ -70,22 +70,6 @@ entries_push names others n [] line = let same : n ≡ n + length {A = Line} [] 
 entries_push names others n (first ∷ lines) line =
     let same : n + 1 + length lines ≡ n + suc (length lines) = omega arith in
     ap (λ l. entry_kept names others n first ∷ l) (entries_push names others (n + 1) lines line ∙ ap (λ m. entries_kept names others (n + 1) lines ++ entry_kept names others m line ∷ []) same)
-
-kept_more : (others more : ℕ) (kept : Kept) → others ≤ more → IsThere others kept → IsThere more kept
-kept_more others more (kinds.Edit copy) few there = there
-kept_more others more (kinds.Reconcile a b) few there = there
-kept_more others more (kinds.Merge a b) few there = there
-kept_more others more (kinds.Other index) few there = omega (arith, few, there)
-
-there_more : (names all : ℕ) (others more : ℕ) (line : Line) → names ≤ all → others ≤ more → (line.by < names) × IsThere others line.report → (line.by < all) × IsThere more line.report
-there_more names all others more line named few own = (omega (arith, named, own.0), kept_more others more line.report few own.1)
-
-pub there_push : (names : List (List ℕ)) (others : List Report) (all : List (List ℕ)) (more : List Report) (lines : List Line) (line : Line)
-    → length names ≤ length all → length others ≤ length more → AreThere names others lines → line.by < length all → IsThere (length more) line.report → AreThere all more (lines ++ line ∷ [])
-there_push names others all more [] line named few there by is zero it at = let same : line ≡ it = cc at in subst (λ (l : Line). (l.by < length all) × IsThere (length more) l.report) same (by, is)
-there_push names others all more [] line named few there by is (suc i) it at = absurd (cc at)
-there_push names others all more (first ∷ lines) line named few there by is zero it at = there_more (length names) (length all) (length others) (length more) it named few (there 0 it at)
-there_push names others all more (first ∷ lines) line named few there by is (suc i) it at = there_push names others all more lines line named few (there_tail names others first lines there) by is i it at
 
 pub if_later : {X : Type 0} (k : ℕ) (x y : X) → (if suc k == 0 then x else y) ≡ y
 if_later k x y = grind (arith, nat_tests)

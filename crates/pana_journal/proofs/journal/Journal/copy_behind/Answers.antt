@@ -1,7 +1,7 @@
-use Rattle.std.proofs.Common.{◌≡◌, ◌+◌, ◌<◌, [], Some, length, get_or, slice_get, refl, subst, ap, sym, ◌∙◌, arith}
+use Rattle.std.proofs.Common.{◌≡◌, ◌+◌, [], Some, length, refl, subst, ap, sym, ◌∙◌, arith}
 use Rattle.std.proofs.lemmas.Option.{slice_get_read}
 use Rattle.pana_journal.specs.Entries.{Contents, entry_at}
-use Rattle.pana_journal.specs.inner.Lines.{IsThere, entry_kept, report_kept}
+use Rattle.pana_journal.specs.inner.Lines.{IsThere, report_kept}
 use Rattle.pana_journal.proofs.Kept.{read_there}
 use Rattle.pana_journal.proofs.Lines.{entries_count}
 use Rattle.pana_journal.proofs.Pages.{kept_behind}
