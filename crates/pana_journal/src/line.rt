@@ -1,4 +1,4 @@
-//! What a journal keeps of an entry: most are edits, reconciles and merges without a sum, and take 16 bytes.
+//! What a journal keeps of an entry: 16 bytes, and beside them a report that has more than numbers.
 ghost use Rattle.std.specs.Prelude.{◌≡◌, ℕ, ◌+◌, ◌<◌, ◌≤◌, List, length, IfSome, IfOk, Some, slice_get, option_copied, vec_len, vec_capacity};
 ghost use Rattle.std.specs.Cow.{cow_value};
 ghost use Rattle.pana_journal.specs.declared.report.Report.{Report as AReport};
