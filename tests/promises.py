@@ -38,9 +38,10 @@ LOOKED_INTO = re.compile(r"^ *(?:pub )?(?:abbrev|unfoldable|record|data|ruleset|
 # Operators are declared with a sign for each place of an operand.
 TOKEN = re.compile(r"[\w'-]+|[^\s\w'(){}\[\],.;◌]+")
 WORDS = re.compile(r"[^\s:.{}]+")
-# A variant of a type, or what else stands in it, and a path that a source doesn't take in.
+# A variant of a type, or what else stands in it, and a path that a file writes out where it is used.
 OF_TYPE = re.compile(r"\b([A-Z]\w*)::\w+")
 INLINE = re.compile(r"\b([a-z]\w*)::(?:\w+::)*(\w+)")
+WHOLE = re.compile(r"\bRattle\.([a-z]\w*(?:\.[\w'-]+)+)")
 # Modules that are made of a type of a source.
 MADE = re.compile(r"The[A-Z]|declared$|contracts$")
 
@@ -94,7 +95,8 @@ def taken_in(paths, crate):
 def stand_for(text, taken):
     """What the names of a text stand for, each with the words of its path."""
     found = {it for name in {*TOKEN.findall(OF_TYPE.sub(r"\1", text))} & taken.keys() for it in taken[name]}
-    return found | {(f"{crate}:{name}", ()) for crate, name in INLINE.findall(text)}
+    written = {f"{crate}:{name}" for crate, name in INLINE.findall(text)} | {*WHOLE.findall(text)}
+    return found | {(it, ()) for it in written}
 
 
 def declaration(names, text, taken):

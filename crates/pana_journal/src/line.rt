@@ -146,7 +146,6 @@ pub(crate) fn report_kept(kept: Kept, others: &[Report]) -> Cow<'_, Report>
 }
 
 /// A copy of the report that is kept so. Fails only where memory runs out.
-// Apart from `report_kept`, since a page has a hundred of them.
 pub(crate) fn report_copy(
     alloc: Global,
     kept: Kept,
@@ -155,22 +154,9 @@ pub(crate) fn report_copy(
     requires { IsThere (length others.now) kept }
     ensures { IfOk result (λ report. report ≡ report_kept others.now kept) }
 {
-    match kept {
-        Kept::Edit { copy } => Ok(Report::Edit {
-            copy: u64::from(copy),
-            sum: None,
-        }),
-        Kept::Reconcile { a, b } => Ok(Report::Reconcile {
-            a: u64::from(a),
-            b: u64::from(b),
-            sum: None,
-        }),
-        Kept::Merge { a, b } => Ok(Report::Merge {
-            a: u64::from(a),
-            b: u64::from(b),
-            sum: None,
-        }),
-        Kept::Other { index } => others[index as usize].copy_of(alloc),
+    match report_kept(kept, others) {
+        Cow::Owned(report) => Ok(report),
+        Cow::Borrowed(report) => report.copy_of(alloc),
     }
 }
 
