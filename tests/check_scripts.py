@@ -25,7 +25,15 @@ kit=$(dirname -- "$(dirname -- "$0")")
 printf '%s %s\\n' "$(basename -- "$PWD")" "$*" >>"$kit/calls"
 . "$kit/does"
 """
-LIB = "printf 'so far: 2 of 5 functions checked\\nlogic=proved\\n'"
+# Of the compiler's words the first counts, and the last, which is where what is built goes.
+RATTLE = RT.replace("$*", "$1").replace('. "', 'to=${*: -1}\n. "')
+LINK = """#!/usr/bin/env bash
+while [ "$1" != -o ]; do shift; done
+printf '#!/bin/sh\\necho answers\\n' >"$2"
+chmod +x "$2"
+"""
+# What a library is follows from its crate's code, less the comments.
+BUILD = """case $to in *.o) touch "$to" ;; *) mkdir -p "$to"; cat src/*.rt | grep -v '^//' >"$to/format" ;; esac; echo logic=proved"""
 PROGRAM = "mkdir -p out; printf '#!/bin/sh\\necho answers\\n' >out/panad; chmod +x out/panad"
 # What becomes of an edit is what its file says, or else what the file `all` beside `does` says.
 EDITS = """passed=2 failed=0
@@ -47,7 +55,7 @@ CI = f"""{EDITS}
 (cd crates/panad; {PROGRAM})
 printf '%s passed, %s failed\\n' "$passed" "$failed"
 [ "$failed" -eq 0 ]"""
-WELL = f'case "$1" in lib) {LIB} ;; run) {PROGRAM} ;; ci) {CI} ;; must-fail) {EDITS} ;; esac'
+WELL = f'case "$1" in build) {BUILD} ;; run) {PROGRAM} ;; ci) {CI} ;; must-fail) {EDITS} ;; esac'
 STUB = "print('1 passed, 0 failed')\n"
 PROMISE = "use {}::Count;\n\npub fn sum() -> Count\n    ensures {{ result ≡ {} }}\n{{\n    {}\n}}\n"
 PRIVATE = "use low::other::one;\n\nfn more() -> u64\n    ensures { result ≡ 1 }\n{\n    one()\n}\n"
@@ -77,8 +85,9 @@ class Kit:
                 stub.write_text(it.read_text() if it.name in REAL else STUB)
         (self.kit / "bin").mkdir(parents=True)
         (self.kit / "KIT-ID").write_text("made up\n")
-        (self.kit / "bin" / "rt").write_text(RT)
-        (self.kit / "bin" / "rt").chmod(0o755)
+        for name, does_so in (("rt", RT), ("rattle", RATTLE), ("rattle-link", LINK)):
+            (self.kit / "bin" / name).write_text(does_so)
+            (self.kit / "bin" / name).chmod(0o755)
         self.has_rt_do(does)
 
     def has_rt_do(self, does):
@@ -144,8 +153,8 @@ def first_use(kit):
     status, output, error = kit.run("./panad", "run")
     if (status, output) != (0, "answers\n"):
         yield f"it ended with {status} and {output!r}"
-    if kit.calls() != ["low lib", "panad run -- run"]:
-        yield f"rt was called: {kit.calls()}"
+    if kit.calls() != ["low build", "panad build"]:
+        yield f"the kit was called: {kit.calls()}"
     lines = [it.split(" (")[0] for it in error.splitlines()]
     wanted = ["panad: low is proved, crate 1 of 2", "panad: panad is proved, crate 2 of 2", "panad: built"]
     if not lines[0].startswith("panad: first use") or lines[1:] != wanted:
@@ -155,7 +164,7 @@ def first_use(kit):
 
 
 def on_a_terminal(kit):
-    """On a terminal one line changes: the crate, its functions, the minutes so far."""
+    """On a terminal one line changes: the minutes so far, and the crates that are being proved."""
     ours, theirs = pty.openpty()
     with kit.start("./panad", "run", stderr=theirs) as started:
         os.close(theirs)
@@ -168,7 +177,7 @@ def on_a_terminal(kit):
             shown += more
     os.close(ours)
     text = shown.decode().replace("\r\n", "\n")
-    if "\rpanad: 0:00 min, 0 of 2 crates, low 2 of 5 functions" not in text or text.count("\n") != 2:
+    if "\rpanad: 0:00 min, 0 of 2 crates, low " not in text or text.count("\n") != 2:
         yield f"the terminal has {text!r}"
 
 
@@ -178,7 +187,7 @@ def failed_proof(kit):
     status, output, error = kit.run("./panad", "run")
     if status != 1 or output or "error: not proved" not in error or "the build failed" not in error:
         yield f"it ended with {status}, {output!r}, {error!r}"
-    if (kit.repository / ".build" / "panad").exists() or kit.calls() != ["low lib"]:
+    if (kit.repository / ".build" / "panad").exists() or kit.calls() != ["low build"]:
         yield "it went on"
 
 
@@ -191,45 +200,43 @@ def two_at_a_time(kit):
     kit.has_rt_do(f"{both} && {{ {WELL}; }}")
     status, output, error = kit.run("./panad", "run")
     calls = kit.calls()
-    if (status, output) != (0, "answers\n") or [calls[0], *sorted(calls[1:3]), calls[3]] != ["low lib", "left lib", "right lib", "panad run -- run"]:
-        yield f"it ended with {status}, {output!r}, {error!r}, and rt was called: {calls}"
-    if (kit.repository / ".build" / "lane").exists():
-        yield "the second copy of the sources is left"
-    (kit.repository / "crates" / "low" / "src" / "lib.rt").write_text("//! Something.\n")
+    if (status, output) != (0, "answers\n") or [calls[0], *sorted(calls[1:3]), calls[3]] != ["low build", "left build", "right build", "panad build"]:
+        yield f"it ended with {status}, {output!r}, {error!r}, and the kit was called: {calls}"
+    (kit.repository / "crates" / "low" / "src" / "lib.rt").write_text("something\n")
     kit.has_rt_do(f"{both}; case $PWD in */left) until [ -e $kit/waits ]; do sleep 0.05; done; exit 1 ;; */right) trap 'echo ended >>$kit/calls; exit 1' TERM; touch $kit/waits; sleep 60 & wait ;; esac; {WELL}")
     status, output, error = kit.run("./panad", "run")
-    if status != 1 or output or kit.calls()[-1] != "ended" or kit.calls().count("panad run -- run") != 1:
-        yield f"where one fails it ended with {status}, {output!r}, {error!r}, and rt was called: {kit.calls()}"
+    if status != 1 or output or kit.calls()[-1] != "ended" or kit.calls().count("panad build") != 1:
+        yield f"where one fails it ended with {status}, {output!r}, {error!r}, and the kit was called: {kit.calls()}"
 
 
 def wait_for_call(kit, call):
-    """Waits until rt was called so."""
+    """Waits until the kit was called so."""
     end = time.monotonic() + SECONDS
     while not (kit.kit / "calls").exists() or call not in kit.calls():
         if time.monotonic() > end:
-            raise ValueError(f"rt was never called so: {call}")
+            raise ValueError(f"the kit was never called so: {call}")
         time.sleep(0.05)
 
 
 def interrupted(kit):
     """An interrupted first use ends with status 130, and the next goes on."""
-    kit.has_rt_do('case "$1" in run) sleep 60 ;; esac')
+    kit.has_rt_do(f"case $PWD in */panad) sleep 60 ;; esac; {WELL}")
     with kit.start("./panad", "run") as started:
-        wait_for_call(kit, "panad run -- run")
+        wait_for_call(kit, "panad build")
         os.killpg(started.pid, signal.SIGINT)
         _, error = started.communicate(timeout=SECONDS)
     if started.returncode not in (130, -signal.SIGINT) or "interrupted" not in error.decode():
         yield f"it ended with {started.returncode} and {error.decode()!r}"
     kit.has_rt_do(WELL)
-    if kit.run("./panad", "run")[:2] != (0, "answers\n"):
-        yield "the next use didn't go on"
+    if kit.run("./panad", "run")[:2] != (0, "answers\n") or kit.calls() != ["low build", "panad build", "panad build"]:
+        yield f"the next use didn't go on: the kit was called: {kit.calls()}"
 
 
 def ended_alone(kit):
-    """Where tools/prove.py is ended by itself, rt is ended too."""
-    kit.has_rt_do("trap 'kill $!; echo ended >>$kit/calls; exit 1' TERM; sleep 60 & wait")
-    with kit.start("python3", "-B", "tools/prove.py", kit.kit / "bin" / "rt", kit.kit / "log") as started:
-        wait_for_call(kit, "low lib")
+    """Where tools/prove.py is ended by itself, the prover is ended too."""
+    kit.has_rt_do("trap 'kill $! 2>/dev/null; echo ended >>$kit/calls; exit 1' TERM; sleep 60 & echo waits >>$kit/calls; wait")
+    with kit.start("python3", "-B", "tools/prove.py", kit.kit, kit.repository / ".build") as started:
+        wait_for_call(kit, "waits")
         started.terminate()
         started.communicate(timeout=SECONDS)
     wait_for_call(kit, "ended")
@@ -238,34 +245,65 @@ def ended_alone(kit):
 
 
 def gate_that_passes(kit):
-    """./test adds up its parts, keeps the program that rt ci has built, and clears what a killed build has left."""
-    (kit.repository / ".build" / "lane").mkdir(parents=True)
+    """./test adds up its parts, and keeps the program that rt ci has built."""
     status, output, _ = kit.run("./test")
     if status or not output.splitlines()[-1].endswith(" passed, 0 failed") or kit.calls() != ["repository ci"]:
         yield f"it ended with {status}, called {kit.calls()} and printed {output[-400:]!r}"
-    if (kit.repository / ".build" / "lane").exists():
-        yield "the second copy of the sources is left"
+    if kit.run("./panad", "run") != (0, "answers\n", ""):
+        yield "the program isn't kept"
 
 
-def kept_for_the_next(kit):
-    """What a first use leaves of its proofs is one packed file a crate, which the next build unpacks; other kept work stays."""
-    keeps = 'printf "%s %s\\n" "$(basename "$PWD")" "$(cat out/incremental/proof 2>/dev/null)" >>"$kit/found"; mkdir -p out/incremental out/rlib'
-    kit.has_rt_do(f"{keeps}; printf proved >out/incremental/proof; {WELL}")
-    outs = [kit.repository / "crates" / name / "out" for name in ("low", "panad")]
-    (outs[0] / "incremental").mkdir(parents=True)
-    (outs[0] / "incremental" / "proof").write_text("checked")
-    for wanted in ("low checked|panad", "low proved|panad proved"):
-        (kit.repository / "crates" / "panad" / "src" / "more.rt").write_text(f"// {wanted}\n")
+def taken_over(kit):
+    """Only what was made of something else is proved again: a crate's files, a library below that is another now, or the kit."""
+    low, panad = (kit.repository / "crates" / name / "src" / "lib.rt" for name in ("low", "panad"))
+    changes = (
+        (lambda: None, "low panad"),
+        (lambda: panad.write_text("one\n"), "panad"),
+        (lambda: low.write_text("// a comment\n"), "low panad"),
+        (lambda: low.write_text("two\n"), "low panad"),
+        (lambda: shutil.rmtree(kit.repository / ".build" / "rlib" / "low.rlib") or panad.write_text("three\n"), "low panad"),
+        (lambda: (kit.kit / "KIT-ID").write_text("another\n"), "low panad"),
+    )
+    for number, (change, wanted) in enumerate(changes):
+        before = len(kit.calls())
+        change()
         status, output, error = kit.run("./panad", "run")
-        found = "|".join(it.strip() for it in (kit.kit / "found").read_text().splitlines()[-2:])
-        if (status, output, found) != (0, "answers\n", wanted):
-            yield f"it ended with {status}, {output!r}, {error!r}, and found {found}"
-        left = [sorted(it.name for it in out.iterdir()) for out in outs]
-        if left != [["incremental", "rlib"], ["built-for-the-program", "kept-work.tgz", "panad"]]:
-            yield f"the folders out/ have {left}"
-    kit.run("./test", "quick")
-    if not (outs[1] / "incremental").is_dir() or (outs[1] / "kept-work.tgz").exists():
-        yield "./test quick doesn't unpack it"
+        if (status, output) != (0, "answers\n") or kit.calls()[before:] != [f"{it} build" for it in wanted.split()]:
+            yield f"after change {number} it ended with {status}, {output!r}, {error!r}, and the kit was called: {kit.calls()[before:]}"
+
+
+def three_crates(kit):
+    """A library that is made again and is as it was has nothing above it proved again but the program."""
+    kit.has_crates("panad: middle\nmiddle: low\nlow:\n")
+    kit.run("./panad", "run")
+    (kit.repository / "crates" / "low" / "src" / "lib.rt").write_text("// a comment\n")
+    kit.run("./panad", "run")
+    if kit.calls() != ["low build", "middle build", "panad build", "low build", "panad build"]:
+        yield f"the kit was called: {kit.calls()}"
+
+
+def changed_meanwhile(kit):
+    """What changes while it is proved is proved again, and nothing is kept of it."""
+    kit.has_rt_do(f"case $PWD in */low) echo more >>src/lib.rt ;; esac; {WELL}")
+    status, output, error = kit.run("./panad", "run")
+    kit.has_rt_do(WELL)
+    if status != 1 or output or "the sources changed" not in error or (kit.repository / ".build" / "panad").exists():
+        yield f"it ended with {status}, {output!r}, {error!r}"
+    if kit.run("./panad", "run")[:2] != (0, "answers\n") or kit.calls().count("low build") != 2:
+        yield f"the next use didn't prove it again: the kit was called: {kit.calls()}"
+
+
+def killed_prover(kit):
+    """A prover that the system kills is begun again where others ran beside it, and ends the build where none did."""
+    kit.has_rt_do(f"if [ ! -e $kit/once ]; then touch $kit/once; kill -9 $$; fi; {WELL}")
+    wanted = (0, "answers\n", ["low build", "low build", "panad build"]) if (os.cpu_count() or 1) > 1 else (1, "", ["low build"])
+    status, output, _ = kit.run("./panad", "run")
+    if (status, output, kit.calls()) != wanted:
+        yield f"it ended with {status}, {output!r}, and the kit was called: {kit.calls()}"
+    kit.has_rt_do("kill -9 $$")
+    (kit.repository / "crates" / "low" / "src" / "lib.rt").write_text("more\n")
+    if kit.run("./panad", "run")[0] != 1:
+        yield "a prover that is killed each time doesn't end the build"
 
 
 def text_first(kit):
@@ -302,7 +340,7 @@ def untried_edits(kit):
 
 
 def stale_edits(kit):
-    """./test tries the edits again where their crate, what it comes to of one below, the edit or the kit has changed, or a line's sum is wrong, but for a kit that it had before."""
+    """./test tries the edits again where their crate, what it comes to of one below, the edit or the kit has changed, or a line's sum is wrong, but for a kit that it had before, or what a crate below uses of it."""
     kit.has_edits(10, "refused")
     kit.run("./test")
     first = kit.record()
@@ -319,6 +357,7 @@ def stale_edits(kit):
         (lambda: (kit.repository / "crates" / low[0].replace("/", "/must-fail/")).write_text("refused\n\n"), low[:1]),
         (lambda: file.write_text("".join(f"{it.split()[0]} {'0' * 64 if it.startswith(high[0]) else it.split()[1]}\n" for it in kit.record())), high[:1]),
         (lambda: file.write_text("".join(f"{it}\n" for it in kit.record() if not it.startswith(high[1]))), high[1:2]),
+        (lambda: (kit.repository / "crates.txt").write_text(CRATES.replace("low:\n", "low: clap\n")), low),
         (lambda: (kit.kit / "KIT-ID").write_text("another\n"), low + high),
     )
     kit.tried()
@@ -427,7 +466,7 @@ def passes(check):
 
 
 CHECKS = (other_arguments, first_use, on_a_terminal, failed_proof, two_at_a_time, interrupted, ended_alone, gate_that_passes, quick)
-CHECKS += (kept_for_the_next, text_first, how_long, untried_edits, stale_edits, wrong_record, edits_not_refused, edits_of_failed_crates, all_edits, edits_of_crates)
+CHECKS += (taken_over, three_crates, changed_meanwhile, killed_prover, text_first, how_long, untried_edits, stale_edits, wrong_record, edits_not_refused, edits_of_failed_crates, all_edits, edits_of_crates)
 
 
 def main():

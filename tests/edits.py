@@ -8,56 +8,40 @@ another twentieth each day, so that a line that is wrong comes out.
 """
 from __future__ import annotations
 
-import hashlib
-import os
 import sys
 import time
 from pathlib import Path
 
-TOP = Path(__file__).resolve().parent.parent
-sys.path.insert(0, str(TOP / "tools"))
+sys.path.insert(0, str(Path(__file__).resolve().parent.parent / "tools"))
 import promises  # noqa: E402
-import prove  # noqa: E402
+from crates import TOP, sources, sum_of, uses, with_those_below  # noqa: E402
 
 RECORD = TOP / "tests" / "edits-tried"
-PARTS = ("src", "specs", "proofs")
 TWENTIETHS = 20
 SUMS_KEPT = 2
 SECONDS_A_DAY = 86_400
 
 
-def sum_of(files, *more):
-    """One sum of some files, by path and content, and of more; it is the same wherever the repository lies."""
-    total = hashlib.sha256(repr(more).encode())
-    for it in files:
-        total.update(repr((os.path.relpath(it, TOP) if TOP in it.parents else it.name, it.read_bytes())).encode())
-    return total.hexdigest()
-
-
-def sources(name):
-    """The files that the crate is proved from."""
-    folder = TOP / "crates" / name
-    return sorted(it for part in PARTS for it in (folder / part).glob("**/*") if it.is_file())
-
-
 def crate_sum(kit, name):
     """One sum of all that the crate's proof rests on: its files, those of the crates below, and the kit."""
-    below = prove.with_those_below([name])
+    below = with_those_below([name])
     files = [file for it in below for file in sources(it)]
-    return sum_of([Path(kit) / "KIT-ID", *files], [(it, prove.uses()[it]) for it in below])
+    return sum_of([Path(kit) / "KIT-ID", *files], [(it, uses()[it]) for it in below])
 
 
 def edits_sum(kit, name):
-    """One sum of all that the verdicts on the crate's edits rest on: its files, what it comes to of what the crates below declare, and the kit."""
-    below = prove.with_those_below([name])
+    """One sum of all that the verdicts on the crate's edits rest on: its files and what it uses, what it comes to of what the crates below
+    declare, and the kit. What they use of the kit stands in what they declare."""
+    below = with_those_below([name])
     declared = [found for it in below if it != name for file in sources(it) for found in promises.declarations(file)]
     keys = promises.keys_of([*sources(name), *(TOP / "crates" / name / "must-fail").glob("*.edit")])
-    return sum_of([Path(kit) / "KIT-ID", *sources(name)], promises.reached(keys, declared), [(it, prove.uses()[it]) for it in below])
+    used = [(it, [each for each in uses()[it] if it == name or each in uses()]) for it in below]
+    return sum_of([Path(kit) / "KIT-ID", *sources(name)], promises.reached(keys, declared), used)
 
 
 def names():
     """All edits, as `crate/name.edit`, by crate and name."""
-    crates = [it for it in prove.with_those_below(prove.uses())]
+    crates = [it for it in with_those_below(uses())]
     return [f"{crate}/{it.name}" for crate in crates for it in sorted((TOP / "crates" / crate / "must-fail").glob("*.edit"))]
 
 

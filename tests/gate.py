@@ -22,10 +22,9 @@ import time
 from pathlib import Path
 
 import edits
-import lanes
-import prove
+from crates import MANY, TOP, most_at_once
+from prove import minutes
 
-TOP = edits.TOP
 # What isn't copied: git's, what is built, what Python leaves.
 LEFT_OUT = {".git", ".build", "out", "__pycache__"}
 COUNT = re.compile(r"(\d+) passed, (\d+) failed")
@@ -107,9 +106,9 @@ def run_ci(kit, room):
     """Runs rt ci in the folder and prints its lines, those of rt with the minutes so far: its status, lines and processor time."""
     start, lines = time.monotonic(), []
     processors, settings = os.cpu_count() or 1, dict(os.environ)
-    if processors <= lanes.MANY:
+    if processors <= MANY:
         # By itself it counts a gigabyte for each thousand lines of a crate, and has the largest wait until nothing else runs.
-        settings.setdefault("RT_JOBS", str(min(processors, lanes.wanted())))
+        settings.setdefault("RT_JOBS", str(most_at_once()))
     how = {"stdin": subprocess.DEVNULL, "stdout": subprocess.PIPE, "stderr": subprocess.STDOUT, "env": settings}
     with subprocess.Popen([Path(kit) / "bin" / "rt", "ci"], cwd=room, errors="replace", text=True, **how) as ran:
         processors = Processors(ran.pid)
@@ -117,7 +116,7 @@ def run_ci(kit, room):
         try:
             for line in ran.stdout:
                 lines.append(line.rstrip("\n"))
-                so_far = f"[{prove.minutes(time.monotonic() - start)}] " if line.startswith("rt: ") else ""
+                so_far = f"[{minutes(time.monotonic() - start)}] " if line.startswith("rt: ") else ""
                 print(f"{so_far}{lines[-1]}", flush=True)
         except KeyboardInterrupt:
             ran.terminate()
@@ -181,7 +180,7 @@ def main(kit, took, which=""):
         status, lines, seconds = run_ci(kit, room)
         keep_built(room)
     passed, failed = counted(status, lines, chosen)
-    proofs, tests, tries = (prove.minutes(seconds[it]) for it in Processors.KINDS)
+    proofs, tests, tries = (minutes(seconds[it]) for it in Processors.KINDS)
     with open(took, "a", encoding="utf-8") as out:
         print(f"of it processor time: proofs {proofs}, tests {tests}, must-fail edits {tries}", file=out)
         print(f"must-fail edits: {len(chosen)} tried, {len(sums) - len(chosen)} taken over", file=out)

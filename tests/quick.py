@@ -16,9 +16,7 @@ import time
 from pathlib import Path
 
 import edits
-import kept_work
-import prove
-from edits import TOP, sources, sum_of
+from crates import TOP, sources, sum_of, uses, with_those_below
 
 SHOWN = 15
 SECONDS = "60"
@@ -49,9 +47,6 @@ def tested(kit, name):
 def passes(kit, name):
     """Whether the crate is proved and its tests pass; prints its line, and the end of what rt printed where not."""
     start = time.monotonic()
-    out = TOP / "crates" / name / "out"
-    kept_work.unpack(out)
-    (out / kept_work.MARK).unlink(missing_ok=True)
     has_tests = any(TEST.search(it.read_bytes()) for it in sources(name))
     is_program = (TOP / "crates" / name / "src" / "main.rt").is_file()
     words = ["run", "--", "run"] if is_program else ["lib"]
@@ -67,7 +62,7 @@ def passes(kit, name):
 
 
 def main(kit):
-    outcomes = [passes(Path(kit), it) for it in prove.with_those_below(prove.uses())]
+    outcomes = [passes(Path(kit), it) for it in with_those_below(uses())]
     failed = outcomes.count(False) + (not outcomes)
     print(f"must-fail edits: {len(edits.stale(kit))} of {len(edits.names())} have no line in tests/edits-tried that holds, and ./test would try them")
     print(f"{outcomes.count(True)} passed, {failed} failed")

@@ -59,16 +59,16 @@ release_lock() {
   exec 9>&-
 }
 
-# Keeps the program that the kit has just proved and linked, given the kit and the sum of its sources.
+# Keeps a program that the kit has just proved and linked, given the kit and the sum of its sources.
 keep_program() {
-  local kit=$1 sum=$2
+  local kit=$1 sum=$2 made=$3
   if [ "$sum" != "$(sources_sum)" ]; then
     say 'the sources changed while they were being proved; start again'
     return 1
   fi
   rm -f -- "$built/stamp" &&
-    cp -- "$top/crates/panad/out/panad" "$built/panad.new" &&
-    mv -f -- "$built/panad.new" "$built/panad" &&
+    cp -- "$made" "$built/panad.kept" &&
+    mv -f -- "$built/panad.kept" "$built/panad" &&
     printf '%s\n%s\n' "$sum" "$(cat -- "$kit/KIT-ID")" >"$built/stamp.new" &&
     mv -f -- "$built/stamp.new" "$built/stamp"
 }
@@ -86,14 +86,14 @@ build_under_lock() {
   [ -x "$built/panad" ] && why='the sources or the kit have changed'
   announce_build "$why"
   sum=$(sources_sum)
-  python3 -B "$top/tools/prove.py" "$kit/bin/rt" "$log" </dev/null >&2
+  python3 -B "$top/tools/prove.py" "$kit" "$built" </dev/null >&2
   status=$?
   if [ "$status" -eq 1 ]; then
     tail -n 15 -- "$log" >&2
     say "the build failed; its whole log is $log"
   fi
   [ "$status" -eq 0 ] || return "$status"
-  keep_program "$kit" "$sum" && say 'built'
+  keep_program "$kit" "$sum" "$built/panad.new" && rm -f -- "$built/panad.new" "$built/panad.o" && say 'built'
 }
 
 # Builds the program where it is not current. Nothing of this goes to standard output.

@@ -1,126 +1,101 @@
 #!/usr/bin/env python3
 """Proves the libraries of the program and then the program, links it, and tries it on an empty session.
 
-usage: prove.py RT LOG
-RT is the kit's command rt; all that it prints goes to the file LOG. Up to four crates are proved at a time where none
-uses another, each in a copy of the repository of its own (lanes.py). On standard error stands how far it is: on a
-terminal one line that changes, elsewhere a line for each crate. Each crate's proofs are kept in its folder out/, so a
-run that is interrupted is gone on with by the next. They are packed meanwhile (kept_work.py).
+usage: prove.py KIT BUILT
+KIT is the kit's folder. In the folder BUILT stand then the libraries, rlib/NAME.rlib, the program, panad.new, and what the
+kit has printed, build.log. As many crates are proved at a time as this machine can, where none uses another. On standard
+error stands how far it is: on a terminal one line that changes, elsewhere a line for each crate. What stands in BUILT is
+taken over where nothing that it was made of has changed, so a run that is interrupted is gone on with by the next.
 """
 from __future__ import annotations
 
 import os
-import re
 import resource
 import selectors
 import signal
 import subprocess
 import sys
 import time
-from concurrent.futures import ThreadPoolExecutor
 from pathlib import Path
 
-import kept_work
-from lanes import Lanes
+from crates import TOP, Waiting, lines, most_at_once, sources, sum_of, uses, with_those_below
 
-TOP = Path(__file__).resolve().parent.parent
 PROGRAM = "panad"
 WIDEST = 79
 INTERRUPTED = 130
-# As many lines of code take as long as one crate more that a crate uses.
-LINES_A_CRATE = 130
-# A crate of fewer lines has one prover: each reads all that lies below, and behind several one more does for what they left.
+TARGET = "x86_64-unknown-linux-gnu"
+# A crate of fewer lines has one prover, since two share little there but what they read; the program is proved when nothing else is.
 FEW_LINES = 300
-COUNTED = re.compile(r"so far: (\d+) of (\d+) functions checked")
 
 
-def uses():
-    """Each crate of crates.txt, and the names of what it uses."""
-    lines = (it.split("#")[0] for it in (TOP / "crates.txt").read_text(encoding="utf-8").splitlines())
-    heads = (it.partition(":") for it in lines if it.strip())
-    return {name.split()[0]: below.split() for name, _, below in heads}
+class Place:
+    """Where the kit is, and where what is built goes."""
+
+    def __init__(self, kit, built):
+        self.kit, self.built = Path(kit), Path(built)
+        self.libraries, self.log = self.built / "rlib", self.built / "build.log"
+        self.object, self.program = self.built / f"{PROGRAM}.o", self.built / f"{PROGRAM}.new"
+
+    def library(self, name):
+        return self.libraries / f"{name}.rlib"
+
+    def sum(self, name):
+        """One sum of all that a crate's library is made of: its files, the libraries below, in whose `format` sums of theirs stand, and the kit."""
+        below = [self.library(it) / "format" for it in with_those_below([name]) if it != name]
+        return sum_of([self.kit / "KIT-ID", *sources(name), *below], uses()[name])
+
+    def stamp(self, name):
+        return self.libraries / f"{name}.stamp"
+
+    def keep(self, name, made_of):
+        """Notes of what a crate's library was made, where that is still what it would be made of."""
+        if name != PROGRAM and self.sum(name) == made_of:
+            self.stamp(name).write_text(made_of)
+
+    def has(self, name):
+        """Whether a crate's library is there, and of what it would be made of now."""
+        stamp = self.stamp(name)
+        return stamp.is_file() and (self.library(name) / "format").is_file() and stamp.read_text() == self.sum(name)
+
+    def words(self, name, jobs):
+        """The kit's command that proves a crate and, where it is proved, builds it. Of a library what others cite is kept, and no proof."""
+        listed, kit = uses(), self.kit
+        kinds = ["--statements", "-o", self.library(name)]
+        if name == PROGRAM:
+            kinds = ["--toolchain", kit / "toolchain", "--backend", "llvm", "-o", self.object]
+        below = {it: self.library(it) if it in listed else kit / "rlibs" / f"{it}.rlib" for it in ["std", *listed[name]]}
+        named = [word for it, library in below.items() for word in ("--extern", f"{it}={library}")]
+        found = [word for it in (kit / "rlibs", self.libraries) for word in ("-L", f"dependency={it}")]
+        logic = ["--antt-project", kit / "rattle/logic/antt-project.json", "--logic-built", kit / "logic_built"]
+        root = "src/main.rt" if name == PROGRAM else "src/lib.rt"
+        return [kit / "bin/rattle", "build", "--crate-name", name, root, *named, *found, *logic, "--links", f"{name}=", f"--jobs={jobs}", *kinds]
+
+    def link_words(self):
+        libraries = [self.kit / "c" / it for it in ("libos_c.a", "liblibc_c.a")]
+        return [self.kit / "bin/rattle-link", "--target", TARGET, "--toolchain", self.kit / "toolchain", "-o", self.program, self.object, *libraries]
 
 
-def with_those_below(names):
-    """The crates and those of the repository that they use, each after what it uses itself."""
-    listed, found = uses(), []
+class Prover:
+    """A crate that the kit proves and builds, in processes of its own. They keep what this one holds open, so a lock is held until they end."""
 
-    def add(name):
-        if name in listed and name not in found:
-            for it in listed[name]:
-                add(it)
-            found.append(name)
-
-    for it in names:
-        add(it)
-    return found
-
-
-def lines(name):
-    """The lines of a crate's code."""
-    return sum(it.read_bytes().count(b"\n") for it in (TOP / "crates" / name / "src").rglob("*") if it.is_file())
-
-
-def weight(name):
-    """What goes for how long a crate takes, in lines of code: its functions take most of the time, whatever their proofs are
-    like, and the more the more crates they may speak of. It was fitted to a first use: 0.06 seconds a line, 8 a crate."""
-    return lines(name) + LINES_A_CRATE * len(uses()[name])
-
-
-class Waiting:
-    """The crates that aren't begun yet: those with the longest chain of others behind them come first."""
-
-    def __init__(self, names):
-        self.below, self.done = {it: {*uses()[it]} & {*names} for it in names}, set()
-        behind = dict.fromkeys(names, 0)
-        for name in reversed(names):
-            behind[name] += weight(name)
-            for it in self.below[name]:
-                behind[it] = max(behind[it], behind[name])
-        self.behind = behind
-        self.left = sorted(names, key=lambda it: -behind[it])
-
-    def ready(self):
-        """Those that use nothing that isn't done."""
-        return [it for it in self.left if self.below[it] <= self.done]
-
-    def leads(self, name):
-        """Whether no crate that isn't done has a longer chain behind it."""
-        return all(self.behind[name] >= chain for it, chain in self.behind.items() if it not in self.done)
-
-    def begin(self, name):
-        self.left.remove(name)
-
-    def end(self, name):
-        self.done.add(name)
-
-
-class Build:
-    """A crate that rt proves and builds, in a process of its own. Only what is proved is built."""
-
-    def __init__(self, rt, name, jobs, top):
-        self.name, self.top, self.jobs, self.begun = name, top, jobs, time.monotonic()
-        self.functions, self.lines, self.held, self.took = "", [], b"", ""
-        words = ["run", f"--jobs={jobs}", "--", "run"] if name == PROGRAM else ["lib", f"--jobs={jobs}"]
-        how = {"stdin": subprocess.DEVNULL, "stdout": subprocess.PIPE, "stderr": subprocess.STDOUT}
-        self.process = subprocess.Popen([rt, *words], cwd=top / "crates" / name, **how)
+    def __init__(self, place, name, jobs):
+        self.name, self.jobs, self.made_of = name, jobs, place.sum(name)
+        self.begun, self.printed, self.took = time.monotonic(), b"", ""
+        how = {"stdin": subprocess.DEVNULL, "stdout": subprocess.PIPE, "stderr": subprocess.STDOUT, "close_fds": False, "start_new_session": True}
+        place.stamp(name).unlink(missing_ok=True)
+        self.process = subprocess.Popen(place.words(name, jobs), cwd=TOP / "crates" / name, **how)
 
     def fileno(self):
         return self.process.stdout.fileno()
 
     def read(self):
-        """Takes what rt has printed; false where it has ended."""
+        """Takes what the kit has printed; false where it has ended."""
         more = os.read(self.fileno(), 65536)
-        *whole, self.held = (self.held + more).split(b"\n")
-        for line in (it.decode(errors="replace") for it in (whole if more or not self.held else [self.held])):
-            self.lines.append(line)
-            found = COUNTED.match(line)
-            if found:
-                self.functions = f" {found[1]} of {found[2]} functions"
+        self.printed += more
         return bool(more)
 
     def is_built(self):
-        """Waits until rt has ended, and notes what it took, with all that it started."""
+        """Waits until the prover has ended, and notes what it took."""
         self.process.stdout.close()
         before = resource.getrusage(resource.RUSAGE_CHILDREN)
         self.process.wait()
@@ -129,12 +104,16 @@ class Build:
         self.took = f"{minutes(time.monotonic() - self.begun)} min, {minutes(used)} of processors, jobs={self.jobs}"
         return self.process.returncode == 0
 
+    def was_killed(self):
+        """Whether it was ended by the system, most likely since memory ran out."""
+        return self.process.returncode == -signal.SIGKILL
+
     def stop(self):
-        self.process.terminate()
+        os.killpg(self.process.pid, signal.SIGTERM)
         self.is_built()
 
     def write_to(self, log):
-        print(f"== {self.name}: {self.took}", *self.lines, sep="\n", file=log, flush=True)
+        print(f"== {self.name}: {self.took}", self.printed.decode(errors="replace"), sep="\n", end="", file=log, flush=True)
 
 
 def minutes(seconds):
@@ -150,109 +129,123 @@ class Progress:
         columns = os.get_terminal_size(sys.stderr.fileno()).columns if self.is_terminal else 0
         self.width = min(columns or WIDEST, WIDEST) - 1
 
-    def show(self, builds):
+    def show(self, provers):
         """Puts the changing line on a terminal."""
         if self.is_terminal:
-            at = ", ".join(f"{it.name}{it.functions}" for it in builds)
+            at = ", ".join(it.name for it in provers)
             text = f"panad: {minutes(time.monotonic() - self.start)} min, {self.done} of {self.count} crates, {at}"
             print(f"\r{text[: self.width]:{self.width}}", end="", file=sys.stderr, flush=True)
 
-    def end(self, build, is_built):
+    def end(self, prover, is_built):
         """Says that a crate is done, and that it is at fault where it is."""
-        self.done += 1
+        self.done += is_built
         if not self.is_terminal:
-            took, what = minutes(time.monotonic() - build.begun), "is proved" if is_built else "failed"
-            print(f"panad: {build.name} {what}, crate {self.done} of {self.count} ({took} min)", file=sys.stderr, flush=True)
+            took, what = minutes(time.monotonic() - prover.begun), "is proved" if is_built else "failed"
+            print(f"panad: {prover.name} {what}, crate {self.done} of {self.count} ({took} min)", file=sys.stderr, flush=True)
 
     def clear(self):
         if self.is_terminal:
             print(f"\r{'':{self.width}}\r", end="", file=sys.stderr, flush=True)
 
 
-class Builds:
-    """The crates that are being built, each in a lane of its own, and what packs the proofs of those that are done."""
+class Build:
+    """The crates that are waited for, and those that are being proved."""
 
-    def __init__(self, rt, waiting, lanes):
-        self.rt, self.waiting, self.lanes, self.running = rt, waiting, lanes, selectors.DefaultSelector()
-        self.packing = ThreadPoolExecutor(1)
+    def __init__(self, place, names):
+        self.place, self.waiting, self.running = place, Waiting(names), selectors.DefaultSelector()
+        self.progress, self.most = Progress(len(names)), most_at_once()
 
-    def all(self):
+    def provers(self):
         return [it.fileobj for it in self.running.get_map().values()]
 
+    def jobs(self, name, ready):
+        """How many provers a crate has: one, since two of a crate take more time together, and with them those that no other
+        crate could have. That with the longest chain behind it has two, since it decides when the last is proved."""
+        idle = self.most - sum(it.jobs for it in self.provers())
+        jobs = max(idle - ready + 1, 2 if self.waiting.leads(name) else 1)
+        return 1 if lines(name) < FEW_LINES and name != PROGRAM else min(jobs, self.most)
+
     def begin(self):
-        """Begins as many as may run, so that there are as many provers as processors: one prover for each crate, since two
-        of a crate take more time together, and those that no other crate could have for that with the longest chain. It has
-        two in any case, since it decides when the last is proved, where it isn't small."""
-        while (free := self.lanes.free()) and (ready := self.waiting.ready()):
-            idle = os.cpu_count() - sum(it.jobs for it in self.all())
-            if idle <= 0 and self.all():
+        """Begins as many as may run, so that there are about as many provers as processors."""
+        while ready := self.waiting.ready():
+            name, running = ready[0], sum(it.jobs for it in self.provers())
+            if self.place.has(name):
+                self.waiting.take_over(name)
+                self.progress.done += 1
+            elif running < self.most:
+                self.running.register(Prover(self.place, name, self.jobs(name, len(ready))), selectors.EVENT_READ)
+                self.waiting.begin(name)
+            else:
                 return
-            name = ready[0]
-            jobs = max(idle - min(len(ready), len(free)) + 1, 2 if self.waiting.leads(name) else 1)
-            self.waiting.begin(name)
-            self.lanes.take(free[0], name)
-            build = Build(self.rt, name, 1 if lines(name) < FEW_LINES else jobs, free[0])
-            self.running.register(build, selectors.EVENT_READ)
 
     def ended(self):
         """Waits a second at most, and returns those that have ended."""
         ended = [it.fileobj for it, _ in self.running.select(1) if not it.fileobj.read()]
         for it in ended:
             self.running.unregister(it)
-            self.lanes.give_back(it.top, it.name)
         return ended
 
-    def pack(self, name):
-        """Has the proofs of a crate packed beside what else runs."""
-        self.packing.submit(kept_work.pack, TOP / "crates" / name / "out")
+    def goes_on(self, prover, log):
+        """Notes that a prover has ended; whether the others can go on. One that the system killed is begun again, beside fewer others."""
+        is_built = prover.is_built()
+        prover.write_to(log)
+        if prover.was_killed() and self.most > 1:
+            self.most -= 1
+            self.waiting.again(prover.name)
+            return True
+        self.progress.end(prover, is_built)
+        if is_built:
+            self.place.keep(prover.name, prover.made_of)
+            self.waiting.end(prover.name)
+        return is_built
+
+    def run(self, log, signals):
+        """Proves and builds all; whether each was built. Where one isn't, or a signal comes, the others are left for the caller to stop."""
+        self.begin()
+        while self.provers():
+            self.progress.show(self.provers())
+            if not all([self.goes_on(it, log) for it in self.ended()]) or signals.have_come:
+                return False
+            self.begin()
+        return True
 
     def stop(self):
-        for it in self.all():
+        for it in self.provers():
             it.stop()
-        self.packing.shutdown(cancel_futures=True)
+        self.progress.clear()
 
 
-def build(builds, log, progress):
-    """Builds all; whether each was built. Where one isn't, the others are stopped."""
-    builds.begin()
-    while builds.all():
-        for it in builds.ended():
-            is_built = it.is_built()
-            it.write_to(log)
-            progress.end(it, is_built)
-            if not is_built:
-                return False
-            builds.pack(it.name)
-            builds.waiting.end(it.name)
-        builds.begin()
-        progress.show(builds.all())
-    return True
+def is_linked(place, log):
+    """Whether the program can be linked, and answers nothing where nothing is asked."""
+    how = {"stdin": subprocess.DEVNULL, "stdout": log, "stderr": subprocess.STDOUT}
+    return all(subprocess.run(words, **how).returncode == 0 for words in (place.link_words(), [place.program, "run"]))
 
 
-def main(rt, log):
-    for it in (signal.SIGTERM, signal.SIGHUP):
-        signal.signal(it, signal.default_int_handler)
-    names = with_those_below([PROGRAM])
-    outs = [TOP / "crates" / it / "out" for it in names]
-    lanes = Lanes(TOP, names)
-    progress, builds = Progress(len(names)), Builds(rt, Waiting(names), lanes)
-    try:
-        kept_work.each(kept_work.unpack, outs)
-        lanes.open()
-        with open(log, "w", encoding="utf-8") as log:
-            is_built = build(builds, log, progress)
-        if is_built:
-            builds.packing.shutdown()
-            kept_work.each(kept_work.clear, outs)
-        return 0 if is_built else 1
-    except KeyboardInterrupt:
-        progress.clear()
+class Signals:
+    """Notes that this process is to end. The build asks between two steps, so that no prover is begun and then forgotten."""
+
+    def __init__(self):
+        self.have_come = False
+        for it in (signal.SIGINT, signal.SIGTERM, signal.SIGHUP):
+            signal.signal(it, self.note)
+
+    def note(self, *_):
+        self.have_come = True
+
+
+def main(kit, built):
+    place, signals = Place(kit, built), Signals()
+    place.libraries.mkdir(parents=True, exist_ok=True)
+    build = Build(place, with_those_below([PROGRAM]))
+    with open(place.log, "w", encoding="utf-8") as log:
+        try:
+            is_built = build.run(log, signals) and is_linked(place, log)
+        finally:
+            build.stop()
+    if signals.have_come:
         print("panad: interrupted; what is proved is kept, and the next start goes on from there", file=sys.stderr)
         return INTERRUPTED
-    finally:
-        builds.stop()
-        lanes.close()
-        progress.clear()
+    return 0 if is_built else 1
 
 
 if __name__ == "__main__":

@@ -5,7 +5,7 @@ usage: slowest.py CRATE ..
 Of each crate it prints the seconds that passed until the last file of a proof was written, since the last one of the proof
 before, for the longest of them. Where that stands behind `body`, the function has many ways through it, most often since
 each `?` gives back what is held there: a function with fewer `?` and fewer values held takes a tenth of it.
-The files are those in the crate's folder out/incremental, as `rt check`, `rt lib` and a first use leave them.
+The files are those in the crate's folder out/incremental, as `rt check` and `rt lib` leave them.
 """
 from __future__ import annotations
 
