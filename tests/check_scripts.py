@@ -254,14 +254,14 @@ def gate_that_passes(kit):
 
 
 def taken_over(kit):
-    """Only what was made of something else is proved again: a crate's files, a library below that is another now, or the kit."""
+    """Only what was made of something else is proved again: a crate's files, a library below that is another now, or the kit. Libraries are packed."""
     low, panad = (kit.repository / "crates" / name / "src" / "lib.rt" for name in ("low", "panad"))
     changes = (
         (lambda: None, "low panad"),
         (lambda: panad.write_text("one\n"), "panad"),
         (lambda: low.write_text("// a comment\n"), "low panad"),
         (lambda: low.write_text("two\n"), "low panad"),
-        (lambda: shutil.rmtree(kit.repository / ".build" / "rlib" / "low.rlib") or panad.write_text("three\n"), "low panad"),
+        (lambda: (kit.repository / ".build" / "rlib" / "low.tgz").unlink() or panad.write_text("three\n"), "low panad"),
         (lambda: (kit.kit / "KIT-ID").write_text("another\n"), "low panad"),
     )
     for number, (change, wanted) in enumerate(changes):
@@ -270,6 +270,9 @@ def taken_over(kit):
         status, output, error = kit.run("./panad", "run")
         if (status, output) != (0, "answers\n") or kit.calls()[before:] != [f"{it} build" for it in wanted.split()]:
             yield f"after change {number} it ended with {status}, {output!r}, {error!r}, and the kit was called: {kit.calls()[before:]}"
+        left = sorted(it.name for it in (kit.repository / ".build" / "rlib").iterdir())
+        if left != ["low.stamp", "low.tgz"]:
+            yield f"after change {number} the libraries have {left}"
 
 
 def three_crates(kit):

@@ -8,6 +8,7 @@ from pathlib import Path
 
 TOP = Path(__file__).resolve().parent.parent
 PARTS = ("src", "specs", "proofs")
+PROGRAM = "panad"
 # As many lines of code take as long as one crate more that a crate uses.
 LINES_A_CRATE = 130
 # How many crates are proved at the same time at most, and how much memory a prover has been seen to take.

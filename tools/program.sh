@@ -4,7 +4,7 @@
 
 built=$top/.build
 log=$built/build.log
-minutes_per_thousand_lines=2
+minutes_per_thousand_lines=1
 # By settings of the caller's the kit would build another program.
 unset RT_BACKEND RT_ALLOW_C RT_SECONDS
 

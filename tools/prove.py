@@ -5,7 +5,8 @@ usage: prove.py KIT BUILT
 KIT is the kit's folder. In the folder BUILT stand then the libraries, rlib/NAME.rlib, the program, panad.new, and what the
 kit has printed, build.log. As many crates are proved at a time as this machine can, where none uses another. On standard
 error stands how far it is: on a terminal one line that changes, elsewhere a line for each crate. What stands in BUILT is
-taken over where nothing that it was made of has changed, so a run that is interrupted is gone on with by the next.
+taken over where nothing that it was made of has changed, so a run that is interrupted is gone on with by the next. Behind a
+run that has built the program each library is packed, in a seventh of the bytes.
 """
 from __future__ import annotations
 
@@ -16,74 +17,25 @@ import signal
 import subprocess
 import sys
 import time
-from pathlib import Path
 
-from crates import TOP, Waiting, lines, most_at_once, sources, sum_of, uses, with_those_below
+from crates import PROGRAM, TOP, Waiting, lines, most_at_once, with_those_below
+from libraries import BuildFolder, each
 
-PROGRAM = "panad"
 WIDEST = 79
 INTERRUPTED = 130
-TARGET = "x86_64-unknown-linux-gnu"
 # A crate of fewer lines has one prover, since two share little there but what they read; the program is proved when nothing else is.
 FEW_LINES = 300
-
-
-class Place:
-    """Where the kit is, and where what is built goes."""
-
-    def __init__(self, kit, built):
-        self.kit, self.built = Path(kit), Path(built)
-        self.libraries, self.log = self.built / "rlib", self.built / "build.log"
-        self.object, self.program = self.built / f"{PROGRAM}.o", self.built / f"{PROGRAM}.new"
-
-    def library(self, name):
-        return self.libraries / f"{name}.rlib"
-
-    def sum(self, name):
-        """One sum of all that a crate's library is made of: its files, the libraries below, in whose `format` sums of theirs stand, and the kit."""
-        below = [self.library(it) / "format" for it in with_those_below([name]) if it != name]
-        return sum_of([self.kit / "KIT-ID", *sources(name), *below], uses()[name])
-
-    def stamp(self, name):
-        return self.libraries / f"{name}.stamp"
-
-    def keep(self, name, made_of):
-        """Notes of what a crate's library was made, where that is still what it would be made of."""
-        if name != PROGRAM and self.sum(name) == made_of:
-            self.stamp(name).write_text(made_of)
-
-    def has(self, name):
-        """Whether a crate's library is there, and of what it would be made of now."""
-        stamp = self.stamp(name)
-        return stamp.is_file() and (self.library(name) / "format").is_file() and stamp.read_text() == self.sum(name)
-
-    def words(self, name, jobs):
-        """The kit's command that proves a crate and, where it is proved, builds it. Of a library what others cite is kept, and no proof."""
-        listed, kit = uses(), self.kit
-        kinds = ["--statements", "-o", self.library(name)]
-        if name == PROGRAM:
-            kinds = ["--toolchain", kit / "toolchain", "--backend", "llvm", "-o", self.object]
-        below = {it: self.library(it) if it in listed else kit / "rlibs" / f"{it}.rlib" for it in ["std", *listed[name]]}
-        named = [word for it, library in below.items() for word in ("--extern", f"{it}={library}")]
-        found = [word for it in (kit / "rlibs", self.libraries) for word in ("-L", f"dependency={it}")]
-        logic = ["--antt-project", kit / "rattle/logic/antt-project.json", "--logic-built", kit / "logic_built"]
-        root = "src/main.rt" if name == PROGRAM else "src/lib.rt"
-        return [kit / "bin/rattle", "build", "--crate-name", name, root, *named, *found, *logic, "--links", f"{name}=", f"--jobs={jobs}", *kinds]
-
-    def link_words(self):
-        libraries = [self.kit / "c" / it for it in ("libos_c.a", "liblibc_c.a")]
-        return [self.kit / "bin/rattle-link", "--target", TARGET, "--toolchain", self.kit / "toolchain", "-o", self.program, self.object, *libraries]
 
 
 class Prover:
     """A crate that the kit proves and builds, in processes of its own. They keep what this one holds open, so a lock is held until they end."""
 
-    def __init__(self, place, name, jobs):
-        self.name, self.jobs, self.made_of = name, jobs, place.sum(name)
+    def __init__(self, folder, name, jobs):
+        self.name, self.jobs, self.made_of = name, jobs, folder.sum(name)
         self.begun, self.printed, self.took = time.monotonic(), b"", ""
         how = {"stdin": subprocess.DEVNULL, "stdout": subprocess.PIPE, "stderr": subprocess.STDOUT, "close_fds": False, "start_new_session": True}
-        place.stamp(name).unlink(missing_ok=True)
-        self.process = subprocess.Popen(place.words(name, jobs), cwd=TOP / "crates" / name, **how)
+        folder.stamp(name).unlink(missing_ok=True)
+        self.process = subprocess.Popen(folder.words(name, jobs), cwd=TOP / "crates" / name, **how)
 
     def fileno(self):
         return self.process.stdout.fileno()
@@ -151,8 +103,8 @@ class Progress:
 class Build:
     """The crates that are waited for, and those that are being proved."""
 
-    def __init__(self, place, names):
-        self.place, self.waiting, self.running = place, Waiting(names), selectors.DefaultSelector()
+    def __init__(self, folder, names):
+        self.folder, self.waiting, self.running = folder, Waiting(names), selectors.DefaultSelector()
         self.progress, self.most = Progress(len(names)), most_at_once()
 
     def provers(self):
@@ -169,11 +121,11 @@ class Build:
         """Begins as many as may run, so that there are about as many provers as processors."""
         while ready := self.waiting.ready():
             name, running = ready[0], sum(it.jobs for it in self.provers())
-            if self.place.has(name):
+            if self.folder.has(name):
                 self.waiting.take_over(name)
                 self.progress.done += 1
             elif running < self.most:
-                self.running.register(Prover(self.place, name, self.jobs(name, len(ready))), selectors.EVENT_READ)
+                self.running.register(Prover(self.folder, name, self.jobs(name, len(ready))), selectors.EVENT_READ)
                 self.waiting.begin(name)
             else:
                 return
@@ -195,7 +147,7 @@ class Build:
             return True
         self.progress.end(prover, is_built)
         if is_built:
-            self.place.keep(prover.name, prover.made_of)
+            self.folder.keep(prover.name, prover.made_of)
             self.waiting.end(prover.name)
         return is_built
 
@@ -215,10 +167,10 @@ class Build:
         self.progress.clear()
 
 
-def is_linked(place, log):
+def is_linked(folder, log):
     """Whether the program can be linked, and answers nothing where nothing is asked."""
     how = {"stdin": subprocess.DEVNULL, "stdout": log, "stderr": subprocess.STDOUT}
-    return all(subprocess.run(words, **how).returncode == 0 for words in (place.link_words(), [place.program, "run"]))
+    return all(subprocess.run(words, **how).returncode == 0 for words in (folder.link_words(), [folder.program, "run"]))
 
 
 class Signals:
@@ -234,17 +186,21 @@ class Signals:
 
 
 def main(kit, built):
-    place, signals = Place(kit, built), Signals()
-    place.libraries.mkdir(parents=True, exist_ok=True)
-    build = Build(place, with_those_below([PROGRAM]))
-    with open(place.log, "w", encoding="utf-8") as log:
+    folder, signals = BuildFolder(kit, built), Signals()
+    folder.libraries.mkdir(parents=True, exist_ok=True)
+    names = with_those_below([PROGRAM])
+    each(folder.unpack, names)
+    build = Build(folder, names)
+    with open(folder.log, "w", encoding="utf-8") as log:
         try:
-            is_built = build.run(log, signals) and is_linked(place, log)
+            is_built = build.run(log, signals) and is_linked(folder, log)
         finally:
             build.stop()
     if signals.have_come:
         print("panad: interrupted; what is proved is kept, and the next start goes on from there", file=sys.stderr)
         return INTERRUPTED
+    if is_built:
+        each(folder.pack, names[:-1])
     return 0 if is_built else 1
 
 
